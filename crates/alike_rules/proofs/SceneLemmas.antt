@@ -35,9 +35,10 @@ use Rattle.alike_rules.proofs.DotLemmas.{IsMovedArt}
 use Rattle.alike_rules.proofs.EntryLemmas.{add-moved, moved_entry, moved_shape}
 use Rattle.alike_rules.proofs.NumberLemmas.{moved_facts, numbers-same}
 use Rattle.alike_rules.proofs.PlaneLemmas.{IsFlatOf, IsOneToOne, moved_plane}
-use Rattle.alike_rules.proofs.StripLemmas.{bottom_clip-same, ceiling_marks-same, column-same, columns-equal, floor_marks-same, moved_wall, openings-same, top_clip-same}
+use Rattle.alike_rules.proofs.StripLemmas.{bottom_clip-same, ceiling_marks-same, column-same, floor_marks-same, moved_wall, openings-same, top_clip-same}
 use Rattle.alike_rules.proofs.SurfaceLemmas.{IsSurfaceOf, ceiling_key-moved, floor_key-moved, moved_surface}
 use Rattle.alike_rules.proofs.WalkLemmas.{AreMoved, events-same, with_surfaces}
+use Rattle.word_rules.proofs.Logic.{funext}
 
 abbrev pub moved_level : (ℕ → ℕ) → LevelLists → LevelLists
 moved_level σ level = with_surfaces level (map (moved_surface σ) level.surfaces)
@@ -169,9 +170,9 @@ module _ (P : ℕ → Type 0) (σ : ℕ → ℕ) (one : IsOneToOne P σ) (sky : 
   drawseg-same : (walls : List Wall) (k : ℕ) (w : Wall) → drawseg_of v other (map (moved_wall σ) walls) k (moved_wall σ w) ≡ drawseg_of v scene walls k w
   unfolding drawseg_of
   drawseg-same walls k w =
-      let column : texture_column v (moved_facts σ w.facts) ≡ texture_column v w.facts = columns-equal (texture_column v (moved_facts σ w.facts)) (texture_column v w.facts) (λ x. column-same σ v w.facts x) in
-      let bottom : bottom_clip v.shape (map (moved_wall σ) walls) k (moved_wall σ w) ≡ bottom_clip v.shape walls k w = columns-equal (bottom_clip v.shape (map (moved_wall σ) walls) k (moved_wall σ w)) (bottom_clip v.shape walls k w) (λ x. bottom_clip-same σ v.shape walls k w x) in
-      let top : top_clip v.shape (map (moved_wall σ) walls) k (moved_wall σ w) ≡ top_clip v.shape walls k w = columns-equal (top_clip v.shape (map (moved_wall σ) walls) k (moved_wall σ w)) (top_clip v.shape walls k w) (λ x. top_clip-same σ v.shape walls k w x) in
+      let column : texture_column v (moved_facts σ w.facts) ≡ texture_column v w.facts = funext (texture_column v (moved_facts σ w.facts)) (texture_column v w.facts) (λ x. column-same σ v w.facts x) in
+      let bottom : bottom_clip v.shape (map (moved_wall σ) walls) k (moved_wall σ w) ≡ bottom_clip v.shape walls k w = funext (bottom_clip v.shape (map (moved_wall σ) walls) k (moved_wall σ w)) (bottom_clip v.shape walls k w) (λ x. bottom_clip-same σ v.shape walls k w x) in
+      let top : top_clip v.shape (map (moved_wall σ) walls) k (moved_wall σ w) ≡ top_clip v.shape walls k w = funext (top_clip v.shape (map (moved_wall σ) walls) k (moved_wall σ w)) (top_clip v.shape walls k w) (λ x. top_clip-same σ v.shape walls k w x) in
       rw (column, bottom, top, mid-same w.facts w.facts.back, light-same w.facts) refl
 
   drawsegs_from-same : (walls : List Wall) (k : ℕ) (ws : List Wall) → drawsegs_from v other (map (moved_wall σ) walls) k (map (moved_wall σ) ws) ≡ drawsegs_from v scene walls k ws
@@ -196,8 +197,8 @@ module _ (P : ℕ → Type 0) (σ : ℕ → ℕ) (one : IsOneToOne P σ) (sky : 
   wall_step-same : (walls : List Wall) (k : ℕ) (w : Wall) → wall_step v (map (moved_wall σ) walls) k (moved_wall σ w) ≡ moved_step σ (wall_step v walls k w)
   unfolding wall_step plane_wall
   wall_step-same walls k w =
-      let ceiling : ceiling_marks v (map (moved_wall σ) walls) k (moved_wall σ w) ≡ ceiling_marks v walls k w = columns-equal (ceiling_marks v (map (moved_wall σ) walls) k (moved_wall σ w)) (ceiling_marks v walls k w) (λ x. ceiling_marks-same σ v walls k w x) in
-      let floor : floor_marks v (map (moved_wall σ) walls) k (moved_wall σ w) ≡ floor_marks v walls k w = columns-equal (floor_marks v (map (moved_wall σ) walls) k (moved_wall σ w)) (floor_marks v walls k w) (λ x. floor_marks-same σ v walls k w x) in
+      let ceiling : ceiling_marks v (map (moved_wall σ) walls) k (moved_wall σ w) ≡ ceiling_marks v walls k w = funext (ceiling_marks v (map (moved_wall σ) walls) k (moved_wall σ w)) (ceiling_marks v walls k w) (λ x. ceiling_marks-same σ v walls k w x) in
+      let floor : floor_marks v (map (moved_wall σ) walls) k (moved_wall σ w) ≡ floor_marks v walls k w = funext (floor_marks v (map (moved_wall σ) walls) k (moved_wall σ w)) (floor_marks v walls k w) (λ x. floor_marks-same σ v walls k w x) in
       rw (ceiling, floor, openings-same σ w) refl
 
   steps_from-moved : (walls : List Wall) (k : ℕ) (ws : List Wall) (es : List Event)

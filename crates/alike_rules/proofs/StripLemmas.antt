@@ -3,6 +3,7 @@ use Rattle.std.proofs.Common.{◌≡◌, ℕ, zero, suc, ℤ, List, map, Option,
 use Rattle.std.specs.Option.{option_map}
 use Rattle.std.proofs.lemmas.Option.{slice_get-map}
 use Rattle.word_rules.specs.Listed.{listed_from}
+use Rattle.word_rules.proofs.Logic.{funext}
 use Rattle.view_rules.specs.View.{ViewValue}
 use Rattle.view_rules.specs.declared.ViewShape.{ViewShape}
 use Rattle.pixel_rules.specs.Art.{Art}
@@ -21,9 +22,6 @@ use Rattle.alike_rules.proofs.NumberLemmas.{moved_facts}
 -- the same fragment, drawn from sectors whose flats have other numbers
 abbrev pub moved_wall : (ℕ → ℕ) → Wall → Wall
 moved_wall σ w = record { facts = moved_facts σ w.facts; first = w.first; last = w.last; numbers = w.numbers }
-
-pub columns-equal : {A B : Type 0} (f g : A → B) → ((x : A) → f x ≡ g x) → f ≡ g
-columns-equal f g h = λ i x. h x i
 
 module _ (σ : ℕ → ℕ) where
   pub column-same : (v : ViewValue) (f : WallFacts) (x : ℕ) → texture_column v (moved_facts σ f) x ≡ texture_column v f x

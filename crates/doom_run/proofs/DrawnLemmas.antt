@@ -2,13 +2,13 @@
 use Rattle.std.proofs.Common.{◌≡◌, ◌+◌, ◌<◌, ℕ, List, Some, Ok, arith, subst, inl, inr}
 use Rattle.std.specs.Prelude.{◌⊎◌}
 use Rattle.outside.specs.Shelf.{File}
+use Rattle.outside.proofs.AnswerLemmas.{and_then-ok}
 use Rattle.lump_rules.specs.Lookups.{lump_at}
 use Rattle.lump_cache.specs.Sizes.{IsGapBeside}
 use Rattle.texture_build.specs.Views.{AreTexturesOf}
 use Rattle.job_rules.specs.LevelJobs.{LevelJobValue}
 use Rattle.scene_rules.specs.Sizes.{SceneArt, lump_block, zone_sizes}
 use Rattle.sound_scene.specs.Sound.{art_with, textures_view}
-use Rattle.sound_scene.proofs.SceneLemmas.{and_then-ok}
 use Rattle.frame_core.proofs.EnoughLemmas.{IsArtFull, full-small, view_full}
 use Rattle.frame_core.proofs.SceneLemmas.{drawable-whole}
 use Rattle.job_files.specs.Files.{files_in}

@@ -8,10 +8,10 @@ use Rattle.outside.specs.Stops.{FaultFitsOrAbsent, Stop}
 use Rattle.outside.specs.declared.fault.Fault.{Fault}
 use Rattle.outside.specs.declared.fault.Fault.TheVariants as fault
 use Rattle.outside.proofs.WriteLemmas.{prefix_of_none}
+use Rattle.outside.proofs.AnswerLemmas.{and_then-ok}
 use Rattle.job_rules.specs.LevelJobs.{LevelJobValue}
 use Rattle.picture_rules.specs.declared.LimitKind.{LimitKind}
 use Rattle.refusals.specs.declared.refusal.Refusal.{Refusal}
-use Rattle.sound_scene.proofs.SceneLemmas.{and_then-ok}
 use Rattle.job_files.specs.Files.{files_in, files_named}
 use Rattle.job_files.specs.Sizes.{wad_contents}
 use Rattle.level_audit.specs.scene_load.Loads.{LoadedValue, load_in, loaded_value}

@@ -6,6 +6,7 @@ use Rattle.std.specs.Option.{option_map_or}
 use Rattle.std.proofs.lemmas.Bool.{cases_lt, or_cases}
 use Rattle.std.proofs.lemmas.Bool.Decides.{nat_tests}
 use Rattle.outside.specs.Shelf.{File}
+use Rattle.outside.proofs.AnswerLemmas.{and_then-ok}
 use Rattle.lump_rules.specs.declared.wad.Lump.{Lump}
 use Rattle.lump_rules.specs.Lookups.{last_of, lump_at}
 use Rattle.lump_cache.specs.Named.{IsLast}
@@ -24,7 +25,7 @@ use Rattle.scene_rules.specs.Scenes.{LevelBase}
 use Rattle.scene_rules.specs.Sizes.{greatest_by, is_last, is_list, is_map_lump, lump_block}
 use Rattle.level_audit.specs.Asked.{IsOfBase}
 use Rattle.sound_scene.specs.Sound.{textures_view}
-use Rattle.sound_scene.proofs.SceneLemmas.{IsBaseOf, and_then-ok, base_parts, scene_parts}
+use Rattle.sound_scene.proofs.SceneLemmas.{IsBaseOf, base_parts, scene_parts}
 use Rattle.job_files.specs.Files.{files_in}
 use Rattle.level_audit.specs.scene_load.Fulls.{IsBaseWithin}
 use Rattle.level_audit.specs.scene_load.Loads.{LoadedValue, load_in, loaded_value, wad_bytes}

@@ -6,6 +6,7 @@ use Rattle.outside.specs.MemoryShelf.{ShelfInMemory, memory_view}
 use Rattle.outside.specs.Shelf.{File, Holds, file_named}
 use Rattle.outside.specs.Faults.{and_then, from_below}
 use Rattle.outside.specs.Stops.{Stop, absent, stopped, else_absent, no_file}
+use Rattle.outside.proofs.AnswerLemmas.{and_then-ok}
 use Rattle.lump_rules.specs.Names.{filled, name_of}
 use Rattle.csv_tables.specs.declared.fault.CsvRefusal.{CsvRefusal}
 use Rattle.csv_tables.specs.declared.fault.CsvRefusal.TheVariants.{TooMany}
@@ -22,7 +23,7 @@ use Rattle.job_rules.specs.Ranges.{AreSettings}
 use Rattle.refusals.specs.declared.refusal.Refusal.{Refusal}
 use Rattle.refusals.specs.declared.refusal.Refusal.TheVariants as refusal
 use Rattle.refusals.specs.Groups.{of_audit}
-use Rattle.sound_scene.proofs.SceneLemmas.{and_then-ok, from_below-ok}
+use Rattle.sound_scene.proofs.SceneLemmas.{from_below-ok}
 use Rattle.job_files.specs.declared.texts.TextTables.{TextTables}
 use Rattle.job_files.specs.Files.{FilesValue, files_in, files_named, in_file, in_optional_file, lumps_in, path_file, tables_file, texts_in, things_file, wad_files, weapons_file}
 use Rattle.level_audit.specs.scene_load.Loads.{LoadedValue, audited_in, load_in, wad_bytes}

@@ -5,6 +5,7 @@ use Rattle.std.proofs.lemmas.List.Elements.{All-contains}
 use Rattle.outside.specs.Faults.{from_below}
 use Rattle.outside.specs.Shelf.{File}
 use Rattle.outside.specs.Sink.{Grew, GrewByPrefix}
+use Rattle.outside.proofs.AnswerLemmas.{and_then-ok}
 use Rattle.lump_rules.specs.declared.wad.Lump.{Lump}
 use Rattle.lump_rules.specs.Lookups.{lump_at}
 use Rattle.lump_cache.specs.Calls.{HasAll, IsFullFor}
@@ -14,7 +15,7 @@ use Rattle.job_rules.specs.declared.trim.TrimRefusal.{TrimRefusal}
 use Rattle.refusals.specs.declared.refusal.Refusal.TheVariants.{Trim}
 use Rattle.scene_rules.specs.Sizes.{is_needed, lump_block}
 use Rattle.sound_scene.specs.Sound.{art_with}
-use Rattle.sound_scene.proofs.SceneLemmas.{and_then-ok, scene_parts}
+use Rattle.sound_scene.proofs.SceneLemmas.{scene_parts}
 use Rattle.trim_rules.specs.declared.part.TrimPart.{TrimPart}
 use Rattle.trim_rules.specs.Parts.{copy_part, trim_plan}
 use Rattle.wad_trim.specs.Plans as plans

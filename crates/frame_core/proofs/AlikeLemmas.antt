@@ -8,6 +8,7 @@ use Rattle.word_rules.specs.Words.{minus_one}
 use Rattle.word_rules.specs.Least.{greatest}
 use Rattle.word_rules.specs.Listed.{listed_from, joined_lists}
 use Rattle.word_rules.proofs.LeastLemmas.{greatest-is}
+use Rattle.word_rules.proofs.Logic.{funext}
 use Rattle.view_rules.specs.View.{ViewValue}
 use Rattle.pixel_rules.specs.Art.{Art}
 use Rattle.pixel_rules.specs.Dots.{Dot}
@@ -40,9 +41,6 @@ as_read d = record {
   light = d.light;
   column = λ x. cond d.masked (d.column x) (pos 0);
 }
-
-same_function : {A B : Type 0} (f g : A → B) → ((x : A) → f x ≡ g x) → f ≡ g
-same_function f g h = λ i x. h x i
 
 -- what is read stays
 read_first : (has masked : Bool) (z : ℤ) → has ≡ true → cond (has || masked) z (pos 0) ≡ z
@@ -90,7 +88,7 @@ middles_by : (v : ViewValue) (art : Art) (sprites : List SpriteEntry) (moment : 
 unfolding joined_lists
 middles_by v art sprites moment k d true e =
     ap (λ (f : ℕ → List Dot). joined_lists f (columns_at sprites moment d))
-    (same_function (middle_column v art k (as_read d)) (middle_column v art k d) (λ x. middle_column_read v art k d x e))
+    (funext (middle_column v art k (as_read d)) (middle_column v art k d) (λ x. middle_column_read v art k d x e))
 middles_by v art sprites moment k d false e =
     ap (joined_lists (middle_column v art k (as_read d))) (no_columns sprites moment d e)
     ∙ sym (ap (joined_lists (middle_column v art k d)) (no_columns sprites moment d e))
@@ -128,7 +126,7 @@ top_gives e x None = refl
 top_gives e x (Some d) = refl
 
 greatest_same : (p q : ℕ → Bool) → ((k : ℕ) → p k ≡ q k) → (n : ℕ) → greatest p n ≡ greatest q n
-greatest_same p q h n = ap (λ (f : ℕ → Bool). greatest f n) (same_function p q h)
+greatest_same p q h n = ap (λ (f : ℕ → Bool). greatest f n) (funext p q h)
 
 that_read : (t : Drawseg → Bool) → ((o : Option Drawseg) → passes_at t (option_map as_read o) ≡ passes_at t o) → (ds : List Drawseg) → greatest_that t (map as_read ds) ≡ greatest_that t ds
 unfolding greatest_that
@@ -182,7 +180,7 @@ sprite_column_read v art ds e x = let p = sprite_bottom_read v.shape.height ds e
 sprite_dots_read : (v : ViewValue) (art : Art) (ds : List Drawseg) (e : SpriteEntry) → sprite_dots v art (map as_read ds) e ≡ sprite_dots v art ds e
 unfolding sprite_dots
 sprite_dots_read v art ds e =
-    ap (λ (f : ℕ → List Dot). joined_lists f (rows_between e.first e.last)) (same_function (sprite_column v art (map as_read ds) e) (sprite_column v art ds e) (sprite_column_read v art ds e))
+    ap (λ (f : ℕ → List Dot). joined_lists f (rows_between e.first e.last)) (funext (sprite_column v art (map as_read ds) e) (sprite_column v art ds e) (sprite_column_read v art ds e))
 
 sprite_step_read : (v : ViewValue) (art : Art) (ds : List Drawseg) (sprites : List SpriteEntry) (i : ℕ) (e : SpriteEntry) → sprite_step v art (map as_read ds) sprites i e ≡ sprite_step v art ds sprites i e
 unfolding sprite_step

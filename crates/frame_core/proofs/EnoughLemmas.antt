@@ -44,6 +44,7 @@ use Rattle.frame_core.specs.declared.fault.ViewFault.TheVariants.{Limit, ZoneFul
 use Rattle.frame_core.specs.Faults.{limit_of_view, view_fault}
 use Rattle.frame_core.specs.Views.{CanDrawView, IsViewLump, IsViewTexture}
 use Rattle.frame_core.proofs.RowLemmas.{textures_rows}
+use Rattle.word_rules.proofs.Logic.{eq-false_positive}
 
 -- none is greater than the greatest
 contained_greatest : {X : Type 0} (f : X → ℕ) (xs : List X) (x : X) → Contains xs x → f x ≤ greatest_by f xs
@@ -120,13 +121,9 @@ module _ (lumps : List Lump) (number : ℕ) (t : PreparedTexture) (owner : Owner
       | inr past ↦ absurd (subst IsComposedColumn (get_or_past t.columns x Empty past) is)
     ]
 
--- the block of a composite with bytes
-not_none : (n : ℕ) → 0 < n → (n == 0) ≡ false
-not_none n l = grind (arith, nat_tests)
-
 block_of : (t : PreparedTexture) → 0 < size_of t → composite_block (Some t) ≡ block_size (size_of t)
 unfolding composite_block block_or_none
-block_of t some = ap (λ b. cond b 0 (block_size (size_of t))) (not_none (size_of t) some)
+block_of t some = ap (λ b. cond b 0 (block_size (size_of t))) (eq-false_positive (size_of t) some)
 
 block_some : (n : ℕ) → block_size n ≢ 0
 block_some n = omega arith

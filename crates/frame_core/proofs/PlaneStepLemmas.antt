@@ -20,6 +20,7 @@ use Rattle.wall_columns.proofs.ClipLemmas.{ceiling_rows-in, clip_before-in, edge
 use Rattle.frame_core.specs.Scenes.{lists_of}
 use Rattle.frame_core.specs.Walked.{IsFlatOf, IsFlatShown, IsPlaneIn}
 use Rattle.frame_core.proofs.AllPlanesLemmas.{IsRunIn, all-draws, all-finds, holds-empty_plane, holds-with_run, marked_rows-in}
+use Rattle.word_rules.proofs.Logic.{or-true_right}
 
 plane_empty : (shape : ViewShape) (scene : SceneValue) (key : PlaneKey) → IsFlatShown scene key.flat → IsPlaneIn shape scene (empty_plane key)
 unfolding empty_plane
@@ -78,12 +79,8 @@ floor_flat : (s : Surface) (height light : ℤ) (t : Bool) → is_sky s.floor_fl
 floor_flat s height light true e = ap (λ (b : Bool). b || is_sky s.ceiling_flat) e
 floor_flat s height light false e = inl (refl, e)
 
-or_second : (a b : Bool) → b ≡ true → (a || b) ≡ true
-or_second true b e = refl
-or_second false b e = e
-
 ceiling_flat : (s : Surface) (height light : ℤ) (t : Bool) → is_sky s.ceiling_flat ≡ t → IsFlatOf s (cond t sky_key (lump_key height s.ceiling_flat light)).flat
-ceiling_flat s height light true e = or_second (is_sky s.floor_flat) (is_sky s.ceiling_flat) e
+ceiling_flat s height light true e = or-true_right (is_sky s.floor_flat) (is_sky s.ceiling_flat) e
 ceiling_flat s height light false e = inr (refl, e)
 
 floor_of : (s : Surface) (height light : ℤ) → IsFlatOf s (key_of height s.floor_flat light).flat

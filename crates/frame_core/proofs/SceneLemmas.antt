@@ -7,6 +7,7 @@ use Rattle.std.proofs.lemmas.List.{length-map}
 use Rattle.std.proofs.lemmas.List.Elements.{All-head, All-nil, All-tail}
 use Rattle.std.proofs.lemmas.List.Folds.{list_any_at}
 use Rattle.outside.specs.Faults.{and_then}
+use Rattle.outside.proofs.AnswerLemmas.{and_then-ok}
 use Rattle.lump_rules.specs.declared.wad.Lump.{Lump}
 use Rattle.level_rules.specs.declared.Sector.{Sector}
 use Rattle.level_rules.specs.declared.Surface.{Surface}
@@ -52,11 +53,6 @@ surface_from [] flats i s f d e l = absurd (omega (arith, l))
 surface_from (sector ∷ sectors) [] i s f d e l = absurd (omega (arith, e))
 surface_from (sector ∷ sectors) (both ∷ flats) zero s f d e l = refl
 surface_from (sector ∷ sectors) (both ∷ flats) (suc i) s f d e l = surface_from sectors flats i s f d (omega (arith, e)) (omega (arith, l))
-
--- both steps were passed
-both_passed : {A C E : Type 0} (first : Result C E) (next : C → Result A E) (value : A) → and_then first next ≡ Ok value → (got : C) × (first ≡ Ok got) × (next got ≡ Ok value)
-both_passed (Ok got) next value e = (got, refl, e)
-both_passed (Err stop) next value e = absurd (cc)
 
 -- something was got of an item, and the rest follows it
 first_got : {Y R : Type 0} (first : Option Y) (reason : R) (rest : Result (List Y) R) (ys : List Y) → and_then (ok_or first reason) (λ y. and_then rest (λ zs. Ok (y ∷ zs))) ≡ Ok ys →
@@ -148,9 +144,9 @@ pub record AreMeant (lumps : List Lump) (name : List ℕ) (level : LevelValue) (
 pub are_meant : (lumps : List Lump) (name : List ℕ) (level : LevelValue) (lists : TextureLists) (faces : Faces) → faces_in lumps name level lists ≡ Ok faces → AreMeant lumps name level lists faces
 unfolding faces_in
 are_meant lumps name level lists faces e =
-    let sides = both_passed (side_textures lists.textures level.sides) _ faces e in
-    let sky = both_passed (sky_texture lists.textures name level.sectors) _ faces sides.2 in
-    let flats = both_passed (sector_flats lumps level.sectors) _ faces sky.2 in
+    let sides = and_then-ok (side_textures lists.textures level.sides) _ faces e in
+    let sky = and_then-ok (sky_texture lists.textures name level.sectors) _ faces sides.2 in
+    let flats = and_then-ok (sector_flats lumps level.sectors) _ faces sky.2 in
     let parts : Faces = record { sides = sides.0; sky = sky.0; flats = flats.0 } in
     let same : parts ≡ faces = cc (flats.2) in
     record { sky = sky.1 ∙ ap (λ (f : Faces). Ok f.sky) same; flats = flats.1 ∙ ap (λ (f : Faces). Ok f.flats) same }

@@ -52,6 +52,7 @@ use Rattle.frame_core.proofs.FloorLemmas.{floors_of}
 use Rattle.frame_core.proofs.MaskLemmas.{masks_dots}
 use Rattle.frame_core.proofs.PartDotLemmas.{LiesInView, planes-in_view, walls-in_view}
 use Rattle.frame_core.proofs.ViewDotLemmas.{drawsegs-in_view, masked-in_view}
+use Rattle.word_rules.proofs.Logic.{on_ok-always}
 
 -- tools read the view, the scene and the directory that others read
 abbrev pub ReadsAlike : {S C : Type 0} → ViewTools S C → ViewTools S C → Type 0
@@ -135,11 +136,6 @@ in_view-walked v bytes s b frame walked =
     (in_view-append v.shape (planes_dots v scene planes) (masked_dots v scene.art ds (draw_order entries))
     (planes-in_view v scene planes (planes_in v bytes s b walked))
     (masked-in_view v scene.art ds (draw_order entries) low (drawsegs-in_view v scene (walls_of v scene events) low has.built.drawn) (draw_order-all (lies_within v.shape.width) entries passes))))
-
--- what holds anyway holds where the answer is Ok
-pub on_ok-always : {A E : Type 0} (P : Type 0) (result : Result A E) → P → OnOk result P
-on_ok-always P (Ok x) p = p
-on_ok-always P (Err e) p = tt
 
 -- what is told of a part's fault is told of the whole's
 pub if_err-stop : {A B : Type 0} (P : ViewFault → Type 0) (part : Result B ViewFault) (fault : ViewFault) (whole : Result A ViewFault) → part ≡ Err fault → IsErrAnd whole (λ e. e ≡ fault) → IfErr part P → IfErr whole P

@@ -6,6 +6,7 @@ use Rattle.std.proofs.lemmas.Bool.{eqb-true}
 use Rattle.std.proofs.lemmas.List.{map-append}
 use Rattle.std.proofs.lemmas.List.Elements.{All-nil, All-push}
 use Rattle.std.proofs.lemmas.List.Folds.{list_any-append}
+use Rattle.std.proofs.Math.Bool.{or-false}
 use Rattle.view_rules.specs.View.{ViewValue}
 use Rattle.level_rules.specs.Levels.{leaf_at, surface_at}
 use Rattle.art_rules.specs.Books.{book_lumps}
@@ -148,11 +149,6 @@ pub planes_so_far : (v : ViewValue) (bytes : ℕ → List ℕ) (scene : SceneVal
     All (IsPlaneIn v.shape scene) (planes_after v (scene_of bytes scene) events).planes
 planes_so_far v bytes scene most events b h = subst (All (IsPlaneIn v.shape scene)) h.built.planes h.planes
 
--- a sector that is entered
-or_false : (b : Bool) → (b || false) ≡ b
-or_false true = refl
-or_false false = refl
-
 or_true : (b : Bool) → (b || true) ≡ true
 or_true true = refl
 or_true false = refl
@@ -163,14 +159,14 @@ entered_leaf scene es n sector =
     ap (λ (ls : List ℕ). list_any (λ m. m == sector) (map (leaf_sector scene) ls)) (leaves_entered-append es (LeafEvent n ∷ []))
     ∙ ap (list_any (λ m. m == sector)) (map-append (leaf_sector scene) (leaves_entered es) (n ∷ []))
     ∙ list_any-append (λ m. m == sector) (map (leaf_sector scene) (leaves_entered es)) (leaf_sector scene n ∷ [])
-    ∙ ap (λ (b : Bool). list_any (λ m. m == sector) (map (leaf_sector scene) (leaves_entered es)) || b) (or_false (leaf_sector scene n == sector))
+    ∙ ap (λ (b : Bool). list_any (λ m. m == sector) (map (leaf_sector scene) (leaves_entered es)) || b) (or-false (leaf_sector scene n == sector))
 
 entered_by : (scene : Scene) (es : List Event) (n s : ℕ) (now : Bool) (own : ℕ) (t : Bool) → own ≡ leaf_sector scene n → (own == s) ≡ t →
     ((own == s) ≡ true → now ≡ true) → ((own == s) ≡ false → now ≡ is_entered scene es s) → now ≡ is_entered scene (es ++ LeafEvent n ∷ []) s
 entered_by scene es n s now own true e t same other =
     same t ∙ sym (or_true (is_entered scene es s)) ∙ ap (λ (b : Bool). is_entered scene es s || b) (sym t ∙ ap (λ (k : ℕ). k == s) e) ∙ sym (entered_leaf scene es n s)
 entered_by scene es n s now own false e t same other =
-    other t ∙ sym (or_false (is_entered scene es s)) ∙ ap (λ (b : Bool). is_entered scene es s || b) (sym t ∙ ap (λ (k : ℕ). k == s) e) ∙ sym (entered_leaf scene es n s)
+    other t ∙ sym (or-false (is_entered scene es s)) ∙ ap (λ (b : Bool). is_entered scene es s || b) (sym t ∙ ap (λ (k : ℕ). k == s) e) ∙ sym (entered_leaf scene es n s)
 
 last_of_leaf : (es : List Event) (n : ℕ) → n ≡ last_leaf 0 (es ++ LeafEvent n ∷ [])
 unfolding last_leaf

@@ -16,7 +16,7 @@ use Rattle.art_rules.specs.Wanted.{PreparedTexture, is_patch_of, is_patch_of_any
 use Rattle.texture_build.specs.Asked.{IsWantedPatch}
 use Rattle.texture_build.proofs.PlaceLemmas.{lump_placed}
 use Rattle.sound_scene.proofs.MemberLemmas.{among_cases, among_none}
-use Rattle.sound_scene.proofs.SceneLemmas.{and_then-ok}
+use Rattle.outside.proofs.AnswerLemmas.{and_then-ok}
 
 -- a step that gave something
 some_step : {X Y : Type 0} (o : Option X) (f : X → Option Y) (y : Y) → option_and_then f o ≡ Some y → (x : X) × (o ≡ Some x) × (f x ≡ Some y)

@@ -7,6 +7,7 @@ use Rattle.std.specs.Str.{bytes_eq}
 use Rattle.std.proofs.lemmas.Bool.{and_parts, eqb-true}
 use Rattle.std.proofs.lemmas.Slice.Eq.{bytes_eq-Decides}
 use Rattle.outside.specs.Faults.{and_then}
+use Rattle.outside.proofs.AnswerLemmas.{and_then-ok}
 use Rattle.lump_rules.specs.declared.wad.Lump.{Lump}
 use Rattle.art_rules.specs.declared.Mention.{Mention}
 use Rattle.art_rules.specs.declared.TheConstants.{ROTATIONS}
@@ -18,7 +19,7 @@ use Rattle.art_rules.specs.declared.shapes.Shape.{Shape}
 use Rattle.art_rules.specs.Books.{book_lumps, each_of, first_needs, frame_in, frame_of, last_mention, patch_or_bad, picture_or_missing, pictures_of, same_frame, shape_in, shape_lumps, shape_of}
 use Rattle.sprite_book.specs.Calls.{IsWanted}
 use Rattle.sound_scene.proofs.MemberLemmas.{among_cases, among_first, among_kept, among_later, among_none, any_joined, any_mapped, each_made, each_same}
-use Rattle.sound_scene.proofs.SceneLemmas.{and_then-ok, same_value}
+use Rattle.sound_scene.proofs.SceneLemmas.{same_value}
 
 -- of each needed frame there is a first need
 pub record IsFirst (needs : List Need) (need : Need) : Type 0 where

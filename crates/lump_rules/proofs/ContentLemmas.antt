@@ -8,7 +8,8 @@ use Rattle.lump_rules.specs.declared.wad.Lump.{Lump}
 use Rattle.lump_rules.specs.Wads.{passes_end, file_lumps, header_refusal, header, entry_count, entries_in, entry_refusal, file_refusal, refusal_from, lumps_from, directory}
 use Rattle.lump_rules.specs.Lookups.{lump_at}
 use Rattle.lump_rules.specs.Contents.{file_bytes, lump_bytes, LiesWithin, AllWithin}
-use Rattle.lump_rules.proofs.WadLemmas.{unless_refused_ok, or_else_none, lumps_in-file, entry_refusal_none}
+use Rattle.lump_rules.proofs.WadLemmas.{unless_refused_ok, lumps_in-file, entry_refusal_none}
+use Rattle.word_rules.proofs.Logic.{or_else-none}
 
 not_past : (size place end : ℕ) → (not (size == 0) && nat_lt end (place + size)) ≡ false → 0 < size → place + size ≤ end
 not_past size place end e some = grind (arith, nat_tests)
@@ -36,8 +37,8 @@ within_from : (contents : List (List ℕ)) (file before : ℕ) (rest : List (Lis
 unfolding refusal_from lumps_from
 within_from contents file before [] same le none = All-nil (LiesWithin contents)
 within_from contents file before (bytes ∷ rest) same le none =
-    let both = or_else_none (file_refusal file before bytes) (refusal_from (suc file) (before + entry_count (header bytes)) rest) none in
-    let entries = or_else_none (header_refusal file before bytes) (entry_refusal file (length bytes) (file_lumps file bytes)) both.0 in
+    let both = or_else-none (file_refusal file before bytes) (refusal_from (suc file) (before + entry_count (header bytes)) rest) none in
+    let entries = or_else-none (header_refusal file before bytes) (entry_refusal file (length bytes) (file_lumps file bytes)) both.0 in
     let first : file_bytes contents file ≡ bytes = ap (file_bytes contents) (sym (add-zero file)) ∙ same 0 (omega arith) in
     All-append (LiesWithin contents) (file_lumps file bytes) (lumps_from (suc file) rest)
     (file_within contents file bytes (omega arith) first entries.1)

@@ -7,6 +7,7 @@ use Rattle.std.specs.Bool.{Decides}
 use Rattle.std.specs.Option.{option_map}
 use Rattle.word_rules.specs.Least.{or_else}
 use Rattle.word_rules.proofs.ListedLemmas.{length-listed, get_or-listed}
+use Rattle.word_rules.proofs.Logic.{or_else-none}
 use Rattle.lump_rules.specs.declared.wad.DirRefusal.{DirRefusal}
 use Rattle.lump_rules.specs.declared.wad.DirRefusal.TheVariants.{Entry}
 use Rattle.lump_rules.specs.declared.wad.Lump.{Lump}
@@ -16,11 +17,6 @@ use Rattle.lump_rules.specs.Wads.{lump_in, lumps_in, entry_at, entry_count, entr
 pub unless_refused_ok : {A : Type 0} (refusal : Option DirRefusal) (value found : A) → unless_refused refusal value ≡ Ok found → (refusal ≡ None) × (value ≡ found)
 unless_refused_ok None value found e = (refl, cc)
 unless_refused_ok (Some reason) value found e = absurd (cc)
-
--- none of two
-pub or_else_none : {X : Type 0} (x y : Option X) → or_else x y ≡ None → (x ≡ None) × (y ≡ None)
-or_else_none None y e = (refl, e)
-or_else_none (Some v) y e = absurd (cc)
 
 -- there are as many lumps as entries
 pub lumps_in-length : (file count : ℕ) (entries : List ℕ) → length (lumps_in file count entries) ≡ count

@@ -4,6 +4,7 @@ use Rattle.std.specs.Prelude.{◌&&◌, ◌||◌, not, int_lt, int_le, slice_get
 use Rattle.std.proofs.lemmas.Int.{ints}
 use Rattle.std.proofs.lemmas.List.{append-nil, append_assoc}
 use Rattle.word_rules.specs.Listed.{listed_from, joined_lists}
+use Rattle.word_rules.proofs.Logic.{and-false_right}
 use Rattle.view_rules.specs.View.{ViewValue}
 use Rattle.pixel_rules.specs.Dots.{Dot}
 use Rattle.pixel_rules.specs.Art.{Art}
@@ -72,16 +73,12 @@ not_passed : (e : SpriteEntry) (d : Drawseg) (x : ℕ) → int_lt e.last e.first
 unfolding entry_has
 not_passed e d x h = ap (λ (b : Bool). b && is_behind d e) (no_column e.first e.last x h)
 
-and_no : (a b : Bool) → b ≡ false → (a && b) ≡ false
-and_no true b h = h
-and_no false b h = refl
-
 no_columns : (es : List SpriteEntry) (i : ℕ) (e : SpriteEntry) (d : Drawseg) → i < length es → slice_get es i ≡ Some e → int_lt e.last e.first ≡ true → columns_at es (Some i) d ≡ []
 unfolding columns_at listed_from
 no_columns es i e d l g h =
     range_none (λ x. d.masked && same_number (sprite_in_front es d x) (Some i)) d.first (d.last + 1 - d.first)
-    (λ x a b. and_no d.masked (same_number (sprite_in_front es d x) (Some i))
-    (front-now es d x i e l g ∙ and_no (not (is_before (sprite_in_front es d x) i)) (is_passed e d x) (not_passed e d x h)))
+    (λ x a b. and-false_right d.masked (same_number (sprite_in_front es d x) (Some i))
+    (front-now es d x i e l g ∙ and-false_right (not (is_before (sprite_in_front es d x) i)) (is_passed e d x) (not_passed e d x h)))
 
 no_middles_of : (v : ViewValue) (art : Art) (es : List SpriteEntry) (i k : ℕ) (e : SpriteEntry) (o : Option Drawseg) → i < length es → slice_get es i ≡ Some e → int_lt e.last e.first ≡ true → middles_of v art es (Some i) k o ≡ []
 unfolding middles_of joined_lists

@@ -15,6 +15,7 @@ use Rattle.vissprites.specs.Bounds.{lies_within}
 use Rattle.masked_draw.specs.Clipped.{clips_bottom, clips_top, row_after}
 use Rattle.masked_draw.specs.Marks.{AreOwnMarked, MarksBy, MissesColumns, is_between, is_passed, unmarked_dots}
 use Rattle.masked_draw.proofs.MarkLemmas.{marks-none, marks-same, unmarked-none, unmarked-plain, unmarked-same}
+use Rattle.word_rules.proofs.Logic.{and-false_left, and-false_right}
 
 -- a drawn fragment as its note has it
 pub record IsSegOf (d : FragmentNote) (drawseg : Drawseg) : Type 0 where
@@ -67,11 +68,8 @@ off_left : (first last a b x : ℕ) → (last < a) ⊎ (b < first) → a ≤ x �
 off_left first last a b x (inl h) l m = grind (arith, nat_tests)
 off_left first last a b x (inr h) l m = grind (arith, nat_tests)
 
-and_off : (a b : Bool) → a ≡ false → (a && b) ≡ false
-and_off a b h = ap (λ (z : Bool). z && b) h
-
 no_passed : (e : SpriteEntry) (d : FragmentNote) (drawseg : Drawseg) (first last x : ℕ) → e.first ≡ pos first → e.last ≡ pos last → (last < d.first) ⊎ (d.last < first) → d.first ≤ x → x ≤ d.last → is_passed e drawseg x ≡ false
-no_passed e d drawseg first last x f l h a b = and_off (entry_has e x) (is_behind drawseg e) (entry-between e first last x f l ∙ off_left first last d.first d.last x h a b)
+no_passed e d drawseg first last x f l h a b = and-false_left (entry_has e x) (is_behind drawseg e) (entry-between e first last x f l ∙ off_left first last d.first d.last x h a b)
 
 own_plain : (d : FragmentNote) (gives : ℕ → Bool) (marks : List Bool) (masked : Option ℕ) → masked ≡ None → AreOwnMarked d gives marks marks masked
 own_plain d gives marks masked e = let P : Option ℕ → Type 0 = λ o. AreOwnMarked d gives marks marks o in subst P (sym e) tt
@@ -107,11 +105,11 @@ no_column e d drawseg first last x s f l h t =
 
 no_bottom : (e : SpriteEntry) (drawseg : Drawseg) (x : ℕ) → drawseg_has drawseg x ≡ false → gives_bottom e x drawseg ≡ false
 unfolding gives_bottom
-no_bottom e drawseg x h = and_off (drawseg_has drawseg x) (not (is_behind drawseg e) && (drawseg.has_bottom && int_lt e.gz drawseg.bottom_height)) h
+no_bottom e drawseg x h = and-false_left (drawseg_has drawseg x) (not (is_behind drawseg e) && (drawseg.has_bottom && int_lt e.gz drawseg.bottom_height)) h
 
 no_top : (e : SpriteEntry) (drawseg : Drawseg) (x : ℕ) → drawseg_has drawseg x ≡ false → gives_top e x drawseg ≡ false
 unfolding gives_top
-no_top e drawseg x h = and_off (drawseg_has drawseg x) (not (is_behind drawseg e) && (drawseg.has_top && int_lt drawseg.top_height e.gzt)) h
+no_top e drawseg x h = and-false_left (drawseg_has drawseg x) (not (is_behind drawseg e) && (drawseg.has_top && int_lt drawseg.top_height e.gzt)) h
 
 third_off : (a b c t : Bool) → c ≡ false → (a && (b && (c && t))) ≡ false
 third_off true true c t h = ap (λ (z : Bool). z && t) h
@@ -177,16 +175,11 @@ pub behind-dots : (v : ViewValue) (art : Art) (k : ℕ) (e : SpriteEntry) (d : F
 behind-dots v art k e d drawseg first last marks f l b =
     unmarked-same v art marks d (is_between (max first d.first) (min last d.last)) (is_passed e drawseg) k drawseg (λ x p q. passed_here e d drawseg first last x f l b p q)
 
--- where it is in front: nothing is painted, and its clips are taken
-and_false : (a b : Bool) → b ≡ false → (a && b) ≡ false
-and_false true b h = h
-and_false false b h = refl
-
 pub front-marks : (e : SpriteEntry) (d : FragmentNote) (drawseg : Drawseg) (marks : List Bool) → is_behind drawseg e ≡ false → MarksBy d (is_passed e drawseg) marks marks
-front-marks e d drawseg marks b = marks-none d (is_passed e drawseg) marks (λ x p q. and_false (entry_has e x) (is_behind drawseg e) b)
+front-marks e d drawseg marks b = marks-none d (is_passed e drawseg) marks (λ x p q. and-false_right (entry_has e x) (is_behind drawseg e) b)
 
 pub front-dots : (v : ViewValue) (art : Art) (k : ℕ) (e : SpriteEntry) (d : FragmentNote) (drawseg : Drawseg) (marks : List Bool) → is_behind drawseg e ≡ false → unmarked_dots v art marks d (is_passed e drawseg) k drawseg ≡ []
-front-dots v art k e d drawseg marks b = unmarked-none v art marks d (is_passed e drawseg) k drawseg (λ x p q. and_false (entry_has e x) (is_behind drawseg e) b)
+front-dots v art k e d drawseg marks b = unmarked-none v art marks d (is_passed e drawseg) k drawseg (λ x p q. and-false_right (entry_has e x) (is_behind drawseg e) b)
 
 has_inner : (a b first last x : ℕ) → is_between first last x ≡ true → is_between (max first a) (min last b) x ≡ (nat_le a x && nat_le x b)
 has_inner a b first last x t = grind (arith, nat_tests)

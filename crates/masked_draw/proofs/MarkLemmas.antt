@@ -5,6 +5,7 @@ use Rattle.std.specs.List.{range_with_len, filter}
 use Rattle.std.proofs.lemmas.Bool.{cases_lt}
 use Rattle.std.proofs.lemmas.Bool.Decides.{nat_tests}
 use Rattle.std.proofs.lemmas.List.{append-nil}
+use Rattle.std.proofs.Math.Bool.{and-false}
 use Rattle.word_rules.specs.Listed.{listed_from, joined_lists}
 use Rattle.word_rules.proofs.ListedLemmas.{joined_lists-append}
 use Rattle.view_rules.specs.View.{ViewValue}
@@ -90,11 +91,6 @@ one_more q from x a (suc n) l m r = elim (cases_lt a x) [
       subst (λ (z : ℕ). filter (up_to q from (x + 1)) (map (λ x. x) (range_with_len z (suc n))) ≡ filter (up_to q from x) (map (λ x. x) (range_with_len z (suc n))) ++ cond (q x) (x ∷ []) []) e (one_more_at q from x n l)
 ]
 
--- the columns that are not marked: those that pass another test in the note's columns
-and_no : (b : Bool) → (b && false) ≡ false
-and_no true = refl
-and_no false = refl
-
 unmarked_same : (marks : List Bool) (d : FragmentNote) (gives other : ℕ → Bool) (masked : Option ℕ) → ((x : ℕ) → d.first ≤ x → x ≤ d.last → gives x ≡ other x) →
     unmarked_by marks d gives masked ≡ unmarked_by marks d other masked
 unfolding unmarked_by listed_from
@@ -113,7 +109,7 @@ unfolding unmarked_by listed_from
 unmarked_none marks d gives None h = refl
 unmarked_none marks d gives (Some place) h =
     range_none (λ x. not (mark_of marks d place x) && gives x) d.first (d.last + 1 - d.first)
-    (λ x l m. ap (λ (b : Bool). not (mark_of marks d place x) && b) (h x l (omega arith)) ∙ and_no (not (mark_of marks d place x)))
+    (λ x l m. ap (λ (b : Bool). not (mark_of marks d place x) && b) (h x l (omega arith)) ∙ and-false (not (mark_of marks d place x)))
 
 -- none of them passes
 pub unmarked-none : (v : ViewValue) (art : Art) (marks : List Bool) (d : FragmentNote) (gives : ℕ → Bool) (k : ℕ) (drawseg : Drawseg) → ((x : ℕ) → d.first ≤ x → x ≤ d.last → gives x ≡ false) → unmarked_dots v art marks d gives k drawseg ≡ []

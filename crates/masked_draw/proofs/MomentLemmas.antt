@@ -5,6 +5,7 @@ use Rattle.std.proofs.lemmas.Bool.{lt-ltb}
 use Rattle.std.proofs.lemmas.Bool.Decides.{nat_tests}
 use Rattle.word_rules.specs.Least.{least, or_else}
 use Rattle.word_rules.proofs.LeastLemmas.{least-more, least-is}
+use Rattle.word_rules.proofs.Logic.{lt-true}
 use Rattle.picture_rules.specs.declared.sprite.SpriteEntry.{SpriteEntry}
 use Rattle.picture_rules.specs.sprite.Drawsegs.{Drawseg}
 use Rattle.picture_rules.specs.sprite.Clips.{sprite_in_front, stands_in_front}
@@ -12,12 +13,9 @@ use Rattle.picture_rules.specs.sprite.Middles.{same_number}
 use Rattle.picture_rules.proofs.sprite.ClipLemmas.{sprite_in_front-least}
 use Rattle.masked_draw.specs.Marks.{is_passed, is_before}
 
-below_now : (j n : ℕ) → j < n → nat_lt j n ≡ true
-below_now j n l = lt-ltb j n l
-
 before_here : (p : ℕ → Bool) (n : ℕ) (o : Option ℕ) → least p n ≡ o → is_before o n ≡ is_some o
 before_here p n None e = refl
-before_here p n (Some j) e = below_now j n (least-is p n j e).0
+before_here p n (Some j) e = lt-true j n (least-is p n j e).0
 
 before_step : (p : ℕ → Bool) (n i : ℕ) (b : Bool) (o : Option ℕ) → i ≤ n → is_before (or_else o (cond b (Some n) None)) i ≡ is_before o i
 before_step p n i true None l = grind (arith, nat_tests)
@@ -58,7 +56,7 @@ same_number-now (Some j) i = grind (arith, nat_tests)
 same_left : (p : ℕ → Bool) (n : ℕ) (o : Option ℕ) → least p n ≡ o → same_number o None ≡ not (is_before o n)
 unfolding same_number
 same_left p n None e = refl
-same_left p n (Some j) e = let h = below_now j n (least-is p n j e).0 in sym (ap not h)
+same_left p n (Some j) e = let h = lt-true j n (least-is p n j e).0 in sym (ap not h)
 
 stands_passed : (d : Drawseg) (x : ℕ) (e : SpriteEntry) (o : Option SpriteEntry) → o ≡ Some e → stands_in_front d x o ≡ is_passed e d x
 unfolding stands_in_front

@@ -5,6 +5,7 @@ use Rattle.std.specs.List.{filter}
 use Rattle.std.proofs.lemmas.Bool.{cases_lt}
 use Rattle.std.proofs.lemmas.Bool.Decides.{nat_tests}
 use Rattle.word_rules.specs.Listed.{listed_from, joined_lists}
+use Rattle.word_rules.proofs.Logic.{and-false_left}
 use Rattle.view_rules.specs.View.{ViewValue}
 use Rattle.pixel_rules.specs.Art.{Art}
 use Rattle.picture_rules.specs.declared.wall.FragmentNote.{FragmentNote}
@@ -23,9 +24,6 @@ pub record HasColumnsOf (d : FragmentNote) (drawseg : Drawseg) : Type 0 where
   pub last : drawseg.last ≡ d.last
   pub masked : drawseg.masked ≡ is_some d.masked
 
-off_and : (a b : Bool) → a ≡ false → (a && b) ≡ false
-off_and a b h = ap (λ (z : Bool). z && b) h
-
 on_and : (a b : Bool) → a ≡ true → (a && b) ≡ b
 on_and a b h = ap (λ (z : Bool). z && b) h
 
@@ -36,7 +34,7 @@ columns_of_moment : (marks : List Bool) (es : List SpriteEntry) (moment : Option
 unfolding unmarked_by listed_from
 columns_of_moment marks es moment d drawseg gives None e h =
     sym (range_none (λ x. drawseg.masked && same_number (sprite_in_front es drawseg x) moment) d.first (d.last + 1 - d.first)
-    (λ x l m. off_and drawseg.masked (same_number (sprite_in_front es drawseg x) moment) e))
+    (λ x l m. and-false_left drawseg.masked (same_number (sprite_in_front es drawseg x) moment) e))
 columns_of_moment marks es moment d drawseg gives (Some place) e h =
     range_agree (λ x. not (mark_of marks d place x) && gives x) (λ x. drawseg.masked && same_number (sprite_in_front es drawseg x) moment) d.first (d.last + 1 - d.first)
     (λ x l m. h place x refl l (omega arith) ∙ sym (on_and drawseg.masked (same_number (sprite_in_front es drawseg x) moment) e))

@@ -8,6 +8,7 @@ use Rattle.std.proofs.lemmas.List.FromFn.{map-range_with_len_more}
 use Rattle.word_rules.specs.Words.{natural}
 use Rattle.word_rules.specs.Listed.{joined_lists, listed_from}
 use Rattle.word_rules.proofs.ListedLemmas.{joined_lists-append}
+use Rattle.word_rules.proofs.Logic.{some-same}
 use Rattle.lump_rules.specs.declared.wad.Lump.{Lump}
 use Rattle.view_rules.specs.View.{ViewValue}
 use Rattle.view_rules.specs.declared.ViewShape.{ViewShape}
@@ -179,6 +180,3 @@ picture-painted {mark} v bytes textures colormap clips e first last shape own sh
     ∙ ap (λ (z : List ℕ). read_columns v.shape (painter_of SPRITE e.number (lump_source e.lump)) (bytes e.lump) z clips e first (last + 1)) m
     ∙ columns-read v bytes textures colormap clips e first last p q l)
     (has_dots-painted w h)
-
-pub some-same : (a b : List ℕ) (o : Option (List ℕ)) → Some a ≡ o → o ≡ Some b → a ≡ b
-some-same a b o p q = cc

@@ -6,3 +6,4 @@ pub mod StopLemmas
 pub mod TallySinkLemmas
 pub mod ThroughLemmas
 pub mod WriteLemmas
+pub mod AnswerLemmas

@@ -5,6 +5,7 @@ use Rattle.std.proofs.lemmas.Bool.{cases_eq}
 use Rattle.std.proofs.lemmas.Bool.Decides.{nat_tests}
 use Rattle.word_rules.specs.Least.{or_else}
 use Rattle.word_rules.proofs.ListedLemmas.{listed-all}
+use Rattle.word_rules.proofs.Logic.{within-row}
 use Rattle.pixel_rules.specs.declared.Post.{Post}
 use Rattle.art_rules.specs.Bytes.{byte_at}
 use Rattle.art_rules.specs.Columns.{put_count, first_row, is_put_at, put_byte, last_put}
@@ -32,9 +33,6 @@ row_so_far-none bytes from first v old =
 other_row : (first k v : ℕ) → v ≢ first + k → (nat_le first v && nat_lt v (first + k)) ≡ (nat_le first v && nat_lt v (first + (k + 1)))
 other_row first k v ne = grind (arith, nat_tests)
 
-this_row : (first k v : ℕ) → v ≡ first + k → (nat_le first v && nat_lt v (first + (k + 1))) ≡ true
-this_row first k v e = grind (arith, nat_tests)
-
 -- one byte more
 pub row_so_far-more : (bytes : List ℕ) (from first k byte v : ℕ) (old column : List ℕ) → byte ≡ byte_at bytes (from + k) → first + k < length column → get_or column v 0 ≡ row_so_far bytes from first k old v → get_or (set column (first + k) byte) v 0 ≡ row_so_far bytes from first (k + 1) old v
 unfolding row_so_far
@@ -42,7 +40,7 @@ row_so_far-more bytes from first k byte v old column b l h =
     elim (cases_eq v (first + k)) [
       | inl e ↦
           let d : v - first ≡ k = omega arith in
-          rw (this_row first k v e, d, e, get_or-set_same) b
+          rw (within-row first k v e, d, e, get_or-set_same) b
       | inr ne ↦ rw (get_or-set_other, ← other_row first k v ne) h
     ]
 

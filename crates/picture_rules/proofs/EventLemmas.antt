@@ -22,9 +22,7 @@ use Rattle.picture_rules.specs.Planes.{Step, plane_wall, leaf_step, wall_step, s
 use Rattle.picture_rules.specs.Masked.{drawsegs_from, view_drawsegs}
 use Rattle.picture_rules.specs.Things.{first_mentions, sectors_entered, with_sectors, view_entries}
 use Rattle.picture_rules.specs.Paints.{paints_by, paints_of}
-
-funext : {A B : Type 0} (f g : A → B) → ((x : A) → f x ≡ g x) → f ≡ g
-funext f g h = λ i x. h x i
+use Rattle.word_rules.proofs.Logic.{funext}
 
 -- a leaf adds no fragment
 pub walls_of-leaf : (v : ViewValue) (scene : Scene) (es : List Event) (n : ℕ) → walls_of v scene (es ++ LeafEvent n ∷ []) ≡ walls_of v scene es

@@ -4,6 +4,7 @@ use Rattle.std.specs.Prelude.{◌==◌, ◌||◌}
 use Rattle.std.specs.List.{list_any}
 use Rattle.std.proofs.lemmas.Bool.{eqb-true}
 use Rattle.std.proofs.lemmas.List.{map-append, append-nil}
+use Rattle.std.proofs.Math.Bool.{or-false}
 use Rattle.view_rules.specs.View.{ViewValue}
 use Rattle.level_rules.specs.walk.Events.{Event}
 use Rattle.level_rules.specs.walk.Events.Event.{LeafEvent, FragmentEvent}
@@ -12,10 +13,6 @@ use Rattle.level_rules.proofs.walk.DrawsegLemmas.{leaves_entered-append}
 use Rattle.picture_rules.specs.declared.sprite.SpriteEntry.{SpriteEntry}
 use Rattle.picture_rules.specs.Scene.{Scene, leaf_sector}
 use Rattle.picture_rules.specs.Things.{first_mentions, sectors_entered, is_entered, with_things, with_sectors, view_entries}
-
-or_false : (b : Bool) → (b || false) ≡ b
-or_false true = refl
-or_false false = refl
 
 -- a number more is a first mention where it was not mentioned before
 or_moved : (a b c : Bool) → ((a || b) || c) ≡ (b || (a || c))
@@ -42,7 +39,7 @@ mention_step before n ns s false e i j =
 
 mentions_more : (before ns : List ℕ) (s : ℕ) → first_mentions before (ns ++ s ∷ []) ≡ first_mentions before ns ++ cond (list_any (λ m. m == s) before || list_any (λ m. m == s) ns) [] (s ∷ [])
 unfolding first_mentions
-mentions_more before [] s = rw (or_false (list_any (λ m. m == s) before)) refl
+mentions_more before [] s = rw (or-false (list_any (λ m. m == s) before)) refl
 mentions_more before (n ∷ ns) s = mention_step before n ns s (list_any (λ m. m == n) before) refl (mentions_more before ns s) (mentions_more (n ∷ before) ns s)
 
 sectors_more : (v : ViewValue) (scene : Scene) (entries : List SpriteEntry) (xs : List ℕ) (n : ℕ) → with_sectors v scene entries (xs ++ n ∷ []) ≡ with_things v scene n (with_sectors v scene entries xs) (scene.things_of n)

@@ -6,14 +6,11 @@ use Rattle.std.proofs.lemmas.Bool.{cases_eq, cases_lt, ne_eqb, and_right}
 use Rattle.std.proofs.lemmas.List.{map-id}
 use Rattle.word_rules.specs.Least.{or_else}
 use Rattle.word_rules.specs.Listed.{listed, listed_from, joined_lists}
+use Rattle.word_rules.proofs.Logic.{or_else-none_right}
 use Rattle.pixel_rules.specs.declared.Painter.{Painter}
 use Rattle.pixel_rules.specs.Dots.{Dot, is_at, last_dot_from, last_dot, AreInColumn, AreInRow}
 use Rattle.pixel_rules.specs.Strips.{column_dots, span_dots}
 use Rattle.pixel_rules.proofs.DotLemmas.{last_dot-append, last_dot-none}
-
-or_none : {X : Type 0} (a : Option X) → or_else a None ≡ a
-or_none None = refl
-or_none (Some v) = refl
 
 -- no dot of another column is at the pixel, and none of another row
 other_column : (c x y : ℕ) (b : Option Dot) (ds : List Dot) → AreInColumn c ds → c ≢ x → last_dot_from b x y ds ≡ b
@@ -54,7 +51,7 @@ own_column f x y first (suc n) a l m =
           last_dot-append x y (f first) (flat_map f (map (λ c. c) (range_with_len (first + 1) n)))
           ∙ ap (λ (o : Option Dot). or_else o (last_dot x y (f first))) (own_column f x y (first + 1) n a (omega arith) (omega arith))
           ∙ ap (or_else (last_dot x y (f x))) (last_dot-other_column first x y (f first) (a first) e)
-          ∙ or_none (last_dot x y (f x))
+          ∙ or_else-none_right (last_dot x y (f x))
     ]
 
 after_columns : (f : ℕ → List Dot) (x y first n : ℕ) → ((c : ℕ) → AreInColumn c (f c)) → first + n ≤ x → last_dot x y (flat_map f (map (λ c. c) (range_with_len first n))) ≡ None

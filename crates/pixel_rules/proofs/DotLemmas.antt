@@ -4,6 +4,7 @@ use Rattle.std.specs.Prelude.{◌-◌, ◌%◌, ◌/◌, ◌≤◌, ◌⊎◌}
 use Rattle.std.proofs.lemmas.Bool.{cases_eq, cases_lt, ne_eqb}
 use Rattle.std.proofs.lemmas.List.{same_lists}
 use Rattle.word_rules.specs.Least.{or_else}
+use Rattle.word_rules.proofs.Logic.{or_else-assoc}
 use Rattle.pixel_rules.specs.declared.Painter.{Painter}
 use Rattle.view_rules.specs.declared.TheConstants.{FRAME_WIDTH, FRAME_HEIGHT}
 use Rattle.pixel_rules.specs.Dots.{Dot, cell_of, put_dots, is_at, last_dot_from, last_dot, mark_or, AreInFrame}
@@ -32,11 +33,6 @@ length-put_dots mark left top [] cells = refl
 length-put_dots mark left top (d ∷ ds) cells =
     length-put_dots mark left top ds (set cells (cell_of left top d.x d.y) (mark d.painter d.colour)) ∙ length-set cells (cell_of left top d.x d.y) (mark d.painter d.colour)
 
--- the dot before them is left where none of them is there
-or_else-same : {X : Type 0} (a b c : Option X) → or_else a (or_else b c) ≡ or_else (or_else a b) c
-or_else-same None b c = refl
-or_else-same (Some v) b c = refl
-
 here : (b : Option Dot) (d : Dot) (t : Bool) → cond t (Some d) b ≡ or_else (cond t (Some d) None) b
 here b d true = refl
 here b d false = refl
@@ -47,7 +43,7 @@ last_from b x y [] = refl
 last_from b x y (d ∷ ds) =
     last_from (cond (is_at x y d) (Some d) b) x y ds
     ∙ ap (or_else (last_dot_from None x y ds)) (here b d (is_at x y d))
-    ∙ or_else-same (last_dot_from None x y ds) (cond (is_at x y d) (Some d) None) b
+    ∙ or_else-assoc (last_dot_from None x y ds) (cond (is_at x y d) (Some d) None) b
     ∙ ap (λ (o : Option Dot). or_else o b) (sym (last_from (cond (is_at x y d) (Some d) None) x y ds))
 
 append_from : (b : Option Dot) (x y : ℕ) (xs ys : List Dot) → last_dot_from b x y (xs ++ ys) ≡ last_dot_from (last_dot_from b x y xs) x y ys

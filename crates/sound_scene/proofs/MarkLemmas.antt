@@ -17,6 +17,7 @@ use Rattle.texture_build.specs.Views.{is_marked}
 use Rattle.texture_build.proofs.MarkLemmas.{filter_same}
 use Rattle.scene_rules.specs.Sizes.{SceneArt, is_map_lump, is_needed, needed_lumps}
 use Rattle.sound_scene.specs.Views.{AddsMarks, lump_numbers}
+use Rattle.word_rules.proofs.Logic.{eq-false_above, eq-same}
 
 -- marks set by two calls
 pub adds_then : (a b c : List Bool) (p q : ℕ → Bool) → length b ≡ length a → AddsMarks a b p → AddsMarks b c q → AddsMarks a c (λ n. p n || q n)
@@ -41,16 +42,10 @@ pub map_added : (a b : List Bool) (label i : ℕ) → i ≡ length MAP_LUMPS →
 unfolding is_map_lump
 map_added a b label i e one = λ number l. one number l ∙ ap (λ (n : ℕ). is_marked a number || (nat_lt label number && nat_le number (label + n))) e
 
-equal_not : (m k : ℕ) → k < m → (m == k) ≡ false
-equal_not m k l = grind (arith, nat_tests)
-
-equal_same : (k : ℕ) → (k == k) ≡ true
-equal_same k = grind (arith, nat_tests)
-
 range_past : (a n k : ℕ) → k < a → All (λ (m : ℕ). (m == k) ≡ false) (range_with_len a n)
 range_past a n k l = λ j d m.
     let at : get_or (range_with_len a n) j d ≡ a + j = get_or-range_with_len a n j d (omega (arith, m, length-range_with_len a n)) in
-    ap (λ (i : ℕ). i == k) at ∙ equal_not (a + j) k (omega (arith, l))
+    ap (λ (i : ℕ). i == k) at ∙ eq-false_above (a + j) k (omega (arith, l))
 
 -- a number below all
 none_past : (p : ℕ → Bool) (a n k : ℕ) → k < a → list_any (λ (m : ℕ). m == k) (filter p (range_with_len a n)) ≡ false
@@ -70,7 +65,7 @@ and_false false c = refl
 
 passed_here : (p : ℕ → Bool) (a k : ℕ) (rest : List ℕ) → a ≡ k → list_any (λ (m : ℕ). m == k) rest ≡ false → ((p a && (a == k)) || list_any (λ (m : ℕ). m == k) rest) ≡ p k
 passed_here p a k rest same none =
-    ap (λ e. (p a && e) || list_any (λ (m : ℕ). m == k) rest) (ap (λ (i : ℕ). i == k) same ∙ equal_same k)
+    ap (λ e. (p a && e) || list_any (λ (m : ℕ). m == k) rest) (ap (λ (i : ℕ). i == k) same ∙ eq-same k)
     ∙ ap (λ v. (p a && true) || v) none ∙ and_true (p a) ∙ ap p same
 
 passed_later : (p : ℕ → Bool) (a k : ℕ) (rest : List ℕ) → a < k → list_any (λ (m : ℕ). m == k) rest ≡ p k → ((p a && (a == k)) || list_any (λ (m : ℕ). m == k) rest) ≡ p k

@@ -7,8 +7,8 @@ use Rattle.std.proofs.lemmas.List.Folds.{list_any_at, list_any-append}
 use Rattle.word_rules.specs.Listed.{joined_lists}
 use Rattle.word_rules.proofs.ListedLemmas.{joined_lists-cons}
 use Rattle.outside.specs.Faults.{and_then}
+use Rattle.outside.proofs.AnswerLemmas.{and_then-ok}
 use Rattle.art_rules.specs.Books.{each_of}
-use Rattle.sound_scene.proofs.SceneLemmas.{and_then-ok}
 
 module _ {X : Type 0} where
   -- none is in an empty list; else it is the first item or among the rest

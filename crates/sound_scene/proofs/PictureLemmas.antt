@@ -17,14 +17,7 @@ use Rattle.scene_rules.specs.Scenes.{SceneValue, art_of, sizes_of}
 use Rattle.scene_rules.specs.Sizes.{enough, has_flat, is_list, is_map_lump, is_needed, needed_lumps, roomy, zone_sizes}
 use Rattle.sound_scene.specs.Views.{lump_numbers}
 use Rattle.sound_scene.specs.Sound.{SoundValue, art_with, with_book}
-
--- the test of two numbers
-equal_number : (n k : ℕ) → (n == k) ≡ true → n ≡ k
-equal_number n k e = grind (arith, nat_tests)
-
--- it passes where they are the same
-itself : (n k : ℕ) → n ≡ k → (n == k) ≡ true
-itself n k e = grind (arith, nat_tests)
+use Rattle.word_rules.proofs.Logic.{eq-from_true, eq-true}
 
 -- a test for a number passes exactly where the number is in the list
 any_number : (xs : List ℕ) (k : ℕ) → Decides (list_any (λ n. n == k) xs) (Contains xs k)
@@ -32,11 +25,11 @@ any_number xs k = (found, passes) where
   found : list_any (λ n. n == k) xs ≡ true → Contains xs k
   found e =
       let any = Any-from_list_any (λ (n : ℕ). n == k) xs e in
-      let same : any.1 ≡ k = equal_number any.1 k any.4 in
+      let same : any.1 ≡ k = eq-from_true any.1 k any.4 in
       (any.0, any.2, subst (λ (n : ℕ). get_or xs any.0 n ≡ n) same any.3)
 
   passes : Contains xs k → list_any (λ n. n == k) xs ≡ true
-  passes there = list_any_at (λ (n : ℕ). n == k) xs there.0 k there.1 (itself (get_or xs there.0 k) k there.2)
+  passes there = list_any_at (λ (n : ℕ). n == k) xs there.0 k there.1 (eq-true (get_or xs there.0 k) k there.2)
 
 -- lists with the same members
 abbrev pub HaveSame : List ℕ → List ℕ → Type 0

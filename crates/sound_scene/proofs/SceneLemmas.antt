@@ -5,6 +5,7 @@ use Rattle.std.specs.Option.{ok_or, option_and_then}
 use Rattle.std.specs.Prelude.{cond, nat_le}
 use Rattle.word_rules.proofs.LeastLemmas.{greatest-is}
 use Rattle.outside.specs.Faults.{and_then, from_below}
+use Rattle.outside.proofs.AnswerLemmas.{and_then-ok}
 use Rattle.lump_rules.specs.declared.wad.Lump.{Lump}
 use Rattle.lump_rules.specs.Lookups.{has_name, last_of, lump_at}
 use Rattle.level_rules.specs.declared.ThingLine.{ThingLine}
@@ -21,11 +22,6 @@ use Rattle.scene_rules.specs.Places.{placed_things}
 use Rattle.scene_rules.specs.Scenes.{Faces, LevelBase, SceneValue, book_in, checked, colormap_of, faces_in, base_in, base_over, if_long, label_of, level_in, lists_in, long_lump, playpal_of, scene_in, scene_on, scene_over, scene_with, texture_by}
 use Rattle.scene_rules.specs.Sides.{is_wanted_texture}
 use Rattle.level_rules.specs.maps.Levels.{level_of}
-
--- a step that was passed
-pub and_then-ok : {A B R : Type 0} (r : Result A R) (next : A → Result B R) (y : B) → and_then r next ≡ Ok y → (x : A) × (r ≡ Ok x) × (next x ≡ Ok y)
-and_then-ok (Ok x) next y e = (x, refl, e)
-and_then-ok (Err reason) next y e = cc
 
 -- a step of the layer below, likewise
 pub from_below-ok : {A R Q : Type 0} (f : R → Q) (r : Result A R) (x : A) → from_below f r ≡ Ok x → r ≡ Ok x

@@ -17,15 +17,12 @@ use Rattle.std.proofs.lemmas.Slice.Eq.{bytes_eq-Decides}
 use Rattle.word_rules.specs.Least.{or_else}
 use Rattle.word_rules.specs.Listed.{joined_lists}
 use Rattle.word_rules.proofs.ListedLemmas.{joined_lists-append}
+use Rattle.word_rules.proofs.Logic.{or_else-none_right}
 use Rattle.art_rules.specs.declared.shapes.Frame.{Frame}
 use Rattle.art_rules.specs.declared.shapes.Shape.{Shape}
 use Rattle.art_rules.specs.Books.{is_frame, picked, shape_lumps, book_lumps}
 use Rattle.sprite_book.specs.Indexes.{IsPlaceOf, ArePictures, frame_cmp}
 use Rattle.sprite_book.proofs.MentionLemmas.{same_key}
-
-nothing_else : (r : Option ℕ) → or_else r None ≡ r
-nothing_else None = refl
-nothing_else (Some n) = refl
 
 first-push : (p : Frame → Bool) (i : ℕ) (xs : List Frame) (x : Frame) (t : Bool) → position_from p (i + 1) (xs ++ x ∷ []) ≡ or_else (position_from p (i + 1) xs) (cond (p x) (Some ((i + 1) + length xs)) None) →
     cond t (Some i) (position_from p (i + 1) (xs ++ x ∷ [])) ≡ or_else (cond t (Some i) (position_from p (i + 1) xs)) (cond (p x) (Some (i + suc (length xs))) None)
@@ -82,7 +79,7 @@ picked_none frames sprite letter rotation e = let n : find (is_frame sprite lett
 -- a frame was added
 more_at : (frames : List Frame) (frame : Frame) (sprite : List ℕ) (letter : ℕ) (t : Bool) → (bytes_eq frame.sprite sprite && frame.frame == letter) ≡ t → position_from (is_frame frame.sprite frame.frame) 0 frames ≡ None →
     cond t (Some (length frames)) (position_from (is_frame sprite letter) 0 frames) ≡ or_else (position_from (is_frame sprite letter) 0 frames) (cond t (Some (0 + length frames)) None)
-more_at frames frame sprite letter false e absent = sym (nothing_else (position_from (is_frame sprite letter) 0 frames))
+more_at frames frame sprite letter false e absent = sym (or_else-none_right (position_from (is_frame sprite letter) 0 frames))
 more_at frames frame sprite letter true e absent =
     let parts = and_parts (bytes_eq frame.sprite sprite) (frame.frame == letter) e in
     let s : frame.sprite ≡ sprite = (bytes_eq-Decides frame.sprite sprite).0 parts.0 in

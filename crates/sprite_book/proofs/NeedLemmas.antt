@@ -18,6 +18,7 @@ use Rattle.art_rules.specs.Books.{each_of, first_needs, same_frame, is_frame, ou
 use Rattle.art_rules.proofs.EachLemmas.{each_of-push, each_of-stop}
 use Rattle.sprite_book.specs.Calls.{IsWanted, IsWantedBy}
 use Rattle.sprite_book.proofs.FrameLemmas.{split_at}
+use Rattle.word_rules.proofs.Logic.{is_some-false}
 
 -- one of the needs asks for the frame
 abbrev pub asked : List Need → Need → Bool
@@ -162,14 +163,10 @@ pub need_asked : (lumps : List Lump) (needs : List Need) (frames : List Frame) {
     has ≡ is_some (position_from (is_frame n.sprite n.frame) 0 frames) → has ≡ known → asked needs n ≡ known
 need_asked lumps needs frames n made is e = sym (placed_asked lumps needs frames n made) ∙ sym is ∙ e
 
-none_placed : (r : Option ℕ) → is_some r ≡ false → r ≡ None
-none_placed None e = refl
-none_placed (Some n) e = cc
-
 pub frame_absent : (lumps : List Lump) (n : Need) (frame : Frame) (frames : List Frame) (has : Bool) → outline_of lumps n ≡ Ok (outline frame) → has ≡ is_some (position_from (is_frame n.sprite n.frame) 0 frames) → has ≡ false → position_from (is_frame frame.sprite frame.frame) 0 frames ≡ None
 frame_absent lumps n frame frames has made is absent =
     let keys = frame_keys lumps n frame made in
-    ap (λ s. position_from (is_frame s frame.frame) 0 frames) (sym keys.0) ∙ ap (λ l. position_from (is_frame n.sprite l) 0 frames) (sym keys.1) ∙ none_placed (position_from (is_frame n.sprite n.frame) 0 frames) (sym is ∙ absent)
+    ap (λ s. position_from (is_frame s frame.frame) 0 frames) (sym keys.0) ∙ ap (λ l. position_from (is_frame n.sprite l) 0 frames) (sym keys.1) ∙ is_some-false (position_from (is_frame n.sprite n.frame) 0 frames) (sym is ∙ absent)
 
 pub needs_none : {Y : Type 0} (f : Need → Result Y SpriteRefusal) → each_of f (first_needs []) ≡ Ok []
 unfolding first_needs each_of

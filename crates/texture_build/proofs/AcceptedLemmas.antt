@@ -4,6 +4,7 @@ use Rattle.std.proofs.Common.{◌≡◌, ℕ, zero, suc, ◌+◌, ◌<◌, Bool,
 use Rattle.std.specs.Prelude.{All, Contains, nat_lt}
 use Rattle.std.proofs.lemmas.List.Elements.{All-append, All-contains, All-from_get_or, All-nil}
 use Rattle.outside.specs.Faults.{and_then}
+use Rattle.outside.proofs.AnswerLemmas.{and_then-ok}
 use Rattle.word_rules.specs.Least.{or_else}
 use Rattle.word_rules.proofs.ListedLemmas.{get_or-listed, length-listed}
 use Rattle.lump_rules.specs.declared.wad.Lump.{Lump}
@@ -17,10 +18,6 @@ use Rattle.art_rules.specs.Textures.{Texture, TextureLists, texture_lists, patch
 use Rattle.art_rules.specs.Columns.{composite_size}
 use Rattle.art_rules.specs.Wanted.{PreparedTexture, placed_patches, texture_of, unless_too_big, unless_missing, prepared, prepared_if, prepared_from, prepared_textures}
 use Rattle.texture_build.specs.Views.{AreTexturesOf, TexturesView, prepared_at}
-
-and_then_ok : {A B R : Type 0} (r : Result A R) (next : A → Result B R) (y : B) → and_then r next ≡ Ok y → (x : A) × (r ≡ Ok x) × (next x ≡ Ok y)
-and_then_ok (Ok x) next y e = (x, refl, e)
-and_then_ok (Err reason) next y e = cc
 
 map_none : (f : ℕ → ℕ) (x : Option ℕ) → option_map f x ≡ None → x ≡ None
 map_none f None e = refl
@@ -59,15 +56,15 @@ module _ (P : Texture → Type 0) (each : (bytes : List ℕ) (i : ℕ) → wrong
   all_both : (t1 t2 : Option (List ℕ)) (us : List Texture) → both_lists t1 t2 ≡ Ok us → All P us
   unfolding both_lists
   all_both t1 t2 us e =
-      let a = and_then_ok (first_list t1) _ us e in
-      let b = and_then_ok (second_list (list_count a.0) t2) _ us a.2 in
+      let a = and_then-ok (first_list t1) _ us e in
+      let b = and_then-ok (second_list (list_count a.0) t2) _ us a.2 in
       all_joined a.0 b.0 us b.2
 
   all_lists : (p t1 t2 : Option (List ℕ)) (lists : TextureLists) → texture_lists p t1 t2 ≡ Ok lists → All P lists.textures
   unfolding texture_lists
   all_lists p t1 t2 lists e =
-      let a = and_then_ok (patch_names p) _ lists e in
-      let b = and_then_ok (both_lists t1 t2) _ lists a.2 in
+      let a = and_then-ok (patch_names p) _ lists e in
+      let b = and_then-ok (both_lists t1 t2) _ lists a.2 in
       let k : b.0 ≡ lists.textures = ap (λ (r : Result TextureLists TexRefusal). textures_of r) b.2 in
       subst (All P) k (all_both t1 t2 b.0 b.1)
     where
@@ -98,8 +95,8 @@ module _ (prepare : ℕ → Texture → Result PreparedTexture TexRefusal) (want
     nothing : (k : ℕ) → ◌≡◌ {A = Option PreparedTexture} None (Some t) → ⊥
     nothing k e = cc
   prepared_in n k (x ∷ ts) out t e is =
-      let a = and_then_ok (prepared_if (wanted n) (prepare n x)) _ out e in
-      let b = and_then_ok (prepared_from prepare wanted (suc n) ts) _ out a.2 in
+      let a = and_then-ok (prepared_if (wanted n) (prepare n x)) _ out e in
+      let b = and_then-ok (prepared_from prepare wanted (suc n) ts) _ out a.2 in
       let o : a.0 ∷ b.0 ≡ out = cc in
       go k a.0 b.0 (λ m rest later. prepared_in (suc n) m ts b.0 t rest later) a.1 b.1 (ap (λ (xs : List (Option PreparedTexture)). prepared_at xs k) o ∙ is) where
         go : (k : ℕ) (first : Option PreparedTexture) (others : List (Option PreparedTexture)) → ((m : ℕ) → prepared_from prepare wanted (suc n) ts ≡ Ok others → prepared_at others m ≡ Some t → IsPreparedOf prepare ts t) → prepared_if (wanted n) (prepare n x) ≡ Ok first → prepared_from prepare wanted (suc n) ts ≡ Ok others → prepared_at (first ∷ others) k ≡ Some t → IsPreparedOf prepare (x ∷ ts) t

@@ -5,7 +5,9 @@ use Rattle.std.specs.Option.{ok_or}
 use Rattle.std.specs.List.{AllByRecursion, list_any, range_with_len}
 use Rattle.std.proofs.lemmas.Bool.Decides.{Decides-eqb}
 use Rattle.outside.specs.Faults.{and_then}
+use Rattle.outside.proofs.AnswerLemmas.{and_then-ok}
 use Rattle.word_rules.specs.Listed.{joined_lists}
+use Rattle.word_rules.proofs.Logic.{some-injective}
 use Rattle.lump_rules.specs.declared.wad.Lump.{Lump}
 use Rattle.art_rules.specs.declared.Mention.{Mention}
 use Rattle.art_rules.specs.declared.patch.Patch.{Patch}
@@ -31,13 +33,6 @@ move_frame σ f = record { sprite = f.sprite; frame = f.frame; shapes = map (mov
 
 ok_of : {X R : Type 0} (a b : X) → (let l : Result X R = Ok a in l) ≡ Ok b → a ≡ b
 ok_of a b e = cc
-
-some_of : {X : Type 0} (a b : X) → Some a ≡ Some b → a ≡ b
-some_of a b e = cc
-
-passed : {A B R : Type 0} (r : Result A R) (next : A → Result B R) (y : B) → and_then r next ≡ Ok y → (x : A) × (r ≡ Ok x) × (next x ≡ Ok y)
-passed (Ok x) next y e = (x, refl, e)
-passed (Err reason) next y e = cc
 
 some_value : {X E : Type 0} (o : Option X) (e : E) (x : X) → ok_or o e ≡ Ok x → o ≡ Some x
 some_value None e x is = cc
@@ -74,7 +69,7 @@ module _ (σ : ℕ → ℕ) (bytes : ℕ → List ℕ) where
   shape-moved : (m : Mention) (s : Shape) → shape_of bytes (renumber σ m) ≡ Ok s → Unit {0} → (z : Shape) × (shape_of (λ n. bytes (σ n)) m ≡ Ok z) × (move_shape σ z ≡ s)
   unfolding shape_of patch_or_bad shape_in
   shape-moved m s e t =
-      let patch = passed (patch_or_bad bytes (σ m.lump)) _ s e in
+      let patch = and_then-ok (patch_or_bad bytes (σ m.lump)) _ s e in
       let there : patch_of (bytes (σ m.lump)) ≡ Some patch.0 = some_value (patch_of (bytes (σ m.lump))) (BadPatch (σ m.lump)) patch.0 patch.1 in
       (shape_in m patch.0, shape_made (λ n. bytes (σ n)) m patch.0 there, ok_of (shape_in (renumber σ m) patch.0) s patch.2)
 
@@ -88,7 +83,7 @@ module _ (σ : ℕ → ℕ) (bytes : ℕ → List ℕ) where
 shape_lump : (bytes : ℕ → List ℕ) (m : Mention) (s : Shape) → shape_of bytes m ≡ Ok s → m.lump ≡ s.lump.0
 unfolding shape_of shape_in
 shape_lump bytes m s e =
-    let patch = passed (patch_or_bad bytes m.lump) _ s e in
+    let patch = and_then-ok (patch_or_bad bytes m.lump) _ s e in
     ap (λ (z : Shape). z.lump.0) (ok_of (shape_in m patch.0) s patch.2)
 
 -- a frame that has a picture has a last mention
@@ -122,7 +117,7 @@ last_listed : (lumps : List Lump) (need : Need) (pictures : List ℕ) (ms : List
 last_listed lumps need pictures ms last are listed e =
     let at = last-pictured lumps need.sprite need.frame last e in
     let here = picture_by_number (mentions lumps need.sprite) need pictures ms are listed at.0 at.1 in
-    subst (IsPictureMention pictures) (some_of here.0 last (sym (found_picture (mentions lumps need.sprite) need at.0 here.0 here.1) ∙ at.2)) here.2
+    subst (IsPictureMention pictures) (some-injective here.0 last (sym (found_picture (mentions lumps need.sprite) need at.0 here.0 here.1) ∙ at.2)) here.2
 
 module _ (trimmed lumps : List Lump) (σ : ℕ → ℕ) (a : ℕ) (pictures : List ℕ) (held : HoldsPictures trimmed lumps σ a pictures) where
   picture-moved : (need : Need) (last : Mention) → last_that (is_of_frame need.frame) (mentions lumps need.sprite) ≡ Some last → IsPictureMention pictures last
@@ -139,7 +134,7 @@ module _ (trimmed lumps : List Lump) (σ : ℕ → ℕ) (a : ℕ) (pictures : Li
   unfolding pictures_of last_mention
   pictures-moved need ms e listed =
       let all = mentions lumps need.sprite in
-      let one = passed (last_mention all need) _ ms e in
+      let one = and_then-ok (last_mention all need) _ ms e in
       let is : last_that (is_of_frame need.frame) all ≡ Some one.0 = some_value (last_that (is_of_frame need.frame) all) (NoFrame need.thing) one.0 one.1 in
       let kept = last_listed lumps need pictures ms one.0 one.2 listed is in
       let ns = each-moved (picture_or_missing all need) (picture_or_missing (mentions trimmed need.sprite) need) (renumber σ) (IsPictureMention pictures)
@@ -153,8 +148,8 @@ module _ (trimmed lumps : List Lump) (σ : ℕ → ℕ) (a : ℕ) (pictures : Li
       → (moved : Frame) × (frame_of (λ n. bytes (σ n)) trimmed need ≡ Ok moved) × (move_frame σ moved ≡ frame)
   unfolding frame_of frame_in
   frame-moved bytes need frame e listed =
-      let ms = passed (pictures_of (mentions lumps need.sprite) need) _ frame e in
-      let ss = passed (each_of (shape_of bytes) ms.0) _ frame ms.2 in
+      let ms = and_then-ok (pictures_of (mentions lumps need.sprite) need) _ frame e in
+      let ss = and_then-ok (each_of (shape_of bytes) ms.0) _ frame ms.2 in
       let same : frame_in need ss.0 ≡ frame = ok_of (frame_in need ss.0) frame ss.2 in
       let shapes : AllByRecursion (IsPictureShape pictures) ss.0 = subst (IsPictureFrame pictures) (sym same) listed in
       let mentioned = each-back (shape_of bytes) (IsPictureMention pictures) (IsPictureShape pictures) (λ m s f holds. subst (IsPicture pictures) (sym (shape_lump bytes m s f)) holds) ms.0 ss.0 ss.1 shapes in

@@ -7,6 +7,7 @@ use Rattle.std.proofs.lemmas.Bool.Decides.{Decides-eqb}
 use Rattle.std.proofs.lemmas.List.{map-append}
 use Rattle.std.proofs.lemmas.Slice.Eq.{bytes_eq-Decides}
 use Rattle.word_rules.specs.Least.{or_else}
+use Rattle.word_rules.proofs.Logic.{some-injective}
 use Rattle.lump_rules.specs.declared.wad.Lump.{Lump}
 use Rattle.lump_rules.specs.Lookups.{has_name, last_of, lump_at, map_of}
 use Rattle.lump_rules.specs.declared.names.TheConstants.{F_START, F_END, S_START, S_END}
@@ -24,9 +25,6 @@ IsLastOfName lumps n = last_of lumps (lump_at lumps n).name ≡ Some n
 unfoldable pub copies : (ℕ → List ℕ) → List Lump → List ℕ → List made.Lump
 copies bytes lumps ns = map (part_lump bytes lumps) (map copy_part ns)
 
-one_of : {X : Type 0} (m n : X) → Some m ≡ Some n → m ≡ n
-one_of m n e = cc
-
 module _ (bytes : ℕ → List ℕ) (lumps : List Lump) where
   -- of lumps that are the last of their names, one alone has a name, if any
   only_step : (name : List ℕ) (n m : ℕ) → last_of lumps name ≡ Some n → IsLastOfName lumps m
@@ -38,7 +36,7 @@ module _ (bytes : ℕ → List ℕ) (lumps : List Lump) where
   only_step name n m is last None h false d = inl refl
   only_step name n m is last None h true d =
       let same : (lump_at lumps m).name ≡ name = (bytes_eq-Decides (lump_at lumps m).name name).0 d in
-      let this : m ≡ n = one_of m n (sym last ∙ ap (last_of lumps) same ∙ is) in
+      let this : m ≡ n = some-injective m n (sym last ∙ ap (last_of lumps) same ∙ is) in
       inr (ap (λ k. Some (bytes k)) this)
 
   pub last_bytes-only : (name : List ℕ) (n : ℕ) → last_of lumps name ≡ Some n → (ns : List ℕ) → AllByRecursion (IsLastOfName lumps) ns

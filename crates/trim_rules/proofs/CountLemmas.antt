@@ -3,6 +3,7 @@ use Rattle.std.proofs.Common.{◌≡◌, ℕ, suc, ◌+◌, ◌≤◌, Bool, tru
 use Rattle.std.specs.Prelude.{if◌then◌else◌, not, take}
 use Rattle.std.proofs.lemmas.List.{length-append}
 use Rattle.word_rules.specs.Least.{or_else}
+use Rattle.word_rules.proofs.Logic.{or_else-none}
 use Rattle.lump_rules.specs.declared.wad.Lump.{Lump}
 use Rattle.lump_rules.specs.declared.wad.DirRefusal.{DirRefusal}
 use Rattle.lump_rules.specs.declared.wad.DirRefusal.TheVariants.{NotWad, Short, TooMany}
@@ -10,10 +11,6 @@ use Rattle.lump_rules.specs.declared.wad.TheConstants.{HEADER_SIZE, MAX_LUMPS}
 use Rattle.lump_rules.specs.declared.names.TheConstants.{LETTER_COUNT}
 use Rattle.lump_rules.specs.Wads.{directory, directory_place, directory_size, entry_count, file_lumps, file_refusal, header, header_refusal, is_wad, lumps_from, refusal_from, unless_refused, whole_header_refusal}
 use Rattle.lump_rules.proofs.WadLemmas.{file_lumps-length}
-
-none_of_two : {X : Type 0} (x y : Option X) → or_else x y ≡ None → (x ≡ None) × (y ≡ None)
-none_of_two None y e = (refl, e)
-none_of_two (Some v) y e = absurd (cc)
 
 else_none : (b : Bool) (refusal : DirRefusal) (o : Option DirRefusal) → (if b then Some refusal else o) ≡ None → (b ≡ false) × (o ≡ None)
 else_none true refusal o e = absurd (cc)
@@ -29,14 +26,14 @@ header_few file before size head e =
 
 file_few : (file before : ℕ) (bytes : List ℕ) → file_refusal file before bytes ≡ None → before + entry_count (header bytes) ≤ MAX_LUMPS
 file_few file before bytes e =
-    let head = none_of_two (header_refusal file before bytes) _ e in
+    let head = or_else-none (header_refusal file before bytes) _ e in
     header_few file before (length bytes) (header bytes) (else_none (nat_lt (length bytes) HEADER_SIZE) (Short file) _ head.0).1
 
 from_few : (file before : ℕ) (contents : List (List ℕ)) → before ≤ MAX_LUMPS → refusal_from file before contents ≡ None → before + length (lumps_from file contents) ≤ MAX_LUMPS
 unfolding refusal_from lumps_from
 from_few file before [] le e = omega arith
 from_few file before (bytes ∷ rest) le e =
-    let both = none_of_two (file_refusal file before bytes) (refusal_from (suc file) (before + entry_count (header bytes)) rest) e in
+    let both = or_else-none (file_refusal file before bytes) (refusal_from (suc file) (before + entry_count (header bytes)) rest) e in
     let more = from_few (suc file) (before + entry_count (header bytes)) rest (file_few file before bytes both.0) both.1 in
     let count : length (file_lumps file bytes) ≡ entry_count (header bytes) = file_lumps-length file bytes in
     let all : length (file_lumps file bytes ++ lumps_from (suc file) rest) ≡ length (file_lumps file bytes) + length (lumps_from (suc file) rest) =

@@ -2,6 +2,7 @@
 use Rattle.std.proofs.Common.{◌≡◌, ℕ, ◌≤◌, List, map, length, Option, Result, Ok, Err, refl, ap, sym, ◌∙◌}
 use Rattle.std.specs.List.{AllByRecursion}
 use Rattle.outside.specs.Faults.{and_then}
+use Rattle.outside.proofs.AnswerLemmas.{and_then-ok}
 use Rattle.lump_rules.specs.declared.wad.Lump.{Lump}
 use Rattle.level_rules.specs.declared.Sector.{Sector}
 use Rattle.level_rules.specs.declared.SideTextures.{SideTextures}
@@ -19,10 +20,6 @@ use Rattle.trim_rules.proofs.HeldFlatLemmas.{flat_part, flats-held}
 use Rattle.trim_rules.proofs.MovedFlatLemmas.{move_both, sectors-moved}
 use Rattle.trim_rules.proofs.PlaceLemmas.{part_source, source_of}
 use Rattle.trim_rules.proofs.TrimmedLemmas.{IsUnmarked}
-
-passed : {A B R : Type 0} (r : Result A R) (next : A → Result B R) (y : B) → and_then r next ≡ Ok y → (x : A) × (r ≡ Ok x) × (next x ≡ Ok y)
-passed (Ok x) next y e = (x, refl, e)
-passed (Err reason) next y e = cc
 
 -- the flats of the sectors
 pub trimmed-sectors : (bytes : ℕ → List ℕ) (lumps : List Lump) (art : SceneArt) (name : List ℕ) (sectors : List Sector)
@@ -47,9 +44,9 @@ pub trimmed-faces : (bytes : ℕ → List ℕ) (lumps : List Lump) (art : SceneA
     × (map (move_both (source_of (trim_parts lumps art name))) moved ≡ faces.flats)
 unfolding faces_in
 trimmed-faces bytes lumps art name level lists faces few e same unmarked =
-    let a = passed (side_textures lists.textures level.sides) _ faces e in
-    let b = passed (sky_texture lists.textures name level.sectors) _ faces a.2 in
-    let c = passed (sector_flats lumps level.sectors) _ faces b.2 in
+    let a = and_then-ok (side_textures lists.textures level.sides) _ faces e in
+    let b = and_then-ok (sky_texture lists.textures name level.sectors) _ faces a.2 in
+    let c = and_then-ok (sector_flats lumps level.sectors) _ faces b.2 in
     let made : ◌≡◌ {A = Faces} (record { sides = a.0; sky = b.0; flats = c.0 }) faces = cc in
     let flats : sector_flats lumps level.sectors ≡ Ok art.flats = c.1 ∙ ap (λ (f : Faces). Ok f.flats) made ∙ ap Ok same in
     let moved = trimmed-sectors bytes lumps art name level.sectors few flats unmarked in (

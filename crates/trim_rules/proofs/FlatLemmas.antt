@@ -5,6 +5,7 @@ use Rattle.std.specs.Str.{bytes_eq}
 use Rattle.std.proofs.lemmas.Bool.{cases_lt}
 use Rattle.std.proofs.lemmas.Slice.Eq.{bytes_eq-Decides}
 use Rattle.word_rules.proofs.LeastLemmas.{greatest-some}
+use Rattle.word_rules.proofs.Logic.{and-false_left, and-false_right, some-injective}
 use Rattle.lump_rules.specs.declared.wad.Lump.{Lump}
 use Rattle.lump_rules.specs.declared.names.Group.TheVariants.{Flats}
 use Rattle.lump_rules.specs.Lookups.{flat_of, has_name, is_member, lump_at}
@@ -17,19 +18,9 @@ pub record HasFlats (trimmed lumps : List Lump) (flats : List ℕ) : Type 0 wher
   pub last : (k : ℕ) → k < length flats → flat_of lumps (lump_at lumps (get_or flats k 0)).name ≡ Some (get_or flats k 0)
   pub ascending : (j k : ℕ) → j < k → k < length flats → get_or flats j 0 < get_or flats k 0
 
-one_of : (m n : ℕ) → Some m ≡ Some n → m ≡ n
-one_of m n e = cc
-
 by_value : (b : Bool) (P : Type 0) → (b ≡ true → P) → (b ≡ false → P) → P
 by_value true P whole rest = whole refl
 by_value false P whole rest = rest refl
-
-both_false : (a b : Bool) → a ≡ false → (a && b) ≡ false
-both_false a b e = rw e refl
-
-second_false : (a b : Bool) → b ≡ false → (a && b) ≡ false
-second_false true b e = e
-second_false false b e = refl
 
 -- two of them have two names
 apart : (trimmed lumps : List Lump) (flats : List ℕ) → HasFlats trimmed lumps flats → (j k : ℕ) → j < k → k < length flats
@@ -42,7 +33,7 @@ apart trimmed lumps flats has j k lt inside =
     (bytes_eq-Decides (lump_at lumps (get_or flats k 0)).name (lump_at lumps (get_or flats j 0)).name).0 same in
     let there : j < length flats = omega arith in
     let equal : get_or flats k 0 ≡ get_or flats j 0 =
-    one_of _ _ (sym (has.last k inside) ∙ ap (flat_of lumps) names ∙ has.last j there) in
+    some-injective _ _ (sym (has.last k inside) ∙ ap (flat_of lumps) names ∙ has.last j there) in
     let less : get_or flats j 0 < get_or flats k 0 = has.ascending j k lt inside in
     absurd (omega arith))
     (λ differ. differ)
@@ -65,7 +56,7 @@ trimmed_flat trimmed lumps flats has k inside =
       | inl among ↦ later n above within among
       | inr past ↦
           let from : 0 + suc (length flats) ≤ n = omega arith in
-          both_false (is_member Flats trimmed n) _ (behind-member Flats trimmed 0 (length flats) has.group n within from)
+          and-false_left (is_member Flats trimmed n) _ (behind-member Flats trimmed 0 (length flats) has.group n within from)
     ]) where
       later : (n : ℕ) → suc k < n → n < length trimmed → n < suc (length flats)
           → (is_member Flats trimmed n && has_name trimmed (lump_at lumps (get_or flats k 0)).name n) ≡ false
@@ -73,7 +64,7 @@ trimmed_flat trimmed lumps flats has k inside =
       later (suc m) above within among =
           let inside' : m < length flats = omega arith in
           let lt : k < m = omega arith in
-          second_false (is_member Flats trimmed (suc m)) _
+          and-false_right (is_member Flats trimmed (suc m)) _
           (is_lump-at (λ lump. bytes_eq lump.name (lump_at lumps (get_or flats k 0)).name) trimmed (suc m) within
           ∙ ap (λ name. bytes_eq name (lump_at lumps (get_or flats k 0)).name) (has.names m inside')
           ∙ apart trimmed lumps flats has k m lt inside')

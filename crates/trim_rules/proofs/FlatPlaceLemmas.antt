@@ -4,10 +4,12 @@ use Rattle.std.proofs.Common.{◌≡◌, ◌⊎◌, inl, inr, ℕ, zero, suc, �
 use Rattle.std.specs.Prelude.{◌==◌, ◌||◌, ◌&&◌}
 use Rattle.std.specs.Option.{ok_or, option_and_then, option_map}
 use Rattle.std.specs.List.{AllByRecursion, list_any, range_with_len}
-use Rattle.std.proofs.lemmas.Bool.{cases_lt}
+use Rattle.std.proofs.lemmas.Bool.{and_parts, cases_lt}
 use Rattle.std.proofs.lemmas.Bool.Decides.{Decides-eqb}
 use Rattle.outside.specs.Faults.{and_then}
+use Rattle.outside.proofs.AnswerLemmas.{and_then-ok}
 use Rattle.word_rules.proofs.LeastLemmas.{greatest-is}
+use Rattle.word_rules.proofs.Logic.{or-cases, some-injective}
 use Rattle.lump_rules.specs.declared.wad.Lump.{Lump}
 use Rattle.lump_rules.specs.declared.names.Group.TheVariants.{Flats}
 use Rattle.lump_rules.specs.Lookups.{flat_of, has_name, is_member, members}
@@ -27,7 +29,6 @@ use Rattle.trim_rules.proofs.MovedFlatLemmas.{range-any}
 use Rattle.trim_rules.proofs.NamedLemmas.{any_kept}
 use Rattle.trim_rules.proofs.OrderLemmas.{AreAscending}
 use Rattle.trim_rules.proofs.PlaceLemmas.{part_at, part_source, source_of}
-use Rattle.trim_rules.proofs.ThereLemmas.{both-true}
 
 -- the number of a flat of part 1, whose first lump is the mark, or that of the sky
 abbrev pub IsFlatPlace : ℕ → ℕ → Type 0
@@ -81,25 +82,13 @@ module _ (σ : ℕ → ℕ) (flats : List ℕ) (keeps : σ SKY_FLAT ≡ SKY_FLAT
   pub one-to-one : (a b : ℕ) → IsFlatPlace (length flats) a → IsFlatPlace (length flats) b → (σ a == σ b) ≡ (a == b)
   one-to-one a b p q = eq_step (σ a) (σ b) a b (σ a == σ b) (a == b) refl refl (injective a b p q) (ap σ)
 
--- a number within a range
-either : (a b : Bool) (P : Type 0) → (a ≡ true → P) → (b ≡ true → P) → (a || b) ≡ true → P
-either true b P one two e = one refl
-either false b P one two e = two e
-
 range_place : (a c n : ℕ) → list_any (λ m. m == n) (range_with_len a c) ≡ true → (k : ℕ) × (n ≡ a + k) × (k < c)
 range_place a zero n any = absurd (cc)
 range_place a (suc c) n any =
-    either (a == n) (list_any (λ m. m == n) (range_with_len (a + 1) c)) ((k : ℕ) × (n ≡ a + k) × (k < suc c))
+    or-cases (a == n) (list_any (λ m. m == n) (range_with_len (a + 1) c)) ((k : ℕ) × (n ≡ a + k) × (k < suc c))
     (λ is. let same : a ≡ n = (Decides-eqb a n).0 is in (0, omega arith, omega arith))
     (λ later. let more = range_place (a + 1) c n later in
     let at : n ≡ (a + 1) + more.0 = more.1 in let lt : more.0 < c = more.2 in (suc more.0, omega arith, omega arith)) any
-
-some_of : {X : Type 0} (a b : X) → Some a ≡ Some b → a ≡ b
-some_of a b e = cc
-
-passed : {A B R : Type 0} (r : Result A R) (next : A → Result B R) (y : B) → and_then r next ≡ Ok y → (x : A) × (r ≡ Ok x) × (next x ≡ Ok y)
-passed (Ok x) next y e = (x, refl, e)
-passed (Err reason) next y e = cc
 
 some_value : {X E : Type 0} (o : Option X) (e : E) (x : X) → ok_or o e ≡ Ok x → o ≡ Some x
 some_value None e x is = cc
@@ -124,12 +113,12 @@ module _ (trimmed : List Lump) (count : ℕ) (has : HasGroup Flats trimmed 0 cou
 
   named_step : (name : List ℕ) (f : Flat) (b : Bool) (o : Option ℕ) → flat_of trimmed name ≡ o → cond b (Some Sky) (option_map lump_flat o) ≡ Some f → IsFlatPlace count (flat_number f)
   unfolding flat_number lump_flat
-  named_step name f true o is e = inl (ap flat_number (sym (some_of Sky f e)))
+  named_step name f true o is e = inl (ap flat_number (sym (some-injective Sky f e)))
   named_step name f false None is e = absurd (cc)
   named_step name f false (Some n) is e =
       let found = greatest-is (λ number. is_member Flats trimmed number && has_name trimmed name number) (length trimmed) n is in
-      let at = member_place n found.0 (both-true (is_member Flats trimmed n) (has_name trimmed name n) found.1).0 in
-      inr (at.0, ap flat_number (sym (some_of (LumpFlat (record { 0 = n })) f e)) ∙ at.1, at.2)
+      let at = member_place n found.0 (and_parts (is_member Flats trimmed n) (has_name trimmed name n) found.1).0 in
+      inr (at.0, ap flat_number (sym (some-injective (LumpFlat (record { 0 = n })) f e)) ∙ at.1, at.2)
 
   named_place : (name : List ℕ) (f : Flat) → flat_named trimmed name ≡ Some f → IsFlatPlace count (flat_number f)
   unfolding flat_named
@@ -141,7 +130,7 @@ module _ (trimmed : List Lump) (count : ℕ) (has : HasGroup Flats trimmed 0 cou
   both_step sector both None c is js e = absurd (cc)
   both_step sector both (Some f) None is js e = absurd (cc)
   both_step sector both (Some f) (Some c) is js e =
-      let same : record { floor = f; ceiling = c } ≡ both = some_of _ both e in
+      let same : record { floor = f; ceiling = c } ≡ both = some-injective _ both e in
       subst (AreFlatPlaces count) same (record { floor = named_place sector.floor_name f is; ceiling = named_place sector.ceiling_name c js })
 
   sector_places : (sector : Sector) (both : SectorFlats) → flats_of trimmed sector ≡ Some both → AreFlatPlaces count both
@@ -152,8 +141,8 @@ module _ (trimmed : List Lump) (count : ℕ) (has : HasGroup Flats trimmed 0 cou
   unfolding each_from
   each_places number [] all e = subst (AllByRecursion (AreFlatPlaces count)) (ok_of [] all e) tt
   each_places number (sector ∷ sectors) all e =
-      let one = passed (ok_or (flats_of trimmed sector) (SectorFlat number)) _ all e in
-      let rest = passed (each_from (flats_of trimmed) SectorFlat (suc number) sectors) _ all one.2 in
+      let one = and_then-ok (ok_or (flats_of trimmed sector) (SectorFlat number)) _ all e in
+      let rest = and_then-ok (each_from (flats_of trimmed) SectorFlat (suc number) sectors) _ all one.2 in
       subst (AllByRecursion (AreFlatPlaces count)) (ok_of (one.0 ∷ rest.0) all rest.2)
       (sector_places sector one.0 (some_value (flats_of trimmed sector) (SectorFlat number) one.0 one.1), each_places (suc number) sectors rest.0 rest.1)
 

@@ -2,11 +2,13 @@
 use Rattle.std.proofs.Common.{◌≡◌, ℕ, zero, suc, ◌+◌, ◌-◌, ◌<◌, ◌≤◌, Bool, true, false, cond, nat_le, List, [], ◌∷◌, map, Option, Some, None, Result, Ok, Err, refl, ap, sym, subst, ◌∙◌, arith, inl, inr, leb-true}
 use Rattle.std.specs.Prelude.{◌==◌, ◌&&◌}
 use Rattle.std.specs.List.{AllByRecursion, range_with_len}
-use Rattle.std.proofs.lemmas.Bool.{cases_lt}
+use Rattle.std.proofs.lemmas.Bool.{and_parts, cases_lt}
 use Rattle.std.proofs.lemmas.Bool.Decides.{Decides-eqb}
 use Rattle.outside.specs.Faults.{and_then}
+use Rattle.outside.proofs.AnswerLemmas.{and_then-ok}
 use Rattle.word_rules.specs.Least.{or_else}
 use Rattle.word_rules.specs.Listed.{joined_lists}
+use Rattle.word_rules.proofs.Logic.{and-true_true, some-injective}
 use Rattle.lump_rules.specs.declared.wad.Lump.{Lump}
 use Rattle.lump_rules.specs.declared.names.Group.TheVariants.{Sprites}
 use Rattle.lump_rules.specs.Lookups.{lump_at, members}
@@ -14,14 +16,10 @@ use Rattle.art_rules.specs.declared.Mention.{Mention}
 use Rattle.art_rules.specs.declared.TheConstants.{FIRST_FRAME, FIRST_ROTATION, LAST_FRAME, LAST_ROTATION, ROTATIONS, SECOND_PAIR_AT, SPRITE_LETTERS}
 use Rattle.art_rules.specs.Books.{each_of}
 use Rattle.art_rules.specs.Frames.{frame_picture, is_of_frame, is_of_rotation, is_pair, last_that, lump_mentions, mention_at, mentions, name_mentions, picture_by, picture_if}
-use Rattle.trim_rules.proofs.ThereLemmas.{all-append, both-true}
+use Rattle.trim_rules.proofs.ThereLemmas.{all-append}
 
 ok_of : {X R : Type 0} (a b : X) → (let l : Result X R = Ok a in l) ≡ Ok b → a ≡ b
 ok_of a b e = cc
-
-passed : {A B R : Type 0} (r : Result A R) (next : A → Result B R) (y : B) → and_then r next ≡ Ok y → (x : A) × (r ≡ Ok x) × (next x ≡ Ok y)
-passed (Ok x) next y e = (x, refl, e)
-passed (Err reason) next y e = cc
 
 -- What f gives of each, where the other function gives the same, moved.
 pub each-moved : {X Y Z R : Type 0} (f : X → Result Y R) (g : X → Result Z R) (move : Z → Y) (P : Y → Type 0)
@@ -30,8 +28,8 @@ pub each-moved : {X Y Z R : Type 0} (f : X → Result Y R) (g : X → Result Z R
 unfolding each_of
 each-moved f g move P one [] ys e all = ([], refl, ok_of [] ys e)
 each-moved f g move P one (x ∷ xs) ys e all =
-    let first = passed (f x) _ ys e in
-    let more = passed (each_of f xs) _ ys first.2 in
+    let first = and_then-ok (f x) _ ys e in
+    let more = and_then-ok (each_of f xs) _ ys first.2 in
     let same : first.0 ∷ more.0 ≡ ys = ok_of (first.0 ∷ more.0) ys more.2 in
     let both : AllByRecursion P (first.0 ∷ more.0) = subst (AllByRecursion P) (sym same) all in
     let here = one x first.0 first.1 both.0 in
@@ -44,8 +42,8 @@ pub each-back : {X Y R : Type 0} (f : X → Result Y R) (P : X → Type 0) (Q : 
 unfolding each_of
 each-back f P Q one [] ys e all = tt
 each-back f P Q one (x ∷ xs) ys e all =
-    let first = passed (f x) _ ys e in
-    let more = passed (each_of f xs) _ ys first.2 in
+    let first = and_then-ok (f x) _ ys e in
+    let more = and_then-ok (each_of f xs) _ ys first.2 in
     let same : first.0 ∷ more.0 ≡ ys = ok_of (first.0 ∷ more.0) ys more.2 in
     let both : AllByRecursion Q (first.0 ∷ more.0) = subst (AllByRecursion Q) (sym same) all in
     (one x first.0 first.1 both.0, each-back f P Q one xs more.0 more.1 both.1)
@@ -70,7 +68,7 @@ pair_turned : (letter digit : ℕ) → is_pair letter digit ≡ true → digit -
 unfolding is_pair
 pair_turned letter digit e =
     let last : nat_le digit LAST_ROTATION ≡ true =
-    (both-true (nat_le FIRST_FRAME letter && nat_le letter LAST_FRAME && nat_le FIRST_ROTATION digit) (nat_le digit LAST_ROTATION) e).1 in
+    (and_parts (nat_le FIRST_FRAME letter && nat_le letter LAST_FRAME && nat_le FIRST_ROTATION digit) (nat_le digit LAST_ROTATION) e).1 in
     omega (arith, leb-true)
 
 mention_turned : (n : ℕ) (name : List ℕ) (offset : ℕ) (flip : Bool) → AllByRecursion IsTurned (mention_at n name offset flip)
@@ -96,13 +94,9 @@ mentions_turned : (lumps : List Lump) (sprite : List ℕ) → AllByRecursion IsT
 unfolding mentions
 mentions_turned lumps sprite = joined_turned lumps sprite (members Sprites lumps)
 
--- the last that passes is one of them
-some_of : {X : Type 0} (a b : X) → Some a ≡ Some b → a ≡ b
-some_of a b e = cc
-
 is_step : (P : Mention → Type 0) (o : Option Mention) (b : Bool) (x m : Mention) → P x → (o ≡ Some m → P m) → or_else o (cond b (Some x) None) ≡ Some m → P m
 is_step P (Some v) b x m one more e = more e
-is_step P None true x m one more e = subst P (some_of x m e) one
+is_step P None true x m one more e = subst P (some-injective x m e) one
 is_step P None false x m one more e = absurd (cc)
 
 last_that-is : (P : Mention → Type 0) (passes : Mention → Bool) (all : List Mention) (m : Mention) → AllByRecursion P all → last_that passes all ≡ Some m → P m
@@ -129,7 +123,7 @@ module _ (passes narrow : Mention → Bool) (within : (m : Mention) → narrow m
       → or_else r (cond b (Some x) None) ≡ Some m → or_else s (cond (narrow x) (Some x) None) ≡ Some m
   some_step x m (Some v) s b none more is e = rw (more e) refl
   some_step x m None s true none more is e =
-      let same : x ≡ m = some_of x m e in
+      let same : x ≡ m = some-injective x m e in
       ap (λ o. or_else o (cond (narrow x) (Some x) None)) (none refl) ∙ ap (λ b. cond b (Some x) None) (ap narrow same ∙ is) ∙ ap Some same
   some_step x m None s false none more is e = absurd (cc)
 
@@ -141,11 +135,11 @@ module _ (passes narrow : Mention → Bool) (within : (m : Mention) → narrow m
 
 rotation_within : (frame rotation : ℕ) (m : Mention) → is_of_rotation frame rotation m ≡ true → is_of_frame frame m ≡ true
 unfolding is_of_rotation
-rotation_within frame rotation m e = (both-true (is_of_frame frame m) (m.rotation == rotation) e).0
+rotation_within frame rotation m e = (and_parts (is_of_frame frame m) (m.rotation == rotation) e).0
 
 frame_step : (P : Mention → Type 0) (o : Option Mention) (b : Bool) (x m : Mention) → (b ≡ true → P x) → (o ≡ Some m → P m) → or_else o (cond b (Some x) None) ≡ Some m → P m
 frame_step P (Some v) b x m one more e = more e
-frame_step P None true x m one more e = subst P (some_of x m e) (one refl)
+frame_step P None true x m one more e = subst P (some-injective x m e) (one refl)
 frame_step P None false x m one more e = absurd (cc)
 
 last_passes : (passes : Mention → Bool) (all : List Mention) (m : Mention) → last_that passes all ≡ Some m → passes m ≡ true
@@ -154,12 +148,9 @@ last_passes passes [] m e = absurd (cc)
 last_passes passes (x ∷ all) m e =
     frame_step (λ n. passes n ≡ true) (last_that passes all) (passes x) x m (λ is. is) (λ later. last_passes passes all m later) e
 
-and_true : (a b : Bool) → a ≡ true → b ≡ true → (a && b) ≡ true
-and_true a b e f = rw e f
-
 own_rotation : (frame rotation : ℕ) (m : Mention) → is_of_frame frame m ≡ true → m.rotation ≡ rotation → is_of_rotation frame rotation m ≡ true
 unfolding is_of_rotation
-own_rotation frame rotation m is e = and_true (is_of_frame frame m) (m.rotation == rotation) is ((Decides-eqb m.rotation rotation).1 e)
+own_rotation frame rotation m is e = and-true_true (is_of_frame frame m) (m.rotation == rotation) is ((Decides-eqb m.rotation rotation).1 e)
 
 not_zero : (r k : ℕ) → r ≡ suc k → (b : Bool) → (r == 0) ≡ b → b ≡ false
 not_zero r k is true e = let none : r ≡ 0 = (Decides-eqb r 0).0 e in absurd (omega arith)

@@ -8,14 +8,12 @@ use Rattle.lump_rules.specs.Lookups.{is_end, is_start, lump_at}
 use Rattle.made_rules.specs.Wads as made
 use Rattle.trim_rules.specs.Files.{stored_from}
 use Rattle.trim_rules.proofs.MemberLemmas.{HasGroup}
+use Rattle.word_rules.proofs.Logic.{or-false_false}
 
 -- a lump whose name is no mark of the group
 pub record IsPlain (group : Group) (lump : made.Lump) : Type 0 where
   pub start : is_start group lump.name ≡ false
   pub end : is_end group lump.name ≡ false
-
-none_of : (a b : Bool) → a ≡ false → b ≡ false → (a || b) ≡ false
-none_of a b e f = rw (e, f) refl
 
 -- no lump has the name of a mark
 record AreFree (group : Group) (lumps : List Lump) : Type 0 where
@@ -88,7 +86,7 @@ end-first group x lumps file is not free = record {
 } where
   behind_first : (k : ℕ) → k < suc (length lumps) → 0 < k → (is_start group (lump_at (x ∷ lumps) k).name || is_end group (lump_at (x ∷ lumps) k).name) ≡ false
   behind_first zero lt past = absurd (omega arith)
-  behind_first (suc j) lt past = let less : j < length lumps = omega arith in none_of _ _ (free.no_start j less) (free.no_end j less)
+  behind_first (suc j) lt past = let less : j < length lumps = omega arith in or-false_false _ _ (free.no_start j less) (free.no_end j less)
 
 end-later : (group : Group) (x : Lump) (lumps : List Lump) (count : ℕ) → x.file ≡ 0 → is_start group x.name ≡ false → is_end group x.name ≡ false → HasEnd group lumps count → HasEnd group (x ∷ lumps) (suc count)
 end-later group x lumps count file not_start not_end has =
@@ -136,7 +134,7 @@ group-later group x lumps start count file not_start not_end has =
       ends = ap (λ n. is_end group (lump_at (x ∷ lumps) n).name) at ∙ has.ends;
       no_start = λ k lt after. start_later k lt after;
       no_end = λ k lt after within. end_later k lt after (let e : k < suc (start + suc count) = omega arith in e);
-      before = before_some (λ l. (is_start group l.name || is_end group l.name) ≡ false) x lumps start (none_of _ _ not_start not_end) has.before;
+      before = before_some (λ l. (is_start group l.name || is_end group l.name) ≡ false) x lumps start (or-false_false _ _ not_start not_end) has.before;
       behind = λ k lt past. behind_all (λ l. (is_start group l.name || is_end group l.name) ≡ false) x lumps (start + suc count) has.behind k lt (omega arith);
     } where
       start_later : (k : ℕ) → k < suc (length lumps) → suc start < k → is_start group (lump_at (x ∷ lumps) k).name ≡ false

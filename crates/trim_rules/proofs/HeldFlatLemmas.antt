@@ -7,8 +7,10 @@ use Rattle.std.specs.Str.{bytes_eq}
 use Rattle.std.proofs.lemmas.Bool.Decides.{Decides-eqb}
 use Rattle.std.proofs.lemmas.List.{length-map}
 use Rattle.std.proofs.lemmas.Slice.Eq.{bytes_eq-Decides}
+use Rattle.std.proofs.lemmas.Bool.{and_parts}
 use Rattle.outside.specs.Faults.{and_then}
 use Rattle.word_rules.proofs.LeastLemmas.{greatest-is}
+use Rattle.word_rules.proofs.Logic.{or-cases}
 use Rattle.lump_rules.specs.declared.wad.Lump.{Lump}
 use Rattle.lump_rules.specs.declared.names.TheConstants.{F_END}
 use Rattle.lump_rules.specs.declared.names.Group.TheVariants.{Flats}
@@ -33,7 +35,7 @@ use Rattle.trim_rules.proofs.MemberLemmas.{HasGroup, is_lump-at}
 use Rattle.trim_rules.proofs.TrimmedLemmas.{IsUnmarked, trimmed-flats}
 use Rattle.trim_rules.proofs.PlaceLemmas.{part_at, part_at-copied, stored-name}
 use Rattle.trim_rules.proofs.OrderLemmas.{AreAscending, all-at, kept-ascending, kept-passing}
-use Rattle.trim_rules.proofs.ThereLemmas.{both-true, flats-there}
+use Rattle.trim_rules.proofs.ThereLemmas.{flats-there}
 
 -- a flat that its own name finds
 abbrev pub IsOwnFlat : List Lump → ℕ → Type 0
@@ -42,7 +44,7 @@ IsOwnFlat lumps n = flat_of lumps (lump_at lumps n).name ≡ Some n
 flat_of-own : (lumps : List Lump) (name : List ℕ) (n : ℕ) → flat_of lumps name ≡ Some n → IsOwnFlat lumps n
 flat_of-own lumps name n e =
     let is = greatest-is (λ number. is_member Flats lumps number && has_name lumps name number) (length lumps) n e in
-    let has : has_name lumps name n ≡ true = (both-true (is_member Flats lumps n) (has_name lumps name n) is.1).1 in
+    let has : has_name lumps name n ≡ true = (and_parts (is_member Flats lumps n) (has_name lumps name n) is.1).1 in
     let same : (lump_at lumps n).name ≡ name = (bytes_eq-Decides (lump_at lumps n).name name).0 (sym (is_lump-at (λ lump. bytes_eq lump.name name) lumps n is.0) ∙ has) in
     ap (flat_of lumps) same ∙ e
 
@@ -62,10 +64,6 @@ named_own lumps name f n lt e is = flat_of-own lumps name n (named_step f n (is_
 abbrev AreOwn : List Lump → SectorFlats → Type 0
 AreOwn lumps both = (n : ℕ) → n < SKY_FLAT → has_flat n both ≡ true → IsOwnFlat lumps n
 
-either : (a b : Bool) (P : Type 0) → (a ≡ true → P) → (b ≡ true → P) → (a || b) ≡ true → P
-either true b P one two e = one refl
-either false b P one two e = two e
-
 both_step : (lumps : List Lump) (floor ceiling : List ℕ) (f c : Option Flat) (both : SectorFlats) → flat_named lumps floor ≡ f → flat_named lumps ceiling ≡ c
     → option_and_then (λ g. option_map (both_flats g) c) f ≡ Some both → AreOwn lumps both
 unfolding both_flats has_flat
@@ -73,7 +71,7 @@ both_step lumps floor ceiling None c both is js e = absurd (cc)
 both_step lumps floor ceiling (Some f) None both is js e = absurd (cc)
 both_step lumps floor ceiling (Some f) (Some c) both is js e = λ n lt any.
     let same : record { floor = f; ceiling = c } ≡ both = one_of _ both e in
-    either (flat_number both.floor == n) (flat_number both.ceiling == n) (IsOwnFlat lumps n)
+    or-cases (flat_number both.floor == n) (flat_number both.ceiling == n) (IsOwnFlat lumps n)
     (λ t. named_own lumps floor f n lt is (ap (λ (b : SectorFlats). flat_number b.floor) same ∙ (Decides-eqb (flat_number both.floor) n).0 t))
     (λ t. named_own lumps ceiling c n lt js (ap (λ (b : SectorFlats). flat_number b.ceiling) same ∙ (Decides-eqb (flat_number both.ceiling) n).0 t)) any where
       one_of : (a b : SectorFlats) → Some a ≡ Some b → a ≡ b
@@ -104,7 +102,7 @@ each_own lumps number (sector ∷ sectors) flats e =
 among : (lumps : List Lump) (n : ℕ) (flats : List SectorFlats) → n < SKY_FLAT → AllByRecursion (AreOwn lumps) flats → list_any (has_flat n) flats ≡ true → IsOwnFlat lumps n
 among lumps n [] lt all any = absurd (cc)
 among lumps n (both ∷ flats) lt all any =
-    either (has_flat n both) (list_any (has_flat n) flats) (IsOwnFlat lumps n) (λ is. all.0 n lt is) (λ later. among lumps n flats lt all.1 later) any
+    or-cases (has_flat n both) (list_any (has_flat n) flats) (IsOwnFlat lumps n) (λ is. all.0 n lt is) (λ later. among lumps n flats lt all.1 later) any
 
 -- a lump that is a flat of an accepted level's sectors is found by its own name
 pub sector-own : (lumps : List Lump) (sectors : List Sector) (flats : List SectorFlats) (n : ℕ) → sector_flats lumps sectors ≡ Ok flats

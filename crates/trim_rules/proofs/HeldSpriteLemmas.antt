@@ -9,6 +9,7 @@ use Rattle.std.proofs.lemmas.List.{length-map}
 use Rattle.outside.specs.Faults.{and_then}
 use Rattle.word_rules.specs.Least.{or_else}
 use Rattle.word_rules.specs.Listed.{joined_lists}
+use Rattle.word_rules.proofs.Logic.{or-cases}
 use Rattle.lump_rules.specs.declared.wad.Lump.{Lump}
 use Rattle.lump_rules.specs.declared.names.TheConstants.{F_START, F_END, S_END}
 use Rattle.lump_rules.specs.declared.names.Group.TheVariants.{Sprites}
@@ -79,14 +80,10 @@ kept-fewer : (keep member : ℕ → Bool) → ((n : ℕ) → keep n ≡ true →
 kept-fewer keep member only [] = refl
 kept-fewer keep member only (n ∷ ns) = fewer_step keep member n ns (member n) (keep n) refl refl (only n) (kept-fewer keep member only ns)
 
-either : (a b : Bool) (P : Type 0) → (a ≡ true → P) → (b ≡ true → P) → (a || b) ≡ true → P
-either true b P one two e = one refl
-either false b P one two e = two e
-
 one_of_all : (P : ℕ → Type 0) (ns : List ℕ) (n : ℕ) → AllByRecursion P ns → list_any (λ m. m == n) ns ≡ true → P n
 one_of_all P [] n all any = absurd (cc)
 one_of_all P (m ∷ ns) n all any =
-    either (m == n) (list_any (λ k. k == n) ns) (P n) (λ is. subst P ((Decides-eqb m n).0 is) all.0) (λ later. one_of_all P ns n all.1 later) any
+    or-cases (m == n) (list_any (λ k. k == n) ns) (P n) (λ is. subst P ((Decides-eqb m n).0 is) all.0) (λ later. one_of_all P ns n all.1 later) any
 
 -- the pictures that are listed are the sprite lumps that are kept
 pub pictures-kept : (lumps : List Lump) (pictures : List ℕ) → AllByRecursion (IsSprite lumps) pictures

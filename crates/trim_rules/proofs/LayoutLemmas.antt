@@ -11,6 +11,7 @@ use Rattle.std.proofs.lemmas.Nat.{from_le_bytes-to_le_bytes_4}
 use Rattle.std.proofs.Math.Seq.{take-append_seam, drop-append-add, drop-append_seam, take-length}
 use Rattle.byteorder.specs.Endian.{little_number}
 use Rattle.word_rules.proofs.ListedLemmas.{listed-all}
+use Rattle.word_rules.proofs.Logic.{and-false_right, lt-false}
 use Rattle.lump_rules.specs.declared.wad.Lump.{Lump}
 use Rattle.lump_rules.specs.Lookups.{no_lump}
 use Rattle.lump_rules.specs.Names.{name_of}
@@ -33,16 +34,6 @@ word_value n xs lt = let e : from_le_bytes w32 (to_le_bytes w32 n) ≡ n = from_
 pub record IsSpelled (lump : made.Lump) : Type 0 where
   pub size : length lump.name ≡ 8
   pub name : name_of lump.name ≡ lump.name
-
-and_false : (a b : Bool) → b ≡ false → (a && b) ≡ false
-and_false true b e = e
-and_false false b e = refl
-
-not_less : (a b : ℕ) → b ≤ a → nat_lt a b ≡ false
-not_less a b le = by_value (nat_lt a b) refl where
-  by_value : (r : Bool) → nat_lt a b ≡ r → r ≡ false
-  by_value true e = let lt : a < b = (Decides-ltb a b).0 e in absurd (omega arith)
-  by_value false e = refl
 
 same_lump : (p p' s s' : ℕ) (n n' : List ℕ) → p ≡ p' → s ≡ s' → n ≡ n'
     → (let a : Lump = record { file = 0; place = p; size = s; name = n } in a) ≡ record { file = 0; place = p'; size = s'; name = n' }
@@ -135,7 +126,7 @@ stored-within place size [] fits k d lt = absurd (omega arith)
 stored-within place size (lump ∷ rest) fits zero d lt =
     let n : length (lump.bytes ++ contents rest) ≡ length lump.bytes + length (contents rest) = length-append lump.bytes (contents rest) in
     let inside : place + length lump.bytes ≤ size = omega (arith, n) in
-    and_false (not (length lump.bytes == 0)) _ (not_less size (place + length lump.bytes) inside)
+    and-false_right (not (length lump.bytes == 0)) _ (lt-false size (place + length lump.bytes) inside)
 stored-within place size (lump ∷ rest) fits (suc k) d lt =
     let n : length (lump.bytes ++ contents rest) ≡ length lump.bytes + length (contents rest) = length-append lump.bytes (contents rest) in
     stored-within (place + length lump.bytes) size rest (omega (arith, n)) k d (omega arith)
@@ -149,7 +140,7 @@ no_entry-refused place size lumps fits =
     (λ k lt. stored-within place size lumps fits k no_lump (omega (arith, stored-length place lumps)))
     (λ lt. absurd (omega arith)) in
     ap (λ n. option_map (λ index. Entry 0 index) (cond (nat_lt n (length all)) (Some n) None)) end
-    ∙ rw (not_less (length all) (length all) (omega arith)) refl
+    ∙ rw (lt-false (length all) (length all) (omega arith)) refl
 
 -- the first twelve bytes of the file of so many lumps whose directory begins there
 pub front : ℕ → ℕ → List ℕ
@@ -240,10 +231,10 @@ header-unrefused lumps spelled few fits =
     let place : directory_place (header (wad_file lumps)) ≡ directory_at lumps = ap (λ h. directory_place h) (file-header lumps) ∙ front-place (length lumps) (directory_at lumps) fits in
     let count : entry_count (header (wad_file lumps)) ≡ length lumps = ap (λ h. entry_count h) (file-header lumps) ∙ front-count (length lumps) (directory_at lumps) few' in
     let wad : is_wad (take LETTER_COUNT (header (wad_file lumps))) ≡ true = ap (λ h. is_wad (take LETTER_COUNT h)) (file-header lumps) ∙ front-wad (length lumps) (directory_at lumps) in
-    let whole : nat_lt (length (wad_file lumps)) HEADER_SIZE ≡ false = not_less (length (wad_file lumps)) HEADER_SIZE (omega arith) in
+    let whole : nat_lt (length (wad_file lumps)) HEADER_SIZE ≡ false = lt-false (length (wad_file lumps)) HEADER_SIZE (omega arith) in
     let inside : nat_lt (length (wad_file lumps)) (directory_place (header (wad_file lumps)) + ENTRY_SIZE * entry_count (header (wad_file lumps))) ≡ false =
-    not_less _ _ (omega arith) in
-    let many : nat_lt MAX_LUMPS (0 + entry_count (header (wad_file lumps))) ≡ false = not_less _ _ (omega arith) in
+    lt-false _ _ (omega arith) in
+    let many : nat_lt MAX_LUMPS (0 + entry_count (header (wad_file lumps))) ≡ false = lt-false _ _ (omega arith) in
     rw (whole, wad, inside, many) refl
 
 -- The directory of a new file lists its lumps, where their names are spelled as a directory spells them, they are

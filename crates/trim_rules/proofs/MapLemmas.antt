@@ -7,6 +7,7 @@ use Rattle.std.specs.Str.{bytes_eq}
 use Rattle.std.proofs.lemmas.List.{map-append}
 use Rattle.std.proofs.lemmas.List.FromFn.{get_or-range_with_len}
 use Rattle.std.proofs.lemmas.Slice.Eq.{bytes_eq-Decides}
+use Rattle.std.proofs.lemmas.Bool.{and_parts}
 use Rattle.word_rules.specs.Least.{or_else}
 use Rattle.word_rules.proofs.LeastLemmas.{greatest-is, greatest-some}
 use Rattle.lump_rules.specs.declared.wad.Lump.{Lump}
@@ -25,7 +26,7 @@ use Rattle.trim_rules.proofs.MemberLemmas.{is_lump-at}
 use Rattle.trim_rules.proofs.NameLemmas.{last_bytes, last_bytes-append}
 use Rattle.trim_rules.proofs.PlaceLemmas.{part_at, part_at-behind, part_at-copied, stored-name}
 use Rattle.trim_rules.proofs.OrderLemmas.{all-at, kept-passing}
-use Rattle.trim_rules.proofs.ThereLemmas.{IsNumber, all-append, all-filter, behind-there, both-true, called-there, label-is, passing-there}
+use Rattle.trim_rules.proofs.ThereLemmas.{IsNumber, all-append, all-filter, behind-there, called-there, label-is, passing-there}
 use Rattle.trim_rules.proofs.LastLemmas.{last_of-name}
 
 -- a part whose name is another
@@ -111,11 +112,11 @@ module _ (bytes : ℕ → List ℕ) (lumps : List Lump) (parts : List TrimPart) 
   unfolding are_named
   copied-row file a n [] e at = refl
   copied-row file a n (name ∷ names) e at =
-      let both = both-true (is_named_in lumps file name n) (are_named lumps file (suc n) names) e in
+      let both = and_parts (is_named_in lumps file name n) (are_named lumps file (suc n) names) e in
       let here : part_at parts a ≡ copy_part n = (let e : a ≡ a + 0 = omega arith in ap (part_at parts) e) ∙ at 0 (omega arith) ∙ (let e : n + 0 ≡ n = omega arith in ap copy_part e) in
       let there : n < length lumps = passing-there _ lumps n both.0 in
       let has : bytes_eq (lump_at lumps n).name name ≡ true =
-      (both-true ((lump_at lumps n).file == file) (bytes_eq (lump_at lumps n).name name) (sym (is_lump-at (λ lump. lump.file == file && bytes_eq lump.name name) lumps n there) ∙ both.0)).1 in
+      (and_parts ((lump_at lumps n).file == file) (bytes_eq (lump_at lumps n).name name) (sym (is_lump-at (λ lump. lump.file == file && bytes_eq lump.name name) lumps n there) ∙ both.0)).1 in
       let first : is_named_in (stored_from HEAD_SIZE (map (part_lump bytes lumps) parts)) 0 name a ≡ true = copied-named a n name here ∙ has in
       let next : (k : ℕ) → k < length names → part_at parts (suc a + k) ≡ copy_part (suc n + k) = λ k lt.
       (let e : suc a + k ≡ a + suc k = omega arith in ap (part_at parts) e) ∙ at (suc k) (omega arith) ∙ (let e : n + suc k ≡ suc n + k = omega arith in ap copy_part e) in
@@ -318,7 +319,7 @@ trimmed-map bytes lumps art name label p c n t is has =
     let called = map copy_part (filter keep (called_lumps lumps art.prepared)) in
     let behind = behind_map lumps art.prepared name label in
     let found = label-is lumps name label is in
-    let named : are_named lumps (lump_at lumps label).file (suc label) MAP_LUMPS ≡ true = (both-true _ _ found.1).0 in
+    let named : are_named lumps (lump_at lumps label).file (suc label) MAP_LUMPS ≡ true = (and_parts _ _ found.1).0 in
     let first = called-first lumps art.prepared p c n t has in
     let third = third_step keep p c n t first.0 (keep p) (keep c) (keep n) (keep t) refl refl refl refl
     (two_names lumps name PLAYPAL COLORMAP p c has.playpal has.colormap refl)

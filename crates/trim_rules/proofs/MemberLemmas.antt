@@ -6,6 +6,7 @@ use Rattle.std.proofs.lemmas.List.{append-nil}
 use Rattle.std.proofs.lemmas.List.Elements.{filter-append}
 use Rattle.std.proofs.lemmas.Bool.{cases_lt}
 use Rattle.word_rules.proofs.LeastLemmas.{greatest-none, greatest-some}
+use Rattle.word_rules.proofs.Logic.{or-false_false, or-true_right}
 use Rattle.lump_rules.specs.declared.wad.Lump.{Lump}
 use Rattle.lump_rules.specs.declared.names.Group.{Group}
 use Rattle.lump_rules.specs.Lookups.{is_end, is_lump, is_member, is_start, lump_at, mark_before, members, starts_in}
@@ -27,13 +28,6 @@ pub record HasGroup (group : Group) (lumps : List Lump) (start count : ℕ) : Ty
   pub before : (k : ℕ) → k < start → (is_start group (lump_at lumps k).name || is_end group (lump_at lumps k).name) ≡ false
   pub behind : (k : ℕ) → k < length lumps → start + suc count < k → (is_start group (lump_at lumps k).name || is_end group (lump_at lumps k).name) ≡ false
 
-or_falses : (a b : Bool) → a ≡ false → b ≡ false → (a || b) ≡ false
-or_falses a b e f = rw (e, f) refl
-
-or_true : (a b : Bool) → b ≡ true → (a || b) ≡ true
-or_true true b e = refl
-or_true false b e = e
-
 module _ (group : Group) (lumps : List Lump) (start count : ℕ) (has : HasGroup group lumps start count) where
   is_mark : ℕ → Bool
   is_mark k = is_lump (λ lump. is_start group lump.name || is_end group lump.name) lumps k
@@ -48,7 +42,7 @@ module _ (group : Group) (lumps : List Lump) (start count : ℕ) (has : HasGroup
       let lt : k < length lumps = omega (arith, has.inside) in
       let within : k < start + suc count = omega arith in
       is_lump-at (λ lump. is_start group lump.name || is_end group lump.name) lumps k lt
-      ∙ or_falses _ _ (has.no_start k lt above) (has.no_end k lt above within))
+      ∙ or-false_false _ _ (has.no_start k lt above) (has.no_end k lt above within))
 
   -- those between them are of the group
   pub between-member : (n : ℕ) → start < n → n < start + suc count → is_member group lumps n ≡ true
@@ -88,7 +82,7 @@ module _ (group : Group) (lumps : List Lump) (start count : ℕ) (has : HasGroup
             let mark : mark_before group lumps n ≡ Some (start + suc count) =
             greatest-some (is_lump (λ lump. is_start group lump.name || is_end group lump.name) lumps) n (start + suc count) later
             (is_lump-at (λ lump. is_start group lump.name || is_end group lump.name) lumps (start + suc count) there
-            ∙ or_true (is_start group (lump_at lumps (start + suc count)).name) _ has.ends)
+            ∙ or-true_right (is_start group (lump_at lumps (start + suc count)).name) _ has.ends)
             (λ k past below. let inside : k < length lumps = omega arith in
             is_lump-at (λ lump. is_start group lump.name || is_end group lump.name) lumps k inside ∙ has.behind k inside past) in
             rw mark (and_false (not (is_end group (lump_at lumps n).name)) _

@@ -4,11 +4,13 @@ use Rattle.std.specs.Prelude.{◌==◌, ◌||◌, ◌&&◌, filter}
 use Rattle.std.specs.Option.{ok_or, option_and_then, option_map}
 use Rattle.std.specs.List.{list_any, range_with_len}
 use Rattle.std.specs.Str.{bytes_eq}
-use Rattle.std.proofs.lemmas.Bool.{cases_lt}
+use Rattle.std.proofs.lemmas.Bool.{and_parts, cases_lt}
 use Rattle.std.proofs.lemmas.Bool.Decides.{Decides-eqb}
 use Rattle.std.proofs.lemmas.Slice.Eq.{bytes_eq-Decides}
 use Rattle.outside.specs.Faults.{and_then}
+use Rattle.outside.proofs.AnswerLemmas.{and_then-ok}
 use Rattle.word_rules.proofs.LeastLemmas.{greatest-is}
+use Rattle.word_rules.proofs.Logic.{or-cases, or-true_left, or-true_right, some-injective}
 use Rattle.lump_rules.specs.declared.wad.Lump.{Lump}
 use Rattle.lump_rules.specs.declared.names.Group.TheVariants.{Flats}
 use Rattle.lump_rules.specs.Lookups.{flat_of, has_name, is_member, lump_at}
@@ -26,7 +28,6 @@ use Rattle.trim_rules.specs.Parts.{flat_lumps}
 use Rattle.trim_rules.proofs.FlatLemmas.{HasFlats, trimmed_flat}
 use Rattle.trim_rules.proofs.MemberLemmas.{is_lump-at}
 use Rattle.trim_rules.proofs.NamedLemmas.{any_kept}
-use Rattle.trim_rules.proofs.ThereLemmas.{both-true}
 
 -- a flat under other numbers
 abbrev pub move_flat : (ℕ → ℕ) → Flat → Flat
@@ -40,18 +41,6 @@ move_both σ both = record { floor = move_flat σ both.floor; ceiling = move_fla
 abbrev pub IsListed : List ℕ → ℕ → Type 0
 IsListed ns n = (k : ℕ) × (k < length ns) × (get_or ns k 0 ≡ n)
 
-either : (a b : Bool) (P : Type 0) → (a ≡ true → P) → (b ≡ true → P) → (a || b) ≡ true → P
-either true b P one two e = one refl
-either false b P one two e = two e
-
-or_right : (a b : Bool) → b ≡ true → (a || b) ≡ true
-or_right true b e = refl
-or_right false b e = e
-
-or_left : (a b : Bool) → a ≡ true → (a || b) ≡ true
-or_left true b e = refl
-or_left false b e = absurd (cc)
-
 later_place : (m : ℕ) (ns : List ℕ) (n : ℕ) → IsListed ns n → IsListed (m ∷ ns) n
 later_place m ns n at = let lt : at.0 < length ns = at.1 in (suc at.0, omega arith, at.2)
 
@@ -61,13 +50,13 @@ first_place m ns n e = (0, omega arith, e)
 place-of : (ns : List ℕ) (n : ℕ) → list_any (λ m. m == n) ns ≡ true → IsListed ns n
 place-of [] n any = absurd (cc)
 place-of (m ∷ ns) n any =
-    either (m == n) (list_any (λ k. k == n) ns) (IsListed (m ∷ ns) n) (λ e. first_place m ns n ((Decides-eqb m n).0 e)) (λ more. later_place m ns n (place-of ns n more)) any
+    or-cases (m == n) (list_any (λ k. k == n) ns) (IsListed (m ∷ ns) n) (λ e. first_place m ns n ((Decides-eqb m n).0 e)) (λ more. later_place m ns n (place-of ns n more)) any
 
 pub range-any : (a c n : ℕ) → a ≤ n → n < a + c → list_any (λ m. m == n) (range_with_len a c) ≡ true
 range-any a zero n le lt = absurd (omega arith)
 range-any a (suc c) n le lt = elim (cases_lt a n) [
-  | inl below ↦ or_right (a == n) _ (range-any (a + 1) c n (omega arith) (omega arith))
-  | inr same ↦ let e : a ≡ n = omega arith in or_left (a == n) _ ((Decides-eqb a n).1 e)
+  | inl below ↦ or-true_right (a == n) _ (range-any (a + 1) c n (omega arith) (omega arith))
+  | inr same ↦ let e : a ≡ n = omega arith in or-true_left (a == n) _ ((Decides-eqb a n).1 e)
 ]
 
 -- a lump that a sector has is one of the flats
@@ -76,13 +65,6 @@ unfolding flat_lumps
 flat-listed lumps flats n lt any =
     place-of (filter (λ k. list_any (has_flat k) flats) (range_with_len 0 (length lumps))) n
     (any_kept (λ k. list_any (has_flat k) flats) n (range_with_len 0 (length lumps)) any (range-any 0 (length lumps) n (omega arith) (omega arith)))
-
-some_of : {X : Type 0} (a b : X) → Some a ≡ Some b → a ≡ b
-some_of a b e = cc
-
-passed : {A B R : Type 0} (r : Result A R) (next : A → Result B R) (y : B) → and_then r next ≡ Ok y → (x : A) × (r ≡ Ok x) × (next x ≡ Ok y)
-passed (Ok x) next y e = (x, refl, e)
-passed (Err reason) next y e = cc
 
 some_value : {X E : Type 0} (o : Option X) (e : E) (x : X) → ok_or o e ≡ Ok x → o ≡ Some x
 some_value None e x is = cc
@@ -100,17 +82,17 @@ module _ (trimmed lumps : List Lump) (σ : ℕ → ℕ) (flats : List ℕ) (has 
   found name n e k lt same =
       let is = greatest-is (λ number. is_member Flats lumps number && has_name lumps name number) (length lumps) n e in
       let own : (lump_at lumps n).name ≡ name = (bytes_eq-Decides (lump_at lumps n).name name).0
-      (sym (is_lump-at (λ lump. bytes_eq lump.name name) lumps n is.0) ∙ (both-true (is_member Flats lumps n) (has_name lumps name n) is.1).1) in
+      (sym (is_lump-at (λ lump. bytes_eq lump.name name) lumps n is.0) ∙ (and_parts (is_member Flats lumps n) (has_name lumps name n) is.1).1) in
       ap (flat_of trimmed) (sym own ∙ ap (λ m. (lump_at lumps m).name) (sym same)) ∙ trimmed_flat trimmed lumps flats has k lt
 
   named_step : (name : List ℕ) (f : Flat) (b : Bool) (o : Option ℕ) → is_sky_name name ≡ b → flat_of lumps name ≡ o → cond b (Some Sky) (option_map lump_flat o) ≡ Some f
       → ((n : ℕ) → n < length lumps → flat_number f ≡ n → IsListed flats n)
       → (g : Flat) × (cond b (Some Sky) (option_map lump_flat (flat_of trimmed name)) ≡ Some g) × (move_flat σ g ≡ f)
   unfolding lump_flat flat_number
-  named_step name f true o sky is e listed = (Sky, refl, some_of Sky f e)
+  named_step name f true o sky is e listed = (Sky, refl, some-injective Sky f e)
   named_step name f false None sky is e listed = absurd (cc)
   named_step name f false (Some n) sky is e listed =
-      let this : LumpFlat (record { 0 = n }) ≡ f = some_of (LumpFlat (record { 0 = n })) f e in
+      let this : LumpFlat (record { 0 = n }) ≡ f = some-injective (LumpFlat (record { 0 = n })) f e in
       let inside = (greatest-is (λ number. is_member Flats lumps number && has_name lumps name number) (length lumps) n is).0 in
       let at = listed n inside (ap flat_number (sym this)) in (
         LumpFlat (record { 0 = suc at.0 }),
@@ -130,11 +112,11 @@ module _ (trimmed lumps : List Lump) (σ : ℕ → ℕ) (flats : List ℕ) (has 
   both_step sector both None c is js e listed = absurd (cc)
   both_step sector both (Some f) None is js e listed = absurd (cc)
   both_step sector both (Some f) (Some c) is js e listed =
-      let same : record { floor = f; ceiling = c } ≡ both = some_of _ both e in
+      let same : record { floor = f; ceiling = c } ≡ both = some-injective _ both e in
       let floor = flat-moved sector.floor_name f is (λ n lt number. listed n lt
-      (or_left (flat_number both.floor == n) _ ((Decides-eqb (flat_number both.floor) n).1 (ap (λ (b : SectorFlats). flat_number b.floor) (sym same) ∙ number)))) in
+      (or-true_left (flat_number both.floor == n) _ ((Decides-eqb (flat_number both.floor) n).1 (ap (λ (b : SectorFlats). flat_number b.floor) (sym same) ∙ number)))) in
       let ceiling = flat-moved sector.ceiling_name c js (λ n lt number. listed n lt
-      (or_right (flat_number both.floor == n) _ ((Decides-eqb (flat_number both.ceiling) n).1 (ap (λ (b : SectorFlats). flat_number b.ceiling) (sym same) ∙ number)))) in (
+      (or-true_right (flat_number both.floor == n) _ ((Decides-eqb (flat_number both.ceiling) n).1 (ap (λ (b : SectorFlats). flat_number b.ceiling) (sym same) ∙ number)))) in (
         record { floor = floor.0; ceiling = ceiling.0 },
         rw (floor.1, ceiling.1) refl,
         ap (λ (g : Flat). record { floor = g; ceiling = move_flat σ ceiling.0 }) floor.2 ∙ ap (λ (g : Flat). record { floor = f; ceiling = g }) ceiling.2 ∙ same,
@@ -151,12 +133,12 @@ module _ (trimmed lumps : List Lump) (σ : ℕ → ℕ) (flats : List ℕ) (has 
   unfolding each_from
   each-moved number [] all e listed = let same : [] ≡ all = cc in ([], refl, same)
   each-moved number (sector ∷ sectors) all e listed =
-      let one = passed (ok_or (flats_of lumps sector) (SectorFlat number)) _ all e in
-      let rest = passed (each_from (flats_of lumps) SectorFlat (suc number) sectors) _ all one.2 in
+      let one = and_then-ok (ok_or (flats_of lumps sector) (SectorFlat number)) _ all e in
+      let rest = and_then-ok (each_from (flats_of lumps) SectorFlat (suc number) sectors) _ all one.2 in
       let same : one.0 ∷ rest.0 ≡ all = ok_of (one.0 ∷ rest.0) all rest.2 in
       let first = sector-moved sector one.0 (some_value (flats_of lumps sector) (SectorFlat number) one.0 one.1)
-      (λ n lt is. listed n lt (ap (list_any (has_flat n)) (sym same) ∙ or_left (has_flat n one.0) _ is)) in
-      let more = each-moved (suc number) sectors rest.0 rest.1 (λ n lt any. listed n lt (ap (list_any (has_flat n)) (sym same) ∙ or_right (has_flat n one.0) _ any)) in
+      (λ n lt is. listed n lt (ap (list_any (has_flat n)) (sym same) ∙ or-true_left (has_flat n one.0) _ is)) in
+      let more = each-moved (suc number) sectors rest.0 rest.1 (λ n lt any. listed n lt (ap (list_any (has_flat n)) (sym same) ∙ or-true_right (has_flat n one.0) _ any)) in
       (first.0 ∷ more.0, each-made trimmed number sector sectors first.0 more.0 first.1 more.1, ap (λ (b : SectorFlats). b ∷ map (move_both σ) more.0) first.2 ∙ ap (λ bs. one.0 ∷ bs) more.2 ∙ same) where
         ok_of : (a b : List SectorFlats) → (let l : Result (List SectorFlats) SceneRefusal = Ok a in l) ≡ Ok b → a ≡ b
         ok_of a b e = cc

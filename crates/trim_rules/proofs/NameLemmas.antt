@@ -4,6 +4,7 @@ use Rattle.std.specs.Prelude.{slice_index_or}
 use Rattle.std.specs.Option.{option_map}
 use Rattle.std.specs.Str.{bytes_eq}
 use Rattle.word_rules.specs.Least.{greatest, or_else}
+use Rattle.word_rules.proofs.Logic.{or_else-assoc, or_else-none_right}
 use Rattle.lump_rules.specs.Lookups.{has_name, last_of}
 use Rattle.made_rules.specs.Wads as made
 use Rattle.trim_rules.specs.Files.{stored_from}
@@ -13,19 +14,11 @@ unfoldable pub last_bytes : List made.Lump → List ℕ → Option (List ℕ)
 last_bytes [] name = None
 last_bytes (lump ∷ rest) name = or_else (last_bytes rest name) (cond (bytes_eq lump.name name) (Some lump.bytes) None)
 
-or_else-assoc : {X : Type 0} (a b c : Option X) → or_else a (or_else b c) ≡ or_else (or_else a b) c
-or_else-assoc None b c = refl
-or_else-assoc (Some v) b c = refl
-
-or_else-None : {X : Type 0} (a : Option X) → or_else a None ≡ a
-or_else-None None = refl
-or_else-None (Some v) = refl
-
 -- of two lists the second counts
 pub last_bytes-append : (xs ys : List made.Lump) (name : List ℕ)
     → last_bytes (xs ++ ys) name ≡ or_else (last_bytes ys name) (last_bytes xs name)
 unfolding last_bytes
-last_bytes-append [] ys name = sym (or_else-None (last_bytes ys name))
+last_bytes-append [] ys name = sym (or_else-none_right (last_bytes ys name))
 last_bytes-append (x ∷ xs) ys name =
     ap (λ o. or_else o (cond (bytes_eq x.name name) (Some x.bytes) None)) (last_bytes-append xs ys name)
     ∙ sym (or_else-assoc (last_bytes ys name) (last_bytes xs name) (cond (bytes_eq x.name name) (Some x.bytes) None))

@@ -9,6 +9,7 @@ use Rattle.std.proofs.lemmas.Bool.Decides.{Decides-eqb}
 use Rattle.std.proofs.lemmas.List.{length-map}
 use Rattle.std.proofs.lemmas.Slice.Eq.{bytes_eq-Decides}
 use Rattle.word_rules.proofs.LeastLemmas.{greatest-is, none-below_greatest}
+use Rattle.word_rules.proofs.Logic.{or-cases, or-true_left, or-true_right}
 use Rattle.lump_rules.specs.declared.wad.Lump.{Lump}
 use Rattle.lump_rules.specs.declared.names.TheConstants.{F_START, F_END, S_START, S_END}
 use Rattle.lump_rules.specs.Contents.{lump_bytes, named_bytes}
@@ -30,36 +31,24 @@ use Rattle.trim_rules.proofs.MemberLemmas.{is_lump-at}
 use Rattle.trim_rules.proofs.NameLemmas.{last_bytes, last_of-stored}
 use Rattle.trim_rules.proofs.ThereLemmas.{label-is, parts-all}
 
-either : (a b : Bool) (P : Type 0) → (a ≡ true → P) → (b ≡ true → P) → (a || b) ≡ true → P
-either true b P one two e = one refl
-either false b P one two e = two e
-
-or_right : (a b : Bool) → b ≡ true → (a || b) ≡ true
-or_right true b e = refl
-or_right false b e = e
-
-or_left : (a b : Bool) → a ≡ true → (a || b) ≡ true
-or_left true b e = refl
-or_left false b e = absurd (cc)
-
 pub any_left : (q : ℕ → Bool) (xs ys : List ℕ) → list_any q xs ≡ true → list_any q (xs ++ ys) ≡ true
 any_left q [] ys e = absurd (cc)
 any_left q (x ∷ xs) ys e =
-    either (q x) (list_any q xs) (list_any q (x ∷ (xs ++ ys)) ≡ true) (λ one. or_left (q x) _ one) (λ more. or_right (q x) _ (any_left q xs ys more)) e
+    or-cases (q x) (list_any q xs) (list_any q (x ∷ (xs ++ ys)) ≡ true) (λ one. or-true_left (q x) _ one) (λ more. or-true_right (q x) _ (any_left q xs ys more)) e
 
 pub any_right : (q : ℕ → Bool) (xs ys : List ℕ) → list_any q ys ≡ true → list_any q (xs ++ ys) ≡ true
 any_right q [] ys e = e
-any_right q (x ∷ xs) ys e = or_right (q x) _ (any_right q xs ys e)
+any_right q (x ∷ xs) ys e = or-true_right (q x) _ (any_right q xs ys e)
 
 any_that : (q : ℕ → Bool) (n : ℕ) (ns : List ℕ) → list_any (λ m. m == n) ns ≡ true → q n ≡ true → list_any q ns ≡ true
 any_that q n [] any is = absurd (cc)
 any_that q n (m ∷ ns) any is =
-    either (m == n) (list_any (λ k. k == n) ns) (list_any q (m ∷ ns) ≡ true)
-    (λ e. or_left (q m) _ (ap q ((Decides-eqb m n).0 e) ∙ is)) (λ more. or_right (q m) _ (any_that q n ns more is)) any
+    or-cases (m == n) (list_any (λ k. k == n) ns) (list_any q (m ∷ ns) ≡ true)
+    (λ e. or-true_left (q m) _ (ap q ((Decides-eqb m n).0 e) ∙ is)) (λ more. or-true_right (q m) _ (any_that q n ns more is)) any
 
 kept_step : (b : Bool) (m n : ℕ) (ns : List ℕ) → (m ≡ n → b ≡ true) → (list_any (λ k. k == n) ns ≡ true) ⊎ ((m == n) ≡ true) → list_any (λ k. k == n) (cond b (m ∷ ns) ns) ≡ true
-kept_step true m n ns same (inl more) = or_right (m == n) _ more
-kept_step true m n ns same (inr e) = or_left (m == n) _ e
+kept_step true m n ns same (inl more) = or-true_right (m == n) _ more
+kept_step true m n ns same (inr e) = or-true_left (m == n) _ e
 kept_step false m n ns same (inl more) = more
 kept_step false m n ns same (inr e) = let f : false ≡ true = same ((Decides-eqb m n).0 e) in absurd (cc)
 
@@ -67,7 +56,7 @@ pub any_kept : (keep : ℕ → Bool) (n : ℕ) (ns : List ℕ) → keep n ≡ tr
 any_kept keep n [] is any = absurd (cc)
 any_kept keep n (m ∷ ns) is any =
     kept_step (keep m) m n (filter keep ns) (λ e. ap keep e ∙ is)
-    (either (m == n) (list_any (λ k. k == n) ns) ((list_any (λ k. k == n) (filter keep ns) ≡ true) ⊎ ((m == n) ≡ true)) (λ e. inr e) (λ more. inl (any_kept keep n ns is more)) any)
+    (or-cases (m == n) (list_any (λ k. k == n) ns) ((list_any (λ k. k == n) (filter keep ns) ≡ true) ⊎ ((m == n) ≡ true)) (λ e. inr e) (λ more. inl (any_kept keep n ns is more)) any)
 
 -- a name whose last lump is among those that are called
 abbrev pub IsFixed : List Lump → List ℕ → Type 0
@@ -75,7 +64,7 @@ IsFixed lumps wanted = (n : ℕ) → last_of lumps wanted ≡ Some n → list_an
 
 listed_any : (lumps : List Lump) (wanted : List ℕ) (n : ℕ) → last_of lumps wanted ≡ Some n → list_any (λ m. m == n) (listed_last lumps wanted) ≡ true
 unfolding listed_last
-listed_any lumps wanted n e = rw e (or_left (n == n) false ((Decides-eqb n n).1 refl))
+listed_any lumps wanted n e = rw e (or-true_left (n == n) false ((Decides-eqb n n).1 refl))
 
 module _ (lumps : List Lump) where
   pub playpal-fixed : IsFixed lumps PLAYPAL

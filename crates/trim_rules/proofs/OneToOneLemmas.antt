@@ -5,6 +5,7 @@ use Rattle.std.specs.Prelude.{◌==◌}
 use Rattle.std.specs.Option.{ok_or}
 use Rattle.std.specs.List.{AllByRecursion}
 use Rattle.outside.specs.Faults.{and_then}
+use Rattle.outside.proofs.AnswerLemmas.{and_then-ok}
 use Rattle.lump_rules.specs.declared.wad.Lump.{Lump}
 use Rattle.lump_rules.specs.declared.wad.TheConstants.{MAX_LUMPS}
 use Rattle.level_rules.specs.declared.Sector.{Sector}
@@ -29,16 +30,12 @@ use Rattle.trim_rules.proofs.ThereLemmas.{flats-there}
 ok_of : {X R : Type 0} (a b : X) → (let l : Result X R = Ok a in l) ≡ Ok b → a ≡ b
 ok_of a b e = cc
 
-passed : {A B R : Type 0} (r : Result A R) (next : A → Result B R) (y : B) → and_then r next ≡ Ok y → (x : A) × (r ≡ Ok x) × (next x ≡ Ok y)
-passed (Ok x) next y e = (x, refl, e)
-passed (Err reason) next y e = cc
-
 each-length : {X Y R : Type 0} (f : X → Option Y) (refuse : ℕ → R) (number : ℕ) (xs : List X) (ys : List Y) → each_from f refuse number xs ≡ Ok ys → length ys ≡ length xs
 unfolding each_from
 each-length f refuse number [] ys e = ap length (sym (ok_of [] ys e))
 each-length f refuse number (x ∷ xs) ys e =
-    let one = passed (ok_or (f x) (refuse number)) _ ys e in
-    let more = passed (each_from f refuse (suc number) xs) _ ys one.2 in
+    let one = and_then-ok (ok_or (f x) (refuse number)) _ ys e in
+    let more = and_then-ok (each_from f refuse (suc number) xs) _ ys one.2 in
     ap length (sym (ok_of (one.0 ∷ more.0) ys more.2)) ∙ ap suc (each-length f refuse (suc number) xs more.0 more.1)
 
 -- there are as many flats as sectors

@@ -4,7 +4,9 @@ use Rattle.std.specs.Prelude.{slice_get, ⊤}
 use Rattle.std.specs.Option.{option_and_then, option_map}
 use Rattle.std.specs.List.{AllByRecursion, range_with_len}
 use Rattle.outside.specs.Faults.{and_then}
+use Rattle.outside.proofs.AnswerLemmas.{and_then-ok}
 use Rattle.word_rules.specs.Listed.{listed}
+use Rattle.word_rules.proofs.Logic.{some-injective}
 use Rattle.art_rules.specs.declared.ColumnLookup.{ColumnLookup}
 use Rattle.art_rules.specs.declared.PlacedPatch.{PlacedPatch}
 use Rattle.art_rules.specs.declared.TextureEntry.{TextureEntry}
@@ -31,15 +33,8 @@ abbrev pub PatchesAre : (ℕ → Type 0) → Option PreparedTexture → Type 0
 PatchesAre Q None = ⊤
 PatchesAre Q (Some t) = AllByRecursion (PatchIs Q) t.patches
 
-some_of : {X : Type 0} (a b : X) → Some a ≡ Some b → a ≡ b
-some_of a b e = cc
-
 ok_of : {X R : Type 0} (a b : X) → (let l : Result X R = Ok a in l) ≡ Ok b → a ≡ b
 ok_of a b e = cc
-
-passed : {A B R : Type 0} (r : Result A R) (next : A → Result B R) (y : B) → and_then r next ≡ Ok y → (x : A) × (r ≡ Ok x) × (next x ≡ Ok y)
-passed (Ok x) next y e = (x, refl, e)
-passed (Err reason) next y e = cc
 
 -- what columns are read from
 map_step : (σ : ℕ → ℕ) (f g : ℕ → ColumnLookup) → ((x : ℕ) → g x ≡ moved_lookup σ (f x)) → (ns : List ℕ) → map g ns ≡ map (moved_lookup σ) (map f ns)
@@ -74,12 +69,12 @@ module _ (σ : ℕ → ℕ) (bytes : ℕ → List ℕ) (last other : List ℕ �
       → (q : PlacedPatch) × (option_map (place_patch entry k) o ≡ Some q) × (moved σ q ≡ p)
   unfolding place_patch
   place_step entry k n None p same e = absurd (cc)
-  place_step entry k n (Some patch) p same e = (place_patch entry k patch, refl, ap (λ m. place_patch entry m patch) same ∙ some_of (place_patch entry n patch) p e)
+  place_step entry k n (Some patch) p same e = (place_patch entry k patch, refl, ap (λ m. place_patch entry m patch) same ∙ some-injective (place_patch entry n patch) p e)
 
   number_step : (entry : TextureEntry) (n : ℕ) (o : Option Patch) (p : PlacedPatch) → option_map (place_patch entry n) o ≡ Some p → n ≡ p.lump
   unfolding place_patch
   number_step entry n None p e = absurd (cc)
-  number_step entry n (Some patch) p e = ap (λ (q : PlacedPatch). q.lump) (some_of (place_patch entry n patch) p e)
+  number_step entry n (Some patch) p e = ap (λ (q : PlacedPatch). q.lump) (some-injective (place_patch entry n patch) p e)
 
   found_step : (entry : TextureEntry) (name : List ℕ) (o : Option ℕ) (p : PlacedPatch) → last name ≡ o → option_and_then (place_lump bytes entry) o ≡ Some p → Q p.lump
       → (q : PlacedPatch) × (option_and_then (place_lump (λ n. bytes (σ n)) entry) (other name) ≡ Some q) × (moved σ q ≡ p)
@@ -104,7 +99,7 @@ module _ (σ : ℕ → ℕ) (bytes : ℕ → List ℕ) (last other : List ℕ �
   more_step None a' b b' ps one more e all = absurd (cc)
   more_step (Some p) a' None b' ps one more e all = absurd (cc)
   more_step (Some p) a' (Some rest) b' ps one more e all =
-      let same : p ∷ rest ≡ ps = some_of (p ∷ rest) ps e in
+      let same : p ∷ rest ≡ ps = some-injective (p ∷ rest) ps e in
       let both : AllByRecursion (PatchIs Q) (p ∷ rest) = subst (AllByRecursion (PatchIs Q)) (sym same) all in
       let first = one p refl both.0 in
       let others = more rest refl both.1 in
@@ -113,7 +108,7 @@ module _ (σ : ℕ → ℕ) (bytes : ℕ → List ℕ) (last other : List ℕ �
   placed-moved : (names : List (List ℕ)) (entries : List TextureEntry) (ps : List PlacedPatch) → placed_patches last bytes names entries ≡ Some ps → AllByRecursion (PatchIs Q) ps
       → (qs : List PlacedPatch) × (placed_patches other (λ n. bytes (σ n)) names entries ≡ Some qs) × (map (moved σ) qs ≡ ps)
   unfolding placed_patches placed_patch
-  placed-moved names [] ps e all = ([], refl, some_of [] ps e)
+  placed-moved names [] ps e all = ([], refl, some-injective [] ps e)
   placed-moved names (entry ∷ rest) ps e all =
       more_step (placed_patch last bytes names entry) (placed_patch other (λ n. bytes (σ n)) names entry)
       (placed_patches last bytes names rest) (placed_patches other (λ n. bytes (σ n)) names rest) ps
@@ -163,8 +158,8 @@ module _ (σ : ℕ → ℕ) (bytes : ℕ → List ℕ) (last other : List ℕ �
   unfolding prepared_from
   from-moved names wanted number [] ts e all = ([], refl, ok_of [] ts e)
   from-moved names wanted number (t ∷ rest) ts e all =
-      let one = passed (prepared_if (wanted number) (prepared last bytes names number t)) _ ts e in
-      let more = passed (prepared_from (prepared last bytes names) wanted (suc number) rest) _ ts one.2 in
+      let one = and_then-ok (prepared_if (wanted number) (prepared last bytes names number t)) _ ts e in
+      let more = and_then-ok (prepared_from (prepared last bytes names) wanted (suc number) rest) _ ts one.2 in
       let same : one.0 ∷ more.0 ≡ ts = ok_of (one.0 ∷ more.0) ts more.2 in
       let both : AllByRecursion (PatchesAre Q) (one.0 ∷ more.0) = subst (AllByRecursion (PatchesAre Q)) (sym same) all in
       let first = if_step (wanted number) (prepared last bytes names number t) (prepared other (λ n. bytes (σ n)) names number t) one.0

@@ -4,6 +4,7 @@ use Rattle.std.specs.Prelude.{◌==◌}
 use Rattle.std.specs.Option.{option_map}
 use Rattle.std.specs.List.{AllByRecursion, list_any}
 use Rattle.outside.specs.Faults.{and_then, from_below}
+use Rattle.outside.proofs.AnswerLemmas.{and_then-ok}
 use Rattle.lump_rules.specs.declared.wad.Lump.{Lump}
 use Rattle.lump_rules.specs.Contents.{lump_bytes}
 use Rattle.lump_rules.specs.Lookups.{last_of}
@@ -37,10 +38,6 @@ use Rattle.trim_rules.proofs.TextureLemmas.{bytes-moved, trimmed-prepared}
 ok_of : {X R : Type 0} (a b : X) → (let l : Result X R = Ok a in l) ≡ Ok b → a ≡ b
 ok_of a b e = cc
 
-passed : {A B R : Type 0} (r : Result A R) (next : A → Result B R) (y : B) → and_then r next ≡ Ok y → (x : A) × (r ≡ Ok x) × (next x ≡ Ok y)
-passed (Ok x) next y e = (x, refl, e)
-passed (Err reason) next y e = cc
-
 below : {A R Q : Type 0} (f : R → Q) (r : Result A R) (x : A) → from_below f r ≡ Ok x → r ≡ Ok x
 below f (Ok y) x e = let same : y ≡ x = cc in ap Ok same
 below f (Err reason) x e = cc
@@ -58,12 +55,12 @@ module _ (bytes : ℕ → List ℕ) (lumps : List Lump) (lines : List ThingLine)
   pub scene-steps : (scene : SceneValue) → scene_in bytes lumps lines name skill ≡ Ok scene → IsSceneOf bytes lumps lines name skill scene
   unfolding scene_in scene_on scene_with scene_over
   scene-steps scene e =
-      let base = passed (base_in bytes lumps name) _ scene e in
-      let faces = passed (from_below Scene (faces_in lumps name base.0.level base.0.lists)) _ scene base.2 in
-      let prepared = passed (from_below Texture (prepared_textures (last_of lumps) bytes base.0.lists (is_wanted_texture faces.0.sides faces.0.sky))) _ scene faces.2 in
+      let base = and_then-ok (base_in bytes lumps name) _ scene e in
+      let faces = and_then-ok (from_below Scene (faces_in lumps name base.0.level base.0.lists)) _ scene base.2 in
+      let prepared = and_then-ok (from_below Texture (prepared_textures (last_of lumps) bytes base.0.lists (is_wanted_texture faces.0.sides faces.0.sky))) _ scene faces.2 in
       let placed = placed_things base.0.level lines skill in
-      let book = passed (from_below Sprite (book_in bytes lumps placed)) _ scene prepared.2 in
-      let last = passed (from_below Scene (checked placed (bad_middle (texture_by prepared.0) base.0.level.segs faces.0.sides))) _ scene book.2 in
+      let book = and_then-ok (from_below Sprite (book_in bytes lumps placed)) _ scene prepared.2 in
+      let last = and_then-ok (from_below Scene (checked placed (bad_middle (texture_by prepared.0) base.0.level.segs faces.0.sides))) _ scene book.2 in
       let made : ◌≡◌ {A = SceneValue} (record { base = base.0; faces = faces.0; prepared = prepared.0; placed = placed; book = book.0 }) scene = ok_of _ scene last.2 in
       subst (IsSceneOf bytes lumps lines name skill) made (record {
         base = base.1;

@@ -3,6 +3,7 @@ use Rattle.std.proofs.Common.{◌≡◌, ℕ, zero, suc, ◌+◌, ◌<◌, Bool,
 use Rattle.std.specs.Prelude.{filter, not}
 use Rattle.std.specs.Option.{ok_or, option_and_then, option_map}
 use Rattle.outside.specs.Faults.{and_then, from_below}
+use Rattle.outside.proofs.AnswerLemmas.{and_then-ok}
 use Rattle.word_rules.proofs.LeastLemmas.{greatest-is}
 use Rattle.lump_rules.specs.declared.wad.Lump.{Lump}
 use Rattle.lump_rules.specs.Contents.{LiesWithin, lump_bytes, named_bytes}
@@ -30,11 +31,6 @@ use Rattle.trim_rules.proofs.MapLemmas.{HasFixed, behind_map, front_parts, is_ca
 use Rattle.trim_rules.proofs.NamedLemmas.{colormap-fixed, named-same, playpal-fixed, pnames-fixed, texture1-fixed, texture2-fixed}
 use Rattle.trim_rules.proofs.PlaceLemmas.{part_at}
 
--- a step that was passed
-passed : {A B R : Type 0} (r : Result A R) (next : A → Result B R) (y : B) → and_then r next ≡ Ok y → (x : A) × (r ≡ Ok x) × (next x ≡ Ok y)
-passed (Ok x) next y e = (x, refl, e)
-passed (Err reason) next y e = cc
-
 below : {A R Q : Type 0} (f : R → Q) (r : Result A R) (x : A) → from_below f r ≡ Ok x → r ≡ Ok x
 below f (Ok y) x e = let same : y ≡ x = cc in ap Ok same
 below f (Err reason) x e = cc
@@ -52,12 +48,12 @@ pub record IsFoundBy (lumps : List Lump) (name : List ℕ) (base : LevelBase) : 
 pub base-found : (bytes : ℕ → List ℕ) (lumps : List Lump) (name : List ℕ) (base : LevelBase) → base_in bytes lumps name ≡ Ok base → IsFoundBy lumps name base
 unfolding base_in base_over level_in
 base-found bytes lumps name base e =
-    let a = passed (from_below Art (colormap_of lumps)) _ base e in
-    let b = passed (from_below Art (playpal_of lumps)) _ base a.2 in
-    let c = passed (from_below Map (level_in bytes lumps name)) _ base b.2 in
-    let d = passed (from_below Texture (lists_in bytes lumps)) _ base c.2 in
-    let found = passed (label_of lumps name) _ c.0 (below Map (level_in bytes lumps name) c.0 c.1) in
-    let level = passed (level_of _) _ c.0 found.2 in
+    let a = and_then-ok (from_below Art (colormap_of lumps)) _ base e in
+    let b = and_then-ok (from_below Art (playpal_of lumps)) _ base a.2 in
+    let c = and_then-ok (from_below Map (level_in bytes lumps name)) _ base b.2 in
+    let d = and_then-ok (from_below Texture (lists_in bytes lumps)) _ base c.2 in
+    let found = and_then-ok (label_of lumps name) _ c.0 (below Map (level_in bytes lumps name) c.0 c.1) in
+    let level = and_then-ok (level_of _) _ c.0 found.2 in
     let made : ◌≡◌ {A = LevelBase} (record { colormap = a.0; playpal = b.0; palette = take PALETTE_SIZE (bytes b.0); label = c.0.0; level = c.0.1; lists = d.0 }) base = cc in
     let pair : (found.0, level.0) ≡ c.0 = cc in
     subst (IsFoundBy lumps name) made (record { colormap = below Art (colormap_of lumps) a.0 a.1; playpal = below Art (playpal_of lumps) b.0 b.1; label = found.1 ∙ ap (λ (x : ℕ × _). Ok x.0) pair })
@@ -130,13 +126,13 @@ first_there (Some v) first e = (v, refl)
 
 both_there : (a b : Option (List ℕ)) (textures : List ListedTexture) → both_lists a b ≡ Ok textures → (v : List ℕ) × (a ≡ Some v)
 unfolding both_lists
-both_there a b textures e = let one = passed (first_list a) _ textures e in first_there a one.0 one.1
+both_there a b textures e = let one = and_then-ok (first_list a) _ textures e in first_there a one.0 one.1
 
 lists_there : (a b c : Option (List ℕ)) (lists : TextureLists) → texture_lists a b c ≡ Ok lists → ((v : List ℕ) × (a ≡ Some v)) × ((w : List ℕ) × (b ≡ Some w))
 unfolding texture_lists
 lists_there a b c lists e =
-    let one = passed (patch_names a) _ lists e in
-    let two = passed (both_lists b c) _ lists one.2 in
+    let one = and_then-ok (patch_names a) _ lists e in
+    let two = and_then-ok (both_lists b c) _ lists one.2 in
     (names_there a one.0 one.1, both_there b c two.0 two.1)
 
 list-lumps : (bytes : ℕ → List ℕ) (lumps : List Lump) (lists : TextureLists) → lists_in bytes lumps ≡ Ok lists

@@ -5,6 +5,7 @@ use Rattle.std.specs.Option.{option_map}
 use Rattle.std.specs.List.{AllByRecursion, list_any}
 use Rattle.std.proofs.lemmas.Bool.Decides.{Decides-eqb}
 use Rattle.word_rules.proofs.LeastLemmas.{greatest-is}
+use Rattle.word_rules.proofs.Logic.{or-true_left, or-true_right}
 use Rattle.lump_rules.specs.declared.wad.Lump.{Lump}
 use Rattle.lump_rules.specs.Contents.{lump_bytes}
 use Rattle.lump_rules.specs.Lookups.{has_name, last_of}
@@ -23,28 +24,20 @@ use Rattle.trim_rules.proofs.PreparedLemmas.{PatchIs, PatchesAre, move_texture, 
 use Rattle.trim_rules.proofs.ServedLemmas.{base-found, label_map}
 use Rattle.trim_rules.proofs.SourceLemmas.{called-source, patch-called}
 
-or_right : (a b : Bool) → b ≡ true → (a || b) ≡ true
-or_right true b e = refl
-or_right false b e = e
-
-or_left : (a b : Bool) → a ≡ true → (a || b) ≡ true
-or_left true b e = refl
-or_left false b e = absurd (cc)
-
 -- each patch of the textures is one of their patches
 module _ (Q : ℕ → Type 0) where
   texture_own : (ps : List PlacedPatch) → ((n : ℕ) → list_any (λ (patch : PlacedPatch). patch.lump == n) ps ≡ true → Q n) → AllByRecursion (PatchIs Q) ps
   texture_own [] gives = tt
   texture_own (p ∷ ps) gives =
-      (gives p.lump (or_left (p.lump == p.lump) _ ((Decides-eqb p.lump p.lump).1 refl)), texture_own ps (λ n any. gives n (or_right (p.lump == n) _ any)))
+      (gives p.lump (or-true_left (p.lump == p.lump) _ ((Decides-eqb p.lump p.lump).1 refl)), texture_own ps (λ n any. gives n (or-true_right (p.lump == n) _ any)))
 
   textures_own : (ts : List (Option PreparedTexture)) → ((n : ℕ) → list_any (is_patch_of n) ts ≡ true → Q n) → AllByRecursion (PatchesAre Q) ts
   unfolding is_patch_of
   textures_own [] gives = tt
   textures_own (None ∷ ts) gives = (tt, textures_own ts (λ n any. gives n any))
   textures_own (Some t ∷ ts) gives = (
-    texture_own t.patches (λ n any. gives n (or_left (list_any (λ (patch : PlacedPatch). patch.lump == n) t.patches) _ any)),
-    textures_own ts (λ n any. gives n (or_right (is_patch_of n (Some t)) _ any)),
+    texture_own t.patches (λ n any. gives n (or-true_left (list_any (λ (patch : PlacedPatch). patch.lump == n) t.patches) _ any)),
+    textures_own ts (λ n any. gives n (or-true_right (is_patch_of n (Some t)) _ any)),
   )
 
 abbrev IsOwn : List (Option PreparedTexture) → ℕ → Type 0

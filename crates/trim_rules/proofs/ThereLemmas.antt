@@ -1,5 +1,6 @@
 -- Each lump of the trimmed file's parts is a lump of the given directory.
 use Rattle.std.proofs.Common.{◌≡◌, ℕ, zero, suc, ◌+◌, ◌<◌, ◌≤◌, Bool, true, false, cond, List, [], ◌∷◌, ◌++◌, map, length, Option, Some, None, refl, ap, sym, subst, ◌∙◌, arith}
+use Rattle.std.proofs.lemmas.Bool.{and_parts}
 use Rattle.std.specs.Prelude.{◌==◌, ◌&&◌, filter, not}
 use Rattle.std.specs.Option.{option_and_then}
 use Rattle.std.specs.List.{AllByRecursion, list_any, range_with_len}
@@ -89,23 +90,19 @@ label_found lumps name label (Some n) is e =
 pub label-is : (lumps : List Lump) (name : List ℕ) (label : ℕ) → map_of lumps name ≡ Some label → (last_of lumps name ≡ Some label) × (is_label lumps label ≡ true)
 label-is lumps name label e = label_found lumps name label (last_of lumps name) refl e
 
-pub both-true : (a b : Bool) → (a && b) ≡ true → (a ≡ true) × (b ≡ true)
-both-true true b e = (refl, e)
-both-true false b e = absurd (cc)
-
 named-there : (lumps : List Lump) (file number : ℕ) (names : List (List ℕ)) → are_named lumps file number names ≡ true
     → AllByRecursion (IsNumber lumps) (range_with_len number (length names))
 unfolding are_named
 named-there lumps file number [] e = tt
 named-there lumps file number (name ∷ names) e =
-    let both = both-true (is_named_in lumps file name number) (are_named lumps file (suc number) names) e in
+    let both = and_parts (is_named_in lumps file name number) (are_named lumps file (suc number) names) e in
     let next : suc number ≡ number + 1 = omega arith in
     (passing-there _ lumps number both.0, subst (λ k. AllByRecursion (IsNumber lumps) (range_with_len k (length names))) next (named-there lumps file (suc number) names both.1))
 
 -- the eight lumps behind a label are there
 pub behind-there : (lumps : List Lump) (label : ℕ) → is_label lumps label ≡ true → AllByRecursion (IsNumber lumps) (range_with_len (suc label) (length MAP_LUMPS))
 unfolding is_label
-behind-there lumps label e = named-there lumps (lump_at lumps label).file (suc label) MAP_LUMPS (both-true _ _ e).0
+behind-there lumps label e = named-there lumps (lump_at lumps label).file (suc label) MAP_LUMPS (and_parts _ _ e).0
 
 -- What holds of the four marks, and of each label and copy of a lump, holds of all parts.
 module _ (lumps : List Lump) (P : TrimPart → Type 0) (copy : (n : ℕ) → n < length lumps → P (copy_part n)) where

@@ -6,6 +6,7 @@ use Rattle.std.specs.List.{AllByRecursion, list_any, range_with_len}
 use Rattle.std.proofs.lemmas.Bool.Decides.{Decides-eqb}
 use Rattle.std.proofs.lemmas.List.{map-append}
 use Rattle.word_rules.proofs.LeastLemmas.{none-below}
+use Rattle.word_rules.proofs.Logic.{and-second_false, or-true_right}
 use Rattle.lump_rules.specs.declared.wad.Lump.{Lump}
 use Rattle.lump_rules.specs.declared.names.TheConstants.{F_START, F_END, MAP_LUMPS, S_START, S_END}
 use Rattle.lump_rules.specs.declared.names.Group.{Group}
@@ -31,22 +32,15 @@ IsThere lumps (Mark name) = ⊤
 IsThere lumps (Label lump) = lump.0 < length lumps
 IsThere lumps (Copy lump) = lump.0 < length lumps
 
-and_second : (a b : Bool) → a ≡ true → (a && b) ≡ false → b ≡ false
-and_second a b e f = let g : (true && b) ≡ false = ap (λ c. c && b) (sym e) ∙ f in g
-
-or_later : (a b : Bool) → b ≡ true → (a || b) ≡ true
-or_later true b e = refl
-or_later false b e = e
-
 unmarked_part : (lumps : List Lump) (parts : List TrimPart) (p : TrimPart)
     → ((n : ℕ) → n < length lumps → (list_any (is_lump_part n) parts && is_mark (lump_at lumps n).name) ≡ false)
     → ((n : ℕ) → is_lump_part n p ≡ true → list_any (is_lump_part n) parts ≡ true) → IsThere lumps p → IsUnmarked lumps p
 unfolding is_lump_part
 unmarked_part lumps parts (Mark name) none among there = tt
 unmarked_part lumps parts (Label lump) none among there =
-    and_second _ _ (among lump.0 ((Decides-eqb lump.0 lump.0).1 refl)) (none lump.0 there)
+    and-second_false _ _ (among lump.0 ((Decides-eqb lump.0 lump.0).1 refl)) (none lump.0 there)
 unmarked_part lumps parts (Copy lump) none among there =
-    and_second _ _ (among lump.0 ((Decides-eqb lump.0 lump.0).1 refl)) (none lump.0 there)
+    and-second_false _ _ (among lump.0 ((Decides-eqb lump.0 lump.0).1 refl)) (none lump.0 there)
 
 unmarked_all : (lumps : List Lump) (parts ps : List TrimPart)
     → ((n : ℕ) → n < length lumps → (list_any (is_lump_part n) parts && is_mark (lump_at lumps n).name) ≡ false)
@@ -55,7 +49,7 @@ unmarked_all : (lumps : List Lump) (parts ps : List TrimPart)
 unmarked_all lumps parts [] none among there = tt
 unmarked_all lumps parts (p ∷ ps) none among there = (
   unmarked_part lumps parts p none (λ n is. among n (ap (λ b. b || list_any (is_lump_part n) ps) is)) there.0,
-  unmarked_all lumps parts ps none (λ n is. among n (or_later (is_lump_part n p) _ is)) there.1,
+  unmarked_all lumps parts ps none (λ n is. among n (or-true_right (is_lump_part n p) _ is)) there.1,
 )
 
 -- where no part has the name of a mark, none of them has

@@ -9,6 +9,7 @@ use Rattle.std.specs.Int.Signed.{≤ℤ_refl}
 use Rattle.word_rules.specs.Words.{div, ang90}
 use Rattle.word_rules.specs.Least.{least, or_else}
 use Rattle.word_rules.proofs.LeastLemmas.{none-below, least-is}
+use Rattle.word_rules.proofs.Logic.{and-second_false, le-from_lt_false, or_else-none}
 use Rattle.view_rules.specs.declared.TheConstants.{TANGENTS, EDGE_TANGENT, MIN_EDGE_TANGENT}
 use Rattle.view_rules.specs.declared.TablesRefusal.{TablesRefusal}
 use Rattle.view_rules.specs.declared.TablesRefusal.TheVariants.{Tangent}
@@ -20,10 +21,6 @@ use Rattle.view_rules.specs.Refusals.{is_wrong_tangent, is_wrong_edge, is_wrong_
 use Rattle.view_rules.specs.Sound.{IsShape, IsSound}
 use Rattle.view_rules.proofs.ColumnLemmas.{projection_is, raw_column-falls, within_view-mono}
 
-or_else-none : {X : Type 0} (x y : Option X) → or_else x y ≡ None → (x ≡ None) × (y ≡ None)
-or_else-none None y e = (refl, e)
-or_else-none (Some v) y e = cc
-
 refused_at-none : (f : ℕ → TablesRefusal) (o : Option ℕ) → refused_at f o ≡ None → o ≡ None
 refused_at-none f None e = refl
 refused_at-none f (Some i) e = cc
@@ -31,10 +28,6 @@ refused_at-none f (Some i) e = cc
 or-false : (a b : Bool) → (a || b) ≡ false → (a ≡ false) × (b ≡ false)
 or-false true b e = cc
 or-false false b e = (refl, e)
-
-and-false : (a b : Bool) → a ≡ true → (a && b) ≡ false → b ≡ false
-and-false true b p e = e
-and-false false b p e = cc
 
 cond-none : (b : Bool) (r : TablesRefusal) → cond b (Some r) None ≡ None → b ≡ false
 cond-none true r e = cc
@@ -46,16 +39,13 @@ positive n h = grind (arith, nat_tests)
 not_lt : (a b : ℤ) → int_lt a b ≡ false → b ≤ℤ a
 not_lt a b e = grind (arith, ints)
 
-not_left : (n m : ℕ) → nat_lt n m ≡ false → m ≤ n
-not_left n m e = grind (arith, nat_tests)
-
 -- no tangent is below the one before it
 rise : (t : Angles) → tangent_refusal t.tangent ≡ None → (n : ℕ) → 0 < n → n < TANGENTS → tangent_at t (n - 1) ≤ℤ tangent_at t n
 unfolding tangent_refusal is_wrong_tangent tangent_at
 rise t e n p h =
     let none = refused_at-none Tangent (least (is_wrong_tangent t.tangent) TANGENTS) e in
     let right = none-below (is_wrong_tangent t.tangent) TANGENTS none n h in
-    not_lt (slice_index_or t.tangent n (pos 0)) (slice_index_or t.tangent (n - 1) (pos 0)) (and-false (nat_lt 0 n) _ (positive n p) right)
+    not_lt (slice_index_or t.tangent n (pos 0)) (slice_index_or t.tangent (n - 1) (pos 0)) (and-second_false (nat_lt 0 n) _ (positive n p) right)
 
 rising : (t : Angles) → ((n : ℕ) → 0 < n → n < TANGENTS → tangent_at t (n - 1) ≤ℤ tangent_at t n) → (i k : ℕ) → i ≤ k → k < TANGENTS → tangent_at t i ≤ℤ tangent_at t k
 rising t step i zero h l = let e : i ≡ 0 = omega arith in rw e (≤ℤ_refl (tangent_at t 0))
@@ -101,7 +91,7 @@ falling t shape m c b e i k h =
 
 left_is : (o : Option ℕ) → is_wrong_left o ≡ false → (i : ℕ) × (o ≡ Some i) × (2049 ≤ i)
 left_is None e = cc
-left_is (Some i) e = (i, refl, not_left i 2049 e)
+left_is (Some i) e = (i, refl, le-from_lt_false i 2049 e)
 
 edge_angle : (i : ℕ) → 2049 ≤ i → i < 4096 → (i * 2 ^ 19 + (2 ^ 32 - 2 ^ 30)) % 2 ^ 32 < 2 ^ 30
 edge_angle i l h = omega arith

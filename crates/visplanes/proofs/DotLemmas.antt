@@ -4,6 +4,7 @@ use Rattle.std.specs.Prelude.{◌&&◌, ◌||◌, ◌⊎◌, nat_le, nat_lt, not
 use Rattle.std.proofs.lemmas.Bool.{cases_eq}
 use Rattle.std.proofs.lemmas.Bool.Decides.{nat_tests}
 use Rattle.word_rules.specs.Least.{or_else}
+use Rattle.word_rules.proofs.Logic.{or_else-none_right}
 use Rattle.view_rules.specs.declared.TheConstants.{FRAME_WIDTH, FRAME_HEIGHT}
 use Rattle.pixel_rules.specs.declared.Painter.{Painter}
 use Rattle.pixel_rules.specs.Dots.{Dot, last_dot, AreInFrame}
@@ -48,10 +49,6 @@ closed_rows-more f painter start x from k n y e a =
 abbrev ended : FloorView → Painter → (ℕ → ℕ) → ℕ → ℕ → ℕ → Option Dot
 ended f painter start x k y = last_dot k y (row_dots f painter y (start y) (x - 1))
 
-or_none : {X : Type 0} (a : Option X) → or_else a None ≡ a
-or_none None = refl
-or_none (Some v) = refl
-
 one_row_more : (o : Option Dot) (from n y : ℕ) → y ≢ from + n → cond (nat_le from y && nat_lt y (from + n)) o None ≡ cond (nat_le from y && nat_lt y (from + suc n)) o None
 one_row_more o from n y d =
     let e : (nat_le from y && nat_lt y (from + n)) ≡ (nat_le from y && nat_lt y (from + suc n)) = grind (arith, nat_tests) in
@@ -73,7 +70,7 @@ closed_rows-at f painter start x from (suc n) k y =
           let b : (nat_le from y && nat_lt y (from + suc n)) ≡ true = grind (arith, nat_tests) in
           ap (λ (r : ℕ). or_else (last_dot k y (row_dots f painter r (start r) (x - 1))) (cond (nat_le from y && nat_lt y (from + n)) (ended f painter start x k y) None)) (sym e)
           ∙ ap (λ (t : Bool). or_else (ended f painter start x k y) (cond t (ended f painter start x k y) None)) a
-          ∙ or_none (ended f painter start x k y)
+          ∙ or_else-none_right (ended f painter start x k y)
           ∙ ap (λ (t : Bool). cond t (ended f painter start x k y) None) (sym b)
       | inr d ↦
           ap (λ (o : Option Dot). or_else o (cond (nat_le from y && nat_lt y (from + n)) (ended f painter start x k y) None)) (row_dots-other f painter (from + n) (start (from + n)) (x - 1) k y (λ e. d (sym e)))

@@ -2,6 +2,7 @@
 use Rattle.std.proofs.Common.{◌≡◌, ℕ, suc, ◌+◌, ◌<◌, ◌≤◌, Bool, true, false, cond, List, [], ◌∷◌, ◌++◌, length, take, drop, refl, ap, sym, ◌∙◌, arith, Option, Some, None}
 use Rattle.std.specs.Prelude.{nat_lt, ◌&&◌}
 use Rattle.std.proofs.lemmas.Bool.Decides.{nat_tests}
+use Rattle.std.proofs.lemmas.Bool.{and_parts}
 use Rattle.view_rules.specs.View.{ViewValue}
 use Rattle.picture_rules.specs.declared.sprite.TheConstants.{MAX_VISSPRITES}
 use Rattle.picture_rules.specs.declared.sprite.Placed.{Placed}
@@ -12,14 +13,7 @@ use Rattle.picture_rules.specs.sprite.Order.{draw_order, is_smaller, insert_last
 use Rattle.picture_rules.proofs.sprite.OrderLemmas.{draw_order-more, length-draw_order}
 use Rattle.picture_rules.specs.sprite.Entries.{entry_for, with_entry, add_entry}
 use Rattle.vissprites.specs.Kept.{insert_made, made_order, are_below, IsKept, count_before}
-
-both_true : (a b : Bool) → (a && b) ≡ true → (a ≡ true) × (b ≡ true)
-both_true true true h = (refl, refl)
-both_true true false h = cc
-both_true false b h = cc
-
-and_true : (a b : Bool) → a ≡ true → b ≡ true → (a && b) ≡ true
-and_true a b p q = rw (p, q) refl
+use Rattle.word_rules.proofs.Logic.{and-true_true}
 
 less : (m n : ℕ) → nat_lt m n ≡ true → nat_lt n m ≡ false
 less m n h = grind (arith, nat_tests)
@@ -29,24 +23,24 @@ are_below-more : (m n : ℕ) (es : List SpriteEntry) → m ≤ n → are_below m
 unfolding are_below
 are_below-more m n [] l h = refl
 are_below-more m n (e ∷ es) l h =
-    let p = both_true (nat_lt e.number m) (are_below m es) h in
+    let p = and_parts (nat_lt e.number m) (are_below m es) h in
     let q : nat_lt e.number m ≡ true = p.0 in
     let r : nat_lt e.number n ≡ true = grind (arith, nat_tests) in
-    and_true (nat_lt e.number n) (are_below n es) r (are_below-more m n es l p.1)
+    and-true_true (nat_lt e.number n) (are_below n es) r (are_below-more m n es l p.1)
 
 below_cases : (n : ℕ) (e f : SpriteEntry) (fs gs : List SpriteEntry) (b : Bool) → nat_lt e.number n ≡ true → are_below n (f ∷ fs) ≡ true → are_below n gs ≡ true →
     are_below n (cond b (e ∷ (f ∷ fs)) (f ∷ gs)) ≡ true
 unfolding are_below
-below_cases n e f fs gs true p q r = and_true (nat_lt e.number n) (are_below n (f ∷ fs)) p q
-below_cases n e f fs gs false p q r = and_true (nat_lt f.number n) (are_below n gs) (both_true (nat_lt f.number n) (are_below n fs) q).0 r
+below_cases n e f fs gs true p q r = and-true_true (nat_lt e.number n) (are_below n (f ∷ fs)) p q
+below_cases n e f fs gs false p q r = and-true_true (nat_lt f.number n) (are_below n gs) (and_parts (nat_lt f.number n) (are_below n fs) q).0 r
 
 rest_below : (n : ℕ) (f : SpriteEntry) (fs : List SpriteEntry) → are_below n (f ∷ fs) ≡ true → (nat_lt f.number n ≡ true) × (are_below n fs ≡ true)
 unfolding are_below
-rest_below n f fs h = both_true (nat_lt f.number n) (are_below n fs) h
+rest_below n f fs h = and_parts (nat_lt f.number n) (are_below n fs) h
 
 one_below : (n : ℕ) (e : SpriteEntry) → nat_lt e.number n ≡ true → are_below n (e ∷ []) ≡ true
 unfolding are_below
-one_below n e p = and_true (nat_lt e.number n) true p refl
+one_below n e p = and-true_true (nat_lt e.number n) true p refl
 
 are_below-insert_made : (n : ℕ) (e : SpriteEntry) (fs : List SpriteEntry) → nat_lt e.number n ≡ true → are_below n fs ≡ true → are_below n (insert_made e fs) ≡ true
 unfolding insert_made

@@ -4,6 +4,7 @@ use Rattle.std.specs.Prelude.{◌&&◌}
 use Rattle.std.proofs.lemmas.Option.{slice_get_cases}
 use Rattle.std.proofs.lemmas.List.{drop_all}
 use Rattle.std.proofs.Math.Seq.{drop-cons}
+use Rattle.std.proofs.lemmas.Bool.{and_parts}
 use Rattle.lump_rules.specs.declared.wad.Lump.{Lump}
 use Rattle.lump_rules.specs.Lookups.{is_lump, is_named_in, are_named}
 
@@ -33,17 +34,13 @@ there : (passes : Lump → Bool) (lumps : List Lump) (number : ℕ) → is_lump 
 there passes lumps number is =
     ⊎_elim (λ h. h.1) (λ h. absurd (let e : false ≡ true = sym (rw h.1 refl) ∙ is in cc)) (slice_get_cases lumps number).1
 
-both : (a b : Bool) → (a && b) ≡ true → (a ≡ true) × (b ≡ true)
-both true b e = (refl, e)
-both false b e = absurd (cc)
-
 -- lumps that have names are there
 pub named_within : (lumps : List Lump) (file number : ℕ) (names : List (List ℕ)) → number ≤ length lumps → are_named lumps file number names ≡ true →
     number + length names ≤ length lumps
 unfolding are_named
 named_within lumps file number [] le are = omega arith
 named_within lumps file number (name ∷ names) le are =
-    let h = both (is_named_in lumps file name number) (are_named lumps file (suc number) names) are in
+    let h = and_parts (is_named_in lumps file name number) (are_named lumps file (suc number) names) are in
     let lt : number < length lumps = there _ lumps number h.0 in
     let more : suc number + length names ≤ length lumps = named_within lumps file (suc number) names (omega arith) h.1 in
     omega arith

@@ -12,6 +12,7 @@ use Rattle.texture_build.specs.Views.{is_marked}
 use Rattle.texture_build.proofs.MarkLemmas.{filter_same}
 use Rattle.sound_scene.specs.Views.{lump_numbers}
 use Rattle.trim_rules.specs.Parts.{flat_lumps, picture_lumps}
+use Rattle.word_rules.proofs.Logic.{eq-from_true, eq-true}
 
 -- a test of lumps by their numbers
 pub any-number : (p : ℕ → Bool) (lumps : List LumpNo) → list_any (λ (lump : LumpNo). p lump.0) lumps ≡ list_any p (lump_numbers lumps)
@@ -27,23 +28,16 @@ lumps_below count (lump ∷ rest) all (suc i) d l = lumps_below count rest all.1
 pub all-numbers : (count : ℕ) (lumps : List LumpNo) (ns : List ℕ) → lump_numbers lumps ≡ ns → AllByRecursion (λ n. n < count) ns → All (λ (lump : LumpNo). lump.0 < count) lumps
 all-numbers count lumps ns e all = lumps_below count lumps (subst (AllByRecursion (λ n. n < count)) (sym e) all)
 
--- the test for a number, in lists with the same members
-equal_number : (n k : ℕ) → (n == k) ≡ true → n ≡ k
-equal_number n k e = grind (arith, nat_tests)
-
-pub itself : (n k : ℕ) → n ≡ k → (n == k) ≡ true
-itself n k e = grind (arith, nat_tests)
-
 any_member : (xs : List ℕ) (k : ℕ) → Decides (list_any (λ n. n == k) xs) (Contains xs k)
 any_member xs k = (found, passes) where
   found : list_any (λ n. n == k) xs ≡ true → Contains xs k
   found e =
       let any = Any-from_list_any (λ (n : ℕ). n == k) xs e in
-      let same : any.1 ≡ k = equal_number any.1 k any.4 in
+      let same : any.1 ≡ k = eq-from_true any.1 k any.4 in
       (any.0, any.2, subst (λ (n : ℕ). get_or xs any.0 n ≡ n) same any.3)
 
   passes : Contains xs k → list_any (λ n. n == k) xs ≡ true
-  passes there = list_any_at (λ (n : ℕ). n == k) xs there.0 k there.1 (itself (get_or xs there.0 k) k there.2)
+  passes there = list_any_at (λ (n : ℕ). n == k) xs there.0 k there.1 (eq-true (get_or xs there.0 k) k there.2)
 
 pub members-same : (xs ys : List ℕ) (k : ℕ) → ((n : ℕ) → Contains xs n ↔ Contains ys n) → list_any (λ n. n == k) xs ≡ list_any (λ n. n == k) ys
 members-same xs ys k same =

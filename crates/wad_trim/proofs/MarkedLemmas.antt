@@ -6,6 +6,7 @@ use Rattle.std.proofs.lemmas.Bool.Decides.{nat_tests}
 use Rattle.std.proofs.lemmas.List.Folds.{list_any_more}
 use Rattle.word_rules.specs.Least.{least, or_else}
 use Rattle.word_rules.proofs.LeastLemmas.{least-is, least-none, least-some}
+use Rattle.word_rules.proofs.Logic.{eq-false_above, eq-same}
 use Rattle.lump_rules.specs.declared.wad.Lump.{Lump}
 use Rattle.lump_rules.specs.declared.wad.LumpNo.{LumpNo}
 use Rattle.lump_rules.specs.Lookups.{lump_at}
@@ -78,12 +79,6 @@ pub marked-none : (lumps : List Lump) → marked_lump lumps [] ≡ None
 unfolding marked_lump
 marked-none lumps = least-none (λ n. list_any (is_lump_part n) [] && is_mark (lump_at lumps n).name) (length lumps) (λ k l. refl)
 
-other : (m n : ℕ) → n < m → (m == n) ≡ false
-other m n l = grind (arith, nat_tests)
-
-itself : (m : ℕ) → (m == m) ≡ true
-itself m = grind (arith, nat_tests)
-
 -- a part without a lump
 pub marked-unlisted : (lumps : List Lump) (part : TrimPart) → ((n : ℕ) → is_lump_part n part ≡ false) → marked_lump lumps (part ∷ []) ≡ None
 unfolding marked_lump
@@ -93,8 +88,8 @@ marked-unlisted lumps part is =
 
 only : (m : ℕ) (mark : ℕ → Bool) (top : ℕ) (b : Bool) → mark m ≡ b → m < top → least (λ n. ((m == n) || false) && mark n) top ≡ cond b (Some m) None
 only m mark top true e l =
-    least-some (λ n. ((m == n) || false) && mark n) top m l (ap (λ (t : Bool). (t || false) && mark m) (itself m) ∙ e)
-    (λ k s. ap (λ (t : Bool). (t || false) && mark k) (other m k s))
+    least-some (λ n. ((m == n) || false) && mark n) top m l (ap (λ (t : Bool). (t || false) && mark m) (eq-same m) ∙ e)
+    (λ k s. ap (λ (t : Bool). (t || false) && mark k) (eq-false_above m k s))
 only m mark top false e l = least-none (λ n. ((m == n) || false) && mark n) top (λ k s. unmarked k (m == k) refl) where
   unmarked : (k : ℕ) (t : Bool) → (m == k) ≡ t → ((t || false) && mark k) ≡ false
   unmarked k true same = let at : m ≡ k = grind (arith, nat_tests) in ap mark (sym at) ∙ e

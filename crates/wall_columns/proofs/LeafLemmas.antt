@@ -14,10 +14,7 @@ use Rattle.picture_rules.specs.declared.wall.FragmentNumbers.{FragmentNumbers}
 use Rattle.wall_columns.specs.declared.fault.DrawFault.{DrawFault}
 use Rattle.wall_columns.specs.Faults.{limit_of_fault, limit_of_result}
 use Rattle.wall_columns.specs.Leaves.{planes_found, number_found, planes_checked, number_checked, ceiling_check, floor_check, planes_over, openings_over, leaf_over, checks_over}
-
--- tests of a room
-passed : (room count : ℕ) → room < count → nat_lt room count ≡ true
-passed room count l = grind (arith, nat_tests)
+use Rattle.word_rules.proofs.Logic.{lt-true}
 
 within_test : (room count : ℕ) (t : Bool) → nat_lt room count ≡ t → (room < count → false ≡ true) → t ≡ false
 within_test room count true e h = let l : room < count = grind (arith, nat_tests) in sym (h l)
@@ -34,7 +31,7 @@ limit-passed_on (Err other) fault h g = ap limit_of_fault g
 -- openings past the room are told, and others not
 pub openings_over-passed : (room count : ℕ) (next : Option OverLimit) → room < count → openings_over room count next ≡ Some (openings_count count)
 unfolding openings_over
-openings_over-passed room count next l = rw (passed room count l) refl
+openings_over-passed room count next l = rw (lt-true room count l) refl
 
 pub openings_over-within : (room count : ℕ) (next : Option OverLimit) → (room < count → false ≡ true) → openings_over room count next ≡ next
 unfolding openings_over
@@ -42,7 +39,7 @@ openings_over-within room count next h = rw (within room count h) refl
 
 pub planes_over-passed : (room count : ℕ) (next : Option OverLimit) → room < count → planes_over room count next ≡ Some (planes_count count)
 unfolding planes_over
-planes_over-passed room count next l = rw (passed room count l) refl
+planes_over-passed room count next l = rw (lt-true room count l) refl
 
 pub planes_over-within : (room count : ℕ) (next : Option OverLimit) → (room < count → false ≡ true) → planes_over room count next ≡ next
 unfolding planes_over

@@ -27,6 +27,7 @@ use Rattle.wall_columns.specs.Windows.{WindowsView, window_at, with_window}
 use Rattle.wall_columns.specs.Plans.{plan_of}
 use Rattle.wall_columns.specs.Saved.{OpeningsView, column_saved, columns_saved}
 use Rattle.wall_columns.specs.Columns.{plane_number, marked_plane, marked_planes, column_edges, column_after, clip_along, marks_along, HasMarked, HasSaved}
+use Rattle.word_rules.proofs.Logic.{within-row}
 
 -- a plane that is taken only where the fragment marks it gets the rows that are marked
 marked_as : (marks : Bool) (leaf plane : Option PlaneNo) (planes : List Plane) (x : ℕ) (rows : RowRange) → plane ≡ marked_plane marks leaf →
@@ -65,9 +66,6 @@ none_before first x = grind (arith, nat_tests)
 not_among : (first k x : ℕ) → x ≡ first + k → (nat_le first x && nat_lt x (first + k)) ≡ false
 not_among first k x e = grind (arith, nat_tests)
 
-last_among : (first k x : ℕ) → x ≡ first + k → (nat_le first x && nat_lt x (first + (k + 1))) ≡ true
-last_among first k x e = grind (arith, nat_tests)
-
 others_among : (first k x y : ℕ) → x ≡ first + k → y ≢ x → (nat_le first y && nat_lt y (first + k)) ≡ (nat_le first y && nat_lt y (first + (k + 1)))
 others_among first k x y e h = grind (arith, nat_tests)
 
@@ -81,7 +79,7 @@ clip_along-at height f before k x e = ap (λ (b : Bool). cond b (column_after he
 
 clip_along-last : (height : ℕ) (f : FragmentValue) (before : ℕ → ColumnClip) (k x : ℕ) → x ≡ f.first + k → clip_along height f before (k + 1) x ≡ column_after height f before x
 unfolding clip_along
-clip_along-last height f before k x e = ap (λ (b : Bool). cond b (column_after height f before x) (before x)) (last_among f.first k x e)
+clip_along-last height f before k x e = ap (λ (b : Bool). cond b (column_after height f before x) (before x)) (within-row f.first k x e)
 
 clip_along-other : (height : ℕ) (f : FragmentValue) (before : ℕ → ColumnClip) (k x y : ℕ) → x ≡ f.first + k → y ≢ x → clip_along height f before k y ≡ clip_along height f before (k + 1) y
 unfolding clip_along

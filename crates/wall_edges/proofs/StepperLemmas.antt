@@ -9,6 +9,7 @@ use Rattle.picture_rules.proofs.wall.EdgeLemmas.{edges_at-zero, edges_at-more}
 use Rattle.wall_edges.specs.declared.stepper.Stepper.{Stepper}
 use Rattle.wall_edges.specs.Fragments.{FragmentValue}
 use Rattle.wall_edges.specs.Steppers.{next_edges, one_column_on, next_stepper, stepper_after, IsAt}
+use Rattle.word_rules.proofs.Logic.{eq-false_positive}
 
 begins : (f : FragmentValue) → f.first ≤ f.last → f.last < FRAME_WIDTH → FitsSigned w32 f.numbers.scale1 →
     IsAt f 0 (record { x = f.first; left = f.last - f.first + 1; now = edges_first f.shape f.numbers; step = edges_step f.numbers })
@@ -41,14 +42,11 @@ at_next f k s h l = record {
   step = h.step;
 }
 
-some_left : (n : ℕ) → 0 < n → (n == 0) ≡ false
-some_left n l = grind (arith, nat_tests)
-
 at_more : (f : FragmentValue) (k : ℕ) (s : Stepper) → IsAt f k s → 0 < s.left → IsAt f (k + 1) (next_stepper s)
 unfolding next_stepper
 at_more f k s h l =
     let P : Bool → Type 0 = λ b. IsAt f (k + 1) (cond b s (one_column_on s)) in
-    subst P (sym (some_left s.left l)) (at_next f k s h l)
+    subst P (sym (eq-false_positive s.left l)) (at_next f k s h l)
 
 -- a stepper that began at the first column stands, after k answers, at column number k, or behind the last one
 pub at_column : (f : FragmentValue) (s : Stepper) (k : ℕ) → IsAt f 0 s → f.first + k ≤ f.last + 1 → IsAt f k (stepper_after k s)
@@ -67,7 +65,7 @@ unfolding next_edges
 answer_of_column f s k h l =
     let i = at_column f s k h (omega arith) in
     let left : 0 < (stepper_after k s).left = omega (arith, i.x, i.left) in
-    ap (λ (b : Bool). cond b None (Some (stepper_after k s).now)) (some_left (stepper_after k s).left left) ∙ ap (λ (e : Edges). Some e) i.now
+    ap (λ (b : Bool). cond b None (Some (stepper_after k s).now)) (eq-false_positive (stepper_after k s).left left) ∙ ap (λ (e : Edges). Some e) i.now
 
 -- and behind the last column it answers nothing
 pub answer_at_end : (f : FragmentValue) (s : Stepper) → IsAt f 0 s → f.first ≤ f.last → next_edges (stepper_after (f.last + 1 - f.first) s) ≡ None

@@ -2,3 +2,4 @@ pub mod WordLemmas
 pub mod LeastLemmas
 pub mod ListedLemmas
 pub mod StepLemmas
+pub mod Logic

@@ -5,6 +5,7 @@ use Rattle.std.specs.Option.{option_map}
 use Rattle.std.specs.List.{AllByRecursion, list_any}
 use Rattle.outside.specs.Faults.{and_then, from_below}
 use Rattle.outside.specs.Shelf.{File, file_named}
+use Rattle.outside.proofs.AnswerLemmas.{and_then-ok}
 use Rattle.lump_rules.specs.declared.wad.Lump.{Lump}
 use Rattle.lump_rules.specs.declared.wad.TheConstants.{MAX_LUMPS}
 use Rattle.lump_rules.specs.Contents.{lump_bytes}
@@ -53,10 +54,6 @@ use Rattle.doom_run.proofs.alike.StepLemmas.{IsFilesOf, IsLoadOf, in_file-same, 
 ok_of : {X R : Type 0} (a b : X) → (let l : Result X R = Ok a in l) ≡ Ok b → a ≡ b
 ok_of a b e = cc
 
-passed : {A B R : Type 0} (r : Result A R) (next : A → Result B R) (y : B) → and_then r next ≡ Ok y → (x : A) × (r ≡ Ok x) × (next x ≡ Ok y)
-passed (Ok x) next y e = (x, refl, e)
-passed (Err reason) next y e = cc
-
 below : {A R Q : Type 0} (f : R → Q) (r : Result A R) (x : A) → from_below f r ≡ Ok x → r ≡ Ok x
 below f (Ok y) x e = let same : y ≡ x = cc in ap Ok same
 below f (Err reason) x e = cc
@@ -73,7 +70,7 @@ layers_sprites : (bytes : ℕ → List ℕ) (lumps : List Lump) (rows : Option (
 unfolding weapons_of weapon_book
 layers_sprites bytes lumps None weapons e = subst (λ w. AllByRecursion (IsSprite lumps) (weapon_lumps w)) (ok_of None weapons e) tt
 layers_sprites bytes lumps (Some rows) weapons e =
-    let book = passed (from_below WeaponArt (weapon_book bytes lumps rows)) _ weapons e in
+    let book = and_then-ok (from_below WeaponArt (weapon_book bytes lumps rows)) _ weapons e in
     subst (λ w. AllByRecursion (IsSprite lumps) (weapon_lumps w)) (ok_of (Some book.0) weapons book.2)
     (book-sprites bytes lumps (first_needs (weapon_needs rows)) book.0 (below weapon_refusal (each_of (frame_of bytes lumps) (first_needs (weapon_needs rows))) book.0 (below WeaponArt (weapon_book bytes lumps rows) book.0 book.1)))
 
@@ -110,7 +107,7 @@ unfolding weapons_of weapon_book
 layers-moved trimmed lumps σ a pictures held bytes None weapons e gives = (None, refl, ok_of None weapons e)
 layers-moved trimmed lumps σ a pictures held bytes (Some rows) weapons e gives =
     let needs = first_needs (weapon_needs rows) in
-    let book = passed (from_below WeaponArt (weapon_book bytes lumps rows)) _ weapons e in
+    let book = and_then-ok (from_below WeaponArt (weapon_book bytes lumps rows)) _ weapons e in
     let same : Some book.0 ≡ weapons = ok_of (Some book.0) weapons book.2 in
     let found = below weapon_refusal (each_of (frame_of bytes lumps) needs) book.0 (below WeaponArt (weapon_book bytes lumps rows) book.0 book.1) in
     let moved = book-moved trimmed lumps σ a pictures held bytes needs book.0 found (λ n any. gives n (ap (λ w. list_any (λ m. m == n) (weapon_lumps w)) (sym same) ∙ any)) in
@@ -119,9 +116,9 @@ layers-moved trimmed lumps σ a pictures held bytes (Some rows) weapons e gives 
 faces_flats : (lumps : List Lump) (name : List ℕ) (level : LevelValue) (lists : TextureLists) (faces : Faces) → faces_in lumps name level lists ≡ Ok faces → sector_flats lumps level.sectors ≡ Ok faces.flats
 unfolding faces_in
 faces_flats lumps name level lists faces e =
-    let sides = passed (side_textures lists.textures level.sides) _ faces e in
-    let sky = passed (sky_texture lists.textures name level.sectors) _ faces sides.2 in
-    let flats = passed (sector_flats lumps level.sectors) _ faces sky.2 in
+    let sides = and_then-ok (side_textures lists.textures level.sides) _ faces e in
+    let sky = and_then-ok (sky_texture lists.textures name level.sectors) _ faces sides.2 in
+    let flats = and_then-ok (sector_flats lumps level.sectors) _ faces sky.2 in
     let made : ◌≡◌ {A = Faces} (record { sides = sides.0; sky = sky.0; flats = flats.0 }) faces = ok_of _ faces flats.2 in
     flats.1 ∙ ap (λ (f : Faces). Ok f.flats) made
 

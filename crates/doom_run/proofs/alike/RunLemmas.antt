@@ -3,6 +3,7 @@ use Rattle.std.proofs.Common.{◌≡◌, ℕ, List, [], ◌∷◌, Some, Result,
 use Rattle.outside.specs.Faults.{and_then, from_below}
 use Rattle.outside.specs.Shelf.{File}
 use Rattle.outside.specs.Stops.{Stop, no_file}
+use Rattle.outside.proofs.AnswerLemmas.{and_then-ok}
 use Rattle.job_rules.specs.Commands.{level_job}
 use Rattle.job_rules.specs.LevelJobs.{LevelJobValue}
 use Rattle.job_rules.specs.declared.command.Format.{Format}
@@ -26,10 +27,6 @@ use Rattle.doom_run.proofs.alike.RenderLemmas.{trimmed-views}
 
 ok_of : {X R : Type 0} (a b : X) → (let l : Result X R = Ok a in l) ≡ Ok b → a ≡ b
 ok_of a b e = cc
-
-passed : {A B R : Type 0} (r : Result A R) (next : A → Result B R) (y : B) → and_then r next ≡ Ok y → (x : A) × (r ≡ Ok x) × (next x ≡ Ok y)
-passed (Ok x) next y e = (x, refl, e)
-passed (Err reason) next y e = cc
 
 below : {A R Q : Type 0} (f : R → Q) (r : Result A R) (x : A) → from_below f r ≡ Ok x → r ≡ Ok x
 below f (Ok y) x e = let same : y ≡ x = cc in ap Ok same
@@ -73,8 +70,8 @@ trimmed-renders level wads files loaded parts is plan = record {
 trim_accepted : (level : LevelJobValue) (bytes : ℕ → List ℕ) (loaded : LoadedValue) (accepted : Accepted) → delivered (trimming level) bytes loaded ≡ Ok accepted →
     (parts : List TrimPart) × (trim_plan loaded.files.lumps (art_with loaded.scene (loaded_pictures loaded)) level.map_name ≡ Ok parts) × (trimmed_file bytes loaded.files.lumps parts ≡ accepted.output)
 trim_accepted level bytes loaded accepted e =
-    let made = passed (no_file (and_then (plan_in level loaded) (λ parts. Ok (done (trimmed_file bytes loaded.files.lumps parts))))) (λ written. Ok (accepted_in (loaded_sizes loaded).enough written)) accepted e in
-    let planned = passed (plan_in level loaded) (λ parts. Ok (done (trimmed_file bytes loaded.files.lumps parts))) made.0 (no_file_ok _ made.0 made.1) in
+    let made = and_then-ok (no_file (and_then (plan_in level loaded) (λ parts. Ok (done (trimmed_file bytes loaded.files.lumps parts))))) (λ written. Ok (accepted_in (loaded_sizes loaded).enough written)) accepted e in
+    let planned = and_then-ok (plan_in level loaded) (λ parts. Ok (done (trimmed_file bytes loaded.files.lumps parts))) made.0 (no_file_ok _ made.0 made.1) in
     let written : done (trimmed_file bytes loaded.files.lumps planned.0) ≡ made.0 = ok_of {R = Refusal} (done (trimmed_file bytes loaded.files.lumps planned.0)) made.0 planned.2 in
     let all : accepted_in (loaded_sizes loaded).enough made.0 ≡ accepted = ok_of {R = Stop Refusal} (accepted_in (loaded_sizes loaded).enough made.0) accepted made.2 in
     (planned.0, below Trim (trim_plan loaded.files.lumps (art_with loaded.scene (loaded_pictures loaded)) level.map_name) planned.0 planned.1, ap (λ (w : Written). w.output) written ∙ ap (λ (a : Accepted). a.output) all)
@@ -84,6 +81,6 @@ pub trimmed-run : (words : List (List ℕ)) (files : List File) (level : LevelJo
     → command_of words ≡ Some (level_job TrimTask level wads) → verdict words files ≡ Ok accepted → RendersAlike level wads files accepted.output
 trimmed-run words files level wads accepted is e =
     let trims : job_verdict (job_of (level_job TrimTask level wads)) files ≡ Ok accepted = ap (λ o. and_then {B = Accepted} (else_usage o) (λ command. job_verdict (job_of command) files)) (sym is) ∙ e in
-    let load = passed (load_in level wads files) (λ loaded. delivered (trimming level) (wad_bytes wads files loaded.files.lumps) loaded) accepted (below at_step (work_verdict (level_work level wads (trimming level)) files) accepted trims) in
+    let load = and_then-ok (load_in level wads files) (λ loaded. delivered (trimming level) (wad_bytes wads files loaded.files.lumps) loaded) accepted (below at_step (work_verdict (level_work level wads (trimming level)) files) accepted trims) in
     let made = trim_accepted level (wad_bytes wads files load.0.files.lumps) load.0 accepted load.2 in
     subst (λ bytes. RendersAlike level wads files bytes) made.2 (trimmed-renders level wads files load.0 made.0 load.1 made.1)

@@ -3,6 +3,7 @@ use Rattle.std.proofs.Common.{◌≡◌, ℕ, List, [], ◌∷◌, Option, Some,
 use Rattle.outside.specs.Faults.{and_then, from_below}
 use Rattle.outside.specs.Shelf.{File, file_named}
 use Rattle.outside.specs.Stops.{Stop, else_absent, no_file}
+use Rattle.outside.proofs.AnswerLemmas.{and_then-ok}
 use Rattle.lump_rules.specs.declared.wad.Lump.{Lump}
 use Rattle.lump_rules.specs.Wads.{directory}
 use Rattle.job_rules.specs.declared.command.Settings.{Settings}
@@ -18,10 +19,6 @@ use Rattle.level_audit.specs.scene_load.Loads.{LoadedValue, audited_in, load_in,
 
 ok_of : {X R : Type 0} (a b : X) → (let l : Result X R = Ok a in l) ≡ Ok b → a ≡ b
 ok_of a b e = cc
-
-passed : {A B R : Type 0} (r : Result A R) (next : A → Result B R) (y : B) → and_then r next ≡ Ok y → (x : A) × (r ≡ Ok x) × (next x ≡ Ok y)
-passed (Ok x) next y e = (x, refl, e)
-passed (Err reason) next y e = cc
 
 below : {A R Q : Type 0} (f : R → Q) (r : Result A R) (x : A) → from_below f r ≡ Ok x → r ≡ Ok x
 below f (Ok y) x e = let same : y ≡ x = cc in ap Ok same
@@ -44,9 +41,9 @@ pub record IsTextsOf (names : FileNames) (files : List File) (texts : TextTables
 texts-steps : (names : FileNames) (files : List File) (texts : TextTables) → texts_in names files ≡ Ok texts → IsTextsOf names files texts
 unfolding texts_in
 texts-steps names files texts e =
-    let things = passed (in_file things_file names.things files) _ texts e in
-    let path = passed (in_file path_file names.path files) _ texts things.2 in
-    let weapons = passed (in_optional_file weapons_file names.weapon files) _ texts path.2 in
+    let things = and_then-ok (in_file things_file names.things files) _ texts e in
+    let path = and_then-ok (in_file path_file names.path files) _ texts things.2 in
+    let weapons = and_then-ok (in_optional_file weapons_file names.weapon files) _ texts path.2 in
     let made : ◌≡◌ {A = TextTables} (record { things = things.0; path = path.0; weapons = weapons.0 }) texts = ok_of _ texts weapons.2 in
     subst (IsTextsOf names files) made (record { things = things.1; path = path.1; weapons = weapons.1 })
 
@@ -62,9 +59,9 @@ pub files-steps : (names : FileNames) (wads : List (List ℕ)) (settings : Setti
     → files_in names wads settings files ≡ Ok values → IsFilesOf names wads settings files values
 unfolding files_in
 files-steps names wads settings files values e =
-    let tables = passed (in_file (tables_file settings) names.tables files) _ values e in
-    let texts = passed (texts_in names files) _ values tables.2 in
-    let lumps = passed (lumps_in wads files) _ values texts.2 in
+    let tables = and_then-ok (in_file (tables_file settings) names.tables files) _ values e in
+    let texts = and_then-ok (texts_in names files) _ values tables.2 in
+    let lumps = and_then-ok (lumps_in wads files) _ values texts.2 in
     let parts = texts-steps names files texts.0 texts.1 in
     let made : ◌≡◌ {A = FilesValue} (record { tables = tables.0; things = texts.0.things; path = texts.0.path; weapons = texts.0.weapons; lumps = lumps.0 }) values = ok_of _ values lumps.2 in
     subst (IsFilesOf names wads settings files) made (record { tables = tables.1; things = parts.things; path = parts.path; weapons = parts.weapons; lumps = lumps.1 })
@@ -84,11 +81,11 @@ pub load-steps : (level : LevelJobValue) (wads : List (List ℕ)) (files : List 
     → load_in level wads files ≡ Ok loaded → IsLoadOf level wads files loaded
 unfolding load_in audited_in
 load-steps level wads files loaded e =
-    let values = passed (files_in level.files wads level.settings files) _ loaded e in
+    let values = and_then-ok (files_in level.files wads level.settings files) _ loaded e in
     let bytes = wad_bytes wads files values.0.lumps in
     let audited = below of_audit (audited_in bytes level values.0) loaded (no_file-ok (from_below of_audit (audited_in bytes level values.0)) loaded values.2) in
-    let scene = passed (scene_in bytes values.0.lumps values.0.things level.map_name level.settings.skill) _ loaded audited in
-    let weapons = passed (weapons_of bytes values.0.lumps values.0.weapons) _ loaded scene.2 in
+    let scene = and_then-ok (scene_in bytes values.0.lumps values.0.things level.map_name level.settings.skill) _ loaded audited in
+    let weapons = and_then-ok (weapons_of bytes values.0.lumps values.0.weapons) _ loaded scene.2 in
     let made : ◌≡◌ {A = LoadedValue} (record { files = values.0; scene = scene.0; weapons = weapons.0 }) loaded = ok_of _ loaded weapons.2 in
     subst (IsLoadOf level wads files) made (record {
       values = files-steps level.files wads level.settings files values.0 values.1;

@@ -3,6 +3,7 @@ use Rattle.std.proofs.Common.{◌≡◌, ℕ, zero, suc, ◌<◌, List, [], ◌�
 use Rattle.std.specs.List.{AllByRecursion}
 use Rattle.std.proofs.lemmas.List.{length-map}
 use Rattle.word_rules.specs.Least.{or_else}
+use Rattle.word_rules.proofs.Logic.{or_else-none}
 use Rattle.level_rules.specs.declared.Leaf.{Leaf}
 use Rattle.level_rules.specs.declared.Sector.{Sector}
 use Rattle.level_rules.specs.declared.maps.records.MapLeaf.{MapLeaf}
@@ -56,10 +57,6 @@ surfaces-placed count (s ∷ ss) [] all k d lt = absurd (omega arith)
 surfaces-placed count (s ∷ ss) (f ∷ fs) all zero d lt = record { floor = all.0.floor; ceiling = all.0.ceiling }
 surfaces-placed count (s ∷ ss) (f ∷ fs) all (suc k) d lt = surfaces-placed count ss fs all.1 k d (omega arith)
 
-none_of_two : {X : Type 0} (x y : Option X) → or_else x y ≡ None → (x ≡ None) × (y ≡ None)
-none_of_two None y e = (refl, e)
-none_of_two (Some v) y e = absurd (cc)
-
 unless_step : (refusal : Option MapRefusal) (value level : LevelValue) → unless refusal value ≡ Ok level → (refusal ≡ None) × (value ≡ level)
 unfolding unless
 unless_step None value level e = (refl, cc)
@@ -78,8 +75,8 @@ level-leaf : (b : MapBytes) (level : LevelValue) → level_of b ≡ Ok level →
 unfolding level_of map_refusal records_refusal joined_level joined_leaves
 level-leaf b level e =
     let parts = unless_step _ (joined_level (records_of b)) level e in
-    let records = none_of_two (sizes_refusal b) (records_refusal (records_of b)) parts.0 in
-    let leaf = none_of_two (no_leaf_refusal (records_of b).leaves) _ records.1 in
+    let records = or_else-none (sizes_refusal b) (records_refusal (records_of b)) parts.0 in
+    let leaf = or_else-none (no_leaf_refusal (records_of b).leaves) _ records.1 in
     let some : 0 < length (records_of b).leaves = some_leaf (records_of b).leaves leaf.0 in
     let count : length (joined_leaves (records_of b)) ≡ length (records_of b).leaves = length-map (records_of b).leaves _ in
     let same : length (joined_leaves (records_of b)) ≡ length level.leaves = ap (λ (l : LevelValue). length l.leaves) parts.1 in

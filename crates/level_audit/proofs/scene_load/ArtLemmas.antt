@@ -3,6 +3,7 @@ use Rattle.std.proofs.Common.{◌≡◌, ℕ, List, Option, Some, None, Ok, refl
 use Rattle.std.specs.Prelude.{IfSome, option_and_then}
 use Rattle.outside.specs.Shelf.{ShelfView}
 use Rattle.outside.specs.Faults.{from_below}
+use Rattle.outside.proofs.AnswerLemmas.{and_then-ok}
 use Rattle.lump_rules.specs.declared.wad.Lump.{Lump}
 use Rattle.lump_rules.specs.Contents.{lump_bytes}
 use Rattle.zone_rules.specs.Zones.{Holding, Block, Heap, bytes_of}
@@ -20,7 +21,7 @@ use Rattle.scene_rules.specs.declared.refusal.AuditRefusal.TheVariants.{Art, Map
 use Rattle.scene_rules.specs.Scenes.{LevelBase, SceneValue, base_in, base_over, colormap_of, level_in, lists_in, playpal_of, scene_in}
 use Rattle.scene_rules.specs.Sides.{is_wanted_texture}
 use Rattle.sound_scene.specs.Sound.{textures_view}
-use Rattle.sound_scene.proofs.SceneLemmas.{and_then-ok, from_below-ok, scene_parts}
+use Rattle.sound_scene.proofs.SceneLemmas.{from_below-ok, scene_parts}
 use Rattle.job_files.specs.Files.{FilesValue}
 use Rattle.level_audit.specs.scene_load.Loads.{LoadedValue, audited_in}
 use Rattle.level_audit.proofs.scene_load.AuditedLemmas.{audited_by}

@@ -7,6 +7,7 @@ use Rattle.outside.specs.declared.fault.Fault.{Fault}
 use Rattle.outside.specs.declared.fault.Fault.TheVariants.{Refused, ReadFault, ZoneFull, OutOfMemory}
 use Rattle.outside.specs.Faults.{ResultIs, HasCauseAt, HasCauses, FaultFits, and_then, itself}
 use Rattle.outside.proofs.StepLemmas.{step}
+use Rattle.outside.proofs.AnswerLemmas.{and_then-ok}
 use Rattle.lump_rules.specs.declared.wad.Lump.{Lump}
 use Rattle.lump_cache.proofs.CallLemmas.{cause_later}
 use Rattle.art_rules.specs.declared.shapes.Frame.{Frame}
@@ -14,7 +15,6 @@ use Rattle.job_rules.specs.LevelJobs.{LevelJobValue}
 use Rattle.job_files.specs.Files.{FilesValue}
 use Rattle.scene_rules.specs.Scenes.{SceneValue, scene_in}
 use Rattle.sound_scene.specs.Sound.{SoundValue, with_book}
-use Rattle.sound_scene.proofs.SceneLemmas.{and_then-ok}
 use Rattle.level_audit.specs.scene_load.Loads.{LoadedValue, audited_in, audited_value, weapons_of, with_layers}
 
 -- what is told of a step that stops is told of all steps

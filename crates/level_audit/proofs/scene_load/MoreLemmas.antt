@@ -6,6 +6,7 @@ use Rattle.std.proofs.lemmas.Bool.{cases_lt, or_right}
 use Rattle.std.proofs.lemmas.List.{append-nil}
 use Rattle.std.proofs.lemmas.List.Folds.{list_any-append}
 use Rattle.outside.specs.Faults.{from_below}
+use Rattle.outside.proofs.AnswerLemmas.{and_then-ok}
 use Rattle.lump_rules.specs.declared.wad.Lump.{Lump}
 use Rattle.lump_rules.specs.Lookups.{lump_at}
 use Rattle.zone_rules.specs.declared.TheConstants.{MIN_FRAGMENT}
@@ -21,7 +22,7 @@ use Rattle.sound_scene.specs.Sound.{SoundValue, art_with, with_book}
 use Rattle.level_audit.specs.Weapons.{weapon_book, weapon_needs, weapon_refusal}
 use Rattle.sound_scene.proofs.NeededLemmas.{for_colormap, for_picture, needed_there, past_block}
 use Rattle.level_audit.proofs.NeededPictureLemmas.{needed_picture}
-use Rattle.sound_scene.proofs.SceneLemmas.{and_then-ok, from_below-ok}
+use Rattle.sound_scene.proofs.SceneLemmas.{from_below-ok}
 use Rattle.level_audit.specs.scene_load.Fulls.{IsOfLayers}
 use Rattle.level_audit.specs.scene_load.Loads.{LoadedValue, audited_value, loaded_lumps, loaded_pictures, loaded_sizes, weapon_lumps, weapons_of, with_layers}
 

@@ -2,6 +2,7 @@
 use Rattle.std.proofs.Common.{◌≡◌, ℕ, zero, suc, arith, ◌+◌, ◌<◌, ◌≤◌, List, [], ◌∷◌, length, drop, get_or, Option, Some, None, refl, ◌∙◌}
 use Rattle.std.proofs.lemmas.List.{at_drop_more, at_drop_all}
 use Rattle.word_rules.specs.Least.{or_else}
+use Rattle.word_rules.proofs.Logic.{or_else-none}
 use Rattle.level_rules.specs.declared.maps.refusal.MapRefusal.{MapRefusal}
 use Rattle.level_rules.specs.maps.Firsts.{first_refusal}
 
@@ -21,10 +22,6 @@ first_refusal-next refusal i rs r d l g e = first_refusal-step refusal i rs d l 
 pub first_refusal-end : {R : Type 0} (refusal : ℕ → R → Option MapRefusal) (i : ℕ) (rs : List R) → length rs ≤ i → first_refusal refusal i (drop i rs) ≡ None
 unfolding first_refusal
 first_refusal-end refusal i rs l = at_drop_all (first_refusal refusal i) rs i l
-
-pub or_else-none : {X : Type 0} (a b : Option X) → or_else a b ≡ None → (a ≡ None) × (b ≡ None)
-or_else-none None b e = (refl, e)
-or_else-none (Some v) b e = cc
 
 -- where none of five refuses, each of them refuses nothing
 pub or_else-five : {X : Type 0} (a b c d e : Option X) → or_else a (or_else b (or_else c (or_else d e))) ≡ None → (a ≡ None) × (b ≡ None) × (c ≡ None) × (d ≡ None) × (e ≡ None)

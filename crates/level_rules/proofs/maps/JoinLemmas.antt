@@ -12,8 +12,9 @@ use Rattle.level_rules.specs.maps.Firsts.{first_refusal}
 use Rattle.level_rules.specs.maps.Levels.{MapRecords, joined_leaves, joined_level, joined_segs, no_leaf_refusal, range_refusal, records_refusal, seg_of}
 use Rattle.level_rules.specs.maps.Ranges.{leaf_refusal, line_by, line_field, line_refusal, no_line, node_refusal, seg_field, seg_refusal, side_refusal}
 use Rattle.level_rules.specs.maps.Trees.{root_of, tree_refusal}
-use Rattle.level_rules.proofs.maps.FirstLemmas.{first_refusal-none, or_else-none, or_else-five}
+use Rattle.level_rules.proofs.maps.FirstLemmas.{first_refusal-none, or_else-five}
 use Rattle.level_rules.proofs.maps.RangeLemmas.{leaf_refusal-none, line_refusal-none, seg_field-none, seg_refusal-none}
+use Rattle.word_rules.proofs.Logic.{or_else-none}
 
 -- a line of a map is not refused
 pub line_by-none : (sides : ℕ) (lines : List MapLine) (n : ℕ) → first_refusal (line_refusal sides) 0 lines ≡ None → n < length lines → line_field sides (line_by lines n) ≡ None

@@ -2,6 +2,7 @@
 use Rattle.std.proofs.Common.{◌≡◌, ℕ, ◌/◌, ◌≤◌, false, List, length, Option, Some, None, Ok, Err, refl, subst, arith}
 use Rattle.std.specs.Prelude.{nat_lt}
 use Rattle.word_rules.proofs.ListedLemmas.{length-listed}
+use Rattle.word_rules.proofs.Logic.{le-from_lt_false, or_else-none}
 use Rattle.level_rules.specs.declared.maps.lumps.MapLump.{MapLump}
 use Rattle.level_rules.specs.declared.maps.lumps.MapLump.TheVariants as lump
 use Rattle.level_rules.specs.declared.maps.lumps.TheConstants.{MAX_RECORDS}
@@ -11,7 +12,7 @@ use Rattle.level_rules.specs.maps.Lumps.{record_size, size_refusal}
 use Rattle.level_rules.specs.maps.Records.{leaves_in, lines_in, nodes_in, sectors_in, segs_in, sides_in, things_in, vertexes_in}
 use Rattle.level_rules.specs.maps.Levels.{LevelValue, MapBytes, joined_level, level_from, level_of, map_refusal, records_of, sizes_refusal, unless}
 use Rattle.level_rules.specs.maps.Sound.{HasFewRecords, IsSound}
-use Rattle.level_rules.proofs.maps.FirstLemmas.{or_else-none, or_else-five}
+use Rattle.level_rules.proofs.maps.FirstLemmas.{or_else-five}
 use Rattle.level_rules.proofs.maps.RangeLemmas.{cond-none_else}
 use Rattle.level_rules.proofs.maps.SoundLemmas.{joined_level-sound}
 
@@ -29,13 +30,10 @@ pub length-records_in : {R : Type 0} (read : List ℕ → R) (size : ℕ) (bytes
 unfolding records_in
 length-records_in read size bytes = length-listed _ (length bytes / size)
 
-ltb-false : (a b : ℕ) → nat_lt a b ≡ false → b ≤ a
-ltb-false a b e = grind arith
-
 -- a lump that is not too large has few records
 pub size_refusal-none : (l : MapLump) (bytes : List ℕ) → size_refusal l bytes ≡ None → length bytes / record_size l ≤ MAX_RECORDS
 unfolding size_refusal
-size_refusal-none l bytes e = ltb-false MAX_RECORDS _ (cond-none_else (nat_lt MAX_RECORDS (length bytes / record_size l)) _ _ e).0
+size_refusal-none l bytes e = le-from_lt_false MAX_RECORDS _ (cond-none_else (nat_lt MAX_RECORDS (length bytes / record_size l)) _ _ e).0
 
 few : {R : Type 0} (read : List ℕ → R) (size : ℕ) (bytes : List ℕ) → length bytes / size ≤ MAX_RECORDS → length (records_in read size bytes) ≤ MAX_RECORDS
 few read size bytes h = rw (length-records_in read size bytes) h

@@ -13,6 +13,7 @@ use Rattle.level_rules.specs.declared.maps.lumps.MapLump.TheVariants as lump
 use Rattle.level_rules.specs.declared.maps.lumps.TheConstants.{NO_SIDE}
 use Rattle.level_rules.specs.maps.Levels.{has_back}
 use Rattle.level_rules.specs.maps.Ranges.{has_side, index_refusal, is_side, is_there, leaf_field, leaf_refusal, line_by, line_field, line_refusal, node_field, node_refusal, seg_field, seg_refusal, side_field, side_on, side_refusal}
+use Rattle.word_rules.proofs.Logic.{le-from_lt_false}
 
 -- a test whose failure would be refused was passed
 pub cond-none : {X : Type 0} (b : Bool) (rest : Option X) (x : X) → cond b rest (Some x) ≡ None → (b ≡ true) × (rest ≡ None)
@@ -81,12 +82,9 @@ pub side_field-none : (sectors : ℕ) (side : Side) → side_field sectors side 
 unfolding side_field
 side_field-none sectors side e = ltb-true _ _ (cond-none (nat_lt side.sector sectors) _ _ e).0
 
-ltb-false : (a b : ℕ) → nat_lt a b ≡ false → b ≤ a
-ltb-false a b e = grind arith
-
 pub leaf_field-none : (segs : ℕ) (leaf : MapLeaf) → leaf_field segs leaf ≡ None → leaf.first + leaf.count ≤ segs
 unfolding leaf_field
-leaf_field-none segs leaf e = ltb-false _ _ (cond-none_else (nat_lt segs (leaf.first + leaf.count)) _ _ e).0
+leaf_field-none segs leaf e = le-from_lt_false _ _ (cond-none_else (nat_lt segs (leaf.first + leaf.count)) _ _ e).0
 
 eqb-false : (n : ℕ) → (n == 0) ≡ false → 0 < n
 eqb-false zero e = cc

@@ -5,6 +5,7 @@ use Rattle.std.specs.Option.{ForSome}
 use Rattle.std.specs.List.{list_all}
 use Rattle.std.proofs.lemmas.List.{get_or-map, length-map}
 use Rattle.std.proofs.lemmas.List.Sums.{list_all-from_AllPass}
+use Rattle.std.proofs.lemmas.Bool.{and_parts}
 use Rattle.level_rules.specs.declared.Side.{Side}
 use Rattle.level_rules.specs.declared.Node.{Node}
 use Rattle.level_rules.specs.declared.TheConstants.{TWO_SIDED}
@@ -20,7 +21,8 @@ use Rattle.level_rules.specs.maps.Sound.{HasCounts, HasFewRecords, IsLeafIn, IsN
 use Rattle.level_rules.proofs.maps.FirstLemmas.{first_refusal-none}
 use Rattle.level_rules.proofs.maps.JoinLemmas.{length-joined_segs, line_by-none, records_refusal-none}
 use Rattle.level_rules.proofs.maps.RangeLemmas.{has_side-parts, leaf_refusal-none, node_refusal-none, seg_field-none, seg_refusal-none, side_on-there, side_refusal-none}
-use Rattle.level_rules.proofs.maps.TreeLemmas.{and-parts, has_children, root-there, tree_refusal-none}
+use Rattle.level_rules.proofs.maps.TreeLemmas.{has_children, root-there, tree_refusal-none}
+use Rattle.word_rules.proofs.Logic.{and-true_true}
 
 -- each side has a sector
 abbrev AreSidesIn : ℕ → List Side → Type 0
@@ -45,7 +47,7 @@ back_sector-there : (sectors : ℕ) (sides : List Side) (line : MapLine) (side :
 unfolding back_sector has_back
 back_sector-there sectors sides line side h e =
     back-go sectors (not (bit_and line.flags TWO_SIDED == 0) && not (side_on line (1 - side) == NO_SIDE)) (sector_of sides (side_on line (1 - side))) (λ t.
-    let there = side_on-there (length sides) (1 - side) line e (not-true _ (and-parts _ _ t).1) in
+    let there = side_on-there (length sides) (1 - side) line e (not-true _ (and_parts _ _ t).1) in
     sector_of-there sectors sides (side_on line (1 - side)) h there)
 
 seg-in : (m : MapRecords) (seg : MapSeg) → AreSidesIn (length m.sectors) m.sides → first_refusal (line_refusal (length m.sides)) 0 m.lines ≡ None → seg_field (length m.vertexes) m.lines seg ≡ None → IsSegIn (joined_level m) (seg_of m.sides m.lines m.vertexes seg)
@@ -87,12 +89,9 @@ leaves-in m segs leaves k d l =
 nodes-there : (nodes : List Node) (leaves : ℕ) → first_refusal (node_refusal (length nodes) leaves) 0 nodes ≡ None → All (λ node. (is_there (length nodes) leaves (child_on node 0) ≡ true) × (is_there (length nodes) leaves (child_on node 1) ≡ true)) nodes
 nodes-there nodes leaves e k d l = node_refusal-none (length nodes) leaves _ _ (first_refusal-none (node_refusal (length nodes) leaves) 0 nodes e k d l)
 
-both : (a b : Bool) → a ≡ true → b ≡ true → (a && b) ≡ true
-both a b e f = rw (e, f) refl
-
 nodes-children : (nodes : List Node) (leaves : ℕ) → first_refusal (node_refusal (length nodes) leaves) 0 nodes ≡ None → list_all (has_children (length nodes) leaves) nodes ≡ true
 nodes-children nodes leaves e =
-    list_all-from_AllPass (has_children (length nodes) leaves) nodes (λ k d l. let parts = nodes-there nodes leaves e k d l in both _ _ parts.0 parts.1)
+    list_all-from_AllPass (has_children (length nodes) leaves) nodes (λ k d l. let parts = nodes-there nodes leaves e k d l in and-true_true _ _ parts.0 parts.1)
 
 nodes-in : (m : MapRecords) → first_refusal (node_refusal (length m.nodes) (length m.leaves)) 0 m.nodes ≡ None → All (IsNodeIn (joined_level m)) m.nodes
 unfolding joined_level

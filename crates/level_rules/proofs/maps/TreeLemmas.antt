@@ -6,7 +6,7 @@ use Rattle.std.specs.List.{list_all}
 use Rattle.std.proofs.lemmas.List.Folds.{list_all-append}
 use Rattle.std.proofs.lemmas.List.Sums.{AllPass-from_list_all}
 use Rattle.std.proofs.lemmas.List.{get_or-set_other, get_or-set_same, length-set, length-replicate}
-use Rattle.std.proofs.lemmas.Bool.{cases_eq}
+use Rattle.std.proofs.lemmas.Bool.{and_parts, cases_eq}
 use Rattle.level_rules.specs.declared.Node.{Node}
 use Rattle.level_rules.specs.declared.Child.{Child}
 use Rattle.level_rules.specs.declared.Child.TheVariants.{Node as NodeChild, Leaf as LeafChild}
@@ -17,17 +17,13 @@ use Rattle.level_rules.specs.declared.maps.refusal.MapRefusal.TheVariants.{NodeT
 use Rattle.level_rules.specs.maps.Ranges.{is_there}
 use Rattle.level_rules.specs.maps.Trees.{Visit, preorder, visit_refusal, AreOnce, is_within, root_of, tree_refusal, visits_of, visits_refusal}
 use Rattle.level_rules.specs.maps.Sound.{IsTree}
-use Rattle.level_rules.proofs.maps.FirstLemmas.{or_else-none}
 use Rattle.level_rules.proofs.maps.VisitLemmas.{visits_refusal-append, visits_refusal-cons}
-
-pub and-parts : (a b : Bool) → (a && b) ≡ true → (a ≡ true) × (b ≡ true)
-and-parts true b e = (refl, e)
-and-parts false b e = cc
+use Rattle.word_rules.proofs.Logic.{or_else-none}
 
 -- what both children pass, the child on a side passes
 pub child_passes : (passes : Child → Bool) (node : Node) (side : ℕ) → side ≤ 1 → (passes (child_on node 0) && passes (child_on node 1)) ≡ true → passes (child_on node side) ≡ true
 child_passes passes node side low both =
-    let each = and-parts (passes (child_on node 0)) (passes (child_on node 1)) both in
+    let each = and_parts (passes (child_on node 0)) (passes (child_on node 1)) both in
     elim (cases_eq side 0) [
       | inl front ↦ ap (λ (s : ℕ). passes (child_on node s)) front ∙ each.0
       | inr behind ↦ (let back : side ≡ 1 = omega arith in ap (λ (s : ℕ). passes (child_on node s)) back ∙ each.1)
@@ -67,7 +63,7 @@ more-node : (nodes : List Node) (k depth : ℕ) → ((c : Child) → is_within n
 unfolding visits_of
 more-node nodes k depth h None e = refl
 more-node nodes k depth h (Some node) e =
-    let parts = and-parts _ _ e in
+    let parts = and_parts _ _ e in
     ap₂ ◌++◌ (h (child_on node 0) parts.0) (h (child_on node 1) parts.1)
 
 -- in a tree that is no deeper, one level more shows no more
@@ -136,13 +132,13 @@ inside-found : (nodes leaves : ℕ) (visits : Child → List Visit) → ((c : Ch
 unfolding visits_of
 inside-found nodes leaves visits h None e = refl
 inside-found nodes leaves visits h (Some node) e =
-    let parts = and-parts _ _ e in
+    let parts = and_parts _ _ e in
     list_all-append (λ v. nat_lt v.node nodes) (visits (child_on node 0)) (visits (child_on node 1)) ∙ rw (h (child_on node 0) parts.0, h (child_on node 1) parts.1) refl
 
 found-children : (count leaves : ℕ) (some : List Node) (n : ℕ) → list_all (has_children count leaves) some ≡ true → option_map_or (has_children count leaves) (slice_get some n) true ≡ true
 found-children count leaves [] n e = refl
-found-children count leaves (x ∷ xs) zero e = (and-parts _ _ e).0
-found-children count leaves (x ∷ xs) (suc n) e = found-children count leaves xs n (and-parts _ _ e).1
+found-children count leaves (x ∷ xs) zero e = (and_parts _ _ e).0
+found-children count leaves (x ∷ xs) (suc n) e = found-children count leaves xs n (and_parts _ _ e).1
 
 -- where each child is there, so is each node that is visited
 pub preorder-inside : (nodes : List Node) (count leaves levels depth : ℕ) (c : Child) → list_all (has_children count leaves) nodes ≡ true → is_there count leaves c ≡ true → list_all (λ v. nat_lt v.node count) (preorder nodes levels depth c) ≡ true

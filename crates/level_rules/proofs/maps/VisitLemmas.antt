@@ -2,6 +2,7 @@
 use Rattle.std.proofs.Common.{◌≡◌, ℕ, zero, suc, ◌+◌, ◌-◌, ◌<◌, Bool, true, List, [], ◌∷◌, ◌++◌, Option, Some, None, refl, ap, sym, ◌∙◌, arith}
 use Rattle.std.specs.Prelude.{slice_get, slice_set}
 use Rattle.word_rules.specs.Least.{or_else}
+use Rattle.word_rules.proofs.Logic.{or_else-assoc}
 use Rattle.level_rules.specs.declared.Node.{Node}
 use Rattle.level_rules.specs.Levels.{child_on}
 use Rattle.level_rules.specs.declared.Child.TheVariants.{Node as NodeChild, Leaf as LeafChild}
@@ -16,10 +17,6 @@ pub preorder-node : (nodes : List Node) (levels depth n : ℕ) → 0 < levels �
 unfolding preorder
 preorder-node nodes zero depth n l = absurd (omega arith)
 preorder-node nodes (suc levels) depth n l = let e : suc levels - 1 ≡ levels = omega arith in rw e refl
-
-or_else-assoc : {X : Type 0} (a b c : Option X) → or_else a (or_else b c) ≡ or_else (or_else a b) c
-or_else-assoc None b c = refl
-or_else-assoc (Some v) b c = refl
 
 -- visits one after the other
 pub visits_refusal-append : (reached : List Bool) (xs ys : List Visit) → visits_refusal reached (xs ++ ys) ≡ or_else (visits_refusal reached xs) (visits_refusal (reached_after reached xs) ys)

@@ -17,10 +17,11 @@ use Rattle.frame_core.proofs.FloorLemmas.{floors_of}
 use Rattle.frame_core.proofs.MaskLemmas.{masks_dots}
 use Rattle.frame_core.proofs.PaintLemmas.{can_draw_view-later, placed-later}
 use Rattle.frame_core.proofs.CountLemmas.{within-walked}
-use Rattle.frame_core.proofs.ViewLemmas.{ReadsAlike, drawable-at, if_err-no_limit, if_err-stop, in_view-walked, on_ok-always, paints-placed, part-at, parts-paint, placed-frame, reads-alike, reads-then, started, walked-at}
+use Rattle.frame_core.proofs.ViewLemmas.{ReadsAlike, drawable-at, if_err-no_limit, if_err-stop, in_view-walked, paints-placed, part-at, parts-paint, placed-frame, reads-alike, reads-then, started, walked-at}
 use Rattle.frame_core.proofs.view.draw_parts.Given.{Over}
 use Rattle.frame_core.proofs.view.draw_parts.Goals as goal
 use Rattle.frame_core.proofs.view.draw_parts.Goals.{After-place, In_ok-draw_floors, In_ok-draw_walls}
+use Rattle.word_rules.proofs.Logic.{on_ok-always}
 
 -- the view lies within the frame, where the canvas has it
 framed : (g : Over) (c : After-place g) → IsWithinFrame c.args.tools.now.view.now.shape

@@ -6,8 +6,9 @@ use Rattle.lump_cache.proofs.StaticLemmas.{rest_static}
 use Rattle.pixel_rules.specs.declared.TheConstants.{SPRITE}
 use Rattle.pixel_rules.specs.Art.{lump_source}
 use Rattle.texture_build.proofs.LentLemmas.{colormap_lent, fits-lump}
-use Rattle.masked_draw.proofs.PictureLemmas.{fit-columns, picture-painted, some-same}
+use Rattle.masked_draw.proofs.PictureLemmas.{fit-columns, picture-painted}
 use Rattle.masked_draw.proofs.sprites.paint_live.Goals as goal
+use Rattle.word_rules.proofs.Logic.{some-same}
 
 pub returns-in-Some-bytes-clause-painted : goal.returns-in-Some-bytes-clause-painted
 returns-in-Some-bytes-clause-painted g c = λ view contents count hold.

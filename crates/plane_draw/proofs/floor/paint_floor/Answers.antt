@@ -12,9 +12,7 @@ use Rattle.plane_draw.proofs.CanLemmas.{floor-key}
 use Rattle.plane_draw.proofs.FlatLemmas.{floor-painted, floor-placed}
 use Rattle.plane_draw.proofs.PlaneLemmas.{fit-floor}
 use Rattle.plane_draw.proofs.floor.paint_floor.Goals as goal
-
-same_bytes : (x y : List ℕ) (z : Option (List ℕ)) → Some x ≡ z → z ≡ Some y → x ≡ y
-same_bytes x y z e f = cc
+use Rattle.word_rules.proofs.Logic.{some-same}
 
 pub draw_plane-requires-clause-floor : goal.draw_plane-requires-clause-floor
 draw_plane-requires-clause-floor g c =
@@ -23,8 +21,8 @@ draw_plane-requires-clause-floor g c =
 pub returns-in-Some-bytes-clause-painted : goal.returns-in-Some-bytes-clause-painted
 returns-in-Some-bytes-clause-painted g c = λ view contents count sky hold.
     let s = c.args.scene.now in
-    let own = same_bytes _ _ _ c.in-Some.ensures.value (live_faithful contents s.dir.now c.args.hands.now.cache.now c.args.lump.0 c.requires.lump hold.files.faithful c.requires.live) in
-    let shades = same_bytes _ _ _ c.in-Some-bytes.ensures.value (colormap_lent hold c.requires.ready.0.colormap) in
+    let own = some-same _ _ _ c.in-Some.ensures.value (live_faithful contents s.dir.now c.args.hands.now.cache.now c.args.lump.0 c.requires.lump hold.files.faithful c.requires.live) in
+    let shades = some-same _ _ _ c.in-Some-bytes.ensures.value (colormap_lent hold c.requires.ready.0.colormap) in
     floor-painted g.C.Canvas.mark _ s.view.now (lump_bytes contents s.dir.now.lumps) s.textures.now s.colormap.0 c.args.plane.0 sky c.args.lump.0 (plane_at s.planes.now.planes c.args.plane.0) _ _ _ _
     c.requires.flat own shades c.draw_plane.ensures
 

@@ -11,9 +11,7 @@ use Rattle.plane_draw.proofs.CanLemmas.{sky-can}
 use Rattle.plane_draw.proofs.PlaneLemmas.{fit-sky}
 use Rattle.plane_draw.proofs.SkyLemmas.{sky-painted, sky-source}
 use Rattle.plane_draw.proofs.sky.paint_sky.Goals as goal
-
-same_bytes : (x y : List ℕ) (z : Option (List ℕ)) → Some x ≡ z → z ≡ Some y → x ≡ y
-same_bytes x y z e f = cc
+use Rattle.word_rules.proofs.Logic.{some-same}
 
 pub column_at-requires-clause-lumps : goal.column_at-requires-clause-lumps
 column_at-requires-clause-lumps g c =
@@ -30,7 +28,7 @@ returns-in-Some-column_at-clause-painted g c = λ view contents count hold.
     strip.result.x strip.result.first strip.result.last strip.result.map strip.result.source.now strip.result.colormap.now strip.result.base strip.result.fraction strip.result.step c.args.lookup
     c.begin.ensures c.paint_column.ensures c.painter_at-painter.ensures c.requires.lookup
     strip.ensures.x strip.ensures.first strip.ensures.last strip.ensures.map strip.ensures.step strip.ensures.fraction
-    (strip.ensures.colormap ∙ same_bytes c.in-Some.colormap.now _ _ c.in-Some.ensures.value (colormap_lent hold c.requires.ready.colormap))
+    (strip.ensures.colormap ∙ some-same c.in-Some.colormap.now _ _ c.in-Some.ensures.value (colormap_lent hold c.requires.ready.colormap))
     (λ r. ap (λ (xs : List ℕ). byte_at xs (strip.result.base + r)) strip.ensures.source
     ∙ ap (λ (n : ℕ). byte_at c.in-Some-column_at.texels.bytes (n + r)) strip.ensures.base
     ∙ c.in-Some-column_at.ensures.texel (sky_column s.view.now rows.x) contents s.dir.now.lumps c.requires.lookup can.there hold.files.faithful hold.composites hold.prepared r)

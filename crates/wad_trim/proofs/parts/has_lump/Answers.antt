@@ -4,14 +4,15 @@ use Rattle.std.specs.List.{list_any}
 use Rattle.std.proofs.lemmas.List.{take_all}
 use Rattle.std.proofs.lemmas.List.Folds.{list_any_at}
 use Rattle.lump_rules.specs.declared.wad.LumpNo.{LumpNo}
-use Rattle.wad_trim.proofs.ListLemmas.{any-number, itself}
+use Rattle.wad_trim.proofs.ListLemmas.{any-number}
 use Rattle.wad_trim.proofs.parts.has_lump.Goals as goal
+use Rattle.word_rules.proofs.Logic.{eq-true}
 
 pub returns-then-other-lump : goal.returns-then-other-lump
 returns-then-other-lump c =
     let n = c.args.lump.0 in
     sym (sym (any-number (λ m. m == n) c.args.lumps.now)
-    ∙ list_any_at (λ (other : LumpNo). other.0 == n) c.args.lumps.now c.loop-other.other-index (record { 0 = 0 }) (omega arith) (itself _ n c.if-other-lump.true))
+    ∙ list_any_at (λ (other : LumpNo). other.0 == n) c.args.lumps.now c.loop-other.other-index (record { 0 = 0 }) (omega arith) (eq-true _ n c.if-other-lump.true))
 
 pub returns : goal.returns
 returns c =
