@@ -1,9 +1,5 @@
 -- The planes of a view whose flats have other numbers are built alike, and counted alike.
-use Rattle.std.proofs.Common.{◌≡◌, ℕ, zero, suc, ◌+◌, ◌-◌, Bool, true, false, cond, List, [], ◌∷◌, ◌++◌, map, Option, Some, None, refl, ap, ◌∙◌}
-use Rattle.std.specs.Prelude.{⊤, slice_get, slice_set}
-use Rattle.std.specs.Option.{option_map}
-use Rattle.std.specs.List.{AllByRecursion}
-use Rattle.std.proofs.lemmas.List.{length-map}
+use Rattle.word_rules.proofs.Common.{[], AllByRecursion, ap, Bool, cond, false, length-map, List, map, None, Option, option_map, refl, slice_get, slice_set, Some, suc, true, zero, ℕ, ⊤, ◌++◌, ◌+◌, ◌-◌, ◌∙◌, ◌∷◌, ◌≡◌}
 use Rattle.picture_rules.specs.declared.plane.PlaneKey.{PlaneKey}
 use Rattle.picture_rules.specs.plane.Planes.{Plane, add, check, check_plane, check_some, empty_plane, find, is_free, mark, mark_some, number_of, number_or_add, with_run}
 use Rattle.picture_rules.specs.plane.Built.{PlaneEvent, Finds, Draws, PlaneWall, PlanesNow, after_event, after_events, ceiling_checked, ceiling_found, checked_plane, column_marked, columns_marked, floor_checked, floor_found, no_planes, plane_counts, planes_of, set_run, wall_marked, with_ceiling, with_floor}

@@ -1,9 +1,5 @@
 -- Sprites whose lumps have other numbers: made and put in order alike, and the same dots of sprites and weapons.
-use Rattle.std.proofs.Common.{◌≡◌, ℕ, ◌++◌, Bool, true, false, cond, nat_lt, ℤ, pos, List, [], ◌∷◌, map, length, Option, Some, None, int_le, refl, sym}
-use Rattle.std.specs.Prelude.{◌&&◌}
-use Rattle.std.specs.Option.{option_map}
-use Rattle.std.specs.List.{position_or_len}
-use Rattle.std.proofs.lemmas.List.{length-map, map-append}
+use Rattle.word_rules.proofs.Common.{[], Bool, cond, false, int_le, length, length-map, List, map, map-append, nat_lt, None, Option, option_map, pos, position_or_len, refl, Some, sym, true, ℕ, ℤ, ◌&&◌, ◌++◌, ◌∷◌, ◌≡◌}
 use Rattle.word_rules.specs.Words.{minus, greater_word, lesser_word}
 use Rattle.view_rules.specs.View.{ViewValue}
 use Rattle.pixel_rules.specs.Art.{Art, lump_source, painter_of}

@@ -1,7 +1,5 @@
 -- Art whose lumps have other numbers: the same dots of masked middles, and of the whole masked pass.
-use Rattle.std.proofs.Common.{◌≡◌, ℕ, zero, suc, ◌+◌, Bool, true, false, cond, List, [], ◌∷◌, map, length, filter, Option, Some, None, slice_get, refl, ap, sym, ◌∙◌}
-use Rattle.std.specs.Prelude.{◌==◌, ◌&&◌}
-use Rattle.std.proofs.lemmas.List.{map-append}
+use Rattle.word_rules.proofs.Common.{[], ap, Bool, cond, false, filter, length, List, map, map-append, None, Option, refl, slice_get, Some, suc, sym, true, zero, ℕ, ◌&&◌, ◌+◌, ◌==◌, ◌∙◌, ◌∷◌, ◌≡◌}
 use Rattle.word_rules.specs.Listed.{joined_lists, listed_from}
 use Rattle.view_rules.specs.View.{ViewValue}
 use Rattle.view_rules.specs.Lights.{scale_map}

@@ -1,6 +1,5 @@
 -- The numbers of a fragment whose sectors' flats have other numbers are the same.
-use Rattle.std.proofs.Common.{◌≡◌, ℕ, Bool, ℤ, Option, Some, None, refl}
-use Rattle.std.specs.Option.{option_map}
+use Rattle.word_rules.proofs.Common.{Bool, None, Option, option_map, refl, Some, ℕ, ℤ, ◌≡◌}
 use Rattle.view_rules.specs.View.{ViewValue}
 use Rattle.level_rules.specs.declared.Surface.{Surface}
 use Rattle.level_rules.specs.Levels.{sky_flat}

@@ -1,9 +1,6 @@
 -- The picture of a view does not depend on the numbers of lumps: its dots are the same but for the source that their
 -- painters name, and its cells and its counts are the same.
-use Rattle.std.proofs.Common.{◌≡◌, ℕ, ◌+◌, ◌-◌, ◌/◌, ◌%◌, ◌++◌, Bool, true, false, cond, List, [], ◌∷◌, map, Option, None, refl, ap, sym, ◌∙◌}
-use Rattle.std.specs.Option.{option_map}
-use Rattle.std.specs.List.{AllByRecursion}
-use Rattle.std.proofs.lemmas.List.{length-map, map-append}
+use Rattle.word_rules.proofs.Common.{[], AllByRecursion, ap, Bool, cond, false, length-map, List, map, map-append, None, Option, option_map, refl, sym, true, ℕ, ◌%◌, ◌++◌, ◌+◌, ◌-◌, ◌/◌, ◌∙◌, ◌∷◌, ◌≡◌}
 use Rattle.word_rules.specs.Listed.{joined_lists, listed}
 use Rattle.view_rules.specs.View.{ViewValue}
 use Rattle.view_rules.specs.declared.TheConstants.{FRAME_WIDTH}

@@ -1,10 +1,5 @@
 -- Planes whose flats have other numbers: they are found, checked and marked alike, where the numbers are one to one.
-use Rattle.std.proofs.Common.{◌≡◌, ℕ, zero, suc, Bool, true, false, cond, List, [], ◌∷◌, map, length, Option, Some, None, refl, ap, ◌∙◌}
-use Rattle.std.specs.Prelude.{◌==◌, ⊤, slice_get, slice_set}
-use Rattle.std.specs.Option.{option_map}
-use Rattle.std.specs.List.{AllByRecursion, position_or_len}
-use Rattle.std.proofs.lemmas.List.{map-append}
-use Rattle.std.proofs.lemmas.Option.{slice_get-map}
+use Rattle.word_rules.proofs.Common.{[], AllByRecursion, ap, Bool, cond, false, length, List, map, map-append, None, Option, option_map, position_or_len, refl, slice_get, slice_get-map, slice_set, Some, suc, true, zero, ℕ, ⊤, ◌==◌, ◌∙◌, ◌∷◌, ◌≡◌}
 use Rattle.picture_rules.specs.declared.plane.Flat4.{Flat4}
 use Rattle.picture_rules.specs.declared.plane.Flat4.TheVariants.{Sky, Lump}
 use Rattle.picture_rules.specs.declared.plane.PlaneKey.{PlaneKey}

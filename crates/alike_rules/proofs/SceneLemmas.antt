@@ -1,7 +1,5 @@
 -- A scene whose lumps have other numbers: the same drawn fragments, sprites and steps of planes, under the other numbers.
-use Rattle.std.proofs.Common.{◌≡◌, ℕ, zero, suc, ◌+◌, Bool, true, false, cond, ℤ, pos, List, [], ◌∷◌, map, Option, Some, None, slice_index_or, refl, ap, ◌∙◌}
-use Rattle.std.specs.Option.{option_map}
-use Rattle.std.specs.List.{AllByRecursion}
+use Rattle.word_rules.proofs.Common.{[], AllByRecursion, ap, Bool, cond, false, funext, List, map, None, Option, option_map, pos, refl, slice_index_or, Some, suc, true, zero, ℕ, ℤ, ◌+◌, ◌∙◌, ◌∷◌, ◌≡◌}
 use Rattle.view_rules.specs.View.{ViewValue}
 use Rattle.level_rules.specs.declared.PlacedThing.{PlacedThing}
 use Rattle.level_rules.specs.declared.Surface.{Surface}
@@ -38,7 +36,6 @@ use Rattle.alike_rules.proofs.PlaneLemmas.{IsFlatOf, IsOneToOne, moved_plane}
 use Rattle.alike_rules.proofs.StripLemmas.{bottom_clip-same, ceiling_marks-same, column-same, floor_marks-same, moved_wall, openings-same, top_clip-same}
 use Rattle.alike_rules.proofs.SurfaceLemmas.{IsSurfaceOf, ceiling_key-moved, floor_key-moved, moved_surface}
 use Rattle.alike_rules.proofs.WalkLemmas.{AreMoved, events-same, with_surfaces}
-use Rattle.word_rules.proofs.Logic.{funext}
 
 abbrev pub moved_level : (ℕ → ℕ) → LevelLists → LevelLists
 moved_level σ level = with_surfaces level (map (moved_surface σ) level.surfaces)

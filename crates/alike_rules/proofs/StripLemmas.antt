@@ -1,9 +1,6 @@
 -- Drawn fragments of sectors whose flats have other numbers: the same columns, and the same dots of walls.
-use Rattle.std.proofs.Common.{◌≡◌, ℕ, zero, suc, ℤ, List, map, Option, Some, None, slice_get, refl, ap, ◌∙◌}
-use Rattle.std.specs.Option.{option_map}
-use Rattle.std.proofs.lemmas.Option.{slice_get-map}
+use Rattle.word_rules.proofs.Common.{ap, funext, List, map, None, Option, option_map, refl, slice_get, slice_get-map, Some, suc, zero, ℕ, ℤ, ◌∙◌, ◌≡◌}
 use Rattle.word_rules.specs.Listed.{listed_from}
-use Rattle.word_rules.proofs.Logic.{funext}
 use Rattle.view_rules.specs.View.{ViewValue}
 use Rattle.view_rules.specs.declared.ViewShape.{ViewShape}
 use Rattle.pixel_rules.specs.Art.{Art}

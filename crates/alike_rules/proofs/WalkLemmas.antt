@@ -1,6 +1,5 @@
 -- The walk of a level whose flats have other numbers meets the same leaves and fragments.
-use Rattle.std.proofs.Common.{◌≡◌, ℕ, zero, suc, ◌+◌, Bool, true, false, cond, List, Option, Some, None, refl, ap, ◌∙◌}
-use Rattle.std.specs.Option.{option_map}
+use Rattle.word_rules.proofs.Common.{ap, Bool, cond, false, List, None, Option, option_map, refl, Some, suc, true, zero, ℕ, ◌+◌, ◌∙◌, ◌≡◌}
 use Rattle.view_rules.specs.View.{ViewValue}
 use Rattle.level_rules.specs.declared.Child.{Child}
 use Rattle.level_rules.specs.declared.Child.TheVariants.{Node as NodeChild, Leaf as LeafChild}

@@ -1,7 +1,5 @@
 -- Laws of the sweep over the columns: `fine_of_column` from one column to the next.
-use Rattle.std.proofs.Common.{◌≡◌, ℕ, ◌<◌, ◌≤◌, Bool, false, Option, Some, None, ℤ, pos, refl, arith}
-use Rattle.std.specs.Prelude.{int_le, unwrap_or}
-use Rattle.std.proofs.lemmas.Int.{ints}
+use Rattle.word_rules.proofs.Common.{arith, Bool, false, int_le, ints, None, Option, pos, refl, Some, unwrap_or, ℕ, ℤ, ◌<◌, ◌≡◌, ◌≤◌}
 use Rattle.word_rules.specs.Least.{least}
 use Rattle.word_rules.proofs.LeastLemmas.{least-is}
 use Rattle.view_rules.specs.declared.TheConstants.{TANGENTS}

@@ -1,8 +1,6 @@
 -- Laws of `each_of`.
-use Rattle.std.proofs.Common.{◌≡◌, ℕ, zero, suc, ◌+◌, ◌<◌, List, [], ◌∷◌, ◌++◌, length, take, Result, Ok, Err, refl, sym, ap, ◌∙◌, arith, add-zero, zero-add}
-use Rattle.std.specs.List.{range_with_len}
+use Rattle.word_rules.proofs.Common.{[], add-zero, ap, arith, Err, length, List, Ok, range_with_len, refl, Result, suc, sym, take, take_more_set, zero, zero-add, ℕ, ◌++◌, ◌+◌, ◌<◌, ◌∙◌, ◌∷◌, ◌≡◌}
 use Rattle.std.proofs.Math.ListN.{set}
-use Rattle.std.proofs.lemmas.List.{take_more_set}
 use Rattle.outside.specs.Faults.{and_then}
 use Rattle.art_rules.specs.Books.{each_of}
 

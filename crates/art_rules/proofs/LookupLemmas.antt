@@ -1,10 +1,5 @@
 -- Laws of what each column of a texture is read from, and of the composite.
-use Rattle.std.proofs.Common.{◌≡◌, ℕ, suc, ◌+◌, ◌*◌, ◌<◌, ◌^◌, ◌==◌, true, ℤ, List, [], ◌∷◌, ◌++◌, length, take, replicate, Some, refl, ap, sym, ◌∙◌, arith}
-use Rattle.std.specs.Prelude.{nat_lt, slice_get, slice_index_or, bit_and}
-use Rattle.std.proofs.lemmas.Bool.Decides.{nat_tests}
-use Rattle.std.proofs.lemmas.List.{get_or_default, get_or-replicate, length-append, length-replicate, replicate-append-replicate, take_all}
-use Rattle.std.proofs.lemmas.Nat.{and_le_r}
-use Rattle.std.proofs.lemmas.Option.{slice_get-get_or}
+use Rattle.word_rules.proofs.Common.{[], and_le_r, ap, arith, bit_and, get_or-replicate, get_or_default, length, length-append, length-replicate, List, nat_lt, nat_tests, refl, replicate, replicate-append-replicate, slice_get, slice_get-get_or, slice_index_or, Some, suc, sym, take, take_all, true, ℕ, ℤ, ◌*◌, ◌++◌, ◌+◌, ◌<◌, ◌==◌, ◌^◌, ◌∙◌, ◌∷◌, ◌≡◌}
 use Rattle.word_rules.specs.Listed.{joined_lists}
 use Rattle.word_rules.specs.Words.{bits_of}
 use Rattle.word_rules.proofs.ListedLemmas.{get_or-listed, length-listed, listed-all}

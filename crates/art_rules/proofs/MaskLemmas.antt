@@ -1,7 +1,5 @@
 -- The law of `mask_of`: 1 less than the greatest power of two that is at most the width.
-use Rattle.std.proofs.Common.{◌≡◌, ℕ, zero, suc, ◌+◌, ◌-◌, ◌^◌, ◌<◌, ◌≤◌, Bool, true, false, refl, arith, add-one}
-use Rattle.std.specs.Prelude.{nat_lt, if◌then◌else◌}
-use Rattle.std.proofs.lemmas.Bool.Decides.{nat_tests}
+use Rattle.word_rules.proofs.Common.{add-one, arith, Bool, false, if◌then◌else◌, nat_lt, nat_tests, refl, suc, true, zero, ℕ, ◌+◌, ◌-◌, ◌<◌, ◌^◌, ◌≡◌, ◌≤◌}
 use Rattle.art_rules.specs.Textures.{mask_from, mask_of}
 
 pub record IsMask (width mask : ℕ) : Type 0 where

@@ -1,7 +1,5 @@
 -- A scene that may be drawn may be counted.
-use Rattle.std.proofs.Common.{ℕ, ◌≤◌, List, [], ◌∷◌, length, arith}
-use Rattle.std.specs.Prelude.{All}
-use Rattle.std.proofs.lemmas.List.Elements.{All-cons, All-head, All-nil, All-tail}
+use Rattle.word_rules.proofs.Common.{[], All, All-cons, All-head, All-nil, All-tail, arith, length, List, ℕ, ◌∷◌, ◌≤◌}
 use Rattle.lump_rules.specs.declared.wad.Lump.{Lump}
 use Rattle.zone_rules.specs.Zones.{Heap}
 use Rattle.level_rules.specs.declared.Sector.{Sector}

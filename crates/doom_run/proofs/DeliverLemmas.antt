@@ -1,6 +1,5 @@
 -- What is done with a level that is loaded, by what was written, read and painted.
-use Rattle.std.proofs.Common.{◌≡◌, ◌≤◌, ℕ, true, List, [], length, Result, Ok, refl, arith, ap, sym, subst}
-use Rattle.std.specs.Prelude.{All}
+use Rattle.word_rules.proofs.Common.{[], All, ap, arith, length, List, Ok, refl, Result, subst, sym, true, ℕ, ◌≡◌, ◌≤◌}
 use Rattle.outside.specs.Causes.{FaultsRose}
 use Rattle.outside.specs.Faults.{HasCauseAt, and_then, from_below}
 use Rattle.outside.specs.Shelf.{File, ShelfView}

@@ -1,6 +1,5 @@
 -- A zone that is full while a scene is drawn: for which block, and how small it is.
-use Rattle.std.proofs.Common.{◌≡◌, ◌+◌, ◌<◌, ℕ, List, Some, Ok, arith, subst, inl, inr}
-use Rattle.std.specs.Prelude.{◌⊎◌}
+use Rattle.word_rules.proofs.Common.{arith, inl, inr, List, Ok, Some, subst, ℕ, ◌+◌, ◌<◌, ◌≡◌, ◌⊎◌}
 use Rattle.outside.specs.Shelf.{File}
 use Rattle.outside.proofs.AnswerLemmas.{and_then-ok}
 use Rattle.lump_rules.specs.Lookups.{lump_at}

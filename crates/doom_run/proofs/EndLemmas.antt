@@ -1,6 +1,5 @@
 -- What a status says of a run, by what its steps gave.
-use Rattle.std.proofs.Common.{◌≡◌, ℕ, Bool, List, [], Option, Some, Result, Ok, Err, refl, sym, ap, subst}
-use Rattle.std.specs.Prelude.{MatchResult, unwrap_or}
+use Rattle.word_rules.proofs.Common.{[], ap, Bool, Err, List, MatchResult, Ok, Option, refl, Result, Some, subst, sym, unwrap_or, ℕ, ◌≡◌}
 use Rattle.outside.specs.Sink.{Grew, GrewByPrefix}
 use Rattle.outside.specs.Shelf.{File}
 use Rattle.outside.specs.Faults.{from_below}

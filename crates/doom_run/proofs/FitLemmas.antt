@@ -1,6 +1,5 @@
 -- What the frames that are due are painted from stands beside COLORMAP.
-use Rattle.std.proofs.Common.{◌≡◌, ◌<◌, ℕ, Bool, List, length, Option, Some, None, IfSome, slice_get, unwrap_or, Result, Err, sym, subst}
-use Rattle.std.specs.Prelude.{option_map}
+use Rattle.word_rules.proofs.Common.{Bool, Err, IfSome, length, List, None, Option, option_map, Result, slice_get, Some, subst, sym, unwrap_or, ℕ, ◌<◌, ◌≡◌}
 use Rattle.outside.specs.Shelf.{ShelfView}
 use Rattle.lump_rules.specs.Contents.{lump_bytes}
 use Rattle.view_rules.specs.declared.Eye.{Eye}

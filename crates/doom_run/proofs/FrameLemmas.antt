@@ -1,9 +1,5 @@
 -- One view of a path, and the views one after the other.
-use Rattle.std.proofs.Common.{◌≡◌, ◌<◌, ◌≤◌, ◌+◌, ◌-◌, ℕ, zero, suc, Bool, true, IsTrue, List, [], ◌∷◌, ◌++◌, length, take, drop, get_or, Option, Some, None, is_some, option_map, option_and_then, slice_get, unwrap_or, Result, Ok, Err, IfErr, IfSome, OnOk, refl, ap, sym, ◌∙◌, subst, arith, add-one, append-nil, inl, inr}
-use Rattle.std.specs.Option.{option_map_or}
-use Rattle.std.proofs.lemmas.Bool.{cases_lt}
-use Rattle.std.proofs.lemmas.Option.{slice_get_within, get_or_from_slice_get}
-use Rattle.std.proofs.Math.Seq.{take-suc}
+use Rattle.word_rules.proofs.Common.{[], add-one, ap, append-nil, arith, Bool, cases_lt, drop, Err, get_or, get_or_from_slice_get, IfErr, IfSome, inl, inr, is_some, IsTrue, length, List, None, Ok, OnOk, Option, option_and_then, option_map, option_map_or, refl, Result, slice_get, slice_get_within, Some, subst, suc, sym, take, take-suc, true, unwrap_or, zero, ℕ, ◌++◌, ◌+◌, ◌-◌, ◌<◌, ◌∙◌, ◌∷◌, ◌≡◌, ◌≤◌}
 use Rattle.word_rules.specs.Least.{least}
 use Rattle.word_rules.specs.Listed.{joined_lists}
 use Rattle.word_rules.proofs.LeastLemmas.{least-none, least-some, least-is}

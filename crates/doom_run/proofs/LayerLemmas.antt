@@ -1,6 +1,5 @@
 -- A row of the weapon table as a layer, and the light of a viewpoint.
-use Rattle.std.proofs.Common.{◌≡◌, ℕ, suc, ℤ, List, [], ◌∷◌, length, Option, Some, None, option_map, refl, ap, sym, ◌∙◌, arith}
-use Rattle.std.specs.Prelude.{slice_index_or}
+use Rattle.word_rules.proofs.Common.{[], ap, arith, length, List, None, Option, option_map, refl, slice_index_or, Some, suc, sym, ℕ, ℤ, ◌∙◌, ◌∷◌, ◌≡◌}
 use Rattle.view_rules.specs.declared.Eye.{Eye}
 use Rattle.level_rules.specs.declared.Surface.{Surface}
 use Rattle.level_rules.specs.declared.Sector.{Sector}

@@ -1,10 +1,5 @@
 -- Where all of which a least zone is the greatest stands beside COLORMAP, the zone is no smaller.
-use Rattle.std.proofs.Common.{◌≡◌, ◌≢◌, ℕ, zero, suc, ◌+◌, ◌<◌, ◌≤◌, Bool, true, false, cond, List, [], ◌∷◌, length, take, Option, Some, None, Ok, IfSome, refl, sym, ap, subst, ◌∙◌, arith, inl, inr, eq-eqb, eqb-true}
-use Rattle.std.specs.Prelude.{◌||◌, ◌==◌, slice_get, unwrap_or}
-use Rattle.std.specs.List.{AllByRecursion, range_with_len}
-use Rattle.std.specs.Option.{option_map_or}
-use Rattle.std.proofs.lemmas.Bool.{cases_lt, or_cases}
-use Rattle.std.proofs.lemmas.Bool.Decides.{nat_tests}
+use Rattle.word_rules.proofs.Common.{[], AllByRecursion, ap, arith, Bool, cases_lt, cond, eq-eqb, eqb-true, false, IfSome, inl, inr, length, List, nat_tests, None, Ok, Option, option_map_or, or_cases, range_with_len, refl, slice_get, Some, subst, suc, sym, take, true, unwrap_or, zero, ℕ, ◌+◌, ◌<◌, ◌==◌, ◌||◌, ◌∙◌, ◌∷◌, ◌≡◌, ◌≢◌, ◌≤◌}
 use Rattle.outside.specs.Shelf.{File}
 use Rattle.outside.proofs.AnswerLemmas.{and_then-ok}
 use Rattle.lump_rules.specs.declared.wad.Lump.{Lump}

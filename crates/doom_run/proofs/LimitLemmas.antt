@@ -1,6 +1,5 @@
 -- The lines of the views of a path, one after the other.
-use Rattle.std.proofs.Common.{◌≡◌, ◌≤◌, ℕ, ◌+◌, List, length, Some, None, Result, Ok, refl, subst, ap, sym, ◌∙◌}
-use Rattle.std.specs.Prelude.{slice_get}
+use Rattle.word_rules.proofs.Common.{ap, length, List, None, Ok, refl, Result, slice_get, Some, subst, sym, ℕ, ◌+◌, ◌∙◌, ◌≡◌, ◌≤◌}
 use Rattle.outside.specs.Sink.{Grew, GrewByPrefix, Writes}
 use Rattle.view_rules.specs.declared.Eye.{Eye}
 use Rattle.view_rules.specs.View.{view_of}

@@ -1,8 +1,5 @@
 -- The lines of the items of a view, and those of the views of a path.
-use Rattle.std.proofs.Common.{Some, None, Ok, subst, ◌≡◌, ◌<◌, ◌≤◌, ℕ, suc, ◌+◌, List, [], ◌∷◌, ◌++◌, length, get_or, take, drop, refl, ap, sym, ◌∙◌, arith, append_assoc, append-nil, add-zero}
-use Rattle.std.proofs.Math.Seq.{drop-cons}
-use Rattle.std.proofs.lemmas.List.{length-take-le, take-append-drop, take_more}
-use Rattle.std.specs.Prelude.{Result, slice_get}
+use Rattle.word_rules.proofs.Common.{[], add-zero, ap, append-nil, append_assoc, arith, drop, drop-cons, get_or, length, length-take-le, List, None, Ok, refl, Result, slice_get, Some, subst, suc, sym, take, take-append-drop, take_more, ℕ, ◌++◌, ◌+◌, ◌<◌, ◌∙◌, ◌∷◌, ◌≡◌, ◌≤◌}
 use Rattle.outside.specs.Sink.{Grew, GrewByPrefix, Writes}
 use Rattle.outside.proofs.WriteLemmas.{writes_none}
 use Rattle.picture_rules.specs.declared.Counts.{Counts}

@@ -1,7 +1,5 @@
 -- What the made files give: they are held, and their path is not long.
-use Rattle.std.proofs.Common.{◌≡◌, ℕ, ◌<◌, ◌≤◌, true, IsTrue, List, [], ◌∷◌, length, Some, None, Result, Ok, Err, refl, subst, ap, sym, ◌∙◌, arith}
-use Rattle.std.specs.Prelude.{nat_lt, codes}
-use Rattle.std.proofs.lemmas.Bool.Decides.{nat_tests}
+use Rattle.word_rules.proofs.Common.{[], ap, arith, codes, Err, IsTrue, length, List, nat_lt, nat_tests, None, Ok, refl, Result, Some, subst, sym, true, ℕ, ◌<◌, ◌∙◌, ◌∷◌, ◌≡◌, ◌≤◌}
 use Rattle.outside.specs.MemoryShelf.{ShelfInMemory, memory_view}
 use Rattle.outside.specs.Shelf.{File, Holds, file_named}
 use Rattle.outside.specs.Faults.{and_then, from_below}

@@ -1,6 +1,5 @@
 -- The layers of a view by the dots that a canvas was given, and the view with its layers.
-use Rattle.std.proofs.Common.{◌≡◌, ◌⊎◌, ℕ, ℤ, List, [], Option, Some, None, Result, Ok, Err, IsErrAnd, refl, sym, ap, subst, ◌∙◌, arith, inl, inr}
-use Rattle.std.specs.Prelude.{Contains}
+use Rattle.word_rules.proofs.Common.{[], ap, arith, Contains, Err, inl, inr, IsErrAnd, List, None, Ok, Option, refl, Result, Some, subst, sym, ℕ, ℤ, ◌∙◌, ◌≡◌, ◌⊎◌}
 use Rattle.outside.specs.Shelf.{ShelfView}
 use Rattle.outside.specs.Faults.{fault_above}
 use Rattle.word_rules.specs.Listed.{joined_lists}

@@ -1,10 +1,5 @@
 -- The pictures of weapon layers are in the directory, and are needed.
-use Rattle.std.proofs.Common.{◌≡◌, ◌<◌, ℕ, true, List, [], ◌∷◌, ◌++◌, length, map, Option, Some, None, refl, subst, ◌∙◌, inl, inr, eq-eqb}
-use Rattle.std.specs.Prelude.{All, Contains, ◌==◌}
-use Rattle.std.specs.List.{list_any}
-use Rattle.std.proofs.lemmas.Bool.{or_right}
-use Rattle.std.proofs.lemmas.List.Elements.{All-head, All-tail, Contains-append_cases}
-use Rattle.std.proofs.lemmas.List.Folds.{list_any-append}
+use Rattle.word_rules.proofs.Common.{[], All, All-head, All-tail, Contains, Contains-append_cases, eq-eqb, inl, inr, length, List, list_any, list_any-append, map, None, Option, or_right, refl, Some, subst, true, ℕ, ◌++◌, ◌<◌, ◌==◌, ◌∙◌, ◌∷◌, ◌≡◌}
 use Rattle.word_rules.specs.Listed.{joined_lists}
 use Rattle.lump_rules.specs.declared.wad.Lump.{Lump}
 use Rattle.art_rules.specs.declared.shapes.Frame.{Frame}

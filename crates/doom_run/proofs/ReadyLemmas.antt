@@ -1,6 +1,5 @@
 -- What stays while views are drawn.
-use Rattle.std.proofs.Common.{◌≡◌, ◌⊎◌, ℕ, Bool, List, Option, Result, Err, IfErr, length, refl, ap, sym, ◌∙◌, subst, inl, inr}
-use Rattle.std.specs.Prelude.{Contains}
+use Rattle.word_rules.proofs.Common.{ap, Bool, Contains, Err, IfErr, inl, inr, length, List, Option, refl, Result, subst, sym, ℕ, ◌∙◌, ◌≡◌, ◌⊎◌}
 use Rattle.outside.specs.Shelf.{ShelfView}
 use Rattle.zone_rules.specs.Zones.{Heap, block_size}
 use Rattle.art_rules.specs.declared.shapes.Frame.{Frame}

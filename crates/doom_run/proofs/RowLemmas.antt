@@ -1,11 +1,5 @@
 -- The layers of the rows of a weapon table, one row after the other, and their pictures.
-use Rattle.std.proofs.Common.{◌≡◌, ◌≢◌, ◌<◌, ◌+◌, ℕ, zero, suc, ℤ, Bool, true, false, cond, List, [], ◌∷◌, ◌++◌, Option, Some, None, length, map, take, get_or, refl, sym, ap, subst, ◌∙◌, arith, append_assoc, append-nil, eq-eqb}
-use Rattle.std.specs.Prelude.{◌==◌, Contains, find, option_map, slice_get}
-use Rattle.std.specs.Option.{option_and_then, option_to_list}
-use Rattle.std.proofs.Math.Seq.{take-length}
-use Rattle.std.proofs.lemmas.Bool.{ne_eqb}
-use Rattle.std.proofs.lemmas.List.{length-take, take_more}
-use Rattle.std.proofs.lemmas.List.Elements.{Contains-append_left, Contains-append_right}
+use Rattle.word_rules.proofs.Common.{[], ap, append-nil, append_assoc, arith, Bool, cond, Contains, Contains-append_left, Contains-append_right, eq-eqb, false, find, get_or, length, length-take, List, map, ne_eqb, None, Option, option_and_then, option_map, option_to_list, refl, slice_get, Some, subst, suc, sym, take, take-length, take_more, true, zero, ℕ, ℤ, ◌++◌, ◌+◌, ◌<◌, ◌==◌, ◌∙◌, ◌∷◌, ◌≡◌, ◌≢◌}
 use Rattle.word_rules.specs.Listed.{joined_lists}
 use Rattle.word_rules.proofs.ListedLemmas.{joined_lists-append, joined_lists-cons}
 use Rattle.view_rules.specs.View.{ViewValue}

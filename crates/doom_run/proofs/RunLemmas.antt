@@ -1,6 +1,5 @@
 -- What a status tells of the output, and what a verdict tells of the status.
-use Rattle.std.proofs.Common.{◌≡◌, ◌⊎◌, inl, inr, ℕ, Bool, IsTrue, List, [], Result, Ok, Err, refl, sym, ap, ◌∙◌, subst}
-use Rattle.std.specs.Prelude.{MatchResult}
+use Rattle.word_rules.proofs.Common.{[], ap, Bool, Err, inl, inr, IsTrue, List, MatchResult, Ok, refl, Result, subst, sym, ℕ, ◌∙◌, ◌≡◌, ◌⊎◌}
 use Rattle.outside.specs.Sink.{Grew, GrewByPrefix}
 use Rattle.outside.proofs.WriteLemmas.{grew_whole, prefix_of_none}
 use Rattle.refusals.specs.declared.refusal.Refusal.{Refusal}

@@ -1,6 +1,5 @@
 -- What the run of words says, whether they are a command or not.
-use Rattle.std.proofs.Common.{◌≡◌, ◌≤◌, ◌⊎◌, inl, inr, ℕ, Bool, false, IsTrue, List, [], Option, None, Some, Result, Ok, Err, IfSome, refl}
-use Rattle.std.specs.Option.{option_map_or}
+use Rattle.word_rules.proofs.Common.{[], Bool, Err, false, IfSome, inl, inr, IsTrue, List, None, Ok, Option, option_map_or, refl, Result, Some, ℕ, ◌≡◌, ◌≤◌, ◌⊎◌}
 use Rattle.outside.specs.Causes.{FaultsRose}
 use Rattle.outside.specs.Faults.{and_then, from_below}
 use Rattle.outside.specs.Shelf.{File, Holds, ShelfView}

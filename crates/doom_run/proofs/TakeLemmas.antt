@@ -1,6 +1,5 @@
 -- How many bytes are read while a zone stays in order.
-use Rattle.std.proofs.Common.{◌≡◌, ◌≤◌, ◌+◌, ℕ, List, Option, Result, Err, refl, arith, MatchResult, ◌⊎◌, inl, inr}
-use Rattle.std.specs.Prelude.{Contains}
+use Rattle.word_rules.proofs.Common.{arith, Contains, Err, inl, inr, List, MatchResult, Option, refl, Result, ℕ, ◌+◌, ◌≡◌, ◌≤◌, ◌⊎◌}
 use Rattle.outside.specs.Causes.{FaultsRose}
 use Rattle.outside.specs.Shelf.{ShelfView}
 use Rattle.outside.specs.Faults.{HasCauseAt}

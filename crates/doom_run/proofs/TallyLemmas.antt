@@ -1,9 +1,5 @@
 -- The bytes of frames, counted.
-use Rattle.std.proofs.Common.{◌≡◌, ◌≤◌, ℕ, ◌+◌, ◌*◌, ◌/◌, ◌%◌, ◌^◌, ◌++◌, true, List, [], ◌∷◌, length, Option, Some, None, refl, ap, sym, ◌∙◌, arith}
-use Rattle.std.specs.Prelude.{codes, is_some}
-use Rattle.std.specs.List.{flat_map}
-use Rattle.std.proofs.Math.Seq.{take-length}
-use Rattle.std.proofs.lemmas.List.{length-append, length-map}
+use Rattle.word_rules.proofs.Common.{[], ap, arith, codes, flat_map, is_some, length, length-append, length-map, List, None, Option, refl, Some, sym, take-length, true, ℕ, ◌%◌, ◌*◌, ◌++◌, ◌+◌, ◌/◌, ◌^◌, ◌∙◌, ◌∷◌, ◌≡◌, ◌≤◌}
 use Rattle.outside.specs.Sink.{Grew}
 use Rattle.outside.specs.TallySink.{IsTallyOf, Tally}
 use Rattle.word_rules.specs.Listed.{joined_lists}

@@ -1,7 +1,5 @@
 -- What a trimmed file that is written says of a run.
-use Rattle.std.proofs.Common.{◌≡◌, ◌<◌, ℕ, Bool, true, IsTrue, List, length, Option, None, Some, Result, Ok, Err, refl, ap, sym, subst, ◌∙◌, inl}
-use Rattle.std.specs.Prelude.{All, OnErr, OnOk}
-use Rattle.std.proofs.lemmas.List.Elements.{All-contains}
+use Rattle.word_rules.proofs.Common.{All, All-contains, ap, Bool, Err, inl, IsTrue, length, List, None, Ok, OnErr, OnOk, Option, refl, Result, Some, subst, sym, true, ℕ, ◌<◌, ◌∙◌, ◌≡◌}
 use Rattle.outside.specs.Faults.{from_below}
 use Rattle.outside.specs.Shelf.{File}
 use Rattle.outside.specs.Sink.{Grew, GrewByPrefix}

@@ -1,14 +1,9 @@
 -- Laws of what the masked pass reads of a drawn fragment: its clips where it has a silhouette or is masked, and its texture columns where it is masked.
-use Rattle.std.proofs.Common.{◌≡◌, ℕ, zero, suc, ◌+◌, Bool, true, false, cond, ℤ, pos, List, [], ◌∷◌, ◌++◌, map, length, Option, Some, None, refl, ap, sym, ◌∙◌}
-use Rattle.std.specs.Prelude.{slice_get, option_map, not, int_lt, ◌||◌, ◌&&◌}
-use Rattle.std.specs.List.{AllZip, filter}
-use Rattle.std.proofs.lemmas.Bool.{and_parts}
-use Rattle.std.proofs.lemmas.List.{length-map}
+use Rattle.word_rules.proofs.Common.{[], AllZip, and_parts, ap, Bool, cond, false, filter, funext, int_lt, length, length-map, List, map, None, not, Option, option_map, pos, refl, slice_get, Some, suc, sym, true, zero, ℕ, ℤ, ◌&&◌, ◌++◌, ◌+◌, ◌||◌, ◌∙◌, ◌∷◌, ◌≡◌}
 use Rattle.word_rules.specs.Words.{minus_one}
 use Rattle.word_rules.specs.Least.{greatest}
 use Rattle.word_rules.specs.Listed.{listed_from, joined_lists}
 use Rattle.word_rules.proofs.LeastLemmas.{greatest-is}
-use Rattle.word_rules.proofs.Logic.{funext}
 use Rattle.view_rules.specs.View.{ViewValue}
 use Rattle.pixel_rules.specs.Art.{Art}
 use Rattle.pixel_rules.specs.Dots.{Dot}

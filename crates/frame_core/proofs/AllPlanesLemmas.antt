@@ -1,9 +1,5 @@
 -- Laws of a property of all planes after a leaf and after a fragment, and of the rows that a plane holds after one run more.
-use Rattle.std.proofs.Common.{◌≡◌, ℕ, zero, suc, ◌+◌, ◌-◌, ◌<◌, ◌≤◌, Bool, true, false, cond, ℤ, pos, negsuc, List, [], ◌∷◌, Option, Some, None, length, get_or, refl, ap, sym, ◌∙◌, subst, inl, inr, arith}
-use Rattle.std.specs.Prelude.{All, IfSome, nat_le, ◌&&◌, ◌⊎◌, ◌≤ℤ◌, ◌<ℤ◌, int_lt, slice_get, slice_set, slice_index_or}
-use Rattle.std.proofs.lemmas.Bool.Decides.{nat_tests}
-use Rattle.std.proofs.lemmas.Int.{ints}
-use Rattle.std.proofs.lemmas.List.Elements.{All-push, All-set}
+use Rattle.word_rules.proofs.Common.{[], All, All-push, All-set, ap, arith, Bool, cond, false, get_or, IfSome, inl, inr, int_lt, ints, length, List, nat_le, nat_tests, negsuc, None, Option, pos, refl, slice_get, slice_index_or, slice_set, Some, subst, suc, sym, true, zero, ℕ, ℤ, ◌&&◌, ◌+◌, ◌-◌, ◌<ℤ◌, ◌<◌, ◌∙◌, ◌∷◌, ◌≡◌, ◌≤ℤ◌, ◌≤◌, ◌⊎◌}
 use Rattle.word_rules.specs.Words.{natural}
 use Rattle.picture_rules.specs.declared.wall.RowRange.{RowRange}
 use Rattle.picture_rules.specs.wall.Strips.{marked_rows}

@@ -1,8 +1,5 @@
 -- Laws of counts: what a bench that the whole walk of a view is in counts is what the view counts.
-use Rattle.std.proofs.Common.{◌≡◌, ℕ, suc, ◌+◌, ◌≤◌, List, [], ◌∷◌, map, length, refl, ap, sym, ◌∙◌, arith}
-use Rattle.std.specs.Prelude.{None, sum}
-use Rattle.std.proofs.lemmas.List.{length-append, length-map, length-take}
-use Rattle.std.proofs.lemmas.List.Sums.{sum_by-cons}
+use Rattle.word_rules.proofs.Common.{[], ap, arith, length, length-append, length-map, length-take, List, map, None, refl, suc, sum, sum_by-cons, sym, ℕ, ◌+◌, ◌∙◌, ◌∷◌, ◌≡◌, ◌≤◌}
 use Rattle.view_rules.specs.View.{ViewValue}
 use Rattle.level_rules.specs.declared.walk.TheConstants.{MAX_DRAWSEGS}
 use Rattle.level_rules.specs.walk.Drawsegs.{drawsegs, leaf_fragments}

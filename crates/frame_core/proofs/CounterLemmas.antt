@@ -1,7 +1,5 @@
 -- Laws of a counter: an event that it was given after others, and a whole walk.
-use Rattle.std.proofs.Common.{◌≡◌, ℕ, List, [], ◌∷◌, ◌++◌, take, Some, Result, Ok, Err, OnOk, refl, sym, subst, ◌∙◌}
-use Rattle.std.specs.Prelude.{IfErr}
-use Rattle.std.proofs.lemmas.Result.{IfErr-weaker, on_ok_weaker}
+use Rattle.word_rules.proofs.Common.{[], Err, IfErr, IfErr-weaker, List, Ok, on_ok_weaker, OnOk, refl, Result, Some, subst, sym, take, ℕ, ◌++◌, ◌∙◌, ◌∷◌, ◌≡◌}
 use Rattle.view_rules.specs.View.{ViewValue}
 use Rattle.level_rules.specs.Levels.{LevelLists}
 use Rattle.level_rules.specs.walk.Events.{Event}

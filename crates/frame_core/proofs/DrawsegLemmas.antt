@@ -1,9 +1,5 @@
 -- The fragments that the notes of a view stand for are those of its picture, as far as the masked pass reads them.
-use Rattle.std.proofs.Common.{◌≡◌, ℕ, zero, suc, ◌+◌, ◌*◌, Bool, true, false, cond, ℤ, pos, List, [], ◌∷◌, ◌++◌, map, length, get_or, Option, Some, None, refl, ap, sym, ◌∙◌, subst, bit_and, arith}
-use Rattle.std.specs.Prelude.{option_map, not, is_some, slice_index_or, ◌||◌, ◌&&◌, ◌==◌, ◌-◌}
-use Rattle.std.specs.Int.{from_bool}
-use Rattle.std.specs.List.{AllZip, AllByRecursion}
-use Rattle.std.proofs.lemmas.List.{length-append, append_assoc}
+use Rattle.word_rules.proofs.Common.{[], AllByRecursion, AllZip, ap, append_assoc, arith, bit_and, Bool, cond, false, from_bool, get_or, is_some, length, length-append, List, map, None, not, Option, option_map, pos, refl, slice_index_or, Some, subst, suc, sym, true, zero, ℕ, ℤ, ◌&&◌, ◌*◌, ◌++◌, ◌+◌, ◌-◌, ◌==◌, ◌||◌, ◌∙◌, ◌∷◌, ◌≡◌}
 use Rattle.std.proofs.Math.ListN.{get_or-map}
 use Rattle.view_rules.specs.View.{ViewValue}
 use Rattle.level_rules.specs.declared.Seg.{Seg}

@@ -1,12 +1,5 @@
 -- For which block a zone is full while a scene is drawn, and that such a zone is smaller than enough.
-use Rattle.std.proofs.Common.{◌≡◌, ◌≢◌, ℕ, zero, suc, ◌+◌, ◌*◌, ◌<◌, ◌≤◌, Bool, true, false, List, [], ◌∷◌, ◌++◌, length, Option, Some, None, Result, Ok, Err, refl, sym, ap, subst, ◌∙◌, arith, inl, inr, eq-eqb}
-use Rattle.std.specs.Prelude.{◌⊎◌, ◌||◌, ◌==◌, cond, All, Contains, IfErr, IfSome, IsSome, slice_index_or, nat_lt, filter, unwrap_or}
-use Rattle.std.specs.List.{list_any, range_with_len}
-use Rattle.std.proofs.lemmas.Bool.{cases_lt, false≢true}
-use Rattle.std.proofs.lemmas.Bool.Decides.{nat_tests}
-use Rattle.std.proofs.lemmas.List.{append-nil, get_or_past}
-use Rattle.std.proofs.lemmas.List.Elements.{All-contains, All-contains_itself, All-filter, All-head, Contains-get_or}
-use Rattle.std.proofs.lemmas.List.Folds.{list_any-append}
+use Rattle.word_rules.proofs.Common.{[], All, All-contains, All-contains_itself, All-filter, All-head, ap, append-nil, arith, Bool, cases_lt, cond, Contains, Contains-get_or, eq-eqb, eq-false_positive, Err, false, false≢true, filter, get_or_past, IfErr, IfSome, inl, inr, IsSome, length, List, list_any, list_any-append, nat_lt, nat_tests, None, Ok, Option, range_with_len, refl, Result, slice_index_or, Some, subst, suc, sym, true, unwrap_or, zero, ℕ, ◌*◌, ◌++◌, ◌+◌, ◌<◌, ◌==◌, ◌||◌, ◌∙◌, ◌∷◌, ◌≡◌, ◌≢◌, ◌≤◌, ◌⊎◌}
 use Rattle.outside.specs.Causes.{FaultsRose}
 use Rattle.outside.specs.Faults.{HasCauseAt}
 use Rattle.outside.specs.Shelf.{ShelfView}
@@ -44,7 +37,6 @@ use Rattle.frame_core.specs.declared.fault.ViewFault.TheVariants.{Limit, ZoneFul
 use Rattle.frame_core.specs.Faults.{limit_of_view, view_fault}
 use Rattle.frame_core.specs.Views.{CanDrawView, IsViewLump, IsViewTexture}
 use Rattle.frame_core.proofs.RowLemmas.{textures_rows}
-use Rattle.word_rules.proofs.Logic.{eq-false_positive}
 
 -- none is greater than the greatest
 contained_greatest : {X : Type 0} (f : X → ℕ) (xs : List X) (x : X) → Contains xs x → f x ≤ greatest_by f xs

@@ -1,11 +1,5 @@
 -- The pictures of the vissprites of a view are those of its scene's book.
-use Rattle.std.proofs.Common.{◌≡◌, ℕ, zero, suc, ◌<◌, Bool, true, false, cond, List, [], ◌∷◌, ◌++◌, length, map, get_or, Option, Some, None, refl, sym, subst}
-use Rattle.std.specs.Prelude.{◌==◌, nat_lt, option_map, slice_get}
-use Rattle.std.specs.List.{AllByRecursion, find, list_any}
-use Rattle.std.specs.Option.{option_and_then}
-use Rattle.std.proofs.lemmas.Bool.{eq-eqb}
-use Rattle.std.proofs.lemmas.List.Elements.{All-from_recursion, recursion_from_All}
-use Rattle.std.proofs.lemmas.List.Folds.{list_any_at}
+use Rattle.word_rules.proofs.Common.{[], All-from_recursion, AllByRecursion, Bool, cond, eq-eqb, false, find, get_or, length, List, list_any, list_any_at, map, nat_lt, None, Option, option_and_then, option_map, recursion_from_All, refl, slice_get, Some, subst, suc, sym, true, zero, ℕ, ◌++◌, ◌<◌, ◌==◌, ◌∷◌, ◌≡◌}
 use Rattle.word_rules.specs.Listed.{joined_lists}
 use Rattle.word_rules.proofs.ListedLemmas.{joined_lists-cons}
 use Rattle.view_rules.specs.View.{ViewValue}

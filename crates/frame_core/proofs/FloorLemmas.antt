@@ -1,10 +1,5 @@
 -- Laws of the planes of a view: what drawing them asks is there, and what it paints is the view's.
-use Rattle.std.proofs.Common.{◌≡◌, inl, inr, ℕ, ◌<◌, ◌==◌, true, false, List, [], length, get_or, Option, Some, None, Result, eq-eqb, refl, sym, ap, subst, ◌∙◌, arith}
-use Rattle.std.specs.Prelude.{All, IfSome, IsSome, option_map, unwrap_or, ⊤}
-use Rattle.std.specs.List.{list_any}
-use Rattle.std.proofs.lemmas.Bool.{or_left, or_right}
-use Rattle.std.proofs.lemmas.List.Elements.{All-contains}
-use Rattle.std.proofs.lemmas.List.Folds.{list_any_at}
+use Rattle.word_rules.proofs.Common.{[], All, All-contains, ap, arith, eq-eqb, false, get_or, IfSome, inl, inr, IsSome, length, List, list_any, list_any_at, None, Option, option_map, or_left, or_right, refl, Result, Some, subst, sym, true, unwrap_or, ℕ, ⊤, ◌<◌, ◌==◌, ◌∙◌, ◌≡◌}
 use Rattle.lump_rules.specs.declared.wad.Lump.{Lump}
 use Rattle.lump_rules.specs.Contents.{lump_bytes}
 use Rattle.zone_rules.specs.Zones.{Heap}

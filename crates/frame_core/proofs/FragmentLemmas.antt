@@ -1,8 +1,5 @@
 -- Laws of a fragment that is stored: its textures may be drawn, what it paints, and the limit that its fault tells.
-use Rattle.std.proofs.Common.{◌≡◌, ℕ, ◌<◌, ◌≤◌, Bool, true, false, cond, List, [], Option, Some, Result, Ok, Err, IfErr, IsErrAnd, OnOk, length, refl, ap, sym, ◌∙◌, subst, inl, inr, arith}
-use Rattle.std.specs.Prelude.{◌≢◌, IfSome, nat_lt, ⊤}
-use Rattle.std.proofs.lemmas.Bool.{cases_lt}
-use Rattle.std.proofs.lemmas.Bool.Decides.{nat_tests}
+use Rattle.word_rules.proofs.Common.{[], ap, arith, Bool, cases_lt, cond, Err, false, IfErr, IfSome, inl, inr, IsErrAnd, length, List, nat_lt, nat_tests, Ok, OnOk, Option, refl, Result, Some, subst, sym, true, ℕ, ⊤, ◌<◌, ◌∙◌, ◌≡◌, ◌≢◌, ◌≤◌}
 use Rattle.outside.specs.Faults.{fault_above}
 use Rattle.lump_rules.specs.Contents.{lump_bytes}
 use Rattle.lump_rules.specs.declared.wad.Lump.{Lump}

@@ -1,10 +1,5 @@
 -- Laws of the masked pass of a view: what it asks is there where the walk is in the bench, and what it paints is what the picture has.
-use Rattle.std.proofs.Common.{◌≡◌, ◌<◌, ℕ, true, ℤ, List, [], length, get_or, Result, ap, sym, subst, ◌∙◌, arith}
-use Rattle.std.specs.Prelude.{◌==◌, ⊤}
-use Rattle.std.specs.List.{All, AllPass, list_any}
-use Rattle.std.proofs.lemmas.Bool.{or_right}
-use Rattle.std.proofs.lemmas.Bool.Decides.{nat_tests}
-use Rattle.std.proofs.lemmas.List.Elements.{All-contains}
+use Rattle.word_rules.proofs.Common.{[], All, All-contains, AllPass, ap, arith, get_or, length, List, list_any, nat_tests, or_right, Result, subst, sym, true, ℕ, ℤ, ⊤, ◌<◌, ◌==◌, ◌∙◌, ◌≡◌}
 use Rattle.lump_rules.specs.Contents.{lump_bytes}
 use Rattle.zone_rules.specs.Zones.{Heap}
 use Rattle.lump_cache.specs.declared.fault.CacheFault.{CacheFault}

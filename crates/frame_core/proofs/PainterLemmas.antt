@@ -1,9 +1,5 @@
 -- Laws of a painter: an event that it was given after others, and a whole walk.
-use Rattle.std.proofs.Common.{◌≡◌, ℕ, List, [], ◌∷◌, ◌++◌, take, drop, Option, Some, None, Result, Ok, Err, IsErrAnd, OnOk, refl, sym, ap, subst, ◌∙◌, arith}
-use Rattle.std.specs.Prelude.{IfErr, IfSome}
-use Rattle.std.proofs.lemmas.List.{take-append-drop}
-use Rattle.std.proofs.lemmas.Option.{IfSome_then}
-use Rattle.std.proofs.lemmas.Result.{IfErr-weaker, err_from_is_err_and, on_ok_weaker}
+use Rattle.word_rules.proofs.Common.{[], ap, arith, drop, Err, err_from_is_err_and, IfErr, IfErr-weaker, IfSome, IfSome_then, IsErrAnd, List, None, Ok, on_ok_weaker, OnOk, Option, refl, Result, Some, subst, sym, take, take-append-drop, ℕ, ◌++◌, ◌∙◌, ◌∷◌, ◌≡◌}
 use Rattle.outside.specs.Shelf.{ShelfView}
 use Rattle.zone_rules.specs.Zones.{Heap}
 use Rattle.zone_rules.proofs.OrderLemmas.{order_none}

@@ -1,10 +1,5 @@
 -- Laws of where the dots of walls and planes are: in the view.
-use Rattle.std.proofs.Common.{◌≡◌, ℕ, zero, suc, ◌+◌, ◌-◌, ◌<◌, ◌≤◌, Bool, true, false, cond, ℤ, pos, negsuc, ◌≤ℤ◌, ◌<ℤ◌, List, [], ◌∷◌, ◌++◌, Option, Some, None, map, refl, arith}
-use Rattle.std.specs.Prelude.{All, int_lt, nat_le}
-use Rattle.std.specs.List.{AllByRecursion, range_with_len}
-use Rattle.std.proofs.lemmas.Bool.{and_from, le-leb}
-use Rattle.std.proofs.lemmas.Int.{ints}
-use Rattle.std.proofs.lemmas.List.Elements.{recursion_from_All}
+use Rattle.word_rules.proofs.Common.{[], All, AllByRecursion, and_from, arith, Bool, cond, false, int_lt, ints, le-leb, List, map, nat_le, negsuc, None, Option, pos, range_with_len, recursion_from_All, refl, Some, suc, true, zero, ℕ, ℤ, ◌++◌, ◌+◌, ◌-◌, ◌<ℤ◌, ◌<◌, ◌∷◌, ◌≡◌, ◌≤ℤ◌, ◌≤◌}
 use Rattle.word_rules.specs.Words.{natural}
 use Rattle.word_rules.specs.Listed.{listed, listed_from, joined_lists}
 use Rattle.view_rules.specs.View.{ViewValue}

@@ -1,6 +1,5 @@
 -- Laws of the planes of a scene that lie in the view: they do so after a leaf of it, and after a fragment of its columns.
-use Rattle.std.proofs.Common.{◌≡◌, ℕ, ◌-◌, ◌<◌, ◌≤◌, Bool, true, false, cond, ℤ, pos, List, Option, Some, None, length, refl, ap, inl, inr, arith}
-use Rattle.std.specs.Prelude.{All, IfSome, int_lt, ◌||◌}
+use Rattle.word_rules.proofs.Common.{All, ap, arith, Bool, cond, false, IfSome, inl, inr, int_lt, length, List, None, Option, or-true_right, pos, refl, Some, true, ℕ, ℤ, ◌-◌, ◌<◌, ◌||◌, ◌≡◌, ◌≤◌}
 use Rattle.view_rules.specs.View.{ViewValue}
 use Rattle.view_rules.specs.declared.TheConstants.{FRAME_HEIGHT}
 use Rattle.view_rules.specs.declared.ViewShape.{ViewShape}
@@ -20,7 +19,6 @@ use Rattle.wall_columns.proofs.ClipLemmas.{ceiling_rows-in, clip_before-in, edge
 use Rattle.frame_core.specs.Scenes.{lists_of}
 use Rattle.frame_core.specs.Walked.{IsFlatOf, IsFlatShown, IsPlaneIn}
 use Rattle.frame_core.proofs.AllPlanesLemmas.{IsRunIn, all-draws, all-finds, holds-empty_plane, holds-with_run, marked_rows-in}
-use Rattle.word_rules.proofs.Logic.{or-true_right}
 
 plane_empty : (shape : ViewShape) (scene : SceneValue) (key : PlaneKey) → IsFlatShown scene key.flat → IsPlaneIn shape scene (empty_plane key)
 unfolding empty_plane

@@ -1,8 +1,5 @@
 -- Each texture of accepted lists has a row, and so has what is prepared of it.
-use Rattle.std.proofs.Common.{◌≡◌, ℕ, zero, suc, ◌+◌, ◌<◌, Bool, true, false, List, Some, None, sym, arith}
-use Rattle.std.specs.Prelude.{◌||◌, pos, int_lt}
-use Rattle.std.specs.Int.{w16, cast_signed}
-use Rattle.std.proofs.lemmas.Bool.{false≢true}
+use Rattle.word_rules.proofs.Common.{arith, Bool, cast_signed, false, false≢true, int_lt, List, None, pos, Some, suc, sym, true, w16, zero, ℕ, ◌+◌, ◌<◌, ◌||◌, ◌≡◌}
 use Rattle.word_rules.proofs.LeastLemmas.{none-below}
 use Rattle.lump_rules.specs.declared.wad.Lump.{Lump}
 use Rattle.lump_rules.specs.Contents.{lump_bytes}

@@ -1,11 +1,5 @@
 -- What a view asks of a scene that has all that drawing asks of it.
-use Rattle.std.proofs.Common.{◌≡◌, inl, inr, ℕ, zero, suc, ◌<◌, ◌≤◌, ◌||◌, Bool, true, false, cond, List, [], ◌∷◌, length, get_or, Option, Some, None, Result, Ok, Err, refl, sym, ap, subst, ◌∙◌, arith}
-use Rattle.std.specs.Prelude.{All, IfSome, IsSome, option_map, pos, unwrap_or, ◌⊎◌}
-use Rattle.std.specs.Option.{ok_or, option_and_then}
-use Rattle.std.proofs.lemmas.Bool.Decides.{nat_tests}
-use Rattle.std.proofs.lemmas.List.{length-map}
-use Rattle.std.proofs.lemmas.List.Elements.{All-head, All-nil, All-tail}
-use Rattle.std.proofs.lemmas.List.Folds.{list_any_at}
+use Rattle.word_rules.proofs.Common.{[], All, All-head, All-nil, All-tail, ap, arith, Bool, cond, Err, false, get_or, IfSome, inl, inr, IsSome, length, length-map, List, list_any_at, nat_tests, None, Ok, ok_or, Option, option_and_then, option_map, pos, refl, Result, Some, subst, suc, sym, true, unwrap_or, zero, ℕ, ◌<◌, ◌||◌, ◌∙◌, ◌∷◌, ◌≡◌, ◌≤◌, ◌⊎◌}
 use Rattle.outside.specs.Faults.{and_then}
 use Rattle.outside.proofs.AnswerLemmas.{and_then-ok}
 use Rattle.lump_rules.specs.declared.wad.Lump.{Lump}

@@ -1,12 +1,5 @@
 -- Laws of the things of a sector as their vissprites are listed, and of the planes of a view with their makers.
-use Rattle.std.proofs.Common.{◌≡◌, ℕ, zero, suc, ◌+◌, ◌<◌, ◌≤◌, Bool, true, false, cond, ℤ, pos, ◌≤ℤ◌, List, [], ◌∷◌, ◌++◌, length, map, get_or, drop, take, Option, Some, None, refl, sym, ap, ◌∙◌, subst, arith}
-use Rattle.std.specs.Prelude.{count_by, int_le, int_lt, is_some, not, option_map, ◌||◌}
-use Rattle.std.specs.List.{zip}
-use Rattle.std.specs.Int.{is_negative}
-use Rattle.std.proofs.lemmas.Bool.{and_parts}
-use Rattle.std.proofs.lemmas.Int.{ints, clamps}
-use Rattle.std.proofs.lemmas.List.{at_drop_more, at_drop_all, map-append, take_all}
-use Rattle.std.proofs.lemmas.List.Sums.{count_by_more_no, count_by_more_yes}
+use Rattle.word_rules.proofs.Common.{[], and_parts, ap, arith, at_drop_all, at_drop_more, Bool, clamps, cond, count_by, count_by_more_no, count_by_more_yes, drop, false, get_or, int_le, int_lt, ints, is_negative, is_some, length, List, map, map-append, None, not, Option, option_map, pos, refl, Some, subst, suc, sym, take, take_all, true, zero, zip, ℕ, ℤ, ◌++◌, ◌+◌, ◌<◌, ◌||◌, ◌∙◌, ◌∷◌, ◌≡◌, ◌≤ℤ◌, ◌≤◌}
 use Rattle.word_rules.specs.Words.{greater_word}
 use Rattle.view_rules.specs.View.{ViewValue}
 use Rattle.view_rules.specs.declared.TheConstants.{FRAME_WIDTH}

@@ -1,10 +1,5 @@
 -- Laws of the steps of a view's events to which one more is added, of the planes and openings after them, and of the first limit that they pass.
-use Rattle.std.proofs.Common.{◌≡◌, ℕ, ◌<◌, ◌≤◌, List, [], ◌∷◌, ◌++◌, Option, Some, None, length, map, refl, ap, sym, ◌∙◌, inl, inr, arith}
-use Rattle.std.specs.Prelude.{find}
-use Rattle.std.specs.Option.{option_or}
-use Rattle.std.proofs.lemmas.Bool.{cases_lt}
-use Rattle.std.proofs.lemmas.List.{append-nil, append_assoc, map-append, length-map, length-take}
-use Rattle.std.proofs.lemmas.List.Folds.{find-append}
+use Rattle.word_rules.proofs.Common.{[], ap, append-nil, append_assoc, arith, cases_lt, find, find-append, inl, inr, length, length-map, length-take, List, map, map-append, None, Option, option_or, refl, Some, sym, ℕ, ◌++◌, ◌<◌, ◌∙◌, ◌∷◌, ◌≡◌, ◌≤◌}
 use Rattle.view_rules.specs.View.{ViewValue}
 use Rattle.level_rules.specs.declared.walk.TheConstants.{MAX_DRAWSEGS}
 use Rattle.level_rules.specs.walk.Drawsegs.{drawsegs, last_leaf, leaf_fragments}

@@ -1,10 +1,5 @@
 -- Laws of where the dots of a view are: those of its masked pass lie in it, and with its walls and planes all.
-use Rattle.std.proofs.Common.{◌≡◌, ℕ, zero, suc, ◌+◌, ◌<◌, ◌≤◌, Bool, true, false, cond, ℤ, pos, ◌≤ℤ◌, ◌<ℤ◌, List, [], ◌∷◌, ◌++◌, Option, Some, None, length, refl, subst, arith}
-use Rattle.std.specs.Prelude.{All, int_le, int_lt, slice_get, filter, ◌&&◌}
-use Rattle.std.specs.List.{AllByRecursion, AllPass}
-use Rattle.std.proofs.lemmas.Int.{ints}
-use Rattle.std.proofs.lemmas.List.Elements.{All-from_recursion, recursion_from_All}
-use Rattle.std.proofs.lemmas.Option.{slice_get_within, get_or_from_slice_get}
+use Rattle.word_rules.proofs.Common.{[], All, All-from_recursion, AllByRecursion, AllPass, arith, Bool, cond, false, filter, get_or_from_slice_get, int_le, int_lt, ints, length, List, None, Option, pos, recursion_from_All, refl, slice_get, slice_get_within, Some, subst, suc, true, zero, ℕ, ℤ, ◌&&◌, ◌++◌, ◌+◌, ◌<ℤ◌, ◌<◌, ◌∷◌, ◌≡◌, ◌≤ℤ◌, ◌≤◌}
 use Rattle.word_rules.specs.Words.{minus_one}
 use Rattle.word_rules.specs.Listed.{listed_from}
 use Rattle.view_rules.specs.View.{ViewValue}

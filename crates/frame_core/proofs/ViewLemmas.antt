@@ -1,8 +1,5 @@
 -- Laws of a whole view: its three parts in order, where its dots lie, what ends it, and the frame that it leaves.
-use Rattle.std.proofs.Common.{◌≡◌, ℕ, Bor, zero, suc, ◌≤◌, List, [], ◌++◌, Option, Some, None, Result, Ok, Err, IsErrAnd, OnOk, length, get_or, replicate, refl, ap, sym, ◌∙◌, subst, arith}
-use Rattle.std.specs.Prelude.{All, IfErr, IfSome}
-use Rattle.std.specs.List.{AllPass}
-use Rattle.std.proofs.lemmas.List.{length-replicate}
+use Rattle.word_rules.proofs.Common.{[], All, AllPass, ap, arith, Bor, Err, get_or, IfErr, IfSome, IsErrAnd, length, length-replicate, List, None, Ok, on_ok-always, OnOk, Option, refl, replicate, Result, Some, subst, suc, sym, zero, ℕ, ◌++◌, ◌∙◌, ◌≡◌, ◌≤◌}
 use Rattle.outside.specs.Shelf.{ShelfView}
 use Rattle.outside.specs.declared.fault.Fault.{Fault}
 use Rattle.lump_rules.specs.Contents.{lump_bytes}
@@ -52,7 +49,6 @@ use Rattle.frame_core.proofs.FloorLemmas.{floors_of}
 use Rattle.frame_core.proofs.MaskLemmas.{masks_dots}
 use Rattle.frame_core.proofs.PartDotLemmas.{LiesInView, planes-in_view, walls-in_view}
 use Rattle.frame_core.proofs.ViewDotLemmas.{drawsegs-in_view, masked-in_view}
-use Rattle.word_rules.proofs.Logic.{on_ok-always}
 
 -- tools read the view, the scene and the directory that others read
 abbrev pub ReadsAlike : {S C : Type 0} → ViewTools S C → ViewTools S C → Type 0

@@ -1,11 +1,5 @@
 -- Laws of the list of a view: it is that of the events after one leaf more, and after one fragment more.
-use Rattle.std.proofs.Common.{◌≡◌, ℕ, ◌+◌, ◌-◌, ◌<◌, ◌≤◌, Bool, true, false, cond, ℤ, List, [], ◌∷◌, ◌++◌, length, map, Option, Some, None, refl, sym, ap, ◌∙◌, subst, arith, inl, inr}
-use Rattle.std.specs.Prelude.{min, filter, replicate, nat_lt}
-use Rattle.std.specs.List.{zip}
-use Rattle.std.proofs.lemmas.Bool.{cases_lt}
-use Rattle.std.proofs.lemmas.Bool.Decides.{nat_tests}
-use Rattle.std.proofs.lemmas.List.{append-nil, append_assoc, length_push, length-map, map-append}
-use Rattle.std.proofs.lemmas.Slice.Zip.{length-zip}
+use Rattle.word_rules.proofs.Common.{[], ap, append-nil, append_assoc, arith, Bool, cases_lt, cond, false, filter, inl, inr, length, length-map, length-zip, length_push, List, map, map-append, min, nat_lt, nat_tests, None, Option, refl, replicate, Some, subst, sym, true, zip, ℕ, ℤ, ◌++◌, ◌+◌, ◌-◌, ◌<◌, ◌∙◌, ◌∷◌, ◌≡◌, ◌≤◌}
 use Rattle.view_rules.specs.View.{ViewValue}
 use Rattle.level_rules.specs.declared.PlacedThing.{PlacedThing}
 use Rattle.level_rules.specs.declared.walk.TheConstants.{MAX_DRAWSEGS}

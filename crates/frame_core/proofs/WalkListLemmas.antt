@@ -1,7 +1,5 @@
 -- Laws of what is listed with each event: the steps of the code that lists it.
-use Rattle.std.proofs.Common.{◌≡◌, ℕ, ◌+◌, ◌-◌, ◌<◌, ◌≤◌, ◌^◌, Bool, true, false, cond, List, [], ◌∷◌, ◌++◌, length, Option, Some, None, refl, sym, ap, ◌∙◌, arith}
-use Rattle.std.specs.Prelude.{min, nat_lt, replicate}
-use Rattle.std.proofs.lemmas.Bool.Decides.{nat_tests}
+use Rattle.word_rules.proofs.Common.{[], ap, arith, Bool, cond, false, length, List, min, nat_lt, nat_tests, None, Option, refl, replicate, Some, sym, true, ℕ, ◌++◌, ◌+◌, ◌-◌, ◌<◌, ◌^◌, ◌∙◌, ◌∷◌, ◌≡◌, ◌≤◌}
 use Rattle.level_rules.specs.declared.walk.TheConstants.{MAX_DRAWSEGS}
 use Rattle.picture_rules.specs.declared.list.ListedFragment.{ListedFragment}
 use Rattle.picture_rules.specs.declared.list.ListedSprite.{ListedSprite}

@@ -1,10 +1,5 @@
 -- Laws of a bench as a list of events makes it: a fragment more.
-use Rattle.std.proofs.Common.{◌≡◌, ℕ, suc, ◌+◌, ◌<◌, ◌≤◌, ◌==◌, List, [], ◌∷◌, ◌++◌, Option, None, Result, Ok, Err, OnOk, length, map, refl, ap, sym, ◌∙◌, subst, inl, inr, arith}
-use Rattle.std.specs.Prelude.{All}
-use Rattle.std.specs.List.{list_any}
-use Rattle.std.proofs.lemmas.Bool.{cases_lt}
-use Rattle.std.proofs.lemmas.List.{append-nil, length-append, length-map}
-use Rattle.std.proofs.lemmas.List.Elements.{All-push}
+use Rattle.word_rules.proofs.Common.{[], All, All-push, ap, append-nil, arith, cases_lt, Err, inl, inr, length, length-append, length-map, List, list_any, map, None, Ok, OnOk, Option, refl, Result, subst, suc, sym, ℕ, ◌++◌, ◌+◌, ◌<◌, ◌==◌, ◌∙◌, ◌∷◌, ◌≡◌, ◌≤◌}
 use Rattle.view_rules.specs.View.{ViewValue}
 use Rattle.view_rules.specs.declared.TheConstants.{FRAME_HEIGHT}
 use Rattle.level_rules.specs.Levels.{seg_at, surface_at}

@@ -1,12 +1,5 @@
 -- Laws of a bench as a list of events makes it: no event, and a leaf more.
-use Rattle.std.proofs.Common.{◌≡◌, ℕ, ◌<◌, ◌||◌, ◌==◌, Bool, true, false, List, [], ◌∷◌, ◌++◌, Option, None, Result, Ok, Err, IsErrAnd, length, map, refl, ap, sym, ◌∙◌, subst}
-use Rattle.std.specs.Prelude.{All}
-use Rattle.std.specs.List.{AllPass, list_any}
-use Rattle.std.proofs.lemmas.Bool.{eqb-true}
-use Rattle.std.proofs.lemmas.List.{map-append}
-use Rattle.std.proofs.lemmas.List.Elements.{All-nil, All-push}
-use Rattle.std.proofs.lemmas.List.Folds.{list_any-append}
-use Rattle.std.proofs.Math.Bool.{or-false}
+use Rattle.word_rules.proofs.Common.{[], All, All-nil, All-push, AllPass, ap, Bool, eqb-true, Err, false, IsErrAnd, length, List, list_any, list_any-append, map, map-append, None, Ok, Option, or-false, refl, Result, subst, sym, true, ℕ, ◌++◌, ◌<◌, ◌==◌, ◌||◌, ◌∙◌, ◌∷◌, ◌≡◌}
 use Rattle.view_rules.specs.View.{ViewValue}
 use Rattle.level_rules.specs.Levels.{leaf_at, surface_at}
 use Rattle.art_rules.specs.Books.{book_lumps}

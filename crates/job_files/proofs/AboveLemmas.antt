@@ -1,7 +1,5 @@
 -- What is known of a call whose fault is named as the layer above names it.
-use Rattle.std.proofs.Common.{◌≡◌, ℕ, Result, Ok, Err, refl, Bool, MatchResult}
-use Rattle.std.specs.Prelude.{IfErr}
-use Rattle.std.proofs.lemmas.Result.{err_from_is_err_and}
+use Rattle.word_rules.proofs.Common.{Bool, Err, err_from_is_err_and, IfErr, MatchResult, Ok, refl, Result, ℕ, ◌≡◌}
 use Rattle.outside.specs.declared.fault.Fault.{Fault}
 use Rattle.outside.specs.declared.fault.Fault.TheVariants.{Refused, ReadFault, ZoneFull, OutOfMemory}
 use Rattle.outside.specs.Faults.{fault_above, from_below, HasCauseAt, HasCauses, ResultIs, itself}

@@ -1,6 +1,5 @@
 -- A file's length is looked at first, and then its bytes are checked.
-use Rattle.std.proofs.Common.{◌≡◌, ℕ, Bool, true, false, cond, List, length, Option, Some, None, Result, Ok, Err, IsErrAnd, refl}
-use Rattle.std.specs.Prelude.{◌==◌, nat_lt, option_map}
+use Rattle.word_rules.proofs.Common.{Bool, cond, Err, false, IsErrAnd, length, List, nat_lt, None, Ok, Option, option_map, refl, Result, Some, true, ℕ, ◌==◌, ◌≡◌}
 use Rattle.outside.specs.Shelf.{File, file_named}
 use Rattle.outside.specs.Faults.{and_then, from_below, ResultIs, itself}
 use Rattle.view_rules.specs.declared.TheConstants.{TABLES_BYTES}

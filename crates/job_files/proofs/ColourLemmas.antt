@@ -1,6 +1,5 @@
 -- The lumps of colours by name.
-use Rattle.std.proofs.Common.{◌≡◌, ℕ, Option, Some, None, Result, Ok, Err, refl, MatchResult, option_map}
-use Rattle.std.specs.Option.{ok_or}
+use Rattle.word_rules.proofs.Common.{Err, MatchResult, None, Ok, ok_or, Option, option_map, refl, Result, Some, ℕ, ◌≡◌}
 use Rattle.lump_rules.specs.declared.wad.LumpNo.{LumpNo}
 use Rattle.lump_rules.specs.Names.{name_of, filled}
 use Rattle.scene_rules.specs.declared.TheConstants.{COLORMAP, PLAYPAL}

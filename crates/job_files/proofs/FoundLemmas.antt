@@ -1,7 +1,6 @@
 -- The numbers of files that were asked for one after the other.
-use Rattle.std.proofs.Common.{◌≡◌, ◌<◌, ℕ, zero, suc, List, [], ◌∷◌, ◌++◌, length, get_or, map, Option, Some, None, Result, Err, IsSome, IsOk, Bor, refl, sym, ap, ◌∙◌, arith}
-use Rattle.std.proofs.lemmas.List.{get_or-map, length-map}
-use Rattle.std.specs.Prelude.{option_and_then, option_map}
+use Rattle.word_rules.proofs.Common.{[], ap, arith, Bor, Err, get_or, IsOk, IsSome, length, length-map, List, map, None, Option, option_and_then, option_map, refl, Result, Some, suc, sym, zero, ℕ, ◌++◌, ◌<◌, ◌∙◌, ◌∷◌, ◌≡◌}
+use Rattle.std.proofs.lemmas.List.{get_or-map}
 use Rattle.outside.specs.declared.shelf.FileNo.{FileNo}
 use Rattle.outside.specs.Shelf.{File, ShelfView, IsLaterShelf, Stands, NameFiles, StandsForNamed, file_named}
 use Rattle.outside.proofs.ShelfLemmas.{all_stand_later}

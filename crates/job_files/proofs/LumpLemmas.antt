@@ -1,8 +1,5 @@
 -- Lumps in the files where they stand.
-use Rattle.std.proofs.Common.{◌≡◌, ◌<◌, ◌≤◌, ◌+◌, ℕ, zero, suc, List, [], ◌∷◌, length, take, drop, get_or, Option, Some, IfSome, refl, ap, sym, ◌∙◌, arith}
-use Rattle.std.specs.List.{slice_get}
-use Rattle.std.proofs.lemmas.List.Elements.{All-get_or}
-use Rattle.std.proofs.lemmas.Option.{slice_get_within, get_or_from_slice_get}
+use Rattle.word_rules.proofs.Common.{[], All-get_or, ap, arith, drop, get_or, get_or_from_slice_get, IfSome, length, List, Option, refl, slice_get, slice_get_within, Some, suc, sym, take, zero, ℕ, ◌+◌, ◌<◌, ◌∙◌, ◌∷◌, ◌≡◌, ◌≤◌}
 use Rattle.outside.specs.declared.shelf.FileNo.{FileNo}
 use Rattle.outside.specs.Shelf.{ShelfView, NameFiles, IsPieceAt, Stands}
 use Rattle.outside.proofs.ShelfLemmas.{stands_at}

@@ -1,6 +1,5 @@
 -- One step of a job after another.
-use Rattle.std.proofs.Common.{◌≡◌, ℕ, Bool, Result, Err, IsErrAnd, refl, subst}
-use Rattle.std.proofs.lemmas.Result.{err_from_is_err_and}
+use Rattle.word_rules.proofs.Common.{Bool, Err, err_from_is_err_and, IsErrAnd, refl, Result, subst, ℕ, ◌≡◌}
 use Rattle.outside.specs.declared.fault.Fault.{Fault}
 use Rattle.outside.specs.declared.fault.Fault.TheVariants as fault
 use Rattle.outside.specs.Faults.{and_then, FaultFits, ResultIs, itself}

@@ -1,7 +1,5 @@
 -- How many bytes of files are read, by their sizes.
-use Rattle.std.proofs.Common.{◌≡◌, ℕ, ◌+◌, ◌≤◌, List, [], length, Option, Some, None, IsSome, Result, Ok, Err, refl, ap}
-use Rattle.std.specs.Prelude.{unwrap_or}
-use Rattle.std.specs.Option.{option_map_or}
+use Rattle.word_rules.proofs.Common.{[], ap, Err, IsSome, length, List, None, Ok, Option, option_map_or, refl, Result, Some, unwrap_or, ℕ, ◌+◌, ◌≡◌, ◌≤◌}
 use Rattle.outside.specs.Faults.{from_below}
 use Rattle.outside.specs.Shelf.{File, file_named}
 use Rattle.frame_writer.specs.declared.TheConstants.{PALETTE_BYTES}

@@ -1,7 +1,5 @@
 -- A frame whose indices are all written.
-use Rattle.std.proofs.Common.{◌≡◌, ◌<◌, ℕ, List, ◌++◌, length, take, get_or, ◌∙◌}
-use Rattle.std.proofs.Math.Seq.{take-append_seam}
-use Rattle.std.proofs.lemmas.List.FromFn.{fill_by_all}
+use Rattle.word_rules.proofs.Common.{fill_by_all, get_or, length, List, take, take-append_seam, ℕ, ◌++◌, ◌<◌, ◌∙◌, ◌≡◌}
 use Rattle.word_rules.specs.Listed.{listed}
 
 -- the first n items of a list are the values of a function, where each item is

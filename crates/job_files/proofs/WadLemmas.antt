@@ -1,9 +1,7 @@
 -- The lumps of WADs that were asked for.
-use Rattle.std.proofs.Common.{◌≡◌, ℕ, Bool, List, Option, Some, Result, Ok, Err, IsErrAnd, refl}
-use Rattle.std.specs.Prelude.{IfOk}
+use Rattle.word_rules.proofs.Common.{Bool, Err, err_from_is_err_and, IfOk, IsErrAnd, List, Ok, Option, refl, Result, Some, ℕ, ◌≡◌}
 use Rattle.lump_rules.specs.Contents.{AllWithin}
 use Rattle.wad_dir.specs.DirectoryView.{DirectoryView}
-use Rattle.std.proofs.lemmas.Result.{err_from_is_err_and}
 use Rattle.outside.specs.declared.shelf.FileNo.{FileNo}
 use Rattle.outside.specs.Shelf.{File, ShelfView, NameFiles}
 use Rattle.outside.specs.Faults.{itself}

@@ -1,10 +1,5 @@
 -- What is told of lumps of art that are read, in the words of an audit.
-use Rattle.std.proofs.Common.{◌≡◌, inl, inr, ℕ, suc, ◌<◌, ◌==◌, ◌&&◌, ◌||◌, Bool, true, false, not, List, [], ◌∷◌, length, map, get_or, Option, Some, None, Result, refl, sym, ap, subst, ◌∙◌, arith}
-use Rattle.std.specs.Prelude.{All, IfSome}
-use Rattle.std.specs.List.{list_any}
-use Rattle.std.proofs.lemmas.Bool.{cases_eq, eqb-true, eq-eqb, ne_eqb}
-use Rattle.std.proofs.lemmas.List.Folds.{Any-from_list_any, list_any_at}
-use Rattle.std.proofs.lemmas.List.Elements.{All-append, All-map}
+use Rattle.word_rules.proofs.Common.{[], All, All-append, All-map, Any-from_list_any, ap, arith, Bool, cases_eq, eq-eqb, eqb-true, false, get_or, IfSome, inl, inr, length, List, list_any, list_any_at, map, ne_eqb, None, not, Option, refl, Result, Some, subst, suc, sym, true, ℕ, ◌&&◌, ◌<◌, ◌==◌, ◌||◌, ◌∙◌, ◌∷◌, ◌≡◌}
 use Rattle.word_rules.specs.Listed.{joined_lists}
 use Rattle.word_rules.proofs.ListedLemmas.{joined_lists-cons}
 use Rattle.outside.specs.Shelf.{ShelfView}

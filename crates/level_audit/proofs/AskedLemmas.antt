@@ -1,11 +1,7 @@
 -- Each lump that an audit reads is needed by its scene, and a zone that was full for one is smaller
 -- than `enough`.
 use Rattle.outside.specs.Faults.{itself}
-use Rattle.std.proofs.Common.{◌≡◌, ℕ, ◌+◌, ◌<◌, ◌≤◌, true, false, List, length, Option, Result, Ok, Err, refl, ap, subst, ◌∙◌, arith, inl, inr, eq-eqb}
-use Rattle.std.specs.Prelude.{◌==◌, IfErr}
-use Rattle.std.specs.Option.{option_map_or}
-use Rattle.std.proofs.Math.Bool.{or-true}
-use Rattle.std.proofs.lemmas.Bool.{cases_lt}
+use Rattle.word_rules.proofs.Common.{ap, arith, cases_lt, eq-eqb, Err, false, IfErr, inl, inr, length, List, Ok, Option, option_map_or, or-true, refl, Result, subst, true, ℕ, ◌+◌, ◌<◌, ◌==◌, ◌∙◌, ◌≡◌, ◌≤◌}
 use Rattle.outside.specs.Shelf.{ShelfView}
 use Rattle.lump_rules.specs.declared.wad.Lump.{Lump}
 use Rattle.lump_rules.specs.Contents.{lump_bytes}

@@ -1,7 +1,5 @@
 -- The first palette, as it is read.
-use Rattle.std.proofs.Common.{◌≡◌, ◌<◌, ◌≤◌, ◌-◌, ◌++◌, ℕ, List, length, take, min, ap, ◌∙◌, arith}
-use Rattle.std.proofs.lemmas.List.{append-nil, length-take, take_all}
-use Rattle.std.proofs.lemmas.List.Elements.{All-get_or}
+use Rattle.word_rules.proofs.Common.{All-get_or, ap, append-nil, arith, length, length-take, List, min, take, take_all, ℕ, ◌++◌, ◌-◌, ◌<◌, ◌∙◌, ◌≡◌, ◌≤◌}
 use lib.ListN.{replicate}
 use Rattle.lump_rules.specs.Contents.{AllWithin, LiesWithin, lump_bytes}
 use Rattle.lump_rules.specs.Lookups.{lump_at, no_lump}

@@ -1,7 +1,5 @@
 -- What is told of an audit after its first fetch, that of COLORMAP, by what is told of the rest.
-use Rattle.std.proofs.Common.{◌≡◌, ◌≢◌, ◌≤◌, ◌<◌, ◌+◌, ℕ, Bool, true, List, Option, None, Some, Result, Ok, Err, option_map, sym, ap, subst, ◌∙◌, arith, inl, inr, IsErrAnd, MatchResult}
-use Rattle.std.specs.Prelude.{IfErr, IfOk, OnOk, option_and_then}
-use Rattle.std.proofs.lemmas.Result.{err_from_is_err_and}
+use Rattle.word_rules.proofs.Common.{ap, arith, Bool, Err, err_from_is_err_and, IfErr, IfOk, inl, inr, IsErrAnd, List, MatchResult, None, Ok, OnOk, Option, option_and_then, option_map, Result, Some, subst, sym, true, ℕ, ◌+◌, ◌<◌, ◌∙◌, ◌≡◌, ◌≢◌, ◌≤◌}
 use Rattle.outside.specs.Shelf.{NameFiles, IsLaterShelf, ShelfView}
 use Rattle.outside.specs.declared.fault.Fault.{Fault}
 use Rattle.outside.specs.Faults.{ResultIs, itself}

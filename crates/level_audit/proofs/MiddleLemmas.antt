@@ -1,11 +1,5 @@
 -- Laws of `is_all_single` and `bad_middle`, and what columns of single patches are read from.
-use Rattle.std.proofs.Common.{◌≡◌, ℕ, zero, suc, ◌+◌, ◌<◌, ◌≤◌, inl, inr, Bool, true, false, List, length, get_or, refl, ap, subst, sym, ◌∙◌, arith, zero-add}
-use Rattle.std.specs.Prelude.{◌&&◌, All, IsSome}
-use Rattle.std.specs.List.{list_all, list_any, range_with_len}
-use Rattle.std.proofs.lemmas.Bool.{cases_lt, eq-eqb}
-use Rattle.std.proofs.lemmas.List.{get_or_default, get_or_past}
-use Rattle.std.proofs.lemmas.List.Folds.{list_all_at, list_any_at}
-use Rattle.std.proofs.lemmas.List.FromFn.{get_or-range_with_len, length-range_with_len}
+use Rattle.word_rules.proofs.Common.{All, ap, arith, Bool, cases_lt, eq-eqb, false, get_or, get_or-range_with_len, get_or_default, get_or_past, inl, inr, IsSome, length, length-range_with_len, List, list_all, list_all_at, list_any, list_any_at, range_with_len, refl, subst, suc, sym, true, zero, zero-add, ℕ, ◌&&◌, ◌+◌, ◌<◌, ◌∙◌, ◌≡◌, ◌≤◌}
 use Rattle.word_rules.specs.Least.{least}
 use Rattle.level_rules.specs.declared.Seg.{Seg}
 use Rattle.level_rules.specs.declared.SideTextures.{SideTextures}

@@ -1,8 +1,5 @@
 -- A patch of a wanted texture is a patch of a prepared one.
-use Rattle.std.proofs.Common.{◌≡◌, ℕ, zero, suc, ◌+◌, Bool, true, false, cond, List, [], ◌∷◌, Option, Some, None, Result, Ok, Err, refl, sym, ap, ◌∙◌, arith, inl, inr, eq-eqb}
-use Rattle.std.specs.Prelude.{Contains, ◌==◌, nat_lt, option_and_then, option_map, slice_get}
-use Rattle.std.specs.List.{list_any}
-use Rattle.std.proofs.lemmas.Bool.{or_left, or_right}
+use Rattle.word_rules.proofs.Common.{[], ap, arith, Bool, cond, Contains, eq-eqb, Err, false, inl, inr, List, list_any, nat_lt, None, Ok, Option, option_and_then, option_map, or_left, or_right, refl, Result, slice_get, Some, suc, sym, true, zero, ℕ, ◌+◌, ◌==◌, ◌∙◌, ◌∷◌, ◌≡◌}
 use Rattle.lump_rules.specs.declared.wad.Lump.{Lump}
 use Rattle.lump_rules.specs.Lookups.{last_of}
 use Rattle.art_rules.specs.declared.PlacedPatch.{PlacedPatch}

@@ -1,11 +1,5 @@
 -- A picture of a needed frame is in the book.
-use Rattle.std.proofs.Common.{◌≡◌, ℕ, suc, Bool, true, false, not, List, [], ◌∷◌, Option, Some, None, Ok, refl, sym, ap, subst, ◌∙◌, inl, inr, eq-eqb}
-use Rattle.std.specs.Prelude.{Contains, ◌==◌}
-use Rattle.std.specs.List.{list_any, range_with_len}
-use Rattle.std.specs.Option.{ok_or}
-use Rattle.std.specs.Str.{bytes_eq}
-use Rattle.std.proofs.lemmas.Bool.{and_parts, eqb-true}
-use Rattle.std.proofs.lemmas.Slice.Eq.{bytes_eq-Decides}
+use Rattle.word_rules.proofs.Common.{[], and_parts, ap, Bool, bytes_eq, bytes_eq-Decides, Contains, eq-eqb, eqb-true, false, inl, inr, List, list_any, None, not, Ok, ok_or, Option, range_with_len, refl, Some, subst, suc, sym, true, ℕ, ◌==◌, ◌∙◌, ◌∷◌, ◌≡◌}
 use Rattle.outside.specs.Faults.{and_then}
 use Rattle.outside.proofs.AnswerLemmas.{and_then-ok}
 use Rattle.lump_rules.specs.declared.wad.Lump.{Lump}

@@ -1,5 +1,5 @@
 -- What is told of a part that reads no lump.
-use Rattle.std.proofs.Common.{◌≡◌, ℕ, true, List, Option, Result, Ok, Err, refl, sym, ap, ◌∙◌, subst}
+use Rattle.word_rules.proofs.Common.{ap, Err, err_from_is_err_and, List, Ok, Option, refl, Result, subst, sym, true, ℕ, ◌∙◌, ◌≡◌}
 use Rattle.outside.specs.Shelf.{ShelfView}
 use Rattle.outside.specs.Faults.{ResultIs, fault_above, from_below, itself}
 use Rattle.zone_rules.specs.Zones.{Heap}
@@ -20,7 +20,6 @@ use Rattle.scene_rules.specs.declared.refusal.SceneRefusal.{SceneRefusal}
 use Rattle.scene_rules.specs.Middles.{bad_middle}
 use Rattle.scene_rules.specs.Scenes.{checked, faces_in, texture_by}
 use Rattle.level_audit.specs.Faults.{above_scene}
-use Rattle.std.proofs.lemmas.Result.{err_from_is_err_and}
 use Rattle.outside.specs.declared.fault.Fault.{Fault}
 use Rattle.outside.proofs.ThroughLemmas.{IsThrough}
 use Rattle.sound_scene.specs.declared.parts.ReadFaces.{ReadFaces}

@@ -1,6 +1,5 @@
 -- What drawing asks of a scene, a step of its reading at a time.
-use Rattle.std.proofs.Common.{◌≡◌, ◌⊎◌, ◌<◌, ◌≤◌, ℕ, List, length, Result, Ok, Err, sym, ap, subst, ◌∙◌, rules}
-use Rattle.std.specs.Prelude.{All, IfOk, IfSome, OnOk, option_map}
+use Rattle.word_rules.proofs.Common.{All, ap, Err, IfOk, IfSome, length, List, Ok, OnOk, option_map, Result, rules, subst, sym, ℕ, ◌<◌, ◌∙◌, ◌≡◌, ◌≤◌, ◌⊎◌}
 use Rattle.outside.specs.declared.fault.Fault.{Fault}
 use Rattle.lump_rules.specs.declared.wad.Lump.{Lump}
 use Rattle.level_rules.specs.declared.Seg.{Seg}

@@ -1,6 +1,6 @@
 -- A lump of a map that was fetched, and what adding it to a builder comes to.
 use Rattle.outside.specs.Faults.{itself}
-use Rattle.std.proofs.Common.{◌≡◌, ℕ, List, Option, Some, None, Result, Ok, Err, refl, sym, ap, ◌∙◌, ◌↔◌, IsErrAnd, MatchResult}
+use Rattle.word_rules.proofs.Common.{ap, Err, err_from_is_err_and, IsErrAnd, List, MatchResult, None, Ok, OnOk, Option, refl, Result, Some, sym, ℕ, ◌↔◌, ◌∙◌, ◌≡◌}
 use Rattle.outside.specs.Shelf.{ShelfView}
 use Rattle.lump_rules.specs.Contents.{lump_bytes}
 use Rattle.zone_rules.specs.Zones.{Heap}
@@ -12,8 +12,6 @@ use Rattle.level_rules.specs.maps.Lumps.{size_refusal}
 use Rattle.map_lumps.specs.declared.fault.MapFault.{MapFault}
 use Rattle.map_lumps.specs.declared.fault.MapFault.TheVariants.{Refused, OutOfMemory}
 use Rattle.map_lumps.specs.Builders.{BuilderValue, with_lump}
-use Rattle.std.specs.Prelude.{OnOk}
-use Rattle.std.proofs.lemmas.Result.{err_from_is_err_and}
 use Rattle.lump_cache.specs.Calls.{ReadsLumps, HoldContents}
 use Rattle.lump_cache.proofs.CallLemmas.{reads_same}
 use Rattle.outside.specs.declared.fault.Fault.{Fault}

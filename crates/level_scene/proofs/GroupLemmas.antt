@@ -1,8 +1,7 @@
 -- Laws of the lists of things by sector.
-use Rattle.std.proofs.Common.{◌≡◌, ℕ, ◌+◌, ◌-◌, ◌<◌, Bool, true, false, cond, List, [], ◌∷◌, ◌++◌, length, map, drop, set, get_or, replicate, reverse, Vec, Global, refl, ap, sym, subst, ◌∙◌, arith, inl, inr}
-use Rattle.std.specs.List.{All, filter}
-use Rattle.std.proofs.lemmas.List.{get_or-map, get_or-replicate, get_or_past, get_or-set_same, get_or-set_other, get_or-reverse, drop_more, length-map, length-replicate, map-set, reverse-append}
-use Rattle.std.proofs.lemmas.Bool.{cases_lt, cases_eq, eq-eqb, ne_eqb}
+use Rattle.word_rules.proofs.Common.{[], All, ap, arith, Bool, cases_eq, cases_lt, cond, drop, drop_more, eq-eqb, false, filter, get_or, get_or-replicate, get_or-reverse, get_or-set_other, get_or-set_same, get_or_past, Global, inl, inr, length, length-map, length-replicate, List, map, map-set, ne_eqb, refl, replicate, reverse, reverse-append, subst, sym, true, ℕ, ◌++◌, ◌+◌, ◌-◌, ◌<◌, ◌∙◌, ◌∷◌, ◌≡◌}
+use Rattle.std.proofs.Common.{set, Vec}
+use Rattle.std.proofs.lemmas.List.{get_or-map}
 use Rattle.level_rules.specs.declared.PlacedThing.{PlacedThing}
 use Rattle.scene_rules.specs.declared.Placed.{Placed}
 use Rattle.scene_rules.specs.Places.{is_in_sector, things_of}

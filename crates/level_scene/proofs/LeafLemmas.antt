@@ -1,6 +1,5 @@
 -- Laws of `leaf_from` and `is_within`, at a leaf and at a node.
-use Rattle.std.proofs.Common.{◌≡◌, ℕ, zero, suc, ◌-◌, ◌<◌, ◌≤◌, true, List, Some, ℤ, slice_get, refl, arith}
-use Rattle.std.proofs.lemmas.Bool.{ltb-true}
+use Rattle.word_rules.proofs.Common.{arith, List, ltb-true, refl, slice_get, Some, suc, true, zero, ℕ, ℤ, ◌-◌, ◌<◌, ◌≡◌, ◌≤◌}
 use Rattle.level_rules.specs.declared.Node.{Node}
 use Rattle.level_rules.specs.declared.Child.TheVariants.{Node as NodeChild, Leaf as LeafChild}
 use Rattle.level_rules.specs.Levels.{child_on}

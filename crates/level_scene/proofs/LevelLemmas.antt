@@ -1,7 +1,5 @@
 -- All eight lumps and then the level of their records, and a map that is found by its name.
-use Rattle.std.proofs.Common.{◌≡◌, ◌+◌, ℕ, true, List, [], ◌∷◌, Option, Some, None, Result, Ok, Err, refl, sym, ap, ◌∙◌, IsErrAnd, MatchResult, option_map}
-use Rattle.std.specs.Option.{ok_or}
-use Rattle.std.specs.Prelude.{IfOk}
+use Rattle.word_rules.proofs.Common.{[], ap, Err, IfOk, IsErrAnd, List, MatchResult, None, Ok, ok_or, Option, option_map, refl, Result, Some, sym, true, ℕ, ◌+◌, ◌∙◌, ◌∷◌, ◌≡◌}
 use Rattle.word_rules.specs.Least.{or_else}
 use Rattle.outside.specs.Shelf.{ShelfView}
 use Rattle.outside.specs.Faults.{and_then, itself}

@@ -1,11 +1,7 @@
 -- Laws of `lumps_from`, and what a builder has whose lumps come in the order of their numbers.
-use Rattle.std.proofs.Common.{◌≡◌, ◌≢◌, ◌<◌, ◌≤◌, ◌+◌, ◌-◌, ◌⊎◌, inl, inr, subst, ℕ, zero, suc, Bool, true, false, List, [], ◌∷◌, ◌++◌, length, map, get_or, take, replicate, Result, Ok, Err, refl, sym, ap, ◌∙◌, arith}
-use Rattle.std.specs.List.{range_with_len}
+use Rattle.word_rules.proofs.Common.{[], ap, arith, Bool, cases_eq, Err, false, get_or, get_or-range_with_len, inl, inr, length, length-map, length-range_with_len, List, map, nat_tests, Ok, range_with_len, refl, replicate, Result, subst, suc, sym, take, true, zero, ℕ, ◌++◌, ◌+◌, ◌-◌, ◌<◌, ◌∙◌, ◌∷◌, ◌≡◌, ◌≢◌, ◌≤◌, ◌⊎◌}
 use Rattle.std.proofs.Math.ListN.{set}
-use Rattle.std.proofs.lemmas.Bool.{cases_eq}
-use Rattle.std.proofs.lemmas.Bool.Decides.{nat_tests}
-use Rattle.std.proofs.lemmas.List.{get_or-map, length-map}
-use Rattle.std.proofs.lemmas.List.FromFn.{get_or-range_with_len, length-range_with_len}
+use Rattle.std.proofs.lemmas.List.{get_or-map}
 use Rattle.outside.specs.Faults.{and_then}
 use Rattle.level_rules.specs.declared.maps.lumps.MapLump.{MapLump}
 use Rattle.level_rules.specs.declared.maps.refusal.MapRefusal.{MapRefusal}

@@ -1,6 +1,5 @@
 -- Laws of `placed_from`.
-use Rattle.std.proofs.Common.{◌≡◌, ℕ, ◌+◌, ◌<◌, ◌≤◌, List, ◌++◌, length, drop, get_or, ◌∙◌, refl, ap, sym, append_assoc, append-nil, add-one}
-use Rattle.std.proofs.lemmas.List.{at_drop_more, at_drop_all}
+use Rattle.word_rules.proofs.Common.{add-one, ap, append-nil, append_assoc, at_drop_all, at_drop_more, drop, get_or, length, List, refl, sym, ℕ, ◌++◌, ◌+◌, ◌<◌, ◌∙◌, ◌≡◌, ◌≤◌}
 use Rattle.level_rules.specs.declared.Thing.{Thing}
 use Rattle.level_rules.specs.maps.Levels.{LevelValue}
 use Rattle.level_rules.specs.declared.ThingLine.{ThingLine}

@@ -1,6 +1,5 @@
 -- Laws of `first_shadow`.
-use Rattle.std.proofs.Common.{◌≡◌, ℕ, ◌+◌, ◌<◌, ◌≤◌, true, false, List, length, drop, get_or, Some, None, ◌∙◌, refl}
-use Rattle.std.proofs.lemmas.List.{at_drop_more, at_drop_all}
+use Rattle.word_rules.proofs.Common.{at_drop_all, at_drop_more, drop, false, get_or, length, List, None, refl, Some, true, ℕ, ◌+◌, ◌<◌, ◌∙◌, ◌≡◌, ◌≤◌}
 use Rattle.scene_rules.specs.declared.Placed.{Placed}
 use Rattle.scene_rules.specs.Places.{first_shadow, is_shadow}
 

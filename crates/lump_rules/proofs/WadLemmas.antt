@@ -1,13 +1,7 @@
 -- Laws of a directory.
-use Rattle.std.proofs.Common.{◌≡◌, ◌<◌, ◌≤◌, ℕ, Bool, true, false, cond, List, length, All, Ok, Option, None, Some, nat_lt, refl, ap, arith, ltb-false}
-use Rattle.std.specs.List.{position_or_len}
-use Rattle.std.proofs.lemmas.List.Sums.{fails_before_first}
-use Rattle.std.proofs.lemmas.Bool.Decides.{Decides-ltb}
-use Rattle.std.specs.Bool.{Decides}
-use Rattle.std.specs.Option.{option_map}
+use Rattle.word_rules.proofs.Common.{All, ap, arith, Bool, cond, Decides, Decides-ltb, fails_before_first, false, length, List, ltb-false, nat_lt, None, Ok, Option, option_map, or_else-none, position_or_len, refl, Some, true, ℕ, ◌<◌, ◌≡◌, ◌≤◌}
 use Rattle.word_rules.specs.Least.{or_else}
 use Rattle.word_rules.proofs.ListedLemmas.{length-listed, get_or-listed}
-use Rattle.word_rules.proofs.Logic.{or_else-none}
 use Rattle.lump_rules.specs.declared.wad.DirRefusal.{DirRefusal}
 use Rattle.lump_rules.specs.declared.wad.DirRefusal.TheVariants.{Entry}
 use Rattle.lump_rules.specs.declared.wad.Lump.{Lump}

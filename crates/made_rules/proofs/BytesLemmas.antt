@@ -1,9 +1,5 @@
 -- Laws of `halves`, `words` and `records`.
-use Rattle.std.proofs.Common.{◌≡◌, ℕ, zero, suc, ◌+◌, List, [], ◌∷◌, ◌++◌, take, refl, sym, ap, ◌∙◌, arith}
-use Rattle.std.specs.List.{flat_map, range_with_len}
-use Rattle.std.proofs.lemmas.Grind.{common_steps}
-use Rattle.std.proofs.lemmas.List.{flat_map_more}
-use Rattle.std.specs.Int.{w32, to_le_bytes}
+use Rattle.word_rules.proofs.Common.{[], ap, arith, common_steps, flat_map, flat_map_more, List, range_with_len, refl, suc, sym, take, to_le_bytes, w32, zero, ℕ, ◌++◌, ◌+◌, ◌∙◌, ◌∷◌, ◌≡◌}
 use Rattle.word_rules.specs.Listed.{listed}
 use Rattle.word_rules.proofs.ListedLemmas.{listing}
 use Rattle.made_rules.specs.Bytes.{half, word_bytes, halves, words, records}

@@ -1,10 +1,7 @@
 -- Laws of the nodes: both parts of a division are smaller, their nodes and one more are those of the
 -- whole, and the number of a node is the number of those before it.
-use Rattle.std.proofs.Common.{◌≡◌, ℕ, zero, suc, ◌+◌, ◌-◌, ◌*◌, ◌/◌, ◌^◌, ◌<◌, ◌≤◌, Bool, true, false, cond, List, [], ◌∷◌, ◌++◌, length, refl, sym, ap, subst, ◌∙◌, length-append, arith}
-use Rattle.std.proofs.Math.Nat.{add-mul, mul-add, one-le-mul}
-use Rattle.std.proofs.lemmas.Nat.{mul-le}
-use Rattle.std.proofs.lemmas.Bool.Decides.{nat_tests}
-use Rattle.std.proofs.lemmas.Grind.{common_steps}
+use Rattle.word_rules.proofs.Common.{[], ap, arith, Bool, common_steps, cond, false, length, length-append, List, mul-add, mul-le, nat_tests, one-le-mul, refl, subst, suc, sym, true, zero, ℕ, ◌*◌, ◌++◌, ◌+◌, ◌-◌, ◌/◌, ◌<◌, ◌^◌, ◌∙◌, ◌∷◌, ◌≡◌, ◌≤◌}
+use Rattle.std.proofs.Math.Nat.{add-mul}
 use Rattle.made_rules.specs.declared.map.Part.{Part}
 use Rattle.made_rules.specs.declared.map.TheConstants.{CELL_SIZE, NODE_SIZE}
 use Rattle.made_rules.specs.Bytes.{half, halves}

@@ -1,8 +1,5 @@
 -- The size of a column.
-use Rattle.std.proofs.Common.{◌≡◌, ℕ, ◌+◌, List, [], ◌∷◌, length, refl, length-append, arith}
-use Rattle.std.specs.Prelude.{sum_by}
-use Rattle.std.specs.List.{flat_map}
-use Rattle.std.proofs.lemmas.List.Sums.{sum_by-cons}
+use Rattle.word_rules.proofs.Common.{[], arith, flat_map, length, length-append, List, refl, sum_by, sum_by-cons, ℕ, ◌+◌, ◌∷◌, ◌≡◌}
 use Rattle.word_rules.proofs.ListedLemmas.{length-listed}
 use Rattle.made_rules.specs.declared.pictures.Post.{Post}
 use Rattle.made_rules.specs.Pictures.{post_bytes, column_bytes, column_size}

@@ -1,8 +1,6 @@
 -- Bounds of the sines and tangents by formula.
-use Rattle.std.proofs.Common.{◌≡◌, ℕ, ◌+◌, ◌-◌, ◌*◌, ◌/◌, ◌^◌, ◌<◌, ◌≤◌, inl, inr, subst, arith}
-use Rattle.std.proofs.Math.Nat.{mul-add, add-mul, mul_comm, mul-le-mul_right, div-le_of_le-mul}
-use Rattle.std.proofs.lemmas.Nat.{le-div}
-use Rattle.std.proofs.lemmas.Bool.{cases_lt}
+use Rattle.word_rules.proofs.Common.{arith, cases_lt, div-le_of_le-mul, inl, inr, le-div, mul-add, mul-le-mul_right, mul_comm, subst, ℕ, ◌*◌, ◌+◌, ◌-◌, ◌/◌, ◌<◌, ◌^◌, ◌≡◌, ◌≤◌}
+use Rattle.std.proofs.Math.Nat.{add-mul}
 use Rattle.view_rules.specs.declared.formula.TheConstants.{HALF_TURN, HALF_STEPS, QUARTER}
 use Rattle.view_rules.specs.Formulas.{sine_product, half_sine, upper_tangent}
 

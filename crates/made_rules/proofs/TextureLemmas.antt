@@ -1,7 +1,5 @@
 -- The parts of the lump of textures.
-use Rattle.std.proofs.Common.{◌≡◌, [], ◌∷◌, ◌++◌, arith}
-use Rattle.std.specs.List.{flat_map}
-use Rattle.std.proofs.lemmas.Grind.{flat_map-append, common_steps}
+use Rattle.word_rules.proofs.Common.{[], arith, common_steps, flat_map, flat_map-append, ◌++◌, ◌∷◌, ◌≡◌}
 use Rattle.made_rules.specs.Bytes.{words}
 use Rattle.made_rules.specs.Textures.{textures_row, texture_bytes, wall_textures, other_textures, made_textures}
 

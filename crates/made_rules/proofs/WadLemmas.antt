@@ -1,6 +1,5 @@
 -- Laws of lumps that stand one after the other.
-use Rattle.std.proofs.Common.{◌≡◌, ℕ, ◌+◌, ◌*◌, List, [], ◌∷◌, ◌++◌, length, refl, sym, ap, ◌∙◌, append_assoc, add-zero, arith}
-use Rattle.std.proofs.lemmas.Grind.{flat_map-append, common_steps}
+use Rattle.word_rules.proofs.Common.{[], add-zero, ap, append_assoc, arith, common_steps, flat_map-append, length, List, refl, sym, ℕ, ◌*◌, ◌++◌, ◌+◌, ◌∙◌, ◌∷◌, ◌≡◌}
 use Rattle.word_rules.specs.Listed.{listed}
 use Rattle.word_rules.proofs.ListedLemmas.{listed-zero, listed-more}
 use Rattle.made_rules.specs.declared.map.TheConstants.{CELLS_PER_NUMBER}

@@ -1,9 +1,5 @@
 -- Laws of a sprite's columns, and of what a fragment that it comes to marks, paints and clips.
-use Rattle.std.proofs.Common.{◌≡◌, ℕ, ◌+◌, ◌^◌, ◌<◌, ◌≤◌, min, max, ℤ, pos, ◌≤ℤ◌, ◌<ℤ◌, Bool, true, false, List, [], Option, Some, None, refl, sym, ap, ◌∙◌, subst, arith, inl, inr}
-use Rattle.std.specs.Prelude.{◌&&◌, ◌==◌, ◌⊎◌, not, nat_le, nat_lt, int_le, int_lt, bit_and}
-use Rattle.std.proofs.lemmas.Bool.{and_parts}
-use Rattle.std.proofs.lemmas.Bool.Decides.{nat_tests}
-use Rattle.std.proofs.lemmas.Int.{ints}
+use Rattle.word_rules.proofs.Common.{[], and-false_left, and-false_right, and_parts, ap, arith, bit_and, Bool, false, inl, inr, int_le, int_lt, ints, List, max, min, nat_le, nat_lt, nat_tests, None, not, Option, pos, refl, Some, subst, sym, true, ℕ, ℤ, ◌&&◌, ◌+◌, ◌<ℤ◌, ◌<◌, ◌==◌, ◌^◌, ◌∙◌, ◌≡◌, ◌≤ℤ◌, ◌≤◌, ◌⊎◌}
 use Rattle.view_rules.specs.View.{ViewValue}
 use Rattle.pixel_rules.specs.Art.{Art}
 use Rattle.picture_rules.specs.declared.wall.TheConstants.{SIL_BOTTOM, SIL_TOP}
@@ -15,7 +11,6 @@ use Rattle.vissprites.specs.Bounds.{lies_within}
 use Rattle.masked_draw.specs.Clipped.{clips_bottom, clips_top, row_after}
 use Rattle.masked_draw.specs.Marks.{AreOwnMarked, MarksBy, MissesColumns, is_between, is_passed, unmarked_dots}
 use Rattle.masked_draw.proofs.MarkLemmas.{marks-none, marks-same, unmarked-none, unmarked-plain, unmarked-same}
-use Rattle.word_rules.proofs.Logic.{and-false_left, and-false_right}
 
 -- a drawn fragment as its note has it
 pub record IsSegOf (d : FragmentNote) (drawseg : Drawseg) : Type 0 where

@@ -1,8 +1,5 @@
 -- What the loops of the masked pass have painted and marked, and how one fragment more changes it.
-use Rattle.std.proofs.Common.{◌≡◌, ℕ, ◌+◌, ◌-◌, ◌<◌, ℤ, pos, Bool, true, List, ◌++◌, Option, Some, None, Result, Ok, Err, IsErrAnd, length, get_or, refl, sym, ap, ◌∙◌, subst, arith}
-use Rattle.std.specs.Prelude.{slice_get, ◌≤ℤ◌, ⊤}
-use Rattle.std.proofs.lemmas.Int.{ints}
-use Rattle.std.proofs.lemmas.Option.{gets}
+use Rattle.word_rules.proofs.Common.{ap, arith, Bool, Err, get_or, gets, ints, IsErrAnd, length, List, None, Ok, Option, pos, refl, Result, slice_get, Some, subst, sym, true, ℕ, ℤ, ⊤, ◌++◌, ◌+◌, ◌-◌, ◌<◌, ◌∙◌, ◌≡◌, ◌≤ℤ◌}
 use Rattle.word_rules.specs.Words.{minus_one}
 use Rattle.lump_cache.specs.declared.fault.CacheFault.{CacheFault}
 use Rattle.lump_cache.specs.Caches.{cache_fault}

@@ -1,8 +1,5 @@
 -- Laws of the masked column of a fragment: whose bytes it has, and its dots by them.
-use Rattle.std.proofs.Common.{◌≡◌, ◌<◌, ◌≤◌, ◌≤ℤ◌, ℕ, ℤ, pos, negsuc, List, [], ◌∷◌, length, Option, Some, None, refl, sym, ap, subst, ◌∙◌, arith}
-use Rattle.std.specs.Prelude.{IfSome, IsSome, option_map, unsigned_abs, unwrap_or}
-use Rattle.std.proofs.lemmas.Int.{ints}
-use Rattle.std.proofs.lemmas.Nat.{and_le_r}
+use Rattle.word_rules.proofs.Common.{[], and_le_r, ap, arith, IfSome, ints, IsSome, length, List, negsuc, None, Option, option_map, pos, refl, Some, subst, sym, unsigned_abs, unwrap_or, ℕ, ℤ, ◌<◌, ◌∙◌, ◌∷◌, ◌≡◌, ◌≤ℤ◌, ◌≤◌}
 use Rattle.outside.specs.Shelf.{ShelfView}
 use Rattle.word_rules.specs.Words.{bits_of}
 use Rattle.word_rules.proofs.WordLemmas.{clamp_word-low, clamp_word-high}

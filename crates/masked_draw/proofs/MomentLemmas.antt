@@ -1,11 +1,7 @@
 -- Laws of the moments of masked columns: which sprite is the first in front of a column, asked sprite by sprite.
-use Rattle.std.proofs.Common.{◌≡◌, ℕ, zero, suc, ◌+◌, ◌-◌, ◌<◌, ◌≤◌, Bool, true, false, cond, List, Option, Some, None, length, refl, ap, sym, ◌∙◌, arith, is_some}
-use Rattle.std.specs.Prelude.{◌&&◌, ◌||◌, not, nat_lt, slice_get}
-use Rattle.std.proofs.lemmas.Bool.{lt-ltb}
-use Rattle.std.proofs.lemmas.Bool.Decides.{nat_tests}
+use Rattle.word_rules.proofs.Common.{ap, arith, Bool, cond, false, is_some, length, List, lt-ltb, lt-true, nat_lt, nat_tests, None, not, Option, refl, slice_get, Some, suc, sym, true, zero, ℕ, ◌&&◌, ◌+◌, ◌-◌, ◌<◌, ◌||◌, ◌∙◌, ◌≡◌, ◌≤◌}
 use Rattle.word_rules.specs.Least.{least, or_else}
 use Rattle.word_rules.proofs.LeastLemmas.{least-more, least-is}
-use Rattle.word_rules.proofs.Logic.{lt-true}
 use Rattle.picture_rules.specs.declared.sprite.SpriteEntry.{SpriteEntry}
 use Rattle.picture_rules.specs.sprite.Drawsegs.{Drawseg}
 use Rattle.picture_rules.specs.sprite.Clips.{sprite_in_front, stands_in_front}

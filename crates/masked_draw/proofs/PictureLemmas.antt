@@ -1,14 +1,8 @@
 -- Laws of the columns of a picture, by its bytes and those of the colormap.
-use Rattle.std.proofs.Common.{◌≡◌, ℕ, ◌+◌, ◌-◌, ◌≤◌, ℤ, pos, Bool, true, false, cond, List, [], ◌∷◌, ◌++◌, Option, Some, map, refl, sym, ap, ◌∙◌, arith}
-use Rattle.std.specs.Prelude.{◌&&◌, int_le, int_lt}
-use Rattle.std.specs.List.{range_with_len}
-use Rattle.std.proofs.lemmas.Int.{ints}
-use Rattle.std.proofs.lemmas.List.{append-nil}
-use Rattle.std.proofs.lemmas.List.FromFn.{map-range_with_len_more}
+use Rattle.word_rules.proofs.Common.{[], ap, append-nil, arith, Bool, cond, false, int_le, int_lt, ints, List, map, map-range_with_len_more, Option, pos, range_with_len, refl, Some, some-same, sym, true, ℕ, ℤ, ◌&&◌, ◌++◌, ◌+◌, ◌-◌, ◌∙◌, ◌∷◌, ◌≡◌, ◌≤◌}
 use Rattle.word_rules.specs.Words.{natural}
 use Rattle.word_rules.specs.Listed.{joined_lists, listed_from}
 use Rattle.word_rules.proofs.ListedLemmas.{joined_lists-append}
-use Rattle.word_rules.proofs.Logic.{some-same}
 use Rattle.lump_rules.specs.declared.wad.Lump.{Lump}
 use Rattle.view_rules.specs.View.{ViewValue}
 use Rattle.view_rules.specs.declared.ViewShape.{ViewShape}

@@ -1,10 +1,5 @@
 -- Laws of the posts of a masked column: which rows they have, and their dots one post after the other.
-use Rattle.std.proofs.Common.{◌≡◌, ◌+◌, ◌^◌, ◌≤◌, ◌<◌, ◌⊎◌, ℕ, ℤ, pos, negsuc, ◌+ℤ◌, ◌-ℤ◌, ◌≤ℤ◌, ◌<ℤ◌, FitsSigned, Bool, true, false, List, [], ◌∷◌, ◌++◌, length, Some, None, refl, sym, ap, subst, ◌∙◌, arith, inl, inr}
-use Rattle.std.specs.Prelude.{int_lt, slice_index, min, if◌then◌else◌}
-use Rattle.std.specs.Int.{w32}
-use Rattle.std.proofs.lemmas.Bool.{cases_lt}
-use Rattle.std.proofs.lemmas.Int.{ints, clamps, int_wrap_fits}
-use Rattle.std.proofs.lemmas.List.{get_or_past}
+use Rattle.word_rules.proofs.Common.{[], ap, arith, Bool, cases_lt, clamps, false, FitsSigned, get_or_past, if◌then◌else◌, inl, inr, int_lt, int_wrap_fits, ints, length, List, min, negsuc, None, pos, refl, slice_index, Some, subst, sym, true, w32, ℕ, ℤ, ◌++◌, ◌+ℤ◌, ◌+◌, ◌-ℤ◌, ◌<ℤ◌, ◌<◌, ◌^◌, ◌∙◌, ◌∷◌, ◌≡◌, ◌≤ℤ◌, ◌≤◌, ◌⊎◌}
 use Rattle.word_rules.specs.declared.TheConstants.{FRACTION_BITS}
 use Rattle.word_rules.specs.Words.{plus, minus, fixed, shr_word, greater_word, lesser_word, minus_one}
 use Rattle.word_rules.specs.Listed.{listed_from, joined_lists}

@@ -1,6 +1,5 @@
 -- Laws of the clips that a sprite takes from the fragments, the last first: the first that is taken stays.
-use Rattle.std.proofs.Common.{◌≡◌, ℕ, ◌+◌, ℤ, pos, ◌≤ℤ◌, Bool, true, false, cond, List, Option, Some, None, length, refl, ap, sym, ◌∙◌, subst}
-use Rattle.std.specs.Prelude.{slice_get, IfSome, unwrap_or, option_map}
+use Rattle.word_rules.proofs.Common.{ap, Bool, cond, false, IfSome, length, List, None, Option, option_map, pos, refl, slice_get, Some, subst, sym, true, unwrap_or, ℕ, ℤ, ◌+◌, ◌∙◌, ◌≡◌, ◌≤ℤ◌}
 use Rattle.word_rules.specs.Words.{minus_one}
 use Rattle.word_rules.specs.Least.{greatest, or_else}
 use Rattle.word_rules.proofs.LeastLemmas.{greatest-more}

@@ -1,12 +1,5 @@
 -- Laws of the notes of a scene as drawn fragments, and of what the calls ask of them.
-use Rattle.std.proofs.Common.{◌≡◌, ℕ, ◌≤◌, ◌<◌, ℤ, pos, ◌≤ℤ◌, ◌≢◌, Bool, true, List, Option, Some, length, get_or, refl, ap, ◌∙◌, subst, arith}
-use Rattle.std.specs.Prelude.{◌&&◌, ◌==◌, not, nat_le, int_lt, IfSome, option_map, slice_get, Result}
-use Rattle.std.proofs.lemmas.Bool.{and_parts, leb-true}
-use Rattle.std.proofs.lemmas.Bool.Decides.{nat_tests}
-use Rattle.std.proofs.lemmas.Option.{gets}
-use Rattle.std.proofs.lemmas.List.{length-map}
-use Rattle.std.proofs.lemmas.List.Elements.{All-get_or}
-use Rattle.std.proofs.lemmas.Option.{slice_get-map, slice_get_within}
+use Rattle.word_rules.proofs.Common.{All-get_or, and_parts, ap, arith, Bool, get_or, gets, IfSome, int_lt, leb-true, length, length-map, List, nat_le, nat_tests, not, Option, option_map, pos, refl, Result, slice_get, slice_get-map, slice_get_within, Some, subst, true, ℕ, ℤ, ◌&&◌, ◌<◌, ◌==◌, ◌∙◌, ◌≡◌, ◌≢◌, ◌≤ℤ◌, ◌≤◌}
 use Rattle.word_rules.specs.Words.{minus_one}
 use Rattle.lump_rules.specs.declared.wad.Lump.{Lump}
 use Rattle.zone_rules.specs.Zones.{Heap}

@@ -1,8 +1,5 @@
 -- Laws of a sprite that is painted by the clips that were taken.
-use Rattle.std.proofs.Common.{◌≡◌, ℕ, zero, suc, ◌+◌, ◌-◌, ◌<◌, ◌≤◌, ℤ, pos, Bool, true, false, cond, List, [], ◌++◌, Some, Result, Ok, length, map, refl, sym, ap, ◌∙◌, subst, arith}
-use Rattle.std.specs.Prelude.{◌&&◌, int_lt, nat_le, nat_lt, slice_get}
-use Rattle.std.proofs.lemmas.Bool.Decides.{nat_tests}
-use Rattle.std.specs.List.{range_with_len}
+use Rattle.word_rules.proofs.Common.{[], ap, arith, Bool, cond, false, int_lt, length, List, map, nat_le, nat_lt, nat_tests, Ok, pos, range_with_len, refl, Result, slice_get, Some, subst, suc, sym, true, zero, ℕ, ℤ, ◌&&◌, ◌++◌, ◌+◌, ◌-◌, ◌<◌, ◌∙◌, ◌≡◌, ◌≤◌}
 use Rattle.word_rules.specs.Words.{natural}
 use Rattle.word_rules.specs.Listed.{joined_lists, listed_from}
 use Rattle.lump_cache.specs.declared.fault.CacheFault.{CacheFault}

@@ -1,8 +1,5 @@
 -- Where no way to a leaf has more nodes than the depth, more depth gives the same walk.
-use Rattle.std.proofs.Common.{◌≡◌, ℕ, zero, suc, ◌+◌, ◌-◌, ◌≤◌, Bool, true, false, cond, Option, Some, None, refl, ap, sym, ◌∙◌, arith}
-use Rattle.std.specs.Prelude.{◌&&◌, slice_get, int_le}
-use Rattle.std.specs.Int.{from_bool}
-use Rattle.std.specs.Option.{option_map_or}
+use Rattle.word_rules.proofs.Common.{ap, arith, Bool, cond, false, from_bool, int_le, None, Option, option_map_or, refl, slice_get, Some, suc, sym, true, zero, ℕ, ◌&&◌, ◌+◌, ◌-◌, ◌∙◌, ◌≡◌, ◌≤◌}
 use Rattle.word_rules.specs.Words.{is_zero, differ, signs_differ, minus}
 use Rattle.view_rules.specs.View.{ViewValue}
 use Rattle.view_rules.specs.declared.Partition.{Partition}

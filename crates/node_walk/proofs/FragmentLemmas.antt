@@ -1,8 +1,5 @@
 -- A fragment among those that are listed.
-use Rattle.std.proofs.Common.{◌≡◌, ℕ, Bool, List, [], ◌∷◌, ◌++◌, map, refl, ap, sym, ◌∙◌, subst, arith}
-use Rattle.std.specs.List.{Contains}
-use Rattle.std.proofs.lemmas.List.{map-append}
-use Rattle.std.proofs.lemmas.List.Elements.{All-contains, Contains-append_right}
+use Rattle.word_rules.proofs.Common.{[], All-contains, ap, arith, Bool, Contains, Contains-append_right, List, map, map-append, refl, subst, sym, ℕ, ◌++◌, ◌∙◌, ◌∷◌, ◌≡◌}
 use Rattle.level_rules.specs.walk.Covered.{fragments, IsFragment}
 use Rattle.level_rules.specs.walk.Events.Event.{FragmentEvent}
 use Rattle.level_rules.proofs.walk.RunLemmas.{fragments-are}

@@ -1,10 +1,5 @@
 -- The range_gaps between ranges are the runs of uncovered columns, and there is none where the columns are hidden.
-use Rattle.std.proofs.Common.{◌≡◌, ℕ, zero, suc, ◌+◌, ◌-◌, ◌<◌, ◌≤◌, min, max, Bool, true, false, cond, List, [], ◌∷◌, ◌++◌, length, get_or, take, drop, refl, ap, sym, ◌∙◌, arith, inl, inr, append-nil}
-use Rattle.std.specs.Prelude.{nat_le, nat_lt, ◌&&◌, ◌||◌, replicate}
-use Rattle.std.proofs.lemmas.Bool.{cases_lt}
-use Rattle.std.proofs.lemmas.Bool.Decides.{nat_tests}
-use Rattle.std.proofs.Math.Seq.{drop-cons}
-use Rattle.std.proofs.lemmas.List.{get_or-drop, get_or-take}
+use Rattle.word_rules.proofs.Common.{[], ap, append-nil, arith, Bool, cases_lt, cond, drop, drop-cons, false, get_or, get_or-drop, get_or-take, inl, inr, length, List, max, min, nat_le, nat_lt, nat_tests, refl, replicate, suc, sym, take, true, zero, ℕ, ◌&&◌, ◌++◌, ◌+◌, ◌-◌, ◌<◌, ◌||◌, ◌∙◌, ◌∷◌, ◌≡◌, ◌≤◌}
 use Rattle.level_rules.specs.walk.Covered.{runs, fragments, hides, is_covered}
 use Rattle.level_rules.proofs.walk.CoverLemmas.{runs-covered, runs-open, fragments-hides, hides-fragments}
 use Rattle.node_walk.specs.declared.ranges.Range.{Range}

@@ -1,8 +1,5 @@
 -- The lists of a sound level are whole.
-use Rattle.std.proofs.Common.{◌≡◌, ℕ, ◌<◌, ◌≤◌, List, length, true, inl, inr, subst, sym, arith}
-use Rattle.std.specs.Option.{ForSome}
-use Rattle.std.proofs.lemmas.Bool.{ltb-true, cases_eq}
-use Rattle.std.proofs.lemmas.List.Elements.{All-weaker}
+use Rattle.word_rules.proofs.Common.{All-weaker, arith, cases_eq, ForSome, inl, inr, length, List, ltb-true, subst, sym, true, ℕ, ◌<◌, ◌≡◌, ◌≤◌}
 use Rattle.level_rules.specs.declared.Seg.{Seg}
 use Rattle.level_rules.specs.declared.Leaf.{Leaf}
 use Rattle.level_rules.specs.declared.Node.{Node}

@@ -1,7 +1,5 @@
 -- A part of a walk adds its events behind those that are there, and covers the same columns whatever they are.
-use Rattle.std.proofs.Common.{◌≡◌, ℕ, zero, suc, ◌+◌, ◌-◌, ◌<◌, ◌≤◌, Bool, true, false, cond, List, [], ◌∷◌, ◌++◌, map, Option, Some, None, refl, ap, sym, ◌∙◌, arith, replicate, append_assoc, append-nil, inl, inr}
-use Rattle.std.specs.Prelude.{◌==◌}
-use Rattle.std.proofs.lemmas.Bool.{cases_eq}
+use Rattle.word_rules.proofs.Common.{[], ap, append-nil, append_assoc, arith, Bool, cases_eq, cond, false, inl, inr, List, map, None, Option, refl, replicate, Some, suc, sym, true, zero, ℕ, ◌++◌, ◌+◌, ◌-◌, ◌<◌, ◌==◌, ◌∙◌, ◌∷◌, ◌≡◌, ◌≤◌}
 use Rattle.view_rules.specs.View.{ViewValue}
 use Rattle.view_rules.specs.declared.ColumnRange.{ColumnRange}
 use Rattle.view_rules.specs.declared.ColumnRange.TheVariants.{Behind, Outside, Columns}

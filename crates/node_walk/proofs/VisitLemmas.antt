@@ -1,8 +1,5 @@
 -- One part of a walk after another, as a visitor is given their events.
-use Rattle.std.proofs.Common.{◌≡◌, ℕ, ◌+◌, Bool, List, [], ◌++◌, take, length, Result, Ok, Err, OnOk, refl, subst, sym, ap, ◌∙◌, arith, append_assoc, append-nil}
-use Rattle.std.proofs.lemmas.List.{take-append-le, length-append}
-use Rattle.std.proofs.Math.Seq.{take-append-add}
-use Rattle.std.proofs.lemmas.Result.{on_ok_weaker, IfErr-weaker}
+use Rattle.word_rules.proofs.Common.{[], ap, append-nil, append_assoc, arith, Bool, Err, IfErr-weaker, length, length-append, List, Ok, on_ok_weaker, OnOk, refl, Result, subst, sym, take, take-append-add, take-append-le, ℕ, ◌++◌, ◌+◌, ◌∙◌, ◌≡◌}
 use Rattle.level_rules.specs.walk.Events.{Event, WalkState}
 use Rattle.node_walk.specs.Lists.{part_start}
 use Rattle.node_walk.specs.Visits.{Grew, StoppedAt, StillTakes, Visits, TakesAll, Walks}

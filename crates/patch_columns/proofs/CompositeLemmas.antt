@@ -1,9 +1,5 @@
 -- Laws of the composite while a patch is put into it column by column.
-use Rattle.std.proofs.Common.{◌≡◌, ℕ, ◌+◌, ◌<◌, Bool, true, false, cond, List, [], ◌∷◌, ◌++◌, length, take, get_or, slice_get, filter, Some, refl, ap, sym, ◌∙◌, append-nil}
-use Rattle.std.proofs.lemmas.Bool.{both_ways}
-use Rattle.std.proofs.lemmas.List.{take_more}
-use Rattle.std.proofs.lemmas.List.Elements.{filter-append}
-use Rattle.std.proofs.lemmas.Option.{get_or_from_slice_get, slice_get_within}
+use Rattle.word_rules.proofs.Common.{[], ap, append-nil, Bool, both_ways, cond, false, filter, filter-append, get_or, get_or_from_slice_get, length, List, refl, slice_get, slice_get_within, Some, sym, take, take_more, true, ℕ, ◌++◌, ◌+◌, ◌<◌, ◌∙◌, ◌∷◌, ◌≡◌}
 use Rattle.word_rules.specs.Listed.{listed, joined_lists}
 use Rattle.word_rules.proofs.ListedLemmas.{length-listed, joined_lists-append}
 use Rattle.art_rules.specs.declared.PlacedPatch.{PlacedPatch}

@@ -1,11 +1,5 @@
 -- Laws of the places that composed columns have in the composite.
-use Rattle.std.proofs.Common.{◌≡◌, ℕ, zero, suc, ◌+◌, ◌*◌, ◌<◌, ◌≤◌, Bool, true, false, cond, List, [], ◌∷◌, ◌++◌, length, get_or, take, refl, ap, sym, ◌∙◌, arith}
-use Rattle.std.specs.Prelude.{nat_lt}
-use Rattle.std.specs.List.{filter, range_with_len, sum_by}
-use Rattle.std.proofs.lemmas.Bool.Decides.{nat_tests}
-use Rattle.std.proofs.lemmas.List.{map-id, length-append}
-use Rattle.std.proofs.lemmas.List.FromFn.{filter_of_map_range_with_len_more}
-use Rattle.std.proofs.lemmas.List.Sums.{sum_by_more}
+use Rattle.word_rules.proofs.Common.{[], ap, arith, Bool, cond, false, filter, filter_of_map_range_with_len_more, get_or, length, length-append, List, map-id, nat_lt, nat_tests, range_with_len, refl, suc, sum_by, sum_by_more, sym, take, true, zero, ℕ, ◌*◌, ◌++◌, ◌+◌, ◌<◌, ◌∙◌, ◌∷◌, ◌≡◌, ◌≤◌}
 use Rattle.word_rules.specs.Listed.{listed}
 use Rattle.word_rules.proofs.ListedLemmas.{get_or-listed, length-listed}
 use Rattle.art_rules.specs.declared.PlacedPatch.{PlacedPatch}

@@ -1,6 +1,5 @@
 -- Laws of the posts from a place of a patch on, put one after the other.
-use Rattle.std.proofs.Common.{◌≡◌, ℕ, ◌+◌, ◌<◌, ◌≤◌, ℤ, pos, ◌+ℤ◌, Bool, true, false, List, [], ◌∷◌, length, map, Some, None, refl, ap, sym, ◌∙◌, arith}
-use Rattle.std.specs.Prelude.{if◌then◌else◌}
+use Rattle.word_rules.proofs.Common.{[], ap, arith, Bool, false, if◌then◌else◌, length, List, map, None, pos, refl, Some, sym, true, ℕ, ℤ, ◌+ℤ◌, ◌+◌, ◌<◌, ◌∙◌, ◌∷◌, ◌≡◌, ◌≤◌}
 use Rattle.pixel_rules.specs.declared.Post.{Post}
 use Rattle.art_rules.specs.Patches.{is_post, post_in, post_at, next_place, posts}
 use Rattle.art_rules.proofs.PostLemmas.{is_post-within, posts-none, posts-some}

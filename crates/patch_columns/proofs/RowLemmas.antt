@@ -1,11 +1,8 @@
 -- Laws of the rows of a column while one post is put there byte by byte.
-use Rattle.std.proofs.Common.{◌≡◌, ℕ, ◌+◌, ◌-◌, ◌<◌, ◌≢◌, ℤ, Bool, true, false, cond, ◌&&◌, List, [], ◌∷◌, length, get_or, set, Some, None, unwrap_or, refl, ◌∙◌, arith, get_or-set_same, get_or-set_other, inl, inr}
-use Rattle.std.specs.Prelude.{nat_le, nat_lt}
-use Rattle.std.proofs.lemmas.Bool.{cases_eq}
-use Rattle.std.proofs.lemmas.Bool.Decides.{nat_tests}
+use Rattle.word_rules.proofs.Common.{[], arith, Bool, cases_eq, cond, false, get_or, get_or-set_other, get_or-set_same, inl, inr, length, List, nat_le, nat_lt, nat_tests, None, refl, Some, true, unwrap_or, within-row, ℕ, ℤ, ◌&&◌, ◌+◌, ◌-◌, ◌<◌, ◌∙◌, ◌∷◌, ◌≡◌, ◌≢◌}
+use Rattle.std.proofs.Common.{set}
 use Rattle.word_rules.specs.Least.{or_else}
 use Rattle.word_rules.proofs.ListedLemmas.{listed-all}
-use Rattle.word_rules.proofs.Logic.{within-row}
 use Rattle.pixel_rules.specs.declared.Post.{Post}
 use Rattle.art_rules.specs.Bytes.{byte_at}
 use Rattle.art_rules.specs.Columns.{put_count, first_row, is_put_at, put_byte, last_put}

@@ -1,10 +1,6 @@
 -- Laws of the columns of a texture while its patches come one after the other.
-use Rattle.std.proofs.Common.{◌≡◌, ◌≢◌, ℕ, ◌+◌, ◌<◌, ◌≤◌, ◌^◌, Bool, true, false, cond, pos, Fits, w8, List, [], ◌∷◌, ◌++◌, length, get_or, set, refl, ap, sym, ◌∙◌, arith, inl, inr}
-use Rattle.std.specs.Prelude.{◌-ℤ◌, ◌≤ℤ◌, ◌<ℤ◌}
-use Rattle.std.proofs.lemmas.Int.{ints}
-use Rattle.std.proofs.lemmas.List.{append-nil, get_or-set_same, get_or-set_other}
-use Rattle.std.proofs.lemmas.List.Elements.{filter-append}
-use Rattle.std.proofs.lemmas.Bool.{cases_lt}
+use Rattle.word_rules.proofs.Common.{[], ap, append-nil, arith, Bool, cases_lt, cond, false, filter-append, Fits, get_or, get_or-set_other, get_or-set_same, inl, inr, ints, length, List, pos, refl, sym, true, w8, ℕ, ◌++◌, ◌+◌, ◌-ℤ◌, ◌<ℤ◌, ◌<◌, ◌^◌, ◌∙◌, ◌∷◌, ◌≡◌, ◌≢◌, ◌≤ℤ◌, ◌≤◌}
+use Rattle.std.proofs.Common.{set}
 use Rattle.word_rules.specs.Listed.{listed}
 use Rattle.word_rules.proofs.ListedLemmas.{get_or-listed, length-listed, listed-all}
 use Rattle.art_rules.specs.declared.PlacedPatch.{PlacedPatch}

@@ -1,6 +1,5 @@
 -- Laws of the counts of a list of steps to which one more is added.
-use Rattle.std.proofs.Common.{◌≡◌, ℕ, List, [], ◌∷◌, ◌++◌, map, refl, ap, sym, ◌∙◌}
-use Rattle.std.proofs.lemmas.List.{append-nil, append_assoc}
+use Rattle.word_rules.proofs.Common.{[], ap, append-nil, append_assoc, List, map, refl, sym, ℕ, ◌++◌, ◌∙◌, ◌∷◌, ◌≡◌}
 use Rattle.picture_rules.specs.plane.Built.{PlanesNow, after_event, after_events, plane_counts}
 use Rattle.picture_rules.specs.declared.OverLimit.{OverLimit}
 use Rattle.picture_rules.specs.Planes.{Step}

@@ -1,6 +1,5 @@
 -- Laws of one event more: the drawn fragments, the steps with planes and openings, and the vissprites' sectors; and an empty list.
-use Rattle.std.proofs.Common.{◌≡◌, ℕ, ◌+◌, ◌<◌, ◌≤◌, List, [], ◌∷◌, ◌++◌, Some, length, map, refl, ap, sym, ◌∙◌, arith}
-use Rattle.std.proofs.lemmas.List.{map-append, length-map, append-nil, append_assoc}
+use Rattle.word_rules.proofs.Common.{[], ap, append-nil, append_assoc, arith, funext, length, length-map, List, map, map-append, refl, Some, sym, ℕ, ◌++◌, ◌+◌, ◌<◌, ◌∙◌, ◌∷◌, ◌≡◌, ◌≤◌}
 use Rattle.view_rules.specs.View.{ViewValue}
 use Rattle.level_rules.specs.declared.walk.TheConstants.{MAX_DRAWSEGS}
 use Rattle.level_rules.specs.walk.Events.{Event}
@@ -22,7 +21,6 @@ use Rattle.picture_rules.specs.Planes.{Step, plane_wall, leaf_step, wall_step, s
 use Rattle.picture_rules.specs.Masked.{drawsegs_from, view_drawsegs}
 use Rattle.picture_rules.specs.Things.{first_mentions, sectors_entered, with_sectors, view_entries}
 use Rattle.picture_rules.specs.Paints.{paints_by, paints_of}
-use Rattle.word_rules.proofs.Logic.{funext}
 
 -- a leaf adds no fragment
 pub walls_of-leaf : (v : ViewValue) (scene : Scene) (es : List Event) (n : ℕ) → walls_of v scene (es ++ LeafEvent n ∷ []) ≡ walls_of v scene es

@@ -1,9 +1,5 @@
 -- Laws of frames: the cells of a canvas that was given the dots of a view are its picture, or its trace.
-use Rattle.std.proofs.Common.{◌≡◌, ℕ, ◌+◌, ◌-◌, ◌%◌, ◌/◌, ◌<◌, ◌≤◌, Bool, true, false, cond, List, [], ◌∷◌, ◌++◌, Option, Some, None, length, get_or, map, refl, ap, sym, ◌∙◌, subst, arith, inl, inr}
-use Rattle.std.specs.Prelude.{◌==◌, ◌&&◌, ◌⊎◌, nat_le, nat_lt}
-use Rattle.std.proofs.lemmas.Bool.{cases_lt, ne_eqb, and_left, and_right, and_from, le-leb, lt-leb, lt-ltb}
-use Rattle.std.specs.List.{range_with_len}
-use Rattle.std.proofs.lemmas.List.{append-nil}
+use Rattle.word_rules.proofs.Common.{[], and_from, and_left, and_right, ap, append-nil, arith, Bool, cases_lt, cond, false, get_or, inl, inr, le-leb, length, List, lt-leb, lt-ltb, map, nat_le, nat_lt, ne_eqb, None, Option, range_with_len, refl, Some, subst, sym, true, ℕ, ◌%◌, ◌&&◌, ◌++◌, ◌+◌, ◌-◌, ◌/◌, ◌<◌, ◌==◌, ◌∙◌, ◌∷◌, ◌≡◌, ◌≤◌, ◌⊎◌}
 use Rattle.word_rules.specs.Listed.{listed, joined_lists}
 use Rattle.word_rules.proofs.ListedLemmas.{listed-all}
 use Rattle.view_rules.specs.View.{ViewValue}

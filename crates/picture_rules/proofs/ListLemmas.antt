@@ -1,10 +1,5 @@
 -- Laws of the list of a view: what one event more adds to each of its parts, and of which things its vissprites are.
-use Rattle.std.proofs.Common.{◌≡◌, ℕ, zero, suc, ◌+◌, ◌<◌, ◌≤◌, Bool, true, false, cond, List, [], ◌∷◌, ◌++◌, length, map, Option, Some, None, refl, sym, ap, ◌∙◌, subst, arith, inl, inr}
-use Rattle.std.specs.Prelude.{◌⊎◌, min, filter, replicate, nat_lt, slice_get}
-use Rattle.std.proofs.lemmas.Bool.{cases_lt}
-use Rattle.std.proofs.lemmas.Bool.Decides.{nat_tests}
-use Rattle.std.proofs.lemmas.List.{append-nil, append_assoc, length-append, length-replicate, length_push, length-map, length-take, map-append}
-use Rattle.std.proofs.lemmas.Option.{slice_get_within}
+use Rattle.word_rules.proofs.Common.{[], ap, append-nil, append_assoc, arith, Bool, cases_lt, cond, false, filter, inl, inr, length, length-append, length-map, length-replicate, length-take, length_push, List, map, map-append, min, nat_lt, nat_tests, None, Option, refl, replicate, slice_get, slice_get_within, Some, subst, suc, sym, true, zero, ℕ, ◌++◌, ◌+◌, ◌<◌, ◌∙◌, ◌∷◌, ◌≡◌, ◌≤◌, ◌⊎◌}
 use Rattle.word_rules.specs.Listed.{joined_lists}
 use Rattle.word_rules.proofs.ListedLemmas.{joined_lists-append}
 use Rattle.view_rules.specs.View.{ViewValue}

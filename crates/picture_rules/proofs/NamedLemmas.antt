@@ -1,10 +1,5 @@
 -- Laws of what a trace names: each dot of a view's paints is of an item of the view's list, in its columns.
-use Rattle.std.proofs.Common.{◌≡◌, ℕ, zero, suc, ◌+◌, ◌≤◌, Bool, true, false, cond, ℤ, List, [], ◌∷◌, ◌++◌, length, map, Option, Some, None, refl, sym, ap, ◌∙◌, subst, arith, inl, inr}
-use Rattle.std.specs.Prelude.{◌⊎◌, ◌≢◌, All, int_lt, slice_get}
-use Rattle.std.specs.List.{AllByRecursion, zip}
-use Rattle.std.specs.Option.{option_map}
-use Rattle.std.proofs.lemmas.List.Elements.{All-from_recursion, All-weaker}
-use Rattle.std.proofs.lemmas.Option.{same_Some, slice_get-map}
+use Rattle.word_rules.proofs.Common.{[], All, All-from_recursion, All-weaker, AllByRecursion, ap, arith, Bool, cond, false, inl, inr, int_lt, length, List, map, None, Option, option_map, refl, same_Some, slice_get, slice_get-map, Some, subst, suc, sym, true, zero, zip, ℕ, ℤ, ◌++◌, ◌+◌, ◌∙◌, ◌∷◌, ◌≡◌, ◌≢◌, ◌≤◌, ◌⊎◌}
 use Rattle.word_rules.specs.Listed.{joined_lists, listed, listed_from}
 use Rattle.word_rules.specs.Words.{natural}
 use Rattle.view_rules.specs.View.{ViewValue}

@@ -1,10 +1,5 @@
 -- Laws of the vissprites of a list of events to which one more is added.
-use Rattle.std.proofs.Common.{◌≡◌, ℕ, Bool, true, false, cond, List, [], ◌∷◌, ◌++◌, map, refl, ap, sym, ◌∙◌}
-use Rattle.std.specs.Prelude.{◌==◌, ◌||◌}
-use Rattle.std.specs.List.{list_any}
-use Rattle.std.proofs.lemmas.Bool.{eqb-true}
-use Rattle.std.proofs.lemmas.List.{map-append, append-nil}
-use Rattle.std.proofs.Math.Bool.{or-false}
+use Rattle.word_rules.proofs.Common.{[], ap, append-nil, Bool, cond, eqb-true, false, List, list_any, map, map-append, or-false, refl, sym, true, ℕ, ◌++◌, ◌==◌, ◌||◌, ◌∙◌, ◌∷◌, ◌≡◌}
 use Rattle.view_rules.specs.View.{ViewValue}
 use Rattle.level_rules.specs.walk.Events.{Event}
 use Rattle.level_rules.specs.walk.Events.Event.{LeafEvent, FragmentEvent}

@@ -1,12 +1,7 @@
 -- Laws of dots that are listed column by column, or row by row: a pixel has those of its own column or row alone.
-use Rattle.std.proofs.Common.{◌≡◌, ℕ, zero, suc, ◌+◌, ◌-◌, ◌<◌, ◌≤◌, ◌≢◌, Bool, true, false, cond, List, [], ◌∷◌, Option, Some, None, refl, ap, sym, ◌∙◌, arith, eq-eqb, inl, inr}
-use Rattle.std.specs.Prelude.{◌==◌, ◌&&◌, ◌⊎◌, map}
-use Rattle.std.specs.List.{range_with_len, flat_map}
-use Rattle.std.proofs.lemmas.Bool.{cases_eq, cases_lt, ne_eqb, and_right}
-use Rattle.std.proofs.lemmas.List.{map-id}
+use Rattle.word_rules.proofs.Common.{[], and_right, ap, arith, Bool, cases_eq, cases_lt, cond, eq-eqb, false, flat_map, inl, inr, List, map, map-id, ne_eqb, None, Option, or_else-none_right, range_with_len, refl, Some, suc, sym, true, zero, ℕ, ◌&&◌, ◌+◌, ◌-◌, ◌<◌, ◌==◌, ◌∙◌, ◌∷◌, ◌≡◌, ◌≢◌, ◌≤◌, ◌⊎◌}
 use Rattle.word_rules.specs.Least.{or_else}
 use Rattle.word_rules.specs.Listed.{listed, listed_from, joined_lists}
-use Rattle.word_rules.proofs.Logic.{or_else-none_right}
 use Rattle.pixel_rules.specs.declared.Painter.{Painter}
 use Rattle.pixel_rules.specs.Dots.{Dot, is_at, last_dot_from, last_dot, AreInColumn, AreInRow}
 use Rattle.pixel_rules.specs.Strips.{column_dots, span_dots}

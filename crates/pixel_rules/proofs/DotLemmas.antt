@@ -1,10 +1,7 @@
 -- Laws of dots: put one list after the other, the last one at a pixel, and the cells that they leave.
-use Rattle.std.proofs.Common.{◌≡◌, ℕ, ◌+◌, ◌<◌, ◌≢◌, Bool, true, false, cond, List, [], ◌∷◌, ◌++◌, Option, Some, None, length, get_or, set, refl, ap, sym, ◌∙◌, subst, arith, get_or-set_same, get_or-set_other, length-set, eq-eqb, inl, inr}
-use Rattle.std.specs.Prelude.{◌-◌, ◌%◌, ◌/◌, ◌≤◌, ◌⊎◌}
-use Rattle.std.proofs.lemmas.Bool.{cases_eq, cases_lt, ne_eqb}
-use Rattle.std.proofs.lemmas.List.{same_lists}
+use Rattle.word_rules.proofs.Common.{[], ap, arith, Bool, cases_eq, cases_lt, cond, eq-eqb, false, get_or, get_or-set_other, get_or-set_same, inl, inr, length, length-set, List, ne_eqb, None, Option, or_else-assoc, refl, same_lists, Some, subst, sym, true, ℕ, ◌%◌, ◌++◌, ◌+◌, ◌-◌, ◌/◌, ◌<◌, ◌∙◌, ◌∷◌, ◌≡◌, ◌≢◌, ◌≤◌, ◌⊎◌}
+use Rattle.std.proofs.Common.{set}
 use Rattle.word_rules.specs.Least.{or_else}
-use Rattle.word_rules.proofs.Logic.{or_else-assoc}
 use Rattle.pixel_rules.specs.declared.Painter.{Painter}
 use Rattle.view_rules.specs.declared.TheConstants.{FRAME_WIDTH, FRAME_HEIGHT}
 use Rattle.pixel_rules.specs.Dots.{Dot, cell_of, put_dots, is_at, last_dot_from, last_dot, mark_or, AreInFrame}

@@ -1,12 +1,6 @@
 -- Laws of strips: one pixel more, where a strip's dots are, and fractions that are stepped.
-use Rattle.std.proofs.Common.{◌≡◌, ℕ, zero, suc, ◌+◌, ◌-◌, ◌<◌, ◌≤◌, true, false, ℤ, pos, List, [], ◌∷◌, ◌++◌, refl, ap, sym, ◌∙◌, arith, inl, inr}
-use Rattle.std.specs.Prelude.{int_lt, map, ◌+ℤ◌, ◌-ℤ◌, ◌*ℤ◌, FitsSigned}
-use Rattle.std.specs.Int.{w32, int_wrap}
-use Rattle.std.specs.List.{range_with_len}
-use Rattle.std.proofs.lemmas.Int.{int_wrap-add_left, int_wrap-add_right, int_wrap-mul_left, SFits-int_wrap}
+use Rattle.word_rules.proofs.Common.{[], ap, arith, cases_lt, false, FitsSigned, inl, inr, int_lt, int_wrap, int_wrap-add_left, int_wrap-add_right, int_wrap-mul_left, List, map, map-append, pos, range_with_len, refl, SFits-int_wrap, suc, sym, true, w32, zero, ℕ, ℤ, ◌*ℤ◌, ◌++◌, ◌+ℤ◌, ◌+◌, ◌-ℤ◌, ◌-◌, ◌<◌, ◌∙◌, ◌∷◌, ◌≡◌, ◌≤◌}
 use lib.IntN.{neg_ℤ, +ℤ_assoc, +ℤ_comm, suc_ℤ-*ℤ, suc_ℤ-+ℤ}
-use Rattle.std.proofs.lemmas.Bool.{cases_lt}
-use Rattle.std.proofs.lemmas.List.{map-append}
 use Rattle.word_rules.specs.Words.{plus, minus, times, natural}
 use Rattle.word_rules.specs.Steps.{step_at}
 use Rattle.word_rules.proofs.StepLemmas.{step_at-zero, step_at-more}

@@ -1,8 +1,6 @@
 -- A canvas after one dot more.
-use Rattle.std.proofs.Common.{◌≡◌, ℕ, ◌+◌, List, [], ◌∷◌, ◌++◌, ap, sym, ◌∙◌, set}
-use Rattle.std.specs.Prelude.{map}
-use Rattle.std.specs.List.{range_with_len}
-use Rattle.std.proofs.lemmas.List.FromFn.{map-range_with_len_more}
+use Rattle.word_rules.proofs.Common.{[], ap, List, map, map-range_with_len_more, range_with_len, sym, ℕ, ◌++◌, ◌+◌, ◌∙◌, ◌∷◌, ◌≡◌}
+use Rattle.std.proofs.Common.{set}
 use Rattle.word_rules.specs.Listed.{listed_from}
 use Rattle.word_rules.proofs.ListedLemmas.{listed_from-length}
 use Rattle.pixel_rules.specs.declared.Painter.{Painter}

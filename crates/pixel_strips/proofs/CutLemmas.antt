@@ -1,7 +1,5 @@
 -- Colours of texels and shades that are cut out.
-use Rattle.std.proofs.Common.{◌≡◌, ℕ, ◌+◌, ◌-◌, ◌*◌, ◌/◌, ◌%◌, ◌^◌, ◌<◌, List, FitsSigned, ap, ap₂, ◌∙◌, arith, to_z, of_z}
-use Rattle.std.specs.Prelude.{slice_index, ℤ}
-use Rattle.std.specs.Int.{w32}
+use Rattle.word_rules.proofs.Common.{ap, ap₂, arith, FitsSigned, List, of_z, slice_index, to_z, w32, ℕ, ℤ, ◌%◌, ◌*◌, ◌+◌, ◌-◌, ◌/◌, ◌<◌, ◌^◌, ◌∙◌, ◌≡◌}
 use Rattle.std.proofs.lemmas.Int.{to_z-of_z}
 use Rattle.pixel_rules.specs.declared.TheConstants.{TEXEL_ROWS, FLAT_SIDE, MAP_COLOURS}
 use Rattle.view_rules.specs.declared.Spans.{Spans}

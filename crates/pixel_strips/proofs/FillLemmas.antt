@@ -1,7 +1,6 @@
 -- Laws of `fill_cells`: one cell more, and that the cells of a strip of a frame are those of its dots.
-use Rattle.std.proofs.Common.{◌≡◌, ℕ, zero, suc, ◌+◌, ◌-◌, ◌*◌, ◌<◌, ◌≤◌, ◌≢◌, max, ℤ, List, [], ◌∷◌, ◌++◌, set, inl, inr, refl, ap, subst, sym, ◌∙◌, arith}
-use Rattle.std.proofs.lemmas.Bool.{cases_lt}
-use Rattle.std.proofs.lemmas.List.{set-set, set_comm}
+use Rattle.word_rules.proofs.Common.{[], ap, arith, cases_lt, inl, inr, List, max, refl, set-set, set_comm, subst, suc, sym, zero, ℕ, ℤ, ◌*◌, ◌++◌, ◌+◌, ◌-◌, ◌<◌, ◌∙◌, ◌∷◌, ◌≡◌, ◌≢◌, ◌≤◌}
+use Rattle.std.proofs.Common.{set}
 use Rattle.view_rules.specs.declared.TheConstants.{FRAME_WIDTH}
 use Rattle.view_rules.specs.declared.Spans.{Spans}
 use Rattle.pixel_rules.specs.declared.Painter.{Painter}

@@ -1,10 +1,8 @@
 -- Laws of places: the first one, one step more, and the texel that a place stands for.
-use Rattle.std.proofs.Common.{◌≡◌, ℕ, zero, suc, ◌+◌, ◌*◌, ◌/◌, ◌%◌, ◌^◌, ◌<◌, ◌≤◌, ℤ, pos, negsuc, FitsSigned, refl, subst, subst₂, to_z, of_z, sym, ap, ap₂, ◌∙◌, arith, add-mul, mul-suc, mod-lt, pow_pos}
-use Rattle.std.proofs.Math.Nat.{suc-mul}
+use Rattle.word_rules.proofs.Common.{ap, ap₂, arith, cast_unsigned, FitsSigned, mul-mod_first, mul-suc, negsuc, of_z, of_z-to_z, pos, pow_pos, refl, SFits-int_wrap, subst, subst₂, suc, suc-mul, sym, to_z, w32, wrapping_add_is, zero, ℕ, ℤ, ◌%◌, ◌*◌, ◌+◌, ◌/◌, ◌<◌, ◌^◌, ◌∙◌, ◌≡◌, ◌≤◌}
+use Rattle.std.proofs.Common.{add-mul, mod-lt}
 use native.Mathlib.Nat.{add-mod}
-use Rattle.std.specs.Int.{w32, cast_unsigned}
-use Rattle.std.proofs.lemmas.Int.{of_z-to_z, to_z-of_z, wrapping_add_is, SFits-int_wrap}
-use Rattle.std.proofs.lemmas.Nat.{mul-mod_first}
+use Rattle.std.proofs.lemmas.Int.{to_z-of_z}
 use lib.IntN.{◌+ℤ◌}
 use Rattle.word_rules.specs.Steps.{step_at}
 use Rattle.word_rules.proofs.StepLemmas.{step_at-zero, step_at-more}

@@ -1,7 +1,5 @@
 -- Strips as the rules of pixels have them: at each row the fraction of that row.
-use Rattle.std.proofs.Common.{◌≡◌, ℕ, zero, suc, ◌+◌, ◌-◌, ℤ, pos, List, ◌∷◌, refl, sym, ap, ◌∙◌, arith}
-use Rattle.std.specs.Prelude.{map, slice_index, int_lt, false}
-use Rattle.std.specs.List.{range_with_len}
+use Rattle.word_rules.proofs.Common.{ap, arith, false, int_lt, List, map, pos, range_with_len, refl, slice_index, suc, sym, zero, ℕ, ℤ, ◌+◌, ◌-◌, ◌∙◌, ◌∷◌, ◌≡◌}
 use Rattle.word_rules.specs.Words.{natural}
 use Rattle.word_rules.specs.Steps.{step_at}
 use Rattle.word_rules.specs.Listed.{listed_from}

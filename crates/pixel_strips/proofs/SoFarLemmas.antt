@@ -1,6 +1,5 @@
 -- A strip that is painted dot by dot: what stands so far, at its begin, one dot more, and at its end.
-use Rattle.std.proofs.Common.{◌≡◌, ℕ, ◌+◌, ◌-◌, ◌≤◌, ℤ, FitsSigned, List, [], subst, ap, ap₂, sym, ◌∙◌, refl, arith, to_z, of_z}
-use Rattle.std.specs.Int.{w32}
+use Rattle.word_rules.proofs.Common.{[], ap, ap₂, arith, FitsSigned, List, of_z, refl, subst, sym, to_z, w32, ℕ, ℤ, ◌+◌, ◌-◌, ◌∙◌, ◌≡◌, ◌≤◌}
 use Rattle.std.proofs.lemmas.Int.{to_z-of_z}
 use Rattle.word_rules.specs.Words.{plus}
 use Rattle.word_rules.specs.Steps.{step_at}

@@ -1,8 +1,5 @@
 -- What each call that draws planes may take from what it asks.
-use Rattle.std.proofs.Common.{◌≡◌, ◌<◌, ◌≤◌, ℕ, zero, suc, Bool, true, false, List, [], ◌∷◌, Option, Some, None, length, refl, sym, ap, subst, ◌∙◌, arith, inl, inr, ◌⊎◌}
-use Rattle.std.specs.Prelude.{◌↔◌, nat_le, slice_index_or, All, IfSome, IsSome, Result}
-use Rattle.std.proofs.lemmas.Bool.{and_from, false≢true, le-leb}
-use Rattle.std.proofs.lemmas.List.Elements.{All-get_or, Contains-get_or}
+use Rattle.word_rules.proofs.Common.{[], All, All-get_or, and_from, ap, arith, Bool, Contains-get_or, false, false≢true, IfSome, inl, inr, IsSome, le-leb, length, List, nat_le, None, Option, refl, Result, slice_index_or, Some, subst, suc, sym, true, zero, ℕ, ◌<◌, ◌↔◌, ◌∙◌, ◌∷◌, ◌≡◌, ◌≤◌, ◌⊎◌}
 use Rattle.view_rules.specs.declared.ViewShape.{ViewShape}
 use Rattle.picture_rules.specs.declared.plane.Flat4.{Flat4}
 use Rattle.picture_rules.specs.declared.plane.Flat4.TheVariants as flat

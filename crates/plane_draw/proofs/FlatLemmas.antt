@@ -1,6 +1,5 @@
 -- Laws of a floor that was painted by its flat and the colormap.
-use Rattle.std.proofs.Common.{◌≡◌, ℕ, List, [], refl, sym, ap, subst}
-use Rattle.std.specs.Prelude.{slice_index}
+use Rattle.word_rules.proofs.Common.{[], ap, List, refl, slice_index, subst, sym, ℕ, ◌≡◌}
 use Rattle.view_rules.specs.View.{ViewValue}
 use Rattle.pixel_rules.specs.declared.Painter.{Painter}
 use Rattle.pixel_rules.specs.Art.{Art}

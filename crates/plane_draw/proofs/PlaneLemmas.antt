@@ -1,8 +1,5 @@
 -- Laws of the dots of planes: one by one, by their flats, and by the art of a scene.
-use Rattle.std.proofs.Common.{◌≡◌, ◌+◌, ◌-◌, ◌<◌, ◌≤◌, ℕ, zero, suc, List, [], ◌∷◌, ◌++◌, length, map, Option, Some, None, refl, sym, ap, ◌∙◌, arith, inl, inr}
-use Rattle.std.specs.List.{range_with_len}
-use Rattle.std.proofs.lemmas.Bool.{cases_lt}
-use Rattle.std.proofs.lemmas.List.{append-nil}
+use Rattle.word_rules.proofs.Common.{[], ap, append-nil, arith, cases_lt, inl, inr, length, List, map, None, Option, range_with_len, refl, Some, suc, sym, zero, ℕ, ◌++◌, ◌+◌, ◌-◌, ◌<◌, ◌∙◌, ◌∷◌, ◌≡◌, ◌≤◌}
 use Rattle.word_rules.specs.Listed.{joined_lists, listed}
 use Rattle.word_rules.proofs.ListedLemmas.{joined_lists-append, listed-more, listed_from-none}
 use Rattle.lump_rules.specs.declared.wad.Lump.{Lump}

@@ -1,6 +1,5 @@
 -- Laws of `each_from`.
-use Rattle.std.proofs.Common.{◌≡◌, ℕ, suc, ◌+◌, ◌<◌, ◌≤◌, List, [], ◌∷◌, ◌++◌, length, drop, get_or, Option, Some, None, Result, Ok, Err, refl, sym, ap, ◌∙◌, append_assoc, arith}
-use Rattle.std.proofs.lemmas.List.{at_drop_more, at_drop_all, append-nil}
+use Rattle.word_rules.proofs.Common.{[], ap, append-nil, append_assoc, arith, at_drop_all, at_drop_more, drop, Err, get_or, length, List, None, Ok, Option, refl, Result, Some, suc, sym, ℕ, ◌++◌, ◌+◌, ◌<◌, ◌∙◌, ◌∷◌, ◌≡◌, ◌≤◌}
 use Rattle.outside.specs.Faults.{and_then}
 use Rattle.scene_rules.specs.Numbered.{each_from, each_or}
 

@@ -1,7 +1,5 @@
 -- Laws of `is_wanted_texture`.
-use Rattle.std.proofs.Common.{◌≡◌, ℕ, ◌+◌, ◌<◌, ◌==◌, ◌&&◌, ◌||◌, Bool, true, false, not, List, [], length, take, get_or, Option, refl, ap, ◌∙◌}
-use Rattle.std.specs.List.{list_any}
-use Rattle.std.proofs.lemmas.List.Folds.{list_any_more}
+use Rattle.word_rules.proofs.Common.{[], ap, Bool, false, get_or, length, List, list_any, list_any_more, not, Option, refl, take, true, ℕ, ◌&&◌, ◌+◌, ◌<◌, ◌==◌, ◌||◌, ◌∙◌, ◌≡◌}
 use Rattle.level_rules.specs.declared.SideTextures.{SideTextures}
 use Rattle.scene_rules.specs.Sides.{is_sky_texture, is_wanted_texture, shows_texture}
 

@@ -1,6 +1,5 @@
 -- Laws of `sky_name`.
-use Rattle.std.proofs.Common.{◌≡◌, ℕ, ◌<◌, ◌==◌, Bool, true, false, cond, nat_lt, List, length, Some, refl, sym, ap, ◌∙◌}
-use Rattle.std.specs.Prelude.{slice_index, if◌then◌else◌}
+use Rattle.word_rules.proofs.Common.{ap, Bool, cond, false, if◌then◌else◌, length, List, nat_lt, refl, slice_index, Some, sym, true, ℕ, ◌<◌, ◌==◌, ◌∙◌, ◌≡◌}
 use Rattle.word_rules.proofs.LeastLemmas.{least-is}
 use Rattle.lump_rules.specs.Names.{name_of, filled}
 use Rattle.art_rules.specs.Textures.{Texture, is_named, is_no_texture, least_named, texture_number}

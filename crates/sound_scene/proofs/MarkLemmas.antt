@@ -1,14 +1,5 @@
 -- Marks by number, one set after the other.
-use Rattle.std.proofs.Common.{◌≡◌, ℕ, zero, suc, ◌+◌, ◌<◌, ◌≤◌, Bool, true, false, cond, List, [], ◌∷◌, length, get_or, take, filter, refl, ap, ◌∙◌, arith, inl, inr}
-use Rattle.std.specs.Prelude.{◌==◌, ◌&&◌, ◌||◌, nat_le, nat_lt, Option}
-use Rattle.std.specs.List.{All, list_any, range_with_len}
-use Rattle.std.proofs.Math.Bool.{or_assoc}
-use Rattle.std.proofs.lemmas.Bool.{cases_lt}
-use Rattle.std.proofs.lemmas.Bool.Decides.{nat_tests}
-use Rattle.std.proofs.lemmas.List.{take_all}
-use Rattle.std.proofs.lemmas.List.Elements.{All-filter}
-use Rattle.std.proofs.lemmas.List.Folds.{list_any_none}
-use Rattle.std.proofs.lemmas.List.FromFn.{get_or-range_with_len, length-range_with_len}
+use Rattle.word_rules.proofs.Common.{[], All, All-filter, ap, arith, Bool, cases_lt, cond, eq-false_above, eq-same, false, filter, get_or, get_or-range_with_len, inl, inr, length, length-range_with_len, List, list_any, list_any_none, nat_le, nat_lt, nat_tests, Option, or_assoc, range_with_len, refl, suc, take, take_all, true, zero, ℕ, ◌&&◌, ◌+◌, ◌<◌, ◌==◌, ◌||◌, ◌∙◌, ◌∷◌, ◌≡◌, ◌≤◌}
 use Rattle.lump_rules.specs.declared.wad.Lump.{Lump}
 use Rattle.lump_rules.specs.declared.names.TheConstants.{MAP_LUMPS}
 use Rattle.lump_rules.specs.declared.wad.LumpNo.{LumpNo}
@@ -17,7 +8,6 @@ use Rattle.texture_build.specs.Views.{is_marked}
 use Rattle.texture_build.proofs.MarkLemmas.{filter_same}
 use Rattle.scene_rules.specs.Sizes.{SceneArt, is_map_lump, is_needed, needed_lumps}
 use Rattle.sound_scene.specs.Views.{AddsMarks, lump_numbers}
-use Rattle.word_rules.proofs.Logic.{eq-false_above, eq-same}
 
 -- marks set by two calls
 pub adds_then : (a b c : List Bool) (p q : ℕ → Bool) → length b ≡ length a → AddsMarks a b p → AddsMarks b c q → AddsMarks a c (λ n. p n || q n)

@@ -1,10 +1,5 @@
 -- Why a scene needs a lump, and how large the block of a needed lump is.
-use Rattle.std.proofs.Common.{◌≡◌, ℕ, ◌<◌, ◌≤◌, true, List, [], ◌∷◌, length, refl, ap, ◌∙◌, arith, inl, inr}
-use Rattle.std.specs.Prelude.{◌==◌}
-use Rattle.std.specs.List.{list_any}
-use Rattle.std.proofs.Math.Bool.{or-true}
-use Rattle.std.proofs.lemmas.Bool.{eqb-true, or_cases}
-use Rattle.std.proofs.lemmas.List.{get_or_past}
+use Rattle.word_rules.proofs.Common.{[], ap, arith, eqb-true, get_or_past, inl, inr, length, List, list_any, or-true, or_cases, refl, true, ℕ, ◌<◌, ◌==◌, ◌∙◌, ◌∷◌, ◌≡◌, ◌≤◌}
 use Rattle.lump_rules.specs.declared.wad.Lump.{Lump}
 use Rattle.lump_rules.specs.Lookups.{lump_at, no_lump}
 use Rattle.zone_rules.specs.declared.TheConstants.{HEADER_SIZE}

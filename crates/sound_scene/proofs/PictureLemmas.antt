@@ -1,11 +1,5 @@
 -- Lists of pictures with the same members: a scene needs the same lumps with each of them.
-use Rattle.std.proofs.Common.{◌≡◌, ℕ, true, Decides, List, ◌++◌, length, get_or, ap, sym, subst, ◌∙◌, refl, arith, inl, inr}
-use Rattle.std.specs.Prelude.{◌⊎◌, ◌↔◌, ◌==◌, ◌||◌, Contains}
-use Rattle.std.specs.List.{list_any}
-use Rattle.std.proofs.lemmas.Bool.Decides.{nat_tests, same_from_decides}
-use Rattle.std.proofs.lemmas.List.{map-append}
-use Rattle.std.proofs.lemmas.List.Elements.{Contains-append_cases, Contains-append_left, Contains-append_right}
-use Rattle.std.proofs.lemmas.List.Folds.{Any-from_list_any, list_any_at}
+use Rattle.word_rules.proofs.Common.{Any-from_list_any, ap, arith, Contains, Contains-append_cases, Contains-append_left, Contains-append_right, Decides, eq-from_true, eq-true, get_or, inl, inr, length, List, list_any, list_any_at, map-append, nat_tests, refl, same_from_decides, subst, sym, true, ℕ, ◌++◌, ◌==◌, ◌||◌, ◌↔◌, ◌∙◌, ◌≡◌, ◌⊎◌}
 use Rattle.texture_build.proofs.MarkLemmas.{filter_same}
 use Rattle.lump_rules.specs.declared.wad.Lump.{Lump}
 use Rattle.lump_rules.specs.declared.wad.LumpNo.{LumpNo}
@@ -17,7 +11,6 @@ use Rattle.scene_rules.specs.Scenes.{SceneValue, art_of, sizes_of}
 use Rattle.scene_rules.specs.Sizes.{enough, has_flat, is_list, is_map_lump, is_needed, needed_lumps, roomy, zone_sizes}
 use Rattle.sound_scene.specs.Views.{lump_numbers}
 use Rattle.sound_scene.specs.Sound.{SoundValue, art_with, with_book}
-use Rattle.word_rules.proofs.Logic.{eq-from_true, eq-true}
 
 -- a test for a number passes exactly where the number is in the list
 any_number : (xs : List ℕ) (k : ℕ) → Decides (list_any (λ n. n == k) xs) (Contains xs k)

@@ -1,8 +1,6 @@
 -- A scene by its steps: the base and the rest over it, and what an accepted
 -- scene is made of.
-use Rattle.std.proofs.Common.{◌≡◌, ◌<◌, ℕ, Bool, true, false, List, length, Option, Some, None, Result, Ok, Err, refl, sym, ap, subst, ◌∙◌, take}
-use Rattle.std.specs.Option.{ok_or, option_and_then}
-use Rattle.std.specs.Prelude.{cond, nat_le}
+use Rattle.word_rules.proofs.Common.{ap, Bool, cond, Err, false, length, List, nat_le, None, Ok, ok_or, Option, option_and_then, refl, Result, Some, subst, sym, take, true, ℕ, ◌<◌, ◌∙◌, ◌≡◌}
 use Rattle.word_rules.proofs.LeastLemmas.{greatest-is}
 use Rattle.outside.specs.Faults.{and_then, from_below}
 use Rattle.outside.proofs.AnswerLemmas.{and_then-ok}

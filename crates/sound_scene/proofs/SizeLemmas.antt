@@ -1,14 +1,5 @@
 -- Laws of the sizes of a zone: the greatest and the sum of blocks, one more block at a time.
-use Rattle.std.proofs.Common.{◌≡◌, ℕ, zero, suc, ◌+◌, ◌*◌, ◌<◌, ◌≤◌, true, false, List, [], ◌∷◌, length, get_or, take, map, max, refl, ap, sym, subst, ◌∙◌, arith, inl, inr}
-use Rattle.std.specs.Prelude.{◌⊎◌, is_some, unwrap_or, slice_index, Option, Some, None}
-use Rattle.std.specs.List.{All, range_with_len, sum_by}
-use Rattle.std.specs.List.Sorted.{IsStrictlyIncreasing}
-use Rattle.std.proofs.lemmas.Bool.{cases_lt}
-use Rattle.std.proofs.lemmas.List.{get_or_past, length-map, take_all}
-use Rattle.std.proofs.lemmas.List.Elements.{All-cons, All-filter, All-head, All-nil, All-tail}
-use Rattle.std.proofs.lemmas.List.FromFn.{get_or-range_with_len, length-range_with_len}
-use Rattle.std.proofs.lemmas.List.Kept.{IsStrictlyIncreasing-filter}
-use Rattle.std.proofs.lemmas.List.Sums.{sum_by_more}
+use Rattle.word_rules.proofs.Common.{[], All, All-cons, All-filter, All-head, All-nil, All-tail, ap, arith, cases_lt, false, get_or, get_or-range_with_len, get_or_past, inl, inr, is_some, IsStrictlyIncreasing, IsStrictlyIncreasing-filter, length, length-map, length-range_with_len, List, map, max, None, Option, range_with_len, refl, slice_index, Some, subst, suc, sum_by, sum_by_more, sym, take, take_all, true, unwrap_or, zero, ℕ, ◌*◌, ◌+◌, ◌<◌, ◌∙◌, ◌∷◌, ◌≡◌, ◌≤◌, ◌⊎◌}
 use Rattle.lump_rules.specs.declared.wad.Lump.{Lump}
 use Rattle.lump_rules.specs.declared.wad.LumpNo.{LumpNo}
 use Rattle.zone_rules.specs.declared.TheConstants.{MIN_FRAGMENT}

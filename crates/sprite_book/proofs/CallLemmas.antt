@@ -1,7 +1,5 @@
 -- One call after another, by what is told of each and what was read so far.
-use Rattle.std.proofs.Common.{◌≡◌, ℕ, List, Option, Some, None, Result, Ok, Err, refl, sym, subst, ap, ◌∙◌, IsErrAnd, MatchResult, replicate, zero, suc}
-use Rattle.std.specs.Prelude.{IfErr, IfOk, IfSome, slice_index_or}
-use Rattle.std.proofs.lemmas.Result.{err_from_is_err_and}
+use Rattle.word_rules.proofs.Common.{ap, Err, err_from_is_err_and, IfErr, IfOk, IfSome, IsErrAnd, List, MatchResult, None, Ok, Option, refl, replicate, Result, slice_index_or, Some, subst, suc, sym, zero, ℕ, ◌∙◌, ◌≡◌}
 use Rattle.outside.specs.Shelf.{ShelfView}
 use Rattle.outside.specs.Faults.{FaultFits, HasCauseAt, itself}
 use Rattle.zone_rules.specs.Zones.{Heap}

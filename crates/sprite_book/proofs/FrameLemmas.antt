@@ -1,12 +1,6 @@
 -- The shapes of a frame, one picture after another, and the lumps of its pictures.
-use Rattle.std.proofs.Common.{◌≡◌, ℕ, ◌+◌, ◌<◌, Bool, true, false, cond, List, [], ◌∷◌, ◌++◌, length, take, drop, get_or, map, Option, Some, None, Result, Ok, Err, refl, sym, subst, ap, ◌∙◌, suc, ◌-◌}
-use Rattle.std.specs.Prelude.{All, ◌==◌}
-use Rattle.std.specs.Option.{ok_or}
-use Rattle.std.specs.List.{range_with_len}
+use Rattle.word_rules.proofs.Common.{[], All, All-append, All-cons, All-head, All-nil, All-tail, ap, Bool, cond, drop, drop-cons, Err, false, get_or, length, List, map, map-append, None, Ok, ok_or, Option, range_with_len, refl, Result, Some, subst, suc, sym, take, take-append-drop, take_more, take_more_set, true, ℕ, ◌++◌, ◌+◌, ◌-◌, ◌<◌, ◌==◌, ◌∙◌, ◌∷◌, ◌≡◌}
 use Rattle.std.proofs.Math.ListN.{set}
-use Rattle.std.proofs.Math.Seq.{drop-cons}
-use Rattle.std.proofs.lemmas.List.{take_more, take_more_set, map-append, take-append-drop}
-use Rattle.std.proofs.lemmas.List.Elements.{All-nil, All-cons, All-append, All-head, All-tail}
 use Rattle.outside.specs.Faults.{and_then}
 use Rattle.word_rules.specs.Least.{or_else}
 use Rattle.word_rules.specs.Listed.{joined_lists}

@@ -1,23 +1,8 @@
 -- The places of frames, and the lumps of their shapes.
-use Rattle.std.proofs.Common.{◌≡◌, ℕ, ◌+◌, ◌<◌, Bool, true, false, cond, List, [], ◌∷◌, ◌++◌, length, take, get_or, map, find, Option, Some, None, refl, sym, subst, ap, ◌∙◌, arith, append-nil, add-zero, suc, eqb}
-use Rattle.std.specs.Prelude.{◌&&◌, ◌==◌, Contains, slice_get}
-use Rattle.std.specs.List.{position_from, dedup}
-use Rattle.std.specs.List.Sorted.{IsPermutation, IsSorted, IsStrictlyIncreasing}
-use Rattle.std.specs.Ordering.{nat_cmp}
-use Rattle.std.specs.Str.{bytes_eq}
-use Rattle.std.specs.BTreeMap.{BTreeMap, Updates, get}
-use Rattle.std.proofs.lemmas.Bool.{and_parts, eqb-true}
-use Rattle.std.proofs.lemmas.List.{take_more}
-use Rattle.std.proofs.lemmas.List.Elements.{All-contains, All-contains_itself}
-use Rattle.std.proofs.lemmas.List.Filters.{All-dedup}
-use Rattle.std.proofs.lemmas.List.Kept.{Contains-dedup_nat}
-use Rattle.std.proofs.lemmas.List.Sorted.{All-permutation, IsPermutation-sym}
-use Rattle.std.proofs.lemmas.Map.Keys.{IsStrictlyIncreasing-dedup}
-use Rattle.std.proofs.lemmas.Slice.Eq.{bytes_eq-Decides}
+use Rattle.word_rules.proofs.Common.{[], add-zero, All-contains, All-contains_itself, All-dedup, All-permutation, and_parts, ap, append-nil, arith, Bool, BTreeMap, bytes_eq, bytes_eq-Decides, cond, Contains, Contains-dedup_nat, dedup, eqb, eqb-true, false, find, get, get_or, IsPermutation, IsPermutation-sym, IsSorted, IsStrictlyIncreasing, IsStrictlyIncreasing-dedup, length, List, map, nat_cmp, None, Option, or_else-none_right, position_from, refl, slice_get, Some, subst, suc, sym, take, take_more, true, Updates, ℕ, ◌&&◌, ◌++◌, ◌+◌, ◌<◌, ◌==◌, ◌∙◌, ◌∷◌, ◌≡◌}
 use Rattle.word_rules.specs.Least.{or_else}
 use Rattle.word_rules.specs.Listed.{joined_lists}
 use Rattle.word_rules.proofs.ListedLemmas.{joined_lists-append}
-use Rattle.word_rules.proofs.Logic.{or_else-none_right}
 use Rattle.art_rules.specs.declared.shapes.Frame.{Frame}
 use Rattle.art_rules.specs.declared.shapes.Shape.{Shape}
 use Rattle.art_rules.specs.Books.{is_frame, picked, shape_lumps, book_lumps}

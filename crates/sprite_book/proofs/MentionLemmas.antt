@@ -1,23 +1,6 @@
 -- The last mention of a list, and an index of mentions as it grows.
-use Rattle.std.proofs.Common.{◌≡◌, ℕ, ◌+◌, ◌<◌, Bool, true, false, cond, List, [], ◌∷◌, ◌++◌, length, map, get_or, take, Option, Some, None, refl, sym, subst, ap, ◌∙◌, arith, inl, inr, append-nil}
-use Rattle.std.specs.Prelude.{◌&&◌, ◌==◌, All}
-use Rattle.std.specs.List.{range_with_len}
-use Rattle.std.specs.declared.cmp.Ordering.{Ordering}
-use Rattle.std.specs.declared.cmp.Ordering.TheVariants.{Less, Equal, Greater}
-use Rattle.std.specs.Ordering.{nat_cmp, is_eq, ordering_then}
-use Rattle.std.specs.Cmp.{nat_cmp_is}
-use Rattle.std.specs.Cmp.Lexicographic.{slice_cmp}
-use Rattle.std.specs.Str.{bytes_eq}
-use Rattle.std.specs.BTreeMap.{Updates, IsEmpty, get}
-use Rattle.std.specs.Map.{lookup}
-use Rattle.std.specs.BTreeMap.{is_at}
-use Rattle.std.proofs.lemmas.Bool.{cases_lt, cases_eq, ne_eqb, eq-eqb}
-use Rattle.std.proofs.lemmas.Map.Text.{is_eq-slice_cmp}
-use Rattle.std.proofs.lemmas.List.Elements.{All-filter, All-from_get_or, All-get_or}
-use Rattle.std.proofs.lemmas.List.{take_more, length-map}
+use Rattle.word_rules.proofs.Common.{[], All, All-filter, All-from_get_or, All-get_or, ap, append-nil, arith, Bool, bytes_eq, cases_eq, cases_lt, cond, eq-eqb, Equal, false, get, get_or, get_or-range_with_len, Greater, inl, inr, is_at, is_eq, is_eq-slice_cmp, IsEmpty, length, length-map, length-range_with_len, Less, List, lookup, map, nat_cmp, nat_cmp_is, ne_eqb, None, Option, Ordering, ordering_then, range_with_len, refl, slice_cmp, Some, subst, sym, take, take-length, take_more, true, Updates, ℕ, ◌&&◌, ◌++◌, ◌+◌, ◌<◌, ◌==◌, ◌∙◌, ◌∷◌, ◌≡◌}
 use Rattle.std.proofs.Math.ListN.{get_or-map}
-use Rattle.std.proofs.Math.Seq.{take-length}
-use Rattle.std.proofs.lemmas.List.FromFn.{length-range_with_len, get_or-range_with_len}
 use Rattle.word_rules.specs.Least.{or_else}
 use Rattle.word_rules.specs.Listed.{joined_lists}
 use Rattle.word_rules.proofs.ListedLemmas.{joined_lists-append}

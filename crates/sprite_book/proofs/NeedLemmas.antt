@@ -1,14 +1,7 @@
 -- Needs of different frames, as a loop goes over them.
-use Rattle.std.proofs.Common.{◌≡◌, ℕ, ◌+◌, ◌<◌, Bool, true, false, cond, not, List, [], ◌∷◌, ◌++◌, length, take, drop, get_or, map, Option, Some, None, Result, Ok, Err, refl, sym, ap, ◌∙◌, suc, append-nil}
-use Rattle.std.specs.Prelude.{◌&&◌, ◌||◌, ◌==◌, filter, is_some}
-use Rattle.std.specs.List.{list_any, position_from}
-use Rattle.std.specs.Str.{bytes_eq}
-use Rattle.std.proofs.lemmas.Bool.{and_parts, eqb-true}
-use Rattle.std.proofs.lemmas.Slice.Eq.{bytes_eq-Decides}
-use Rattle.std.proofs.lemmas.List.{take_more}
+use Rattle.word_rules.proofs.Common.{[], and_parts, ap, append-nil, Bool, bytes_eq, bytes_eq-Decides, cond, Contains-get_or, drop, eqb-true, Err, false, filter, filter-append, get_or, is_some, is_some-false, length, List, list_any, map, None, not, Ok, Option, position_from, refl, Result, Some, suc, sym, take, take_more, true, ℕ, ◌&&◌, ◌++◌, ◌+◌, ◌<◌, ◌==◌, ◌||◌, ◌∙◌, ◌∷◌, ◌≡◌}
 use Rattle.art_rules.specs.declared.Mention.{Mention}
 use Rattle.art_rules.specs.Frames.{mentions}
-use Rattle.std.proofs.lemmas.List.Elements.{Contains-get_or, filter-append}
 use Rattle.outside.specs.Faults.{and_then}
 use Rattle.art_rules.specs.declared.refusal.SpriteRefusal.{SpriteRefusal}
 use Rattle.lump_rules.specs.declared.wad.Lump.{Lump}
@@ -18,7 +11,6 @@ use Rattle.art_rules.specs.Books.{each_of, first_needs, same_frame, is_frame, ou
 use Rattle.art_rules.proofs.EachLemmas.{each_of-push, each_of-stop}
 use Rattle.sprite_book.specs.Calls.{IsWanted, IsWantedBy}
 use Rattle.sprite_book.proofs.FrameLemmas.{split_at}
-use Rattle.word_rules.proofs.Logic.{is_some-false}
 
 -- one of the needs asks for the frame
 abbrev pub asked : List Need → Need → Bool

@@ -1,8 +1,5 @@
 -- How the pictures of a frame are found.
-use Rattle.std.proofs.Common.{◌≡◌, List, Option, Some, None, Result, Ok, Err, refl, sym, ap, ◌∙◌, IsErrAnd, MatchResult}
-use Rattle.std.specs.Option.{ok_or}
-use Rattle.std.specs.List.{range_with_len}
-use Rattle.std.proofs.lemmas.Result.{err_from_is_err_and}
+use Rattle.word_rules.proofs.Common.{ap, Err, err_from_is_err_and, IsErrAnd, List, MatchResult, None, Ok, ok_or, Option, range_with_len, refl, Result, Some, sym, ◌∙◌, ◌≡◌}
 use Rattle.outside.specs.declared.fault.Fault.{Fault}
 use Rattle.outside.specs.declared.fault.Fault.TheVariants.{Refused}
 use Rattle.art_rules.specs.declared.Mention.{Mention}

@@ -1,10 +1,6 @@
 -- What a fetched lump is, as a patch.
-use Rattle.std.proofs.Common.{◌≡◌, ℕ, ◌<◌, List, length, Option, Some, None, Result, Ok, Err, refl, sym, subst, ap, ◌∙◌, get_or, inl, inr, get_or-set_same, get_or-set_other, IsErrAnd}
-use Rattle.std.specs.Prelude.{IfSome, ◌⊎◌, slice_index_or}
-use Rattle.std.specs.Option.{ok_or}
+use Rattle.word_rules.proofs.Common.{ap, cases_eq, Err, get_or, get_or-set_other, get_or-set_same, IfSome, inl, inr, IsErrAnd, length, length-set, List, None, Ok, ok_or, Option, refl, Result, slice_index_or, Some, subst, sym, ℕ, ◌<◌, ◌∙◌, ◌≡◌, ◌⊎◌}
 use Rattle.std.proofs.Math.ListN.{set}
-use Rattle.std.proofs.lemmas.List.{length-set}
-use Rattle.std.proofs.lemmas.Bool.{cases_eq}
 use Rattle.outside.specs.Shelf.{ShelfView}
 use Rattle.outside.specs.Faults.{itself}
 use Rattle.zone_rules.specs.Zones.{Heap}

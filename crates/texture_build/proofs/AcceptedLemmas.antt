@@ -1,8 +1,6 @@
 -- What holds of each texture of an accepted list holds of all textures of accepted lists, and what
 -- is made of such textures is what is prepared of them.
-use Rattle.std.proofs.Common.{◌≡◌, ℕ, zero, suc, ◌+◌, ◌<◌, Bool, true, false, cond, List, [], ◌∷◌, ◌++◌, Option, Some, None, Result, Ok, Err, refl, sym, subst, ap, ◌∙◌, arith, option_map}
-use Rattle.std.specs.Prelude.{All, Contains, nat_lt}
-use Rattle.std.proofs.lemmas.List.Elements.{All-append, All-contains, All-from_get_or, All-nil}
+use Rattle.word_rules.proofs.Common.{[], All, All-append, All-contains, All-from_get_or, All-nil, ap, arith, Bool, cond, Contains, Err, false, List, nat_lt, None, Ok, Option, option_map, refl, Result, Some, subst, suc, sym, true, zero, ℕ, ◌++◌, ◌+◌, ◌<◌, ◌∙◌, ◌∷◌, ◌≡◌}
 use Rattle.outside.specs.Faults.{and_then}
 use Rattle.outside.proofs.AnswerLemmas.{and_then-ok}
 use Rattle.word_rules.specs.Least.{or_else}

@@ -1,7 +1,5 @@
 -- The steps by which a composite is built, one after another.
-use Rattle.std.proofs.Common.{◌≡◌, ℕ, ◌+◌, ◌<◌, ◌≤◌, false, List, [], ◌∷◌, Result, Ok, Err, refl, sym, subst, ap, ◌∙◌, arith, MatchResult, IsErrAnd}
-use Rattle.std.specs.Prelude.{IfErr, Contains}
-use Rattle.std.proofs.lemmas.Result.{err_from_is_err_and}
+use Rattle.word_rules.proofs.Common.{[], ap, arith, Contains, Err, err_from_is_err_and, false, IfErr, IsErrAnd, List, MatchResult, Ok, refl, Result, subst, sym, ℕ, ◌+◌, ◌<◌, ◌∙◌, ◌∷◌, ◌≡◌, ◌≤◌}
 use Rattle.outside.specs.Causes.{FaultsRose}
 use Rattle.outside.specs.Shelf.{ShelfView}
 use Rattle.outside.specs.Faults.{ResultIs, HasCauses}

@@ -1,9 +1,5 @@
 -- What a column is read from, by its texture's patches, and the mask of columns.
-use Rattle.std.proofs.Common.{ℕ, ◌^◌, ◌<◌, ◌≤◌, List, [], ◌∷◌, length, sym, subst, inl, inr, arith}
-use Rattle.std.specs.Prelude.{All, IfSome, slice_index_or, ◌⊎◌}
-use Rattle.std.proofs.lemmas.Bool.{cases_lt}
-use Rattle.std.proofs.lemmas.List.{get_or_past}
-use Rattle.std.proofs.lemmas.List.Elements.{All-filter, All-head}
+use Rattle.word_rules.proofs.Common.{[], All, All-filter, All-head, arith, cases_lt, get_or_past, IfSome, inl, inr, length, List, slice_index_or, subst, sym, ℕ, ◌<◌, ◌^◌, ◌∷◌, ◌≤◌, ◌⊎◌}
 use Rattle.lump_rules.specs.declared.wad.Lump.{Lump}
 use Rattle.art_rules.specs.declared.PlacedPatch.{PlacedPatch}
 use Rattle.art_rules.specs.declared.ColumnLookup.{ColumnLookup}

@@ -1,7 +1,5 @@
 -- Laws of calls that draw: none, one after another, one that ends the whole, and a layer above.
-use Rattle.std.proofs.Common.{◌≡◌, ◌⊎◌, ℕ, List, Result, Ok, Err, refl, sym, subst, ap, ◌∙◌, inl, inr, IsErrAnd, MatchResult}
-use Rattle.std.specs.Prelude.{OnOk, IsTrue}
-use Rattle.std.proofs.lemmas.Result.{err_from_is_err_and}
+use Rattle.word_rules.proofs.Common.{ap, Err, err_from_is_err_and, inl, inr, IsErrAnd, IsTrue, List, MatchResult, Ok, OnOk, refl, Result, subst, sym, ℕ, ◌∙◌, ◌≡◌, ◌⊎◌}
 use Rattle.outside.specs.Shelf.{ShelfView}
 use Rattle.outside.specs.declared.fault.Fault.{Fault}
 use Rattle.outside.specs.declared.fault.Fault.TheVariants.{Refused, ReadFault, ZoneFull, OutOfMemory}

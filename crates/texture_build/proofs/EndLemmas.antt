@@ -1,6 +1,5 @@
 -- How the building of a composite ends.
-use Rattle.std.proofs.Common.{◌≡◌, ℕ, true, List, length, replicate, Option, Some, None, Result, Ok, Err, refl, sym, subst, ap, ◌∙◌, inl, inr, MatchResult}
-use Rattle.std.specs.Prelude.{IfErr, OnOk}
+use Rattle.word_rules.proofs.Common.{ap, Err, IfErr, inl, inr, length, List, MatchResult, None, Ok, OnOk, Option, refl, replicate, Result, Some, subst, sym, true, ℕ, ◌∙◌, ◌≡◌}
 use Rattle.lump_rules.specs.declared.wad.Lump.{Lump}
 use Rattle.zone_rules.specs.Zones.{Owner, Holding, Heap, IsLive, bytes_of, holding_of}
 use Rattle.zone_rules.specs.Orders.{Item, IsInOrder, KeepsOrder, is_live}

@@ -1,7 +1,5 @@
 -- What a composite that is being built is, where its bytes or other blocks change.
-use Rattle.std.proofs.Common.{◌≡◌, ℕ, Bool, true, false, cond, List, [], ◌∷◌, length, map, Option, Some, None, refl, sym, subst, ap, ◌∙◌, option_map}
-use Rattle.std.specs.Prelude.{option_and_then, IfSome, IsSome, ◌==◌}
-use Rattle.std.proofs.lemmas.Bool.{cond-true}
+use Rattle.word_rules.proofs.Common.{[], ap, Bool, cond, cond-true, false, IfSome, IsSome, length, List, map, None, Option, option_and_then, option_map, refl, Some, subst, sym, true, ℕ, ◌==◌, ◌∙◌, ◌∷◌, ◌≡◌}
 use Rattle.lump_rules.specs.declared.wad.Lump.{Lump}
 use Rattle.zone_rules.specs.declared.Tag.TheVariants.{Level}
 use Rattle.zone_rules.specs.Zones.{Owner, Holding, Block, Heap, IsLive, is_held_by, owned_block, bytes_of, same_owner, pins}

@@ -1,6 +1,5 @@
 -- A texture column or a lump that was made live, as a call that draws.
-use Rattle.std.proofs.Common.{◌≡◌, ◌<◌, ◌⊎◌, ℕ, ℤ, List, length, Bool, Result, Ok, Err, refl, sym, subst, inl, inr}
-use Rattle.std.specs.Prelude.{IfErr, IsTrue}
+use Rattle.word_rules.proofs.Common.{Bool, Err, IfErr, inl, inr, IsTrue, length, List, Ok, refl, Result, subst, sym, ℕ, ℤ, ◌<◌, ◌≡◌, ◌⊎◌}
 use Rattle.outside.specs.Shelf.{ShelfView}
 use Rattle.outside.specs.declared.fault.Fault.{Fault}
 use Rattle.outside.specs.declared.fault.Fault.TheVariants.{Refused, ReadFault, ZoneFull, OutOfMemory}

@@ -1,10 +1,5 @@
 -- Marks by number: what is set, and the numbers that are marked.
-use Rattle.std.proofs.Common.{◌≡◌, ℕ, zero, suc, ◌+◌, ◌<◌, ◌≤◌, Bool, true, false, cond, List, [], ◌∷◌, ◌++◌, length, get_or, take, filter, refl, ap, sym, ◌∙◌, arith, add-zero, zero-add, append-nil}
-use Rattle.std.specs.Prelude.{Option}
-use Rattle.std.specs.List.{range_with_len}
-use Rattle.std.proofs.Math.Seq.{take-length}
-use Rattle.std.proofs.lemmas.List.{take-append-le}
-use Rattle.std.proofs.lemmas.List.Elements.{filter-append}
+use Rattle.word_rules.proofs.Common.{[], add-zero, ap, append-nil, arith, Bool, cond, false, filter, filter-append, get_or, length, List, Option, range_with_len, refl, suc, sym, take, take-append-le, take-length, true, zero, zero-add, ℕ, ◌++◌, ◌+◌, ◌<◌, ◌∙◌, ◌∷◌, ◌≡◌, ◌≤◌}
 use Rattle.art_rules.specs.Wanted.{PreparedTexture, is_patch_of_any, patch_lumps}
 use Rattle.art_rules.proofs.EachLemmas.{range_more}
 

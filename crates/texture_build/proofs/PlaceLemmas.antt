@@ -1,8 +1,5 @@
 -- A patch that is fetched and placed, and the patches of a texture one after the other.
-use Rattle.std.proofs.Common.{◌≡◌, ℕ, suc, ◌+◌, ◌<◌, List, [], ◌∷◌, ◌++◌, length, get_or, take, drop, Option, Some, None, Ok, Err, refl, ap, sym, subst, ◌∙◌}
-use Rattle.std.specs.Prelude.{IfSome, option_and_then, option_map}
-use Rattle.std.proofs.Math.Seq.{split_at}
-use Rattle.std.proofs.lemmas.List.{take_more}
+use Rattle.word_rules.proofs.Common.{[], ap, drop, Err, get_or, IfSome, length, List, None, Ok, Option, option_and_then, option_map, refl, Some, split_at, subst, suc, sym, take, take_more, ℕ, ◌++◌, ◌+◌, ◌<◌, ◌∙◌, ◌∷◌, ◌≡◌}
 use Rattle.lump_rules.specs.declared.wad.Lump.{Lump}
 use Rattle.lump_rules.specs.Lookups.{last_of}
 use Rattle.lump_rules.specs.declared.wad.LumpNo.{LumpNo}

@@ -1,13 +1,6 @@
 -- A texture that is prepared, and all wanted textures one after the other.
-use Rattle.std.proofs.Common.{◌≡◌, ℕ, suc, zero, ◌+◌, ◌-◌, ◌<◌, ◌≤◌, Bool, true, false, cond, List, [], ◌∷◌, ◌++◌, length, get_or, map, replicate, take, drop, Option, Some, None, Result, Ok, Err, refl, ap, sym, subst, ◌∙◌, arith, inl, inr, eq-eqb}
-use Rattle.std.specs.Prelude.{◌↔◌, ◌==◌, All, IfErr, IfOk, IfSome, IsNone, IsSome, is_some, nat_lt, option_map}
-use Rattle.std.proofs.Math.ListN.{get_or-append, get_or-eq_default}
-use Rattle.std.proofs.Math.Seq.{get_or-append_seam, split_at}
-use Rattle.std.proofs.lemmas.Bool.Decides.{nat_tests}
-use Rattle.std.proofs.lemmas.Bool.{cases_lt, false≢true}
-use Rattle.std.proofs.lemmas.List.{get_or-map, get_or-replicate, length-append, length-map, length-replicate, length-take-le, take_all, take_more}
-use Rattle.std.proofs.lemmas.List.Folds.{list_any_at, list_any_none}
-use Rattle.std.proofs.lemmas.Option.{slice_get-get_or}
+use Rattle.word_rules.proofs.Common.{[], All, ap, arith, Bool, cases_lt, cond, drop, eq-eqb, Err, false, false≢true, get_or, get_or-append, get_or-append_seam, get_or-eq_default, get_or-replicate, IfErr, IfOk, IfSome, inl, inr, is_some, IsNone, IsSome, length, length-append, length-map, length-replicate, length-take-le, List, list_any_at, list_any_none, map, nat_lt, nat_tests, None, Ok, Option, option_map, refl, replicate, Result, slice_get-get_or, Some, split_at, subst, suc, sym, take, take_all, take_more, true, zero, ℕ, ◌++◌, ◌+◌, ◌-◌, ◌<◌, ◌==◌, ◌↔◌, ◌∙◌, ◌∷◌, ◌≡◌, ◌≤◌}
+use Rattle.std.proofs.lemmas.List.{get_or-map}
 use Rattle.outside.specs.Shelf.{ShelfView}
 use Rattle.outside.specs.Faults.{and_then, itself}
 use Rattle.word_rules.proofs.ListedLemmas.{listed-all}

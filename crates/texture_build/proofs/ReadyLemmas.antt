@@ -1,7 +1,5 @@
 -- What a column is read from, made live: by each kind of column.
-use Rattle.std.proofs.Common.{◌≡◌, ℕ, ◌<◌, ◌+◌, Bool, true, false, length, List, Option, Some, None, Result, Ok, Err, refl, sym, subst, inl}
-use Rattle.std.specs.Prelude.{IfErr, IfSome, OnErr, OnOk, ◌==◌}
-use Rattle.std.proofs.lemmas.Bool.{eqb-true}
+use Rattle.word_rules.proofs.Common.{Bool, eqb-true, Err, false, IfErr, IfSome, inl, length, List, None, Ok, OnErr, OnOk, Option, refl, Result, Some, subst, sym, true, ℕ, ◌+◌, ◌<◌, ◌==◌, ◌≡◌}
 use Rattle.outside.specs.Shelf.{ShelfView}
 use Rattle.outside.proofs.ShelfLemmas.{follows_none}
 use Rattle.lump_rules.specs.declared.wad.Lump.{Lump}

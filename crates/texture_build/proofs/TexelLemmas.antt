@@ -1,8 +1,5 @@
 -- The texels of a column, by the bytes that a cache has.
-use Rattle.std.proofs.Common.{◌≡◌, ℕ, zero, suc, ◌+◌, ◌-◌, ◌^◌, ◌<◌, Bool, true, false, cond, List, length, Option, Some, None, ℤ, refl, sym, subst, ap, ◌∙◌, arith, option_map}
-use Rattle.std.specs.Prelude.{IfSome, IsSome, unwrap_or, slice_index_or, nat_lt}
-use Rattle.std.proofs.lemmas.Bool.Decides.{nat_tests}
-use Rattle.std.proofs.lemmas.Nat.{and_le_r}
+use Rattle.word_rules.proofs.Common.{and_le_r, ap, arith, Bool, cond, false, IfSome, IsSome, length, List, nat_lt, nat_tests, None, Option, option_map, refl, slice_index_or, Some, subst, suc, sym, true, unwrap_or, zero, ℕ, ℤ, ◌+◌, ◌-◌, ◌<◌, ◌^◌, ◌∙◌, ◌≡◌}
 use Rattle.word_rules.specs.Words.{bits_of}
 use Rattle.lump_rules.specs.declared.wad.Lump.{Lump}
 use Rattle.lump_rules.specs.Contents.{lump_bytes}

@@ -1,6 +1,5 @@
 -- A list of textures that was fetched by name stands beside the colormap.
-use Rattle.std.proofs.Common.{◌≡◌, ◌<◌, ◌≤◌, ◌+◌, ℕ, false, List, length, Option, Result, Ok, Err, ap, ◌∙◌}
-use Rattle.std.specs.Prelude.{IfSome, OnOk, option_map}
+use Rattle.word_rules.proofs.Common.{ap, Err, false, IfSome, length, List, Ok, OnOk, Option, option_map, Result, ℕ, ◌+◌, ◌<◌, ◌∙◌, ◌≡◌, ◌≤◌}
 use Rattle.outside.specs.Shelf.{ShelfView}
 use Rattle.lump_rules.specs.Lookups.{last_of}
 use Rattle.zone_rules.specs.Zones.{Heap, IsLive, block_size, owned_block, same_owner}

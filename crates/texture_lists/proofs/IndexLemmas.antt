@@ -1,12 +1,5 @@
 -- An index of the least texture of each name, as it grows.
-use Rattle.std.proofs.Common.{◌≡◌, ◌<◌, ℕ, ◌+◌, Bool, true, false, cond, List, length, Option, None, Some, refl, sym, ap, ◌∙◌}
-use Rattle.std.specs.Prelude.{is_some}
-use Rattle.std.specs.List.{slice_get}
-use Rattle.std.specs.Ordering.{nat_cmp}
-use Rattle.std.specs.Str.{bytes_eq}
-use Rattle.std.specs.Cmp.Lexicographic.{slice_cmp, texts_ties}
-use Rattle.std.specs.BTreeMap.{BTreeMap, Updates}
-use Rattle.std.proofs.lemmas.Slice.Eq.{bytes_eq-Decides}
+use Rattle.word_rules.proofs.Common.{ap, Bool, BTreeMap, bytes_eq, bytes_eq-Decides, cond, false, is_some, length, List, nat_cmp, None, Option, refl, slice_cmp, slice_get, Some, sym, texts_ties, true, Updates, ℕ, ◌+◌, ◌<◌, ◌∙◌, ◌≡◌}
 use Rattle.word_rules.specs.Least.{least, or_else}
 use Rattle.word_rules.proofs.LeastLemmas.{least-more, least-is}
 use Rattle.art_rules.specs.Textures.{Texture, is_named, least_named}

@@ -1,8 +1,6 @@
 -- The mask of a texture's columns, halved down from the greatest.
-use Rattle.std.proofs.Common.{◌≡◌, ◌<◌, ◌≤◌, ℕ, ◌+◌, ◌-◌, ◌^◌, true, false, nat_lt, refl, arith, add-one}
-use Rattle.std.proofs.lemmas.Bool.Decides.{nat_tests}
+use Rattle.word_rules.proofs.Common.{add-one, arith, false, lt-false, lt-true, nat_lt, nat_tests, refl, true, ℕ, ◌+◌, ◌-◌, ◌<◌, ◌^◌, ◌≡◌, ◌≤◌}
 use Rattle.art_rules.specs.Textures.{mask_of, mask_from}
-use Rattle.word_rules.proofs.Logic.{lt-false, lt-true}
 
 pub mask_of-from : (width : ℕ) → mask_of width ≡ mask_from 16 width
 unfolding mask_of

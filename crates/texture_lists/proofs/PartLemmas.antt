@@ -1,9 +1,5 @@
 -- Two lists of textures, by what is kept of each.
-use Rattle.std.proofs.Common.{◌≡◌, ◌<◌, ◌≤◌, ℕ, zero, suc, ◌+◌, Bool, true, false, List, [], ◌++◌, length, Option, None, Some, Result, Ok, Err, refl, sym, ap, ◌∙◌, arith, option_map}
-use Rattle.std.specs.Prelude.{◌||◌, pos, int_lt}
-use Rattle.std.specs.Int.{w16, cast_signed}
-use Rattle.std.proofs.lemmas.Bool.{false≢true}
-use Rattle.std.proofs.lemmas.Bool.Decides.{nat_tests}
+use Rattle.word_rules.proofs.Common.{[], ap, arith, Bool, cast_signed, Err, false, false≢true, int_lt, length, List, nat_tests, None, Ok, Option, option_map, pos, refl, Result, Some, suc, sym, true, w16, zero, ℕ, ◌++◌, ◌+◌, ◌<◌, ◌||◌, ◌∙◌, ◌≡◌, ◌≤◌}
 use Rattle.outside.specs.Faults.{and_then}
 use Rattle.word_rules.specs.Least.{or_else}
 use Rattle.word_rules.proofs.LeastLemmas.{none-below, least-some}

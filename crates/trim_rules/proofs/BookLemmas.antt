@@ -1,13 +1,8 @@
 -- A book of frames by a directory that holds its pictures: the same, with the lumps of its shapes moved.
-use Rattle.std.proofs.Common.{◌≡◌, ℕ, suc, ◌<◌, Bool, true, false, List, [], ◌∷◌, map, Option, Some, None, Result, Ok, Err, refl, ap, sym, subst, ◌∙◌, arith}
-use Rattle.std.specs.Prelude.{◌==◌, ◌||◌}
-use Rattle.std.specs.Option.{ok_or}
-use Rattle.std.specs.List.{AllByRecursion, list_any, range_with_len}
-use Rattle.std.proofs.lemmas.Bool.Decides.{Decides-eqb}
+use Rattle.word_rules.proofs.Common.{[], AllByRecursion, ap, arith, Bool, Decides-eqb, Err, false, List, list_any, map, None, Ok, ok_or, Option, range_with_len, refl, Result, Some, some-injective, subst, suc, sym, true, ℕ, ◌<◌, ◌==◌, ◌||◌, ◌∙◌, ◌∷◌, ◌≡◌}
 use Rattle.outside.specs.Faults.{and_then}
 use Rattle.outside.proofs.AnswerLemmas.{and_then-ok}
 use Rattle.word_rules.specs.Listed.{joined_lists}
-use Rattle.word_rules.proofs.Logic.{some-injective}
 use Rattle.lump_rules.specs.declared.wad.Lump.{Lump}
 use Rattle.art_rules.specs.declared.Mention.{Mention}
 use Rattle.art_rules.specs.declared.patch.Patch.{Patch}

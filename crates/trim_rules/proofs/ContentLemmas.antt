@@ -1,8 +1,5 @@
 -- The lumps of a new file have the bytes that were put.
-use Rattle.std.proofs.Common.{◌≡◌, ℕ, zero, suc, ◌+◌, ◌<◌, List, [], ◌∷◌, ◌++◌, length, take, drop, refl, ap, sym, ◌∙◌, arith, append_assoc}
-use Rattle.std.specs.Prelude.{slice_index_or}
-use Rattle.std.proofs.lemmas.List.{length-append}
-use Rattle.std.proofs.Math.Seq.{take-append_seam, drop-append_seam}
+use Rattle.word_rules.proofs.Common.{[], ap, append_assoc, arith, drop, drop-append_seam, length, length-append, List, refl, slice_index_or, suc, sym, take, take-append_seam, zero, ℕ, ◌++◌, ◌+◌, ◌<◌, ◌∙◌, ◌∷◌, ◌≡◌}
 use Rattle.lump_rules.specs.Contents.{bytes_of}
 use Rattle.lump_rules.specs.Lookups.{lump_at}
 use Rattle.made_rules.specs.Wads as made

@@ -1,9 +1,6 @@
 -- A directory lists no more lumps than it may.
-use Rattle.std.proofs.Common.{◌≡◌, ℕ, suc, ◌+◌, ◌≤◌, Bool, true, false, nat_lt, List, [], ◌∷◌, ◌++◌, length, Option, Some, None, Ok, refl, ap, arith, ltb-false}
-use Rattle.std.specs.Prelude.{if◌then◌else◌, not, take}
-use Rattle.std.proofs.lemmas.List.{length-append}
+use Rattle.word_rules.proofs.Common.{[], ap, arith, Bool, false, if◌then◌else◌, length, length-append, List, ltb-false, nat_lt, None, not, Ok, Option, or_else-none, refl, Some, suc, take, true, ℕ, ◌++◌, ◌+◌, ◌∷◌, ◌≡◌, ◌≤◌}
 use Rattle.word_rules.specs.Least.{or_else}
-use Rattle.word_rules.proofs.Logic.{or_else-none}
 use Rattle.lump_rules.specs.declared.wad.Lump.{Lump}
 use Rattle.lump_rules.specs.declared.wad.DirRefusal.{DirRefusal}
 use Rattle.lump_rules.specs.declared.wad.DirRefusal.TheVariants.{NotWad, Short, TooMany}

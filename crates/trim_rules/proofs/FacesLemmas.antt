@@ -1,6 +1,5 @@
 -- What the names of a level mean by the trimmed file: the same sides and sky, and the flats under other numbers.
-use Rattle.std.proofs.Common.{◌≡◌, ℕ, ◌≤◌, List, map, length, Option, Result, Ok, Err, refl, ap, sym, ◌∙◌}
-use Rattle.std.specs.List.{AllByRecursion}
+use Rattle.word_rules.proofs.Common.{AllByRecursion, ap, Err, length, List, map, Ok, Option, refl, Result, sym, ℕ, ◌∙◌, ◌≡◌, ◌≤◌}
 use Rattle.outside.specs.Faults.{and_then}
 use Rattle.outside.proofs.AnswerLemmas.{and_then-ok}
 use Rattle.lump_rules.specs.declared.wad.Lump.{Lump}

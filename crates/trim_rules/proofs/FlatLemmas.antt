@@ -1,11 +1,6 @@
 -- The flats of a directory whose first lumps are flats between marks, each the last flat of its name in the given files.
-use Rattle.std.proofs.Common.{◌≡◌, ℕ, zero, suc, ◌+◌, ◌<◌, ◌≤◌, Bool, true, false, List, length, get_or, Some, refl, ap, sym, ◌∙◌, arith, inl, inr}
-use Rattle.std.specs.Prelude.{◌&&◌}
-use Rattle.std.specs.Str.{bytes_eq}
-use Rattle.std.proofs.lemmas.Bool.{cases_lt}
-use Rattle.std.proofs.lemmas.Slice.Eq.{bytes_eq-Decides}
+use Rattle.word_rules.proofs.Common.{and-false_left, and-false_right, ap, arith, Bool, bytes_eq, bytes_eq-Decides, cases_lt, false, get_or, inl, inr, length, List, refl, Some, some-injective, suc, sym, true, zero, ℕ, ◌&&◌, ◌+◌, ◌<◌, ◌∙◌, ◌≡◌, ◌≤◌}
 use Rattle.word_rules.proofs.LeastLemmas.{greatest-some}
-use Rattle.word_rules.proofs.Logic.{and-false_left, and-false_right, some-injective}
 use Rattle.lump_rules.specs.declared.wad.Lump.{Lump}
 use Rattle.lump_rules.specs.declared.names.Group.TheVariants.{Flats}
 use Rattle.lump_rules.specs.Lookups.{flat_of, has_name, is_member, lump_at}

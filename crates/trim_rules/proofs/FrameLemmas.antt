@@ -1,14 +1,9 @@
 -- The pictures of a frame: its last mention is one of them, and what f gives of each item.
-use Rattle.std.proofs.Common.{◌≡◌, ℕ, zero, suc, ◌+◌, ◌-◌, ◌<◌, ◌≤◌, Bool, true, false, cond, nat_le, List, [], ◌∷◌, map, Option, Some, None, Result, Ok, Err, refl, ap, sym, subst, ◌∙◌, arith, inl, inr, leb-true}
-use Rattle.std.specs.Prelude.{◌==◌, ◌&&◌}
-use Rattle.std.specs.List.{AllByRecursion, range_with_len}
-use Rattle.std.proofs.lemmas.Bool.{and_parts, cases_lt}
-use Rattle.std.proofs.lemmas.Bool.Decides.{Decides-eqb}
+use Rattle.word_rules.proofs.Common.{[], AllByRecursion, and-true_true, and_parts, ap, arith, Bool, cases_lt, cond, Decides-eqb, Err, false, inl, inr, leb-true, List, map, nat_le, None, Ok, Option, range_with_len, refl, Result, Some, some-injective, subst, suc, sym, true, zero, ℕ, ◌&&◌, ◌+◌, ◌-◌, ◌<◌, ◌==◌, ◌∙◌, ◌∷◌, ◌≡◌, ◌≤◌}
 use Rattle.outside.specs.Faults.{and_then}
 use Rattle.outside.proofs.AnswerLemmas.{and_then-ok}
 use Rattle.word_rules.specs.Least.{or_else}
 use Rattle.word_rules.specs.Listed.{joined_lists}
-use Rattle.word_rules.proofs.Logic.{and-true_true, some-injective}
 use Rattle.lump_rules.specs.declared.wad.Lump.{Lump}
 use Rattle.lump_rules.specs.declared.names.Group.TheVariants.{Sprites}
 use Rattle.lump_rules.specs.Lookups.{lump_at, members}

@@ -1,14 +1,11 @@
 -- A new file has a group where its lumps are put between two marks and no other lump has the name of a mark of it.
-use Rattle.std.proofs.Common.{◌≡◌, ℕ, zero, suc, ◌+◌, ◌<◌, Bool, true, false, List, [], ◌∷◌, ◌++◌, length, refl, ap, ◌∙◌, arith}
-use Rattle.std.specs.Prelude.{◌||◌}
-use Rattle.std.specs.List.{AllByRecursion}
+use Rattle.word_rules.proofs.Common.{[], AllByRecursion, ap, arith, Bool, false, length, List, or-false_false, refl, suc, true, zero, ℕ, ◌++◌, ◌+◌, ◌<◌, ◌||◌, ◌∙◌, ◌∷◌, ◌≡◌}
 use Rattle.lump_rules.specs.declared.wad.Lump.{Lump}
 use Rattle.lump_rules.specs.declared.names.Group.{Group}
 use Rattle.lump_rules.specs.Lookups.{is_end, is_start, lump_at}
 use Rattle.made_rules.specs.Wads as made
 use Rattle.trim_rules.specs.Files.{stored_from}
 use Rattle.trim_rules.proofs.MemberLemmas.{HasGroup}
-use Rattle.word_rules.proofs.Logic.{or-false_false}
 
 -- a lump whose name is no mark of the group
 pub record IsPlain (group : Group) (lump : made.Lump) : Type 0 where

@@ -1,16 +1,7 @@
 -- The flats of the trimmed file are those of the level's sectors: each by its name, ascending.
-use Rattle.std.proofs.Common.{◌≡◌, ℕ, suc, ◌<◌, ◌≤◌, Bool, true, false, cond, List, [], ◌∷◌, map, length, get_or, Option, Some, None, Result, Ok, Err, refl, ap, sym, subst, ◌∙◌, arith, append_assoc}
-use Rattle.std.specs.Prelude.{◌==◌, ◌&&◌, ◌||◌}
-use Rattle.std.specs.Option.{ok_or, option_and_then, option_map}
-use Rattle.std.specs.List.{AllByRecursion, list_any, range_with_len}
-use Rattle.std.specs.Str.{bytes_eq}
-use Rattle.std.proofs.lemmas.Bool.Decides.{Decides-eqb}
-use Rattle.std.proofs.lemmas.List.{length-map}
-use Rattle.std.proofs.lemmas.Slice.Eq.{bytes_eq-Decides}
-use Rattle.std.proofs.lemmas.Bool.{and_parts}
+use Rattle.word_rules.proofs.Common.{[], AllByRecursion, and_parts, ap, append_assoc, arith, Bool, bytes_eq, bytes_eq-Decides, cond, Decides-eqb, Err, false, get_or, length, length-map, List, list_any, map, None, Ok, ok_or, Option, option_and_then, option_map, or-cases, range_with_len, refl, Result, Some, subst, suc, sym, true, ℕ, ◌&&◌, ◌<◌, ◌==◌, ◌||◌, ◌∙◌, ◌∷◌, ◌≡◌, ◌≤◌}
 use Rattle.outside.specs.Faults.{and_then}
 use Rattle.word_rules.proofs.LeastLemmas.{greatest-is}
-use Rattle.word_rules.proofs.Logic.{or-cases}
 use Rattle.lump_rules.specs.declared.wad.Lump.{Lump}
 use Rattle.lump_rules.specs.declared.names.TheConstants.{F_END}
 use Rattle.lump_rules.specs.declared.names.Group.TheVariants.{Flats}

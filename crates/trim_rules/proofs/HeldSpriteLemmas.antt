@@ -1,15 +1,9 @@
 -- The sprite lumps of the trimmed file are the pictures of the level: each stands for its source, and all of them were
 -- sprite lumps.
-use Rattle.std.proofs.Common.{◌≡◌, ℕ, suc, ◌+◌, ◌<◌, Bool, true, false, cond, List, [], ◌∷◌, map, length, get_or, Option, Some, None, Result, Ok, Err, refl, ap, sym, subst, ◌∙◌, arith, append_assoc}
-use Rattle.std.specs.Prelude.{◌==◌, ◌||◌, filter, ⊤}
-use Rattle.std.specs.Option.{ok_or}
-use Rattle.std.specs.List.{AllByRecursion, list_any, range_with_len}
-use Rattle.std.proofs.lemmas.Bool.Decides.{Decides-eqb}
-use Rattle.std.proofs.lemmas.List.{length-map}
+use Rattle.word_rules.proofs.Common.{[], AllByRecursion, ap, append_assoc, arith, Bool, cond, Decides-eqb, Err, false, filter, get_or, length, length-map, List, list_any, map, None, Ok, ok_or, Option, or-cases, range_with_len, refl, Result, Some, subst, suc, sym, true, ℕ, ⊤, ◌+◌, ◌<◌, ◌==◌, ◌||◌, ◌∙◌, ◌∷◌, ◌≡◌}
 use Rattle.outside.specs.Faults.{and_then}
 use Rattle.word_rules.specs.Least.{or_else}
 use Rattle.word_rules.specs.Listed.{joined_lists}
-use Rattle.word_rules.proofs.Logic.{or-cases}
 use Rattle.lump_rules.specs.declared.wad.Lump.{Lump}
 use Rattle.lump_rules.specs.declared.names.TheConstants.{F_START, F_END, S_END}
 use Rattle.lump_rules.specs.declared.names.Group.TheVariants.{Sprites}

@@ -1,17 +1,7 @@
 -- A new file of lumps is a WAD whose directory lists them.
-use Rattle.std.proofs.Common.{◌≡◌, ℕ, zero, suc, ◌+◌, ◌*◌, ◌^◌, ◌<◌, ◌≤◌, Bool, true, false, cond, nat_lt, List, [], ◌∷◌, ◌++◌, length, take, drop, get_or, Some, None, Ok, refl, ap, sym, ◌∙◌, arith, append_assoc}
-use Rattle.std.specs.Prelude.{◌&&◌, ◌==◌, codes, not}
-use Rattle.std.specs.Option.{option_map}
-use Rattle.std.specs.Int.{from_le_bytes, to_le_bytes, w32}
-use Rattle.std.specs.List.{AllByRecursion, position_or_len}
-use Rattle.std.proofs.lemmas.Bool.Decides.{Decides-ltb}
-use Rattle.std.proofs.lemmas.List.{append-nil, drop-drop, length-append}
-use Rattle.std.proofs.lemmas.List.Sums.{position_or_len_is}
-use Rattle.std.proofs.lemmas.Nat.{from_le_bytes-to_le_bytes_4}
-use Rattle.std.proofs.Math.Seq.{take-append_seam, drop-append-add, drop-append_seam, take-length}
+use Rattle.word_rules.proofs.Common.{[], AllByRecursion, and-false_right, ap, append-nil, append_assoc, arith, Bool, codes, cond, Decides-ltb, drop, drop-append-add, drop-append_seam, drop-drop, false, from_le_bytes, from_le_bytes-to_le_bytes_4, get_or, length, length-append, List, lt-false, nat_lt, None, not, Ok, option_map, position_or_len, position_or_len_is, refl, Some, suc, sym, take, take-append_seam, take-length, to_le_bytes, true, w32, zero, ℕ, ◌&&◌, ◌*◌, ◌++◌, ◌+◌, ◌<◌, ◌==◌, ◌^◌, ◌∙◌, ◌∷◌, ◌≡◌, ◌≤◌}
 use Rattle.byteorder.specs.Endian.{little_number}
 use Rattle.word_rules.proofs.ListedLemmas.{listed-all}
-use Rattle.word_rules.proofs.Logic.{and-false_right, lt-false}
 use Rattle.lump_rules.specs.declared.wad.Lump.{Lump}
 use Rattle.lump_rules.specs.Lookups.{no_lump}
 use Rattle.lump_rules.specs.Names.{name_of}

@@ -1,13 +1,5 @@
 -- The map of the trimmed file is the label of its third part, and what is called by the map's name is that label.
-use Rattle.std.proofs.Common.{◌≡◌, ◌⊎◌, inl, inr, ℕ, zero, suc, ◌+◌, ◌<◌, Bool, true, false, List, [], ◌∷◌, ◌++◌, map, length, Option, Some, None, refl, ap, sym, ◌∙◌, arith, append_assoc}
-use Rattle.std.specs.Prelude.{◌==◌, ◌&&◌, filter, not}
-use Rattle.std.specs.Option.{option_and_then}
-use Rattle.std.specs.List.{AllByRecursion, list_any, range_with_len}
-use Rattle.std.specs.Str.{bytes_eq}
-use Rattle.std.proofs.lemmas.List.{map-append}
-use Rattle.std.proofs.lemmas.List.FromFn.{get_or-range_with_len}
-use Rattle.std.proofs.lemmas.Slice.Eq.{bytes_eq-Decides}
-use Rattle.std.proofs.lemmas.Bool.{and_parts}
+use Rattle.word_rules.proofs.Common.{[], AllByRecursion, and_parts, ap, append_assoc, arith, Bool, bytes_eq, bytes_eq-Decides, false, filter, get_or-range_with_len, inl, inr, length, List, list_any, map, map-append, None, not, Option, option_and_then, range_with_len, refl, Some, suc, sym, true, zero, ℕ, ◌&&◌, ◌++◌, ◌+◌, ◌<◌, ◌==◌, ◌∙◌, ◌∷◌, ◌≡◌, ◌⊎◌}
 use Rattle.word_rules.specs.Least.{or_else}
 use Rattle.word_rules.proofs.LeastLemmas.{greatest-is, greatest-some}
 use Rattle.lump_rules.specs.declared.wad.Lump.{Lump}

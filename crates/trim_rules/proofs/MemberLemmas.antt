@@ -1,12 +1,6 @@
 -- Where a directory has one start and one end of a group, the lumps between them are the group.
-use Rattle.std.proofs.Common.{◌≡◌, ℕ, zero, suc, ◌+◌, ◌-◌, ◌++◌, zero-add, ◌<◌, ◌≤◌, Bool, true, false, List, [], ◌∷◌, length, Some, None, refl, ap, ◌∙◌, arith, inl, inr}
-use Rattle.std.specs.Prelude.{◌&&◌, ◌||◌, ◌==◌, not, filter}
-use Rattle.std.specs.List.{range_with_len}
-use Rattle.std.proofs.lemmas.List.{append-nil}
-use Rattle.std.proofs.lemmas.List.Elements.{filter-append}
-use Rattle.std.proofs.lemmas.Bool.{cases_lt}
+use Rattle.word_rules.proofs.Common.{[], ap, append-nil, arith, Bool, cases_lt, false, filter, filter-append, inl, inr, length, List, None, not, or-false_false, or-true_right, range_with_len, refl, Some, suc, true, zero, zero-add, ℕ, ◌&&◌, ◌++◌, ◌+◌, ◌-◌, ◌<◌, ◌==◌, ◌||◌, ◌∙◌, ◌∷◌, ◌≡◌, ◌≤◌}
 use Rattle.word_rules.proofs.LeastLemmas.{greatest-none, greatest-some}
-use Rattle.word_rules.proofs.Logic.{or-false_false, or-true_right}
 use Rattle.lump_rules.specs.declared.wad.Lump.{Lump}
 use Rattle.lump_rules.specs.declared.names.Group.{Group}
 use Rattle.lump_rules.specs.Lookups.{is_end, is_lump, is_member, is_start, lump_at, mark_before, members, starts_in}

@@ -1,6 +1,5 @@
 -- The pictures of a frame by the mentions of fewer lumps: where those that are its pictures are kept, they stay so.
-use Rattle.std.proofs.Common.{◌≡◌, ℕ, suc, Bool, true, false, cond, List, [], ◌∷◌, Option, Some, None, refl, ap, sym, ◌∙◌}
-use Rattle.std.specs.Prelude.{◌==◌, filter}
+use Rattle.word_rules.proofs.Common.{[], ap, Bool, cond, false, filter, List, None, Option, refl, Some, suc, sym, true, ℕ, ◌==◌, ◌∙◌, ◌∷◌, ◌≡◌}
 use Rattle.word_rules.specs.Least.{or_else}
 use Rattle.art_rules.specs.declared.Mention.{Mention}
 use Rattle.art_rules.specs.Frames.{last_that, is_of_frame, is_of_rotation, picture_by, picture_if, frame_picture}

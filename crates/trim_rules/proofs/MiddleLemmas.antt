@@ -1,9 +1,5 @@
 -- Masked mid textures whose patches have other numbers: the same side is the first that is bad.
-use Rattle.std.proofs.Common.{◌≡◌, ℕ, zero, suc, ◌+◌, List, [], ◌∷◌, map, length, Option, Some, None, refl, ap, ◌∙◌}
-use Rattle.std.specs.Prelude.{◌==◌, ◌&&◌, not}
-use Rattle.std.specs.Option.{option_map}
-use Rattle.std.specs.List.{list_all, list_any, range_with_len}
-use Rattle.std.proofs.lemmas.List.{length-map}
+use Rattle.word_rules.proofs.Common.{[], ap, length, length-map, List, list_all, list_any, map, None, not, Option, option_map, range_with_len, refl, Some, suc, zero, ℕ, ◌&&◌, ◌+◌, ◌==◌, ◌∙◌, ◌∷◌, ◌≡◌}
 use Rattle.word_rules.specs.Least.{least}
 use Rattle.level_rules.specs.declared.Seg.{Seg}
 use Rattle.level_rules.specs.declared.SideTextures.{SideTextures}

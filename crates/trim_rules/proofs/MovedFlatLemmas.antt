@@ -1,16 +1,8 @@
 -- The flats of the sectors by the trimmed directory are those by the given one under other numbers.
-use Rattle.std.proofs.Common.{◌≡◌, ℕ, zero, suc, ◌+◌, ◌<◌, ◌≤◌, Bool, true, false, cond, List, [], ◌∷◌, map, length, get_or, Option, Some, None, Result, Ok, Err, refl, ap, sym, ◌∙◌, arith, inl, inr}
-use Rattle.std.specs.Prelude.{◌==◌, ◌||◌, ◌&&◌, filter}
-use Rattle.std.specs.Option.{ok_or, option_and_then, option_map}
-use Rattle.std.specs.List.{list_any, range_with_len}
-use Rattle.std.specs.Str.{bytes_eq}
-use Rattle.std.proofs.lemmas.Bool.{and_parts, cases_lt}
-use Rattle.std.proofs.lemmas.Bool.Decides.{Decides-eqb}
-use Rattle.std.proofs.lemmas.Slice.Eq.{bytes_eq-Decides}
+use Rattle.word_rules.proofs.Common.{[], and_parts, ap, arith, Bool, bytes_eq, bytes_eq-Decides, cases_lt, cond, Decides-eqb, Err, false, filter, get_or, inl, inr, length, List, list_any, map, None, Ok, ok_or, Option, option_and_then, option_map, or-cases, or-true_left, or-true_right, range_with_len, refl, Result, Some, some-injective, suc, sym, true, zero, ℕ, ◌&&◌, ◌+◌, ◌<◌, ◌==◌, ◌||◌, ◌∙◌, ◌∷◌, ◌≡◌, ◌≤◌}
 use Rattle.outside.specs.Faults.{and_then}
 use Rattle.outside.proofs.AnswerLemmas.{and_then-ok}
 use Rattle.word_rules.proofs.LeastLemmas.{greatest-is}
-use Rattle.word_rules.proofs.Logic.{or-cases, or-true_left, or-true_right, some-injective}
 use Rattle.lump_rules.specs.declared.wad.Lump.{Lump}
 use Rattle.lump_rules.specs.declared.names.Group.TheVariants.{Flats}
 use Rattle.lump_rules.specs.Lookups.{flat_of, has_name, is_member, lump_at}

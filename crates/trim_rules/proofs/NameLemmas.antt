@@ -1,10 +1,6 @@
 -- The last lump of a name, where lumps stand one after the other in a new file.
-use Rattle.std.proofs.Common.{◌≡◌, ℕ, zero, suc, ◌+◌, ◌<◌, Bool, true, false, cond, List, [], ◌∷◌, ◌++◌, length, Option, Some, None, refl, ap, sym, ◌∙◌, arith}
-use Rattle.std.specs.Prelude.{slice_index_or}
-use Rattle.std.specs.Option.{option_map}
-use Rattle.std.specs.Str.{bytes_eq}
+use Rattle.word_rules.proofs.Common.{[], ap, arith, Bool, bytes_eq, cond, false, length, List, None, Option, option_map, or_else-assoc, or_else-none_right, refl, slice_index_or, Some, suc, sym, true, zero, ℕ, ◌++◌, ◌+◌, ◌<◌, ◌∙◌, ◌∷◌, ◌≡◌}
 use Rattle.word_rules.specs.Least.{greatest, or_else}
-use Rattle.word_rules.proofs.Logic.{or_else-assoc, or_else-none_right}
 use Rattle.lump_rules.specs.Lookups.{has_name, last_of}
 use Rattle.made_rules.specs.Wads as made
 use Rattle.trim_rules.specs.Files.{stored_from}

@@ -1,15 +1,7 @@
 -- By the trimmed directory the names of colours and of the lists of textures have the bytes that they have by the given
 -- one, or none where they had none.
-use Rattle.std.proofs.Common.{◌≡◌, ◌⊎◌, inl, inr, ℕ, ◌<◌, Bool, true, false, cond, List, [], ◌∷◌, ◌++◌, map, length, Option, Some, None, refl, ap, sym, ◌∙◌, arith}
-use Rattle.std.specs.Prelude.{◌==◌, ◌||◌, filter, not}
-use Rattle.std.specs.Option.{option_map}
-use Rattle.std.specs.List.{AllByRecursion, list_any}
-use Rattle.std.specs.Str.{bytes_eq}
-use Rattle.std.proofs.lemmas.Bool.Decides.{Decides-eqb}
-use Rattle.std.proofs.lemmas.List.{length-map}
-use Rattle.std.proofs.lemmas.Slice.Eq.{bytes_eq-Decides}
+use Rattle.word_rules.proofs.Common.{[], AllByRecursion, ap, arith, Bool, bytes_eq, bytes_eq-Decides, cond, Decides-eqb, false, filter, inl, inr, length, length-map, List, list_any, map, None, not, Option, option_map, or-cases, or-true_left, or-true_right, refl, Some, sym, true, ℕ, ◌++◌, ◌<◌, ◌==◌, ◌||◌, ◌∙◌, ◌∷◌, ◌≡◌, ◌⊎◌}
 use Rattle.word_rules.proofs.LeastLemmas.{greatest-is, none-below_greatest}
-use Rattle.word_rules.proofs.Logic.{or-cases, or-true_left, or-true_right}
 use Rattle.lump_rules.specs.declared.wad.Lump.{Lump}
 use Rattle.lump_rules.specs.declared.names.TheConstants.{F_START, F_END, S_START, S_END}
 use Rattle.lump_rules.specs.Contents.{lump_bytes, named_bytes}

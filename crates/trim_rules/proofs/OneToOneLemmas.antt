@@ -1,9 +1,6 @@
 -- By the trimmed file of an accepted plan, flats are compared as they were: the sky keeps its number, and the flats of the
 -- sectors are those of part 1, which stand for their sources one to one.
-use Rattle.std.proofs.Common.{◌≡◌, ℕ, suc, ◌+◌, ◌<◌, ◌≤◌, List, [], ◌∷◌, length, get_or, Option, Result, Ok, Err, refl, ap, sym, ◌∙◌, arith}
-use Rattle.std.specs.Prelude.{◌==◌}
-use Rattle.std.specs.Option.{ok_or}
-use Rattle.std.specs.List.{AllByRecursion}
+use Rattle.word_rules.proofs.Common.{[], AllByRecursion, ap, arith, Err, get_or, length, List, Ok, ok_or, Option, refl, Result, suc, sym, ℕ, ◌+◌, ◌<◌, ◌==◌, ◌∙◌, ◌∷◌, ◌≡◌, ◌≤◌}
 use Rattle.outside.specs.Faults.{and_then}
 use Rattle.outside.proofs.AnswerLemmas.{and_then-ok}
 use Rattle.lump_rules.specs.declared.wad.Lump.{Lump}

@@ -1,7 +1,5 @@
 -- What is picked of a book whose lumps are moved is the same shape, moved.
-use Rattle.std.proofs.Common.{◌≡◌, ℕ, zero, suc, Bool, true, false, cond, List, [], ◌∷◌, map, Option, Some, None, slice_get, refl, ap, ◌∙◌}
-use Rattle.std.specs.Prelude.{find}
-use Rattle.std.specs.Option.{option_and_then, option_map}
+use Rattle.word_rules.proofs.Common.{[], ap, Bool, cond, false, find, List, map, None, Option, option_and_then, option_map, refl, slice_get, Some, suc, true, zero, ℕ, ◌∙◌, ◌∷◌, ◌≡◌}
 use Rattle.art_rules.specs.declared.shapes.Frame.{Frame}
 use Rattle.art_rules.specs.declared.shapes.Shape.{Shape}
 use Rattle.art_rules.specs.Books.{is_frame, picked}

@@ -1,12 +1,8 @@
 -- The textures that are prepared by a directory that finds their patches: the same, but for the numbers of the patches.
-use Rattle.std.proofs.Common.{◌≡◌, ℕ, suc, Bool, true, false, cond, nat_lt, List, [], ◌∷◌, map, Option, Some, None, Result, Ok, Err, refl, ap, sym, subst, ◌∙◌}
-use Rattle.std.specs.Prelude.{slice_get, ⊤}
-use Rattle.std.specs.Option.{option_and_then, option_map}
-use Rattle.std.specs.List.{AllByRecursion, range_with_len}
+use Rattle.word_rules.proofs.Common.{[], AllByRecursion, ap, Bool, cond, Err, false, List, map, nat_lt, None, Ok, Option, option_and_then, option_map, range_with_len, refl, Result, slice_get, Some, some-injective, subst, suc, sym, true, ℕ, ⊤, ◌∙◌, ◌∷◌, ◌≡◌}
 use Rattle.outside.specs.Faults.{and_then}
 use Rattle.outside.proofs.AnswerLemmas.{and_then-ok}
 use Rattle.word_rules.specs.Listed.{listed}
-use Rattle.word_rules.proofs.Logic.{some-injective}
 use Rattle.art_rules.specs.declared.ColumnLookup.{ColumnLookup}
 use Rattle.art_rules.specs.declared.PlacedPatch.{PlacedPatch}
 use Rattle.art_rules.specs.declared.TextureEntry.{TextureEntry}

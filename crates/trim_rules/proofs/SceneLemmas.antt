@@ -1,8 +1,5 @@
 -- The scene of an accepted level by the trimmed file: the same, with its lumps moved.
-use Rattle.std.proofs.Common.{◌≡◌, ℕ, ◌≤◌, true, List, [], ◌∷◌, map, length, Result, Ok, Err, refl, ap, sym, subst, ◌∙◌}
-use Rattle.std.specs.Prelude.{◌==◌}
-use Rattle.std.specs.Option.{option_map}
-use Rattle.std.specs.List.{AllByRecursion, list_any}
+use Rattle.word_rules.proofs.Common.{[], AllByRecursion, ap, Err, length, List, list_any, map, Ok, option_map, refl, Result, subst, sym, true, ℕ, ◌==◌, ◌∙◌, ◌∷◌, ◌≡◌, ◌≤◌}
 use Rattle.outside.specs.Faults.{and_then, from_below}
 use Rattle.outside.proofs.AnswerLemmas.{and_then-ok}
 use Rattle.lump_rules.specs.declared.wad.Lump.{Lump}

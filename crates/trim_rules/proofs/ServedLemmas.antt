@@ -1,7 +1,5 @@
 -- The trimmed file gives the base of the level again: its map, its lists of textures and its palette.
-use Rattle.std.proofs.Common.{◌≡◌, ℕ, zero, suc, ◌+◌, ◌<◌, Bool, true, false, cond, nat_le, List, [], ◌∷◌, ◌++◌, map, length, take, Option, Some, None, Result, Ok, Err, refl, ap, sym, subst, ◌∙◌, arith}
-use Rattle.std.specs.Prelude.{filter, not}
-use Rattle.std.specs.Option.{ok_or, option_and_then, option_map}
+use Rattle.word_rules.proofs.Common.{[], ap, arith, Bool, cond, Err, false, filter, length, List, map, nat_le, None, not, Ok, ok_or, Option, option_and_then, option_map, refl, Result, Some, subst, suc, sym, take, true, zero, ℕ, ◌++◌, ◌+◌, ◌<◌, ◌∙◌, ◌∷◌, ◌≡◌}
 use Rattle.outside.specs.Faults.{and_then, from_below}
 use Rattle.outside.proofs.AnswerLemmas.{and_then-ok}
 use Rattle.word_rules.proofs.LeastLemmas.{greatest-is}

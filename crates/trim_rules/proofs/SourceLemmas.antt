@@ -1,9 +1,5 @@
 -- What an accepted level finds by its name is found by the trimmed directory too, as the lump that was copied from it.
-use Rattle.std.proofs.Common.{◌≡◌, ℕ, zero, suc, ◌+◌, ◌<◌, Bool, true, false, List, [], ◌∷◌, map, length, Option, Some, None, refl, ap, sym, ◌∙◌, arith}
-use Rattle.std.specs.Prelude.{◌==◌, filter, not}
-use Rattle.std.specs.Option.{option_map}
-use Rattle.std.specs.List.{AllByRecursion, list_any, range_with_len}
-use Rattle.std.proofs.lemmas.List.{length-map}
+use Rattle.word_rules.proofs.Common.{[], AllByRecursion, ap, arith, Bool, false, filter, length, length-map, List, list_any, map, None, not, Option, option_map, range_with_len, refl, Some, suc, sym, true, zero, ℕ, ◌+◌, ◌<◌, ◌==◌, ◌∙◌, ◌∷◌, ◌≡◌}
 use Rattle.word_rules.specs.Least.{greatest}
 use Rattle.lump_rules.specs.declared.wad.Lump.{Lump}
 use Rattle.lump_rules.specs.Lookups.{has_name, last_of, map_of}

@@ -1,12 +1,5 @@
 -- The names of lumps of a directory are spelled as a directory spells them, so that they may be put into a new file.
-use Rattle.std.proofs.Common.{◌≡◌, ℕ, zero, suc, ◌+◌, ◌-◌, ◌<◌, ◌≤◌, Bool, true, false, cond, nat_lt, List, [], ◌∷◌, ◌++◌, map, length, take, drop, replicate, min, Ok, All, refl, ap, sym, subst, ◌∙◌, arith, ltb-false}
-use Rattle.std.specs.Prelude.{◌==◌}
-use Rattle.std.specs.Char.{to_ascii_uppercase}
-use Rattle.std.specs.List.{AllByRecursion, before_first}
-use Rattle.std.proofs.lemmas.Bool.Decides.{Decides-eqb}
-use Rattle.std.proofs.lemmas.List.{length-append, length-map, length-replicate, length-take}
-use Rattle.std.proofs.lemmas.List.Elements.{All-append, All-nil}
-use Rattle.std.proofs.lemmas.Str.Ascii.{uppercase-uppercase}
+use Rattle.word_rules.proofs.Common.{[], All, All-append, All-nil, AllByRecursion, ap, arith, before_first, Bool, cond, Decides-eqb, drop, false, length, length-append, length-map, length-replicate, length-take, List, ltb-false, map, min, nat_lt, Ok, refl, replicate, subst, suc, sym, take, to_ascii_uppercase, true, uppercase-uppercase, zero, ℕ, ◌++◌, ◌+◌, ◌-◌, ◌<◌, ◌==◌, ◌∙◌, ◌∷◌, ◌≡◌, ◌≤◌}
 use Rattle.word_rules.proofs.ListedLemmas.{get_or-listed}
 use Rattle.lump_rules.specs.declared.wad.Lump.{Lump}
 use Rattle.lump_rules.specs.declared.names.TheConstants.{F_START, F_END, S_START, S_END}

@@ -1,8 +1,6 @@
 -- The texels of a texture whose patches have other numbers: where the bytes of the one are those of the other, so are
 -- the texels.
-use Rattle.std.proofs.Common.{◌≡◌, ℕ, suc, ◌*◌, Bool, true, false, cond, List, [], ◌∷◌, map, length, nat_lt, refl, ap, ◌∙◌}
-use Rattle.std.specs.Prelude.{filter}
-use Rattle.std.specs.List.{range_with_len}
+use Rattle.word_rules.proofs.Common.{[], ap, Bool, cond, false, filter, length, List, map, nat_lt, range_with_len, refl, suc, true, ℕ, ◌*◌, ◌∙◌, ◌∷◌, ◌≡◌}
 use Rattle.word_rules.specs.Listed.{joined_lists, listed}
 use Rattle.art_rules.specs.declared.ColumnLookup.{ColumnLookup}
 use Rattle.art_rules.specs.declared.ColumnLookup.TheVariants.{Empty, Single, Composed}

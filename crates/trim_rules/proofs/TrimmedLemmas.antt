@@ -1,12 +1,7 @@
 -- The groups of a trimmed file: the flats of part 1 and the pictures of part 2, where no lump that is copied has the
 -- name of a mark.
-use Rattle.std.proofs.Common.{◌≡◌, ℕ, suc, ◌<◌, Bool, true, false, List, [], ◌∷◌, ◌++◌, map, length, Option, Some, None, refl, ap, sym, subst, ◌∙◌, append_assoc}
-use Rattle.std.specs.Prelude.{◌&&◌, ◌||◌, filter, not, ⊤}
-use Rattle.std.specs.List.{AllByRecursion, list_any, range_with_len}
-use Rattle.std.proofs.lemmas.Bool.Decides.{Decides-eqb}
-use Rattle.std.proofs.lemmas.List.{map-append}
+use Rattle.word_rules.proofs.Common.{[], AllByRecursion, and-second_false, ap, append_assoc, Bool, Decides-eqb, false, filter, length, List, list_any, map, map-append, None, not, Option, or-true_right, range_with_len, refl, Some, subst, suc, sym, true, ℕ, ⊤, ◌&&◌, ◌++◌, ◌<◌, ◌||◌, ◌∙◌, ◌∷◌, ◌≡◌}
 use Rattle.word_rules.proofs.LeastLemmas.{none-below}
-use Rattle.word_rules.proofs.Logic.{and-second_false, or-true_right}
 use Rattle.lump_rules.specs.declared.wad.Lump.{Lump}
 use Rattle.lump_rules.specs.declared.names.TheConstants.{F_START, F_END, MAP_LUMPS, S_START, S_END}
 use Rattle.lump_rules.specs.declared.names.Group.{Group}

@@ -1,9 +1,5 @@
 -- Laws of absolute values, of the steps of a slope, and of the columns of a view.
-use Rattle.std.proofs.Common.{◌≡◌, ℕ, ◌*◌, ◌/◌, ◌^◌, ◌<◌, ◌≤◌, false, ℤ, pos, negsuc, ◌≤ℤ◌, ◌<ℤ◌, arith}
-use Rattle.std.specs.Prelude.{nat_le, unsigned_abs}
-use Rattle.std.proofs.lemmas.Bool.Decides.{nat_tests}
-use Rattle.std.proofs.lemmas.Int.{ints, clamps}
-use Rattle.std.proofs.lemmas.Nat.{div_below}
+use Rattle.word_rules.proofs.Common.{arith, clamps, div_below, false, ints, nat_le, nat_tests, negsuc, pos, unsigned_abs, ℕ, ℤ, ◌*◌, ◌/◌, ◌<ℤ◌, ◌<◌, ◌^◌, ◌≡◌, ◌≤ℤ◌, ◌≤◌}
 use Rattle.word_rules.specs.Words.{div, shr_word, abs_word, greater_word, lesser_word}
 use Rattle.view_rules.specs.declared.TheConstants.{SLOPE_BITS, SLOPE_ANGLES, FRAME_WIDTH}
 use Rattle.view_rules.specs.Angles.{Angles}

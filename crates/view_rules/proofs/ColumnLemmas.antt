@@ -1,9 +1,5 @@
 -- Laws of `raw_column` and `column_of_angle`: what is further left is seen further left.
-use Rattle.std.proofs.Common.{◌≡◌, ℕ, suc, ◌+◌, ◌*◌, ◌≤◌, Bool, true, false, cond, ℤ, pos, negsuc, neg_ℤ, ◌+ℤ◌, ◌-ℤ◌, ◌*ℤ◌, ◌≤ℤ◌, FitsSigned, refl, ap, ◌∙◌, arith}
-use Rattle.std.specs.Prelude.{int_lt, unsigned_abs}
-use Rattle.std.specs.Int.{w32, int_wrap, int_shr}
-use Rattle.std.proofs.Math.Nat.{mul-le-mul_right}
-use Rattle.std.proofs.lemmas.Int.{ints, clamps, int_wrap_fits}
+use Rattle.word_rules.proofs.Common.{ap, arith, Bool, clamps, cond, false, FitsSigned, int_lt, int_shr, int_wrap, int_wrap_fits, ints, mul-le-mul_right, neg_ℤ, negsuc, pos, refl, suc, true, unsigned_abs, w32, ℕ, ℤ, ◌*ℤ◌, ◌*◌, ◌+ℤ◌, ◌+◌, ◌-ℤ◌, ◌∙◌, ◌≡◌, ◌≤ℤ◌, ◌≤◌}
 use Rattle.word_rules.specs.Words.{mul, plus, minus, clamp_word, shr_word, minus_one, fixed, shl_word}
 use Rattle.word_rules.proofs.WordLemmas.{clamp_word-low, clamp_word-high}
 use Rattle.view_rules.specs.declared.TheConstants.{MAX_TANGENT}

@@ -1,7 +1,5 @@
 -- Laws of `column_range`: its columns are in order and within the view.
-use Rattle.std.proofs.Common.{◌≡◌, ℕ, ◌/◌, ◌^◌, ◌<◌, ◌≤◌, Bool, true, false, cond, Option, Some, None, ◌⊎◌, inl, inr, refl, arith}
-use Rattle.std.specs.Prelude.{nat_lt, nat_le}
-use Rattle.std.proofs.lemmas.Bool.Decides.{nat_tests}
+use Rattle.word_rules.proofs.Common.{arith, Bool, cond, false, inl, inr, nat_le, nat_lt, nat_tests, None, Option, refl, Some, true, ℕ, ◌/◌, ◌<◌, ◌^◌, ◌≡◌, ◌≤◌, ◌⊎◌}
 use Rattle.word_rules.specs.Words.{turn, turn_back, ang90, ang180, fine_angle}
 use Rattle.view_rules.specs.declared.ColumnRange.{ColumnRange}
 use Rattle.view_rules.specs.declared.ColumnRange.TheVariants.{Behind, Columns}

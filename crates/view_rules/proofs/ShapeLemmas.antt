@@ -1,6 +1,5 @@
 -- Laws of the nine shapes: a view lies within the frame.
-use Rattle.std.proofs.Common.{◌≡◌, ℕ, ◌+◌, ◌-◌, ◌*◌, ◌/◌, ◌<◌, ◌≤◌, ◌==◌, Bool, true, false, cond, refl, sym, subst, arith}
-use Rattle.std.proofs.lemmas.Bool.Decides.{nat_tests}
+use Rattle.word_rules.proofs.Common.{arith, Bool, cond, false, nat_tests, refl, subst, sym, true, ℕ, ◌*◌, ◌+◌, ◌-◌, ◌/◌, ◌<◌, ◌==◌, ◌≡◌, ◌≤◌}
 use Rattle.view_rules.specs.declared.TheConstants.{MIN_SIZE, MAX_SIZE, WIDEST_SIZE, FRAME_HEIGHT, ROWS_ABOVE_BAR, ROWS_STEP}
 use Rattle.view_rules.specs.declared.ViewShape.{ViewShape}
 use Rattle.view_rules.specs.Shape.{width_of_size, height_of_size, left_of_size, top_of_size, shape_of_size}

@@ -1,15 +1,8 @@
 -- Tables that nothing refuses are sound.
-use Rattle.std.proofs.Common.{◌≡◌, ℕ, zero, suc, ◌+◌, ◌-◌, ◌*◌, ◌/◌, ◌%◌, ◌^◌, ◌<◌, ◌≤◌, Bool, true, false, cond, ◌&&◌, ◌||◌, Option, Some, None, ℤ, pos, negsuc, ◌≤ℤ◌, refl, ap, ◌∙◌, arith, inl, inr}
-use Rattle.std.specs.Prelude.{int_lt, nat_lt, nat_le, slice_index_or}
-use Rattle.std.proofs.lemmas.Bool.{cases_lt}
-use Rattle.std.proofs.lemmas.Bool.Decides.{nat_tests}
-use Rattle.std.proofs.lemmas.Int.{ints}
-use Rattle.std.proofs.lemmas.Nat.{div_below}
-use Rattle.std.specs.Int.Signed.{≤ℤ_refl}
+use Rattle.word_rules.proofs.Common.{and-second_false, ap, arith, Bool, cases_lt, cond, div_below, false, inl, inr, int_lt, ints, le-from_lt_false, nat_le, nat_lt, nat_tests, negsuc, None, Option, or_else-none, pos, refl, slice_index_or, Some, suc, true, zero, ℕ, ℤ, ≤ℤ_refl, ◌%◌, ◌&&◌, ◌*◌, ◌+◌, ◌-◌, ◌/◌, ◌<◌, ◌^◌, ◌||◌, ◌∙◌, ◌≡◌, ◌≤ℤ◌, ◌≤◌}
 use Rattle.word_rules.specs.Words.{div, ang90}
 use Rattle.word_rules.specs.Least.{least, or_else}
 use Rattle.word_rules.proofs.LeastLemmas.{none-below, least-is}
-use Rattle.word_rules.proofs.Logic.{and-second_false, le-from_lt_false, or_else-none}
 use Rattle.view_rules.specs.declared.TheConstants.{TANGENTS, EDGE_TANGENT, MIN_EDGE_TANGENT}
 use Rattle.view_rules.specs.declared.TablesRefusal.{TablesRefusal}
 use Rattle.view_rules.specs.declared.TablesRefusal.TheVariants.{Tangent}

@@ -1,10 +1,6 @@
 -- Laws of how a plane keeps its runs: what a column has, and what is left where one is marked.
-use Rattle.std.proofs.Common.{◌≡◌, ℕ, suc, ◌+◌, ◌-◌, ◌<◌, ◌≤◌, ◌≢◌, min, max, true, false, cond, List, [], ◌∷◌, Option, Some, None, length, get_or, set, drop, replicate, refl, ap, sym, ◌∙◌, arith, inl, inr}
-use Rattle.std.specs.Prelude.{◌==◌, ◌&&◌, nat_le, is_none, slice_index, slice_range}
-use Rattle.std.specs.List.{list_all}
-use Rattle.std.proofs.lemmas.Bool.{cases_lt, cases_eq, eq-eqb, ne_eqb, leb-true, and_parts}
-use Rattle.std.proofs.lemmas.List.{get_or-set_same, get_or-set_other, get_or_past, get_or-replicate, get_or-take, get_or-drop, length-set, length-take, length-drop, length-replicate}
-use Rattle.std.proofs.lemmas.List.Folds.{list_all_at}
+use Rattle.word_rules.proofs.Common.{[], and_parts, ap, arith, cases_eq, cases_lt, cond, drop, eq-eqb, false, get_or, get_or-drop, get_or-replicate, get_or-set_other, get_or-set_same, get_or-take, get_or_past, inl, inr, is_none, leb-true, length, length-drop, length-replicate, length-set, length-take, List, list_all, list_all_at, max, min, nat_le, ne_eqb, None, Option, refl, replicate, slice_index, slice_range, Some, suc, sym, true, ℕ, ◌&&◌, ◌+◌, ◌-◌, ◌<◌, ◌==◌, ◌∙◌, ◌∷◌, ◌≡◌, ◌≢◌, ◌≤◌}
+use Rattle.std.proofs.Common.{set}
 use Rattle.word_rules.specs.Listed.{listed}
 use Rattle.word_rules.proofs.ListedLemmas.{length-listed, get_or-listed, listed-all}
 use Rattle.view_rules.specs.declared.TheConstants.{FRAME_WIDTH, FRAME_HEIGHT}

@@ -1,7 +1,5 @@
 -- Laws of a canvas that is given a plane's spans from column to column: none yet, one column more, all.
-use Rattle.std.proofs.Common.{◌≡◌, ℕ, zero, suc, ◌+◌, ◌-◌, ◌<◌, ◌≤◌, Bool, true, false, cond, List, [], ◌++◌, Option, Some, None, refl, ap, ap₂, sym, ◌∙◌, arith, inl, inr, min, max}
-use Rattle.std.specs.Prelude.{◌&&◌, ◌||◌, nat_lt, not}
-use Rattle.std.proofs.lemmas.Bool.{cases_lt, cases_eq, lt-ltb, le-ltb, and_left, and_right, both_ways}
+use Rattle.word_rules.proofs.Common.{[], and_left, and_right, ap, ap₂, arith, Bool, both_ways, cases_eq, cases_lt, cond, false, inl, inr, le-ltb, List, lt-ltb, max, min, nat_lt, None, not, Option, refl, Some, suc, sym, true, zero, ℕ, ◌&&◌, ◌++◌, ◌+◌, ◌-◌, ◌<◌, ◌||◌, ◌∙◌, ◌≡◌, ◌≤◌}
 use Rattle.word_rules.specs.Least.{or_else}
 use Rattle.view_rules.specs.declared.TheConstants.{FRAME_WIDTH, FRAME_HEIGHT}
 use Rattle.view_rules.specs.declared.ViewShape.{ViewShape}

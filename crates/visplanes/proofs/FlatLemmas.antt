@@ -1,7 +1,5 @@
 -- A canvas that has a plane's spans has the dots of the plane, in whatever order they came.
-use Rattle.std.proofs.Common.{◌≡◌, ℕ, zero, suc, ◌+◌, ◌<◌, ◌≤◌, Bool, true, false, cond, List, [], ◌∷◌, Option, Some, None, refl, ap, sym, ◌∙◌, arith, inl, inr}
-use Rattle.std.specs.Prelude.{◌&&◌, nat_le, nat_lt, ℤ, pos}
-use Rattle.std.proofs.lemmas.Bool.{cases_lt, le-leb, lt-ltb, and_from, and_right}
+use Rattle.word_rules.proofs.Common.{[], and_from, and_right, ap, arith, Bool, cases_lt, cond, false, inl, inr, le-leb, List, lt-ltb, nat_le, nat_lt, None, Option, pos, refl, Some, suc, sym, true, zero, ℕ, ℤ, ◌&&◌, ◌+◌, ◌<◌, ◌∙◌, ◌∷◌, ◌≡◌, ◌≤◌}
 use Rattle.word_rules.specs.Listed.{listed, joined_lists}
 use Rattle.word_rules.proofs.ListedLemmas.{listed_from-length, listed_from-none}
 use Rattle.view_rules.specs.declared.TheConstants.{FRAME_WIDTH}

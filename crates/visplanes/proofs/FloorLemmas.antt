@@ -1,6 +1,5 @@
 -- The colours of a span strip are those of a plane's span.
-use Rattle.std.proofs.Common.{◌≡◌, ℕ, ap}
-use Rattle.std.specs.Prelude.{ℤ}
+use Rattle.word_rules.proofs.Common.{ap, ℕ, ℤ, ◌≡◌}
 use Rattle.word_rules.specs.Words.{mul}
 use Rattle.view_rules.specs.declared.Spans.{Spans}
 use Rattle.view_rules.specs.Lights.{distance_map}

@@ -1,8 +1,6 @@
 -- Laws of a list of planes of which the first ones count: what is changed, added and found there.
-use Rattle.std.proofs.Common.{◌≡◌, ℕ, zero, suc, ◌<◌, ◌≤◌, Bool, true, false, List, [], ◌∷◌, ◌++◌, Option, Some, None, length, get_or, set, take, refl, ap, sym, ◌∙◌, arith}
-use Rattle.std.specs.Prelude.{slice_get}
-use Rattle.std.proofs.lemmas.List.{get_or-take, length-set, length-take, length-replicate}
-use Rattle.std.proofs.lemmas.List.Elements.{All-set, All-push}
+use Rattle.word_rules.proofs.Common.{[], All-push, All-set, ap, arith, Bool, false, get_or, get_or-take, length, length-replicate, length-set, length-take, List, None, Option, refl, slice_get, Some, suc, sym, take, true, zero, ℕ, ◌++◌, ◌<◌, ◌∙◌, ◌∷◌, ◌≡◌, ◌≤◌}
+use Rattle.std.proofs.Common.{set}
 use Rattle.view_rules.specs.declared.TheConstants.{FRAME_WIDTH}
 use Rattle.picture_rules.specs.declared.plane.PlaneKey.{PlaneKey}
 use Rattle.picture_rules.specs.plane.Planes.{Plane, empty_plane, add, is_free, check, check_plane, mark, with_run, AreWide}

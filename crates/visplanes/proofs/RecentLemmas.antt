@@ -1,11 +1,6 @@
 -- Laws of the first plane of a key: which it is, and that it stays the first while planes are added and marked.
-use Rattle.std.proofs.Common.{◌≡◌, ℕ, zero, suc, ◌+◌, ◌<◌, ◌≤◌, Bool, true, List, [], ◌∷◌, ◌++◌, Option, Some, None, length, get_or, set, take, refl, ap, sym, ◌∙◌, subst, arith}
-use Rattle.std.specs.Prelude.{◌==◌, ◌&&◌, not, position}
-use Rattle.std.proofs.lemmas.Bool.{and_parts, and_from, eqb-true, eq-eqb}
-use Rattle.std.proofs.lemmas.Grind.{common_steps}
-use Rattle.std.proofs.lemmas.List.{get_or_append_left, get_or_default, get_or-take, length_push, length-set, length-take, take_more_set}
-use Rattle.std.proofs.lemmas.List.Quantifiers.{position-Some}
-use Rattle.std.proofs.lemmas.List.Sums.{prefix_len-le-length}
+use Rattle.word_rules.proofs.Common.{[], and_from, and_parts, ap, arith, Bool, common_steps, eq-eqb, eqb-true, get_or, get_or-take, get_or_append_left, get_or_default, length, length-set, length-take, length_push, List, None, not, Option, position, position-Some, prefix_len-le-length, refl, Some, subst, suc, sym, take, take_more_set, true, zero, ℕ, ◌&&◌, ◌++◌, ◌+◌, ◌<◌, ◌==◌, ◌∙◌, ◌∷◌, ◌≡◌, ◌≤◌}
+use Rattle.std.proofs.Common.{set}
 use Rattle.word_rules.specs.Words.{same_word, bits_of}
 use Rattle.picture_rules.specs.declared.plane.PlaneKey.{PlaneKey}
 use Rattle.picture_rules.specs.declared.plane.Flat4.{Flat4}

@@ -1,7 +1,5 @@
 -- Laws of rows: which row is in them, and the two parts of one column's rows that another does not have.
-use Rattle.std.proofs.Common.{◌≡◌, ℕ, ◌<◌, ◌≤◌, ◌+◌, Bool, true, false, Option, Some, None, ap, sym, ◌∙◌, arith, inl, inr}
-use Rattle.std.specs.Prelude.{◌&&◌, ◌⊎◌, nat_le, nat_lt}
-use Rattle.std.proofs.lemmas.Bool.{cases_lt, le-leb, lt-leb, lt-ltb, le-ltb, leb-true, ltb-true, and_from, and_right, and_parts, both_ways}
+use Rattle.word_rules.proofs.Common.{and_from, and_parts, and_right, ap, arith, Bool, both_ways, cases_lt, false, inl, inr, le-leb, le-ltb, leb-true, lt-leb, lt-ltb, ltb-true, nat_le, nat_lt, None, Option, Some, sym, true, ℕ, ◌&&◌, ◌+◌, ◌<◌, ◌∙◌, ◌≡◌, ◌≤◌, ◌⊎◌}
 use Rattle.visplanes.specs.declared.rows.Rows.{Rows}
 use Rattle.picture_rules.specs.plane.Spans.{holds_row}
 use Rattle.visplanes.specs.Spans.{rows_of, is_in}

@@ -1,8 +1,5 @@
 -- Laws of the runs of columns that hold a row, from a column on.
-use Rattle.std.proofs.Common.{◌≡◌, ℕ, zero, suc, ◌+◌, ◌-◌, ◌<◌, ◌≤◌, Bool, true, false, List, [], ◌∷◌, ◌++◌, length, get_or, drop, replicate, refl, ap, sym, ◌∙◌, arith, inl, inr}
-use Rattle.std.specs.Prelude.{◌⊎◌, not}
-use Rattle.std.proofs.lemmas.Bool.{cases_lt}
-use Rattle.std.proofs.lemmas.List.{drop_more, get_or-drop, get_or_past, length-map, take_all}
+use Rattle.word_rules.proofs.Common.{[], ap, arith, Bool, cases_lt, drop, drop_more, false, get_or, get_or-drop, get_or_past, inl, inr, length, length-map, List, not, refl, replicate, suc, sym, take_all, true, zero, ℕ, ◌++◌, ◌+◌, ◌-◌, ◌<◌, ◌∙◌, ◌∷◌, ◌≡◌, ◌≤◌, ◌⊎◌}
 use Rattle.view_rules.specs.declared.TheConstants.{FRAME_WIDTH}
 use Rattle.level_rules.specs.walk.Covered.{runs, fragments, is_covered}
 use Rattle.level_rules.proofs.walk.CoverLemmas.{runs-open}

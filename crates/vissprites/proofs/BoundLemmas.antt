@@ -1,13 +1,6 @@
 -- Laws of what holds of each entry.
-use Rattle.std.proofs.Common.{◌≡◌, ℕ, zero, suc, ◌-◌, ◌%◌, ◌^◌, ◌<◌, ◌≤◌, Bool, true, false, cond, ℤ, pos, negsuc, ◌-ℤ◌, ◌<ℤ◌, List, [], ◌∷◌, ◌++◌, length, Option, Some, None, refl, sym, subst, arith}
+use Rattle.word_rules.proofs.Common.{[], All-permutation, All-push, AllPass, arith, Bool, cast_signed, clamps, cond, false, int_le, int_lt, int_wrap, ints, length, List, nat_lt, nat_tests, negsuc, None, Option, pos, refl, Some, subst, suc, sym, true, w32, zero, ℕ, ℤ, ◌%◌, ◌++◌, ◌-ℤ◌, ◌-◌, ◌<ℤ◌, ◌<◌, ◌^◌, ◌∷◌, ◌≡◌, ◌≤◌}
 use mir.Val.{sel}
-use Rattle.std.specs.Prelude.{nat_lt, int_le, int_lt}
-use Rattle.std.specs.Int.{w32, int_wrap, cast_signed}
-use Rattle.std.specs.List.{AllPass}
-use Rattle.std.proofs.lemmas.Bool.Decides.{nat_tests}
-use Rattle.std.proofs.lemmas.Int.{ints, clamps}
-use Rattle.std.proofs.lemmas.List.Elements.{All-push}
-use Rattle.std.proofs.lemmas.List.Sorted.{All-permutation}
 use Rattle.word_rules.specs.Words.{minus, greater_word, lesser_word}
 use Rattle.view_rules.specs.View.{ViewValue}
 use Rattle.picture_rules.specs.declared.sprite.TheConstants.{MAX_VISSPRITES}

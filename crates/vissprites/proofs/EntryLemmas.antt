@@ -1,8 +1,5 @@
 -- Laws of what is seen of a thing, and of its entry.
-use Rattle.std.proofs.Common.{◌≡◌, ℕ, ◌*◌, ◌/◌, ◌^◌, ◌≤◌, Bool, true, false, cond, ℤ, pos, negsuc, ◌≤ℤ◌, Some, None, refl, sym, ap, subst, arith}
-use Rattle.std.specs.Prelude.{int_lt, nat_le}
-use Rattle.std.proofs.lemmas.Bool.Decides.{nat_tests}
-use Rattle.std.proofs.lemmas.Int.{ints}
+use Rattle.word_rules.proofs.Common.{ap, arith, Bool, cond, false, int_lt, ints, nat_le, nat_tests, negsuc, None, pos, refl, Some, subst, sym, true, ℕ, ℤ, ◌*◌, ◌/◌, ◌^◌, ◌≡◌, ◌≤ℤ◌, ◌≤◌}
 use Rattle.word_rules.specs.Words.{minus, div, greater_word, lesser_word}
 use Rattle.word_rules.specs.declared.TheConstants.{FRACTION_UNIT}
 use Rattle.view_rules.specs.View.{ViewValue}

@@ -1,8 +1,5 @@
 -- Laws of the entries of a view that are kept in drawing order.
-use Rattle.std.proofs.Common.{◌≡◌, ℕ, suc, ◌+◌, ◌<◌, ◌≤◌, Bool, true, false, cond, List, [], ◌∷◌, ◌++◌, length, take, drop, refl, ap, sym, ◌∙◌, arith, Option, Some, None}
-use Rattle.std.specs.Prelude.{nat_lt, ◌&&◌}
-use Rattle.std.proofs.lemmas.Bool.Decides.{nat_tests}
-use Rattle.std.proofs.lemmas.Bool.{and_parts}
+use Rattle.word_rules.proofs.Common.{[], and-true_true, and_parts, ap, arith, Bool, cond, drop, false, length, List, nat_lt, nat_tests, None, Option, refl, Some, suc, sym, take, true, ℕ, ◌&&◌, ◌++◌, ◌+◌, ◌<◌, ◌∙◌, ◌∷◌, ◌≡◌, ◌≤◌}
 use Rattle.view_rules.specs.View.{ViewValue}
 use Rattle.picture_rules.specs.declared.sprite.TheConstants.{MAX_VISSPRITES}
 use Rattle.picture_rules.specs.declared.sprite.Placed.{Placed}
@@ -13,7 +10,6 @@ use Rattle.picture_rules.specs.sprite.Order.{draw_order, is_smaller, insert_last
 use Rattle.picture_rules.proofs.sprite.OrderLemmas.{draw_order-more, length-draw_order}
 use Rattle.picture_rules.specs.sprite.Entries.{entry_for, with_entry, add_entry}
 use Rattle.vissprites.specs.Kept.{insert_made, made_order, are_below, IsKept, count_before}
-use Rattle.word_rules.proofs.Logic.{and-true_true}
 
 less : (m n : ℕ) → nat_lt m n ≡ true → nat_lt n m ≡ false
 less m n h = grind (arith, nat_tests)

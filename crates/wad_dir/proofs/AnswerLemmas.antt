@@ -1,6 +1,5 @@
 -- What a call answers after one of its parts.
-use Rattle.std.proofs.Common.{◌≡◌, Bool, true, Result, Ok, Err, Option, None, Some, IsErrAnd, refl, ap, ◌∙◌}
-use Rattle.std.proofs.lemmas.Result.{err_from_is_err_and}
+use Rattle.word_rules.proofs.Common.{ap, Bool, Err, err_from_is_err_and, IsErrAnd, None, Ok, Option, refl, Result, Some, true, ◌∙◌, ◌≡◌}
 use Rattle.outside.specs.declared.fault.Fault.{Fault}
 use Rattle.outside.specs.declared.fault.Fault.TheVariants.{Refused, ReadFault, ZoneFull, OutOfMemory}
 use Rattle.outside.specs.Faults.{FaultFits, ResultIs}

@@ -1,7 +1,6 @@
 -- The lumps of a file's entries as they are read.
-use Rattle.std.proofs.Common.{◌≡◌, ◌<◌, ℕ, zero, suc, ◌+◌, ◌*◌, List, [], ◌∷◌, ◌++◌, take, drop, All, get_or, sym, ap, subst, arith, ◌∙◌}
+use Rattle.word_rules.proofs.Common.{[], All, All-append, All-nil, ap, arith, drop, get_or, List, subst, suc, sym, take, zero, ℕ, ◌*◌, ◌++◌, ◌+◌, ◌<◌, ◌∙◌, ◌∷◌, ◌≡◌}
 use Rattle.word_rules.proofs.ListedLemmas.{listed-zero, listed-more}
-use Rattle.std.proofs.lemmas.List.Elements.{All-append, All-nil}
 use Rattle.lump_rules.specs.declared.wad.TheConstants.{ENTRY_SIZE}
 use Rattle.lump_rules.specs.declared.wad.Lump.{Lump}
 use Rattle.lump_rules.specs.Wads.{lump_in, lumps_in, entry_at}

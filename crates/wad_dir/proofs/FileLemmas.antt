@@ -1,10 +1,5 @@
 -- The lumps of a file, and of files one after the other.
-use Rattle.std.proofs.Common.{◌≡◌, ◌<◌, ◌≤◌, ℕ, suc, ◌+◌, ◌*◌, Bool, true, List, [], ◌++◌, length, get_or, take, drop, Result, Ok, Err, IsErrAnd, refl, sym, ap, ◌∙◌, arith, append_assoc, append-nil, add-one}
-use Rattle.std.proofs.lemmas.Result.{err_from_is_err_and}
-use Rattle.std.specs.List.{sum_by}
-use Rattle.std.proofs.lemmas.List.{drop_all}
-use Rattle.std.proofs.lemmas.List.Sums.{sum_by-cons}
-use Rattle.std.proofs.Math.Seq.{drop-cons}
+use Rattle.word_rules.proofs.Common.{[], add-one, ap, append-nil, append_assoc, arith, Bool, drop, drop-cons, drop_all, Err, err_from_is_err_and, get_or, IsErrAnd, length, List, Ok, refl, Result, suc, sum_by, sum_by-cons, sym, take, true, ℕ, ◌*◌, ◌++◌, ◌+◌, ◌<◌, ◌∙◌, ◌≡◌, ◌≤◌}
 use Rattle.outside.specs.declared.fault.Fault.{Fault}
 use Rattle.outside.specs.Faults.{FaultFits, ResultIs}
 use Rattle.outside.specs.Shelf.{ShelfView, IsLaterShelf, NameFiles, Stands}

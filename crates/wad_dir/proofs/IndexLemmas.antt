@@ -1,13 +1,5 @@
 -- Laws of `greatest`, and an index as it grows.
-use Rattle.std.proofs.Common.{◌≡◌, ◌<◌, ℕ, zero, suc, ◌+◌, Bool, true, false, List, length, get_or, replicate, Option, None, Some, IfSome, Result, Ok, Err, IfOk, refl, sym, ap, ◌∙◌, arith, add-one}
-use Rattle.std.specs.Prelude.{◌&&◌}
-use Rattle.std.specs.List.{slice_get}
-use Rattle.std.specs.Option.{option_map}
-use Rattle.std.specs.Ordering.{nat_cmp, is_eq}
-use Rattle.std.specs.Str.{bytes_eq}
-use Rattle.std.specs.Cmp.Lexicographic.{slice_cmp, texts_ties}
-use Rattle.std.specs.BTreeMap.{BTreeMap, Updates}
-use Rattle.std.proofs.lemmas.List.{get_or-replicate}
+use Rattle.word_rules.proofs.Common.{add-one, ap, arith, Bool, BTreeMap, bytes_eq, Err, false, get_or, get_or-replicate, IfOk, IfSome, is_eq, length, List, nat_cmp, None, Ok, Option, option_map, refl, replicate, Result, slice_cmp, slice_get, Some, suc, sym, texts_ties, true, Updates, zero, ℕ, ◌&&◌, ◌+◌, ◌<◌, ◌∙◌, ◌≡◌}
 use Rattle.word_rules.specs.Least.{greatest}
 use Rattle.word_rules.proofs.LeastLemmas.{greatest-is}
 use Rattle.lump_rules.specs.declared.wad.Lump.{Lump}

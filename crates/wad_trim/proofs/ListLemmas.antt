@@ -1,9 +1,5 @@
 -- Lists of lumps by their numbers, and what marks of numbers list.
-use Rattle.std.proofs.Common.{◌≡◌, ℕ, zero, suc, ◌<◌, Bool, true, Decides, List, [], ◌∷◌, ◌++◌, length, get_or, filter, refl, ap, sym, subst, ◌∙◌, arith}
-use Rattle.std.specs.Prelude.{◌==◌, ◌||◌, ◌↔◌, All, Contains}
-use Rattle.std.specs.List.{AllByRecursion, list_any, range_with_len}
-use Rattle.std.proofs.lemmas.Bool.Decides.{nat_tests, same_from_decides}
-use Rattle.std.proofs.lemmas.List.Folds.{Any-from_list_any, list_any_at, list_any-append}
+use Rattle.word_rules.proofs.Common.{[], All, AllByRecursion, Any-from_list_any, ap, arith, Bool, Contains, Decides, eq-from_true, eq-true, filter, get_or, length, List, list_any, list_any-append, list_any_at, nat_tests, range_with_len, refl, same_from_decides, subst, suc, sym, true, zero, ℕ, ◌++◌, ◌<◌, ◌==◌, ◌||◌, ◌↔◌, ◌∙◌, ◌∷◌, ◌≡◌}
 use Rattle.lump_rules.specs.declared.wad.Lump.{Lump}
 use Rattle.lump_rules.specs.declared.wad.LumpNo.{LumpNo}
 use Rattle.scene_rules.specs.declared.SectorFlats.{SectorFlats}
@@ -12,7 +8,6 @@ use Rattle.texture_build.specs.Views.{is_marked}
 use Rattle.texture_build.proofs.MarkLemmas.{filter_same}
 use Rattle.sound_scene.specs.Views.{lump_numbers}
 use Rattle.trim_rules.specs.Parts.{flat_lumps, picture_lumps}
-use Rattle.word_rules.proofs.Logic.{eq-from_true, eq-true}
 
 -- a test of lumps by their numbers
 pub any-number : (p : ℕ → Bool) (lumps : List LumpNo) → list_any (λ (lump : LumpNo). p lump.0) lumps ≡ list_any p (lump_numbers lumps)

@@ -1,14 +1,5 @@
 -- Each lump that is copied is one that the level needs.
-use Rattle.std.proofs.Common.{◌≡◌, ℕ, zero, suc, ◌+◌, ◌<◌, ◌≤◌, Bool, true, false, cond, nat_le, List, [], ◌∷◌, ◌++◌, map, length, Option, Some, None, Ok, refl, ap, sym, subst, ◌∙◌, arith, inl, inr, eq-eqb}
-use Rattle.std.specs.Prelude.{◌==◌, ◌||◌, filter, not, ⊤}
-use Rattle.std.specs.List.{AllByRecursion, list_any, range_with_len}
-use Rattle.std.specs.Str.{bytes_eq}
-use Rattle.std.specs.Option.{ok_or, option_and_then, option_map_or}
-use Rattle.std.proofs.Math.Bool.{or-true}
-use Rattle.std.proofs.lemmas.Bool.{or_cases}
-use Rattle.std.proofs.lemmas.Bool.Decides.{nat_tests}
-use Rattle.std.proofs.lemmas.List.Elements.{All-contains, All-from_recursion}
-use Rattle.std.proofs.lemmas.Slice.Eq.{bytes_eq-Decides}
+use Rattle.word_rules.proofs.Common.{[], All-contains, All-from_recursion, AllByRecursion, ap, arith, Bool, bytes_eq, bytes_eq-Decides, cond, eq-eqb, false, filter, inl, inr, length, List, list_any, map, nat_le, nat_tests, None, not, Ok, ok_or, Option, option_and_then, option_map_or, or-true, or_cases, range_with_len, refl, Some, subst, suc, sym, true, zero, ℕ, ⊤, ◌++◌, ◌+◌, ◌<◌, ◌==◌, ◌||◌, ◌∙◌, ◌∷◌, ◌≡◌, ◌≤◌}
 use Rattle.lump_rules.specs.declared.wad.Lump.{Lump}
 use Rattle.lump_rules.specs.declared.names.TheConstants.{F_START, F_END, MAP_LUMPS, S_START, S_END}
 use Rattle.lump_rules.specs.Lookups.{has_name, last_of, lump_at, map_of}

@@ -1,10 +1,5 @@
 -- The parts of a file: that they are those of the definition, are there, and are few.
-use Rattle.std.proofs.Common.{◌≡◌, ℕ, zero, suc, ◌+◌, ◌^◌, ◌<◌, ◌≤◌, Bool, List, [], ◌∷◌, ◌++◌, length, get_or, map, filter, Option, Some, None, not, refl, ap, sym, subst, ◌∙◌, arith, append_assoc}
-use Rattle.std.specs.Prelude.{◌==◌, All}
-use Rattle.std.specs.List.{AllByRecursion, list_any, range_with_len}
-use Rattle.std.proofs.lemmas.List.{length-append, length-map}
-use Rattle.std.proofs.lemmas.List.FromFn.{length-range_with_len, map-range_with_len_more}
-use Rattle.std.proofs.lemmas.List.Sums.{count_by-le-length, length-filter}
+use Rattle.word_rules.proofs.Common.{[], All, AllByRecursion, ap, append_assoc, arith, Bool, count_by-le-length, filter, get_or, length, length-append, length-filter, length-map, length-range_with_len, List, list_any, map, map-range_with_len_more, None, not, Option, range_with_len, refl, Some, subst, suc, sym, zero, ℕ, ◌++◌, ◌+◌, ◌<◌, ◌==◌, ◌^◌, ◌∙◌, ◌∷◌, ◌≡◌, ◌≤◌}
 use Rattle.lump_rules.specs.Names.{filled, name_of}
 use Rattle.lump_rules.specs.declared.names.TheConstants.{F_START, F_END, MAP_LUMPS, S_START, S_END}
 use Rattle.lump_rules.specs.declared.wad.Lump.{Lump}

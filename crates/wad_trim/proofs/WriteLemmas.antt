@@ -1,7 +1,5 @@
 -- Calls that read lumps and write bytes, one after the other.
-use Rattle.std.proofs.Common.{◌≡◌, ◌≤◌, ◌<◌, ℕ, List, [], length, ◌++◌, Result, Ok, Err, IsErrAnd, Some, refl, ap, sym, subst, ◌∙◌, arith, append_assoc}
-use Rattle.std.specs.Prelude.{IsTrue, OnErr, OnOk}
-use Rattle.std.proofs.lemmas.Result.{err_from_is_err_and, on_ok_weaker, on_err_weaker}
+use Rattle.word_rules.proofs.Common.{[], ap, append_assoc, arith, Err, err_from_is_err_and, IsErrAnd, IsTrue, length, List, Ok, on_err_weaker, on_ok_weaker, OnErr, OnOk, refl, Result, Some, subst, sym, ℕ, ◌++◌, ◌<◌, ◌∙◌, ◌≡◌, ◌≤◌}
 use Rattle.outside.specs.Causes.{FaultsRose}
 use Rattle.outside.specs.Shelf.{ShelfView}
 use Rattle.outside.specs.Sink.{Grew, GrewByPrefix, Writes}

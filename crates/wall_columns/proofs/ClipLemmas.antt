@@ -1,8 +1,5 @@
 -- Laws of the clips of a column: they stay in their ranges, and so do the rows between them.
-use Rattle.std.proofs.Common.{◌≡◌, ℕ, zero, suc, ◌≤◌, Bool, true, false, cond, ℤ, pos, negsuc, ◌+ℤ◌, ◌-ℤ◌, ◌≤ℤ◌, ◌<ℤ◌, FitsSigned, List, refl, sym, subst, arith}
-use Rattle.std.specs.Prelude.{int_le, slice_get, Option, Some, None, ◌-◌}
-use Rattle.std.specs.Int.{w32, int_wrap, int_shr}
-use Rattle.std.proofs.lemmas.Int.{ints, clamps, int_wrap_fits, SFits-int_wrap}
+use Rattle.word_rules.proofs.Common.{arith, Bool, clamps, cond, false, FitsSigned, int_le, int_shr, int_wrap, int_wrap_fits, ints, List, negsuc, None, Option, pos, refl, SFits-int_wrap, slice_get, Some, subst, suc, sym, true, w32, zero, ℕ, ℤ, ◌+ℤ◌, ◌-ℤ◌, ◌-◌, ◌<ℤ◌, ◌≡◌, ◌≤ℤ◌, ◌≤◌}
 use Rattle.word_rules.specs.Words.{plus, minus, shr_word, greater_word, lesser_word, minus_one}
 use Rattle.word_rules.specs.Steps.{step_at}
 use Rattle.view_rules.specs.declared.TheConstants.{FRAME_HEIGHT}

@@ -1,12 +1,5 @@
 -- Laws of the columns of a fragment as they are painted one by one.
-use Rattle.std.proofs.Common.{◌≡◌, ◌≢◌, ℕ, zero, suc, ◌+◌, ◌-◌, ◌<◌, ◌≤◌, ℤ, pos, ◌≤ℤ◌, ◌<ℤ◌, List, [], ◌∷◌, ◌++◌, length, Result, refl, ap, sym, ◌∙◌, subst, inl, inr, arith}
-use Rattle.std.specs.Prelude.{map, ◌||◌, false}
-use Rattle.std.specs.List.{All, AllByRecursion, range_with_len}
-use Rattle.std.proofs.lemmas.List.Elements.{recursion_from_All}
-use Rattle.std.proofs.lemmas.List.{append-nil}
-use Rattle.std.proofs.lemmas.List.FromFn.{map-range_with_len_more}
-use Rattle.std.proofs.lemmas.Int.{ints}
-use Rattle.std.proofs.lemmas.Bool.{or_parts}
+use Rattle.word_rules.proofs.Common.{[], All, AllByRecursion, ap, append-nil, arith, false, inl, inr, ints, length, List, map, map-range_with_len_more, or_parts, pos, range_with_len, recursion_from_All, refl, Result, subst, suc, sym, zero, ℕ, ℤ, ◌++◌, ◌+◌, ◌-◌, ◌<ℤ◌, ◌<◌, ◌||◌, ◌∙◌, ◌∷◌, ◌≡◌, ◌≢◌, ◌≤ℤ◌, ◌≤◌}
 use Rattle.outside.specs.declared.fault.Fault.{Fault}
 use Rattle.word_rules.specs.Listed.{listed_from, joined_lists}
 use Rattle.word_rules.proofs.ListedLemmas.{joined_lists-append}

@@ -1,7 +1,5 @@
 -- Laws of the strip of a plan that is painted first, and of the one below it.
-use Rattle.std.proofs.Common.{◌≡◌, ◌++◌, ℕ, Bool, true, false, cond, List, [], ◌∷◌, refl, sym, ap, subst, ◌∙◌, inl, inr}
-use Rattle.std.specs.Prelude.{◌&&◌, not, int_lt}
-use Rattle.std.specs.List.{AllByRecursion}
+use Rattle.word_rules.proofs.Common.{[], AllByRecursion, ap, Bool, cond, false, inl, inr, int_lt, List, not, refl, subst, sym, true, ℕ, ◌&&◌, ◌++◌, ◌∙◌, ◌∷◌, ◌≡◌}
 use Rattle.word_rules.specs.Listed.{joined_lists}
 use Rattle.view_rules.specs.declared.ViewShape.{ViewShape}
 use Rattle.pixel_rules.specs.Art.{Art}

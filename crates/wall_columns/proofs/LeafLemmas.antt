@@ -1,8 +1,6 @@
 -- Laws of the planes of a leaf: what finding and checking them one after the other comes to, and what
 -- is told where one passes its room.
-use Rattle.std.proofs.Common.{◌≡◌, ℕ, ◌<◌, ◌≤◌, Bool, true, false, List, Option, Some, None, Result, Ok, Err, IsErr, IsErrAnd, length, refl, ap, sym, ◌∙◌, arith}
-use Rattle.std.specs.Prelude.{nat_lt}
-use Rattle.std.proofs.lemmas.Bool.Decides.{nat_tests}
+use Rattle.word_rules.proofs.Common.{ap, arith, Bool, Err, false, IsErr, IsErrAnd, length, List, lt-true, nat_lt, nat_tests, None, Ok, Option, refl, Result, Some, sym, true, ℕ, ◌<◌, ◌∙◌, ◌≡◌, ◌≤◌}
 use Rattle.picture_rules.specs.declared.plane.PlaneKey.{PlaneKey}
 use Rattle.picture_rules.specs.plane.Planes.{Plane, PlaneChoice, find}
 use Rattle.picture_rules.specs.plane.Built.{PlanesNow, floor_found, ceiling_found, checked_plane, with_ceiling, with_floor, IsAmongPlanes}
@@ -14,7 +12,6 @@ use Rattle.picture_rules.specs.declared.wall.FragmentNumbers.{FragmentNumbers}
 use Rattle.wall_columns.specs.declared.fault.DrawFault.{DrawFault}
 use Rattle.wall_columns.specs.Faults.{limit_of_fault, limit_of_result}
 use Rattle.wall_columns.specs.Leaves.{planes_found, number_found, planes_checked, number_checked, ceiling_check, floor_check, planes_over, openings_over, leaf_over, checks_over}
-use Rattle.word_rules.proofs.Logic.{lt-true}
 
 within_test : (room count : ℕ) (t : Bool) → nat_lt room count ≡ t → (room < count → false ≡ true) → t ≡ false
 within_test room count true e h = let l : room < count = grind (arith, nat_tests) in sym (h l)

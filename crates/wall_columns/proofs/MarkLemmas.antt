@@ -1,7 +1,5 @@
 -- Laws of the columns of a fragment as they are drawn one by one: none, and one more.
-use Rattle.std.proofs.Common.{◌≡◌, ◌≢◌, ℕ, suc, ◌+◌, ◌-◌, ◌<◌, ◌==◌, Bool, true, false, cond, ℤ, List, Option, Some, None, length, refl, ap, sym, ◌∙◌, subst, arith}
-use Rattle.std.specs.Prelude.{nat_le, nat_lt, ◌&&◌}
-use Rattle.std.proofs.lemmas.Bool.Decides.{nat_tests}
+use Rattle.word_rules.proofs.Common.{ap, arith, Bool, cond, false, length, List, nat_le, nat_lt, nat_tests, None, Option, refl, Some, subst, suc, sym, true, within-row, ℕ, ℤ, ◌&&◌, ◌+◌, ◌-◌, ◌<◌, ◌==◌, ◌∙◌, ◌≡◌, ◌≢◌}
 use Rattle.view_rules.specs.View.{ViewValue}
 use Rattle.view_rules.specs.declared.TheConstants.{FRAME_WIDTH}
 use Rattle.picture_rules.specs.declared.wall.ColumnClip.{ColumnClip}
@@ -27,7 +25,6 @@ use Rattle.wall_columns.specs.Windows.{WindowsView, window_at, with_window}
 use Rattle.wall_columns.specs.Plans.{plan_of}
 use Rattle.wall_columns.specs.Saved.{OpeningsView, column_saved, columns_saved}
 use Rattle.wall_columns.specs.Columns.{plane_number, marked_plane, marked_planes, column_edges, column_after, clip_along, marks_along, HasMarked, HasSaved}
-use Rattle.word_rules.proofs.Logic.{within-row}
 
 -- a plane that is taken only where the fragment marks it gets the rows that are marked
 marked_as : (marks : Bool) (leaf plane : Option PlaneNo) (planes : List Plane) (x : ℕ) (rows : RowRange) → plane ≡ marked_plane marks leaf →

@@ -1,12 +1,6 @@
 -- Laws of the notes of a view: their lists are whole and apart, their scales above 0, their clips
 -- rows of the view, and behind the seg of a masked one there is a sector.
-use Rattle.std.proofs.Common.{◌≡◌, ◌≢◌, ℕ, zero, suc, ◌+◌, ◌-◌, ◌*◌, ◌<◌, ◌≤◌, Bool, true, false, not, cond, ℤ, pos, ◌≤ℤ◌, ◌<ℤ◌, List, [], ◌∷◌, ◌++◌, Option, Some, None, IfSome, IsSome, length, refl, ap, sym, ◌∙◌, subst, bit_and, arith}
-use Rattle.std.specs.Prelude.{◌||◌, ◌&&◌, slice_get}
-use Rattle.std.specs.List.{All, AllByRecursion}
-use Rattle.std.specs.Int.{from_bool}
-use Rattle.std.proofs.lemmas.Int.{ints}
-use Rattle.std.proofs.lemmas.List.{append_assoc, length-append}
-use Rattle.std.proofs.lemmas.List.Elements.{recursion_from_All}
+use Rattle.word_rules.proofs.Common.{[], All, AllByRecursion, ap, append_assoc, arith, bit_and, Bool, cond, false, from_bool, IfSome, ints, IsSome, length, length-append, List, None, not, Option, pos, recursion_from_All, refl, slice_get, Some, subst, suc, sym, true, zero, ℕ, ℤ, ◌&&◌, ◌*◌, ◌++◌, ◌+◌, ◌-◌, ◌<ℤ◌, ◌<◌, ◌||◌, ◌∙◌, ◌∷◌, ◌≡◌, ◌≢◌, ◌≤ℤ◌, ◌≤◌}
 use Rattle.word_rules.specs.Words.{minus_one}
 use Rattle.word_rules.specs.Steps.{step_at}
 use Rattle.view_rules.specs.View.{ViewValue}

@@ -1,6 +1,5 @@
 -- Laws of the strips of a fragment's column, and of a call that paints one of a live column.
-use Rattle.std.proofs.Common.{append-nil, ◌≡◌, ◌<◌, ◌+◌, ◌++◌, ℕ, ℤ, pos, List, [], ◌∷◌, length, Result, Ok, Err, IsErrAnd, refl, sym, ap, subst, ◌∙◌}
-use Rattle.std.specs.Prelude.{int_lt, true, false}
+use Rattle.word_rules.proofs.Common.{[], ap, append-nil, Err, false, int_lt, IsErrAnd, length, List, Ok, pos, refl, Result, subst, sym, true, ℕ, ℤ, ◌++◌, ◌+◌, ◌<◌, ◌∙◌, ◌∷◌, ◌≡◌}
 use Rattle.outside.specs.Shelf.{ShelfView}
 use Rattle.word_rules.specs.Listed.{listed_from, joined_lists}
 use Rattle.word_rules.proofs.ListedLemmas.{joined_lists-append}

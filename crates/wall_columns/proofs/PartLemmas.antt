@@ -1,10 +1,6 @@
 -- Laws of the parts of a wall state: windows, openings and the planes of a leaf.
-use Rattle.std.proofs.Common.{◌≡◌, ℕ, ◌+◌, ◌<◌, ◌≤◌, ℤ, pos, ◌≤ℤ◌, Bool, true, false, cond, List, [], ◌∷◌, Option, Some, None, length, set, take, replicate, ap, sym, ◌∙◌, arith}
-use Rattle.std.specs.Prelude.{slice_get, is_none}
-use Rattle.std.proofs.Math.Seq.{take-set-lt}
-use Rattle.std.proofs.lemmas.Int.{ints}
-use Rattle.std.proofs.lemmas.List.{length-set, length-take, length-append, length-replicate, get_or-replicate}
-use Rattle.std.proofs.lemmas.List.Elements.{All-set, All-replicate}
+use Rattle.word_rules.proofs.Common.{[], All-replicate, All-set, ap, arith, Bool, cond, false, get_or-replicate, ints, is_none, length, length-append, length-replicate, length-set, length-take, List, None, Option, pos, replicate, slice_get, Some, sym, take, take-set-lt, true, ℕ, ℤ, ◌+◌, ◌<◌, ◌∙◌, ◌∷◌, ◌≡◌, ◌≤ℤ◌, ◌≤◌}
+use Rattle.std.proofs.Common.{set}
 use Rattle.word_rules.specs.Words.{minus_one}
 use Rattle.view_rules.specs.declared.TheConstants.{FRAME_WIDTH, FRAME_HEIGHT}
 use Rattle.picture_rules.specs.declared.plane.PlaneKey.{PlaneKey}

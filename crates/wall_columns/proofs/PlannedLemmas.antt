@@ -1,9 +1,6 @@
 -- Laws of the strips of a plan.
-use Rattle.std.proofs.Common.{SFits, arith, to_z, of_z, to_z-of_z, w32, ◌≡◌, ℕ, ℤ, List, [], refl, ap, ◌∙◌}
-use Rattle.std.proofs.lemmas.Int.{ints}
-use Rattle.std.specs.Prelude.{◌<ℤ◌, int_lt, true}
-use Rattle.std.specs.List.{All, AllByRecursion}
-use Rattle.std.proofs.lemmas.List.Elements.{recursion_from_All}
+use Rattle.word_rules.proofs.Common.{[], All, AllByRecursion, ap, arith, int_lt, ints, List, of_z, recursion_from_All, refl, SFits, to_z, true, w32, ℕ, ℤ, ◌<ℤ◌, ◌∙◌, ◌≡◌}
+use Rattle.std.proofs.Common.{to_z-of_z}
 use Rattle.word_rules.specs.Words.{inverse_word}
 use Rattle.word_rules.specs.Listed.{joined_lists}
 use Rattle.lump_rules.specs.declared.wad.Lump.{Lump}

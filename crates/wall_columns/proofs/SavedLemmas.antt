@@ -1,9 +1,7 @@
 -- Laws of what a fragment saves column by column: in the end its three lists stand one after the
 -- other behind the openings that there were.
-use Rattle.std.proofs.Common.{◌≡◌, ℕ, zero, suc, ◌+◌, ◌-◌, ◌<◌, ◌≤◌, Bool, true, false, ℤ, pos, List, [], ◌∷◌, ◌++◌, length, get_or, set, take, drop, refl, ap, sym, ◌∙◌, subst, arith}
-use Rattle.std.specs.Prelude.{nat_lt}
-use Rattle.std.proofs.lemmas.Bool.Decides.{nat_tests}
-use Rattle.std.proofs.lemmas.List.{append_assoc, append-nil, length-append, length-set, length-drop, length-take-le, take-append-drop, set-append_left, set-append_right, get_or-set_same, get_or-set_other}
+use Rattle.word_rules.proofs.Common.{[], ap, append-nil, append_assoc, arith, Bool, drop, false, get_or, get_or-set_other, get_or-set_same, length, length-append, length-drop, length-set, length-take-le, List, nat_lt, nat_tests, pos, refl, set-append_left, set-append_right, subst, suc, sym, take, take-append-drop, true, zero, ℕ, ℤ, ◌++◌, ◌+◌, ◌-◌, ◌<◌, ◌∙◌, ◌∷◌, ◌≡◌, ◌≤◌}
+use Rattle.std.proofs.Common.{set}
 use Rattle.word_rules.specs.Listed.{listed, listed_from}
 use Rattle.word_rules.proofs.ListedLemmas.{listed-all, length-listed_from, get_or-listed_from}
 use Rattle.picture_rules.specs.declared.wall.ColumnClip.{ColumnClip}

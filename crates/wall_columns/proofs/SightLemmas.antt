@@ -1,11 +1,6 @@
 -- Laws of a fragment's numbers: its scale at each of its columns is above 0, its light is one of the
 -- levels, and its parts have the textures of its facts.
-use Rattle.std.proofs.Common.{◌≡◌, ◌≢◌, ℕ, zero, suc, ◌+◌, ◌-◌, ◌*◌, ◌/◌, ◌<◌, ◌≤◌, ◌==◌, Bool, true, false, cond, ℤ, pos, negsuc, neg_ℤ, ◌+ℤ◌, ◌-ℤ◌, ◌*ℤ◌, ◌≤ℤ◌, ◌<ℤ◌, FitsSigned, Option, Some, None, ◌⊎◌, inl, inr, refl, ap, sym, ◌∙◌, subst, arith}
-use Rattle.std.specs.Prelude.{unsigned_abs, int_div}
-use Rattle.std.specs.Int.{w32, int_wrap}
-use Rattle.std.proofs.Math.Nat.{mul-le-mul_right}
-use Rattle.std.proofs.lemmas.Int.{ints, int_wrap_fits}
-use Rattle.std.proofs.lemmas.Bool.Decides.{nat_tests}
+use Rattle.word_rules.proofs.Common.{ap, arith, Bool, cond, false, FitsSigned, inl, inr, int_div, int_wrap, int_wrap_fits, ints, mul-le-mul_right, nat_tests, neg_ℤ, negsuc, None, Option, pos, refl, Some, subst, suc, sym, true, unsigned_abs, w32, zero, ℕ, ℤ, ◌*ℤ◌, ◌*◌, ◌+ℤ◌, ◌+◌, ◌-ℤ◌, ◌-◌, ◌/◌, ◌<ℤ◌, ◌<◌, ◌==◌, ◌∙◌, ◌≡◌, ◌≢◌, ◌≤ℤ◌, ◌≤◌, ◌⊎◌}
 use Rattle.word_rules.specs.Words.{plus, minus, times, clamp_word}
 use Rattle.word_rules.specs.Steps.{step_at}
 use Rattle.word_rules.proofs.WordLemmas.{clamp_word-low, clamp_word-high}

@@ -1,7 +1,5 @@
 -- Laws of a stepper: it begins at the first column of its fragment, and goes on from column to column.
-use Rattle.std.proofs.Common.{◌≡◌, ℕ, zero, suc, ◌+◌, ◌-◌, ◌<◌, ◌≤◌, ◌==◌, Bool, false, cond, FitsSigned, Some, None, refl, ap, sym, ◌∙◌, subst, arith}
-use Rattle.std.specs.Int.{w32}
-use Rattle.std.proofs.lemmas.Bool.Decides.{nat_tests}
+use Rattle.word_rules.proofs.Common.{ap, arith, Bool, cond, eq-false_positive, false, FitsSigned, nat_tests, None, refl, Some, subst, suc, sym, w32, zero, ℕ, ◌+◌, ◌-◌, ◌<◌, ◌==◌, ◌∙◌, ◌≡◌, ◌≤◌}
 use Rattle.view_rules.specs.declared.TheConstants.{FRAME_WIDTH}
 use Rattle.picture_rules.specs.declared.wall.Edges.{Edges}
 use Rattle.picture_rules.specs.wall.Edges.{edges_at, edges_first, edges_step, edges_plus}
@@ -9,7 +7,6 @@ use Rattle.picture_rules.proofs.wall.EdgeLemmas.{edges_at-zero, edges_at-more}
 use Rattle.wall_edges.specs.declared.stepper.Stepper.{Stepper}
 use Rattle.wall_edges.specs.Fragments.{FragmentValue}
 use Rattle.wall_edges.specs.Steppers.{next_edges, one_column_on, next_stepper, stepper_after, IsAt}
-use Rattle.word_rules.proofs.Logic.{eq-false_positive}
 
 begins : (f : FragmentValue) → f.first ≤ f.last → f.last < FRAME_WIDTH → FitsSigned w32 f.numbers.scale1 →
     IsAt f 0 (record { x = f.first; left = f.last - f.first + 1; now = edges_first f.shape f.numbers; step = edges_step f.numbers })

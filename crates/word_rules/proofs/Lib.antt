@@ -3,3 +3,4 @@ pub mod LeastLemmas
 pub mod ListedLemmas
 pub mod StepLemmas
 pub mod Logic
+pub mod Common

@@ -1,8 +1,5 @@
 -- What is loaded of a trimmed file: what was loaded of the WADs that it was made of, under other numbers of lumps.
-use Rattle.std.proofs.Common.{◌≡◌, inl, ℕ, ◌≤◌, true, List, [], ◌∷◌, map, length, All, Option, Some, None, Result, Ok, Err, refl, ap, sym, subst, ◌∙◌, arith}
-use Rattle.std.specs.Prelude.{◌==◌, unwrap_or}
-use Rattle.std.specs.Option.{option_map}
-use Rattle.std.specs.List.{AllByRecursion, list_any}
+use Rattle.word_rules.proofs.Common.{[], All, AllByRecursion, ap, arith, Err, inl, length, List, list_any, map, None, Ok, Option, option_map, refl, Result, Some, subst, sym, true, unwrap_or, ℕ, ◌==◌, ◌∙◌, ◌∷◌, ◌≡◌, ◌≤◌}
 use Rattle.outside.specs.Faults.{and_then, from_below}
 use Rattle.outside.specs.Shelf.{File, file_named}
 use Rattle.outside.proofs.AnswerLemmas.{and_then-ok}

@@ -1,8 +1,5 @@
 -- What is rendered of a trimmed file: the same bytes, lines and end as of the WADs that it was made of.
-use Rattle.std.proofs.Common.{◌≡◌, ℕ, zero, suc, ◌+◌, List, [], ◌∷◌, Bool, true, false, cond, ℤ, map, length, Option, Some, None, Ok, is_some, slice_get, refl, ap, sym, subst, ◌∙◌}
-use Rattle.std.specs.Prelude.{◌==◌, option_and_then, take, unwrap_or, slice_index_or}
-use Rattle.std.specs.Option.{option_map, option_to_list}
-use Rattle.std.proofs.lemmas.List.{length-map, map-append, take-map}
+use Rattle.word_rules.proofs.Common.{[], ap, Bool, cond, false, is_some, length, length-map, List, map, map-append, None, Ok, Option, option_and_then, option_map, option_to_list, refl, slice_get, slice_index_or, Some, subst, suc, sym, take, take-map, true, unwrap_or, zero, ℕ, ℤ, ◌+◌, ◌==◌, ◌∙◌, ◌∷◌, ◌≡◌}
 use Rattle.outside.specs.Shelf.{File}
 use Rattle.word_rules.specs.Least.{least}
 use Rattle.word_rules.specs.Listed.{joined_lists, listed}

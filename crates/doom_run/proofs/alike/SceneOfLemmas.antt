@@ -1,7 +1,5 @@
 -- The scene that is drawn of a level whose lumps have other numbers is the same scene under the other numbers.
-use Rattle.std.proofs.Common.{◌≡◌, ℕ, List, [], ◌∷◌, map, All, Option, Some, None, refl, ap, sym, ◌∙◌}
-use Rattle.std.specs.Prelude.{unwrap_or}
-use Rattle.std.specs.Option.{option_map}
+use Rattle.word_rules.proofs.Common.{[], All, ap, List, map, None, Option, option_map, refl, Some, sym, unwrap_or, ℕ, ◌∙◌, ◌∷◌, ◌≡◌}
 use Rattle.level_rules.specs.declared.Sector.{Sector}
 use Rattle.level_rules.specs.Levels.{sky_flat}
 use Rattle.art_rules.specs.declared.shapes.Shape.{Shape}

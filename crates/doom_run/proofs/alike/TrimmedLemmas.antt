@@ -1,9 +1,6 @@
 -- The scene by the trimmed file is the level's under other numbers, as drawing asks for it.
-use Rattle.std.proofs.Common.{◌≡◌, ℕ, zero, suc, ◌<◌, List, [], ◌∷◌, map, length, All, Option, Some, None, Ok, refl, ap, sym, ◌∙◌, arith}
-use Rattle.std.specs.List.{AllByRecursion}
-use Rattle.std.proofs.lemmas.List.{length-map}
+use Rattle.word_rules.proofs.Common.{[], All, AllByRecursion, ap, arith, length, length-map, List, map, None, Ok, Option, or_else-none, refl, Some, suc, sym, zero, ℕ, ◌<◌, ◌∙◌, ◌∷◌, ◌≡◌}
 use Rattle.word_rules.specs.Least.{or_else}
-use Rattle.word_rules.proofs.Logic.{or_else-none}
 use Rattle.level_rules.specs.declared.Leaf.{Leaf}
 use Rattle.level_rules.specs.declared.Sector.{Sector}
 use Rattle.level_rules.specs.declared.maps.records.MapLeaf.{MapLeaf}

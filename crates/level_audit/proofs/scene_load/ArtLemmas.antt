@@ -1,6 +1,5 @@
 -- What the cache and the textures hold once all is loaded.
-use Rattle.std.proofs.Common.{◌≡◌, ℕ, List, Option, Some, None, Ok, refl, sym, ap, subst, ◌∙◌, option_map}
-use Rattle.std.specs.Prelude.{IfSome, option_and_then}
+use Rattle.word_rules.proofs.Common.{ap, IfSome, List, None, Ok, Option, option_and_then, option_map, refl, Some, subst, sym, ℕ, ◌∙◌, ◌≡◌}
 use Rattle.outside.specs.Shelf.{ShelfView}
 use Rattle.outside.specs.Faults.{from_below}
 use Rattle.outside.proofs.AnswerLemmas.{and_then-ok}

@@ -1,7 +1,5 @@
 -- What is told of a job's loading, step after step.
-use Rattle.std.proofs.Common.{◌≡◌, ℕ, Bool, List, Some, Result, Ok, Err, refl, sym, ap, ◌∙◌, IsErrAnd}
-use Rattle.std.specs.Prelude.{IfErr}
-use Rattle.std.proofs.lemmas.Result.{err_from_is_err_and}
+use Rattle.word_rules.proofs.Common.{ap, Bool, Err, err_from_is_err_and, IfErr, IsErrAnd, List, Ok, refl, Result, Some, sym, ℕ, ◌∙◌, ◌≡◌}
 use Rattle.outside.specs.Shelf.{NameFiles, File, ShelfView}
 use Rattle.outside.specs.declared.fault.Fault.TheVariants.{OutOfMemory}
 use Rattle.outside.specs.Faults.{FaultFits, HasCauseAt, HasCauses, ResultIs, from_below, itself}

@@ -1,11 +1,6 @@
 -- Laws of what loading and drawing ask the zone for: each lump that is needed and each composite is
 -- of the list, no owner is twice, and the sizes add up to those that the audit tells.
-use Rattle.std.proofs.Common.{◌≡◌, ℕ, zero, suc, ◌+◌, ◌<◌, ◌≤◌, Bool, true, false, cond, List, [], ◌∷◌, ◌++◌, length, map, Option, Some, None, refl, sym, ap, subst, ◌∙◌, arith, inl, inr, eq-eqb}
-use Rattle.std.specs.Prelude.{◌==◌, ◌&&◌, filter, sum_by}
-use Rattle.std.specs.List.{list_any, range_with_len}
-use Rattle.std.proofs.lemmas.Bool.{and_from, eqb-true, ne_eqb, or_cases, or_from, or_left, or_right}
-use Rattle.std.proofs.lemmas.List.Folds.{list_any-append}
-use Rattle.std.proofs.lemmas.List.Sums.{sum_by-append, sum_by-cons}
+use Rattle.word_rules.proofs.Common.{[], and_from, ap, arith, Bool, cond, eq-eqb, eqb-true, false, filter, inl, inr, length, List, list_any, list_any-append, map, ne_eqb, None, Option, or_cases, or_from, or_left, or_right, range_with_len, refl, Some, subst, suc, sum_by, sum_by-append, sum_by-cons, sym, true, zero, ℕ, ◌&&◌, ◌++◌, ◌+◌, ◌<◌, ◌==◌, ◌∙◌, ◌∷◌, ◌≡◌, ◌≤◌}
 use Rattle.lump_rules.specs.declared.wad.Lump.{Lump}
 use Rattle.lump_rules.specs.Lookups.{lump_at}
 use Rattle.zone_rules.specs.Zones.{Block, Heap, Owner, block_size, same_owner}

@@ -1,11 +1,5 @@
 -- Each lump that loading reads is of the directory, and is asked for.
-use Rattle.std.proofs.Common.{◌≡◌, ℕ, suc, ◌+◌, ◌<◌, ◌≤◌, Bool, true, false, cond, List, length, Option, Some, None, Ok, refl, sym, ap, subst, ◌∙◌, arith, inl, inr, eq-eqb}
-use Rattle.std.specs.Prelude.{◌==◌, nat_le, nat_lt, not, option_and_then, slice_get}
-use Rattle.std.specs.List.{list_any}
-use Rattle.std.specs.Option.{ok_or}
-use Rattle.std.proofs.lemmas.Bool.{and_parts, leb-true, or_right}
-use Rattle.std.proofs.lemmas.List.Elements.{All-contains}
-use Rattle.std.proofs.lemmas.List.Folds.{list_any-append}
+use Rattle.word_rules.proofs.Common.{All-contains, and_parts, ap, arith, Bool, cond, eq-eqb, false, inl, inr, leb-true, length, List, list_any, list_any-append, nat_le, nat_lt, None, not, Ok, ok_or, Option, option_and_then, or_right, refl, slice_get, Some, subst, suc, sym, true, ℕ, ◌+◌, ◌<◌, ◌==◌, ◌∙◌, ◌≡◌, ◌≤◌}
 use Rattle.word_rules.proofs.LeastLemmas.{greatest-is}
 use Rattle.lump_rules.specs.declared.names.TheConstants.{BEHAVIOR, BEHAVIOR_AFTER, MAP_LUMPS}
 use Rattle.lump_rules.specs.declared.wad.Lump.{Lump}

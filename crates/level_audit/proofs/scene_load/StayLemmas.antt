@@ -1,6 +1,5 @@
 -- What is told of a call that failed, where the zone is in order for all that is asked for.
-use Rattle.std.proofs.Common.{◌≡◌, Result, Err, sym, ap, subst, ◌∙◌, IsErrAnd, MatchResult}
-use Rattle.std.proofs.lemmas.Result.{err_from_is_err_and}
+use Rattle.word_rules.proofs.Common.{ap, Err, err_from_is_err_and, IsErrAnd, MatchResult, Result, subst, sym, ◌∙◌, ◌≡◌}
 use Rattle.outside.specs.declared.fault.Fault.{Fault}
 use Rattle.outside.specs.declared.fault.Fault.TheVariants.{Refused, ReadFault, ZoneFull, OutOfMemory}
 use Rattle.outside.specs.Faults.{itself}

@@ -1,8 +1,6 @@
 -- Laws of `first_refusal`.
-use Rattle.std.proofs.Common.{◌≡◌, ℕ, zero, suc, arith, ◌+◌, ◌<◌, ◌≤◌, List, [], ◌∷◌, length, drop, get_or, Option, Some, None, refl, ◌∙◌}
-use Rattle.std.proofs.lemmas.List.{at_drop_more, at_drop_all}
+use Rattle.word_rules.proofs.Common.{[], arith, at_drop_all, at_drop_more, drop, get_or, length, List, None, Option, or_else-none, refl, Some, suc, zero, ℕ, ◌+◌, ◌<◌, ◌∙◌, ◌∷◌, ◌≡◌, ◌≤◌}
 use Rattle.word_rules.specs.Least.{or_else}
-use Rattle.word_rules.proofs.Logic.{or_else-none}
 use Rattle.level_rules.specs.declared.maps.refusal.MapRefusal.{MapRefusal}
 use Rattle.level_rules.specs.maps.Firsts.{first_refusal}
 

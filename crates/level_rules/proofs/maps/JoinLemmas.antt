@@ -1,7 +1,5 @@
 -- What may be looked up by number for the segs and leaves of records that are not refused.
-use Rattle.std.proofs.Common.{◌≡◌, ℕ, ◌<◌, List, length, None, refl, arith}
-use Rattle.std.specs.Prelude.{slice_index_or}
-use Rattle.std.proofs.lemmas.List.{length-map}
+use Rattle.word_rules.proofs.Common.{arith, length, length-map, List, None, or_else-none, refl, slice_index_or, ℕ, ◌<◌, ◌≡◌}
 use Rattle.level_rules.specs.declared.Child.{Child}
 use Rattle.level_rules.specs.declared.Leaf.{Leaf}
 use Rattle.level_rules.specs.declared.Seg.{Seg}
@@ -14,7 +12,6 @@ use Rattle.level_rules.specs.maps.Ranges.{leaf_refusal, line_by, line_field, lin
 use Rattle.level_rules.specs.maps.Trees.{root_of, tree_refusal}
 use Rattle.level_rules.proofs.maps.FirstLemmas.{first_refusal-none, or_else-five}
 use Rattle.level_rules.proofs.maps.RangeLemmas.{leaf_refusal-none, line_refusal-none, seg_field-none, seg_refusal-none}
-use Rattle.word_rules.proofs.Logic.{or_else-none}
 
 -- a line of a map is not refused
 pub line_by-none : (sides : ℕ) (lines : List MapLine) (n : ℕ) → first_refusal (line_refusal sides) 0 lines ≡ None → n < length lines → line_field sides (line_by lines n) ≡ None

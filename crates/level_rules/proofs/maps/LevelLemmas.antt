@@ -1,8 +1,6 @@
 -- The level of eight lumps: what its parts say, and that it is sound.
-use Rattle.std.proofs.Common.{◌≡◌, ℕ, ◌/◌, ◌≤◌, false, List, length, Option, Some, None, Ok, Err, refl, subst, arith}
-use Rattle.std.specs.Prelude.{nat_lt}
+use Rattle.word_rules.proofs.Common.{arith, Err, false, le-from_lt_false, length, List, nat_lt, None, Ok, Option, or_else-none, refl, Some, subst, ℕ, ◌/◌, ◌≡◌, ◌≤◌}
 use Rattle.word_rules.proofs.ListedLemmas.{length-listed}
-use Rattle.word_rules.proofs.Logic.{le-from_lt_false, or_else-none}
 use Rattle.level_rules.specs.declared.maps.lumps.MapLump.{MapLump}
 use Rattle.level_rules.specs.declared.maps.lumps.MapLump.TheVariants as lump
 use Rattle.level_rules.specs.declared.maps.lumps.TheConstants.{MAX_RECORDS}

@@ -1,7 +1,5 @@
 -- What holds of a record that is not refused.
-use Rattle.std.proofs.Common.{◌≡◌, ℕ, zero, suc, ◌+◌, ◌-◌, ◌<◌, ◌≤◌, Bool, true, false, not, cond, List, length, Option, Some, None, refl, arith}
-use Rattle.std.specs.Prelude.{◌==◌, ◌||◌, ◌&&◌, nat_lt}
-use Rattle.std.proofs.lemmas.Bool.{ltb-true}
+use Rattle.word_rules.proofs.Common.{arith, Bool, cond, false, le-from_lt_false, length, List, ltb-true, nat_lt, None, not, Option, refl, Some, suc, true, zero, ℕ, ◌&&◌, ◌+◌, ◌-◌, ◌<◌, ◌==◌, ◌||◌, ◌≡◌, ◌≤◌}
 use Rattle.level_rules.specs.declared.Side.{Side}
 use Rattle.level_rules.specs.declared.Node.{Node}
 use Rattle.level_rules.specs.Levels.{child_on}
@@ -13,7 +11,6 @@ use Rattle.level_rules.specs.declared.maps.lumps.MapLump.TheVariants as lump
 use Rattle.level_rules.specs.declared.maps.lumps.TheConstants.{NO_SIDE}
 use Rattle.level_rules.specs.maps.Levels.{has_back}
 use Rattle.level_rules.specs.maps.Ranges.{has_side, index_refusal, is_side, is_there, leaf_field, leaf_refusal, line_by, line_field, line_refusal, node_field, node_refusal, seg_field, seg_refusal, side_field, side_on, side_refusal}
-use Rattle.word_rules.proofs.Logic.{le-from_lt_false}
 
 -- a test whose failure would be refused was passed
 pub cond-none : {X : Type 0} (b : Bool) (rest : Option X) (x : X) → cond b rest (Some x) ≡ None → (b ≡ true) × (rest ≡ None)

@@ -1,11 +1,6 @@
 -- Where nothing is refused, the level is sound.
-use Rattle.std.proofs.Common.{◌≡◌, ℕ, ◌-◌, ◌<◌, Bool, true, false, not, cond, List, [], ◌∷◌, length, map, get_or, Some, None, refl, subst, arith}
-use Rattle.std.specs.Prelude.{◌==◌, ◌&&◌, All, slice_index_or, bit_and, pos}
-use Rattle.std.specs.Option.{ForSome}
-use Rattle.std.specs.List.{list_all}
-use Rattle.std.proofs.lemmas.List.{get_or-map, length-map}
-use Rattle.std.proofs.lemmas.List.Sums.{list_all-from_AllPass}
-use Rattle.std.proofs.lemmas.Bool.{and_parts}
+use Rattle.word_rules.proofs.Common.{[], All, and-true_true, and_parts, arith, bit_and, Bool, cond, false, ForSome, get_or, length, length-map, List, list_all, list_all-from_AllPass, map, None, not, pos, refl, slice_index_or, Some, subst, true, ℕ, ◌&&◌, ◌-◌, ◌<◌, ◌==◌, ◌∷◌, ◌≡◌}
+use Rattle.std.proofs.lemmas.List.{get_or-map}
 use Rattle.level_rules.specs.declared.Side.{Side}
 use Rattle.level_rules.specs.declared.Node.{Node}
 use Rattle.level_rules.specs.declared.TheConstants.{TWO_SIDED}
@@ -22,7 +17,6 @@ use Rattle.level_rules.proofs.maps.FirstLemmas.{first_refusal-none}
 use Rattle.level_rules.proofs.maps.JoinLemmas.{length-joined_segs, line_by-none, records_refusal-none}
 use Rattle.level_rules.proofs.maps.RangeLemmas.{has_side-parts, leaf_refusal-none, node_refusal-none, seg_field-none, seg_refusal-none, side_on-there, side_refusal-none}
 use Rattle.level_rules.proofs.maps.TreeLemmas.{has_children, root-there, tree_refusal-none}
-use Rattle.word_rules.proofs.Logic.{and-true_true}
 
 -- each side has a sector
 abbrev AreSidesIn : ℕ → List Side → Type 0

@@ -1,12 +1,5 @@
 -- Where no visit is refused, the nodes are a tree: no way is longer than the limit, and no node is visited twice.
-use Rattle.std.proofs.Common.{◌≡◌, ℕ, zero, suc, subst, ◌+◌, ◌<◌, ◌≤◌, Bool, true, false, List, [], ◌∷◌, ◌++◌, Option, Some, None, cond, ◌&&◌, length, inl, inr, refl, ap, ap₂, sym, ◌∙◌, arith}
-use Rattle.std.specs.Prelude.{slice_get, slice_set, slice_index_or, nat_lt, replicate}
-use Rattle.std.specs.Option.{option_map_or}
-use Rattle.std.specs.List.{list_all}
-use Rattle.std.proofs.lemmas.List.Folds.{list_all-append}
-use Rattle.std.proofs.lemmas.List.Sums.{AllPass-from_list_all}
-use Rattle.std.proofs.lemmas.List.{get_or-set_other, get_or-set_same, length-set, length-replicate}
-use Rattle.std.proofs.lemmas.Bool.{and_parts, cases_eq}
+use Rattle.word_rules.proofs.Common.{[], AllPass-from_list_all, and_parts, ap, ap₂, arith, Bool, cases_eq, cond, false, get_or-set_other, get_or-set_same, inl, inr, length, length-replicate, length-set, List, list_all, list_all-append, nat_lt, None, Option, option_map_or, or_else-none, refl, replicate, slice_get, slice_index_or, slice_set, Some, subst, suc, sym, true, zero, ℕ, ◌&&◌, ◌++◌, ◌+◌, ◌<◌, ◌∙◌, ◌∷◌, ◌≡◌, ◌≤◌}
 use Rattle.level_rules.specs.declared.Node.{Node}
 use Rattle.level_rules.specs.declared.Child.{Child}
 use Rattle.level_rules.specs.declared.Child.TheVariants.{Node as NodeChild, Leaf as LeafChild}
@@ -18,7 +11,6 @@ use Rattle.level_rules.specs.maps.Ranges.{is_there}
 use Rattle.level_rules.specs.maps.Trees.{Visit, preorder, visit_refusal, AreOnce, is_within, root_of, tree_refusal, visits_of, visits_refusal}
 use Rattle.level_rules.specs.maps.Sound.{IsTree}
 use Rattle.level_rules.proofs.maps.VisitLemmas.{visits_refusal-append, visits_refusal-cons}
-use Rattle.word_rules.proofs.Logic.{or_else-none}
 
 -- what both children pass, the child on a side passes
 pub child_passes : (passes : Child → Bool) (node : Node) (side : ℕ) → side ≤ 1 → (passes (child_on node 0) && passes (child_on node 1)) ≡ true → passes (child_on node side) ≡ true

@@ -1,8 +1,6 @@
 -- Laws of the visits of a tree, for code that makes them.
-use Rattle.std.proofs.Common.{◌≡◌, ℕ, zero, suc, ◌+◌, ◌-◌, ◌<◌, Bool, true, List, [], ◌∷◌, ◌++◌, Option, Some, None, refl, ap, sym, ◌∙◌, arith}
-use Rattle.std.specs.Prelude.{slice_get, slice_set}
+use Rattle.word_rules.proofs.Common.{[], ap, arith, Bool, List, None, Option, or_else-assoc, refl, slice_get, slice_set, Some, suc, sym, true, zero, ℕ, ◌++◌, ◌+◌, ◌-◌, ◌<◌, ◌∙◌, ◌∷◌, ◌≡◌}
 use Rattle.word_rules.specs.Least.{or_else}
-use Rattle.word_rules.proofs.Logic.{or_else-assoc}
 use Rattle.level_rules.specs.declared.Node.{Node}
 use Rattle.level_rules.specs.Levels.{child_on}
 use Rattle.level_rules.specs.declared.Child.TheVariants.{Node as NodeChild, Leaf as LeafChild}

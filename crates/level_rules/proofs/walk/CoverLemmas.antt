@@ -1,8 +1,5 @@
 -- Laws of `cover` and `hides`, and of `runs` over columns that come in stretches.
-use Rattle.std.proofs.Common.{◌≡◌, ℕ, zero, suc, ◌+◌, ◌-◌, ◌<◌, ◌≤◌, Bool, true, false, cond, List, [], ◌∷◌, ◌++◌, length, get_or, take, drop, replicate, refl, ap, ◌∙◌, arith, eq-eqb}
-use Rattle.std.specs.Prelude.{◌==◌}
-use Rattle.std.specs.List.{list_all}
-use Rattle.std.proofs.lemmas.List.{get_or-drop, get_or-take, get_or-replicate, get_or-append_right, get_or_append_left, length-take, length-drop, length-append, length-replicate}
+use Rattle.word_rules.proofs.Common.{[], ap, arith, Bool, cond, drop, eq-eqb, false, get_or, get_or-append_right, get_or-drop, get_or-replicate, get_or-take, get_or_append_left, length, length-append, length-drop, length-replicate, length-take, List, list_all, refl, replicate, suc, take, true, zero, ℕ, ◌++◌, ◌+◌, ◌-◌, ◌<◌, ◌==◌, ◌∙◌, ◌∷◌, ◌≡◌, ◌≤◌}
 use Rattle.level_rules.specs.walk.Covered.{with_column, runs, fragments, cover, hides, is_covered}
 use Rattle.level_rules.proofs.walk.RunLemmas.{AreApart, apart-runs}
 

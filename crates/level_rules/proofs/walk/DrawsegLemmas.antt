@@ -1,6 +1,5 @@
 -- Laws of the fragments of a list of events to which one more is added.
-use Rattle.std.proofs.Common.{◌≡◌, ℕ, ◌<◌, ◌≤◌, List, [], ◌∷◌, ◌++◌, length, take, refl, ap, sym, ◌∙◌, arith}
-use Rattle.std.proofs.lemmas.List.{append-nil, take_all, take-append-le, length-take, length_push}
+use Rattle.word_rules.proofs.Common.{[], ap, append-nil, arith, length, length-take, length_push, List, refl, sym, take, take-append-le, take_all, ℕ, ◌++◌, ◌<◌, ◌∙◌, ◌∷◌, ◌≡◌, ◌≤◌}
 use Rattle.level_rules.specs.declared.walk.TheConstants.{MAX_DRAWSEGS}
 use Rattle.level_rules.specs.walk.Events.{Event}
 use Rattle.level_rules.specs.walk.Events.Event.{LeafEvent, FragmentEvent}

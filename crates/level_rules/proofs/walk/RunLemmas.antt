@@ -1,10 +1,5 @@
 -- Laws of `runs` and `fragments`: they are exactly the maximal uncovered runs, in order and apart.
-use Rattle.std.proofs.Common.{◌≡◌, ℕ, zero, suc, ◌+◌, ◌-◌, ◌<◌, ◌≤◌, ◌≢◌, Bool, true, false, cond, List, [], ◌∷◌, length, get_or, take, drop, refl, ap, sym, ◌∙◌, subst, arith, inl, inr}
-use Rattle.std.specs.Prelude.{◌==◌, ◌⊎◌}
-use Rattle.std.specs.List.{AllByRecursion, All, AllPairs, Contains}
-use Rattle.std.proofs.lemmas.Bool.{cases_lt, cases_eq}
-use Rattle.std.proofs.lemmas.List.Elements.{All-from_recursion}
-use Rattle.std.proofs.lemmas.List.{get_or-drop, get_or-take, get_or_past, length-take}
+use Rattle.word_rules.proofs.Common.{[], All, All-from_recursion, AllByRecursion, AllPairs, ap, arith, Bool, cases_eq, cases_lt, cond, Contains, drop, false, get_or, get_or-drop, get_or-take, get_or_past, inl, inr, length, length-take, List, refl, subst, suc, sym, take, true, zero, ℕ, ◌+◌, ◌-◌, ◌<◌, ◌==◌, ◌∙◌, ◌∷◌, ◌≡◌, ◌≢◌, ◌≤◌, ◌⊎◌}
 use Rattle.level_rules.specs.walk.Covered.{with_column, runs, fragments, is_covered, IsFragment}
 
 -- the runs begin at column j or later, each ends before the next begins, and at least one column is between

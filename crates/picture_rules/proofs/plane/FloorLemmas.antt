@@ -1,7 +1,5 @@
 -- Laws of the dots of a plane: each pixel that its runs hold has one, whatever the order in which they are drawn.
-use Rattle.std.proofs.Common.{◌≡◌, ℕ, ◌<◌, cond, Option, Some, None, ◌∙◌, inl, inr}
-use Rattle.std.specs.Prelude.{nat_le}
-use Rattle.std.proofs.lemmas.Bool.{cases_lt, le-leb, lt-leb, and_from, and_left, and_right}
+use Rattle.word_rules.proofs.Common.{and_from, and_left, and_right, cases_lt, cond, inl, inr, le-leb, lt-leb, nat_le, None, Option, Some, ℕ, ◌<◌, ◌∙◌, ◌≡◌}
 use Rattle.word_rules.specs.Listed.{listed_from}
 use Rattle.view_rules.specs.View.{ViewValue}
 use Rattle.pixel_rules.specs.declared.Painter.{Painter}

@@ -1,9 +1,5 @@
 -- Laws of the list of planes: what find, check and mark give, how many planes there are, and what a column holds.
-use Rattle.std.proofs.Common.{◌≡◌, ℕ, zero, suc, ◌+◌, ◌<◌, ◌≤◌, ◌≢◌, Bool, true, false, cond, List, [], ◌∷◌, Option, Some, None, length, get_or, replicate, refl, ◌∙◌, subst, arith}
-use Rattle.std.specs.Prelude.{is_none, slice_get, slice_set, slice_index_or}
-use Rattle.std.proofs.lemmas.List.{length_push, length-set, get_or-set_same, get_or-set_other, length-replicate}
-use Rattle.std.proofs.lemmas.List.Elements.{All-push, All-set}
-use Rattle.std.proofs.lemmas.List.Quantifiers.{position-Some}
+use Rattle.word_rules.proofs.Common.{[], All-push, All-set, arith, Bool, cond, false, get_or, get_or-set_other, get_or-set_same, is_none, length, length-replicate, length-set, length_push, List, None, Option, position-Some, refl, replicate, slice_get, slice_index_or, slice_set, Some, subst, suc, true, zero, ℕ, ◌+◌, ◌<◌, ◌∙◌, ◌∷◌, ◌≡◌, ◌≢◌, ◌≤◌}
 use Rattle.view_rules.specs.declared.TheConstants.{FRAME_WIDTH}
 use Rattle.picture_rules.specs.declared.plane.PlaneKey.{PlaneKey}
 use Rattle.picture_rules.specs.plane.Keys.{same_key}

@@ -1,7 +1,5 @@
 -- Laws of `span_start`: it is the least column from which on all pass; and it is where a run of the row begins.
-use Rattle.std.proofs.Common.{◌≡◌, ℕ, zero, suc, ◌+◌, ◌-◌, ◌<◌, ◌≤◌, Bool, true, false, cond, List, [], ◌∷◌, length, get_or, refl, ap, sym, ◌∙◌, arith, inl, inr}
-use Rattle.std.specs.Prelude.{◌⊎◌, not, map, Option, None, slice_index_or}
-use Rattle.std.proofs.lemmas.Bool.{cases_lt, not-true, not-false}
+use Rattle.word_rules.proofs.Common.{[], ap, arith, Bool, cases_lt, cond, false, get_or, inl, inr, length, List, map, None, not, not-false, not-true, Option, refl, slice_index_or, suc, sym, true, zero, ℕ, ◌+◌, ◌-◌, ◌<◌, ◌∙◌, ◌∷◌, ◌≡◌, ◌≤◌, ◌⊎◌}
 use Rattle.view_rules.specs.declared.TheConstants.{FRAME_WIDTH}
 use Rattle.level_rules.specs.walk.Covered.{is_covered, IsFragment}
 use Rattle.picture_rules.specs.plane.Planes.{Plane, column}

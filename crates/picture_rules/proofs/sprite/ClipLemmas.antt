@@ -1,9 +1,5 @@
 -- Laws of clips and moments: the least sprite in front, and that fragments alike clip alike.
-use Rattle.std.proofs.Common.{◌≡◌, ℕ, zero, suc, ◌+◌, ◌<◌, ◌≤◌, Bool, true, false, cond, ℤ, List, [], ◌∷◌, Option, Some, None, length, get_or, refl, ap, sym, ◌∙◌, arith, inl, inr}
-use Rattle.std.specs.Prelude.{◌&&◌, not, nat_le, int_lt, slice_get, position, pos}
-use Rattle.std.specs.List.{position_or_len, AllZip}
-use Rattle.std.proofs.lemmas.Bool.{cases_lt, lt-ltb, leb-true, and_parts}
-use Rattle.std.proofs.lemmas.List.Quantifiers.{position-Some}
+use Rattle.word_rules.proofs.Common.{[], AllZip, and_parts, ap, arith, Bool, cases_lt, cond, false, get_or, inl, inr, int_lt, leb-true, length, List, lt-ltb, nat_le, None, not, Option, pos, position, position-Some, position_or_len, refl, slice_get, Some, suc, sym, true, zero, ℕ, ℤ, ◌&&◌, ◌+◌, ◌<◌, ◌∙◌, ◌∷◌, ◌≡◌, ◌≤◌}
 use Rattle.word_rules.specs.Words.{minus_one}
 use Rattle.word_rules.specs.Least.{least, greatest}
 use Rattle.word_rules.proofs.LeastLemmas.{least-none, least-some, greatest-is}

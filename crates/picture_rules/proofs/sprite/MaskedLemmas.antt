@@ -1,9 +1,5 @@
 -- Laws of the masked pass: dots in their own columns, one sprite or fragment more, an empty scene, and that fragments alike paint alike.
-use Rattle.std.proofs.Common.{◌≡◌, ℕ, zero, suc, ◌+◌, ◌-◌, ◌≤◌, Bool, true, false, cond, List, [], ◌∷◌, ◌++◌, Option, Some, None, length, refl, ap, sym, ◌∙◌, arith, inl, inr}
-use Rattle.std.specs.Prelude.{slice_get, map, ◌&&◌}
-use Rattle.std.specs.List.{range_with_len, flat_map, filter, AllByRecursion, AllZip}
-use Rattle.std.proofs.lemmas.Bool.{eqb-true, eq-eqb, cases_lt}
-use Rattle.std.proofs.lemmas.List.{append-nil, append_assoc}
+use Rattle.word_rules.proofs.Common.{[], AllByRecursion, AllZip, ap, append-nil, append_assoc, arith, Bool, cases_lt, cond, eq-eqb, eqb-true, false, filter, flat_map, inl, inr, length, List, map, None, Option, range_with_len, refl, slice_get, Some, suc, sym, true, zero, ℕ, ◌&&◌, ◌++◌, ◌+◌, ◌-◌, ◌∙◌, ◌∷◌, ◌≡◌, ◌≤◌}
 use Rattle.word_rules.specs.Listed.{listed_from, joined_lists}
 use Rattle.view_rules.specs.View.{ViewValue}
 use Rattle.view_rules.specs.declared.ViewShape.{ViewShape}

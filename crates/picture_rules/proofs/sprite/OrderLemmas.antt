@@ -1,12 +1,5 @@
 -- Laws of the order of painting: it is a permutation, sorted and stable, and the entry made last goes behind its equals.
-use Rattle.std.proofs.Common.{◌≡◌, ℕ, zero, suc, ◌+◌, ◌<◌, Bool, true, false, cond, ℤ, List, [], ◌∷◌, ◌++◌, length, get_or, refl, ap, ◌∙◌, arith, inl, inr}
-use Rattle.std.specs.Prelude.{int_lt, int_le, not, ◌&&◌, pos}
-use Rattle.std.specs.List.{filter}
-use Rattle.std.specs.Int.{int_min}
-use Rattle.std.specs.List.Sorted.{IsPermutation, IsSortedBy, IsStableBy, ties}
-use Rattle.std.proofs.lemmas.Int.{ints}
-use Rattle.std.proofs.lemmas.List.Sorted.{IsPermutation-refl, IsPermutation-middle, IsPermutation-cons, IsPermutation-trans, length_permutation}
-use Rattle.std.proofs.lemmas.Bool.{cases_Bool, cond-false}
+use Rattle.word_rules.proofs.Common.{[], ap, arith, Bool, cases_Bool, cond, cond-false, false, filter, get_or, inl, inr, int_le, int_lt, int_min, ints, IsPermutation, IsPermutation-cons, IsPermutation-middle, IsPermutation-refl, IsPermutation-trans, IsSortedBy, IsStableBy, length, length_permutation, List, not, pos, refl, suc, ties, true, zero, ℕ, ℤ, ◌&&◌, ◌++◌, ◌+◌, ◌<◌, ◌∙◌, ◌∷◌, ◌≡◌}
 use Rattle.picture_rules.specs.declared.sprite.SpriteEntry.{SpriteEntry}
 use Rattle.picture_rules.specs.sprite.Order.{insert_entry, draw_order, is_smaller, insert_last}
 

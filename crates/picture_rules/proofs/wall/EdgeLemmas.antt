@@ -1,9 +1,6 @@
 -- Laws of edges: those of each column are the first ones, stepped.
-use Rattle.std.proofs.Common.{◌≡◌, ℕ, ◌+◌, ℤ, FitsSigned}
-use Rattle.std.specs.Int.{w32}
-use Rattle.std.proofs.lemmas.Int.{SFits-int_wrap}
+use Rattle.word_rules.proofs.Common.{FitsSigned, SFits-int_wrap, w32, ℕ, ℤ, ◌+◌, ◌-ℤ◌, ◌≡◌}
 use Rattle.word_rules.specs.Words.{minus, mul, shr_word}
-use Rattle.std.specs.Prelude.{◌-ℤ◌}
 use Rattle.word_rules.proofs.StepLemmas.{step_at-zero, step_at-more}
 use Rattle.view_rules.specs.declared.ViewShape.{ViewShape}
 use Rattle.picture_rules.specs.declared.wall.FragmentNumbers.{FragmentNumbers}

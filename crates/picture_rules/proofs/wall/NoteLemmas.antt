@@ -1,9 +1,5 @@
 -- Laws of what fragments save: how much, where the notes say that it lies, and one fragment more.
-use Rattle.std.proofs.Common.{◌≡◌, ℕ, ◌+◌, ◌-◌, ◌*◌, ◌<◌, ◌≤◌, Bool, true, false, cond, ℤ, pos, List, [], ◌∷◌, ◌++◌, length, get_or, refl, ap, sym, ◌∙◌, arith}
-use Rattle.std.specs.Prelude.{map, ◌||◌}
-use Rattle.std.specs.List.{range_with_len}
-use Rattle.std.specs.Int.{from_bool}
-use Rattle.std.proofs.lemmas.List.{append_assoc, append-nil, length-append, get_or-append_right, get_or_append_left}
+use Rattle.word_rules.proofs.Common.{[], ap, append-nil, append_assoc, arith, Bool, cond, false, from_bool, get_or, get_or-append_right, get_or_append_left, length, length-append, List, map, pos, range_with_len, refl, sym, true, ℕ, ℤ, ◌*◌, ◌++◌, ◌+◌, ◌-◌, ◌<◌, ◌||◌, ◌∙◌, ◌∷◌, ◌≡◌, ◌≤◌}
 use Rattle.word_rules.specs.Listed.{listed_from}
 use Rattle.word_rules.proofs.ListedLemmas.{length-listed_from, get_or-listed_from}
 use Rattle.view_rules.specs.View.{ViewValue}

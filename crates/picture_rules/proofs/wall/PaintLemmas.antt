@@ -1,6 +1,5 @@
 -- Laws of the dots of walls: each in its own column, and unchanged by fragments that come later.
-use Rattle.std.proofs.Common.{◌≡◌, ℕ, ◌≤◌, ℤ, List, [], ◌∷◌, ◌++◌, refl, ap, ◌∙◌, length}
-use Rattle.std.specs.List.{flat_map}
+use Rattle.word_rules.proofs.Common.{[], ap, flat_map, length, List, refl, ℕ, ℤ, ◌++◌, ◌∙◌, ◌∷◌, ◌≡◌, ◌≤◌}
 use Rattle.word_rules.specs.Listed.{listed_from, joined_lists}
 use Rattle.view_rules.specs.View.{ViewValue}
 use Rattle.pixel_rules.specs.Dots.{Dot, last_dot, AreInColumn}

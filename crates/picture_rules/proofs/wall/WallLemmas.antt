@@ -1,6 +1,5 @@
 -- Laws of the clips of a column: by the last fragment that has it, and with one fragment more.
-use Rattle.std.proofs.Common.{◌≡◌, ℕ, zero, suc, ◌<◌, ◌≤◌, Bool, true, false, cond, List, [], ◌∷◌, ◌++◌, Option, Some, None, length, refl, ap, ◌∙◌, arith}
-use Rattle.std.specs.Prelude.{slice_get}
+use Rattle.word_rules.proofs.Common.{[], ap, arith, Bool, cond, false, length, List, None, Option, refl, slice_get, Some, suc, true, zero, ℕ, ◌++◌, ◌<◌, ◌∙◌, ◌∷◌, ◌≡◌, ◌≤◌}
 use Rattle.word_rules.specs.Least.{greatest}
 use Rattle.view_rules.specs.declared.ViewShape.{ViewShape}
 use Rattle.picture_rules.specs.declared.wall.ColumnClip.{ColumnClip}

@@ -1,6 +1,5 @@
 -- A row of another view, one whose frame has no picture, and one of this view.
-use Rattle.std.proofs.Common.{Some, w16, rules, sym, subst}
-use Rattle.std.specs.Prelude.{Contains}
+use Rattle.word_rules.proofs.Common.{Contains, rules, Some, subst, sym, w16}
 use Rattle.std.proofs.lemmas.Int.{to_z-of_z}
 use Rattle.art_rules.specs.Books.{book_lumps}
 use Rattle.texture_build.proofs.PaintLemmas.{paints-none, paints-same, paints-wider}

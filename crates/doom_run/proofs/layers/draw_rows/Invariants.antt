@@ -1,6 +1,5 @@
 -- The layers of the rows before are drawn.
-use Rattle.std.proofs.Common.{take, Ok}
-use Rattle.std.specs.Prelude.{Contains}
+use Rattle.word_rules.proofs.Common.{Contains, Ok, take}
 use Rattle.art_rules.specs.Books.{book_lumps}
 use Rattle.texture_build.specs.Paints.{paint_state}
 use Rattle.weapon_overlay.specs.Layers.{PaintsLayer}

@@ -1,6 +1,5 @@
-use Rattle.std.proofs.Common.{◌≡◌, ◌++◌, ◌∙◌, ap, of_z, rules, to_z, w16, w32, ℤ}
+use Rattle.word_rules.proofs.Common.{ap, codes, of_z, rules, to_z, w16, w32, ℤ, ◌++◌, ◌∙◌, ◌≡◌}
 use Rattle.std.proofs.lemmas.Int.{to_z-of_z}
-use Rattle.std.specs.Prelude.{codes}
 use Rattle.refusals.specs.Lines.{labelled, labelled_signed}
 use Rattle.doom_run.specs.Lists.{flat_part, item_start, maker_part}
 use Rattle.doom_run.proofs.LimitLemmas.{same_bytes}

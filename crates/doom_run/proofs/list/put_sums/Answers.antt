@@ -1,5 +1,4 @@
-use Rattle.std.proofs.Common.{List, ℕ, ◌++◌, ap, ◌∙◌}
-use Rattle.std.specs.Prelude.{codes}
+use Rattle.word_rules.proofs.Common.{ap, codes, List, ℕ, ◌++◌, ◌∙◌}
 use Rattle.refusals.specs.Lines.{labelled}
 use Rattle.doom_run.proofs.LimitLemmas.{same_bytes}
 use Rattle.doom_run.proofs.ListLemmas.{seven_added}

@@ -1,9 +1,8 @@
 -- One view after the other, up to the first that ends the rendering.
-use Rattle.std.proofs.Common.{◌≡◌, ◌<◌, length, refl, ap, ◌∙◌, arith, inl, inr, subst}
+use Rattle.word_rules.proofs.Common.{ap, arith, cases_lt, inl, inr, length, refl, subst, ◌<◌, ◌∙◌, ◌≡◌}
 use Rattle.outside.proofs.ShelfLemmas.{follows_then}
 use Rattle.lump_rules.specs.Contents.{lump_bytes}
 use Rattle.job_files.specs.declared.read.SceneFiles.{SceneFiles}
-use Rattle.std.proofs.lemmas.Bool.{cases_lt}
 use Rattle.zone_rules.proofs.OrderLemmas.{order_none, order_then}
 use Rattle.doom_run.proofs.TakeLemmas.{after_all, asked-later}
 use Rattle.doom_run.proofs.FitLemmas.{due_done, due_stops, fits_at-later}

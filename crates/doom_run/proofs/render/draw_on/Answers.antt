@@ -1,6 +1,5 @@
 -- A viewpoint stands for the number of its view.
-use Rattle.std.proofs.Common.{◌∙◌}
-use Rattle.std.proofs.lemmas.Result.{on_ok_weaker}
+use Rattle.word_rules.proofs.Common.{on_ok_weaker, ◌∙◌}
 use Rattle.lump_rules.specs.Contents.{lump_bytes}
 use Rattle.doom_run.proofs.CanvasLemmas.{has_view, on_ok_both}
 use Rattle.doom_run.proofs.FitLemmas.{fits_at}

@@ -1,6 +1,5 @@
 -- The planes of the bench are those of the view, and may be drawn.
-use Rattle.std.proofs.Common.{ℕ, List, Result, sym, subst}
-use Rattle.std.specs.Prelude.{IfSome}
+use Rattle.word_rules.proofs.Common.{IfSome, List, Result, subst, sym, ℕ}
 use Rattle.texture_lists.specs.declared.number.TexNo.{TexNo}
 use Rattle.texture_build.specs.Draws.{CanDraw}
 use Rattle.texture_build.specs.Views.{TexturesView}

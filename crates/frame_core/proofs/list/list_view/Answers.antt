@@ -1,6 +1,5 @@
 -- The bench and the list that the view was walked in are counted and listed.
-use Rattle.std.proofs.Common.{◌≡◌, List, ap, ◌∙◌, subst, arith}
-use Rattle.std.specs.Prelude.{None, length}
+use Rattle.word_rules.proofs.Common.{ap, arith, length, List, None, subst, ◌∙◌, ◌≡◌}
 use Rattle.view_rules.specs.View.{ViewValue}
 use Rattle.picture_rules.specs.declared.wall.FragmentNote.{FragmentNote}
 use Rattle.picture_rules.specs.declared.list.PlaneMaker.{PlaneMaker}

@@ -1,5 +1,4 @@
-use Rattle.std.proofs.Common.{◌≡◌, ◌≤◌, take}
-use Rattle.std.specs.Prelude.{count_by, is_some}
+use Rattle.word_rules.proofs.Common.{count_by, is_some, take, ◌≡◌, ◌≤◌}
 use Rattle.visplanes.specs.Planes.{plane_at}
 use Rattle.frame_core.proofs.list.marked_columns.Given as goal
 

@@ -1,6 +1,4 @@
-use Rattle.std.proofs.Common.{◌≡◌, ℕ, ◌<◌, List, drop}
-use Rattle.std.specs.Prelude.{All}
-use Rattle.std.specs.List.{AllPass}
+use Rattle.word_rules.proofs.Common.{All, AllPass, drop, List, ℕ, ◌<◌, ◌≡◌}
 use Rattle.art_rules.specs.Books.{book_lumps}
 use Rattle.picture_rules.specs.Things.{with_things}
 use Rattle.vissprites.specs.Bounds.{lies_within, has_lump_below}

@@ -1,6 +1,5 @@
 -- The view is placed and the bench started; then come walls, planes and the masked pass.
-use Rattle.std.proofs.Common.{◌≡◌, ◌≤◌, ℕ, length, sym, ap, ◌∙◌, subst}
-use Rattle.std.specs.Prelude.{None, Some, IfErr, IfSome}
+use Rattle.word_rules.proofs.Common.{ap, IfErr, IfSome, length, None, on_ok-always, Some, subst, sym, ℕ, ◌∙◌, ◌≡◌, ◌≤◌}
 use Rattle.view_rules.specs.View.{ViewValue}
 use Rattle.view_rules.specs.Sound.{IsWithinFrame}
 use Rattle.picture_rules.specs.declared.Limits.{Limits}
@@ -21,7 +20,6 @@ use Rattle.frame_core.proofs.ViewLemmas.{ReadsAlike, drawable-at, if_err-no_limi
 use Rattle.frame_core.proofs.view.draw_parts.Given.{Over}
 use Rattle.frame_core.proofs.view.draw_parts.Goals as goal
 use Rattle.frame_core.proofs.view.draw_parts.Goals.{After-place, In_ok-draw_floors, In_ok-draw_walls}
-use Rattle.word_rules.proofs.Logic.{on_ok-always}
 
 -- the view lies within the frame, where the canvas has it
 framed : (g : Over) (c : After-place g) → IsWithinFrame c.args.tools.now.view.now.shape

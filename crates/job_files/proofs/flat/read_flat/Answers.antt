@@ -1,5 +1,4 @@
-use Rattle.std.proofs.Common.{◌≡◌, ◌+◌, ◌≤◌, ℕ, Option, sym, subst}
-use Rattle.std.specs.Option.{option_map_or}
+use Rattle.word_rules.proofs.Common.{Option, option_map_or, subst, sym, ℕ, ◌+◌, ◌≡◌, ◌≤◌}
 use Rattle.lump_rules.specs.Lookups.{lump_at}
 use Rattle.job_files.specs.Sizes.{flat_size}
 use Rattle.job_files.proofs.flat.read_flat.Goals as goal

@@ -1,6 +1,4 @@
-use Rattle.std.proofs.Common.{arith, length}
-use Rattle.std.proofs.lemmas.Grind.{common_steps}
-use Rattle.std.proofs.lemmas.Result.{on_ok_weaker}
+use Rattle.word_rules.proofs.Common.{arith, common_steps, length, on_ok_weaker}
 use Rattle.lump_rules.specs.Lookups.{lump_at}
 use Rattle.job_files.proofs.LumpLemmas.{file_stands, lump_within, piece_of_lump, front_is_there}
 use Rattle.job_files.proofs.lumps.fill_front.Goals as goal

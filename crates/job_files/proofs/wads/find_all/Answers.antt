@@ -1,6 +1,4 @@
-use Rattle.std.proofs.Common.{◌∷◌, [], ◌∙◌, length, length-append, refl, ap, arith}
-use Rattle.std.proofs.lemmas.List.{map_more, take_all}
-use Rattle.std.proofs.lemmas.Result.{err_from_is_err_and}
+use Rattle.word_rules.proofs.Common.{[], ap, arith, err_from_is_err_and, length, length-append, map_more, refl, take_all, ◌∙◌, ◌∷◌}
 use Rattle.outside.proofs.ShelfLemmas.{follows_none, follows_then}
 use Rattle.job_files.proofs.FoundLemmas.{none_found, found_more, lacking_stops}
 use Rattle.job_files.proofs.wads.find_all.Goals as goal

@@ -1,5 +1,4 @@
-use Rattle.std.proofs.Common.{◌≡◌, length, sym, arith}
-use Rattle.std.proofs.lemmas.Grind.{common_steps}
+use Rattle.word_rules.proofs.Common.{arith, common_steps, length, sym, ◌≡◌}
 use Rattle.outside.specs.Shelf.{IsPieceAt}
 use Rattle.job_files.proofs.LengthLemmas.{bytes_refused, bytes_whole}
 use Rattle.job_files.proofs.whole_files.read_file.Goals as goal

@@ -1,6 +1,4 @@
-use Rattle.std.proofs.Common.{ap, ◌∙◌}
-use Rattle.std.specs.Prelude.{option_map}
-use Rattle.std.proofs.lemmas.Result.{on_ok_weaker}
+use Rattle.word_rules.proofs.Common.{ap, on_ok_weaker, option_map, ◌∙◌}
 use Rattle.outside.proofs.ThroughLemmas.{done_through}
 use Rattle.texture_lists.specs.declared.number.TexNo.{TexNo}
 use Rattle.texture_build.specs.Views.{is_wanted}

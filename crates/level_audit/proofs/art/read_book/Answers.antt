@@ -1,5 +1,4 @@
-use Rattle.std.proofs.Common.{◌∙◌, length}
-use Rattle.std.proofs.lemmas.Result.{IfOk-weaker}
+use Rattle.word_rules.proofs.Common.{IfOk-weaker, length, ◌∙◌}
 use Rattle.outside.proofs.ThroughLemmas.{ok_through}
 use Rattle.scene_rules.specs.declared.refusal.AuditRefusal.TheVariants.{Sprite}
 use Rattle.level_audit.proofs.ArtLemmas.{book_needed, pictures_there}

@@ -1,8 +1,7 @@
-use Rattle.std.proofs.Common.{Ok, ap, inl, inr, refl, sym, ◌∙◌}
+use Rattle.word_rules.proofs.Common.{ap, IfOk-weaker, inl, inr, Ok, refl, sym, ◌∙◌}
 use Rattle.scene_rules.specs.declared.refusal.AuditRefusal.TheVariants.{Art}
 use Rattle.outside.specs.declared.fault.Fault.TheVariants.{Refused}
 use Rattle.lump_cache.proofs.CallLemmas.{reads_refused, reads_then}
-use Rattle.std.proofs.lemmas.Result.{IfOk-weaker}
 use Rattle.lump_cache.proofs.SizeLemmas.{either_beside}
 use Rattle.scene_rules.specs.Scenes.{base_in}
 use Rattle.level_audit.proofs.BaseLemmas.{base-stop, base-more, playpal_beside}

@@ -1,6 +1,4 @@
-use Rattle.std.proofs.Common.{ap, arith, ◌∙◌}
-use Rattle.std.specs.Prelude.{◌||◌}
-use Rattle.std.specs.List.{list_any}
+use Rattle.word_rules.proofs.Common.{ap, arith, list_any, ◌||◌, ◌∙◌}
 use Rattle.scene_rules.specs.Middles.{is_seen_through}
 use Rattle.scene_rules.specs.Scenes.{texture_by}
 use Rattle.level_audit.proofs.MiddleLemmas.{bad_middle-marked, middles_single}

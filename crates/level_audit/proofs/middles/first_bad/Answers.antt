@@ -1,5 +1,4 @@
-use Rattle.std.proofs.Common.{ℕ, Bool, length, arith, below_more, sym, ◌∙◌}
-use Rattle.std.specs.Prelude.{◌&&◌}
+use Rattle.word_rules.proofs.Common.{arith, below_more, Bool, length, sym, ℕ, ◌&&◌, ◌∙◌}
 use Rattle.word_rules.proofs.LeastLemmas.{least-none, least-some}
 use Rattle.texture_build.specs.Views.{is_marked}
 use Rattle.scene_rules.specs.Middles.{is_bad_middle, middle_of}

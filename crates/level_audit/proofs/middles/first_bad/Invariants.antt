@@ -1,5 +1,4 @@
-use Rattle.std.proofs.Common.{◌≡◌, ℕ, ◌<◌, true, false}
-use Rattle.std.specs.Prelude.{◌&&◌}
+use Rattle.word_rules.proofs.Common.{false, true, ℕ, ◌&&◌, ◌<◌, ◌≡◌}
 use Rattle.texture_build.specs.Views.{is_marked}
 use Rattle.scene_rules.specs.Middles.{is_bad_middle, middle_of}
 use Rattle.scene_rules.specs.Scenes.{texture_by}

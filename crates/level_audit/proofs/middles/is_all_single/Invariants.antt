@@ -1,5 +1,4 @@
-use Rattle.std.proofs.Common.{◌≡◌, ℕ, ◌<◌, true}
-use Rattle.std.specs.Prelude.{IsSome}
+use Rattle.word_rules.proofs.Common.{IsSome, true, ℕ, ◌<◌, ◌≡◌}
 use Rattle.art_rules.specs.Columns.{is_single}
 use Rattle.art_rules.specs.Lookups.{single_place}
 use Rattle.texture_build.specs.Sources.{own_lookup}

@@ -1,5 +1,4 @@
-use Rattle.std.proofs.Common.{List, Ok, refl, subst, inl, inr, map, sym}
-use Rattle.std.specs.Prelude.{All}
+use Rattle.word_rules.proofs.Common.{All, inl, inr, List, map, Ok, refl, subst, sym}
 use Rattle.level_rules.specs.declared.SideTextures.{SideTextures}
 use Rattle.lump_cache.proofs.CallLemmas.{reads_same, reads_short, reads_stop_first, reads_then}
 use Rattle.sprite_book.specs.Calls.{IsWanted}

@@ -1,5 +1,4 @@
-use Rattle.std.proofs.Common.{◌≡◌, length, Ok, Err, refl, subst, ap, ◌∙◌}
-use Rattle.std.proofs.lemmas.Result.{IfOk-weaker}
+use Rattle.word_rules.proofs.Common.{ap, Err, IfOk-weaker, length, Ok, refl, subst, ◌∙◌, ◌≡◌}
 use Rattle.lump_cache.proofs.CallLemmas.{reads_stop_first, reads_then}
 use Rattle.art_rules.specs.Textures.{TextureLists}
 use Rattle.scene_rules.specs.Scenes.{faces_in, scene_on}

@@ -1,6 +1,5 @@
 -- The patches so far are put.
-use Rattle.std.proofs.Common.{◌≡◌, ◌++◌, take}
-use Rattle.std.specs.List.{flat_map}
+use Rattle.word_rules.proofs.Common.{flat_map, take, ◌++◌, ◌≡◌}
 use Rattle.made_rules.specs.Textures.{patch_place_bytes}
 use Rattle.level_maker.proofs.textures.put_patches.Given as goal
 

@@ -1,8 +1,4 @@
-use Rattle.std.proofs.Common.{◌-◌, ℕ, List, length, subst, sym, arith, ◌∙◌}
-use Rattle.std.specs.List.{All}
-use Rattle.std.proofs.lemmas.List.{drop_all, length-reverse, length-set, length_push}
-use Rattle.std.proofs.lemmas.Iterator.Adapters.{YieldsList-from_rev_slice}
-use Rattle.std.proofs.lemmas.Iterator.Consumers.{YieldsList-turn}
+use Rattle.word_rules.proofs.Common.{All, arith, drop_all, length, length-reverse, length-set, length_push, List, subst, sym, YieldsList-from_rev_slice, YieldsList-turn, ℕ, ◌-◌, ◌∙◌}
 use Rattle.scene_rules.specs.declared.Placed.{Placed}
 use Rattle.level_scene.specs.Groups.{AreGroupsOf, IsIn}
 use Rattle.level_scene.proofs.GroupLemmas.{groups-count, groups-more, groups-none}

@@ -1,5 +1,4 @@
-use Rattle.std.proofs.Common.{List, length, sym, ap}
-use Rattle.std.proofs.lemmas.List.Elements.{All-nil}
+use Rattle.word_rules.proofs.Common.{All-nil, ap, length, List, sym}
 use Rattle.level_rules.specs.declared.Thing.{Thing}
 use Rattle.scene_rules.specs.Places.{placed_from, placed_things}
 use Rattle.level_scene.specs.Groups.{IsIn}

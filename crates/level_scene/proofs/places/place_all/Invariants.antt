@@ -1,5 +1,4 @@
-use Rattle.std.proofs.Common.{◌≡◌, ◌++◌, length, drop}
-use Rattle.std.specs.List.{All}
+use Rattle.word_rules.proofs.Common.{All, drop, length, ◌++◌, ◌≡◌}
 use Rattle.scene_rules.specs.Places.{placed_from, placed_things}
 use Rattle.level_scene.specs.Groups.{IsIn}
 use Rattle.level_scene.proofs.places.place_all.Given as goal

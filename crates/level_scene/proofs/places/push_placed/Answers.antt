@@ -1,5 +1,4 @@
-use Rattle.std.proofs.Common.{length}
-use Rattle.std.proofs.lemmas.List.Elements.{All-push}
+use Rattle.word_rules.proofs.Common.{All-push, length}
 use Rattle.scene_rules.specs.Places.{placed_in}
 use Rattle.level_scene.specs.Groups.{IsIn}
 use Rattle.level_scene.proofs.places.push_placed.Goals as goal

@@ -1,5 +1,4 @@
-use Rattle.std.proofs.Common.{◌≡◌, length, drop}
-use Rattle.std.specs.List.{All}
+use Rattle.word_rules.proofs.Common.{All, drop, length, ◌≡◌}
 use Rattle.scene_rules.specs.declared.refusal.SceneRefusal.TheVariants.{SideTexture}
 use Rattle.scene_rules.specs.Numbered.{each_or}
 use Rattle.scene_rules.specs.Sides.{textures_of}

@@ -1,6 +1,4 @@
-use Rattle.std.proofs.Common.{◌==◌, ◌&&◌, ◌||◌, not, get_or, sym, ap, ◌∙◌, arith}
-use Rattle.std.specs.Option.{option_map}
-use Rattle.std.proofs.lemmas.List.Elements.{All-get_or}
+use Rattle.word_rules.proofs.Common.{All-get_or, ap, arith, get_or, not, option_map, sym, ◌&&◌, ◌==◌, ◌||◌, ◌∙◌}
 use Rattle.level_rules.specs.declared.SideTextures.{SideTextures}
 use Rattle.texture_lists.specs.declared.number.TexNo.{TexNo}
 use Rattle.scene_rules.specs.Sides.{shows_texture}

@@ -1,6 +1,4 @@
-use Rattle.std.proofs.Common.{◌≡◌, ◌<◌, ◌==◌, ℕ, take}
-use Rattle.std.specs.Prelude.{IfSome, option_map}
-use Rattle.std.specs.List.{All, list_any}
+use Rattle.word_rules.proofs.Common.{All, IfSome, list_any, option_map, take, ℕ, ◌<◌, ◌==◌, ◌≡◌}
 use Rattle.texture_lists.specs.declared.number.TexNo.{TexNo}
 use Rattle.scene_rules.specs.Sides.{is_wanted_texture}
 use Rattle.level_scene.specs.Bounds.{AreBelow}

@@ -1,6 +1,4 @@
-use Rattle.std.proofs.Common.{sym, arith, eq-eqb}
-use Rattle.std.specs.Prelude.{◌==◌}
-use Rattle.std.proofs.lemmas.List.Sums.{position_or_len_is}
+use Rattle.word_rules.proofs.Common.{arith, eq-eqb, position_or_len_is, sym, ◌==◌}
 use Rattle.lump_rules.proofs.name.end_of.Goals as goal
 
 pub returns-then-byte-eq0-clause-end : goal.returns-then-byte-eq0-clause-end

@@ -1,5 +1,4 @@
-use Rattle.std.proofs.Common.{◌≡◌, ◌<◌, ℕ, false, get_or}
-use Rattle.std.specs.Prelude.{◌==◌}
+use Rattle.word_rules.proofs.Common.{false, get_or, ℕ, ◌<◌, ◌==◌, ◌≡◌}
 use Rattle.lump_rules.proofs.name.end_of.Given as goal
 
 abbrev pub invariant-loop-i : goal.invariant-loop-i

@@ -1,5 +1,4 @@
-use Rattle.std.proofs.Common.{◌≡◌, length, arith}
-use Rattle.std.specs.Char.{to_ascii_uppercase}
+use Rattle.word_rules.proofs.Common.{arith, length, to_ascii_uppercase, ◌≡◌}
 use Rattle.lump_rules.specs.Names.{filled}
 use Rattle.lump_rules.proofs.NameLemmas.{fill_step, fill_end}
 use Rattle.lump_rules.proofs.name.fill.Goals as goal

@@ -1,5 +1,4 @@
-use Rattle.std.proofs.Common.{◌≡◌, ◌-◌, ◌++◌, map, take, replicate}
-use Rattle.std.specs.Char.{to_ascii_uppercase}
+use Rattle.word_rules.proofs.Common.{map, replicate, take, to_ascii_uppercase, ◌++◌, ◌-◌, ◌≡◌}
 use Rattle.lump_rules.proofs.name.fill.Given as goal
 
 abbrev pub invariant-loop-i : goal.invariant-loop-i

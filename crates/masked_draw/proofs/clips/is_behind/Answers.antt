@@ -1,6 +1,5 @@
 -- A fragment of the seg and the scales of the note is behind the sprite as the tests say.
-use Rattle.std.proofs.Common.{◌≡◌, ℕ, ℤ, Bool, true, false, w32, rules, sym, ap, ◌∙◌}
-use Rattle.std.specs.Prelude.{◌&&◌, ◌||◌, int_lt, ◌==◌}
+use Rattle.word_rules.proofs.Common.{ap, Bool, false, int_lt, rules, sym, true, w32, ℕ, ℤ, ◌&&◌, ◌==◌, ◌||◌, ◌∙◌, ◌≡◌}
 use Rattle.std.proofs.lemmas.Int.{to_z-of_z}
 use Rattle.word_rules.specs.Words.{greater_word, lesser_word}
 use Rattle.view_rules.specs.Sides.{side_of}

@@ -1,5 +1,4 @@
-use Rattle.std.specs.Prelude.{None}
-use Rattle.std.proofs.lemmas.List.{get_or-replicate}
+use Rattle.word_rules.proofs.Common.{get_or-replicate, None}
 use Rattle.view_rules.specs.declared.TheConstants.{FRAME_WIDTH}
 use Rattle.masked_draw.proofs.clips.same_rows.Goals as goal
 

@@ -1,8 +1,6 @@
 -- The entries of the lists that the code reads are those of the rule.
-use Rattle.std.proofs.Common.{◌≡◌, ℕ, ℤ, w16, w32, to_z, of_z, rules, ap, ◌∙◌, refl, arith, Option, Some, None}
-use Rattle.std.specs.Prelude.{IfSome, IsSome, slice_index_or}
+use Rattle.word_rules.proofs.Common.{ap, arith, get_or_default, IfSome, IsSome, None, of_z, Option, refl, rules, slice_index_or, Some, to_z, w16, w32, ℕ, ℤ, ◌∙◌, ◌≡◌}
 use Rattle.std.proofs.lemmas.Int.{to_z-of_z}
-use Rattle.std.proofs.lemmas.List.{get_or_default}
 use Rattle.level_rules.specs.declared.Side.{Side}
 use Rattle.picture_rules.specs.Scene.{no_side}
 use Rattle.view_rules.specs.View.{ViewValue}

@@ -1,6 +1,5 @@
 -- The columns below x are painted and marked, where they were not.
-use Rattle.std.proofs.Common.{ℕ}
-use Rattle.std.specs.Prelude.{Ok}
+use Rattle.word_rules.proofs.Common.{Ok, ℕ}
 use Rattle.masked_draw.specs.Marks.{MarksBy, unmarked_dots}
 use Rattle.masked_draw.specs.Ready.{IsListed, IsMiddleNumber}
 use Rattle.masked_draw.specs.Scenes.{CanPaint, PaintsDots, mask_hands, scene_drawseg, scene_lists}

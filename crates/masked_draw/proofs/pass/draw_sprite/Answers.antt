@@ -1,8 +1,6 @@
 -- A sprite without a column, and one behind which the masked columns come first.
-use Rattle.std.proofs.Common.{◌≡◌, ◌+◌, ◌^◌, ◌<◌, ◌≤◌, ℕ, ℤ, pos, ◌≤ℤ◌, ◌<ℤ◌, true, false, List, Option, w32, sym, ap, ◌∙◌, subst, arith, rules}
-use Rattle.std.specs.Prelude.{None, int_lt, nat_le, nat_lt}
-use Rattle.std.proofs.lemmas.Bool.{and_parts, leb-true, ltb-true}
-use Rattle.std.proofs.lemmas.Int.{ints, to_z-of_z}
+use Rattle.word_rules.proofs.Common.{and_parts, ap, arith, false, int_lt, ints, leb-true, List, ltb-true, nat_le, nat_lt, None, Option, pos, rules, subst, sym, true, w32, ℕ, ℤ, ◌+◌, ◌<ℤ◌, ◌<◌, ◌^◌, ◌∙◌, ◌≡◌, ◌≤ℤ◌, ◌≤◌}
+use Rattle.std.proofs.lemmas.Int.{to_z-of_z}
 use Rattle.picture_rules.specs.declared.sprite.SpriteEntry.{SpriteEntry}
 use Rattle.picture_rules.specs.sprite.Drawsegs.{entry_has}
 use Rattle.masked_draw.specs.Clipped.{row_in}

@@ -1,7 +1,5 @@
 -- One sprite after the other, in drawing order.
-use Rattle.std.proofs.Common.{◌≡◌, ℕ, List, length, sym, ap, ◌∙◌, subst}
-use Rattle.std.proofs.lemmas.List.{length_push, map-id}
-use Rattle.std.proofs.lemmas.Iterator.Consumers.{YieldsList-end, YieldsList-from_first, YieldsList-turn}
+use Rattle.word_rules.proofs.Common.{ap, length, length_push, List, map-id, subst, sym, YieldsList-end, YieldsList-from_first, YieldsList-turn, ℕ, ◌∙◌, ◌≡◌}
 use Rattle.picture_rules.specs.declared.sprite.SpriteEntry.{SpriteEntry}
 use Rattle.picture_rules.specs.sprite.Order.{draw_order}
 use Rattle.picture_rules.specs.sprite.Middles.{sprites_from}

@@ -1,6 +1,5 @@
 -- The sprites that the loop came to are drawn.
-use Rattle.std.proofs.Common.{length}
-use Rattle.std.specs.Prelude.{Ok}
+use Rattle.word_rules.proofs.Common.{length, Ok}
 use Rattle.picture_rules.specs.sprite.Order.{draw_order}
 use Rattle.picture_rules.specs.sprite.Middles.{sprites_from}
 use Rattle.masked_draw.specs.Marks.{MarkedTo}

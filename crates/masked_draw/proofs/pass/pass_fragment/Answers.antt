@@ -1,6 +1,5 @@
 -- A fragment that misses the sprite, one behind it, and one in front of it.
-use Rattle.std.proofs.Common.{◌≡◌, ℕ, ◌≤◌, max, min, ◌^◌, ℤ, pos, ◌≤ℤ◌, ◌<ℤ◌, Bool, true, false, List, Option, refl, sym, ap, ◌∙◌, subst, arith, rules, w32}
-use Rattle.std.specs.Prelude.{◌&&◌}
+use Rattle.word_rules.proofs.Common.{ap, arith, Bool, false, List, max, min, Option, pos, refl, rules, subst, sym, true, w32, ℕ, ℤ, ◌&&◌, ◌<ℤ◌, ◌^◌, ◌∙◌, ◌≡◌, ◌≤ℤ◌, ◌≤◌}
 use Rattle.std.proofs.lemmas.Int.{to_z-of_z}
 use Rattle.lump_cache.proofs.FillLemmas.{on_ok}
 use Rattle.picture_rules.specs.declared.wall.FragmentNote.{FragmentNote}

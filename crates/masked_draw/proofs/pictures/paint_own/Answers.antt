@@ -1,6 +1,5 @@
 -- A column that the picture has, and one that it has not.
-use Rattle.std.proofs.Common.{◌≡◌, ℤ, pos, true, false, w32, sym, subst, ◌∙◌, rules}
-use Rattle.std.specs.Prelude.{◌&&◌, int_le, int_lt}
+use Rattle.word_rules.proofs.Common.{false, int_le, int_lt, pos, rules, subst, sym, true, w32, ℤ, ◌&&◌, ◌∙◌, ◌≡◌}
 use Rattle.std.proofs.lemmas.Int.{to_z-of_z}
 use Rattle.art_rules.specs.Bytes.{half_at}
 use Rattle.pixel_rules.specs.Strips.{shade}

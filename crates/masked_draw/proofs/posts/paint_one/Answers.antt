@@ -1,6 +1,5 @@
-use Rattle.std.proofs.Common.{◌≡◌, ◌≤ℤ◌, ◌<ℤ◌, ℕ, ℤ, pos, nat_abs, List, true, false, rules, sym, ap, subst, ◌∙◌, arith}
-use Rattle.std.specs.Prelude.{int_lt}
-use Rattle.std.proofs.lemmas.Int.{ints, to_z-of_z}
+use Rattle.word_rules.proofs.Common.{ap, arith, false, int_lt, ints, List, nat_abs, pos, rules, subst, sym, true, ℕ, ℤ, ◌<ℤ◌, ◌∙◌, ◌≡◌, ◌≤ℤ◌}
+use Rattle.std.proofs.lemmas.Int.{to_z-of_z}
 use Rattle.word_rules.specs.Words.{fixed, minus, plus, times}
 use Rattle.view_rules.specs.declared.ViewShape.{ViewShape}
 use Rattle.pixel_rules.specs.declared.MaskedColumn.{MaskedColumn}

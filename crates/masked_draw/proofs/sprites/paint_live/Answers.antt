@@ -1,5 +1,5 @@
 -- The bytes that are lent are those of the picture and of the colormap.
-use Rattle.std.proofs.Common.{sym}
+use Rattle.word_rules.proofs.Common.{some-same, sym}
 use Rattle.lump_rules.specs.Contents.{lump_bytes}
 use Rattle.lump_cache.proofs.FetchLemmas.{live_faithful}
 use Rattle.lump_cache.proofs.StaticLemmas.{rest_static}
@@ -8,7 +8,6 @@ use Rattle.pixel_rules.specs.Art.{lump_source}
 use Rattle.texture_build.proofs.LentLemmas.{colormap_lent, fits-lump}
 use Rattle.masked_draw.proofs.PictureLemmas.{fit-columns, picture-painted}
 use Rattle.masked_draw.proofs.sprites.paint_live.Goals as goal
-use Rattle.word_rules.proofs.Logic.{some-same}
 
 pub returns-in-Some-bytes-clause-painted : goal.returns-in-Some-bytes-clause-painted
 returns-in-Some-bytes-clause-painted g c = λ view contents count hold.

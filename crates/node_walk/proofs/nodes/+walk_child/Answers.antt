@@ -1,5 +1,4 @@
-use Rattle.std.proofs.Common.{Err, ap, sym, ◌∙◌}
-use Rattle.std.proofs.lemmas.Result.{err_from_is_err_and}
+use Rattle.word_rules.proofs.Common.{ap, Err, err_from_is_err_and, sym, ◌∙◌}
 use Rattle.level_rules.specs.declared.Child.{Child}
 use Rattle.level_rules.specs.walk.Walk.{walk_child}
 use Rattle.level_rules.proofs.walk.WalkLemmas.{walk-leaf, walk-too_deep}

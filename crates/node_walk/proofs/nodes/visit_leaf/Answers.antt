@@ -1,5 +1,4 @@
-use Rattle.std.proofs.Common.{Err, refl, ap, sym, ◌∙◌}
-use Rattle.std.proofs.lemmas.Result.{err_from_is_err_and}
+use Rattle.word_rules.proofs.Common.{ap, Err, err_from_is_err_and, refl, sym, ◌∙◌}
 use Rattle.level_rules.specs.Levels.{leaf_at, surface_at}
 use Rattle.level_rules.specs.walk.Events.{WalkState}
 use Rattle.node_walk.proofs.PartLemmas.{leaf_part}

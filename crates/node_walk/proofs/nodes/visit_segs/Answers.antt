@@ -1,5 +1,4 @@
-use Rattle.std.proofs.Common.{Err, refl, ap, sym, ◌∙◌, arith}
-use Rattle.std.proofs.lemmas.Result.{err_from_is_err_and}
+use Rattle.word_rules.proofs.Common.{ap, arith, Err, err_from_is_err_and, refl, sym, ◌∙◌}
 use Rattle.level_rules.proofs.walk.WalkLemmas.{at_segs-none}
 use Rattle.node_walk.proofs.PartLemmas.{segs_part, segs_left}
 use Rattle.node_walk.proofs.VisitLemmas.{walks_none, walks_more, walks_stopped, takes_all_after}

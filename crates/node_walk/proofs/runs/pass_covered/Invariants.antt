@@ -1,5 +1,4 @@
-use Rattle.std.proofs.Common.{◌≡◌, length}
-use Rattle.std.specs.Prelude.{IsTrue}
+use Rattle.word_rules.proofs.Common.{IsTrue, length, ◌≡◌}
 use Rattle.node_walk.specs.Ranges.{range_gaps, are_apart}
 use Rattle.node_walk.proofs.runs.pass_covered.Given as goal
 

@@ -1,5 +1,4 @@
-use Rattle.std.proofs.Common.{Err, ap, ◌∙◌, refl}
-use Rattle.std.proofs.lemmas.Result.{err_from_is_err_and}
+use Rattle.word_rules.proofs.Common.{ap, Err, err_from_is_err_and, refl, ◌∙◌}
 use Rattle.node_walk.proofs.FragmentLemmas.{next_fragment, fragments_left}
 use Rattle.node_walk.proofs.VisitLemmas.{visits_stopped}
 use Rattle.node_walk.proofs.segs.show.Goals as goal

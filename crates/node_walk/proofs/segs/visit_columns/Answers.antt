@@ -1,5 +1,4 @@
-use Rattle.std.proofs.Common.{[], Err, refl, ap, sym, ◌∙◌, append-nil}
-use Rattle.std.proofs.lemmas.Result.{err_from_is_err_and}
+use Rattle.word_rules.proofs.Common.{[], ap, append-nil, Err, err_from_is_err_and, refl, sym, ◌∙◌}
 use Rattle.level_rules.specs.declared.Seg.{Seg}
 use Rattle.level_rules.specs.walk.Segs.{back_of, middle_of, is_solid, is_pass}
 use Rattle.level_rules.specs.walk.Events.{WalkState}

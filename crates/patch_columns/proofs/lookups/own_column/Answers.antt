@@ -1,5 +1,5 @@
-use Rattle.std.proofs.Common.{arith}
-use Rattle.std.proofs.lemmas.Int.{ints, to_z-of_z}
+use Rattle.word_rules.proofs.Common.{arith, ints}
+use Rattle.std.proofs.lemmas.Int.{to_z-of_z}
 use Rattle.patch_columns.proofs.SeenLemmas.{own_column-first, own_column-last}
 use Rattle.patch_columns.proofs.lookups.own_column.Goals as goal
 

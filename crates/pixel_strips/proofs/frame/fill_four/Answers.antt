@@ -1,5 +1,4 @@
-use Rattle.std.proofs.Common.{ℕ, ◌+◌, max, refl, arith}
-use Rattle.std.specs.Prelude.{ℤ}
+use Rattle.word_rules.proofs.Common.{arith, max, refl, ℕ, ℤ, ◌+◌}
 use Rattle.word_rules.specs.Steps.{step_at}
 use Rattle.pixel_strips.proofs.FillLemmas.{column_filled-to}
 use Rattle.pixel_strips.proofs.PlaceLemmas.{texel_place_later}

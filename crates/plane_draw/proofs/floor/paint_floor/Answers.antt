@@ -1,5 +1,5 @@
 -- The bytes that are lent are those of the flat and of the colormap.
-use Rattle.std.proofs.Common.{◌≡◌, List, ℕ, Option, Some, sym}
+use Rattle.word_rules.proofs.Common.{List, Option, Some, some-same, sym, ℕ, ◌≡◌}
 use Rattle.lump_rules.specs.Contents.{lump_bytes}
 use Rattle.lump_cache.proofs.FetchLemmas.{live_faithful}
 use Rattle.lump_cache.proofs.StaticLemmas.{rest_static}
@@ -12,7 +12,6 @@ use Rattle.plane_draw.proofs.CanLemmas.{floor-key}
 use Rattle.plane_draw.proofs.FlatLemmas.{floor-painted, floor-placed}
 use Rattle.plane_draw.proofs.PlaneLemmas.{fit-floor}
 use Rattle.plane_draw.proofs.floor.paint_floor.Goals as goal
-use Rattle.word_rules.proofs.Logic.{some-same}
 
 pub draw_plane-requires-clause-floor : goal.draw_plane-requires-clause-floor
 draw_plane-requires-clause-floor g c =

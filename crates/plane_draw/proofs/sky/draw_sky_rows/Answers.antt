@@ -1,6 +1,6 @@
 -- The column is made live, and then painted.
-use Rattle.std.proofs.Common.{◌≡◌, ◌<◌, w32, rules, ap, ◌∙◌, arith, to_z-of_z}
-use Rattle.std.proofs.lemmas.Bool.Decides.{nat_tests}
+use Rattle.word_rules.proofs.Common.{ap, arith, nat_tests, rules, w32, ◌<◌, ◌∙◌, ◌≡◌}
+use Rattle.std.proofs.Common.{to_z-of_z}
 use Rattle.picture_rules.specs.plane.Skies.{sky_column}
 use Rattle.texture_build.specs.Sources.{column_in}
 use Rattle.texture_build.specs.Views.{prepared_texture}

@@ -1,5 +1,5 @@
 -- The bytes that are lent are those of the sky's column and of the colormap.
-use Rattle.std.proofs.Common.{◌≡◌, ◌+◌, ℕ, List, Option, Some, sym, ap, ◌∙◌}
+use Rattle.word_rules.proofs.Common.{ap, List, Option, Some, some-same, sym, ℕ, ◌+◌, ◌∙◌, ◌≡◌}
 use Rattle.lump_rules.specs.Contents.{lump_bytes}
 use Rattle.art_rules.specs.Bytes.{byte_at}
 use Rattle.pixel_rules.specs.declared.TheConstants.{SKY}
@@ -11,7 +11,6 @@ use Rattle.plane_draw.proofs.CanLemmas.{sky-can}
 use Rattle.plane_draw.proofs.PlaneLemmas.{fit-sky}
 use Rattle.plane_draw.proofs.SkyLemmas.{sky-painted, sky-source}
 use Rattle.plane_draw.proofs.sky.paint_sky.Goals as goal
-use Rattle.word_rules.proofs.Logic.{some-same}
 
 pub column_at-requires-clause-lumps : goal.column_at-requires-clause-lumps
 column_at-requires-clause-lumps g c =

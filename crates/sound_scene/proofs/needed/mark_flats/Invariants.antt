@@ -1,5 +1,4 @@
-use Rattle.std.proofs.Common.{◌≡◌, length, take}
-use Rattle.std.specs.List.{list_any}
+use Rattle.word_rules.proofs.Common.{length, list_any, take, ◌≡◌}
 use Rattle.scene_rules.specs.Sizes.{has_flat}
 use Rattle.sound_scene.specs.Views.{AddsMarks}
 use Rattle.sound_scene.proofs.needed.mark_flats.Given as goal

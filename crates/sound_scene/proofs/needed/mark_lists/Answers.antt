@@ -1,5 +1,4 @@
-use Rattle.std.proofs.Common.{ℕ, List, arith, subst, ◌∙◌}
-use Rattle.std.specs.Prelude.{◌||◌}
+use Rattle.word_rules.proofs.Common.{arith, List, subst, ℕ, ◌||◌, ◌∙◌}
 use Rattle.art_rules.specs.declared.TheConstants.{PNAMES, TEXTURE1, TEXTURE2}
 use Rattle.texture_lists.proofs.JudgeLemmas.{pnames_name, texture1_name, texture2_name}
 use Rattle.scene_rules.specs.Sizes.{is_last, is_list}

@@ -1,6 +1,4 @@
-use Rattle.std.proofs.Common.{◌≡◌, length, take}
-use Rattle.std.specs.Prelude.{◌==◌}
-use Rattle.std.specs.List.{list_any}
+use Rattle.word_rules.proofs.Common.{length, list_any, take, ◌==◌, ◌≡◌}
 use Rattle.lump_rules.specs.declared.wad.LumpNo.{LumpNo}
 use Rattle.sound_scene.specs.Views.{AddsMarks}
 use Rattle.sound_scene.proofs.needed.mark_lumps.Given as goal

@@ -1,5 +1,4 @@
-use Rattle.std.proofs.Common.{◌≡◌, ◌+◌, length}
-use Rattle.std.specs.Prelude.{◌&&◌, nat_le, nat_lt}
+use Rattle.word_rules.proofs.Common.{length, nat_le, nat_lt, ◌&&◌, ◌+◌, ◌≡◌}
 use Rattle.sound_scene.specs.Views.{AddsMarks}
 use Rattle.sound_scene.proofs.needed.mark_map.Given as goal
 

@@ -1,6 +1,4 @@
-use Rattle.std.proofs.Common.{ℕ, Bool, subst, ◌∙◌}
-use Rattle.std.specs.Prelude.{◌==◌, ◌||◌}
-use Rattle.std.specs.List.{list_any}
+use Rattle.word_rules.proofs.Common.{Bool, list_any, subst, ℕ, ◌==◌, ◌||◌, ◌∙◌}
 use Rattle.art_rules.specs.Wanted.{is_patch_of_any}
 use Rattle.scene_rules.specs.Sizes.{SceneArt, has_flat, is_list, is_map_lump, is_needed}
 use Rattle.sound_scene.specs.Views.{AddsMarks, lump_numbers}

@@ -1,6 +1,4 @@
-use Rattle.std.proofs.Common.{ap, arith, ◌∙◌}
-use Rattle.std.specs.Prelude.{◌||◌}
-use Rattle.std.proofs.lemmas.Result.{IfOk-weaker}
+use Rattle.word_rules.proofs.Common.{ap, arith, IfOk-weaker, ◌||◌, ◌∙◌}
 use Rattle.scene_rules.specs.Sizes.{is_needed}
 use Rattle.sound_scene.proofs.MarkLemmas.{needed_marked}
 use Rattle.sound_scene.proofs.needed.needed_lumps.Goals as goal

@@ -1,5 +1,4 @@
-use Rattle.std.proofs.Common.{◌≡◌, ◌*◌, ◌≤◌, ◌^◌, take}
-use Rattle.std.specs.List.{sum_by}
+use Rattle.word_rules.proofs.Common.{sum_by, take, ◌*◌, ◌^◌, ◌≡◌, ◌≤◌}
 use Rattle.scene_rules.specs.Sizes.{composite_block, greatest_by}
 use Rattle.sound_scene.proofs.sizes.composite_blocks.Given as goal
 

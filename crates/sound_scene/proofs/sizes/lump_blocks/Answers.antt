@@ -1,5 +1,4 @@
-use Rattle.std.proofs.Common.{ℕ, ◌<◌, length, refl, arith, ap, ◌∙◌}
-use Rattle.std.proofs.lemmas.List.{take_all}
+use Rattle.word_rules.proofs.Common.{ap, arith, length, refl, take_all, ℕ, ◌<◌, ◌∙◌}
 use Rattle.lump_rules.specs.declared.wad.LumpNo.{LumpNo}
 use Rattle.scene_rules.specs.Sizes.{greatest_by, lump_block}
 use Rattle.sound_scene.proofs.SizeLemmas.{greatest_by-map, greatest_none, greatest_step, index_below, sum_step}

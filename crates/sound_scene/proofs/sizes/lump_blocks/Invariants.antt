@@ -1,5 +1,4 @@
-use Rattle.std.proofs.Common.{◌≡◌, ◌*◌, ◌≤◌, ◌^◌, take}
-use Rattle.std.specs.List.{sum_by}
+use Rattle.word_rules.proofs.Common.{sum_by, take, ◌*◌, ◌^◌, ◌≡◌, ◌≤◌}
 use Rattle.lump_rules.specs.declared.wad.LumpNo.{LumpNo}
 use Rattle.scene_rules.specs.Sizes.{greatest_by, lump_block}
 use Rattle.sound_scene.proofs.sizes.lump_blocks.Given as goal

@@ -1,6 +1,4 @@
-use Rattle.std.proofs.Common.{ℕ, List, subst, sym, ap, ◌∙◌}
-use Rattle.std.specs.List.{sum_by}
-use Rattle.std.specs.List.Sorted.{IsStrictlyIncreasing}
+use Rattle.word_rules.proofs.Common.{ap, IsStrictlyIncreasing, List, subst, sum_by, sym, ℕ, ◌∙◌}
 use Rattle.scene_rules.specs.Sizes.{SceneArt, composite_block, greatest_by, lump_block}
 use Rattle.sound_scene.specs.Views.{lump_numbers}
 use Rattle.sound_scene.proofs.SizeLemmas.{enough_is, needed_increase, needed_there, roomy_is, sizes_are}

@@ -1,6 +1,4 @@
-use Rattle.std.proofs.Common.{◌∙◌}
-use Rattle.std.proofs.lemmas.Result.{IfOk-weaker}
-use Rattle.std.proofs.lemmas.List.Filters.{dedup_is}
+use Rattle.word_rules.proofs.Common.{dedup_is, IfOk-weaker, ◌∙◌}
 use Rattle.sprite_book.proofs.ListLemmas.{listed_once}
 use Rattle.sprite_book.proofs.list.list_pictures.Goals as goal
 

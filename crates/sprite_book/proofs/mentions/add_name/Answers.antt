@@ -1,8 +1,4 @@
-use Rattle.std.proofs.Common.{◌≡◌, Bool, true, false, cond, List, [], ◌++◌, ℕ, slice_index, append_assoc, append-nil, take}
-use Rattle.std.specs.Prelude.{◌==◌}
-use Rattle.std.specs.Option.{option_to_list}
-use Rattle.std.specs.Str.{bytes_eq}
-use Rattle.std.proofs.lemmas.Result.{on_ok_weaker}
+use Rattle.word_rules.proofs.Common.{[], append-nil, append_assoc, Bool, bytes_eq, cond, false, List, on_ok_weaker, option_to_list, slice_index, take, true, ℕ, ◌++◌, ◌==◌, ◌≡◌}
 use Rattle.art_rules.specs.declared.Mention.{Mention}
 use Rattle.art_rules.specs.declared.TheConstants.{SPRITE_LETTERS, SECOND_PAIR_AT}
 use Rattle.art_rules.specs.Frames.{mention_at, name_mentions, is_of_sprite}

@@ -1,5 +1,4 @@
-use Rattle.std.proofs.Common.{◌≡◌, ◌<◌, ◌+◌, ◌++◌, ◌∷◌, [], List, length, get_or, take, map, Ok, sym, subst, ap, ◌∙◌, arith}
-use Rattle.std.proofs.lemmas.List.{map-append}
+use Rattle.word_rules.proofs.Common.{[], ap, arith, get_or, length, List, map, map-append, Ok, subst, sym, take, ◌++◌, ◌+◌, ◌<◌, ◌∙◌, ◌∷◌, ◌≡◌}
 use Rattle.outside.specs.declared.fault.Fault.TheVariants.{OutOfMemory}
 use Rattle.art_rules.specs.declared.shapes.Need.{Need}
 use Rattle.art_rules.specs.declared.shapes.Frame.{Frame}

@@ -1,5 +1,4 @@
-use Rattle.std.proofs.Common.{◌≡◌, List, ℕ, take, Some, Ok}
-use Rattle.std.specs.List.{range_with_len}
+use Rattle.word_rules.proofs.Common.{List, Ok, range_with_len, Some, take, ℕ, ◌≡◌}
 use Rattle.art_rules.specs.declared.Mention.{Mention}
 use Rattle.art_rules.specs.Frames.{last_that, is_of_frame}
 use Rattle.art_rules.specs.Books.{picture_or_missing, each_of}

@@ -1,5 +1,4 @@
-use Rattle.std.proofs.Common.{◌<◌, ◌+◌, false, length, take, refl, sym, arith}
-use Rattle.std.proofs.lemmas.List.Elements.{Contains-get_or}
+use Rattle.word_rules.proofs.Common.{arith, Contains-get_or, false, length, refl, sym, take, ◌+◌, ◌<◌}
 use Rattle.art_rules.specs.declared.Mention.{Mention}
 use Rattle.art_rules.specs.Books.{each_of, shape_of}
 use Rattle.sprite_book.proofs.CallLemmas.{reads_known, reads_more, reads_stop, reads_same}

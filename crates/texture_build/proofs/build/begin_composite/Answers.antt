@@ -1,5 +1,4 @@
-use Rattle.std.proofs.Common.{◌∙◌, ℕ, [], ◌∷◌, Some, replicate, MatchResult, Result, refl, ap, inl}
-use Rattle.std.proofs.lemmas.Bool.{false≢true}
+use Rattle.word_rules.proofs.Common.{[], ap, false≢true, inl, MatchResult, refl, replicate, Result, Some, ℕ, ◌∙◌, ◌∷◌}
 use Rattle.zone_rules.specs.Zones.{owned_block}
 use Rattle.zone_rules.proofs.OrderLemmas.{order_then}
 use Rattle.lump_cache.specs.Caches.{composite_owner}

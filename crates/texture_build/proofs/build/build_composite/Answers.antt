@@ -1,5 +1,4 @@
-use Rattle.std.proofs.Common.{◌≡◌, ℕ, ◌∙◌, [], Err, refl, subst, ap, inl, inr}
-use Rattle.std.proofs.lemmas.Result.{err_from_is_err_and}
+use Rattle.word_rules.proofs.Common.{[], ap, Err, err_from_is_err_and, inl, inr, refl, subst, ℕ, ◌∙◌, ◌≡◌}
 use Rattle.outside.proofs.ShelfLemmas.{follows_none}
 use Rattle.lump_rules.specs.Contents.{lump_bytes}
 use Rattle.zone_rules.specs.Zones.{owned_block}

@@ -1,5 +1,4 @@
-use Rattle.std.proofs.Common.{◌+◌, ◌<◌, List, length, get_or, pos, Some, subst, sym, ap, ◌∙◌}
-use Rattle.std.proofs.lemmas.Option.{slice_get-get_or}
+use Rattle.word_rules.proofs.Common.{ap, get_or, length, List, pos, slice_get-get_or, Some, subst, sym, ◌+◌, ◌<◌, ◌∙◌}
 use Rattle.art_rules.specs.declared.PlacedPatch.{PlacedPatch}
 use Rattle.texture_build.specs.Builds.{PutsPatches}
 use Rattle.texture_build.specs.Asked.{size_of}

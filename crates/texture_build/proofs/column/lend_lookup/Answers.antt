@@ -1,6 +1,4 @@
-use Rattle.std.proofs.Common.{◌≡◌, ℕ, ◌+◌, ◌≤◌, false, List, length, Option, Some, None, option_map}
-use Rattle.std.specs.Prelude.{IfSome}
-use Rattle.std.specs.Option.{option_copied}
+use Rattle.word_rules.proofs.Common.{false, IfSome, length, List, None, Option, option_copied, option_map, Some, ℕ, ◌+◌, ◌≡◌, ◌≤◌}
 use Rattle.zone_rules.specs.Zones.{block_size, same_owner}
 use Rattle.lump_cache.specs.Caches.{lump_owner}
 use Rattle.lump_cache.proofs.StaticLemmas.{rest_static}

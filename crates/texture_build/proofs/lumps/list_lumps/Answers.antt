@@ -1,6 +1,4 @@
-use Rattle.std.proofs.Common.{◌≡◌, false, length, get_or, arith, ap, ◌∙◌}
-use Rattle.std.specs.Prelude.{◌||◌}
-use Rattle.std.proofs.lemmas.Result.{IfOk-weaker}
+use Rattle.word_rules.proofs.Common.{ap, arith, false, get_or, IfOk-weaker, length, ◌||◌, ◌∙◌, ◌≡◌}
 use Rattle.art_rules.specs.Wanted.{is_patch_of_any}
 use Rattle.texture_build.proofs.MarkLemmas.{lumps_marked, same_front}
 use Rattle.texture_build.proofs.lumps.list_lumps.Goals as goal

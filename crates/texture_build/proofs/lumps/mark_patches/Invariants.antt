@@ -1,6 +1,4 @@
-use Rattle.std.proofs.Common.{◌≡◌, ℕ, ◌<◌, false, length, get_or, take}
-use Rattle.std.specs.Prelude.{◌==◌, ◌||◌}
-use Rattle.std.specs.List.{list_any}
+use Rattle.word_rules.proofs.Common.{false, get_or, length, list_any, take, ℕ, ◌<◌, ◌==◌, ◌||◌, ◌≡◌}
 use Rattle.art_rules.specs.declared.PlacedPatch.{PlacedPatch}
 use Rattle.texture_build.proofs.lumps.mark_patches.Given as goal
 

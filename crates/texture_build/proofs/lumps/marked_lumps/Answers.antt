@@ -1,5 +1,5 @@
-use Rattle.std.proofs.Common.{◌++◌, ◌∷◌, [], false, map, get_or, ap, sym, ◌∙◌, Vec, Global}
-use Rattle.std.proofs.lemmas.List.{map-append}
+use Rattle.word_rules.proofs.Common.{[], ap, false, get_or, Global, map, map-append, sym, ◌++◌, ◌∙◌, ◌∷◌}
+use Rattle.std.proofs.Common.{Vec}
 use Rattle.lump_rules.specs.declared.wad.LumpNo.{LumpNo}
 use Rattle.texture_build.proofs.MarkLemmas.{passed_on, passed_off}
 use Rattle.texture_build.proofs.lumps.marked_lumps.Goals as goal

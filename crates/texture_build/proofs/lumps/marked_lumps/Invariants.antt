@@ -1,5 +1,4 @@
-use Rattle.std.proofs.Common.{◌≡◌, false, map, filter, get_or}
-use Rattle.std.specs.List.{range_with_len}
+use Rattle.word_rules.proofs.Common.{false, filter, get_or, map, range_with_len, ◌≡◌}
 use Rattle.lump_rules.specs.declared.wad.LumpNo.{LumpNo}
 use Rattle.texture_build.proofs.lumps.marked_lumps.Given as goal
 

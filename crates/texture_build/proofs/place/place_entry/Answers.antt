@@ -1,6 +1,5 @@
 use Rattle.outside.specs.Faults.{itself}
-use Rattle.std.proofs.Common.{◌≡◌, Some, ap, sym, ◌∙◌}
-use Rattle.std.specs.Prelude.{option_map}
+use Rattle.word_rules.proofs.Common.{ap, option_map, Some, sym, ◌∙◌, ◌≡◌}
 use Rattle.lump_cache.proofs.CallLemmas.{reads_refused, reads_wider}
 use Rattle.art_rules.specs.declared.refusal.TexRefusal.TheVariants.{MissingPatch}
 use Rattle.texture_build.specs.Asked.{patch_lump}

@@ -1,6 +1,4 @@
-use Rattle.std.proofs.Common.{◌+◌, ◌<◌, ◌++◌, ◌∷◌, [], ℕ, List, length, get_or, pos, take, Ok, refl, sym, subst, ap, ◌∙◌, arith}
-use Rattle.std.specs.Prelude.{All, option_map}
-use Rattle.std.proofs.lemmas.List.Elements.{Contains-get_or, All-nil, All-push}
+use Rattle.word_rules.proofs.Common.{[], All, All-nil, All-push, ap, arith, Contains-get_or, get_or, length, List, Ok, option_map, pos, refl, subst, sym, take, ℕ, ◌++◌, ◌+◌, ◌<◌, ◌∙◌, ◌∷◌}
 use Rattle.lump_rules.specs.Lookups.{last_of}
 use Rattle.lump_cache.proofs.CallLemmas.{reads_known, reads_more, reads_stop, reads_same, reads_short}
 use Rattle.art_rules.specs.declared.ColumnLookup.{ColumnLookup}

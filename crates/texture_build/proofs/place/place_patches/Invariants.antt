@@ -1,6 +1,5 @@
 use Rattle.outside.specs.Faults.{itself}
-use Rattle.std.proofs.Common.{◌<◌, length, take, Ok}
-use Rattle.std.specs.Prelude.{All, option_map}
+use Rattle.word_rules.proofs.Common.{All, length, Ok, option_map, take, ◌<◌}
 use Rattle.lump_rules.specs.Lookups.{last_of}
 use Rattle.lump_cache.specs.Calls.{ReadsLumps}
 use Rattle.art_rules.specs.declared.PlacedPatch.{PlacedPatch}

@@ -1,7 +1,4 @@
-use Rattle.std.proofs.Common.{◌<◌, ◌+◌, ◌++◌, ◌∷◌, [], ℕ, List, Option, length, map, take, false, Ok, refl, sym, subst, ap, ◌∙◌, arith}
-use Rattle.std.specs.Prelude.{All, IfSome, is_some}
-use Rattle.std.proofs.lemmas.List.{map-append, take_more}
-use Rattle.std.proofs.lemmas.List.Elements.{All-nil, All-push}
+use Rattle.word_rules.proofs.Common.{[], All, All-nil, All-push, ap, arith, false, IfSome, is_some, length, List, map, map-append, Ok, Option, refl, subst, sym, take, take_more, ℕ, ◌++◌, ◌+◌, ◌<◌, ◌∙◌, ◌∷◌}
 use Rattle.lump_rules.specs.Lookups.{last_of}
 use Rattle.lump_cache.proofs.CallLemmas.{reads_as, reads_known, reads_more, reads_same, reads_short, reads_stop}
 use Rattle.art_rules.specs.Textures.{texture_at}

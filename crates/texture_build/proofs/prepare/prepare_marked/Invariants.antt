@@ -1,6 +1,5 @@
 use Rattle.outside.specs.Faults.{itself}
-use Rattle.std.proofs.Common.{◌≡◌, ℕ, Option, map, take, Ok}
-use Rattle.std.specs.Prelude.{All, IfSome, is_some}
+use Rattle.word_rules.proofs.Common.{All, IfSome, is_some, map, Ok, Option, take, ℕ, ◌≡◌}
 use Rattle.lump_rules.specs.Lookups.{last_of}
 use Rattle.lump_cache.specs.Calls.{ReadsLumps}
 use Rattle.art_rules.specs.Textures.{texture_at}

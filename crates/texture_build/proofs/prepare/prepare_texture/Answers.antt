@@ -1,7 +1,4 @@
-use Rattle.std.proofs.Common.{◌≡◌, ℕ, List, length, replicate, Ok, Err, ap, subst, sym, ◌∙◌, arith}
-use Rattle.std.specs.Prelude.{option_map}
-use Rattle.std.proofs.lemmas.List.{length-replicate}
-use Rattle.std.proofs.lemmas.Result.{IfErr-weaker, IfOk-weaker}
+use Rattle.word_rules.proofs.Common.{ap, arith, Err, IfErr-weaker, IfOk-weaker, length, length-replicate, List, Ok, option_map, replicate, subst, sym, ℕ, ◌∙◌, ◌≡◌}
 use Rattle.lump_rules.specs.Lookups.{last_of}
 use Rattle.lump_cache.proofs.CallLemmas.{reads_stop_first}
 use Rattle.art_rules.specs.declared.ColumnLookup.TheVariants.{Empty}

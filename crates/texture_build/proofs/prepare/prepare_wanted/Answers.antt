@@ -1,6 +1,4 @@
-use Rattle.std.proofs.Common.{◌<◌, ℕ, Ok, length, refl, sym, subst, ap, ◌∙◌}
-use Rattle.std.specs.Prelude.{All, IsSome, is_some}
-use Rattle.std.proofs.lemmas.List.{length-map}
+use Rattle.word_rules.proofs.Common.{All, ap, is_some, IsSome, length, length-map, Ok, refl, subst, sym, ℕ, ◌<◌, ◌∙◌}
 use Rattle.lump_cache.proofs.CallLemmas.{reads_more, reads_nothing, reads_same, reads_short, reads_stop_first}
 use Rattle.lump_rules.specs.Lookups.{last_of}
 use Rattle.art_rules.specs.Wanted.{prepared_textures}

@@ -1,5 +1,4 @@
-use Rattle.std.proofs.Common.{◌≡◌, ℕ, ◌<◌, false, length, get_or, take}
-use Rattle.std.specs.Prelude.{◌||◌}
+use Rattle.word_rules.proofs.Common.{false, get_or, length, take, ℕ, ◌<◌, ◌||◌, ◌≡◌}
 use Rattle.texture_build.specs.Views.{is_wanted}
 use Rattle.texture_build.proofs.prepare.set_marks.Given as goal
 

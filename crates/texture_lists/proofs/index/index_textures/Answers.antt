@@ -1,5 +1,4 @@
-use Rattle.std.proofs.Common.{arith, refl}
-use Rattle.std.proofs.lemmas.Option.{slice_get_read}
+use Rattle.word_rules.proofs.Common.{arith, refl, slice_get_read}
 use Rattle.texture_lists.proofs.IndexLemmas.{name_more}
 use Rattle.texture_lists.proofs.index.index_textures.Goals as goal
 

@@ -1,8 +1,4 @@
-use Rattle.std.proofs.Common.{◌∙◌, ap, sym, subst, ℕ, List, Some}
-use Rattle.std.specs.BTreeMap.{Updates}
-use Rattle.std.specs.Cmp.Lexicographic.{slice_cmp}
-use Rattle.std.specs.Ordering.{nat_cmp}
-use Rattle.std.specs.Prelude.{is_some}
+use Rattle.word_rules.proofs.Common.{ap, is_some, List, nat_cmp, slice_cmp, Some, subst, sym, Updates, ℕ, ◌∙◌}
 use Rattle.texture_lists.proofs.IndexLemmas.{name_known, name_put, none_if}
 use Rattle.texture_lists.proofs.index.put_new.Goals as goal
 

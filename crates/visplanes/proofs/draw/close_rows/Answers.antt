@@ -1,5 +1,4 @@
-use Rattle.std.proofs.Common.{ℕ, ◌++◌, ◌-◌, ap, ◌∙◌, min}
-use Rattle.std.specs.Prelude.{slice_index}
+use Rattle.word_rules.proofs.Common.{ap, min, slice_index, ℕ, ◌++◌, ◌-◌, ◌∙◌}
 use Rattle.pixel_strips.specs.Canvases.{CanvasView, with_dots}
 use Rattle.visplanes.specs.Spans.{closed_rows, closed_dots}
 use Rattle.visplanes.proofs.DrawLemmas.{dots_append}

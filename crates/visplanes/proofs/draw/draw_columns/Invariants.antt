@@ -1,5 +1,4 @@
-use Rattle.std.proofs.Common.{◌≡◌, ℕ, ◌≤◌, true}
-use Rattle.std.specs.Prelude.{slice_index}
+use Rattle.word_rules.proofs.Common.{slice_index, true, ℕ, ◌≡◌, ◌≤◌}
 use Rattle.view_rules.specs.declared.TheConstants.{FRAME_HEIGHT}
 use Rattle.picture_rules.specs.plane.Spans.{holds, span_start}
 use Rattle.visplanes.specs.Spans.{is_in, HasSpans}

@@ -1,5 +1,4 @@
-use Rattle.std.proofs.Common.{◌∙◌, arith, inl, inr}
-use Rattle.std.proofs.lemmas.Bool.{cases_lt}
+use Rattle.word_rules.proofs.Common.{arith, cases_lt, inl, inr, ◌∙◌}
 use Rattle.visplanes.proofs.RowLemmas.{is_in-parts, is_in-not}
 use Rattle.visplanes.proofs.draw.open_rows.Goals as goal
 

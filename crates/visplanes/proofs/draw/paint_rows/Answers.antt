@@ -1,5 +1,4 @@
-use Rattle.std.proofs.Common.{◌-◌, List, ap, sym, ◌∙◌, arith}
-use Rattle.std.specs.Prelude.{slice_index}
+use Rattle.word_rules.proofs.Common.{ap, arith, List, slice_index, sym, ◌-◌, ◌∙◌}
 use Rattle.pixel_rules.specs.Dots.{Dot}
 use Rattle.pixel_strips.specs.Canvases.{with_dots}
 use Rattle.pixel_strips.proofs.CanvasLemmas.{dots_none}

@@ -1,5 +1,4 @@
-use Rattle.std.proofs.Common.{◌≡◌, ◌-◌, ◌≤◌, max}
-use Rattle.std.specs.Prelude.{slice_index}
+use Rattle.word_rules.proofs.Common.{max, slice_index, ◌-◌, ◌≡◌, ◌≤◌}
 use Rattle.pixel_strips.specs.Canvases.{with_dots}
 use Rattle.visplanes.specs.Spans.{closed_rows}
 use Rattle.visplanes.proofs.draw.paint_spans.Given as goal

@@ -1,5 +1,4 @@
-use Rattle.std.proofs.Common.{ℕ, ◌+◌, List, length, ap, sym, ◌∙◌, subst}
-use Rattle.std.proofs.lemmas.List.{length_push}
+use Rattle.word_rules.proofs.Common.{ap, length, length_push, List, subst, sym, ℕ, ◌+◌, ◌∙◌}
 use Rattle.picture_rules.specs.plane.Planes.{Plane, AreWide}
 use Rattle.visplanes.proofs.ListLemmas.{wide-push, length-empty_plane}
 use Rattle.visplanes.proofs.planes.blank_planes.Goals as goal

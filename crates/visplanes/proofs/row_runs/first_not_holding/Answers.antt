@@ -1,5 +1,4 @@
-use Rattle.std.proofs.Common.{◌≡◌, ℕ, true, false, Option, ap, sym, ◌∙◌, arith, inl, inr}
-use Rattle.std.proofs.lemmas.Bool.{cases_lt}
+use Rattle.word_rules.proofs.Common.{ap, arith, cases_lt, false, inl, inr, Option, sym, true, ℕ, ◌∙◌, ◌≡◌}
 use Rattle.picture_rules.specs.plane.Spans.{holds_row, holds}
 use Rattle.visplanes.proofs.RunLemmas.{runs_from-run}
 use Rattle.visplanes.proofs.row_runs.first_not_holding.Goals as goal

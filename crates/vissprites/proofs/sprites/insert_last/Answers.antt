@@ -1,5 +1,4 @@
-use Rattle.std.proofs.Common.{◌≡◌, ℕ, ap, ◌∙◌}
-use Rattle.std.specs.List.{insert}
+use Rattle.word_rules.proofs.Common.{ap, insert, ℕ, ◌∙◌, ◌≡◌}
 use Rattle.vissprites.specs.Kept.{count_before}
 use Rattle.vissprites.proofs.KeptLemmas.{insert_last-split}
 use Rattle.vissprites.proofs.sprites.insert_last.Goals as goal

@@ -1,5 +1,4 @@
-use Rattle.std.proofs.Common.{arith, refl}
-use Rattle.std.proofs.lemmas.Option.{slice_get_read}
+use Rattle.word_rules.proofs.Common.{arith, refl, slice_get_read}
 use Rattle.wad_dir.proofs.IndexLemmas.{name_indexed}
 use Rattle.wad_dir.proofs.index.index_of.Goals as goal
 

@@ -1,5 +1,4 @@
-use Rattle.std.proofs.Common.{◌≡◌, ℕ, List, false, get_or}
-use Rattle.std.specs.Prelude.{◌&&◌}
+use Rattle.word_rules.proofs.Common.{false, get_or, List, ℕ, ◌&&◌, ◌≡◌}
 use Rattle.word_rules.specs.Least.{greatest}
 use Rattle.lump_rules.specs.Lookups.{has_name}
 use Rattle.wad_dir.specs.Indexes.{indexed}

@@ -1,6 +1,4 @@
-use Rattle.std.proofs.Common.{◌≡◌, map, false, get_or}
-use Rattle.std.specs.Prelude.{filter}
-use Rattle.std.specs.List.{range_with_len}
+use Rattle.word_rules.proofs.Common.{false, filter, get_or, map, range_with_len, ◌≡◌}
 use Rattle.wad_dir.proofs.index.list_marked.Given as goal
 
 abbrev pub invariant-loop-i : goal.invariant-loop-i

@@ -1,6 +1,4 @@
-use Rattle.std.proofs.Common.{◌≡◌, arith, refl, ap, length, length-append, ◌∷◌, [], Some}
-use Rattle.std.specs.List.{slice_get}
-use Rattle.std.proofs.lemmas.Option.{slice_get_read}
+use Rattle.word_rules.proofs.Common.{[], ap, arith, length, length-append, refl, slice_get, slice_get_read, Some, ◌∷◌, ◌≡◌}
 use Rattle.wad_dir.proofs.MemberLemmas.{member_step, grouped_step}
 use Rattle.wad_dir.proofs.index.mark_members.Goals as goal
 

@@ -1,7 +1,4 @@
-use Rattle.std.proofs.Common.{ap, arith, ◌∙◌}
-use Rattle.std.specs.Prelude.{◌||◌}
-use Rattle.std.specs.List.{list_any}
-use Rattle.std.proofs.lemmas.Result.{IfOk-weaker}
+use Rattle.word_rules.proofs.Common.{ap, arith, IfOk-weaker, list_any, ◌||◌, ◌∙◌}
 use Rattle.scene_rules.specs.Sizes.{has_flat}
 use Rattle.wad_trim.proofs.ListLemmas.{flats-marked}
 use Rattle.wad_trim.proofs.parts.flat_lumps.Goals as goal

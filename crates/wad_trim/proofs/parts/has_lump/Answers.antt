@@ -1,12 +1,7 @@
-use Rattle.std.proofs.Common.{ap, sym, arith, ◌∙◌}
-use Rattle.std.specs.Prelude.{◌==◌}
-use Rattle.std.specs.List.{list_any}
-use Rattle.std.proofs.lemmas.List.{take_all}
-use Rattle.std.proofs.lemmas.List.Folds.{list_any_at}
+use Rattle.word_rules.proofs.Common.{ap, arith, eq-true, list_any, list_any_at, sym, take_all, ◌==◌, ◌∙◌}
 use Rattle.lump_rules.specs.declared.wad.LumpNo.{LumpNo}
 use Rattle.wad_trim.proofs.ListLemmas.{any-number}
 use Rattle.wad_trim.proofs.parts.has_lump.Goals as goal
-use Rattle.word_rules.proofs.Logic.{eq-true}
 
 pub returns-then-other-lump : goal.returns-then-other-lump
 returns-then-other-lump c =

@@ -1,7 +1,4 @@
-use Rattle.std.proofs.Common.{sym, ap, arith, ◌∙◌}
-use Rattle.std.specs.List.{list_any}
-use Rattle.std.proofs.lemmas.List.{take_all}
-use Rattle.std.proofs.lemmas.List.Folds.{list_any_at}
+use Rattle.word_rules.proofs.Common.{ap, arith, list_any, list_any_at, sym, take_all, ◌∙◌}
 use Rattle.lump_rules.specs.declared.wad.LumpNo.{LumpNo}
 use Rattle.lump_rules.specs.Lookups.{has_name}
 use Rattle.wad_trim.proofs.ListLemmas.{any-number}

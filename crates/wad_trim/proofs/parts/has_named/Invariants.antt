@@ -1,5 +1,4 @@
-use Rattle.std.proofs.Common.{◌≡◌, false, take}
-use Rattle.std.specs.List.{list_any}
+use Rattle.word_rules.proofs.Common.{false, list_any, take, ◌≡◌}
 use Rattle.lump_rules.specs.declared.wad.LumpNo.{LumpNo}
 use Rattle.lump_rules.specs.Lookups.{has_name}
 use Rattle.wad_trim.proofs.parts.has_named.Given as goal

@@ -1,6 +1,4 @@
-use Rattle.std.proofs.Common.{ap, ◌∙◌}
-use Rattle.std.specs.Option.{option_copied}
-use Rattle.std.specs.Prelude.{◌++◌}
+use Rattle.word_rules.proofs.Common.{ap, option_copied, ◌++◌, ◌∙◌}
 use Rattle.art_rules.specs.Books.{book_lumps}
 use Rattle.sound_scene.specs.Views.{lump_numbers}
 use Rattle.trim_rules.specs.Parts.{called_lumps, flat_lumps, picture_lumps}

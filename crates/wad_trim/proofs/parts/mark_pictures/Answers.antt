@@ -1,5 +1,4 @@
-use Rattle.std.specs.Prelude.{◌==◌}
-use Rattle.std.specs.List.{list_any}
+use Rattle.word_rules.proofs.Common.{list_any, ◌==◌}
 use Rattle.art_rules.specs.Books.{book_lumps}
 use Rattle.sound_scene.specs.Views.{lump_numbers}
 use Rattle.sound_scene.proofs.MarkLemmas.{adds_same}

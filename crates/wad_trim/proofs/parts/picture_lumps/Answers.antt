@@ -1,8 +1,4 @@
-use Rattle.std.proofs.Common.{ap, arith, ◌++◌, ◌∙◌}
-use Rattle.std.specs.Prelude.{◌==◌, ◌||◌}
-use Rattle.std.specs.List.{list_any}
-use Rattle.std.specs.Option.{option_copied}
-use Rattle.std.proofs.lemmas.Result.{IfOk-weaker}
+use Rattle.word_rules.proofs.Common.{ap, arith, IfOk-weaker, list_any, option_copied, ◌++◌, ◌==◌, ◌||◌, ◌∙◌}
 use Rattle.art_rules.specs.Books.{book_lumps}
 use Rattle.wad_trim.specs.Plans.{layer_lumps}
 use Rattle.wad_trim.proofs.ListLemmas.{either-picture, pictures-marked}

@@ -1,5 +1,4 @@
-use Rattle.std.proofs.Common.{Option, ℕ, ◌∷◌, [], take, ap, sym, ◌∙◌, arith}
-use Rattle.std.specs.Prelude.{option_map}
+use Rattle.word_rules.proofs.Common.{[], ap, arith, Option, option_map, sym, take, ℕ, ◌∙◌, ◌∷◌}
 use Rattle.lump_rules.specs.declared.wad.LumpNo.{LumpNo}
 use Rattle.trim_rules.specs.declared.part.TrimPart.{TrimPart}
 use Rattle.trim_rules.specs.Parts.{marked_lump}

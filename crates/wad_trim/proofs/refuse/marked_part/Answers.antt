@@ -1,5 +1,4 @@
-use Rattle.std.proofs.Common.{length, ap, sym, ◌∙◌}
-use Rattle.std.specs.Prelude.{option_map}
+use Rattle.word_rules.proofs.Common.{ap, length, option_map, sym, ◌∙◌}
 use Rattle.lump_rules.specs.declared.wad.LumpNo.{LumpNo}
 use Rattle.lump_rules.specs.Lookups.{lump_at}
 use Rattle.trim_rules.specs.Parts.{is_mark}

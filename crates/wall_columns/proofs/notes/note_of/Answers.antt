@@ -1,6 +1,6 @@
 -- A note is made of its parts.
-use Rattle.std.proofs.Common.{rules, arith, ◌≡◌, ◌∙◌, ◌+◌, ◌-◌, ap, sym, refl, to_z, w32}
-use Rattle.std.proofs.lemmas.Int.{to_z-of_z, ints}
+use Rattle.word_rules.proofs.Common.{ap, arith, ints, refl, rules, sym, to_z, w32, ◌+◌, ◌-◌, ◌∙◌, ◌≡◌}
+use Rattle.std.proofs.lemmas.Int.{to_z-of_z}
 use Rattle.word_rules.specs.Words.{minus_one}
 use Rattle.picture_rules.specs.declared.wall.FragmentNumbers.{FragmentNumbers}
 use Rattle.picture_rules.specs.wall.Notes.{silhouette_of}

@@ -1,6 +1,4 @@
-use Rattle.std.proofs.Common.{◌≡◌, ◌≤ℤ◌, ℕ, ℤ, ◌+◌, List, Option, Some, false, sym, ap, ◌∙◌, arith}
-use Rattle.std.proofs.lemmas.Int.{ints}
-use Rattle.std.specs.Prelude.{int_lt}
+use Rattle.word_rules.proofs.Common.{ap, arith, false, int_lt, ints, List, Option, Some, sym, ℕ, ℤ, ◌+◌, ◌∙◌, ◌≡◌, ◌≤ℤ◌}
 use Rattle.lump_rules.specs.Contents.{lump_bytes}
 use Rattle.texture_build.proofs.ColumnLemmas.{single_slot}
 use Rattle.texture_build.proofs.LentLemmas.{colormap_lent, fits-column}

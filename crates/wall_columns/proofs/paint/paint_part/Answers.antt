@@ -1,6 +1,5 @@
-use Rattle.std.proofs.Common.{SFits, rules, of_z, to_z, to_z-of_z, w32, ◌≡◌, ◌≤ℤ◌, ℕ, ℤ, true, false, refl, ap, ◌∙◌, arith}
-use Rattle.std.proofs.lemmas.Int.{ints}
-use Rattle.std.specs.Prelude.{int_lt}
+use Rattle.word_rules.proofs.Common.{ap, arith, false, int_lt, ints, of_z, refl, rules, SFits, to_z, true, w32, ℕ, ℤ, ◌∙◌, ◌≡◌, ◌≤ℤ◌}
+use Rattle.std.proofs.Common.{to_z-of_z}
 use Rattle.art_rules.specs.declared.ColumnLookup.{ColumnLookup}
 use Rattle.art_rules.specs.Wanted.{PreparedTexture}
 use Rattle.texture_build.specs.Draws.{CanDraw}

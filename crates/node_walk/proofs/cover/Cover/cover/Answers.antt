@@ -1,5 +1,4 @@
-use Rattle.std.proofs.Common.{◌≡◌, ℕ, ◌+◌, ◌*◌, ◌<◌, ◌≤◌, List, Bool, length, ap, sym, ◌∙◌, arith, subst}
-use Rattle.std.specs.Prelude.{IsTrue}
+use Rattle.word_rules.proofs.Common.{ap, arith, Bool, IsTrue, length, List, subst, sym, ℕ, ◌*◌, ◌+◌, ◌<◌, ◌∙◌, ◌≡◌, ◌≤◌}
 use Rattle.node_walk.specs.declared.ranges.Range.{Range}
 use Rattle.node_walk.specs.Ranges.{columns_of, are_apart, with_range}
 use Rattle.level_rules.specs.walk.Covered.{cover}

@@ -1,5 +1,4 @@
-use Rattle.std.proofs.Common.{ℕ, List, ap, ◌∙◌, arith, rules}
-use Rattle.std.proofs.lemmas.List.{with_items_is}
+use Rattle.word_rules.proofs.Common.{ap, arith, List, rules, with_items_is, ℕ, ◌∙◌}
 use Rattle.pixel_rules.specs.Dots.{put_dots}
 use Rattle.pixel_strips.specs.Canvases.{CanvasView, with_dots, marked_by_colour}
 use Rattle.pixel_strips.specs.Strips.{column_strip_dots, cut_strip_colour}

@@ -1,5 +1,4 @@
-use Rattle.std.proofs.Common.{ℕ, List, ap, ◌∙◌, arith}
-use Rattle.std.proofs.lemmas.List.{with_items_is}
+use Rattle.word_rules.proofs.Common.{ap, arith, List, with_items_is, ℕ, ◌∙◌}
 use Rattle.pixel_rules.specs.Dots.{put_dots}
 use Rattle.pixel_rules.specs.Strips.{span_dots}
 use Rattle.pixel_strips.specs.Canvases.{CanvasView, with_dots, marked_by_colour}

@@ -1,5 +1,4 @@
-use Rattle.std.proofs.Common.{subst, sym, List, map, ℕ}
-use Rattle.std.specs.Prelude.{◌↔◌, Contains}
+use Rattle.word_rules.proofs.Common.{Contains, List, map, subst, sym, ℕ, ◌↔◌}
 use Rattle.lump_rules.specs.declared.wad.LumpNo.{LumpNo}
 use Rattle.art_rules.specs.declared.shapes.Frame.{Frame}
 use Rattle.art_rules.specs.Books.{book_lumps}

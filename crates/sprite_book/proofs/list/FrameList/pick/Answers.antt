@@ -1,5 +1,4 @@
-use Rattle.std.proofs.Common.{◌≡◌, ◌<◌, length, vec_len, rules, sym, ap, ◌∙◌, arith}
-use Rattle.std.specs.Prelude.{slice_get}
+use Rattle.word_rules.proofs.Common.{ap, arith, length, rules, slice_get, sym, vec_len, ◌<◌, ◌∙◌, ◌≡◌}
 use Rattle.art_rules.specs.declared.shapes.Frame.{Frame}
 use Rattle.art_rules.specs.Books.{is_frame}
 use Rattle.sprite_book.proofs.ListLemmas.{place_below, picked_found, picked_none}

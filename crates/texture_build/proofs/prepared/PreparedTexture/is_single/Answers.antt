@@ -1,6 +1,4 @@
-use Rattle.std.proofs.Common.{◌<◌, length, ap, ◌∙◌, sym, subst}
-use Rattle.std.specs.Prelude.{is_some}
-use Rattle.std.proofs.lemmas.List.{get_or_default}
+use Rattle.word_rules.proofs.Common.{ap, get_or_default, is_some, length, subst, sym, ◌<◌, ◌∙◌}
 use Rattle.art_rules.specs.declared.ColumnLookup.TheVariants.{Empty}
 use Rattle.art_rules.specs.Columns.{is_single}
 use Rattle.art_rules.specs.Lookups.{is_single_lookup, single_place}

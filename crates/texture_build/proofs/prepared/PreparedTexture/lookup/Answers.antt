@@ -1,5 +1,4 @@
-use Rattle.std.proofs.Common.{List, sym, subst, ap, ◌∙◌}
-use Rattle.std.specs.Prelude.{slice_index_or}
+use Rattle.word_rules.proofs.Common.{ap, List, slice_index_or, subst, sym, ◌∙◌}
 use Rattle.art_rules.specs.declared.ColumnLookup.{ColumnLookup}
 use Rattle.art_rules.specs.declared.ColumnLookup.TheVariants.{Empty}
 use Rattle.art_rules.specs.Wanted.{PreparedTexture}

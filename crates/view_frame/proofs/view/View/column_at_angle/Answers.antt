@@ -1,5 +1,4 @@
-use Rattle.std.proofs.Common.{arith}
-use Rattle.std.proofs.lemmas.Int.{ints}
+use Rattle.word_rules.proofs.Common.{arith, ints}
 use Rattle.view_frame.proofs.BearingLemmas.{column_of_angle-bound}
 use Rattle.view_frame.proofs.view.View.column_at_angle.Goals as goal
 

@@ -1,5 +1,4 @@
-use Rattle.std.proofs.Common.{◌≡◌, ◌<◌, None, ap, sym, ◌∙◌, arith, inl, inr}
-use Rattle.std.proofs.lemmas.Bool.{cases_eq, eq-eqb, eqb-true}
+use Rattle.word_rules.proofs.Common.{ap, arith, cases_eq, eq-eqb, eqb-true, inl, inr, None, sym, ◌<◌, ◌∙◌, ◌≡◌}
 use Rattle.view_rules.specs.declared.TheConstants.{FRAME_WIDTH}
 use Rattle.picture_rules.specs.plane.Planes.{Plane, column}
 use Rattle.visplanes.specs.Columns.{plane_of}

@@ -1,5 +1,4 @@
-use Rattle.std.proofs.Common.{ap, sym, ◌∙◌, arith, inl, inr}
-use Rattle.std.proofs.lemmas.Bool.{cases_Bool}
+use Rattle.word_rules.proofs.Common.{ap, arith, cases_Bool, inl, inr, sym, ◌∙◌}
 use Rattle.picture_rules.specs.plane.Planes.{Plane, is_free}
 use Rattle.visplanes.proofs.ColumnLemmas.{kept-free, kept-taken}
 use Rattle.visplanes.proofs.columns.Visplane.is_free.Goals as goal

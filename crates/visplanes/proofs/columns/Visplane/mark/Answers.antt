@@ -1,5 +1,5 @@
-use Rattle.std.proofs.Common.{ap, sym, ◌∙◌, subst, arith}
-use Rattle.std.proofs.Common.{ℕ, max, set}
+use Rattle.word_rules.proofs.Common.{ap, arith, max, subst, sym, ℕ, ◌∙◌}
+use Rattle.std.proofs.Common.{set}
 use Rattle.picture_rules.specs.plane.Planes.{Plane, with_run}
 use Rattle.visplanes.specs.Columns.{IsKept}
 use Rattle.visplanes.proofs.ColumnLemmas.{plane_of-marked, kept-more}

@@ -1,6 +1,4 @@
-use Rattle.std.proofs.Common.{ap, refl, subst, sym, ◌∙◌}
-use Rattle.std.specs.Prelude.{IsSome}
-use Rattle.std.proofs.Common.{length}
+use Rattle.word_rules.proofs.Common.{ap, IsSome, length, refl, subst, sym, ◌∙◌}
 use Rattle.picture_rules.specs.plane.Planes.{Plane, column}
 use Rattle.picture_rules.specs.plane.Spans.{holds}
 use Rattle.visplanes.proofs.ColumnLemmas.{kept-before, kept-behind, kept-last, kept-marked, kept-run, length-runs_of}

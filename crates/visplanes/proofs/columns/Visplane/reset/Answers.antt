@@ -1,6 +1,4 @@
-use Rattle.std.proofs.Common.{◌≡◌, ◌<◌, ℕ, List, ap, ◌∙◌, arith}
-use Rattle.std.specs.Prelude.{slice_index}
-use Rattle.std.proofs.lemmas.List.{get_or-replicate}
+use Rattle.word_rules.proofs.Common.{ap, arith, get_or-replicate, List, slice_index, ℕ, ◌<◌, ◌∙◌, ◌≡◌}
 use Rattle.view_rules.specs.declared.TheConstants.{FRAME_WIDTH}
 use Rattle.visplanes.specs.declared.columns.TheConstants.{NO_RUN}
 use Rattle.visplanes.proofs.ColumnLemmas.{kept-empty, plane_of-empty}

@@ -1,6 +1,4 @@
-use Rattle.std.proofs.Common.{◌≡◌, ℕ, List, ap, ◌∙◌, rules, to_z, of_z}
-use Rattle.std.specs.Prelude.{ℤ}
-use Rattle.std.specs.Int.{w32}
+use Rattle.word_rules.proofs.Common.{ap, List, of_z, rules, to_z, w32, ℕ, ℤ, ◌∙◌, ◌≡◌}
 use Rattle.std.proofs.lemmas.Int.{to_z-of_z}
 use Rattle.word_rules.specs.Words.{mul}
 use Rattle.view_rules.specs.Lights.{distance_map}

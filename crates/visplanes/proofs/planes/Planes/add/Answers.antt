@@ -1,5 +1,4 @@
-use Rattle.std.proofs.Common.{ap, ◌∙◌, arith}
-use Rattle.std.proofs.Common.{length, length-set}
+use Rattle.word_rules.proofs.Common.{ap, arith, length, length-set, ◌∙◌}
 use Rattle.picture_rules.specs.plane.Planes.{Plane}
 use Rattle.visplanes.proofs.ListLemmas.{wide-put, length-empty_plane}
 use Rattle.visplanes.proofs.RecentLemmas.{first-put_next}

@@ -1,6 +1,4 @@
-use Rattle.std.proofs.Common.{◌≡◌, ◌<◌, ◌≤◌, length, ap, sym, subst, arith}
-use Rattle.std.specs.Prelude.{IsErr, IfOk, OnOk}
-use Rattle.std.proofs.lemmas.Bool.{false≢true}
+use Rattle.word_rules.proofs.Common.{ap, arith, false≢true, IfOk, IsErr, length, OnOk, subst, sym, ◌<◌, ◌≡◌, ◌≤◌}
 use Rattle.picture_rules.specs.plane.Planes.{PlaneChoice}
 use Rattle.visplanes.specs.Planes.{with_planes}
 use Rattle.visplanes.proofs.ListLemmas.{within_room, check-read, check-added}

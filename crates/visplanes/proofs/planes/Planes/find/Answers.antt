@@ -1,5 +1,4 @@
-use Rattle.std.proofs.Common.{◌<◌, length, ap, sym, subst, arith}
-use Rattle.std.proofs.lemmas.Bool.{false≢true}
+use Rattle.word_rules.proofs.Common.{ap, arith, false≢true, length, subst, sym, ◌<◌}
 use Rattle.picture_rules.specs.plane.Planes.{PlaneChoice}
 use Rattle.picture_rules.proofs.plane.PlaneLemmas.{find-some, find-within}
 use Rattle.visplanes.specs.Planes.{PlanesView, with_planes}

@@ -1,6 +1,5 @@
-use Rattle.std.proofs.Common.{ℕ, ◌<◌, List, length, ap, ◌∙◌, arith}
-use Rattle.std.proofs.Common.{length-set, set, take}
-use Rattle.std.proofs.lemmas.List.{length-take}
+use Rattle.word_rules.proofs.Common.{ap, arith, length, length-set, length-take, List, take, ℕ, ◌<◌, ◌∙◌}
+use Rattle.std.proofs.Common.{set}
 use Rattle.picture_rules.specs.plane.Planes.{Plane, mark}
 use Rattle.visplanes.specs.Planes.{PlanesView, with_planes, IsFirst}
 use Rattle.visplanes.proofs.ListLemmas.{mark-taken, wide-put, wide-marked}

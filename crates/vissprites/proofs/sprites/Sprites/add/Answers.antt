@@ -1,5 +1,4 @@
-use Rattle.std.proofs.Common.{◌≡◌, List, length, vec_len, Some, rules, ap, sym, subst, ◌∙◌}
-use Rattle.std.specs.List.{AllPass}
+use Rattle.word_rules.proofs.Common.{AllPass, ap, length, List, rules, Some, subst, sym, vec_len, ◌∙◌, ◌≡◌}
 use Rattle.picture_rules.specs.declared.sprite.SpriteEntry.{SpriteEntry}
 use Rattle.picture_rules.specs.sprite.Entries.{with_entry}
 use Rattle.vissprites.specs.Bounds.{lies_within, has_lump_below}

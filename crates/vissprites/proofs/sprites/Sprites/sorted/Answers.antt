@@ -1,6 +1,4 @@
-use Rattle.std.proofs.Common.{List, sym, subst, rules, ◌≡◌}
-use Rattle.std.specs.List.{AllPass}
-use Rattle.std.specs.List.Sorted.{IsSortedBy, IsStableBy}
+use Rattle.word_rules.proofs.Common.{AllPass, IsSortedBy, IsStableBy, List, rules, subst, sym, ◌≡◌}
 use Rattle.picture_rules.specs.declared.sprite.SpriteEntry.{SpriteEntry}
 use Rattle.picture_rules.specs.sprite.Order.{draw_order, is_smaller}
 use Rattle.picture_rules.proofs.sprite.OrderLemmas.{draw_order-sorted, draw_order-stable}

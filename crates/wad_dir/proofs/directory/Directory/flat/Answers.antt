@@ -1,5 +1,4 @@
-use Rattle.std.proofs.Common.{length, rules}
-use Rattle.std.specs.Prelude.{◌&&◌}
+use Rattle.word_rules.proofs.Common.{length, rules, ◌&&◌}
 use Rattle.lump_rules.specs.declared.names.Group.TheVariants.{Flats}
 use Rattle.lump_rules.specs.Lookups.{has_name, is_member}
 use Rattle.wad_dir.proofs.IndexLemmas.{found_there}

@@ -1,6 +1,5 @@
 -- Open windows are in their ranges.
-use Rattle.std.proofs.Common.{◌≡◌, replicate, pos, rules}
-use Rattle.std.proofs.lemmas.Int.{to_z_pos}
+use Rattle.word_rules.proofs.Common.{pos, replicate, rules, to_z_pos, ◌≡◌}
 use Rattle.word_rules.specs.Words.{minus_one}
 use Rattle.view_rules.specs.declared.TheConstants.{FRAME_WIDTH}
 use Rattle.wall_columns.proofs.PartLemmas.{are_clips-filled}
