@@ -1,16 +1,8 @@
 -- Planes whose flats have other numbers: the same dots of floors, ceilings and sky.
 use Rattle.std.proofs.Common.{◌≡◌, ℕ, map, Option, Some, None, refl, ap, ◌∙◌}
-use Rattle.word_rules.specs.Listed.{listed, listed_from}
-use Rattle.view_rules.specs.View.{ViewValue}
-use Rattle.pixel_rules.specs.Art.{Art, lump_source, painter_of}
-use Rattle.pixel_rules.specs.declared.Painter.{Painter}
-use Rattle.pixel_rules.specs.declared.TheConstants.{PLANE, SKY}
+use Rattle.picture_rules.specs.Words.{Art, column, flat_colour, floor_colour, floor_dots, holds, listed, listed_from, lump_source, Painter, painter_of, PLANE, Plane, plane_dots, plane_dots_by, run_dots, SKY, sky_colour, sky_column, sky_dots, ViewValue}
 use Rattle.picture_rules.specs.declared.plane.Flat4.{Flat4}
 use Rattle.picture_rules.specs.declared.plane.Flat4.TheVariants.{Sky, Lump}
-use Rattle.picture_rules.specs.plane.Floors.{flat_colour, floor_colour, floor_dots, run_dots}
-use Rattle.picture_rules.specs.plane.Planes.{Plane, column}
-use Rattle.picture_rules.specs.plane.Spans.{holds}
-use Rattle.picture_rules.specs.plane.Skies.{plane_dots, plane_dots_by, sky_colour, sky_column, sky_dots}
 use Rattle.alike_rules.proofs.DotLemmas.{IsMovedArt, column_dots-moved, joined-moved, lump-moved, moved_dot, moved_painter, painter-moved}
 use Rattle.alike_rules.proofs.PlaneLemmas.{moved_flat, moved_plane}
 

@@ -1,18 +1,7 @@
 -- Art whose lumps have other numbers: the same dots of masked middles, and of the whole masked pass.
-use Rattle.word_rules.proofs.Common.{[], ap, Bool, cond, false, filter, length, List, map, map-append, None, Option, refl, slice_get, Some, suc, sym, true, zero, ℕ, ◌&&◌, ◌+◌, ◌==◌, ◌∙◌, ◌∷◌, ◌≡◌}
-use Rattle.word_rules.specs.Listed.{joined_lists, listed_from}
-use Rattle.view_rules.specs.View.{ViewValue}
-use Rattle.view_rules.specs.Lights.{scale_map}
-use Rattle.pixel_rules.specs.Art.{Art, painter_of}
-use Rattle.pixel_rules.specs.Posts.{posts_dots}
-use Rattle.pixel_rules.specs.declared.Post.{Post}
-use Rattle.pixel_rules.specs.declared.Source.{Source}
-use Rattle.pixel_rules.specs.declared.TheConstants.{LUMP, MIDDLE}
+use Rattle.picture_rules.proofs.Common.{[], ap, Bool, cond, false, filter, length, List, map, map-append, None, Option, refl, slice_get, Some, suc, sym, true, zero, ℕ, ◌&&◌, ◌+◌, ◌==◌, ◌∙◌, ◌∷◌, ◌≡◌}
+use Rattle.picture_rules.specs.Words.{Art, columns_at, Drawseg, drawseg_scale, joined_lists, listed_from, LUMP, masked_dots, MIDDLE, middle_by, middle_column, middle_masked, middles_at, middles_of, painter_of, Post, posts_dots, same_number, scale_map, Source, sprite_dots, sprite_in_front, sprite_step, sprites_from, ViewValue}
 use Rattle.picture_rules.specs.declared.sprite.SpriteEntry.{SpriteEntry}
-use Rattle.picture_rules.specs.sprite.Clips.{sprite_in_front}
-use Rattle.picture_rules.specs.sprite.Drawsegs.{Drawseg}
-use Rattle.picture_rules.specs.sprite.Middles.{columns_at, drawseg_scale, masked_dots, middle_by, middle_column, middle_masked, middles_at, middles_of, same_number, sprite_step, sprites_from}
-use Rattle.picture_rules.specs.sprite.Sprites.{sprite_dots}
 use Rattle.alike_rules.proofs.DotLemmas.{IsMovedArt, joined-moved, moved_dot, moved_source, painter-moved, posts_dots-moved}
 use Rattle.alike_rules.proofs.EntryLemmas.{front-same, moved_entry, sprite_dots-moved}
 

@@ -1,13 +1,7 @@
 -- The numbers of a fragment whose sectors' flats have other numbers are the same.
-use Rattle.word_rules.proofs.Common.{Bool, None, Option, option_map, refl, Some, ℕ, ℤ, ◌≡◌}
-use Rattle.view_rules.specs.View.{ViewValue}
-use Rattle.level_rules.specs.declared.Surface.{Surface}
-use Rattle.level_rules.specs.Levels.{sky_flat}
+use Rattle.picture_rules.proofs.Common.{Bool, None, Option, option_map, refl, Some, ℕ, ℤ, ◌≡◌}
+use Rattle.picture_rules.specs.Words.{bottom_by_step, bottom_is_constant, bottom_mid, bottom_part, bottom_silhouette, fragment_numbers, is_masked, middle_mid, middle_part, numbers_by, shuts_bottom, shuts_top, sky_flat, Surface, top_by_step, top_is_constant, top_mid, top_part, top_silhouette, ViewValue, world_bottom, world_high, world_low, world_top}
 use Rattle.picture_rules.specs.declared.wall.WallFacts.{WallFacts}
-use Rattle.picture_rules.specs.wall.Heights.{world_bottom, world_high, world_low, world_top}
-use Rattle.picture_rules.specs.wall.Numbers.{fragment_numbers, numbers_by}
-use Rattle.picture_rules.specs.wall.Parts.{bottom_mid, bottom_part, is_masked, middle_mid, middle_part, top_mid, top_part}
-use Rattle.picture_rules.specs.wall.Silhouettes.{bottom_by_step, bottom_is_constant, bottom_silhouette, shuts_bottom, shuts_top, top_by_step, top_is_constant, top_silhouette}
 use Rattle.alike_rules.proofs.PlaneLemmas.{IsOneToOne}
 use Rattle.alike_rules.proofs.SurfaceLemmas.{IsBackOf, IsSurfaceOf, ceiling_mark-moved, floor_mark-moved, moved_surface, top-moved}
 

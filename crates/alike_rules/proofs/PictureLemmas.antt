@@ -1,33 +1,8 @@
 -- The picture of a view does not depend on the numbers of lumps: its dots are the same but for the source that their
 -- painters name, and its cells and its counts are the same.
-use Rattle.word_rules.proofs.Common.{[], AllByRecursion, ap, Bool, cond, false, length-map, List, map, map-append, None, Option, option_map, refl, sym, true, ℕ, ◌%◌, ◌++◌, ◌+◌, ◌-◌, ◌/◌, ◌∙◌, ◌∷◌, ◌≡◌}
-use Rattle.word_rules.specs.Listed.{joined_lists, listed}
-use Rattle.view_rules.specs.View.{ViewValue}
-use Rattle.view_rules.specs.declared.TheConstants.{FRAME_WIDTH}
-use Rattle.view_rules.specs.declared.ViewShape.{ViewShape}
-use Rattle.level_rules.specs.Levels.{sky_flat}
-use Rattle.level_rules.specs.walk.Events.{Event}
-use Rattle.level_rules.specs.walk.Walk.{view_events}
-use Rattle.pixel_rules.specs.declared.TheConstants.{FRAME_CELLS}
-use Rattle.pixel_rules.specs.Dots.{Dot, colour_of, last_dot}
-use Rattle.picture_rules.specs.Counts.{counts_by, counts_from, openings_past, steps_over, view_counts, view_over, view_steps}
-use Rattle.picture_rules.specs.Masked.{view_drawsegs}
-use Rattle.picture_rules.specs.Paints.{overlaid_paints, paints_by, paints_of, view_paints}
-use Rattle.picture_rules.specs.Picture.{frame_dot, frame_dots, frame_of, is_in_window, overlaid_picture, overlaid_trace, picture}
-use Rattle.picture_rules.specs.Planes.{Step, planes_dots, planes_from, steps_of, view_planes}
-use Rattle.picture_rules.specs.Scene.{Scene}
-use Rattle.picture_rules.specs.Things.{view_entries}
-use Rattle.picture_rules.specs.Walls.{walls_dots, walls_from, walls_of}
+use Rattle.picture_rules.proofs.Common.{[], AllByRecursion, ap, Bool, cond, false, length-map, List, map, map-append, None, Option, option_map, refl, sym, true, ℕ, ◌%◌, ◌++◌, ◌+◌, ◌-◌, ◌/◌, ◌∙◌, ◌∷◌, ◌≡◌}
+use Rattle.picture_rules.specs.Words.{after_event, colour_of, counts_by, counts_from, Dot, draw_order, Event, FRAME_CELLS, frame_dot, frame_dots, frame_of, FRAME_WIDTH, is_in_window, joined_lists, last_dot, listed, masked_dots, no_planes, openings_of, openings_past, overlaid_paints, overlaid_picture, overlaid_trace, paints_by, paints_of, picture, Plane, plane_dots, planes_dots, planes_from, PlanesNow, Scene, sky_flat, Step, steps_of, steps_over, view_counts, view_drawsegs, view_entries, view_events, view_over, view_paints, view_planes, view_steps, ViewShape, ViewValue, Wall, wall_dots, walls_dots, walls_from, walls_of, weapon_dots, WeaponLayer}
 use Rattle.picture_rules.specs.declared.Limits.{Limits}
-use Rattle.picture_rules.specs.plane.Built.{PlanesNow, after_event, no_planes}
-use Rattle.picture_rules.specs.plane.Planes.{Plane}
-use Rattle.picture_rules.specs.plane.Skies.{plane_dots}
-use Rattle.picture_rules.specs.sprite.Middles.{masked_dots}
-use Rattle.picture_rules.specs.sprite.Order.{draw_order}
-use Rattle.picture_rules.specs.sprite.Weapons.{WeaponLayer, weapon_dots}
-use Rattle.picture_rules.specs.wall.Openings.{openings_of}
-use Rattle.picture_rules.specs.wall.Strips.{wall_dots}
-use Rattle.picture_rules.specs.wall.Walls.{Wall}
 use Rattle.alike_rules.proofs.BuiltLemmas.{AreOf, IsEventOf, counts-moved, event-moved, event-of, moved_now}
 use Rattle.alike_rules.proofs.DotLemmas.{colour-moved, joined-along, last-moved, moved_dot}
 use Rattle.alike_rules.proofs.EntryLemmas.{moved_entry, moved_layer, order-moved, weapon_dots-moved}

@@ -1,19 +1,6 @@
 -- A scene whose lumps have other numbers: the same drawn fragments, sprites and steps of planes, under the other numbers.
-use Rattle.word_rules.proofs.Common.{[], AllByRecursion, ap, Bool, cond, false, funext, List, map, None, Option, option_map, pos, refl, slice_index_or, Some, suc, true, zero, ℕ, ℤ, ◌+◌, ◌∙◌, ◌∷◌, ◌≡◌}
-use Rattle.view_rules.specs.View.{ViewValue}
-use Rattle.level_rules.specs.declared.PlacedThing.{PlacedThing}
-use Rattle.level_rules.specs.declared.Surface.{Surface}
-use Rattle.level_rules.specs.Levels.{LevelLists, is_sky, leaf_at, no_surface, seg_at, sky_flat, surface_at}
-use Rattle.level_rules.specs.walk.Drawsegs.{LeafFragment, drawsegs, leaves_entered}
-use Rattle.level_rules.specs.walk.Events.{Event}
-use Rattle.level_rules.specs.walk.Events.Event.{LeafEvent, FragmentEvent}
-use Rattle.level_rules.specs.walk.Segs.{back_of}
-use Rattle.level_rules.specs.walk.Walk.{view_events}
-use Rattle.picture_rules.specs.Masked.{drawseg_of, drawsegs_from, own_front, own_mid, view_drawsegs}
-use Rattle.picture_rules.specs.Planes.{Step, leaf_step, plane_wall, steps_from, steps_of, view_planes, wall_step}
-use Rattle.picture_rules.specs.Scene.{Scene, facts_of, fragment_facts, leaf_sector, leaf_surface, side_at, textures_at, wall_texture}
-use Rattle.picture_rules.specs.Things.{first_mentions, placed_of, sectors_entered, view_entries, with_sectors, with_seen, with_shape, with_thing, with_things}
-use Rattle.picture_rules.specs.Walls.{fragment_wall, walls_of}
+use Rattle.picture_rules.proofs.Common.{[], AllByRecursion, ap, Bool, cond, false, funext, List, map, None, Option, option_map, pos, refl, slice_index_or, Some, suc, true, zero, ℕ, ℤ, ◌+◌, ◌∙◌, ◌∷◌, ◌≡◌}
+use Rattle.picture_rules.specs.Words.{back_of, bottom_clip, ceiling_key, ceiling_marks, drawseg_of, drawsegs, drawsegs_from, Event, facts_of, first_mentions, floor_key, floor_marks, fragment_facts, fragment_wall, FragmentEvent, is_sky, key_of, leaf_at, leaf_sector, leaf_step, leaf_surface, LeafEvent, LeafFragment, leaves_entered, LevelLists, masked_mid, middle_hangs, middle_stands, no_surface, own_front, own_mid, placed_of, PlacedThing, plane_wall, project, Scene, sectors_entered, seg_at, side_at, sky_flat, Step, steps_from, steps_of, Surface, surface_at, texture_column, textures_at, top_clip, view_drawsegs, view_entries, view_events, view_planes, ViewValue, Wall, wall_of, wall_step, wall_texture, walls_of, with_sectors, with_seen, with_shape, with_thing, with_things}
 use Rattle.picture_rules.specs.declared.plane.Flat4.TheVariants.{Sky, Lump}
 use Rattle.picture_rules.specs.declared.plane.PlaneKey.{PlaneKey}
 use Rattle.picture_rules.specs.declared.sprite.Placed.{Placed}
@@ -21,13 +8,6 @@ use Rattle.picture_rules.specs.declared.sprite.Seen.{Seen}
 use Rattle.picture_rules.specs.declared.sprite.Shape5.{Shape5}
 use Rattle.picture_rules.specs.declared.sprite.SpriteEntry.{SpriteEntry}
 use Rattle.picture_rules.specs.declared.wall.WallFacts.{WallFacts}
-use Rattle.picture_rules.specs.plane.Keys.{ceiling_key, floor_key, key_of}
-use Rattle.picture_rules.specs.sprite.Middles.{masked_mid, middle_hangs, middle_stands}
-use Rattle.picture_rules.specs.sprite.Projection.{project}
-use Rattle.picture_rules.specs.wall.Columns.{texture_column}
-use Rattle.picture_rules.specs.wall.Openings.{bottom_clip, top_clip}
-use Rattle.picture_rules.specs.wall.Strips.{ceiling_marks, floor_marks}
-use Rattle.picture_rules.specs.wall.Walls.{Wall, wall_of}
 use Rattle.alike_rules.proofs.BuiltLemmas.{IsEventOf, IsKeyOf, moved_event, planes-moved}
 use Rattle.alike_rules.proofs.DotLemmas.{IsMovedArt}
 use Rattle.alike_rules.proofs.EntryLemmas.{add-moved, moved_entry, moved_shape}

@@ -1,16 +1,8 @@
 -- The walk of a level whose flats have other numbers meets the same leaves and fragments.
-use Rattle.word_rules.proofs.Common.{ap, Bool, cond, false, List, None, Option, option_map, refl, Some, suc, true, zero, ℕ, ◌+◌, ◌∙◌, ◌≡◌}
-use Rattle.view_rules.specs.View.{ViewValue}
-use Rattle.level_rules.specs.declared.Child.{Child}
-use Rattle.level_rules.specs.declared.Child.TheVariants.{Node as NodeChild, Leaf as LeafChild}
-use Rattle.level_rules.specs.declared.Node.{Node}
-use Rattle.level_rules.specs.declared.Surface.{Surface}
-use Rattle.level_rules.specs.Levels.{LevelLists, leaf_at, node_at, seg_at, sky_flat, surface_at}
-use Rattle.level_rules.specs.walk.Events.{WalkState}
-use Rattle.level_rules.specs.walk.Segs.{back_of, middle_of}
-use Rattle.level_rules.specs.declared.TheConstants.{MAX_DEPTH}
-use Rattle.level_rules.specs.walk.Boxes.{box_passes, far_box, far_child, near_child}
-use Rattle.level_rules.specs.walk.Walk.{at_far, at_leaf, at_leaf_of, at_node, at_seg, at_seg_of, at_segs, enters, view_events, walk_child, walk_start}
+use Rattle.picture_rules.proofs.Common.{ap, Bool, cond, false, List, None, Option, option_map, refl, Some, suc, true, zero, ℕ, ◌+◌, ◌∙◌, ◌≡◌}
+use Rattle.picture_rules.specs.Words.{at_far, at_leaf, at_leaf_of, at_node, at_seg, at_seg_of, at_segs, back_of, box_passes, Child, enters, far_box, far_child, leaf_at, LevelLists, MAX_DEPTH, middle_of, near_child, Node as NodeChild, node_at, seg_at, sky_flat, Surface, surface_at, view_events, ViewValue, walk_child, walk_start, WalkState}
+use Rattle.picture_rules.specs.Child.TheVariants.{Leaf as LeafChild}
+use Rattle.picture_rules.specs.Node.{Node}
 use Rattle.alike_rules.proofs.PlaneLemmas.{IsOneToOne}
 use Rattle.alike_rules.proofs.SurfaceLemmas.{IsBackOf, IsSurfaceOf, moved_surface, pass-moved, solid-moved}
 

@@ -7,3 +7,8 @@ pub mod Lookups
 pub mod Wanted
 pub mod Frames
 pub mod Books
+pub mod Words
+pub use Rattle.lump_rules.specs.declared.wad.DirRefusal
+pub use Rattle.outside.specs.declared.fault.Fault
+pub use Rattle.outside.specs.Stops
+pub use Rattle.view_rules.specs.declared.TablesRefusal

@@ -1,11 +1,8 @@
 -- The list of all that a level needs has what drawing its views may ask for.
 use Rattle.std.proofs.Common.{◌≡◌, ℕ, ℤ, true, List, Some, Ok, inl, inr}
-use Rattle.outside.specs.Shelf.{File}
-use Rattle.lump_rules.specs.Contents.{lump_bytes}
-use Rattle.zone_rules.specs.Zones.{Owner}
-use Rattle.zone_rules.specs.Orders.{has_item}
-use Rattle.lump_cache.specs.Calls.{HasAll}
-use Rattle.art_rules.specs.Wanted.{PreparedTexture}
+use Rattle.art_rules.specs.Words.{File, lump_bytes, PreparedTexture}
+use Rattle.scene_rules.specs.Words.{has_item, Owner}
+use Rattle.texture_build.specs.Calls.{HasAll}
 use Rattle.texture_build.specs.Asked.{IsAskedByColumn}
 use Rattle.texture_build.specs.Sources.{column_in, column_index}
 use Rattle.texture_build.specs.Views.{AreTexturesOf, IsPrepared, prepared_at, prepared_texture}

@@ -1,13 +1,8 @@
 -- What a canvas has of a view of a path.
 use Rattle.std.proofs.Common.{◌≡◌, ℕ, List, Some, Result, Ok, Err, OnOk, option_map, slice_get, ap, sym, ◌∙◌}
-use Rattle.view_rules.specs.declared.Eye.{Eye}
-use Rattle.view_rules.specs.Sound.{IsWithinFrame}
-use Rattle.view_rules.specs.View.{view_of}
-use Rattle.pixel_rules.specs.declared.Painter.{Painter}
+use Rattle.picture_rules.specs.Words.{AreInView, Eye, IsWithinFrame, overlaid_paints, overlaid_picture, Painter, view_of}
 use Rattle.pixel_strips.specs.Canvases.{CanvasView, marked_by_colour}
 use Rattle.pixel_strips.specs.Dotted.{HasDots}
-use Rattle.picture_rules.specs.Paints.{overlaid_paints}
-use Rattle.picture_rules.specs.Picture.{AreInView, overlaid_picture}
 use Rattle.frame_writer.specs.Ppm.{ppm}
 use Rattle.pixel_trace.specs.Records.{trace_mark}
 use Rattle.pixel_trace.proofs.SeenLemmas.{IsCleared, seen-picture, seen-trace}

@@ -1,14 +1,11 @@
 -- A scene that may be drawn may be counted.
-use Rattle.word_rules.proofs.Common.{[], All, All-cons, All-head, All-nil, All-tail, arith, length, List, ℕ, ◌∷◌, ◌≤◌}
-use Rattle.lump_rules.specs.declared.wad.Lump.{Lump}
-use Rattle.zone_rules.specs.Zones.{Heap}
-use Rattle.level_rules.specs.declared.Sector.{Sector}
-use Rattle.level_rules.specs.declared.TheConstants.{SKY_FLAT}
+use Rattle.picture_rules.proofs.Common.{[], All, All-cons, All-head, All-nil, All-tail, arith, length, List, ℕ, ◌∷◌, ◌≤◌}
+use Rattle.art_rules.specs.Words.{Lump}
+use Rattle.scene_rules.specs.Words.{flat_number, Heap, SceneValue, surface_of, surfaces_of}
+use Rattle.picture_rules.specs.Words.{Sector, SKY_FLAT}
 use Rattle.scene_rules.specs.declared.Flat.{Flat}
 use Rattle.scene_rules.specs.declared.Flat.TheVariants.{Sky, Lump as LumpFlat}
 use Rattle.scene_rules.specs.declared.SectorFlats.{SectorFlats}
-use Rattle.scene_rules.specs.Scenes.{SceneValue}
-use Rattle.scene_rules.specs.SectorFlats.{flat_number, surface_of, surfaces_of}
 use Rattle.level_scene.specs.Bounds.{AreThere, IsThere}
 use Rattle.frame_core.specs.Views.{AreFlatNumbers, CanCount, CanDrawView}
 

@@ -1,15 +1,8 @@
 -- What is done with a level that is loaded, by what was written, read and painted.
-use Rattle.word_rules.proofs.Common.{[], All, ap, arith, length, List, Ok, refl, Result, subst, sym, true, ℕ, ◌≡◌, ◌≤◌}
-use Rattle.outside.specs.Causes.{FaultsRose}
-use Rattle.outside.specs.Faults.{HasCauseAt, and_then, from_below}
-use Rattle.outside.specs.Shelf.{File, ShelfView}
-use Rattle.outside.specs.Stops.{Stop, no_file}
-use Rattle.outside.specs.declared.fault.Fault.{Fault}
-use Rattle.outside.specs.declared.fault.Fault.TheVariants as fault
-use Rattle.lump_rules.specs.Contents.{lump_bytes}
-use Rattle.lump_rules.specs.Lookups.{lump_at}
-use Rattle.zone_rules.specs.Zones.{Heap}
-use Rattle.zone_rules.specs.Orders.{Item, IsInOrder, KeepsOrder}
+use Rattle.picture_rules.proofs.Common.{[], All, ap, arith, length, List, Ok, refl, Result, subst, sym, true, ℕ, ◌≡◌, ◌≤◌}
+use Rattle.art_rules.specs.Words.{and_then, Fault, FaultsRose, File, from_below, HasCauseAt, lump_at, lump_bytes, no_file, ShelfView, Stop}
+use Rattle.art_rules.specs.Fault.TheVariants as fault
+use Rattle.scene_rules.specs.Words.{Heap, IsInOrder, Item, KeepsOrder}
 use Rattle.texture_build.specs.Draws.{HoldsArt}
 use Rattle.job_rules.specs.LevelJobs.{LevelJobValue}
 use Rattle.refusals.specs.declared.refusal.Refusal.{Refusal}

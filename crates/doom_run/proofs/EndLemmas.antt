@@ -1,13 +1,8 @@
 -- What a status says of a run, by what its steps gave.
-use Rattle.word_rules.proofs.Common.{[], ap, Bool, Err, List, MatchResult, Ok, Option, refl, Result, Some, subst, sym, unwrap_or, ℕ, ◌≡◌}
-use Rattle.outside.specs.Sink.{Grew, GrewByPrefix}
-use Rattle.outside.specs.Shelf.{File}
-use Rattle.outside.specs.Faults.{from_below}
-use Rattle.outside.specs.Stops.{FaultFitsOrAbsent, Stop}
-use Rattle.outside.specs.declared.fault.Fault.{Fault}
-use Rattle.outside.specs.declared.fault.Fault.TheVariants as fault
-use Rattle.outside.proofs.WriteLemmas.{prefix_of_none}
-use Rattle.outside.proofs.AnswerLemmas.{and_then-ok}
+use Rattle.picture_rules.proofs.Common.{[], ap, Bool, Err, List, MatchResult, Ok, Option, refl, Result, Some, subst, sym, unwrap_or, ℕ, ◌≡◌}
+use Rattle.art_rules.specs.Words.{Fault, FaultFitsOrAbsent, File, from_below, Grew, GrewByPrefix, Stop}
+use Rattle.art_rules.specs.Fault.TheVariants as fault
+use Rattle.art_rules.proofs.Laws.{and_then-ok, prefix_of_none}
 use Rattle.job_rules.specs.LevelJobs.{LevelJobValue}
 use Rattle.picture_rules.specs.declared.LimitKind.{LimitKind}
 use Rattle.refusals.specs.declared.refusal.Refusal.{Refusal}

@@ -1,13 +1,8 @@
 -- An exercise, by what rendering its made files into a tally came to.
 use Rattle.std.proofs.Common.{◌≡◌, ◌≤◌, ◌*◌, ◌/◌, ℕ, Bool, Some, IsTrue, List, length, Result, Ok, Err, refl, arith, ap, sym, subst, ◌∙◌}
-use Rattle.outside.specs.Causes.{FaultsRose}
-use Rattle.outside.specs.Faults.{and_then, from_below}
-use Rattle.outside.specs.Shelf.{File, ShelfView}
-use Rattle.outside.specs.Sink.{Grew}
-use Rattle.outside.specs.Stops as files
-use Rattle.outside.specs.Stops.{Stop}
-use Rattle.outside.specs.TallySink.{IsTallyOf, Tally}
-use Rattle.outside.proofs.WriteLemmas.{grew_none}
+use Rattle.art_rules.specs.Words.{and_then, FaultsRose, File, from_below, Grew, IsTallyOf, ShelfView, Stop, Tally}
+use Rattle.art_rules.specs.Stops as files
+use Rattle.art_rules.proofs.Laws.{grew_none}
 use Rattle.csv_tables.specs.declared.path.TheConstants.{MAX_VIEWS}
 use Rattle.job_rules.specs.Commands.{exercise}
 use Rattle.job_rules.specs.LevelJobs.{LevelJobValue, level_job_value}

@@ -1,9 +1,9 @@
 -- What a function gives of the numbers below one, put one after the other.
 use Rattle.std.proofs.Common.{◌≡◌, ◌≤◌, ℕ, zero, suc, ◌+◌, ◌-◌, List, [], ◌∷◌, ◌++◌, Result, Ok, refl, subst, ap, sym, ◌∙◌, arith, append_assoc, append-nil}
-use Rattle.outside.specs.Sink.{GrewByPrefix, Writes}
-use Rattle.outside.proofs.WriteLemmas.{prefix_of_more, writes_none, writes_then}
-use Rattle.word_rules.specs.Listed.{listed, joined_lists}
-use Rattle.word_rules.proofs.ListedLemmas.{joined_lists-append, joined_lists-cons, listed-more}
+use Rattle.art_rules.specs.Words.{GrewByPrefix, Writes}
+use Rattle.art_rules.proofs.Laws.{prefix_of_more, writes_none, writes_then}
+use Rattle.picture_rules.specs.Words.{joined_lists, listed}
+use Rattle.picture_rules.proofs.Laws.{joined_lists-append, joined_lists-cons, listed-more}
 
 -- of the first n numbers
 abbrev pub first_of : (ℕ → List ℕ) → ℕ → List ℕ

@@ -1,11 +1,8 @@
 -- What the frames that are due are painted from stands beside COLORMAP.
-use Rattle.word_rules.proofs.Common.{Bool, Err, IfSome, length, List, None, Option, option_map, Result, slice_get, Some, subst, sym, unwrap_or, ℕ, ◌<◌, ◌≡◌}
-use Rattle.outside.specs.Shelf.{ShelfView}
-use Rattle.lump_rules.specs.Contents.{lump_bytes}
-use Rattle.view_rules.specs.declared.Eye.{Eye}
-use Rattle.view_rules.specs.View.{view_of}
+use Rattle.picture_rules.proofs.Common.{Bool, Err, IfSome, length, List, None, Option, option_map, Result, slice_get, Some, subst, sym, unwrap_or, ℕ, ◌<◌, ◌≡◌}
+use Rattle.art_rules.specs.Words.{lump_bytes, ShelfView}
+use Rattle.picture_rules.specs.Words.{Eye, overlaid_paints, view_of}
 use Rattle.picture_rules.specs.declared.OverLimit.{OverLimit}
-use Rattle.picture_rules.specs.Paints.{overlaid_paints}
 use Rattle.texture_build.specs.Draws.{FitBeside}
 use Rattle.sound_scene.specs.Sound.{SoundValue, textures_view}
 use Rattle.doom_run.specs.declared.canvas.ViewForm.{ViewForm}

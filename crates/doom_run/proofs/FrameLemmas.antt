@@ -1,15 +1,10 @@
 -- One view of a path, and the views one after the other.
-use Rattle.word_rules.proofs.Common.{[], add-one, ap, append-nil, arith, Bool, cases_lt, drop, Err, get_or, get_or_from_slice_get, IfErr, IfSome, inl, inr, is_some, IsTrue, length, List, None, Ok, OnOk, Option, option_and_then, option_map, option_map_or, refl, Result, slice_get, slice_get_within, Some, subst, suc, sym, take, take-suc, true, unwrap_or, zero, ℕ, ◌++◌, ◌+◌, ◌-◌, ◌<◌, ◌∙◌, ◌∷◌, ◌≡◌, ◌≤◌}
-use Rattle.word_rules.specs.Least.{least}
-use Rattle.word_rules.specs.Listed.{joined_lists}
-use Rattle.word_rules.proofs.LeastLemmas.{least-none, least-some, least-is}
-use Rattle.word_rules.proofs.ListedLemmas.{joined_lists-append}
-use Rattle.outside.specs.Sink.{Grew, GrewByPrefix, Writes}
-use Rattle.outside.proofs.WriteLemmas.{grew_none, grew_more, grew_partly, grew_whole, prefix_of_more}
-use Rattle.view_rules.specs.declared.Eye.{Eye}
-use Rattle.view_rules.specs.View.{view_of}
+use Rattle.picture_rules.proofs.Common.{[], add-one, ap, append-nil, arith, Bool, cases_lt, drop, Err, get_or, get_or_from_slice_get, IfErr, IfSome, inl, inr, is_some, IsTrue, length, List, None, Ok, OnOk, Option, option_and_then, option_map, option_map_or, refl, Result, slice_get, slice_get_within, Some, subst, suc, sym, take, take-suc, true, unwrap_or, zero, ℕ, ◌++◌, ◌+◌, ◌-◌, ◌<◌, ◌∙◌, ◌∷◌, ◌≡◌, ◌≤◌}
+use Rattle.picture_rules.specs.Words.{Eye, joined_lists, least, view_of, view_over}
+use Rattle.picture_rules.proofs.Laws.{joined_lists-append, least-is, least-none, least-some}
+use Rattle.art_rules.specs.Words.{Grew, GrewByPrefix, Writes}
+use Rattle.art_rules.proofs.Laws.{grew_more, grew_none, grew_partly, grew_whole, prefix_of_more}
 use Rattle.picture_rules.specs.declared.OverLimit.{OverLimit}
-use Rattle.picture_rules.specs.Counts.{view_over}
 use Rattle.texture_build.specs.Draws.{IsNoReadFault}
 use Rattle.level_audit.specs.scene_load.Loads.{loaded_value}
 use Rattle.frame_core.specs.declared.fault.ViewFault.{ViewFault}

@@ -1,9 +1,7 @@
 -- What a full zone leaves out.
 use Rattle.std.proofs.Common.{◌≡◌, ◌<◌, ◌≤◌, ◌⊎◌, inl, inr, ℕ, List, Option, Some, None, Result, Ok, Err, IfSome, refl, arith, ap, subst}
-use Rattle.outside.specs.Shelf.{File}
-use Rattle.outside.specs.Faults.{and_then, from_below}
-use Rattle.outside.specs.Stops as files
-use Rattle.outside.specs.Stops.{Stop, no_file}
+use Rattle.art_rules.specs.Words.{and_then, File, from_below, no_file, Stop}
+use Rattle.art_rules.specs.Stops as files
 use Rattle.job_rules.specs.Commands.{CommandValue}
 use Rattle.job_rules.specs.LevelJobs.{LevelJobValue}
 use Rattle.refusals.specs.declared.refusal.Refusal.{Refusal}

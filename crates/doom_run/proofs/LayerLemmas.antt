@@ -1,18 +1,12 @@
 -- A row of the weapon table as a layer, and the light of a viewpoint.
-use Rattle.word_rules.proofs.Common.{[], ap, arith, length, List, None, Option, option_map, refl, slice_index_or, Some, suc, sym, ℕ, ℤ, ◌∙◌, ◌∷◌, ◌≡◌}
-use Rattle.view_rules.specs.declared.Eye.{Eye}
-use Rattle.level_rules.specs.declared.Surface.{Surface}
-use Rattle.level_rules.specs.declared.Sector.{Sector}
-use Rattle.level_rules.specs.Levels.{no_surface, surface_at}
+use Rattle.picture_rules.proofs.Common.{[], ap, arith, length, List, None, Option, option_map, refl, slice_index_or, Some, suc, sym, ℕ, ℤ, ◌∙◌, ◌∷◌, ◌≡◌}
+use Rattle.picture_rules.specs.Words.{Eye, no_surface, Sector, Surface, surface_at, WeaponLayer}
 use Rattle.csv_tables.specs.declared.weapons.WeaponRow.{WeaponRow}
 use Rattle.art_rules.specs.declared.shapes.Frame.{Frame}
 use Rattle.art_rules.specs.declared.shapes.Shape.{Shape}
-use Rattle.art_rules.specs.Books.{picked}
+use Rattle.art_rules.specs.Words.{picked}
 use Rattle.scene_rules.specs.declared.SectorFlats.{SectorFlats}
-use Rattle.scene_rules.specs.SectorFlats.{surfaces_of}
-use Rattle.scene_rules.specs.Places.{sector_at}
-use Rattle.scene_rules.specs.Scenes.{SceneValue}
-use Rattle.picture_rules.specs.sprite.Weapons.{WeaponLayer}
+use Rattle.scene_rules.specs.Words.{SceneValue, sector_at, surfaces_of}
 use Rattle.frame_core.specs.Scenes.{drawn_shape}
 use Rattle.doom_run.specs.Layers.{layer_of, layer_with, layer_light}
 

@@ -1,23 +1,15 @@
 -- Where all of which a least zone is the greatest stands beside COLORMAP, the zone is no smaller.
-use Rattle.word_rules.proofs.Common.{[], AllByRecursion, ap, arith, Bool, cases_lt, cond, eq-eqb, eqb-true, false, IfSome, inl, inr, length, List, nat_tests, None, Ok, Option, option_map_or, or_cases, range_with_len, refl, slice_get, Some, subst, suc, sym, take, true, unwrap_or, zero, ℕ, ◌+◌, ◌<◌, ◌==◌, ◌||◌, ◌∙◌, ◌∷◌, ◌≡◌, ◌≢◌, ◌≤◌}
-use Rattle.outside.specs.Shelf.{File}
-use Rattle.outside.proofs.AnswerLemmas.{and_then-ok}
-use Rattle.lump_rules.specs.declared.wad.Lump.{Lump}
-use Rattle.lump_rules.specs.Lookups.{last_of, lump_at}
-use Rattle.lump_cache.specs.Named.{IsLast}
-use Rattle.zone_rules.specs.Zones.{block_size}
+use Rattle.picture_rules.proofs.Common.{[], AllByRecursion, ap, arith, Bool, cases_lt, cond, eq-eqb, eqb-true, false, IfSome, inl, inr, length, List, nat_tests, None, Ok, Option, option_map_or, or_cases, range_with_len, refl, slice_get, Some, subst, suc, sym, take, true, unwrap_or, zero, ℕ, ◌+◌, ◌<◌, ◌==◌, ◌||◌, ◌∙◌, ◌∷◌, ◌≡◌, ◌≢◌, ◌≤◌}
+use Rattle.art_rules.specs.Words.{File, last_of, Lump, lump_at}
+use Rattle.art_rules.proofs.Laws.{and_then-ok}
+use Rattle.texture_build.specs.Named.{IsLast}
+use Rattle.scene_rules.specs.Words.{block_size, greatest_by, is_last, is_list, is_map_lump, LevelBase, lump_block}
 use Rattle.art_rules.specs.declared.TheConstants.{PNAMES, TEXTURE1, TEXTURE2}
-use Rattle.pixel_rules.specs.declared.Painter.{Painter}
-use Rattle.pixel_rules.specs.declared.TheConstants.{COMPOSITE, LUMP}
-use Rattle.pixel_rules.specs.Dots.{Dot}
-use Rattle.picture_rules.specs.Paints.{overlaid_paints}
-use Rattle.picture_rules.specs.Scene.{Scene}
+use Rattle.picture_rules.specs.Words.{COMPOSITE, Dot, LUMP, overlaid_paints, Painter, Scene}
 use Rattle.texture_lists.specs.Asked.{IsListLump}
 use Rattle.texture_build.specs.Draws.{FitBeside, FitsBeside}
 use Rattle.texture_build.specs.Views.{TexturesView}
 use Rattle.job_rules.specs.LevelJobs.{LevelJobValue}
-use Rattle.scene_rules.specs.Scenes.{LevelBase}
-use Rattle.scene_rules.specs.Sizes.{greatest_by, is_last, is_list, is_map_lump, lump_block}
 use Rattle.level_audit.specs.Asked.{IsOfBase}
 use Rattle.sound_scene.specs.Sound.{textures_view}
 use Rattle.sound_scene.proofs.SceneLemmas.{IsBaseOf, base_parts, scene_parts}

@@ -1,12 +1,10 @@
 -- The lines of the views of a path, one after the other.
-use Rattle.word_rules.proofs.Common.{ap, length, List, None, Ok, refl, Result, slice_get, Some, subst, sym, ℕ, ◌+◌, ◌∙◌, ◌≡◌, ◌≤◌}
-use Rattle.outside.specs.Sink.{Grew, GrewByPrefix, Writes}
-use Rattle.view_rules.specs.declared.Eye.{Eye}
-use Rattle.view_rules.specs.View.{view_of}
+use Rattle.picture_rules.proofs.Common.{ap, length, List, None, Ok, refl, Result, slice_get, Some, subst, sym, ℕ, ◌+◌, ◌∙◌, ◌≡◌, ◌≤◌}
+use Rattle.art_rules.specs.Words.{Grew, GrewByPrefix, Writes}
+use Rattle.picture_rules.specs.Words.{Eye, view_counts, view_of, view_over}
 use Rattle.picture_rules.specs.declared.Limits.{Limits}
 use Rattle.picture_rules.specs.declared.Counts.{Counts}
 use Rattle.picture_rules.specs.declared.OverLimit.{OverLimit}
-use Rattle.picture_rules.specs.Counts.{view_counts, view_over}
 use Rattle.level_audit.specs.declared.scene_load.load.LoadedScene.{LoadedScene}
 use Rattle.level_audit.specs.scene_load.Loads.{LoadedValue, loaded_value}
 use Rattle.frame_core.specs.Scenes.{scene_of}

@@ -1,11 +1,10 @@
 -- The lines of the items of a view, and those of the views of a path.
-use Rattle.word_rules.proofs.Common.{[], add-zero, ap, append-nil, append_assoc, arith, drop, drop-cons, get_or, length, length-take-le, List, None, Ok, refl, Result, slice_get, Some, subst, suc, sym, take, take-append-drop, take_more, ℕ, ◌++◌, ◌+◌, ◌<◌, ◌∙◌, ◌∷◌, ◌≡◌, ◌≤◌}
-use Rattle.outside.specs.Sink.{Grew, GrewByPrefix, Writes}
-use Rattle.outside.proofs.WriteLemmas.{writes_none}
+use Rattle.picture_rules.proofs.Common.{[], add-zero, ap, append-nil, append_assoc, arith, drop, drop-cons, get_or, length, length-take-le, List, None, Ok, refl, Result, slice_get, Some, subst, suc, sym, take, take-append-drop, take_more, ℕ, ◌++◌, ◌+◌, ◌<◌, ◌∙◌, ◌∷◌, ◌≡◌, ◌≤◌}
+use Rattle.art_rules.specs.Words.{Grew, GrewByPrefix, Writes}
+use Rattle.art_rules.proofs.Laws.{writes_none}
 use Rattle.picture_rules.specs.declared.Counts.{Counts}
 use Rattle.picture_rules.specs.declared.OverLimit.{OverLimit}
-use Rattle.picture_rules.specs.Counts.{view_counts, view_over}
-use Rattle.picture_rules.specs.Lists.{ViewListValue, view_list}
+use Rattle.picture_rules.specs.Words.{view_counts, view_list, view_over, ViewListValue}
 use Rattle.frame_core.specs.Scenes.{scene_of}
 use Rattle.doom_run.specs.declared.render.ReadyViews.{ReadyViews}
 use Rattle.doom_run.specs.Layers.{SeenView}

@@ -1,11 +1,7 @@
 -- What the made files give: they are held, and their path is not long.
-use Rattle.word_rules.proofs.Common.{[], ap, arith, codes, Err, IsTrue, length, List, nat_lt, nat_tests, None, Ok, refl, Result, Some, subst, sym, true, ℕ, ◌<◌, ◌∙◌, ◌∷◌, ◌≡◌, ◌≤◌}
-use Rattle.outside.specs.MemoryShelf.{ShelfInMemory, memory_view}
-use Rattle.outside.specs.Shelf.{File, Holds, file_named}
-use Rattle.outside.specs.Faults.{and_then, from_below}
-use Rattle.outside.specs.Stops.{Stop, absent, stopped, else_absent, no_file}
-use Rattle.outside.proofs.AnswerLemmas.{and_then-ok}
-use Rattle.lump_rules.specs.Names.{filled, name_of}
+use Rattle.picture_rules.proofs.Common.{[], ap, arith, codes, Err, IsTrue, length, List, nat_lt, nat_tests, None, Ok, refl, Result, Some, subst, sym, true, ℕ, ◌<◌, ◌∙◌, ◌∷◌, ◌≡◌, ◌≤◌}
+use Rattle.art_rules.specs.Words.{absent, and_then, else_absent, File, file_named, filled, from_below, Holds, memory_view, name_of, no_file, ShelfInMemory, Stop, stopped}
+use Rattle.art_rules.proofs.Laws.{and_then-ok}
 use Rattle.csv_tables.specs.declared.fault.CsvRefusal.{CsvRefusal}
 use Rattle.csv_tables.specs.declared.fault.CsvRefusal.TheVariants.{TooMany}
 use Rattle.csv_tables.specs.declared.path.PathRow.{PathRow}
@@ -15,7 +11,7 @@ use Rattle.csv_tables.specs.Paths.{path_in, path_of_records, path_row, path_widt
 use Rattle.csv_tables.proofs.RowSentences.{rows_after-within}
 use Rattle.job_rules.specs.declared.command.Settings.{Settings}
 use Rattle.job_rules.specs.declared.command.MakeJob.TheVariants.{Wad, Path, Tables, Things}
-use Rattle.zone_rules.specs.Zones.{IsZoneSize}
+use Rattle.scene_rules.specs.Words.{IsZoneSize}
 use Rattle.job_rules.specs.LevelJobs.{FileNames, LevelJobValue}
 use Rattle.job_rules.specs.Ranges.{AreSettings}
 use Rattle.refusals.specs.declared.refusal.Refusal.{Refusal}

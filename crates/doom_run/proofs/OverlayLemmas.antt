@@ -1,27 +1,16 @@
 -- The layers of a view by the dots that a canvas was given, and the view with its layers.
-use Rattle.word_rules.proofs.Common.{[], ap, arith, Contains, Err, inl, inr, IsErrAnd, List, None, Ok, Option, refl, Result, Some, subst, sym, ℕ, ℤ, ◌∙◌, ◌≡◌, ◌⊎◌}
-use Rattle.outside.specs.Shelf.{ShelfView}
-use Rattle.outside.specs.Faults.{fault_above}
-use Rattle.word_rules.specs.Listed.{joined_lists}
-use Rattle.zone_rules.specs.Zones.{Heap}
-use Rattle.lump_cache.specs.declared.fault.CacheFault.{CacheFault}
-use Rattle.lump_cache.specs.declared.fault.CacheFault.TheVariants as cache
-use Rattle.lump_cache.specs.Caches.{cache_fault}
-use Rattle.lump_cache.proofs.CallLemmas.{result_above}
-use Rattle.view_rules.specs.View.{ViewValue, view_of}
-use Rattle.view_rules.specs.declared.Eye.{Eye}
-use Rattle.view_rules.specs.Sound.{IsWithinFrame}
+use Rattle.picture_rules.proofs.Common.{[], ap, arith, Contains, Err, inl, inr, IsErrAnd, List, None, Ok, Option, refl, Result, Some, subst, sym, ℕ, ℤ, ◌∙◌, ◌≡◌, ◌⊎◌}
+use Rattle.art_rules.specs.Words.{book_lumps, fault_above, ShelfView}
+use Rattle.picture_rules.specs.Words.{AreInView, Art, Dot, Eye, IsWithinFrame, joined_lists, overlaid_paints, Painter, view_of, view_paints, ViewValue, weapon_dots}
+use Rattle.scene_rules.specs.Words.{Heap}
+use Rattle.texture_build.specs.CacheFault.{CacheFault}
+use Rattle.texture_build.specs.CacheFault.TheVariants as cache
+use Rattle.texture_build.specs.Caches.{cache_fault}
+use Rattle.texture_build.proofs.CallLemmas.{result_above}
 use Rattle.csv_tables.specs.declared.weapons.WeaponRow.{WeaponRow}
 use Rattle.art_rules.specs.declared.shapes.Frame.{Frame}
-use Rattle.art_rules.specs.Books.{book_lumps}
-use Rattle.pixel_rules.specs.Art.{Art}
-use Rattle.pixel_rules.specs.Dots.{Dot}
-use Rattle.pixel_rules.specs.declared.Painter.{Painter}
 use Rattle.pixel_strips.specs.Canvases.{CanvasView}
 use Rattle.pixel_strips.specs.Dotted.{HasDots}
-use Rattle.picture_rules.specs.sprite.Weapons.{weapon_dots}
-use Rattle.picture_rules.specs.Paints.{overlaid_paints, view_paints}
-use Rattle.picture_rules.specs.Picture.{AreInView}
 use Rattle.picture_rules.proofs.FrameLemmas.{in_view-append}
 use Rattle.pixel_trace.proofs.SeenLemmas.{overlaid-dots}
 use Rattle.texture_build.specs.Draws.{DrawsWith, FitBeside}

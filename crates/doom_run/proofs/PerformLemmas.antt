@@ -1,13 +1,8 @@
 -- A run of a job: stopped while it loads, or by what is done with what was loaded.
 use Rattle.std.proofs.Common.{◌≡◌, ◌≤◌, ◌+◌, inl, inr, ℕ, zero, Bool, true, false, IsTrue, List, Option, None, Some, Result, Ok, Err, refl, arith, ap, sym, subst}
-use Rattle.outside.specs.Causes.{FaultsRose}
-use Rattle.outside.specs.Faults.{HasCauseAt, and_then, from_below}
-use Rattle.outside.specs.Shelf.{File, Holds, ShelfView}
-use Rattle.outside.specs.Stops.{FaultFitsOrAbsent, Stop}
-use Rattle.outside.specs.declared.fault.Fault.{Fault}
-use Rattle.outside.specs.declared.fault.Fault.TheVariants as fault
-use Rattle.outside.proofs.StopLemmas.{stops_all}
-use Rattle.outside.proofs.WriteLemmas.{grew_none}
+use Rattle.art_rules.specs.Words.{and_then, Fault, FaultFitsOrAbsent, FaultsRose, File, from_below, HasCauseAt, Holds, ShelfView, Stop}
+use Rattle.art_rules.specs.Fault.TheVariants as fault
+use Rattle.art_rules.proofs.Laws.{grew_none, stops_all}
 use Rattle.job_rules.specs.Commands.{CommandValue}
 use Rattle.job_rules.specs.LevelJobs.{LevelJobValue}
 use Rattle.refusals.specs.declared.refusal.Refusal.{Refusal}

@@ -1,15 +1,13 @@
 -- What stays while views are drawn.
-use Rattle.word_rules.proofs.Common.{ap, Bool, Contains, Err, IfErr, inl, inr, length, List, Option, refl, Result, subst, sym, ℕ, ◌∙◌, ◌≡◌, ◌⊎◌}
-use Rattle.outside.specs.Shelf.{ShelfView}
-use Rattle.zone_rules.specs.Zones.{Heap, block_size}
+use Rattle.picture_rules.proofs.Common.{ap, Bool, Contains, Err, IfErr, inl, inr, length, List, Option, refl, Result, subst, sym, ℕ, ◌∙◌, ◌≡◌, ◌⊎◌}
+use Rattle.art_rules.specs.Words.{Lump, lump_bytes, ShelfView}
+use Rattle.scene_rules.specs.Words.{block_size, Heap}
 use Rattle.art_rules.specs.declared.shapes.Frame.{Frame}
 use Rattle.picture_rules.specs.declared.Limits.{Limits}
-use Rattle.lump_rules.specs.declared.wad.Lump.{Lump}
-use Rattle.lump_rules.specs.Contents.{lump_bytes}
-use Rattle.wad_dir.specs.DirectoryView.{DirectoryView}
-use Rattle.lump_cache.specs.Caches.{KeepsCounts}
-use Rattle.lump_cache.specs.Calls.{IfFull, IsFullFor}
-use Rattle.lump_cache.specs.Sizes.{IsGapBeside}
+use Rattle.texture_build.specs.DirectoryView.{DirectoryView}
+use Rattle.texture_build.specs.Caches.{KeepsCounts}
+use Rattle.texture_build.specs.Calls.{IfFull, IsFullFor}
+use Rattle.texture_build.specs.Sizes.{IsGapBeside}
 use Rattle.texture_build.specs.Asked.{IsGapBesideComposite, IsPatch, size_of}
 use Rattle.texture_build.specs.Sources.{IsComposedColumn, column_in}
 use Rattle.texture_build.specs.Views.{TexturesView, prepared_texture}

@@ -1,15 +1,11 @@
 -- The layers of the rows of a weapon table, one row after the other, and their pictures.
-use Rattle.word_rules.proofs.Common.{[], ap, append-nil, append_assoc, arith, Bool, cond, Contains, Contains-append_left, Contains-append_right, eq-eqb, false, find, get_or, length, length-take, List, map, ne_eqb, None, Option, option_and_then, option_map, option_to_list, refl, slice_get, Some, subst, suc, sym, take, take-length, take_more, true, zero, ℕ, ℤ, ◌++◌, ◌+◌, ◌<◌, ◌==◌, ◌∙◌, ◌∷◌, ◌≡◌, ◌≢◌}
-use Rattle.word_rules.specs.Listed.{joined_lists}
-use Rattle.word_rules.proofs.ListedLemmas.{joined_lists-append, joined_lists-cons}
-use Rattle.view_rules.specs.View.{ViewValue}
+use Rattle.picture_rules.proofs.Common.{[], ap, append-nil, append_assoc, arith, Bool, cond, Contains, Contains-append_left, Contains-append_right, eq-eqb, false, find, get_or, length, length-take, List, map, ne_eqb, None, Option, option_and_then, option_map, option_to_list, refl, slice_get, Some, subst, suc, sym, take, take-length, take_more, true, zero, ℕ, ℤ, ◌++◌, ◌+◌, ◌<◌, ◌==◌, ◌∙◌, ◌∷◌, ◌≡◌, ◌≢◌}
+use Rattle.picture_rules.specs.Words.{Art, Dot, joined_lists, ViewValue, weapon_dots, WeaponLayer}
+use Rattle.picture_rules.proofs.Laws.{joined_lists-append, joined_lists-cons}
 use Rattle.csv_tables.specs.declared.weapons.WeaponRow.{WeaponRow}
 use Rattle.art_rules.specs.declared.shapes.Frame.{Frame}
 use Rattle.art_rules.specs.declared.shapes.Shape.{Shape}
-use Rattle.art_rules.specs.Books.{book_lumps, is_frame, picked, shape_lumps}
-use Rattle.pixel_rules.specs.Art.{Art}
-use Rattle.pixel_rules.specs.Dots.{Dot}
-use Rattle.picture_rules.specs.sprite.Weapons.{WeaponLayer, weapon_dots}
+use Rattle.art_rules.specs.Words.{book_lumps, is_frame, picked, shape_lumps}
 use Rattle.sound_scene.proofs.MemberLemmas.{among_first, among_later}
 use Rattle.doom_run.specs.Layers.{layer_of, layer_with, layers_from}
 

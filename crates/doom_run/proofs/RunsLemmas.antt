@@ -1,10 +1,6 @@
 -- What the run of words says, whether they are a command or not.
-use Rattle.word_rules.proofs.Common.{[], Bool, Err, false, IfSome, inl, inr, IsTrue, List, None, Ok, Option, option_map_or, refl, Result, Some, ℕ, ◌≡◌, ◌≤◌, ◌⊎◌}
-use Rattle.outside.specs.Causes.{FaultsRose}
-use Rattle.outside.specs.Faults.{and_then, from_below}
-use Rattle.outside.specs.Shelf.{File, Holds, ShelfView}
-use Rattle.outside.specs.Sink.{Grew}
-use Rattle.outside.specs.Stops.{Stop}
+use Rattle.picture_rules.proofs.Common.{[], Bool, Err, false, IfSome, inl, inr, IsTrue, List, None, Ok, Option, option_map_or, refl, Result, Some, ℕ, ◌≡◌, ◌≤◌, ◌⊎◌}
+use Rattle.art_rules.specs.Words.{and_then, FaultsRose, File, from_below, Grew, Holds, ShelfView, Stop}
 use Rattle.job_rules.specs.Commands.{CommandValue}
 use Rattle.refusals.specs.declared.refusal.Refusal.{Refusal}
 use Rattle.job_files.specs.declared.status.Status.{Status}

@@ -1,5 +1,5 @@
 -- The views of a path by number, and as many as rows.
-use Rattle.word_rules.proofs.Common.{[], ap, arith, length, List, option_map, refl, slice_get, Some, suc, zero, ℕ, ◌+◌, ◌∙◌, ◌∷◌, ◌≡◌}
+use Rattle.picture_rules.proofs.Common.{[], ap, arith, length, List, option_map, refl, slice_get, Some, suc, zero, ℕ, ◌+◌, ◌∙◌, ◌∷◌, ◌≡◌}
 use Rattle.doom_run.specs.Layers.{seen_from}
 
 pub seen_from-length : {A B : Type 0} (view : ℕ → A → B) (k : ℕ) (rows : List A) → length (seen_from view k rows) ≡ length rows

@@ -1,13 +1,9 @@
 -- How many bytes are read while a zone stays in order.
-use Rattle.word_rules.proofs.Common.{arith, Contains, Err, inl, inr, List, MatchResult, Option, refl, Result, ℕ, ◌+◌, ◌≡◌, ◌≤◌, ◌⊎◌}
-use Rattle.outside.specs.Causes.{FaultsRose}
-use Rattle.outside.specs.Shelf.{ShelfView}
-use Rattle.outside.specs.Faults.{HasCauseAt}
-use Rattle.outside.specs.declared.fault.Fault.{Fault}
-use Rattle.outside.specs.declared.fault.Fault.TheVariants as fault
-use Rattle.zone_rules.specs.Zones.{Heap}
-use Rattle.zone_rules.specs.Orders.{Item, KeepsOrder, live_sum, lump_size}
-use Rattle.lump_cache.specs.Calls.{HasAll, InOrderAt}
+use Rattle.picture_rules.proofs.Common.{arith, Contains, Err, inl, inr, List, MatchResult, Option, refl, Result, ℕ, ◌+◌, ◌≡◌, ◌≤◌, ◌⊎◌}
+use Rattle.art_rules.specs.Words.{Fault, FaultsRose, HasCauseAt, ShelfView}
+use Rattle.art_rules.specs.Fault.TheVariants as fault
+use Rattle.scene_rules.specs.Words.{Heap, Item, KeepsOrder, live_sum, lump_size}
+use Rattle.texture_build.specs.Calls.{HasAll, InOrderAt}
 use Rattle.texture_build.specs.Draws.{HasTexturesAsked}
 use Rattle.sound_scene.specs.Sound.{SoundValue, textures_view}
 use Rattle.refusals.specs.declared.refusal.Refusal.{Refusal}

@@ -1,19 +1,14 @@
 -- The bytes of frames, counted.
-use Rattle.word_rules.proofs.Common.{[], ap, arith, codes, flat_map, is_some, length, length-append, length-map, List, None, Option, refl, Some, sym, take-length, true, ℕ, ◌%◌, ◌*◌, ◌++◌, ◌+◌, ◌/◌, ◌^◌, ◌∙◌, ◌∷◌, ◌≡◌, ◌≤◌}
-use Rattle.outside.specs.Sink.{Grew}
-use Rattle.outside.specs.TallySink.{IsTallyOf, Tally}
-use Rattle.word_rules.specs.Listed.{joined_lists}
-use Rattle.word_rules.proofs.LeastLemmas.{least-is}
-use Rattle.word_rules.proofs.ListedLemmas.{length-listed}
+use Rattle.picture_rules.proofs.Common.{[], ap, arith, codes, flat_map, is_some, length, length-append, length-map, List, None, Option, refl, Some, sym, take-length, true, ℕ, ◌%◌, ◌*◌, ◌++◌, ◌+◌, ◌/◌, ◌^◌, ◌∙◌, ◌∷◌, ◌≡◌, ◌≤◌}
+use Rattle.art_rules.specs.Words.{Grew, IsTallyOf, Tally}
+use Rattle.picture_rules.specs.Words.{FRAME_CELLS, frame_dots, frame_of, joined_lists, overlaid_picture, Scene}
+use Rattle.picture_rules.proofs.Laws.{least-is, length-listed}
 use Rattle.doom_run.specs.declared.canvas.ViewForm.TheVariants.{Frame}
 use Rattle.doom_run.specs.Layers.{SeenView}
 use Rattle.csv_tables.specs.declared.path.TheConstants.{MAX_VIEWS}
-use Rattle.pixel_rules.specs.declared.TheConstants.{FRAME_CELLS}
 use Rattle.frame_writer.specs.Ppm.{colour, ppm, ppm_header}
 use Rattle.picture_rules.specs.declared.LimitKind.{LimitKind}
 use Rattle.picture_rules.specs.declared.OverLimit.{OverLimit}
-use Rattle.picture_rules.specs.Picture.{frame_dots, frame_of, overlaid_picture}
-use Rattle.picture_rules.specs.Scene.{Scene}
 use Rattle.job_rules.specs.declared.command.Format.{Format}
 use Rattle.job_rules.specs.declared.command.Format.TheVariants.{Index, Ppm}
 use Rattle.refusals.specs.Lines.{labelled}

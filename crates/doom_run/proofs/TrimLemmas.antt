@@ -1,17 +1,13 @@
 -- What a trimmed file that is written says of a run.
-use Rattle.word_rules.proofs.Common.{All, All-contains, ap, Bool, Err, inl, IsTrue, length, List, None, Ok, OnErr, OnOk, Option, refl, Result, Some, subst, sym, true, ℕ, ◌<◌, ◌∙◌, ◌≡◌}
-use Rattle.outside.specs.Faults.{from_below}
-use Rattle.outside.specs.Shelf.{File}
-use Rattle.outside.specs.Sink.{Grew, GrewByPrefix}
-use Rattle.outside.proofs.AnswerLemmas.{and_then-ok}
-use Rattle.lump_rules.specs.declared.wad.Lump.{Lump}
-use Rattle.lump_rules.specs.Lookups.{lump_at}
-use Rattle.lump_cache.specs.Calls.{HasAll, IsFullFor}
+use Rattle.picture_rules.proofs.Common.{All, All-contains, ap, Bool, Err, inl, IsTrue, length, List, None, Ok, OnErr, OnOk, Option, refl, Result, Some, subst, sym, true, ℕ, ◌<◌, ◌∙◌, ◌≡◌}
+use Rattle.art_rules.specs.Words.{File, from_below, Grew, GrewByPrefix, Lump, lump_at}
+use Rattle.art_rules.proofs.Laws.{and_then-ok}
+use Rattle.texture_build.specs.Calls.{HasAll, IsFullFor}
 use Rattle.art_rules.specs.declared.shapes.Frame.{Frame}
 use Rattle.job_rules.specs.LevelJobs.{LevelJobValue}
 use Rattle.job_rules.specs.declared.trim.TrimRefusal.{TrimRefusal}
 use Rattle.refusals.specs.declared.refusal.Refusal.TheVariants.{Trim}
-use Rattle.scene_rules.specs.Sizes.{is_needed, lump_block}
+use Rattle.scene_rules.specs.Words.{is_needed, lump_block}
 use Rattle.sound_scene.specs.Sound.{art_with}
 use Rattle.sound_scene.proofs.SceneLemmas.{scene_parts}
 use Rattle.trim_rules.specs.declared.part.TrimPart.{TrimPart}

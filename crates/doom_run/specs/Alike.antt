@@ -1,6 +1,6 @@
 -- What a trimmed file is for: rendering it comes to the same as rendering the WADs that it was made of.
 use Rattle.std.specs.Prelude.{◌≡◌, ℕ, List, [], ◌∷◌, Some, Result, Ok}
-use Rattle.outside.specs.Shelf.{File, file_named}
+use Rattle.art_rules.specs.Words.{File, file_named}
 use Rattle.job_rules.specs.Commands.{level_job}
 use Rattle.job_rules.specs.LevelJobs.{FileNames, LevelJobValue}
 use Rattle.job_rules.specs.declared.command.Format.{Format}

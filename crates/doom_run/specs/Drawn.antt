@@ -1,21 +1,11 @@
 -- A view of a path drawn with its weapon layers: what a canvas is given, what is painted from, and what stays.
 use Rattle.std.specs.Prelude.{◌≡◌, ◌⊎◌, ℕ, List, OnOk, Result}
-use Rattle.outside.specs.Shelf.{ShelfView}
-use Rattle.word_rules.specs.Listed.{joined_lists}
-use Rattle.lump_rules.specs.Contents.{lump_bytes}
-use Rattle.lump_cache.specs.declared.fault.CacheFault.{CacheFault}
-use Rattle.lump_cache.specs.Caches.{cache_fault}
-use Rattle.view_rules.specs.View.{view_of}
-use Rattle.view_rules.specs.declared.Eye.{Eye}
-use Rattle.view_rules.specs.Sound.{IsWithinFrame}
-use Rattle.pixel_rules.specs.declared.Painter.{Painter}
-use Rattle.pixel_rules.specs.Dots.{Dot}
+use Rattle.art_rules.specs.Words.{lump_bytes, ShelfView}
+use Rattle.picture_rules.specs.Words.{AreInView, Dot, Eye, IsWithinFrame, joined_lists, overlaid_paints, Painter, Scene, view_of, weapon_dots}
+use Rattle.texture_build.specs.CacheFault.{CacheFault}
+use Rattle.texture_build.specs.Caches.{cache_fault}
 use Rattle.pixel_strips.specs.Canvases.{CanvasView}
 use Rattle.pixel_strips.specs.Dotted.{HasDots, PlacedAlike}
-use Rattle.picture_rules.specs.sprite.Weapons.{weapon_dots}
-use Rattle.picture_rules.specs.Paints.{overlaid_paints}
-use Rattle.picture_rules.specs.Picture.{AreInView}
-use Rattle.picture_rules.specs.Scene.{Scene}
 use Rattle.texture_build.specs.Draws.{DrawsWith, FitBeside, HoldsArt}
 use Rattle.sound_scene.specs.Sound.{textures_view}
 use Rattle.level_audit.specs.scene_load.Loads.{loaded_value}

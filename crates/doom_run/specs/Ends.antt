@@ -1,6 +1,6 @@
 -- What a status says of a run.
 use Rattle.std.specs.Prelude.{◌≡◌, ℕ, Bool, IsTrue, List, [], MatchResult, Result, Ok, Err}
-use Rattle.outside.specs.Sink.{Grew, GrewByPrefix}
+use Rattle.art_rules.specs.Words.{Grew, GrewByPrefix}
 use Rattle.job_files.specs.declared.status.Status.{Status}
 use Rattle.job_files.specs.declared.status.Status.TheVariants.{Done, Usage, Refused, ReadFault, WriteFault, Limit, ZoneFull, OutOfMemory}
 use Rattle.doom_run.specs.Steps.{RunStop, usage, absent, refused}

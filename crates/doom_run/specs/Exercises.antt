@@ -1,9 +1,9 @@
 -- The made files of a number, rendered and counted.
 use Rattle.std.specs.Prelude.{ℕ, ◌++◌, ◌∷◌, ◌*◌, ◌%◌, ◌^◌, List, [], length, sum, codes, Option, Some, None}
-use Rattle.outside.specs.Shelf.{File}
+use Rattle.art_rules.specs.Words.{File}
 use Rattle.command_line.specs.declared.choices.TheConstants.{DEFAULT_OPENINGS, DEFAULT_PLANES, DEFAULT_SIZE, DEFAULT_SKILL}
 use Rattle.frame_writer.specs.declared.TheConstants.{FRAME_BYTES, PPM_BYTES}
-use Rattle.view_rules.specs.declared.Spans.TheVariants.{Full}
+use Rattle.picture_rules.specs.Words.{Full}
 use Rattle.job_rules.specs.declared.command.Format.{Format}
 use Rattle.job_rules.specs.declared.command.Format.TheVariants.{Index, Ppm}
 use Rattle.job_rules.specs.declared.command.MakeJob.TheVariants.{Wad, Path, Tables, Things}

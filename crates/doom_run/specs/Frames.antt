@@ -1,14 +1,10 @@
 -- One view of a path, drawn and written.
 use Rattle.std.specs.Prelude.{◌≡◌, ℕ, Bool, IsTrue, List, [], Some, None, option_map, slice_get, Result, Ok, Err}
 use Rattle.std.specs.Option.{option_map_or}
-use Rattle.outside.specs.Shelf.{ShelfView}
-use Rattle.outside.specs.Sink.{Grew, GrewByPrefix}
-use Rattle.view_rules.specs.Sound.{IsWithinFrame}
-use Rattle.pixel_rules.specs.declared.Painter.{Painter}
+use Rattle.art_rules.specs.Words.{Grew, GrewByPrefix, ShelfView}
+use Rattle.picture_rules.specs.Words.{AreInView, IsWithinFrame, overlaid_paints, Painter}
 use Rattle.pixel_strips.specs.Canvases.{CanvasView}
 use Rattle.pixel_strips.specs.Dotted.{HasDots}
-use Rattle.picture_rules.specs.Paints.{overlaid_paints}
-use Rattle.picture_rules.specs.Picture.{AreInView}
 use Rattle.texture_build.specs.Draws.{KeepsArt}
 use Rattle.sound_scene.specs.Sound.{textures_view}
 use Rattle.frame_writer.specs.Ppm.{ppm}

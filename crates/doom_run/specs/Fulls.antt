@@ -1,14 +1,12 @@
 -- When a run ends with a full zone.
 use Rattle.std.specs.Prelude.{◌≡◌, ◌≢◌, ◌≤◌, ◌<◌, ◌+◌, ◌*◌, ◌⊎◌, ℕ, true, IsTrue, IfSome, List, length, Option, Some, Ok, Contains}
-use Rattle.outside.specs.Shelf.{File}
-use Rattle.zone_rules.specs.declared.TheConstants.{MIN_FRAGMENT}
-use Rattle.lump_cache.specs.Sizes.{IsGapBeside, IsGapBesideTwo}
+use Rattle.art_rules.specs.Words.{File, PreparedTexture}
+use Rattle.scene_rules.specs.Words.{composite_block, is_needed, lump_block, MIN_FRAGMENT}
+use Rattle.texture_build.specs.Sizes.{IsGapBeside, IsGapBesideTwo}
 use Rattle.art_rules.specs.declared.PlacedPatch.{PlacedPatch}
-use Rattle.art_rules.specs.Wanted.{PreparedTexture}
 use Rattle.job_rules.specs.Commands.{CommandValue}
 use Rattle.job_rules.specs.LevelJobs.{LevelJobValue}
 use Rattle.command_line.specs.Commands.{command_of}
-use Rattle.scene_rules.specs.Sizes.{composite_block, is_needed, lump_block}
 use Rattle.sound_scene.specs.Sound.{art_with}
 use Rattle.level_audit.specs.scene_load.Fulls.{IsFullLoad}
 use Rattle.level_audit.specs.scene_load.Loads.{LoadedValue, load_in, loaded_pictures, loaded_sizes}

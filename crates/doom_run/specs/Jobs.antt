@@ -1,9 +1,7 @@
 -- What each command determines: whether it asks the shelf for files, and what it makes of them. Nothing else
 -- in this crate has a case a job.
 use Rattle.std.specs.Prelude.{ℕ, Bool, true, false, List, [], Result, Ok, codes}
-use Rattle.outside.specs.Faults.{and_then}
-use Rattle.outside.specs.Shelf.{File}
-use Rattle.outside.specs.Stops.{Stop}
+use Rattle.art_rules.specs.Words.{and_then, File, Stop}
 use Rattle.frame_writer.specs.Ppm.{ppm}
 use Rattle.job_rules.specs.Commands.{CommandValue, flat, level_job, make, exercise}
 use Rattle.job_rules.specs.LevelJobs.{LevelJobValue}

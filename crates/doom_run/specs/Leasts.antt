@@ -2,22 +2,14 @@
 -- beside COLORMAP, each lump that is read and each that is painted from.
 use Rattle.std.specs.Prelude.{ℕ, ◌+◌, ◌==◌, ◌||◌, Bool, cond, max, List, length, Result, Ok, Err}
 use Rattle.std.specs.List.{range_with_len}
-use Rattle.outside.specs.Shelf.{File}
-use Rattle.outside.specs.Stops.{Stop}
-use Rattle.lump_rules.specs.declared.wad.Lump.{Lump}
-use Rattle.zone_rules.specs.Zones.{block_size}
-use Rattle.pixel_rules.specs.declared.Painter.{Painter}
-use Rattle.pixel_rules.specs.declared.TheConstants.{COMPOSITE, LUMP}
-use Rattle.pixel_rules.specs.Dots.{Dot}
-use Rattle.picture_rules.specs.Paints.{overlaid_paints}
-use Rattle.picture_rules.specs.Scene.{Scene}
+use Rattle.art_rules.specs.Words.{File, Lump, Stop}
+use Rattle.scene_rules.specs.Words.{block_size, greatest_by, is_list, is_map_lump, LevelBase, lump_block}
+use Rattle.picture_rules.specs.Words.{COMPOSITE, Dot, LUMP, overlaid_paints, Painter, Scene}
 use Rattle.texture_build.specs.Asked.{size_of}
 use Rattle.texture_build.specs.Views.{TexturesView, prepared_texture}
 use Rattle.job_rules.specs.Commands.{CommandValue}
 use Rattle.job_rules.specs.LevelJobs.{LevelJobValue}
 use Rattle.refusals.specs.declared.refusal.Refusal.{Refusal}
-use Rattle.scene_rules.specs.Scenes.{LevelBase}
-use Rattle.scene_rules.specs.Sizes.{greatest_by, is_list, is_map_lump, lump_block}
 use Rattle.sound_scene.specs.Sound.{textures_view}
 use Rattle.level_audit.specs.scene_load.Loads.{LoadedValue, load_in, wad_bytes}
 use Rattle.doom_run.specs.Jobs.{Delivery, Task, Work, job_of, over, plain}

@@ -1,6 +1,6 @@
 -- The job `list`: for each view of a path a line an item, and a line of sums; a view that is over a limit has its line alone.
 use Rattle.std.specs.Prelude.{ℕ, ◌+◌, ◌++◌, List, [], ◌∷◌, length, codes, Option, Some, None, slice_get}
-use Rattle.word_rules.specs.Listed.{listed, joined_lists}
+use Rattle.picture_rules.specs.Words.{joined_lists, listed, view_counts, view_list, view_over, ViewListValue}
 use Rattle.refusals.specs.Lines.{labelled, labelled_signed}
 use Rattle.picture_rules.specs.declared.Counts.{Counts}
 use Rattle.picture_rules.specs.declared.OverLimit.{OverLimit}
@@ -11,8 +11,6 @@ use Rattle.picture_rules.specs.declared.list.ListedPlane.{ListedPlane}
 use Rattle.picture_rules.specs.declared.list.ListedSprite.{ListedSprite}
 use Rattle.picture_rules.specs.declared.list.PlaneMaker.{PlaneMaker}
 use Rattle.picture_rules.specs.declared.list.PlaneMaker.TheVariants.{Leaf, Fragment}
-use Rattle.picture_rules.specs.Counts.{view_counts, view_over}
-use Rattle.picture_rules.specs.Lists.{ViewListValue, view_list}
 use Rattle.doom_run.specs.Layers.{SeenView}
 use Rattle.doom_run.specs.Views.{ViewsValue, over_line}
 

@@ -1,10 +1,7 @@
 -- What a run of a job says: by its status, by what was written, and by what was read.
 use Rattle.std.specs.Prelude.{◌≡◌, ◌≤◌, ◌+◌, ◌⊎◌, ℕ, Bool, false, IsTrue, List, [], Option, None, Some, Ok}
-use Rattle.outside.specs.Causes.{FaultsRose}
-use Rattle.outside.specs.Faults.{from_below}
-use Rattle.outside.specs.Shelf.{File, Holds, ShelfView}
-use Rattle.outside.specs.Sink.{Grew}
-use Rattle.zone_rules.specs.Orders.{IsInOrder, live_sum, lump_size}
+use Rattle.art_rules.specs.Words.{FaultsRose, File, from_below, Grew, Holds, ShelfView}
+use Rattle.scene_rules.specs.Words.{IsInOrder, live_sum, lump_size}
 use Rattle.job_rules.specs.Commands.{CommandValue}
 use Rattle.job_rules.specs.LevelJobs.{LevelJobValue}
 use Rattle.job_files.specs.Files.{files_named}

@@ -1,11 +1,10 @@
 -- A scene that is ready to be drawn, and when drawing it finds the zone full.
 use Rattle.std.specs.Prelude.{◌≡◌, ◌<◌, ◌⊎◌, ℕ, Contains, IfErr, IfSome, List, length, slice_get, unwrap_or, Some, Result}
-use Rattle.outside.specs.Shelf.{ShelfView}
-use Rattle.lump_rules.specs.Contents.{lump_bytes}
-use Rattle.zone_rules.specs.Orders.{Item}
-use Rattle.lump_cache.specs.Calls.{HasAll, IsFullFor}
+use Rattle.art_rules.specs.Words.{lump_bytes, ShelfView}
+use Rattle.scene_rules.specs.Words.{Item}
+use Rattle.texture_build.specs.Calls.{HasAll, IsFullFor}
 use Rattle.texture_build.specs.Draws.{DrawsWith, FitBeside, HasTexturesAsked, HoldsArt, IsFullForTexture}
-use Rattle.picture_rules.specs.Paints.{overlaid_paints}
+use Rattle.picture_rules.specs.Words.{overlaid_paints}
 use Rattle.sound_scene.specs.Sound.{textures_view}
 use Rattle.job_rules.specs.LevelJobs.{LevelJobValue}
 use Rattle.level_audit.specs.Weapons.{AreThere}

@@ -1,8 +1,8 @@
 -- The first step that stops a run.
 use Rattle.std.specs.Prelude.{Option, Some, None, Result, Ok, Err}
 use Rattle.refusals.specs.declared.refusal.Refusal.{Refusal}
-use Rattle.outside.specs.Stops as files
-use Rattle.outside.specs.Stops.{Stop}
+use Rattle.art_rules.specs.Stops as files
+use Rattle.art_rules.specs.Words.{Stop}
 
 -- the words are no command, or a step stops that reads files or bytes
 pub data RunStop : Type 0 where

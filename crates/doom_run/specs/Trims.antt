@@ -1,12 +1,10 @@
 -- The parts of the trimmed file of a level, and what writing them comes to.
 use Rattle.std.specs.Prelude.{◌≡◌, List, Result, Ok, Err}
-use Rattle.outside.specs.Faults.{from_below}
-use Rattle.outside.specs.declared.fault.Fault.{Fault}
-use Rattle.outside.specs.declared.fault.Fault.TheVariants.{Refused, ReadFault, ZoneFull, OutOfMemory}
+use Rattle.art_rules.specs.Words.{Fault, from_below, OutOfMemory, ReadFault, Refused, ZoneFull}
 use Rattle.job_rules.specs.LevelJobs.{LevelJobValue}
 use Rattle.refusals.specs.declared.refusal.Refusal.{Refusal}
 use Rattle.refusals.specs.declared.refusal.Refusal.TheVariants.{Trim}
-use Rattle.scene_rules.specs.Sizes.{SceneArt}
+use Rattle.scene_rules.specs.Words.{SceneArt}
 use Rattle.sound_scene.specs.Sound.{art_with}
 use Rattle.trim_rules.specs.declared.part.TrimPart.{TrimPart}
 use Rattle.trim_rules.specs.Parts.{trim_plan}

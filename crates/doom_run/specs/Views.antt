@@ -1,7 +1,6 @@
 -- The views of a path over a level: their frames and counts, and the first that is over a limit.
 use Rattle.std.specs.Prelude.{ℕ, ◌++◌, List, [], length, take, codes, Option, Some, None, is_some, unwrap_or, slice_get, option_and_then}
-use Rattle.word_rules.specs.Least.{least}
-use Rattle.word_rules.specs.Listed.{listed, joined_lists}
+use Rattle.picture_rules.specs.Words.{joined_lists, least, listed, overlaid_picture, overlaid_trace, Scene, view_counts, view_over}
 use Rattle.frame_writer.specs.Ppm.{ppm}
 use Rattle.job_rules.specs.declared.command.Format.{Format}
 use Rattle.job_rules.specs.declared.command.Format.TheVariants.{Index, Ppm}
@@ -10,9 +9,6 @@ use Rattle.refusals.specs.Lines.{labelled}
 use Rattle.picture_rules.specs.declared.Limits.{Limits}
 use Rattle.picture_rules.specs.declared.Counts.{Counts}
 use Rattle.picture_rules.specs.declared.OverLimit.{OverLimit}
-use Rattle.picture_rules.specs.Scene.{Scene}
-use Rattle.picture_rules.specs.Picture.{overlaid_picture, overlaid_trace}
-use Rattle.picture_rules.specs.Counts.{view_counts, view_over}
 use Rattle.level_audit.specs.scene_load.Loads.{LoadedValue}
 use Rattle.frame_core.specs.Scenes.{scene_of}
 use Rattle.pixel_trace.specs.Traces.{trace_bytes}

@@ -2,18 +2,16 @@
 ghost use Rattle.job_rules.specs.LevelJobs.{LevelJobValue};
 ghost use Rattle.job_rules.specs.declared.command.LevelTask.TheVariants.{Audit};
 ghost use Rattle.level_audit.specs.scene_load.Calls.{IsLoadedScene};
-ghost use Rattle.outside.specs.Causes.{FaultsRose};
-ghost use Rattle.outside.specs.Shelf.{ShelfView};
-ghost use Rattle.outside.specs.Sink.{Writes};
+ghost use Rattle.art_rules.specs.Words.{FaultsRose, ShelfView, Writes};
 ghost use Rattle.job_files.specs.Lines.{pair_line};
 ghost use Rattle.std.specs.Prelude.{◌≡◌, codes};
 ghost use Rattle.doom_run.specs.Ends.{DeliversAt};
 ghost use Rattle.doom_run.specs.Jobs.{audited, delivery_of};
 ghost use Rattle.doom_run.specs.Performs.{Delivers};
 
+use art_rules::{Failed, Sink};
 use job_files::Status;
 use level_audit::LoadedScene;
-use outside::{Failed, Sink};
 use refusals::Line;
 use scene_rules::ZoneSizes;
 

@@ -3,12 +3,12 @@
 // Rules: `specs/Frames` (`canvas_bytes`), `specs/Views` (`view_bytes`).
 ghost use Rattle.doom_run.specs.Frames.{canvas_bytes, form_of};
 ghost use Rattle.frame_writer.specs.declared.TheConstants.{PALETTE_BYTES};
-ghost use Rattle.outside.specs.Sink.{Writes};
+ghost use Rattle.art_rules.specs.Words.{Writes};
 ghost use Rattle.std.specs.Prelude.{◌≡◌, length, IfOk};
 
+use art_rules::{Failed, Sink};
 use frame_writer::{put_index, put_ppm};
 use job_rules::Format;
-use outside::{Failed, Sink};
 use pixel_strips::Frame;
 use pixel_trace::{TraceFrame, put_trace};
 use std::alloc::{AllocError, Global};

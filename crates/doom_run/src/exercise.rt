@@ -1,9 +1,7 @@
 // The job `exercise`: the made files of a number, rendered in memory and counted.
 ghost use Rattle.std.specs.Prelude.{◌≡◌, ◌*◌, ◌/◌, [], ◌∷◌, IfOk};
-ghost use Rattle.outside.specs.Causes.{FaultsRose};
-ghost use Rattle.outside.specs.Shelf.{ShelfView};
-ghost use Rattle.outside.specs.Sink.{Writes};
-ghost use Rattle.zone_rules.specs.Zones.{IsZoneSize};
+ghost use Rattle.art_rules.specs.Words.{FaultsRose, ShelfView, Writes};
+ghost use Rattle.scene_rules.specs.Words.{IsZoneSize};
 ghost use Rattle.job_rules.specs.Commands.{IsCount, exercise};
 ghost use Rattle.job_rules.specs.LevelJobs.{level_job_value};
 ghost use Rattle.job_files.specs.Statuses.{DeliversBytes};
@@ -12,16 +10,15 @@ ghost use Rattle.doom_run.specs.Jobs.{job_of};
 ghost use Rattle.doom_run.specs.Performs.{Performs};
 
 use crate::level::perform_level;
+use art_rules::{Failed, MemoryFile, MemoryShelf, Name8, OutOfMemory, Sink, TallySink};
 use command_line::{DEFAULT_OPENINGS, DEFAULT_PLANES, DEFAULT_SIZE, DEFAULT_SKILL};
 use frame_writer::{FRAME_BYTES, PPM_BYTES};
 use job_files::Status;
 use job_rules::{Files, Format, LevelJob, LevelTask, Settings};
 use level_maker::{make_path, make_tables, make_things, make_wad};
-use lump_rules::Name8;
-use outside::{Failed, MemoryFile, MemoryShelf, OutOfMemory, Sink, TallySink};
+use picture_rules::Spans;
 use refusals::Line;
 use std::alloc::Global;
-use view_rules::Spans;
 
 // What an exercise counted.
 #[derive(Clone, Copy)]

@@ -2,31 +2,28 @@
 //
 // Rules: `specs/Layers`; `picture_rules`, Paints (`overlaid_paints`). The original:
 // `R_DrawPlayerSprites`, r_things.c.
-ghost use Rattle.art_rules.specs.Books.{book_lumps};
+ghost use Rattle.art_rules.specs.Words.{book_lumps};
 ghost use Rattle.csv_tables.specs.declared.weapons.TheConstants.{MAX_WEAPONS};
 ghost use Rattle.doom_run.specs.Drawn.{DrawsLayered, DrawsLayers};
 ghost use Rattle.doom_run.specs.Layers.{layer_of, layers_from, layer_light};
 ghost use Rattle.frame_core.specs.Ends.{EndsOver, EndsWithin};
 ghost use Rattle.frame_core.specs.Views.{CanDrawView};
 ghost use Rattle.level_audit.specs.Weapons.{AreThere};
-ghost use Rattle.picture_rules.specs.sprite.Weapons.{weapon_dots};
+ghost use Rattle.picture_rules.specs.Words.{joined_lists, view_of, weapon_dots};
 ghost use Rattle.pixel_strips.specs.Standing.{StandsInFrame};
 ghost use Rattle.std.specs.Prelude.{◌≡◌, ◌<◌, ◌≤◌, ◌∷◌, [], Contains, Some, length, option_map};
-ghost use Rattle.view_rules.specs.View.{view_of};
 ghost use Rattle.texture_build.specs.Paints.{paint_state};
 ghost use Rattle.weapon_overlay.specs.Layers.{PaintsLayer, layer_value};
-ghost use Rattle.word_rules.specs.Listed.{joined_lists};
 
+use art_rules::Shelf;
 use csv_tables::WeaponRow;
 use frame_core::{ViewFault, Workshop, draw_view_on};
 use level_audit::{LoadedScene, SoundScene};
-use lump_cache::{CacheFault, LumpCache};
-use outside::Shelf;
+use picture_rules::Eye;
 use pixel_strips::Canvas;
 use sprite_book::SpriteBook;
+use texture_build::{CacheFault, Directory, LumpCache, LumpNo};
 use view_frame::View;
-use view_rules::Eye;
-use wad_dir::{Directory, LumpNo};
 use weapon_overlay::{Layer, overlay};
 
 // What the layers of a view are drawn from, whose number is that of the view in its path.

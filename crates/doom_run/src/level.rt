@@ -14,10 +14,10 @@ use crate::limits::perform_limits;
 use crate::list::perform_list;
 use crate::render::perform_views;
 use crate::trim::perform_trim;
+use art_rules::{Shelf, Sink};
 use job_files::Status;
 use job_rules::{LevelJob, LevelTask};
 use level_audit::{LoadedScene, load_scene};
-use outside::{Shelf, Sink};
 use std::alloc::Global;
 
 // A job over a level in these WADs.

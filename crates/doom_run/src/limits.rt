@@ -1,8 +1,6 @@
 // The job `limits`: the counts of the views of a path.
 ghost use Rattle.std.specs.Prelude.{◌≡◌, ◌<◌, ℕ, List, length, slice_get};
-ghost use Rattle.outside.specs.Causes.{FaultsRose};
-ghost use Rattle.outside.specs.Shelf.{ShelfView};
-ghost use Rattle.outside.specs.Sink.{Writes};
+ghost use Rattle.art_rules.specs.Words.{FaultsRose, ShelfView, Writes};
 ghost use Rattle.frame_core.specs.Views.{CanCount};
 ghost use Rattle.job_rules.specs.LevelJobs.{level_job_value};
 ghost use Rattle.job_rules.specs.Ranges.{AreSettings};
@@ -15,11 +13,11 @@ ghost use Rattle.doom_run.specs.Renders.{ready_views};
 ghost use Rattle.doom_run.specs.Views.{counts_line, view_line_at, over_line};
 
 use crate::render::{ReadyViews, eye_at, prepare_views, view_count};
+use art_rules::{Failed, Sink};
 use frame_core::{Counts, OverLimit, count_view};
 use job_files::{Status, limit_label};
 use job_rules::LevelJob;
 use level_audit::LoadedScene;
-use outside::{Failed, Sink};
 use refusals::Line;
 use std::alloc::Global;
 

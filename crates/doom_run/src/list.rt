@@ -2,9 +2,7 @@
 //
 // Rules: `specs/Lists`. This project's own.
 ghost use Rattle.std.specs.Prelude.{◌≡◌, ◌+◌, ◌++◌, ◌<◌, ◌≤◌, ℕ, List, length, slice_get};
-ghost use Rattle.outside.specs.Causes.{FaultsRose};
-ghost use Rattle.outside.specs.Shelf.{ShelfView};
-ghost use Rattle.outside.specs.Sink.{Writes};
+ghost use Rattle.art_rules.specs.Words.{FaultsRose, ShelfView, Writes};
 ghost use Rattle.frame_core.specs.Views.{CanCount};
 ghost use Rattle.job_rules.specs.LevelJobs.{level_job_value};
 ghost use Rattle.job_rules.specs.Ranges.{AreSettings};
@@ -19,11 +17,11 @@ ghost use Rattle.doom_run.specs.Renders.{ready_views};
 
 use crate::limits::put_over;
 use crate::render::{ReadyViews, eye_at, prepare_views, view_count};
+use art_rules::{Failed, Sink};
 use frame_core::{Counts, ViewList, list_view};
 use job_files::Status;
 use job_rules::LevelJob;
 use level_audit::LoadedScene;
-use outside::{Failed, Sink};
 use picture_rules::{Flat4, ListedFragment, ListedPlane, ListedSprite, PlaneMaker};
 use refusals::Line;
 use std::alloc::Global;

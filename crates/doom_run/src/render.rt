@@ -10,22 +10,21 @@ ghost use Rattle.doom_run.specs.Views.{limits_of_settings, over_at};
 ghost use Rattle.job_rules.specs.LevelJobs.{level_job_value};
 ghost use Rattle.job_rules.specs.Ranges.{AreSettings};
 ghost use Rattle.level_audit.specs.scene_load.Calls.{IsLoadedScene};
-ghost use Rattle.outside.specs.Causes.{FaultsRose};
-ghost use Rattle.outside.specs.Shelf.{IsLaterShelf};
+ghost use Rattle.art_rules.specs.Words.{FaultsRose, IsLaterShelf};
 ghost use Rattle.std.specs.Prelude.{◌≡◌, ◌<◌, ◌≤◌, ℕ, List, length, option_map, slice_get, None, Some, IfOk, IfErr, MatchResult, OnOk};
-ghost use Rattle.zone_rules.specs.Orders.{Item, IsInOrder, KeepsOrder};
+ghost use Rattle.scene_rules.specs.Words.{IsInOrder, Item, KeepsOrder};
 
 use crate::canvas::{ViewCanvas, ViewForm};
 use crate::layers::draw_layered;
+use art_rules::{Shelf, Sink};
 use csv_tables::{PathRow, PathTable};
 use frame_core::{Limits, ViewFault, Workshop};
 use job_files::Status;
 use job_rules::{LevelJob, Settings};
 use level_audit::LoadedScene;
-use outside::{Shelf, Sink};
+use picture_rules::Eye;
 use pixel_strips::Canvas;
 use std::alloc::{AllocError, Global};
-use view_rules::Eye;
 
 // A scene that is ready to be drawn, with all the memory of drawing.
 #[derive(Drop)]

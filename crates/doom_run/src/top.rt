@@ -1,8 +1,6 @@
 // A run, from its words to its status.
 ghost use Rattle.std.specs.Prelude.{◌≡◌, ◌≤◌, ◌⊎◌, ℕ, false, List, [], Some, Ok, Err, IsTrue, IfSome};
-ghost use Rattle.outside.specs.Causes.{FaultsRose};
-ghost use Rattle.outside.specs.Shelf.{File, Holds, ShelfView};
-ghost use Rattle.outside.specs.Sink.{Grew, GrewByPrefix};
+ghost use Rattle.art_rules.specs.Words.{FaultsRose, File, Grew, GrewByPrefix, Holds, ShelfView};
 ghost use Rattle.command_line.specs.Commands.{command_of};
 ghost use Rattle.job_rules.specs.Commands.{IsCounted, IsCountedMake, command_value, flat, level_job, make};
 ghost use Rattle.job_rules.specs.LevelJobs.{LevelJobValue};
@@ -22,12 +20,12 @@ ghost use Rattle.doom_run.specs.Words.{WhereAsked, ask_for_files, have_zone, rea
 use crate::Refusal;
 use crate::exercise::perform_exercise;
 use crate::level::perform_level;
+use art_rules::{Shelf, Sink};
 use command_line::{CommandFault, command_of};
 use job_files::{Status, deliver_flat, deliver_make, prepare_flat, prepare_make, put_note};
 use job_rules::{Command, MakeJob};
-use outside::{Shelf, Sink};
 use std::alloc::Global;
-use wad_dir::Name8;
+use texture_build::Name8;
 
 /// Runs the command that the words give: reads the files that it names from the shelf, appends its
 /// output to `out`, and one line for a status other than `Done` to `notes`.

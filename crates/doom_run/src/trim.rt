@@ -12,10 +12,10 @@ ghost use Rattle.std.specs.Prelude.{◌≡◌, length, All, Ok, IfErr, IfOk};
 ghost use Rattle.wad_trim.specs.Plans.{FitsFile};
 ghost use Rattle.wad_trim.specs.Writes.{IsPartThere};
 
+use art_rules::{Fault, Shelf, Sink};
 use job_files::{LoadFault, Status};
 use job_rules::LevelJob;
 use level_audit::LoadedScene;
-use outside::{Fault, Shelf, Sink};
 use refusals::Refusal;
 use std::alloc::Global;
 use wad_trim::{TrimFault, TrimPlan, TrimWrite};

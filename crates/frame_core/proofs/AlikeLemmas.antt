@@ -1,18 +1,8 @@
 -- Laws of what the masked pass reads of a drawn fragment: its clips where it has a silhouette or is masked, and its texture columns where it is masked.
-use Rattle.word_rules.proofs.Common.{[], AllZip, and_parts, ap, Bool, cond, false, filter, funext, int_lt, length, length-map, List, map, None, not, Option, option_map, pos, refl, slice_get, Some, suc, sym, true, zero, ℕ, ℤ, ◌&&◌, ◌++◌, ◌+◌, ◌||◌, ◌∙◌, ◌∷◌, ◌≡◌}
-use Rattle.word_rules.specs.Words.{minus_one}
-use Rattle.word_rules.specs.Least.{greatest}
-use Rattle.word_rules.specs.Listed.{listed_from, joined_lists}
-use Rattle.word_rules.proofs.LeastLemmas.{greatest-is}
-use Rattle.view_rules.specs.View.{ViewValue}
-use Rattle.pixel_rules.specs.Art.{Art}
-use Rattle.pixel_rules.specs.Dots.{Dot}
-use Rattle.pixel_rules.specs.Strips.{rows_between}
+use Rattle.picture_rules.proofs.Common.{[], AllZip, and_parts, ap, Bool, cond, false, filter, funext, int_lt, length, length-map, List, map, None, not, Option, option_map, pos, refl, slice_get, Some, suc, sym, true, zero, ℕ, ℤ, ◌&&◌, ◌++◌, ◌+◌, ◌||◌, ◌∙◌, ◌∷◌, ◌≡◌}
+use Rattle.picture_rules.specs.Words.{Art, clip_of_number, clip_of_some, columns_at, Dot, DrawAlike, Drawseg, drawseg_has, drawseg_scale, gives_bottom, gives_top, greatest, greatest_that, is_behind, joined_lists, listed_from, masked_dots, middle_by, middle_column, middle_masked, middles_at, middles_of, minus_one, passes_at, rows_between, same_number, sprite_bottom, sprite_column, sprite_dots, sprite_in_front, sprite_masked, sprite_step, sprite_top, sprites_from, ViewValue}
+use Rattle.picture_rules.proofs.Laws.{greatest-is}
 use Rattle.picture_rules.specs.declared.sprite.SpriteEntry.{SpriteEntry}
-use Rattle.picture_rules.specs.sprite.Drawsegs.{Drawseg, DrawAlike, drawseg_has, is_behind}
-use Rattle.picture_rules.specs.sprite.Clips.{gives_bottom, gives_top, passes_at, greatest_that, clip_of_some, clip_of_number, sprite_bottom, sprite_top, sprite_in_front}
-use Rattle.picture_rules.specs.sprite.Sprites.{sprite_masked, sprite_column, sprite_dots}
-use Rattle.picture_rules.specs.sprite.Middles.{drawseg_scale, middle_masked, middle_by, middle_column, same_number, columns_at, middles_of, middles_at, sprite_step, sprites_from, masked_dots}
 use Rattle.picture_rules.proofs.sprite.MaskedLemmas.{masked_dots-alike}
 
 -- a fragment with nothing where the masked pass does not read

@@ -1,8 +1,7 @@
 -- What is asked to draw a view is enough to count it.
 use Rattle.std.proofs.Common.{List}
-use Rattle.lump_rules.specs.declared.wad.Lump.{Lump}
-use Rattle.zone_rules.specs.Zones.{Heap}
-use Rattle.scene_rules.specs.Scenes.{SceneValue}
+use Rattle.art_rules.specs.Words.{Lump}
+use Rattle.scene_rules.specs.Words.{Heap, SceneValue}
 use Rattle.frame_core.specs.Views.{CanCount, CanDrawView}
 use Rattle.frame_core.proofs.SceneLemmas.{surface_flats}
 

@@ -1,23 +1,9 @@
 -- Laws of counts: what a bench that the whole walk of a view is in counts is what the view counts.
-use Rattle.word_rules.proofs.Common.{[], ap, arith, length, length-append, length-map, length-take, List, map, None, refl, suc, sum, sum_by-cons, sym, ℕ, ◌+◌, ◌∙◌, ◌∷◌, ◌≡◌, ◌≤◌}
-use Rattle.view_rules.specs.View.{ViewValue}
-use Rattle.level_rules.specs.declared.walk.TheConstants.{MAX_DRAWSEGS}
-use Rattle.level_rules.specs.walk.Drawsegs.{drawsegs, leaf_fragments}
-use Rattle.level_rules.specs.walk.Events.{Event}
-use Rattle.level_rules.specs.walk.Walk.{view_events}
-use Rattle.picture_rules.specs.wall.Walls.{Wall}
-use Rattle.picture_rules.specs.wall.Openings.{openings_of}
-use Rattle.picture_rules.specs.wall.Notes.{notes_from, openings_list, saved_by, saved_from, view_notes}
+use Rattle.picture_rules.proofs.Common.{[], ap, arith, length, length-append, length-map, length-take, List, map, None, refl, suc, sum, sum_by-cons, sym, ℕ, ◌+◌, ◌∙◌, ◌∷◌, ◌≡◌, ◌≤◌}
+use Rattle.picture_rules.specs.Words.{counts_by, drawsegs, Event, fragment_wall, leaf_fragments, MAX_DRAWSEGS, notes_from, openings_list, openings_of, Plane, planes_of, saved_by, saved_from, Scene, view_counts, view_entries, view_events, view_notes, view_over, view_planes, view_steps, ViewValue, Wall, walls_of}
 use Rattle.picture_rules.proofs.wall.NoteLemmas.{length-saved_openings}
-use Rattle.picture_rules.specs.plane.Built.{planes_of}
-use Rattle.picture_rules.specs.plane.Planes.{Plane}
-use Rattle.scene_rules.specs.Scenes.{SceneValue}
+use Rattle.scene_rules.specs.Words.{SceneValue}
 use Rattle.picture_rules.specs.declared.Counts.{Counts}
-use Rattle.picture_rules.specs.Planes.{view_planes}
-use Rattle.picture_rules.specs.Things.{view_entries}
-use Rattle.picture_rules.specs.Scene.{Scene}
-use Rattle.picture_rules.specs.Walls.{fragment_wall, walls_of}
-use Rattle.picture_rules.specs.Counts.{counts_by, view_counts, view_over, view_steps}
 use Rattle.frame_core.specs.declared.bench.Bench.{Bench}
 use Rattle.frame_core.specs.Scenes.{lists_of, scene_of}
 use Rattle.frame_core.specs.Walked.{planes_after}

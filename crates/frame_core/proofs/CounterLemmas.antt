@@ -1,13 +1,9 @@
 -- Laws of a counter: an event that it was given after others, and a whole walk.
-use Rattle.word_rules.proofs.Common.{[], Err, IfErr, IfErr-weaker, List, Ok, on_ok_weaker, OnOk, refl, Result, Some, subst, sym, take, ℕ, ◌++◌, ◌∙◌, ◌∷◌, ◌≡◌}
-use Rattle.view_rules.specs.View.{ViewValue}
-use Rattle.level_rules.specs.Levels.{LevelLists}
-use Rattle.level_rules.specs.walk.Events.{Event}
-use Rattle.level_rules.specs.walk.Walk.{view_events}
-use Rattle.scene_rules.specs.Scenes.{SceneValue}
+use Rattle.picture_rules.proofs.Common.{[], Err, IfErr, IfErr-weaker, List, Ok, on_ok_weaker, OnOk, refl, Result, Some, subst, sym, take, ℕ, ◌++◌, ◌∙◌, ◌∷◌, ◌≡◌}
+use Rattle.picture_rules.specs.Words.{Event, LevelLists, steps_over, view_events, view_over, view_steps, ViewValue}
+use Rattle.scene_rules.specs.Words.{SceneValue}
 use Rattle.picture_rules.specs.declared.Limits.{Limits}
 use Rattle.picture_rules.specs.declared.OverLimit.{OverLimit}
-use Rattle.picture_rules.specs.Counts.{steps_over, view_over, view_steps}
 use Rattle.node_walk.specs.Visits.{Visits}
 use Rattle.wall_columns.specs.declared.fault.DrawFault.{DrawFault}
 use Rattle.wall_columns.specs.Faults.{limit_of_fault}

@@ -1,15 +1,7 @@
 -- Laws of the dots of the walls of a view's events to which one more is added.
-use Rattle.word_rules.proofs.Common.{[], ap, append-nil, arith, Bool, cond, false, length, List, nat_lt, nat_tests, refl, sym, true, ℕ, ◌++◌, ◌<◌, ◌∙◌, ◌∷◌, ◌≡◌, ◌≤◌}
-use Rattle.view_rules.specs.View.{ViewValue}
-use Rattle.level_rules.specs.declared.walk.TheConstants.{MAX_DRAWSEGS}
-use Rattle.level_rules.specs.walk.Events.{Event}
-use Rattle.level_rules.specs.walk.Events.Event.{LeafEvent, FragmentEvent}
-use Rattle.level_rules.specs.walk.Drawsegs.{drawsegs, leaf_fragments}
-use Rattle.picture_rules.specs.wall.Strips.{wall_dots}
+use Rattle.picture_rules.proofs.Common.{[], ap, append-nil, arith, Bool, cond, false, length, List, nat_lt, nat_tests, refl, sym, true, ℕ, ◌++◌, ◌<◌, ◌∙◌, ◌∷◌, ◌≡◌, ◌≤◌}
+use Rattle.picture_rules.specs.Words.{Dot, drawsegs, Event, FragmentEvent, leaf_fragments, LeafEvent, MAX_DRAWSEGS, Scene, ViewValue, wall_dots, walls_dots, walls_from, walls_of}
 use Rattle.picture_rules.proofs.wall.PaintLemmas.{wall_dots-front}
-use Rattle.pixel_rules.specs.Dots.{Dot}
-use Rattle.picture_rules.specs.Scene.{Scene}
-use Rattle.picture_rules.specs.Walls.{walls_dots, walls_from, walls_of}
 use Rattle.picture_rules.proofs.EventLemmas.{walls_dots-more}
 use Rattle.wall_columns.specs.Built.{with_wall}
 use Rattle.frame_core.specs.Walked.{next_dots, next_wall}

@@ -1,36 +1,17 @@
 -- The fragments that the notes of a view stand for are those of its picture, as far as the masked pass reads them.
-use Rattle.word_rules.proofs.Common.{[], AllByRecursion, AllZip, ap, append_assoc, arith, bit_and, Bool, cond, false, from_bool, get_or, is_some, length, length-append, List, map, None, not, Option, option_map, pos, refl, slice_index_or, Some, subst, suc, sym, true, zero, ℕ, ℤ, ◌&&◌, ◌*◌, ◌++◌, ◌+◌, ◌-◌, ◌==◌, ◌||◌, ◌∙◌, ◌∷◌, ◌≡◌}
+use Rattle.picture_rules.proofs.Common.{[], AllByRecursion, AllZip, ap, append_assoc, arith, bit_and, Bool, cond, false, from_bool, get_or, is_some, length, length-append, List, map, None, not, Option, option_map, pos, refl, slice_index_or, Some, subst, suc, sym, true, zero, ℕ, ℤ, ◌&&◌, ◌*◌, ◌++◌, ◌+◌, ◌-◌, ◌==◌, ◌||◌, ◌∙◌, ◌∷◌, ◌≡◌}
 use Rattle.std.proofs.Math.ListN.{get_or-map}
-use Rattle.view_rules.specs.View.{ViewValue}
-use Rattle.level_rules.specs.declared.Seg.{Seg}
-use Rattle.level_rules.specs.declared.Sector.{Sector}
-use Rattle.level_rules.specs.declared.SideTextures.{SideTextures}
-use Rattle.level_rules.specs.declared.Surface.{Surface}
-use Rattle.level_rules.specs.Levels.{no_surface, seg_at, surface_at}
-use Rattle.level_rules.specs.walk.Drawsegs.{LeafFragment, drawsegs}
-use Rattle.level_rules.specs.walk.Events.{Event}
-use Rattle.level_rules.specs.walk.Segs.{back_of}
-use Rattle.pixel_rules.specs.Art.{Art}
+use Rattle.picture_rules.specs.Words.{Art, back_of, DrawAlike, drawseg_of, drawsegs, drawsegs_from, Event, facts_of, fragment_facts, fragment_wall, LeafFragment, masked_dots, masked_mid, middle_hangs, middle_stands, no_surface, no_textures, note_at, notes_from, openings_list, own_front, own_mid, place_if, room_if, saved_by, saved_from, saves_bottom, saves_top, Sector, Seg, seg_at, seg_light, side_at, SideTextures, silhouette_of, Surface, surface_at, textures_at, view_drawsegs, view_notes, ViewValue, Wall, wall_of, wall_texture, walls_of}
 use Rattle.picture_rules.specs.declared.wall.FragmentNote.{FragmentNote}
 use Rattle.picture_rules.specs.declared.wall.FragmentNumbers.{FragmentNumbers}
 use Rattle.picture_rules.specs.declared.wall.TheConstants.{SIL_BOTTOM, SIL_TOP}
 use Rattle.picture_rules.specs.declared.wall.WallFacts.{WallFacts}
 use Rattle.picture_rules.specs.declared.wall.WallTexture.{WallTexture}
-use Rattle.picture_rules.specs.wall.Notes.{note_at, notes_from, openings_list, place_if, room_if, saved_by, saved_from, silhouette_of, view_notes}
-use Rattle.picture_rules.specs.wall.Numbers.{seg_light}
-use Rattle.picture_rules.specs.wall.Openings.{saves_bottom, saves_top}
-use Rattle.picture_rules.specs.wall.Walls.{Wall, wall_of}
 use Rattle.picture_rules.proofs.wall.NoteLemmas.{length-saved_by, note-bottom_clip, note-middle_column, note-top_clip}
-use Rattle.art_rules.specs.Textures.{texture_at}
+use Rattle.art_rules.specs.Words.{texture_at}
 use Rattle.picture_rules.specs.declared.sprite.SpriteEntry.{SpriteEntry}
-use Rattle.picture_rules.specs.sprite.Drawsegs.{DrawAlike}
-use Rattle.picture_rules.specs.sprite.Middles.{masked_dots, masked_mid, middle_hangs, middle_stands}
 use Rattle.scene_rules.specs.declared.SectorFlats.{SectorFlats}
-use Rattle.scene_rules.specs.Scenes.{SceneValue}
-use Rattle.scene_rules.specs.SectorFlats.{surface_of, surfaces_of}
-use Rattle.picture_rules.specs.Masked.{drawseg_of, drawsegs_from, own_front, own_mid, view_drawsegs}
-use Rattle.picture_rules.specs.Scene.{facts_of, fragment_facts, no_textures, side_at, textures_at, wall_texture}
-use Rattle.picture_rules.specs.Walls.{fragment_wall, walls_of}
+use Rattle.scene_rules.specs.Words.{SceneValue, surface_of, surfaces_of}
 use Rattle.sound_scene.specs.Sound.{middles_of, textures_view}
 use Rattle.masked_draw.specs.Lists.{MaskedLists, heights_of, lists_of as lists_by, middle_by, no_sector, note_mid, note_seg, noted_drawseg, noted_drawsegs, saved_column, sector_by, side_by}
 use Rattle.frame_core.specs.Scenes.{scene_of}

@@ -1,27 +1,16 @@
 -- For which block a zone is full while a scene is drawn, and that such a zone is smaller than enough.
-use Rattle.word_rules.proofs.Common.{[], All, All-contains, All-contains_itself, All-filter, All-head, ap, append-nil, arith, Bool, cases_lt, cond, Contains, Contains-get_or, eq-eqb, eq-false_positive, Err, false, false≢true, filter, get_or_past, IfErr, IfSome, inl, inr, IsSome, length, List, list_any, list_any-append, nat_lt, nat_tests, None, Ok, Option, range_with_len, refl, Result, slice_index_or, Some, subst, suc, sym, true, unwrap_or, zero, ℕ, ◌*◌, ◌++◌, ◌+◌, ◌<◌, ◌==◌, ◌||◌, ◌∙◌, ◌∷◌, ◌≡◌, ◌≢◌, ◌≤◌, ◌⊎◌}
-use Rattle.outside.specs.Causes.{FaultsRose}
-use Rattle.outside.specs.Faults.{HasCauseAt}
-use Rattle.outside.specs.Shelf.{ShelfView}
-use Rattle.lump_rules.specs.declared.wad.Lump.{Lump}
-use Rattle.lump_rules.specs.Contents.{lump_bytes}
-use Rattle.lump_rules.specs.Lookups.{lump_at}
-use Rattle.zone_rules.specs.Zones.{Heap, Owner, block_size}
-use Rattle.wad_dir.specs.DirectoryView.{DirectoryView}
-use Rattle.lump_cache.specs.Caches.{IsAtRest, composite_owner, lump_owner}
-use Rattle.lump_cache.specs.Calls.{IfFull, IsFullFor}
-use Rattle.lump_cache.specs.Sizes.{IsGapBeside, IsGapBesideTwo}
-use Rattle.lump_cache.proofs.CallLemmas.{full_at}
+use Rattle.picture_rules.proofs.Common.{[], All, All-contains, All-contains_itself, All-filter, All-head, ap, append-nil, arith, Bool, cases_lt, cond, Contains, Contains-get_or, eq-eqb, eq-false_positive, Err, false, false≢true, filter, get_or_past, IfErr, IfSome, inl, inr, IsSome, length, List, list_any, list_any-append, nat_lt, nat_tests, None, Ok, Option, range_with_len, refl, Result, slice_index_or, Some, subst, suc, sym, true, unwrap_or, zero, ℕ, ◌*◌, ◌++◌, ◌+◌, ◌<◌, ◌==◌, ◌||◌, ◌∙◌, ◌∷◌, ◌≡◌, ◌≢◌, ◌≤◌, ◌⊎◌}
+use Rattle.art_rules.specs.Words.{book_lumps, column_lookup, composed_columns, composed_count, composite_place, composite_size, FaultsRose, HasCauseAt, is_composed, is_patch_of, is_patch_of_any, lookup_of, Lump, lump_at, lump_bytes, patches_in, PreparedTexture, ShelfView, stands_in}
+use Rattle.scene_rules.specs.Words.{art_of, block_or_none, block_size, composite_block, enough, greatest_by, has_flat, Heap, is_needed, lump_block, Owner, SceneArt, SceneValue}
+use Rattle.texture_build.specs.DirectoryView.{DirectoryView}
+use Rattle.texture_build.specs.Caches.{IsAtRest, composite_owner, lump_owner}
+use Rattle.texture_build.specs.Calls.{IfFull, IsFullFor}
+use Rattle.texture_build.specs.Sizes.{IsGapBeside, IsGapBesideTwo}
+use Rattle.texture_build.proofs.CallLemmas.{full_at}
 use Rattle.art_rules.specs.declared.ColumnLookup.{ColumnLookup}
 use Rattle.art_rules.specs.declared.ColumnLookup.TheVariants.{Empty}
 use Rattle.art_rules.specs.declared.PlacedPatch.{PlacedPatch}
-use Rattle.art_rules.specs.Books.{book_lumps}
-use Rattle.art_rules.specs.Columns.{composed_columns, composed_count, composite_place, composite_size, is_composed, patches_in, stands_in}
-use Rattle.art_rules.specs.Lookups.{column_lookup, lookup_of}
-use Rattle.art_rules.specs.Wanted.{PreparedTexture, is_patch_of, is_patch_of_any}
 use Rattle.art_rules.proofs.LookupLemmas.{column_lookups-read}
-use Rattle.scene_rules.specs.Scenes.{SceneValue, art_of}
-use Rattle.scene_rules.specs.Sizes.{SceneArt, block_or_none, composite_block, enough, greatest_by, has_flat, is_needed, lump_block}
 use Rattle.texture_build.specs.Asked.{IsAskedByColumn, IsGapBesideComposite, IsPatch, size_of}
 use Rattle.texture_build.specs.Draws.{DrawsWith, HoldsArt, IsFullForTexture}
 use Rattle.texture_build.specs.Sources.{IsComposedColumn, column_index, own_lookup}

@@ -1,34 +1,16 @@
 -- Laws of the planes of a view: what drawing them asks is there, and what it paints is the view's.
-use Rattle.word_rules.proofs.Common.{[], All, All-contains, ap, arith, eq-eqb, false, get_or, IfSome, inl, inr, IsSome, length, List, list_any, list_any_at, None, Option, option_map, or_left, or_right, refl, Result, Some, subst, sym, true, unwrap_or, ℕ, ⊤, ◌<◌, ◌==◌, ◌∙◌, ◌≡◌}
-use Rattle.lump_rules.specs.declared.wad.Lump.{Lump}
-use Rattle.lump_rules.specs.Contents.{lump_bytes}
-use Rattle.zone_rules.specs.Zones.{Heap}
-use Rattle.lump_cache.specs.Caches.{cache_fault}
-use Rattle.lump_cache.specs.declared.fault.CacheFault.{CacheFault}
-use Rattle.view_rules.specs.View.{ViewValue}
-use Rattle.view_rules.specs.declared.ViewShape.{ViewShape}
-use Rattle.level_rules.specs.declared.Sector.{Sector}
-use Rattle.level_rules.specs.declared.Surface.{Surface}
-use Rattle.level_rules.specs.Levels.{no_surface, surface_at}
-use Rattle.level_rules.specs.walk.Events.{Event}
-use Rattle.level_rules.specs.walk.Walk.{view_events}
-use Rattle.art_rules.specs.Books.{book_lumps}
-use Rattle.pixel_rules.specs.declared.Painter.{Painter}
-use Rattle.pixel_rules.specs.Dots.{Dot}
+use Rattle.picture_rules.proofs.Common.{[], All, All-contains, ap, arith, eq-eqb, false, get_or, IfSome, inl, inr, IsSome, length, List, list_any, list_any_at, None, Option, option_map, or_left, or_right, refl, Result, Some, subst, sym, true, unwrap_or, ℕ, ⊤, ◌<◌, ◌==◌, ◌∙◌, ◌≡◌}
+use Rattle.art_rules.specs.Words.{book_lumps, Lump, lump_bytes}
+use Rattle.scene_rules.specs.Words.{flat_number, has_flat, Heap, SceneValue, surface_of}
+use Rattle.texture_build.specs.Caches.{cache_fault}
+use Rattle.texture_build.specs.CacheFault.{CacheFault}
+use Rattle.picture_rules.specs.Words.{Dot, Event, no_surface, Painter, Plane, planes_dots, planes_of, Scene, Sector, Surface, surface_at, view_events, view_planes, view_steps, ViewShape, ViewValue}
 use Rattle.pixel_strips.specs.Canvases.{CanvasView}
 use Rattle.picture_rules.specs.declared.plane.Flat4.{Flat4}
 use Rattle.picture_rules.specs.declared.plane.Flat4.TheVariants as flat
-use Rattle.picture_rules.specs.plane.Built.{planes_of}
-use Rattle.picture_rules.specs.plane.Planes.{Plane}
 use Rattle.scene_rules.specs.declared.SectorFlats.{SectorFlats}
-use Rattle.scene_rules.specs.Scenes.{SceneValue}
-use Rattle.scene_rules.specs.SectorFlats.{flat_number, surface_of}
-use Rattle.scene_rules.specs.Sizes.{has_flat}
 use Rattle.picture_rules.specs.declared.Limits.{Limits}
-use Rattle.picture_rules.specs.Counts.{view_steps}
-use Rattle.picture_rules.specs.Planes.{planes_dots, view_planes}
-use Rattle.picture_rules.specs.Scene.{Scene}
-use Rattle.texture_lists.specs.declared.number.TexNo.{TexNo}
+use Rattle.texture_build.specs.TexNo.{TexNo}
 use Rattle.texture_build.specs.Arts.{view_art}
 use Rattle.texture_build.specs.Draws.{CanDraw}
 use Rattle.texture_build.specs.Paints.{PaintState, Paints, paint_tools}

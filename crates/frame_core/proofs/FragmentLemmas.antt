@@ -1,31 +1,14 @@
 -- Laws of a fragment that is stored: its textures may be drawn, what it paints, and the limit that its fault tells.
-use Rattle.word_rules.proofs.Common.{[], ap, arith, Bool, cases_lt, cond, Err, false, IfErr, IfSome, inl, inr, IsErrAnd, length, List, nat_lt, nat_tests, Ok, OnOk, Option, refl, Result, Some, subst, sym, true, ℕ, ⊤, ◌<◌, ◌∙◌, ◌≡◌, ◌≢◌, ◌≤◌}
-use Rattle.outside.specs.Faults.{fault_above}
-use Rattle.lump_rules.specs.Contents.{lump_bytes}
-use Rattle.lump_rules.specs.declared.wad.Lump.{Lump}
-use Rattle.zone_rules.specs.Zones.{Heap}
-use Rattle.view_rules.specs.View.{ViewValue}
-use Rattle.level_rules.specs.declared.Surface.{Surface}
-use Rattle.level_rules.specs.Levels.{seg_at, surface_at}
-use Rattle.level_rules.specs.maps.Sound.{IsSound}
-use Rattle.level_rules.specs.declared.walk.TheConstants.{MAX_DRAWSEGS}
-use Rattle.level_rules.specs.walk.Events.{Event}
-use Rattle.pixel_rules.specs.declared.Painter.{Painter}
-use Rattle.pixel_rules.specs.Art.{Art}
-use Rattle.pixel_rules.specs.Dots.{Dot}
+use Rattle.picture_rules.proofs.Common.{[], ap, arith, Bool, cases_lt, cond, Err, false, IfErr, IfSome, inl, inr, IsErrAnd, length, List, nat_lt, nat_tests, Ok, OnOk, Option, refl, Result, Some, subst, sym, true, ℕ, ⊤, ◌<◌, ◌∙◌, ◌≡◌, ◌≢◌, ◌≤◌}
+use Rattle.art_rules.specs.Words.{fault_above, Lump, lump_bytes}
+use Rattle.scene_rules.specs.Words.{Heap, SceneValue}
+use Rattle.picture_rules.specs.Words.{Art, Dot, Event, facts_of, IsSound, MAX_DRAWSEGS, openings_count, Painter, planes_count, PlanesNow, Scene, seg_at, Surface, surface_at, ViewValue, Wall, wall_dots, wall_of, walls_of}
 use Rattle.pixel_strips.specs.Canvases.{CanvasView}
 use Rattle.pixel_strips.specs.Dotted.{HasDots}
 use Rattle.pixel_strips.proofs.DottedLemmas.{has_dots-none}
-use Rattle.picture_rules.specs.plane.Built.{PlanesNow}
 use Rattle.picture_rules.specs.declared.wall.WallFacts.{WallFacts}
-use Rattle.picture_rules.specs.wall.Strips.{wall_dots}
-use Rattle.picture_rules.specs.wall.Walls.{Wall, wall_of}
-use Rattle.scene_rules.specs.Scenes.{SceneValue}
 use Rattle.picture_rules.specs.declared.Limits.{Limits}
 use Rattle.picture_rules.specs.declared.OverLimit.{OverLimit}
-use Rattle.picture_rules.specs.Counts.{openings_count, planes_count}
-use Rattle.picture_rules.specs.Scene.{Scene, facts_of}
-use Rattle.picture_rules.specs.Walls.{walls_of}
 use Rattle.texture_build.specs.Arts.{view_art}
 use Rattle.texture_build.specs.Draws.{CanDraw}
 use Rattle.texture_build.specs.Paints.{FitIn, PaintState, Paints, paint_tools}

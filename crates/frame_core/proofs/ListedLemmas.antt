@@ -1,29 +1,11 @@
 -- The seg of each note of a view, with its side and its sectors, is among the lists of its scene, and the middle texture of a masked one may be drawn.
-use Rattle.word_rules.proofs.Common.{[], All, All-from_recursion, AllByRecursion, arith, false, ForSome, get_or, IfSome, inl, inr, IsSome, length, length-map, List, map, None, not, Option, option_map, recursion_from_All, refl, Some, subst, suc, sym, take, true, zero, ℕ, ◌+◌, ◌<◌, ◌==◌, ◌∷◌, ◌≡◌, ◌≤◌, ◌⊎◌}
+use Rattle.picture_rules.proofs.Common.{[], All, All-from_recursion, AllByRecursion, arith, false, ForSome, get_or, IfSome, inl, inr, IsSome, length, length-map, List, map, None, not, Option, option_map, recursion_from_All, refl, Some, subst, suc, sym, take, true, zero, ℕ, ◌+◌, ◌<◌, ◌==◌, ◌∷◌, ◌≡◌, ◌≤◌, ◌⊎◌}
 use Rattle.std.proofs.Math.ListN.{get_or-map}
-use Rattle.lump_rules.specs.declared.wad.Lump.{Lump}
-use Rattle.zone_rules.specs.Zones.{Heap}
-use Rattle.view_rules.specs.View.{ViewValue}
-use Rattle.level_rules.specs.declared.SideTextures.{SideTextures}
-use Rattle.level_rules.specs.declared.Surface.{Surface}
-use Rattle.level_rules.specs.Levels.{no_seg, seg_at, surface_at}
-use Rattle.level_rules.specs.maps.Sound.{IsSound}
-use Rattle.level_rules.specs.declared.walk.TheConstants.{MAX_DRAWSEGS}
-use Rattle.level_rules.specs.walk.Drawsegs.{LeafFragment, drawsegs, leaf_fragments}
-use Rattle.level_rules.specs.walk.Events.{Event}
-use Rattle.level_rules.specs.walk.Events.Event.{LeafEvent, FragmentEvent}
-use Rattle.level_rules.specs.walk.Segs.{back_of}
+use Rattle.art_rules.specs.Words.{Lump}
+use Rattle.scene_rules.specs.Words.{Heap, SceneValue, three_textures}
+use Rattle.picture_rules.specs.Words.{back_of, drawsegs, Event, facts_of, fragment_facts, fragment_numbers, fragment_wall, FragmentEvent, is_masked, IsSound, leaf_fragments, LeafEvent, LeafFragment, MAX_DRAWSEGS, no_seg, no_textures, note_at, notes_from, numbers_by, place_if, room_if, saves_bottom, saves_top, seg_at, SideTextures, Surface, surface_at, textures_at, view_notes, ViewValue, Wall, wall_of, wall_texture, walls_of}
 use Rattle.picture_rules.specs.declared.wall.FragmentNote.{FragmentNote}
 use Rattle.picture_rules.specs.declared.wall.WallFacts.{WallFacts}
-use Rattle.picture_rules.specs.wall.Notes.{note_at, notes_from, place_if, room_if, view_notes}
-use Rattle.picture_rules.specs.wall.Numbers.{fragment_numbers, numbers_by}
-use Rattle.picture_rules.specs.wall.Openings.{saves_bottom, saves_top}
-use Rattle.picture_rules.specs.wall.Parts.{is_masked}
-use Rattle.picture_rules.specs.wall.Walls.{Wall, wall_of}
-use Rattle.scene_rules.specs.Scenes.{SceneValue}
-use Rattle.scene_rules.specs.Sides.{three_textures}
-use Rattle.picture_rules.specs.Scene.{facts_of, fragment_facts, no_textures, textures_at, wall_texture}
-use Rattle.picture_rules.specs.Walls.{fragment_wall, walls_of}
 use Rattle.texture_build.specs.Draws.{CanDraw}
 use Rattle.texture_build.specs.Views.{IsPrepared, prepared_texture}
 use Rattle.sound_scene.specs.Sound.{middles_of, textures_view}

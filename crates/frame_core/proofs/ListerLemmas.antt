@@ -1,18 +1,12 @@
 -- Laws of a lister: an event that it was given after others, and a whole walk.
 use Rattle.std.proofs.Common.{◌≡◌, ℕ, List, [], ◌∷◌, ◌++◌, length, Result, Ok, Err, refl, sym, ap, subst, ◌∙◌}
-use Rattle.view_rules.specs.View.{ViewValue}
-use Rattle.level_rules.specs.Levels.{LevelLists}
-use Rattle.level_rules.specs.walk.Events.{Event}
-use Rattle.level_rules.specs.walk.Walk.{view_events}
-use Rattle.scene_rules.specs.Scenes.{SceneValue}
+use Rattle.picture_rules.specs.Words.{Event, event_list, event_planes, LevelLists, Plane, plane_makers, Scene, view_events, view_list, ViewListValue, ViewValue}
+use Rattle.scene_rules.specs.Words.{SceneValue}
 use Rattle.picture_rules.specs.declared.Limits.{Limits}
 use Rattle.picture_rules.specs.declared.OverLimit.{OverLimit}
 use Rattle.picture_rules.specs.declared.list.ListedFragment.{ListedFragment}
 use Rattle.picture_rules.specs.declared.list.ListedPlane.{ListedPlane}
 use Rattle.picture_rules.specs.declared.list.ListedSprite.{ListedSprite}
-use Rattle.picture_rules.specs.plane.Planes.{Plane}
-use Rattle.picture_rules.specs.Scene.{Scene}
-use Rattle.picture_rules.specs.Lists.{ViewListValue, event_list, event_planes, plane_makers, view_list}
 use Rattle.picture_rules.proofs.ListLemmas.{plane_makers-count}
 use Rattle.node_walk.specs.Visits.{Visits}
 use Rattle.frame_core.specs.declared.bench.Bench.{Bench}

@@ -1,32 +1,13 @@
 -- Laws of the masked pass of a view: what it asks is there where the walk is in the bench, and what it paints is what the picture has.
-use Rattle.word_rules.proofs.Common.{[], All, All-contains, AllPass, ap, arith, get_or, length, List, list_any, nat_tests, or_right, Result, subst, sym, true, ℕ, ℤ, ⊤, ◌<◌, ◌==◌, ◌∙◌, ◌≡◌}
-use Rattle.lump_rules.specs.Contents.{lump_bytes}
-use Rattle.zone_rules.specs.Zones.{Heap}
-use Rattle.lump_cache.specs.declared.fault.CacheFault.{CacheFault}
-use Rattle.lump_cache.specs.Caches.{cache_fault}
-use Rattle.wad_dir.specs.DirectoryView.{DirectoryView}
-use Rattle.view_rules.specs.View.{ViewValue}
-use Rattle.level_rules.specs.declared.Seg.{Seg}
-use Rattle.level_rules.specs.declared.Sector.{Sector}
-use Rattle.level_rules.specs.declared.Side.{Side}
-use Rattle.level_rules.specs.maps.Levels.{LevelValue}
-use Rattle.level_rules.specs.maps.Sound.{IsSound}
-use Rattle.level_rules.specs.walk.Walk.{view_events}
-use Rattle.art_rules.specs.Books.{book_lumps}
-use Rattle.pixel_rules.specs.declared.Painter.{Painter}
-use Rattle.pixel_rules.specs.Dots.{Dot}
+use Rattle.picture_rules.proofs.Common.{[], All, All-contains, AllPass, ap, arith, get_or, length, List, list_any, nat_tests, or_right, Result, subst, sym, true, ℕ, ℤ, ⊤, ◌<◌, ◌==◌, ◌∙◌, ◌≡◌}
+use Rattle.art_rules.specs.Words.{book_lumps, lump_bytes}
+use Rattle.scene_rules.specs.Words.{has_flat, Heap, SceneValue}
+use Rattle.texture_build.specs.CacheFault.{CacheFault}
+use Rattle.texture_build.specs.Caches.{cache_fault}
+use Rattle.texture_build.specs.DirectoryView.{DirectoryView}
+use Rattle.picture_rules.specs.Words.{AreNoted, Dot, draw_order, IsSound, LevelValue, masked_dots, Painter, Plane, Scene, Sector, Seg, Side, view_drawsegs, view_entries, view_events, ViewValue, walls_of}
 use Rattle.picture_rules.specs.declared.wall.FragmentNote.{FragmentNote}
-use Rattle.picture_rules.specs.plane.Planes.{Plane}
 use Rattle.picture_rules.specs.declared.sprite.SpriteEntry.{SpriteEntry}
-use Rattle.picture_rules.specs.sprite.Middles.{masked_dots}
-use Rattle.picture_rules.specs.sprite.Order.{draw_order}
-use Rattle.scene_rules.specs.Scenes.{SceneValue}
-use Rattle.scene_rules.specs.Sizes.{has_flat}
-use Rattle.picture_rules.specs.Masked.{view_drawsegs}
-use Rattle.picture_rules.specs.Noted.{AreNoted}
-use Rattle.picture_rules.specs.Scene.{Scene}
-use Rattle.picture_rules.specs.Things.{view_entries}
-use Rattle.picture_rules.specs.Walls.{walls_of}
 use Rattle.texture_build.specs.Arts.{view_art}
 use Rattle.texture_build.specs.Paints.{PaintState, Paints, paint_tools}
 use Rattle.texture_build.specs.Views.{TexturesView}

@@ -1,35 +1,23 @@
 -- Laws of a painter: an event that it was given after others, and a whole walk.
-use Rattle.word_rules.proofs.Common.{[], ap, arith, drop, Err, err_from_is_err_and, IfErr, IfErr-weaker, IfSome, IfSome_then, IsErrAnd, List, None, Ok, on_ok_weaker, OnOk, Option, refl, Result, Some, subst, sym, take, take-append-drop, ℕ, ◌++◌, ◌∙◌, ◌∷◌, ◌≡◌}
-use Rattle.outside.specs.Shelf.{ShelfView}
-use Rattle.zone_rules.specs.Zones.{Heap}
-use Rattle.zone_rules.proofs.OrderLemmas.{order_none}
-use Rattle.wad_dir.specs.DirectoryView.{DirectoryView}
-use Rattle.lump_cache.specs.Caches.{KeepsCounts}
+use Rattle.picture_rules.proofs.Common.{[], ap, arith, drop, Err, err_from_is_err_and, IfErr, IfErr-weaker, IfSome, IfSome_then, IsErrAnd, List, None, Ok, on_ok_weaker, OnOk, Option, refl, Result, Some, subst, sym, take, take-append-drop, ℕ, ◌++◌, ◌∙◌, ◌∷◌, ◌≡◌}
+use Rattle.art_rules.specs.Words.{ShelfView}
+use Rattle.scene_rules.specs.Words.{Heap, SceneValue, surfaces_of}
+use Rattle.scene_rules.proofs.Laws.{order_none}
+use Rattle.texture_build.specs.DirectoryView.{DirectoryView}
+use Rattle.texture_build.specs.Caches.{KeepsCounts}
 use Rattle.texture_build.specs.Draws.{DrawsWith}
 use Rattle.texture_build.specs.Paints.{PaintState}
 use Rattle.texture_build.specs.Views.{TexturesView}
 use Rattle.texture_build.proofs.DrawLemmas.{keeps_art-none}
 use Rattle.texture_build.proofs.PaintLemmas.{paints-missed, paints-none, paints-same, paints-stop, paints-then}
-use Rattle.view_rules.specs.View.{ViewValue}
-use Rattle.level_rules.specs.declared.Surface.{Surface}
-use Rattle.level_rules.specs.Levels.{LevelLists}
-use Rattle.level_rules.specs.maps.Levels.{LevelValue}
-use Rattle.level_rules.specs.walk.Events.{Event}
-use Rattle.level_rules.specs.walk.Events.Event.{LeafEvent, FragmentEvent}
-use Rattle.level_rules.specs.walk.Walk.{view_events}
-use Rattle.pixel_rules.specs.declared.Painter.{Painter}
-use Rattle.pixel_rules.specs.Dots.{Dot}
+use Rattle.picture_rules.specs.Words.{Dot, Event, FragmentEvent, LeafEvent, LevelLists, LevelValue, openings_count, Painter, planes_count, Scene, steps_over, Surface, view_events, view_over, view_steps, ViewValue}
 use Rattle.pixel_strips.specs.Dotted.{PlacedAlike}
 use Rattle.pixel_strips.proofs.DottedLemmas.{placed-none}
-use Rattle.scene_rules.specs.Scenes.{SceneValue}
-use Rattle.scene_rules.specs.SectorFlats.{surfaces_of}
 use Rattle.sound_scene.specs.Sound.{middles_of, textures_view}
 use Rattle.picture_rules.specs.declared.Limits.{Limits}
 use Rattle.picture_rules.specs.declared.OverLimit.{OverLimit}
 use Rattle.picture_rules.specs.declared.LimitKind.{LimitKind}
 use Rattle.picture_rules.specs.declared.LimitKind.TheVariants as kind
-use Rattle.picture_rules.specs.Scene.{Scene}
-use Rattle.picture_rules.specs.Counts.{openings_count, planes_count, steps_over, view_over, view_steps}
 use Rattle.node_walk.specs.Lists.{walk_lists}
 use Rattle.node_walk.specs.Visits.{Visits}
 use Rattle.wall_columns.specs.declared.fault.DrawFault.{DrawFault}

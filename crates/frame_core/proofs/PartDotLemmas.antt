@@ -1,34 +1,13 @@
 -- Laws of where the dots of walls and planes are: in the view.
-use Rattle.word_rules.proofs.Common.{[], All, AllByRecursion, and_from, arith, Bool, cond, false, int_lt, ints, le-leb, List, map, nat_le, negsuc, None, Option, pos, range_with_len, recursion_from_All, refl, Some, suc, true, zero, ℕ, ℤ, ◌++◌, ◌+◌, ◌-◌, ◌<ℤ◌, ◌<◌, ◌∷◌, ◌≡◌, ◌≤ℤ◌, ◌≤◌}
-use Rattle.word_rules.specs.Words.{natural}
-use Rattle.word_rules.specs.Listed.{listed, listed_from, joined_lists}
-use Rattle.view_rules.specs.View.{ViewValue}
-use Rattle.view_rules.specs.declared.ViewShape.{ViewShape}
-use Rattle.view_rules.specs.declared.TheConstants.{FRAME_HEIGHT}
-use Rattle.level_rules.specs.walk.Events.{Event}
-use Rattle.pixel_rules.specs.declared.Painter.{Painter}
-use Rattle.pixel_rules.specs.Art.{Art}
-use Rattle.pixel_rules.specs.Dots.{Dot}
-use Rattle.pixel_rules.specs.Strips.{column_dots, rows_between}
+use Rattle.picture_rules.proofs.Common.{[], All, AllByRecursion, and_from, arith, Bool, cond, false, int_lt, ints, le-leb, List, map, nat_le, negsuc, None, Option, pos, range_with_len, recursion_from_All, refl, Some, suc, true, zero, ℕ, ℤ, ◌++◌, ◌+◌, ◌-◌, ◌<ℤ◌, ◌<◌, ◌∷◌, ◌≡◌, ◌≤ℤ◌, ◌≤◌}
+use Rattle.picture_rules.specs.Words.{AreInView, Art, bottom_rows, clip_before, column, column_dots, Dot, Event, floor_dots, FRAME_HEIGHT, has_texture, holds, holds_row, joined_lists, listed, listed_from, middle_rows, natural, Painter, Plane, plane_dots, plane_dots_by, planes_dots, planes_from, rows_between, run_dots, Scene, sky_dots, strip_dots, strip_of, top_rows, ViewShape, ViewValue, Wall, wall_column, wall_column_by, wall_dots, wall_edges, wall_strips, walls_dots, walls_from, walls_of, WallStrip}
 use Rattle.picture_rules.specs.declared.plane.Flat4.{Flat4}
 use Rattle.picture_rules.specs.declared.plane.Flat4.TheVariants.{Sky, Lump}
-use Rattle.picture_rules.specs.plane.Floors.{run_dots, floor_dots}
-use Rattle.picture_rules.specs.plane.Planes.{Plane, column}
-use Rattle.picture_rules.specs.plane.Skies.{sky_dots, plane_dots_by, plane_dots}
-use Rattle.picture_rules.specs.plane.Spans.{holds_row, holds}
 use Rattle.picture_rules.specs.declared.wall.ColumnClip.{ColumnClip}
 use Rattle.picture_rules.specs.declared.wall.Edges.{Edges}
 use Rattle.picture_rules.specs.declared.wall.FragmentNumbers.{FragmentNumbers}
 use Rattle.picture_rules.specs.declared.wall.Part.{Part}
 use Rattle.picture_rules.specs.declared.wall.RowRange.{RowRange}
-use Rattle.picture_rules.specs.wall.Clips.{middle_rows, top_rows, bottom_rows}
-use Rattle.picture_rules.specs.wall.Parts.{has_texture}
-use Rattle.picture_rules.specs.wall.Strips.{WallStrip, strip_of, wall_strips, strip_dots, wall_column_by, wall_column, wall_dots}
-use Rattle.picture_rules.specs.wall.Walls.{Wall, wall_edges, clip_before}
-use Rattle.picture_rules.specs.Picture.{AreInView}
-use Rattle.picture_rules.specs.Planes.{planes_from, planes_dots}
-use Rattle.picture_rules.specs.Scene.{Scene}
-use Rattle.picture_rules.specs.Walls.{walls_of, walls_from, walls_dots}
 use Rattle.picture_rules.proofs.FrameLemmas.{in_view-append}
 use Rattle.wall_columns.specs.Built.{IsDrawn}
 use Rattle.wall_columns.specs.Plans.{AreEdgeWords, AreRowsIn}

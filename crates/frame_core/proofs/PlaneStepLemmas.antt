@@ -1,20 +1,9 @@
 -- Laws of the planes of a scene that lie in the view: they do so after a leaf of it, and after a fragment of its columns.
-use Rattle.word_rules.proofs.Common.{All, ap, arith, Bool, cond, false, IfSome, inl, inr, int_lt, length, List, None, Option, or-true_right, pos, refl, Some, true, ℕ, ℤ, ◌-◌, ◌<◌, ◌||◌, ◌≡◌, ◌≤◌}
-use Rattle.view_rules.specs.View.{ViewValue}
-use Rattle.view_rules.specs.declared.TheConstants.{FRAME_HEIGHT}
-use Rattle.view_rules.specs.declared.ViewShape.{ViewShape}
-use Rattle.level_rules.specs.declared.Surface.{Surface}
-use Rattle.level_rules.specs.Levels.{is_sky, surface_at}
-use Rattle.picture_rules.specs.wall.Clips.{ceiling_rows, floor_rows}
-use Rattle.picture_rules.specs.wall.Strips.{ceiling_marks, floor_marks}
-use Rattle.picture_rules.specs.wall.Walls.{Wall, clip_before, wall_edges}
+use Rattle.picture_rules.proofs.Common.{All, ap, arith, Bool, cond, false, IfSome, inl, inr, int_lt, length, List, None, Option, or-true_right, pos, refl, Some, true, ℕ, ℤ, ◌-◌, ◌<◌, ◌||◌, ◌≡◌, ◌≤◌}
+use Rattle.picture_rules.specs.Words.{after_event, ceiling_key, ceiling_marks, ceiling_rows, clip_before, empty_plane, floor_key, floor_marks, floor_rows, FRAME_HEIGHT, is_sky, key_of, leaf_step, Plane, plane_wall, PlanesNow, Surface, surface_at, ViewShape, ViewValue, Wall, wall_edges, wall_step, with_run}
 use Rattle.picture_rules.specs.declared.plane.Flat4.TheVariants.{Sky, Lump}
 use Rattle.picture_rules.specs.declared.plane.PlaneKey.{PlaneKey}
-use Rattle.picture_rules.specs.plane.Keys.{ceiling_key, floor_key, key_of}
-use Rattle.picture_rules.specs.plane.Planes.{Plane, empty_plane, with_run}
-use Rattle.picture_rules.specs.plane.Built.{PlanesNow, after_event}
-use Rattle.scene_rules.specs.Scenes.{SceneValue}
-use Rattle.picture_rules.specs.Planes.{leaf_step, plane_wall, wall_step}
+use Rattle.scene_rules.specs.Words.{SceneValue}
 use Rattle.wall_columns.proofs.ClipLemmas.{ceiling_rows-in, clip_before-in, edges_at-words, floor_rows-in}
 use Rattle.frame_core.specs.Scenes.{lists_of}
 use Rattle.frame_core.specs.Walked.{IsFlatOf, IsFlatShown, IsPlaneIn}

@@ -1,13 +1,9 @@
 -- Each texture of accepted lists has a row, and so has what is prepared of it.
-use Rattle.word_rules.proofs.Common.{arith, Bool, cast_signed, false, false≢true, int_lt, List, None, pos, Some, suc, sym, true, w16, zero, ℕ, ◌+◌, ◌<◌, ◌||◌, ◌≡◌}
-use Rattle.word_rules.proofs.LeastLemmas.{none-below}
-use Rattle.lump_rules.specs.declared.wad.Lump.{Lump}
-use Rattle.lump_rules.specs.Contents.{lump_bytes}
+use Rattle.picture_rules.proofs.Common.{arith, Bool, cast_signed, false, false≢true, int_lt, List, None, pos, Some, suc, sym, true, w16, zero, ℕ, ◌+◌, ◌<◌, ◌||◌, ◌≡◌}
+use Rattle.picture_rules.proofs.Laws.{none-below}
+use Rattle.art_rules.specs.Words.{half_at, is_wrong, list_count, Lump, lump_bytes, PreparedTexture, signed_half_at, Texture, texture_in, texture_of, texture_place, wrong_record}
 use Rattle.art_rules.specs.declared.PlacedPatch.{PlacedPatch}
 use Rattle.art_rules.specs.declared.layout.TheConstants.{TEXTURE_HEIGHT_AT}
-use Rattle.art_rules.specs.Bytes.{half_at, signed_half_at}
-use Rattle.art_rules.specs.Textures.{Texture, is_wrong, wrong_record, texture_in, texture_place, list_count}
-use Rattle.art_rules.specs.Wanted.{PreparedTexture, texture_of}
 use Rattle.texture_build.specs.Views.{AreTexturesOf, TexturesView, prepared_at}
 use Rattle.texture_build.proofs.AcceptedLemmas.{each_prepared}
 

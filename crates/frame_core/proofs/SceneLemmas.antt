@@ -1,34 +1,19 @@
 -- What a view asks of a scene that has all that drawing asks of it.
-use Rattle.word_rules.proofs.Common.{[], All, All-head, All-nil, All-tail, ap, arith, Bool, cond, Err, false, get_or, IfSome, inl, inr, IsSome, length, length-map, List, list_any_at, nat_tests, None, Ok, ok_or, Option, option_and_then, option_map, pos, refl, Result, Some, subst, suc, sym, true, unwrap_or, zero, ℕ, ◌<◌, ◌||◌, ◌∙◌, ◌∷◌, ◌≡◌, ◌≤◌, ◌⊎◌}
-use Rattle.outside.specs.Faults.{and_then}
-use Rattle.outside.proofs.AnswerLemmas.{and_then-ok}
-use Rattle.lump_rules.specs.declared.wad.Lump.{Lump}
-use Rattle.level_rules.specs.declared.Sector.{Sector}
-use Rattle.level_rules.specs.declared.Surface.{Surface}
-use Rattle.level_rules.specs.declared.ThingLine.{ThingLine}
-use Rattle.level_rules.specs.declared.TheConstants.{SKY_FLAT}
-use Rattle.level_rules.specs.Levels.{is_sky, no_seg, no_surface, seg_at, surface_at}
-use Rattle.level_rules.specs.maps.Levels.{LevelValue}
-use Rattle.level_rules.specs.maps.Sound.{IsSound}
-use Rattle.art_rules.specs.Textures.{Texture, TextureLists, texture_number}
+use Rattle.picture_rules.proofs.Common.{[], All, All-head, All-nil, All-tail, ap, arith, Bool, cond, Err, false, get_or, IfSome, inl, inr, IsSome, length, length-map, List, list_any_at, nat_tests, None, Ok, ok_or, Option, option_and_then, option_map, pos, refl, Result, Some, subst, suc, sym, true, unwrap_or, zero, ℕ, ◌<◌, ◌||◌, ◌∙◌, ◌∷◌, ◌≡◌, ◌≤◌, ◌⊎◌}
+use Rattle.art_rules.specs.Words.{and_then, book_lumps, Lump, PreparedTexture, Texture, texture_number, TextureLists}
+use Rattle.art_rules.proofs.Laws.{and_then-ok}
+use Rattle.picture_rules.specs.Words.{facts_of, is_sky, IsSound, LevelValue, no_seg, no_surface, no_textures, Sector, seg_at, SKY_FLAT, Surface, surface_at, textures_at, ThingLine, wall_texture}
 use Rattle.scene_rules.specs.declared.Flat.{Flat}
 use Rattle.scene_rules.specs.declared.Flat.TheVariants.{Sky, Lump as LumpFlat}
 use Rattle.scene_rules.specs.declared.SectorFlats.{SectorFlats}
-use Rattle.scene_rules.specs.Numbered.{each_from, each_or}
-use Rattle.scene_rules.specs.Scenes.{Faces, SceneValue, faces_in}
-use Rattle.scene_rules.specs.SectorFlats.{both_flats, flat_named, flat_number, flats_of, lump_flat, sector_flats, surface_of, surfaces_of}
-use Rattle.scene_rules.specs.Sides.{found_sky, side_textures, sky_texture}
+use Rattle.scene_rules.specs.Words.{both_flats, each_from, each_or, Faces, faces_in, flat_named, flat_number, flats_of, found_sky, has_sky, is_sky_name, lump_flat, SceneValue, sector_flats, shows_sky, side_textures, sky_name, sky_texture, surface_of, surfaces_of}
 use Rattle.scene_rules.proofs.SkyLemmas.{sky_is_listed}
-use Rattle.scene_rules.specs.Skies.{has_sky, is_sky_name, shows_sky, sky_name}
 use Rattle.art_rules.specs.declared.PlacedPatch.{PlacedPatch}
-use Rattle.art_rules.specs.Books.{book_lumps}
-use Rattle.art_rules.specs.Wanted.{PreparedTexture}
 use Rattle.texture_build.specs.Views.{ArePatchesThere, IsPrepared, prepared_at, unprepared}
 use Rattle.level_scene.specs.Bounds.{AreThere, IsNoneOrBelow, IsThere}
 use Rattle.sound_scene.specs.Sound.{middles_of, textures_view}
 use Rattle.sound_scene.specs.Whole.{IsNoneOrPrepared, IsWholeScene}
 use Rattle.picture_rules.specs.declared.wall.WallFacts.{WallFacts}
-use Rattle.picture_rules.specs.Scene.{facts_of, no_textures, textures_at, wall_texture}
 use Rattle.frame_core.specs.Scenes.{lists_of, scene_of}
 use Rattle.frame_core.specs.Views.{IsDrawable, ShowsSky}
 

@@ -1,13 +1,9 @@
 -- Laws of the things of a sector as their vissprites are listed, and of the planes of a view with their makers.
-use Rattle.word_rules.proofs.Common.{[], and_parts, ap, arith, at_drop_all, at_drop_more, Bool, clamps, cond, count_by, count_by_more_no, count_by_more_yes, drop, false, get_or, int_le, int_lt, ints, is_negative, is_some, length, List, map, map-append, None, not, Option, option_map, pos, refl, Some, subst, suc, sym, take, take_all, true, zero, zip, ℕ, ℤ, ◌++◌, ◌+◌, ◌<◌, ◌||◌, ◌∙◌, ◌∷◌, ◌≡◌, ◌≤ℤ◌, ◌≤◌}
-use Rattle.word_rules.specs.Words.{greater_word}
-use Rattle.view_rules.specs.View.{ViewValue}
-use Rattle.view_rules.specs.declared.TheConstants.{FRAME_WIDTH}
-use Rattle.level_rules.specs.declared.PlacedThing.{PlacedThing}
+use Rattle.picture_rules.proofs.Common.{[], and_parts, ap, arith, at_drop_all, at_drop_more, Bool, clamps, cond, count_by, count_by_more_no, count_by_more_yes, drop, false, get_or, int_le, int_lt, ints, is_negative, is_some, length, List, map, map-append, None, not, Option, option_map, pos, refl, Some, subst, suc, sym, take, take_all, true, zero, zip, ℕ, ℤ, ◌++◌, ◌+◌, ◌<◌, ◌||◌, ◌∙◌, ◌∷◌, ◌≡◌, ◌≤ℤ◌, ◌≤◌}
+use Rattle.picture_rules.specs.Words.{AreWide, column, entry_for, entry_of, entry_within, FRAME_WIDTH, greater_word, listed_plane, listed_sprite, marked_columns, misses_view, picture_first, picture_last, placed_of, PlacedThing, Plane, project, Scene, ViewValue}
 use Rattle.art_rules.specs.declared.shapes.Shape.{Shape}
-use Rattle.art_rules.specs.Books.{picked}
-use Rattle.scene_rules.specs.Places.{things_of}
-use Rattle.scene_rules.specs.Scenes.{SceneValue}
+use Rattle.art_rules.specs.Words.{picked}
+use Rattle.scene_rules.specs.Words.{SceneValue, things_of}
 use Rattle.picture_rules.specs.declared.list.ListedPlane.{ListedPlane}
 use Rattle.picture_rules.specs.declared.list.ListedSprite.{ListedSprite}
 use Rattle.picture_rules.specs.declared.list.PlaneMaker.{PlaneMaker}
@@ -15,12 +11,6 @@ use Rattle.picture_rules.specs.declared.sprite.Placed.{Placed}
 use Rattle.picture_rules.specs.declared.sprite.Seen.{Seen}
 use Rattle.picture_rules.specs.declared.sprite.Shape5.{Shape5}
 use Rattle.picture_rules.specs.declared.sprite.SpriteEntry.{SpriteEntry}
-use Rattle.picture_rules.specs.plane.Planes.{AreWide, Plane, column}
-use Rattle.picture_rules.specs.sprite.Entries.{entry_for, entry_of, entry_within, misses_view, picture_first, picture_last}
-use Rattle.picture_rules.specs.sprite.Projection.{project}
-use Rattle.picture_rules.specs.Lists.{listed_plane, listed_sprite, marked_columns}
-use Rattle.picture_rules.specs.Scene.{Scene}
-use Rattle.picture_rules.specs.Things.{placed_of}
 use Rattle.visplanes.specs.Planes.{no_plane, plane_at}
 use Rattle.vissprites.specs.Bounds.{lies_within}
 use Rattle.vissprites.proofs.BoundLemmas.{entry_for-lies_within}

@@ -1,19 +1,9 @@
 -- Laws of the steps of a view's events to which one more is added, of the planes and openings after them, and of the first limit that they pass.
-use Rattle.word_rules.proofs.Common.{[], ap, append-nil, append_assoc, arith, cases_lt, find, find-append, inl, inr, length, length-map, length-take, List, map, map-append, None, Option, option_or, refl, Some, sym, ℕ, ◌++◌, ◌<◌, ◌∙◌, ◌∷◌, ◌≡◌, ◌≤◌}
-use Rattle.view_rules.specs.View.{ViewValue}
-use Rattle.level_rules.specs.declared.walk.TheConstants.{MAX_DRAWSEGS}
-use Rattle.level_rules.specs.walk.Drawsegs.{drawsegs, last_leaf, leaf_fragments}
-use Rattle.level_rules.specs.walk.Events.{Event}
-use Rattle.level_rules.specs.walk.Events.Event.{LeafEvent, FragmentEvent}
-use Rattle.picture_rules.specs.wall.Walls.{Wall}
-use Rattle.picture_rules.specs.plane.Built.{after_event, after_events, no_planes, plane_counts}
+use Rattle.picture_rules.proofs.Common.{[], ap, append-nil, append_assoc, arith, cases_lt, find, find-append, inl, inr, length, length-map, length-take, List, map, map-append, None, Option, option_or, refl, Some, sym, ℕ, ◌++◌, ◌<◌, ◌∙◌, ◌∷◌, ◌≡◌, ◌≤◌}
+use Rattle.picture_rules.specs.Words.{after_event, after_events, counts_from, drawsegs, Event, fragment_facts, fragment_wall, FragmentEvent, last_leaf, leaf_fragments, leaf_step, leaf_surface, LeafEvent, MAX_DRAWSEGS, no_planes, openings_after, openings_counts, openings_past, passes_limit, plane_counts, planes_count, Scene, Step, steps_from, steps_of, steps_over, view_steps, ViewValue, Wall, walls_of}
 use Rattle.picture_rules.proofs.plane.BuiltLemmas.{after_events-more}
 use Rattle.picture_rules.specs.declared.Limits.{Limits}
 use Rattle.picture_rules.specs.declared.OverLimit.{OverLimit}
-use Rattle.picture_rules.specs.Scene.{Scene, fragment_facts, leaf_surface}
-use Rattle.picture_rules.specs.Walls.{fragment_wall, walls_of}
-use Rattle.picture_rules.specs.Planes.{Step, leaf_step, steps_from, steps_of}
-use Rattle.picture_rules.specs.Counts.{counts_from, openings_after, openings_counts, openings_past, passes_limit, planes_count, steps_over, view_steps}
 use Rattle.picture_rules.proofs.CountLemmas.{counts_from-more, openings_after-more}
 use Rattle.picture_rules.proofs.EventLemmas.{steps_of-full, steps_of-leaf, steps_of-room, walls_of-full, walls_of-leaf, walls_of-room}
 use Rattle.wall_columns.specs.Built.{step_of_wall, step_over, with_wall}

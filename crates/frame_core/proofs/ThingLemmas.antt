@@ -1,24 +1,16 @@
 -- Laws of `with_things`: one thing more, and a thing of a scene.
-use Rattle.word_rules.proofs.Common.{[], All, ap, arith, at_drop_all, at_drop_more, Bool, cond, drop, false, find, get_or, get_or-append-add, get_or_append_left, get_or_from_slice_get, length, length-append, length-map, List, map, None, Option, option_and_then, option_map, pos, refl, slice_get, slice_get_within, Some, subst, sym, true, ℕ, ◌++◌, ◌+◌, ◌<◌, ◌∙◌, ◌∷◌, ◌≡◌, ◌≤◌}
+use Rattle.picture_rules.proofs.Common.{[], All, ap, arith, at_drop_all, at_drop_more, Bool, cond, drop, false, find, get_or, get_or-append-add, get_or_append_left, get_or_from_slice_get, length, length-append, length-map, List, map, None, Option, option_and_then, option_map, pos, refl, slice_get, slice_get_within, Some, subst, sym, true, ℕ, ◌++◌, ◌+◌, ◌<◌, ◌∙◌, ◌∷◌, ◌≡◌, ◌≤◌}
 use Rattle.std.proofs.Math.ListN.{get_or-map}
-use Rattle.word_rules.specs.Listed.{joined_lists}
-use Rattle.word_rules.proofs.ListedLemmas.{joined_lists-cons}
-use Rattle.view_rules.specs.View.{ViewValue}
-use Rattle.view_rules.specs.Lights.{light_number}
-use Rattle.level_rules.specs.declared.PlacedThing.{PlacedThing}
-use Rattle.level_rules.specs.Levels.{surface_at}
+use Rattle.picture_rules.specs.Words.{add_entry, joined_lists, light_number, placed_of, PlacedThing, project, Scene, surface_at, ViewValue, with_seen, with_shape, with_thing, with_things}
+use Rattle.picture_rules.proofs.Laws.{joined_lists-cons}
 use Rattle.art_rules.specs.declared.shapes.Frame.{Frame}
 use Rattle.art_rules.specs.declared.shapes.Shape.{Shape}
-use Rattle.art_rules.specs.Books.{book_lumps, is_frame, picked, shape_lumps}
+use Rattle.art_rules.specs.Words.{book_lumps, is_frame, picked, shape_lumps}
 use Rattle.picture_rules.specs.declared.sprite.Placed.{Placed}
 use Rattle.picture_rules.specs.declared.sprite.Seen.{Seen}
 use Rattle.picture_rules.specs.declared.sprite.Shape5.{Shape5}
 use Rattle.picture_rules.specs.declared.sprite.SpriteEntry.{SpriteEntry}
-use Rattle.picture_rules.specs.sprite.Projection.{project}
-use Rattle.picture_rules.specs.sprite.Entries.{add_entry}
-use Rattle.scene_rules.specs.Scenes.{SceneValue}
-use Rattle.picture_rules.specs.Scene.{Scene}
-use Rattle.picture_rules.specs.Things.{placed_of, with_seen, with_shape, with_thing, with_things}
+use Rattle.scene_rules.specs.Words.{SceneValue}
 use Rattle.frame_core.specs.Scenes.{drawn_shape, lists_of, scene_of}
 
 -- what is below n

@@ -1,36 +1,8 @@
 -- Laws of where the dots of a view are: those of its masked pass lie in it, and with its walls and planes all.
-use Rattle.word_rules.proofs.Common.{[], All, All-from_recursion, AllByRecursion, AllPass, arith, Bool, cond, false, filter, get_or_from_slice_get, int_le, int_lt, ints, length, List, None, Option, pos, recursion_from_All, refl, slice_get, slice_get_within, Some, subst, suc, true, zero, ℕ, ℤ, ◌&&◌, ◌++◌, ◌+◌, ◌<ℤ◌, ◌<◌, ◌∷◌, ◌≡◌, ◌≤ℤ◌, ◌≤◌}
-use Rattle.word_rules.specs.Words.{minus_one}
-use Rattle.word_rules.specs.Listed.{listed_from}
-use Rattle.view_rules.specs.View.{ViewValue}
-use Rattle.view_rules.specs.declared.ViewShape.{ViewShape}
-use Rattle.view_rules.specs.declared.TheConstants.{FRAME_HEIGHT}
-use Rattle.level_rules.specs.walk.Events.{Event}
-use Rattle.level_rules.specs.walk.Walk.{view_events}
-use Rattle.pixel_rules.specs.declared.MaskedColumn.{MaskedColumn}
-use Rattle.pixel_rules.specs.declared.Painter.{Painter}
-use Rattle.pixel_rules.specs.declared.Post.{Post}
-use Rattle.pixel_rules.specs.Art.{Art}
-use Rattle.pixel_rules.specs.Posts.{picture_top, post_top, post_bottom, post_first, post_last, post_rows, post_colour, post_dots, posts_dots}
-use Rattle.pixel_rules.specs.Strips.{rows_between}
+use Rattle.picture_rules.proofs.Common.{[], All, All-from_recursion, AllByRecursion, AllPass, arith, Bool, cond, false, filter, get_or_from_slice_get, int_le, int_lt, ints, length, List, None, Option, pos, recursion_from_All, refl, slice_get, slice_get_within, Some, subst, suc, true, zero, ℕ, ℤ, ◌&&◌, ◌++◌, ◌+◌, ◌<ℤ◌, ◌<◌, ◌∷◌, ◌≡◌, ◌≤ℤ◌, ◌≤◌}
+use Rattle.picture_rules.specs.Words.{AreInView, Art, bottom_clip, clip_of_number, clip_of_some, clip_past, columns_at, draw_order, Drawseg, drawseg_of, drawsegs_from, Event, FRAME_HEIGHT, gives_bottom, gives_top, greatest_clip, greatest_that, least_clip, listed_from, masked_dots, MaskedColumn, middle_by, middle_column, middle_masked, middles_at, middles_of, minus_one, Painter, paints_by, paints_of, picture_top, planes_dots, Post, post_bottom, post_colour, post_dots, post_first, post_last, post_rows, post_top, posts_dots, rows_between, Scene, sprite_bottom, sprite_column, sprite_dots, sprite_masked, sprite_step, sprite_top, sprites_from, steps_of, top_clip, view_drawsegs, view_entries, view_events, view_paints, view_planes, view_steps, ViewShape, ViewValue, Wall, walls_dots, walls_of}
 use Rattle.picture_rules.specs.declared.wall.ColumnClip.{ColumnClip}
-use Rattle.picture_rules.specs.wall.Openings.{top_clip, bottom_clip}
-use Rattle.picture_rules.specs.wall.Walls.{Wall, clip_past}
 use Rattle.picture_rules.specs.declared.sprite.SpriteEntry.{SpriteEntry}
-use Rattle.picture_rules.specs.sprite.Clips.{gives_bottom, gives_top, greatest_that, clip_of_some, clip_of_number, sprite_bottom, sprite_top}
-use Rattle.picture_rules.specs.sprite.Drawsegs.{Drawseg}
-use Rattle.picture_rules.specs.sprite.Middles.{middle_masked, middle_by, middle_column, columns_at, middles_of, middles_at, sprite_step, sprites_from, masked_dots}
-use Rattle.picture_rules.specs.sprite.Order.{draw_order}
-use Rattle.picture_rules.specs.sprite.Sprites.{sprite_masked, sprite_column, sprite_dots}
-use Rattle.picture_rules.specs.Counts.{view_steps}
-use Rattle.picture_rules.specs.Masked.{drawseg_of, drawsegs_from, view_drawsegs}
-use Rattle.picture_rules.specs.Noted.{least_clip, greatest_clip}
-use Rattle.picture_rules.specs.Paints.{view_paints, paints_of, paints_by}
-use Rattle.picture_rules.specs.Picture.{AreInView}
-use Rattle.picture_rules.specs.Planes.{steps_of, view_planes, planes_dots}
-use Rattle.picture_rules.specs.Scene.{Scene}
-use Rattle.picture_rules.specs.Things.{view_entries}
-use Rattle.picture_rules.specs.Walls.{walls_of, walls_dots}
 use Rattle.picture_rules.proofs.FrameLemmas.{in_view-append}
 use Rattle.vissprites.specs.Bounds.{lies_within}
 use Rattle.vissprites.proofs.BoundLemmas.{draw_order-all}

@@ -1,41 +1,19 @@
 -- Laws of a whole view: its three parts in order, where its dots lie, what ends it, and the frame that it leaves.
-use Rattle.word_rules.proofs.Common.{[], All, AllPass, ap, arith, Bor, Err, get_or, IfErr, IfSome, IsErrAnd, length, length-replicate, List, None, Ok, on_ok-always, OnOk, Option, refl, replicate, Result, Some, subst, suc, sym, zero, ℕ, ◌++◌, ◌∙◌, ◌≡◌, ◌≤◌}
-use Rattle.outside.specs.Shelf.{ShelfView}
-use Rattle.outside.specs.declared.fault.Fault.{Fault}
-use Rattle.lump_rules.specs.Contents.{lump_bytes}
-use Rattle.zone_rules.specs.Zones.{Heap}
-use Rattle.view_rules.specs.View.{ViewValue}
-use Rattle.view_rules.specs.Sound.{IsWithinFrame}
-use Rattle.view_rules.specs.declared.ViewShape.{ViewShape}
-use Rattle.view_rules.specs.declared.TheConstants.{FRAME_HEIGHT}
-use Rattle.level_rules.specs.walk.Walk.{view_events}
-use Rattle.pixel_rules.specs.declared.Painter.{Painter}
-use Rattle.pixel_rules.specs.declared.TheConstants.{FRAME_CELLS}
-use Rattle.pixel_rules.specs.Dots.{Dot}
+use Rattle.picture_rules.proofs.Common.{[], All, AllPass, ap, arith, Bor, Err, get_or, IfErr, IfSome, IsErrAnd, length, length-replicate, List, None, Ok, on_ok-always, OnOk, Option, refl, replicate, Result, Some, subst, suc, sym, zero, ℕ, ◌++◌, ◌∙◌, ◌≡◌, ◌≤◌}
+use Rattle.art_rules.specs.Words.{Fault, lump_bytes, ShelfView}
+use Rattle.scene_rules.specs.Words.{Heap, SceneValue}
+use Rattle.picture_rules.specs.Words.{AreInView, Dot, draw_order, FitsFrame, FRAME_CELLS, FRAME_HEIGHT, IsWithinFrame, masked_dots, Painter, paints_by, paints_of, picture, Plane, planes_dots, planes_of, Scene, view_drawsegs, view_entries, view_events, view_over, view_paints, view_planes, view_steps, ViewShape, ViewValue, walls_dots, walls_of}
 use Rattle.pixel_strips.specs.Canvases.{CanvasView, marked_by_colour, placed_at}
 use Rattle.pixel_strips.specs.Dotted.{HasDots}
-use Rattle.picture_rules.specs.plane.Built.{planes_of}
-use Rattle.picture_rules.specs.plane.Planes.{Plane}
-use Rattle.wad_dir.specs.DirectoryView.{DirectoryView}
+use Rattle.texture_build.specs.DirectoryView.{DirectoryView}
 use Rattle.picture_rules.specs.declared.sprite.SpriteEntry.{SpriteEntry}
-use Rattle.picture_rules.specs.sprite.Middles.{masked_dots}
-use Rattle.picture_rules.specs.sprite.Order.{draw_order}
 use Rattle.vissprites.specs.Bounds.{lies_within}
 use Rattle.vissprites.proofs.BoundLemmas.{draw_order-all}
-use Rattle.scene_rules.specs.Scenes.{SceneValue}
 use Rattle.texture_build.specs.Paints.{PaintState, PaintTools, Paints, paint_state}
 use Rattle.texture_build.proofs.PaintLemmas.{paints-same, paints-then}
 use Rattle.sound_scene.specs.Sound.{SoundValue}
 use Rattle.picture_rules.specs.declared.Limits.{Limits}
 use Rattle.picture_rules.specs.declared.OverLimit.{OverLimit}
-use Rattle.picture_rules.specs.Counts.{view_over, view_steps}
-use Rattle.picture_rules.specs.Masked.{view_drawsegs}
-use Rattle.picture_rules.specs.Paints.{paints_by, paints_of, view_paints}
-use Rattle.picture_rules.specs.Picture.{AreInView, FitsFrame, picture}
-use Rattle.picture_rules.specs.Planes.{planes_dots, view_planes}
-use Rattle.picture_rules.specs.Scene.{Scene}
-use Rattle.picture_rules.specs.Things.{view_entries}
-use Rattle.picture_rules.specs.Walls.{walls_dots, walls_of}
 use Rattle.picture_rules.proofs.FrameLemmas.{frame_of-put_dots, in_view-append}
 use Rattle.frame_core.specs.declared.bench.Bench.{Bench}
 use Rattle.frame_core.specs.declared.fault.ViewFault.{ViewFault}

@@ -1,13 +1,7 @@
 -- Laws of the list of a view: it is that of the events after one leaf more, and after one fragment more.
-use Rattle.word_rules.proofs.Common.{[], ap, append-nil, append_assoc, arith, Bool, cases_lt, cond, false, filter, inl, inr, length, length-map, length-zip, length_push, List, map, map-append, min, nat_lt, nat_tests, None, Option, refl, replicate, Some, subst, sym, true, zip, ℕ, ℤ, ◌++◌, ◌+◌, ◌-◌, ◌<◌, ◌∙◌, ◌∷◌, ◌≡◌, ◌≤◌}
-use Rattle.view_rules.specs.View.{ViewValue}
-use Rattle.level_rules.specs.declared.PlacedThing.{PlacedThing}
-use Rattle.level_rules.specs.declared.walk.TheConstants.{MAX_DRAWSEGS}
-use Rattle.level_rules.specs.Levels.{leaf_at}
-use Rattle.level_rules.specs.walk.Drawsegs.{drawsegs, leaf_fragments, leaves_entered}
-use Rattle.level_rules.specs.walk.Events.{Event}
-use Rattle.level_rules.specs.walk.Events.Event.{LeafEvent, FragmentEvent}
-use Rattle.scene_rules.specs.Scenes.{SceneValue}
+use Rattle.picture_rules.proofs.Common.{[], ap, append-nil, append_assoc, arith, Bool, cases_lt, cond, false, filter, inl, inr, length, length-map, length-zip, length_push, List, map, map-append, min, nat_lt, nat_tests, None, Option, refl, replicate, Some, subst, sym, true, zip, ℕ, ℤ, ◌++◌, ◌+◌, ◌-◌, ◌<◌, ◌∙◌, ◌∷◌, ◌≡◌, ◌≤◌}
+use Rattle.picture_rules.specs.Words.{add_entry, count_shown, drawsegs, entry_for, entry_of, entry_within, Event, event_planes, first_mentions, FragmentEvent, is_entered, is_seen, is_shown, leaf_at, leaf_fragments, leaf_sector, LeafEvent, leaves_entered, listed_fragment, listed_sprite, maker_of, makes_entry, MAX_DRAWSEGS, misses_view, picture_first, picture_last, placed_of, PlacedThing, Plane, plane_makers, planes_made, planes_of, project, Scene, sectors_entered, shown_things, view_entries, view_planes, ViewValue, with_entry, with_sectors, with_seen, with_shape, with_thing, with_things}
+use Rattle.scene_rules.specs.Words.{SceneValue}
 use Rattle.picture_rules.specs.declared.Limits.{Limits}
 use Rattle.picture_rules.specs.declared.list.TheConstants.{MOST_TOLD}
 use Rattle.picture_rules.specs.declared.list.ListedFragment.{ListedFragment}
@@ -19,14 +13,6 @@ use Rattle.picture_rules.specs.declared.sprite.Placed.{Placed}
 use Rattle.picture_rules.specs.declared.sprite.Seen.{Seen}
 use Rattle.picture_rules.specs.declared.sprite.Shape5.{Shape5}
 use Rattle.picture_rules.specs.declared.sprite.SpriteEntry.{SpriteEntry}
-use Rattle.picture_rules.specs.plane.Planes.{Plane}
-use Rattle.picture_rules.specs.plane.Built.{planes_of}
-use Rattle.picture_rules.specs.sprite.Entries.{add_entry, entry_for, entry_of, entry_within, misses_view, picture_first, picture_last, with_entry}
-use Rattle.picture_rules.specs.sprite.Projection.{project}
-use Rattle.picture_rules.specs.Scene.{Scene, leaf_sector}
-use Rattle.picture_rules.specs.Planes.{view_planes}
-use Rattle.picture_rules.specs.Things.{first_mentions, is_entered, placed_of, sectors_entered, view_entries, with_sectors, with_seen, with_shape, with_thing, with_things}
-use Rattle.picture_rules.specs.Lists.{event_planes, is_seen, is_shown, listed_fragment, listed_sprite, maker_of, makes_entry, plane_makers, planes_made, shown_things, count_shown}
 use Rattle.picture_rules.proofs.ListLemmas.{all_fragments-fragment, all_fragments-leaf, fragments-full, fragments-leaf, fragments-room, plane_makers-count, plane_makers-more, plane_makers-none, shown_things-again, shown_things-fragment, shown_things-new, shown_things-none, told-more}
 use Rattle.picture_rules.proofs.ThingLemmas.{view_entries-again, view_entries-fragment, view_entries-new}
 use Rattle.frame_core.specs.declared.bench.Bench.{Bench}

@@ -1,6 +1,6 @@
 -- Laws of what is listed with each event: the steps of the code that lists it.
-use Rattle.word_rules.proofs.Common.{[], ap, arith, Bool, cond, false, length, List, min, nat_lt, nat_tests, None, Option, refl, replicate, Some, sym, true, ℕ, ◌++◌, ◌+◌, ◌-◌, ◌<◌, ◌^◌, ◌∙◌, ◌∷◌, ◌≡◌, ◌≤◌}
-use Rattle.level_rules.specs.declared.walk.TheConstants.{MAX_DRAWSEGS}
+use Rattle.picture_rules.proofs.Common.{[], ap, arith, Bool, cond, false, length, List, min, nat_lt, nat_tests, None, Option, refl, replicate, Some, sym, true, ℕ, ◌++◌, ◌+◌, ◌-◌, ◌<◌, ◌^◌, ◌∙◌, ◌∷◌, ◌≡◌, ◌≤◌}
+use Rattle.picture_rules.specs.Words.{MAX_DRAWSEGS}
 use Rattle.picture_rules.specs.declared.list.ListedFragment.{ListedFragment}
 use Rattle.picture_rules.specs.declared.list.ListedSprite.{ListedSprite}
 use Rattle.picture_rules.specs.declared.list.PlaneMaker.{PlaneMaker}

@@ -1,28 +1,12 @@
 -- Laws of a bench as a list of events makes it: a fragment more.
-use Rattle.word_rules.proofs.Common.{[], All, All-push, ap, append-nil, arith, cases_lt, Err, inl, inr, length, length-append, length-map, List, list_any, map, None, Ok, OnOk, Option, refl, Result, subst, suc, sym, ℕ, ◌++◌, ◌+◌, ◌<◌, ◌==◌, ◌∙◌, ◌∷◌, ◌≡◌, ◌≤◌}
-use Rattle.view_rules.specs.View.{ViewValue}
-use Rattle.view_rules.specs.declared.TheConstants.{FRAME_HEIGHT}
-use Rattle.level_rules.specs.Levels.{seg_at, surface_at}
-use Rattle.level_rules.specs.declared.walk.TheConstants.{MAX_DRAWSEGS}
-use Rattle.level_rules.specs.walk.Drawsegs.{drawsegs, last_leaf, leaves_entered}
-use Rattle.level_rules.specs.walk.Events.{Event}
-use Rattle.level_rules.specs.walk.Events.Event.{FragmentEvent}
-use Rattle.level_rules.proofs.walk.DrawsegLemmas.{drawsegs-within, last_leaf-append, leaves_entered-append}
-use Rattle.picture_rules.specs.plane.Planes.{Plane}
-use Rattle.picture_rules.specs.plane.Built.{PlanesNow, after_event}
+use Rattle.picture_rules.proofs.Common.{[], All, All-push, ap, append-nil, arith, cases_lt, Err, inl, inr, length, length-append, length-map, List, list_any, map, None, Ok, OnOk, Option, refl, Result, subst, suc, sym, ℕ, ◌++◌, ◌+◌, ◌<◌, ◌==◌, ◌∙◌, ◌∷◌, ◌≡◌, ◌≤◌}
+use Rattle.picture_rules.specs.Words.{after_event, drawsegs, Event, facts_of, fragment_wall, FragmentEvent, FRAME_HEIGHT, is_entered, last_leaf, leaf_sector, leaf_surface, leaves_entered, MAX_DRAWSEGS, notes_from, openings_after, openings_list, openings_of, openings_past, Plane, PlanesNow, saved_by, Scene, seg_at, Step, steps_over, surface_at, view_notes, view_steps, ViewValue, Wall, wall_of, wall_step, walls_of}
+use Rattle.picture_rules.proofs.Laws.{drawsegs-within, last_leaf-append, leaves_entered-append}
 use Rattle.picture_rules.specs.declared.wall.WallFacts.{WallFacts}
-use Rattle.picture_rules.specs.wall.Notes.{notes_from, openings_list, saved_by, view_notes}
-use Rattle.picture_rules.specs.wall.Openings.{openings_of}
-use Rattle.picture_rules.specs.wall.Walls.{Wall, wall_of}
 use Rattle.picture_rules.proofs.wall.NoteLemmas.{length-saved_openings, openings_list-more}
-use Rattle.scene_rules.specs.Scenes.{SceneValue}
+use Rattle.scene_rules.specs.Words.{SceneValue}
 use Rattle.picture_rules.specs.declared.Limits.{Limits}
 use Rattle.picture_rules.specs.declared.OverLimit.{OverLimit}
-use Rattle.picture_rules.specs.Scene.{Scene, facts_of, leaf_sector, leaf_surface}
-use Rattle.picture_rules.specs.Walls.{fragment_wall, walls_of}
-use Rattle.picture_rules.specs.Planes.{Step, wall_step}
-use Rattle.picture_rules.specs.Things.{is_entered}
-use Rattle.picture_rules.specs.Counts.{openings_after, openings_past, steps_over, view_steps}
 use Rattle.picture_rules.proofs.ThingLemmas.{view_entries-fragment}
 use Rattle.visplanes.specs.Planes.{PlanesView}
 use Rattle.wall_columns.specs.Built.{IsBuilt, limits_of, step_of_wall, step_over, with_wall}

@@ -1,26 +1,12 @@
 -- Laws of a bench as a list of events makes it: no event, and a leaf more.
-use Rattle.word_rules.proofs.Common.{[], All, All-nil, All-push, AllPass, ap, Bool, eqb-true, Err, false, IsErrAnd, length, List, list_any, list_any-append, map, map-append, None, Ok, Option, or-false, refl, Result, subst, sym, true, ℕ, ◌++◌, ◌<◌, ◌==◌, ◌||◌, ◌∙◌, ◌∷◌, ◌≡◌}
-use Rattle.view_rules.specs.View.{ViewValue}
-use Rattle.level_rules.specs.Levels.{leaf_at, surface_at}
-use Rattle.art_rules.specs.Books.{book_lumps}
-use Rattle.level_rules.specs.walk.Drawsegs.{last_leaf, leaves_entered}
-use Rattle.level_rules.specs.walk.Events.{Event}
-use Rattle.level_rules.specs.walk.Events.Event.{LeafEvent}
-use Rattle.level_rules.proofs.walk.DrawsegLemmas.{last_leaf-append, leaves_entered-append}
+use Rattle.picture_rules.proofs.Common.{[], All, All-nil, All-push, AllPass, ap, Bool, eqb-true, Err, false, IsErrAnd, length, List, list_any, list_any-append, map, map-append, None, Ok, Option, or-false, refl, Result, subst, sym, true, ℕ, ◌++◌, ◌<◌, ◌==◌, ◌||◌, ◌∙◌, ◌∷◌, ◌≡◌}
+use Rattle.picture_rules.specs.Words.{after_event, ceiling_key, Event, first_mentions, floor_key, is_entered, last_leaf, leaf_at, leaf_sector, leaf_step, leaf_surface, LeafEvent, leaves_entered, no_planes, openings_list, openings_past, Plane, PlanesNow, saved_from, Scene, sectors_entered, Step, steps_over, surface_at, view_entries, view_steps, ViewValue, Wall, walls_of, with_sectors}
+use Rattle.art_rules.specs.Words.{book_lumps}
+use Rattle.picture_rules.proofs.Laws.{last_leaf-append, leaves_entered-append}
 use Rattle.picture_rules.specs.declared.plane.PlaneKey.{PlaneKey}
-use Rattle.picture_rules.specs.plane.Keys.{ceiling_key, floor_key}
-use Rattle.picture_rules.specs.plane.Planes.{Plane}
-use Rattle.picture_rules.specs.plane.Built.{PlanesNow, after_event, no_planes}
-use Rattle.picture_rules.specs.wall.Notes.{openings_list, saved_from}
-use Rattle.picture_rules.specs.wall.Walls.{Wall}
 use Rattle.picture_rules.specs.declared.sprite.SpriteEntry.{SpriteEntry}
-use Rattle.scene_rules.specs.Scenes.{SceneValue}
+use Rattle.scene_rules.specs.Words.{SceneValue}
 use Rattle.picture_rules.specs.declared.Limits.{Limits}
-use Rattle.picture_rules.specs.Scene.{Scene, leaf_sector, leaf_surface}
-use Rattle.picture_rules.specs.Walls.{walls_of}
-use Rattle.picture_rules.specs.Planes.{Step, leaf_step}
-use Rattle.picture_rules.specs.Things.{first_mentions, is_entered, sectors_entered, view_entries, with_sectors}
-use Rattle.picture_rules.specs.Counts.{openings_past, steps_over, view_steps}
 use Rattle.picture_rules.proofs.ThingLemmas.{view_entries-again, view_entries-new}
 use Rattle.visplanes.specs.Planes.{PlanesView}
 use Rattle.vissprites.specs.Bounds.{has_lump_below, lies_within}

@@ -1,16 +1,11 @@
 -- How a call that draws a view ends: within the limits or past one, and in a zone that is large enough for the scene.
 use Rattle.std.specs.Prelude.{◌≡◌, ◌≤◌, ℕ, List, None, Some, IfErr, IfSome, IsSome, OnOk, Result}
-use Rattle.outside.specs.Causes.{FaultsRose}
-use Rattle.outside.specs.Shelf.{ShelfView}
-use Rattle.lump_rules.specs.Lookups.{lump_at}
-use Rattle.lump_cache.specs.Calls.{IfFull}
-use Rattle.zone_rules.specs.Zones.{Heap}
-use Rattle.view_rules.specs.View.{ViewValue}
-use Rattle.wad_dir.specs.DirectoryView.{DirectoryView}
-use Rattle.scene_rules.specs.Scenes.{SceneValue, art_of}
-use Rattle.scene_rules.specs.Sizes.{enough}
+use Rattle.art_rules.specs.Words.{FaultsRose, lump_at, ShelfView}
+use Rattle.texture_build.specs.Calls.{IfFull}
+use Rattle.scene_rules.specs.Words.{art_of, enough, Heap, SceneValue}
+use Rattle.picture_rules.specs.Words.{view_over, ViewValue}
+use Rattle.texture_build.specs.DirectoryView.{DirectoryView}
 use Rattle.picture_rules.specs.declared.Limits.{Limits}
-use Rattle.picture_rules.specs.Counts.{view_over}
 use Rattle.texture_build.specs.Draws.{HoldsArt}
 use Rattle.sound_scene.specs.Sound.{textures_view}
 use Rattle.frame_core.specs.declared.fault.ViewFault.{ViewFault}

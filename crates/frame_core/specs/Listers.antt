@@ -1,9 +1,7 @@
 -- Who lists a view while it is walked: the lister by its values, and what it has made of the events.
 use Rattle.std.specs.Prelude.{◌≡◌, ℕ, List, OnOk, Result}
-use Rattle.level_rules.specs.walk.Events.{Event}
-use Rattle.level_rules.specs.walk.Walk.{view_events}
-use Rattle.view_rules.specs.View.{ViewValue}
-use Rattle.scene_rules.specs.Scenes.{SceneValue}
+use Rattle.picture_rules.specs.Words.{Event, view_events, ViewValue}
+use Rattle.scene_rules.specs.Words.{SceneValue}
 use Rattle.picture_rules.specs.declared.OverLimit.{OverLimit}
 use Rattle.frame_core.specs.Painters.{CounterValue, HasCounted}
 use Rattle.frame_core.specs.Scenes.{lists_of, scene_of}

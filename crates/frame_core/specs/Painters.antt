@@ -1,16 +1,9 @@
 -- Who is given the walk of a view: the painter and the counter by their values, and what they have made of the events.
 use Rattle.std.specs.Prelude.{◌≡◌, ℕ, List, [], Some, IfSome, IfErr, OnOk, Result}
-use Rattle.view_rules.specs.View.{ViewValue}
-use Rattle.level_rules.specs.walk.Events.{Event}
-use Rattle.level_rules.specs.walk.Walk.{view_events}
-use Rattle.pixel_rules.specs.declared.Painter.{Painter}
-use Rattle.pixel_rules.specs.Dots.{Dot}
-use Rattle.scene_rules.specs.Scenes.{SceneValue}
+use Rattle.picture_rules.specs.Words.{Dot, Event, Painter, Scene, steps_over, view_events, view_steps, ViewValue, walls_dots, walls_of}
+use Rattle.scene_rules.specs.Words.{SceneValue}
 use Rattle.picture_rules.specs.declared.Limits.{Limits}
 use Rattle.picture_rules.specs.declared.OverLimit.{OverLimit}
-use Rattle.picture_rules.specs.Scene.{Scene}
-use Rattle.picture_rules.specs.Walls.{walls_of, walls_dots}
-use Rattle.picture_rules.specs.Counts.{steps_over, view_steps}
 use Rattle.pixel_strips.specs.Canvases.{CanvasView}
 use Rattle.pixel_strips.specs.Standing.{StandsInFrame}
 use Rattle.texture_build.specs.Paints.{PaintState}

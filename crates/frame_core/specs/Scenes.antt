@@ -1,16 +1,12 @@
 -- What a picture is made from: of a scene that passed its audit, and of the bytes of lumps.
 use Rattle.std.specs.Prelude.{ℕ, List, option_map, unwrap_or}
-use Rattle.level_rules.specs.Levels.{LevelLists}
+use Rattle.picture_rules.specs.Words.{LevelLists, Scene}
 use Rattle.art_rules.specs.declared.shapes.Shape.{Shape}
-use Rattle.art_rules.specs.Books.{picked}
-use Rattle.art_rules.specs.Textures.{texture_at}
+use Rattle.art_rules.specs.Words.{picked, texture_at}
 use Rattle.picture_rules.specs.declared.sprite.Shape5.{Shape5}
-use Rattle.scene_rules.specs.SectorFlats.{surfaces_of}
-use Rattle.scene_rules.specs.Places.{things_of}
-use Rattle.scene_rules.specs.Scenes.{SceneValue}
+use Rattle.scene_rules.specs.Words.{SceneValue, surfaces_of, things_of}
 use Rattle.texture_build.specs.Arts.{view_art}
 use Rattle.sound_scene.specs.Sound.{middles_of, textures_view}
-use Rattle.picture_rules.specs.Scene.{Scene}
 
 -- the lists that the walk reads
 abbrev pub lists_of : SceneValue → LevelLists

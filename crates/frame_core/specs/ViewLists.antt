@@ -1,11 +1,7 @@
 -- The list of a view as a walk makes it: what is listed with each event, and what a list is that the events of a view are in.
 use Rattle.std.specs.Prelude.{◌≡◌, ℕ, ◌+◌, ◌-◌, min, nat_lt, Bool, true, false, cond, List, [], ◌∷◌, ◌++◌, length, map, replicate, Option, Some, None, option_map}
 use Rattle.std.specs.List.{zip}
-use Rattle.view_rules.specs.View.{ViewValue}
-use Rattle.level_rules.specs.declared.PlacedThing.{PlacedThing}
-use Rattle.level_rules.specs.declared.walk.TheConstants.{MAX_DRAWSEGS}
-use Rattle.level_rules.specs.walk.Drawsegs.{drawsegs, leaf_fragments}
-use Rattle.level_rules.specs.walk.Events.{Event}
+use Rattle.picture_rules.specs.Words.{count_shown, drawsegs, entry_for, Event, leaf_fragments, listed_fragment, listed_plane, listed_sprite, MAX_DRAWSEGS, placed_of, PlacedThing, Plane, plane_makers, project, Scene, shown_things, view_entries, ViewListValue, ViewValue}
 use Rattle.picture_rules.specs.declared.list.TheConstants.{MOST_TOLD}
 use Rattle.picture_rules.specs.declared.list.ListedFragment.{ListedFragment}
 use Rattle.picture_rules.specs.declared.list.ListedPlane.{ListedPlane}
@@ -17,12 +13,6 @@ use Rattle.picture_rules.specs.declared.sprite.Placed.{Placed}
 use Rattle.picture_rules.specs.declared.sprite.Seen.{Seen}
 use Rattle.picture_rules.specs.declared.sprite.Shape5.{Shape5}
 use Rattle.picture_rules.specs.declared.sprite.SpriteEntry.{SpriteEntry}
-use Rattle.picture_rules.specs.plane.Planes.{Plane}
-use Rattle.picture_rules.specs.sprite.Entries.{entry_for}
-use Rattle.picture_rules.specs.sprite.Projection.{project}
-use Rattle.picture_rules.specs.Scene.{Scene}
-use Rattle.picture_rules.specs.Things.{placed_of, view_entries}
-use Rattle.picture_rules.specs.Lists.{ViewListValue, listed_fragment, listed_plane, listed_sprite, plane_makers, shown_things, count_shown}
 
 -- what is listed while a view is walked: its planes are known only when the walk has ended
 pub record WalkListValue : Type 0 where

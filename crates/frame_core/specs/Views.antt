@@ -1,23 +1,12 @@
 -- What is drawn in a view, what it is drawn with, and what a part of it paints.
 use Rattle.std.specs.Prelude.{◌≡◌, ◌≤◌, ◌<◌, ◌||◌, ◌==◌, ◌⊎◌, ℕ, true, List, All, IfSome, IsSome, Result, length, ⊤}
 use Rattle.std.specs.List.{list_any}
-use Rattle.outside.specs.Shelf.{ShelfView}
-use Rattle.lump_rules.specs.declared.wad.Lump.{Lump}
-use Rattle.lump_rules.specs.Contents.{lump_bytes}
-use Rattle.zone_rules.specs.Zones.{Heap}
-use Rattle.view_rules.specs.View.{ViewValue}
-use Rattle.level_rules.specs.declared.Surface.{Surface}
-use Rattle.level_rules.specs.declared.TheConstants.{SKY_FLAT}
-use Rattle.wad_dir.specs.DirectoryView.{DirectoryView}
-use Rattle.art_rules.specs.Books.{book_lumps}
-use Rattle.pixel_rules.specs.declared.Painter.{Painter}
-use Rattle.pixel_rules.specs.Dots.{Dot}
+use Rattle.art_rules.specs.Words.{book_lumps, Lump, lump_bytes, ShelfView}
+use Rattle.scene_rules.specs.Words.{has_flat, Heap, SceneValue, surfaces_of}
+use Rattle.picture_rules.specs.Words.{Dot, Painter, Scene, SKY_FLAT, Surface, ViewValue}
+use Rattle.texture_build.specs.DirectoryView.{DirectoryView}
 use Rattle.scene_rules.specs.declared.Flat.TheVariants.{Sky}
 use Rattle.scene_rules.specs.declared.SectorFlats.{SectorFlats}
-use Rattle.scene_rules.specs.Scenes.{SceneValue}
-use Rattle.scene_rules.specs.SectorFlats.{surfaces_of}
-use Rattle.scene_rules.specs.Sizes.{has_flat}
-use Rattle.picture_rules.specs.Scene.{Scene}
 use Rattle.pixel_strips.specs.Canvases.{CanvasView, placed_at}
 use Rattle.texture_build.specs.Views.{AllThere, IsPrepared}
 use Rattle.texture_build.specs.Paints.{PaintState, PaintTools, Paints, paint_state, paint_tools}

@@ -1,31 +1,13 @@
 -- The walls, planes and vissprites of a view as a list of events makes them.
 use Rattle.std.specs.Prelude.{◌≡◌, ◌≤◌, ◌<◌, ◌⊎◌, ◌||◌, ℕ, Bool, true, false, nat_lt, cond, List, [], All, None, length, map}
 use Rattle.std.specs.List.{AllPass}
-use Rattle.view_rules.specs.View.{ViewValue}
-use Rattle.view_rules.specs.declared.ViewShape.{ViewShape}
-use Rattle.level_rules.specs.Levels.{is_sky, seg_at, surface_at}
-use Rattle.level_rules.specs.declared.Surface.{Surface}
-use Rattle.art_rules.specs.Books.{book_lumps}
-use Rattle.level_rules.specs.declared.walk.TheConstants.{MAX_DRAWSEGS}
-use Rattle.level_rules.specs.walk.Drawsegs.{last_leaf}
-use Rattle.level_rules.specs.walk.Events.{Event}
-use Rattle.level_rules.specs.walk.Events.Event.{LeafEvent, FragmentEvent}
-use Rattle.pixel_rules.specs.Dots.{Dot}
+use Rattle.picture_rules.specs.Words.{after_events, Dot, Event, facts_of, FragmentEvent, holds, is_entered, is_sky, IsAmongPlanes, last_leaf, leaf_sector, leaf_surface, LeafEvent, MAX_DRAWSEGS, no_planes, openings_after, Plane, PlanesNow, Scene, seg_at, Step, steps_over, Surface, surface_at, view_entries, view_steps, ViewShape, ViewValue, Wall, wall_dots, wall_of, walls_of, with_things}
+use Rattle.art_rules.specs.Words.{book_lumps}
 use Rattle.picture_rules.specs.declared.plane.Flat4.{Flat4}
 use Rattle.picture_rules.specs.declared.plane.Flat4.TheVariants.{Sky, Lump}
-use Rattle.picture_rules.specs.plane.Built.{PlanesNow, IsAmongPlanes, after_events, no_planes}
-use Rattle.picture_rules.specs.plane.Planes.{Plane}
-use Rattle.picture_rules.specs.plane.Spans.{holds}
-use Rattle.picture_rules.specs.wall.Walls.{Wall, wall_of}
-use Rattle.picture_rules.specs.wall.Strips.{wall_dots}
 use Rattle.picture_rules.specs.declared.sprite.SpriteEntry.{SpriteEntry}
-use Rattle.scene_rules.specs.Scenes.{SceneValue}
+use Rattle.scene_rules.specs.Words.{SceneValue}
 use Rattle.picture_rules.specs.declared.Limits.{Limits}
-use Rattle.picture_rules.specs.Scene.{Scene, facts_of, leaf_sector, leaf_surface}
-use Rattle.picture_rules.specs.Walls.{walls_of}
-use Rattle.picture_rules.specs.Planes.{Step}
-use Rattle.picture_rules.specs.Things.{is_entered, view_entries, with_things}
-use Rattle.picture_rules.specs.Counts.{openings_after, steps_over, view_steps}
 use Rattle.vissprites.specs.Bounds.{lies_within, has_lump_below}
 use Rattle.wall_columns.specs.Built.{IsBuilt, limits_of, with_wall}
 use Rattle.frame_core.specs.declared.bench.Bench.{Bench}

@@ -5,20 +5,15 @@
 // `R_Subsector`, r_bsp.c.
 ghost use Rattle.std.specs.Prelude.{◌≡◌, ◌≤◌, ◌<◌, ◌+◌, ◌++◌, ◌∷◌, ◌==◌, ℕ, true, false, List, [], All, IfOk, IfErr, IfSome, OnOk, length, Some};
 ghost use Rattle.std.specs.List.{AllPass};
-ghost use Rattle.view_rules.specs.declared.TheConstants.{FRAME_HEIGHT};
-ghost use Rattle.level_rules.specs.Levels.{leaf_at, surface_at};
-ghost use Rattle.art_rules.specs.Books.{book_lumps};
+ghost use Rattle.picture_rules.specs.Words.{ceiling_key, Event, floor_key, FragmentEvent, FRAME_HEIGHT, leaf_at, LeafEvent, steps_over, surface_at, view_steps};
+ghost use Rattle.art_rules.specs.Words.{book_lumps};
 ghost use Rattle.picture_rules.specs.declared.plane.TheConstants.{MOST_VISPLANES};
-ghost use Rattle.picture_rules.specs.plane.Keys.{ceiling_key, floor_key};
-ghost use Rattle.level_rules.specs.walk.Events.{Event};
-ghost use Rattle.level_rules.specs.walk.Events.Event.{LeafEvent, FragmentEvent};
 ghost use Rattle.picture_rules.specs.declared.Limits.{Limits};
-ghost use Rattle.picture_rules.specs.Counts.{steps_over, view_steps};
 ghost use Rattle.vissprites.specs.Bounds.{lies_within, has_lump_below};
 ghost use Rattle.picture_rules.specs.declared.wall.TheConstants.{MOST_OPENINGS};
 ghost use Rattle.wall_columns.specs.Built.{limits_of};
 ghost use Rattle.wall_columns.specs.Faults.{limit_of_result, IsLimitFault};
-ghost use Rattle.lump_cache.specs.Caches.{KeepsCounts};
+ghost use Rattle.texture_build.specs.Caches.{KeepsCounts};
 ghost use Rattle.pixel_strips.specs.Dotted.{PlacedAlike};
 ghost use Rattle.frame_core.specs.Entered.{has_entered};
 ghost use Rattle.frame_core.specs.Scenes.{lists_of, scene_of};
@@ -33,13 +28,12 @@ use crate::fault::ViewFault;
 use crate::keys::{ceiling_key, floor_key};
 use crate::things::add_things;
 use crate::tools::ViewTools;
-use outside::Shelf;
-use picture_rules::Limits;
+use art_rules::Shelf;
+use picture_rules::{FRAME_HEIGHT, Limits};
 use pixel_strips::Canvas;
 use sound_scene::SoundScene;
 use std::alloc::{AllocError, Global};
 use view_frame::View;
-use view_rules::FRAME_HEIGHT;
 use visplanes::Planes;
 use vissprites::Sprites;
 use wall_columns::{DrawFault, LeafPlanes, WallState, WallTools};
@@ -246,7 +240,7 @@ impl Bench {
 }
 
 // The sector of a leaf.
-#[tactic(auto, unfolding(level_rules::specs::Levels::leaf_at))]
+#[tactic(auto, unfolding(picture_rules::specs::Words::leaf_at))]
 pub(crate) fn sector_of(scene: &SoundScene, leaf: u16) -> u16
     requires { leaf < length scene.now.scene.base.level.leaves }
     ensures value { result ≡ (leaf_at (lists_of scene.now.scene) leaf).sector }
@@ -256,7 +250,7 @@ pub(crate) fn sector_of(scene: &SoundScene, leaf: u16) -> u16
 }
 
 // The sector of the first leaf.
-#[tactic(auto, unfolding(level_rules::specs::Levels::leaf_at))]
+#[tactic(auto, unfolding(picture_rules::specs::Words::leaf_at))]
 fn first_sector(scene: &SoundScene) -> u16
     ensures value { result ≡ (leaf_at (lists_of scene.now.scene) 0).sector }
     ensures there { 0 < length scene.now.scene.base.level.segs →

@@ -1,13 +1,9 @@
 // What a seg is drawn from: rules `picture_rules`, Scene.
 ghost use Rattle.std.specs.Prelude.{◌≡◌, ◌<◌, ℕ, List, length};
-ghost use Rattle.level_rules.specs.Levels.{seg_at, surface_at};
-ghost use Rattle.level_rules.specs.maps.Sound.{IsSegIn, IsSound};
-ghost use Rattle.level_rules.specs.walk.Segs.{back_of};
-ghost use Rattle.picture_rules.specs.Scene.{facts_of, side_at, textures_at, wall_texture};
+ghost use Rattle.picture_rules.specs.Words.{back_of, facts_of, IsSegIn, IsSound, seg_at, side_at, surface_at, textures_at, wall_texture};
 ghost use Rattle.frame_core.specs.Scenes.{lists_of, scene_of};
 
-use level_rules::{Seg, Side, SideTextures, Surface};
-use picture_rules::{WallFacts, WallTexture};
+use picture_rules::{Seg, Side, SideTextures, Surface, WallFacts, WallTexture};
 use sound_scene::SoundScene;
 use texture_build::TexNo;
 
@@ -47,7 +43,7 @@ pub fn facts_of(scene: &SoundScene, sector: u16, seg_no: u16) -> WallFacts
 }
 
 // A seg by its number, with its side and its sectors there.
-#[tactic(auto, unfolding(level_rules::specs::Levels::seg_at))]
+#[tactic(auto, unfolding(picture_rules::specs::Words::seg_at))]
 fn seg_at(scene: &SoundScene, seg_no: u16) -> Seg
     requires { seg_no < length scene.now.scene.base.level.segs }
     ensures seg { result ≡ seg_at (lists_of scene.now.scene) seg_no }
@@ -75,7 +71,7 @@ fn textures_at(scene: &SoundScene, side: u16) -> SideTextures
 }
 
 // The sector of that number.
-#[tactic(auto, using(crate::proofs::SceneLemmas::surface_counts), unfolding(level_rules::specs::Levels::surface_at))]
+#[tactic(auto, using(crate::proofs::SceneLemmas::surface_counts), unfolding(picture_rules::specs::Words::surface_at))]
 pub(crate) fn surface_at(scene: &SoundScene, sector: u16) -> Surface
     requires flats { length scene.now.scene.faces.flats
         ≡ length scene.now.scene.base.level.sectors }
@@ -86,7 +82,7 @@ pub(crate) fn surface_at(scene: &SoundScene, sector: u16) -> Surface
 }
 
 // The sector behind a seg.
-#[tactic(auto, unfolding(level_rules::specs::walk::Segs::back_of))]
+#[tactic(auto, unfolding(picture_rules::specs::Words::back_of))]
 fn back_of(scene: &SoundScene, seg: Seg) -> Option<Surface>
     requires flats { length scene.now.scene.faces.flats
         ≡ length scene.now.scene.base.level.sectors }

@@ -5,8 +5,8 @@ ghost use Rattle.std.specs.Prelude.{◌≡◌, Some};
 ghost use Rattle.wall_columns.specs.Faults.{limit_of_fault, IsLimitFault};
 ghost use Rattle.frame_core.specs.Faults.{from_cache, from_draw};
 
-use lump_cache::CacheFault;
 use picture_rules::{LimitKind, OverLimit};
+use texture_build::CacheFault;
 use thiserror::Error;
 use wall_columns::DrawFault;
 

@@ -2,9 +2,7 @@
 //
 // Rules: `picture_rules`, Planes. The original: `R_DrawPlanes`, r_plane.c.
 ghost use Rattle.std.specs.Prelude.{◌≡◌, None, IfErr};
-ghost use Rattle.level_rules.specs.walk.Walk.{view_events};
-ghost use Rattle.picture_rules.specs.Counts.{view_steps};
-ghost use Rattle.picture_rules.specs.Planes.{planes_dots, view_planes};
+ghost use Rattle.picture_rules.specs.Words.{planes_dots, view_events, view_planes, view_steps};
 ghost use Rattle.frame_core.specs.Faults.{limit_of_view};
 ghost use Rattle.frame_core.specs.Scenes.{lists_of};
 ghost use Rattle.frame_core.specs.Views.{AreSameViewTools, CanDrawTools, PaintsView, tools_scene, tools_state};
@@ -13,7 +11,7 @@ ghost use Rattle.frame_core.specs.Painters.{HasWalkedView, IsPlacedIn};
 use crate::bench::Bench;
 use crate::fault::ViewFault;
 use crate::tools::ViewTools;
-use outside::Shelf;
+use art_rules::Shelf;
 use pixel_strips::Canvas;
 use plane_draw::{PlaneTools, draw_planes};
 

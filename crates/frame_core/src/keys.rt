@@ -1,10 +1,8 @@
 // The planes that a leaf finds: rules `picture_rules/plane`, Keys.
 ghost use Rattle.std.specs.Prelude.{◌≡◌, ◌≤◌};
-ghost use Rattle.level_rules.specs.declared.TheConstants.{SKY_FLAT};
-ghost use Rattle.picture_rules.specs.plane.Keys.{ceiling_key, floor_key, key_of};
+ghost use Rattle.picture_rules.specs.Words.{ceiling_key, floor_key, key_of, SKY_FLAT};
 
-use level_rules::{SKY_FLAT, Surface};
-use picture_rules::{Flat4, PlaneKey};
+use picture_rules::{Flat4, PlaneKey, SKY_FLAT, Surface};
 
 // The key of a plane at that height; all sky has one.
 #[tactic(auto, unfolding(picture_rules::specs::plane::Keys::key_of))]

@@ -5,25 +5,22 @@ ghost use Rattle.frame_core.specs.Ends.{EndsWithin};
 ghost use Rattle.frame_core.specs.Scenes.{scene_of};
 ghost use Rattle.frame_core.specs.ViewLists.{empty_list, listed_planes};
 ghost use Rattle.frame_core.specs.Views.{CanCount};
-ghost use Rattle.picture_rules.specs.Counts.{view_counts, view_over};
-ghost use Rattle.picture_rules.specs.Lists.{listed_plane, marked_columns, view_list};
+ghost use Rattle.picture_rules.specs.Words.{listed_plane, marked_columns, view_counts, view_list, view_of, view_over};
 ghost use Rattle.picture_rules.specs.declared.plane.TheConstants.{MOST_VISPLANES};
 ghost use Rattle.std.specs.Prelude.{◌≡◌, ◌≤◌, ◌<◌, ◌+◌, ◌++◌, ◌∷◌, [], ℕ, List, Some, IfErr, IfOk, OnOk, length, vec_len, vec_capacity};
-ghost use Rattle.view_rules.specs.View.{view_of};
 ghost use Rattle.visplanes.specs.Planes.{plane_at};
 
 use crate::lister::list_walls;
 use crate::walk_list::WalkList;
 use crate::workshop::Workshop;
-use angle_tables::Tables;
 use picture_rules::{
-    Counts, ListedFragment, ListedPlane, ListedSprite, MOST_VISPLANES, OverLimit, PlaneMaker,
+    Counts, Eye, FRAME_WIDTH, ListedFragment, ListedPlane, ListedSprite, MOST_VISPLANES, OverLimit,
+    PlaneMaker,
 };
 use sound_scene::SoundScene;
 use std::alloc::{AllocError, Global};
 use std::marker::Model;
-use view_frame::View;
-use view_rules::{Eye, FRAME_WIDTH};
+use view_frame::{Tables, View};
 use visplanes::{PlaneNo, Planes};
 
 /// The list of a view: its drawn fragments, its planes with what made each, and its kept vissprites
@@ -40,7 +37,7 @@ pub struct ViewList {
 impl Model for ViewList {
     ghost use Rattle.std.specs.Prelude.{◌≤◌, vec_capacity};
     ghost use Rattle.picture_rules.specs.declared.plane.TheConstants.{MOST_VISPLANES};
-    ghost use Rattle.picture_rules.specs.Lists.{ViewListValue};
+    ghost use Rattle.picture_rules.specs.Words.{ViewListValue};
 
     ghost Value = { ViewListValue };
 

@@ -7,7 +7,7 @@ ghost use Rattle.frame_core.specs.Scenes.{scene_of};
 ghost use Rattle.frame_core.specs.ViewLists.{list_leaf, nothing_listed};
 ghost use Rattle.frame_core.specs.Views.{CanCount};
 ghost use Rattle.frame_core.specs.Walked.{CanTake};
-ghost use Rattle.picture_rules.specs.Counts.{view_over};
+ghost use Rattle.picture_rules.specs.Words.{view_over};
 ghost use Rattle.picture_rules.specs.declared.plane.TheConstants.{MOST_VISPLANES};
 ghost use Rattle.std.specs.Prelude.{◌≡◌, ◌≤◌, ◌<◌, ℕ, List, IfErr, OnOk, Some, length};
 

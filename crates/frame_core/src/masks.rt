@@ -5,19 +5,14 @@ ghost use Rattle.frame_core.specs.Faults.{limit_of_view};
 ghost use Rattle.frame_core.specs.Painters.{HasWalkedView, IsPlacedIn};
 ghost use Rattle.frame_core.specs.Scenes.{lists_of};
 ghost use Rattle.frame_core.specs.Views.{AreSameViewTools, CanDrawTools, PaintsView, tools_scene, tools_state};
-ghost use Rattle.picture_rules.specs.Masked.{view_drawsegs};
-ghost use Rattle.picture_rules.specs.Things.{view_entries};
-ghost use Rattle.picture_rules.specs.Walls.{walls_of};
-ghost use Rattle.picture_rules.specs.sprite.Middles.{masked_dots};
-ghost use Rattle.picture_rules.specs.sprite.Order.{draw_order};
+ghost use Rattle.picture_rules.specs.Words.{draw_order, masked_dots, view_drawsegs, view_entries, view_events, walls_of};
 ghost use Rattle.std.specs.Prelude.{◌≡◌, ◌≤◌, None, IfErr, length};
-ghost use Rattle.level_rules.specs.walk.Walk.{view_events};
 
 use crate::bench::Bench;
 use crate::fault::ViewFault;
 use crate::tools::ViewTools;
+use art_rules::Shelf;
 use masked_draw::{MaskedTools, draw_masked};
-use outside::Shelf;
 use pixel_strips::Canvas;
 
 /// Draws the vissprites and the masked mid textures of a view, where the walk is in the bench.

@@ -2,7 +2,7 @@
 //
 // Rules: `picture_rules`, Walls; `specs/Painters`. The original: `R_RenderBSPNode`, r_bsp.c.
 ghost use Rattle.std.specs.Prelude.{◌≡◌, OnOk};
-ghost use Rattle.level_rules.specs.walk.Walk.{view_events};
+ghost use Rattle.picture_rules.specs.Words.{view_events};
 ghost use Rattle.texture_build.specs.Paints.{paint_state};
 ghost use Rattle.frame_core.specs.Ends.{EndsOver};
 ghost use Rattle.frame_core.specs.Scenes.{lists_of};
@@ -13,13 +13,12 @@ ghost use Rattle.frame_core.specs.Painters.{HasWalkedNothing, HasWalkedView, IsP
 use crate::bench::Bench;
 use crate::fault::ViewFault;
 use crate::tools::ViewTools;
-use lump_cache::LumpCache;
+use art_rules::Shelf;
 use node_walk::{Cover, Visitor, WalkScene, walk};
-use outside::Shelf;
 use pixel_strips::Canvas;
 use sound_scene::SoundScene;
+use texture_build::{Directory, LumpCache};
 use view_frame::View;
-use wad_dir::Directory;
 
 /// Draws each fragment of a view as it comes, in what the view is built in.
 #[derive(Drop)]

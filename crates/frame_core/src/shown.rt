@@ -1,24 +1,17 @@
 // The things of a sector as their vissprites are listed: rules `specs/ViewLists`.
 ghost use Rattle.frame_core.specs.Scenes.{lists_of, scene_of};
 ghost use Rattle.frame_core.specs.ViewLists.{seen_sprite, shape_sprite, thing_sprite, with_entered, with_sprites};
-ghost use Rattle.level_rules.specs.Levels.{surface_at};
-ghost use Rattle.picture_rules.specs.Lists.{listed_sprite};
-ghost use Rattle.picture_rules.specs.sprite.Projection.{project};
-ghost use Rattle.scene_rules.specs.Places.{things_of};
+ghost use Rattle.picture_rules.specs.Words.{FRAME_WIDTH, LIGHT_LEVELS, light_number, listed_sprite, natural, project, surface_at};
+ghost use Rattle.scene_rules.specs.Words.{things_of};
 ghost use Rattle.std.specs.Prelude.{◌≡◌, ◌<◌, ◌≤ℤ◌, ℕ, List, Some, length, pos};
-ghost use Rattle.view_rules.specs.Lights.{light_number};
-ghost use Rattle.view_rules.specs.declared.TheConstants.{FRAME_WIDTH, LIGHT_LEVELS};
 ghost use Rattle.vissprites.specs.declared.seen.TheConstants.{ROTATIONS};
-ghost use Rattle.word_rules.specs.Words.{natural};
 
 use crate::facts::surface_at;
 use crate::things::{drawn_shape, placed_of};
 use crate::walk_list::WalkList;
-use level_rules::PlacedThing;
-use picture_rules::{ListedSprite, Placed, Seen, Shape5, SpriteEntry};
+use picture_rules::{FRAME_WIDTH, ListedSprite, Placed, PlacedThing, Seen, Shape5, SpriteEntry};
 use sound_scene::SoundScene;
 use view_frame::View;
-use view_rules::FRAME_WIDTH;
 use vissprites::{entry_for, project};
 
 /// Lists the vissprites of the things of a sector, where it was not entered before. Takes no
@@ -137,7 +130,7 @@ fn listed_sprite(entry: &SpriteEntry, thing: &PlacedThing) -> ListedSprite
 }
 
 // A column of an entry, 0 where it is left of the view.
-#[tactic(auto, unfolding(word_rules::specs::Words::natural))]
+#[tactic(auto, unfolding(picture_rules::specs::Words::natural))]
 fn column_of(column: i32) -> u16
     requires { column ≤ℤ pos FRAME_WIDTH }
     ensures { result ≡ natural column }

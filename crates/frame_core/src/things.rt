@@ -1,20 +1,15 @@
 // The things of a sector as vissprites: rules `picture_rules`, Things.
-ghost use Rattle.art_rules.specs.Books.{book_lumps};
+ghost use Rattle.art_rules.specs.Words.{book_lumps};
 ghost use Rattle.frame_core.specs.Scenes.{drawn_shape, lists_of, scene_of};
-ghost use Rattle.level_rules.specs.Levels.{surface_at};
-ghost use Rattle.picture_rules.specs.Things.{with_seen, with_thing, with_things};
-ghost use Rattle.picture_rules.specs.sprite.Projection.{project};
-ghost use Rattle.scene_rules.specs.Places.{things_of};
+ghost use Rattle.picture_rules.specs.Words.{LIGHT_LEVELS, light_number, project, surface_at, with_seen, with_thing, with_things};
+ghost use Rattle.scene_rules.specs.Words.{things_of};
 ghost use Rattle.std.specs.List.{AllPass};
 ghost use Rattle.std.specs.Prelude.{◌≡◌, ◌<◌, ℕ, List, All, Some, length, pos};
-ghost use Rattle.view_rules.specs.Lights.{light_number};
-ghost use Rattle.view_rules.specs.declared.TheConstants.{LIGHT_LEVELS};
 ghost use Rattle.vissprites.specs.Bounds.{lies_within, has_lump_below};
 ghost use Rattle.vissprites.specs.declared.seen.TheConstants.{ROTATIONS};
 
 use crate::facts::surface_at;
-use level_rules::PlacedThing;
-use picture_rules::{Placed, Seen, Shape5};
+use picture_rules::{Placed, PlacedThing, Seen, Shape5};
 use sound_scene::SoundScene;
 use sprite_book::Shape;
 use view_frame::View;

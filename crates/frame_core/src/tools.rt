@@ -1,11 +1,10 @@
 // What a view is drawn with.
 
-use lump_cache::LumpCache;
-use outside::Shelf;
+use art_rules::Shelf;
 use pixel_strips::Canvas;
 use sound_scene::SoundScene;
+use texture_build::{Directory, LumpCache};
 use view_frame::View;
-use wad_dir::Directory;
 
 /// What a view is drawn with: the scene and the view, the cache with its directory and shelf, and
 /// the canvas.

@@ -6,16 +6,12 @@ ghost use Rattle.frame_core.specs.Faults.{view_fault};
 ghost use Rattle.frame_core.specs.Painters.{limits_in};
 ghost use Rattle.frame_core.specs.Scenes.{scene_of};
 ghost use Rattle.frame_core.specs.Views.{AreSameViewTools, CanCount, CanDrawTools, CanDrawView, IsViewLump, IsViewTexture, PaintsView, placed_for, tools_scene, tools_state, view_scene};
-ghost use Rattle.lump_rules.specs.Contents.{lump_bytes};
-ghost use Rattle.picture_rules.specs.Counts.{view_counts, view_over};
-ghost use Rattle.picture_rules.specs.Paints.{view_paints};
-ghost use Rattle.picture_rules.specs.Picture.{AreInView, picture};
+ghost use Rattle.art_rules.specs.Words.{lump_bytes};
+ghost use Rattle.picture_rules.specs.Words.{AreInView, IsWithinFrame, picture, view_counts, view_of, view_over, view_paints};
 ghost use Rattle.sound_scene.specs.Sound.{textures_view};
 ghost use Rattle.std.specs.Prelude.{◌≡◌, ◌≤◌, ℕ, List, Some, IfErr, IfOk, OnOk, length};
 ghost use Rattle.texture_build.specs.Draws.{DrawsWith, FitBeside};
 ghost use Rattle.texture_build.specs.Paints.{paint_state};
-ghost use Rattle.view_rules.specs.Sound.{IsWithinFrame};
-ghost use Rattle.view_rules.specs.View.{view_of};
 
 use crate::bench::Bench;
 use crate::counter::count_walls;
@@ -25,15 +21,12 @@ use crate::masks::draw_masks;
 use crate::painter::draw_walls;
 use crate::tools::ViewTools;
 use crate::workshop::Workshop;
-use angle_tables::Tables;
-use lump_cache::LumpCache;
-use outside::Shelf;
-use picture_rules::{Counts, OverLimit};
+use art_rules::Shelf;
+use picture_rules::{Counts, Eye, OverLimit};
 use pixel_strips::Canvas;
 use sound_scene::SoundScene;
-use view_frame::View;
-use view_rules::Eye;
-use wad_dir::Directory;
+use texture_build::{Directory, LumpCache};
+use view_frame::{Tables, View};
 
 /// Draws the view of `eye` on the workshop's frame, which is cleared before: after Ok its bytes are
 /// the picture of the view (`picture`). Takes no memory.

@@ -2,12 +2,13 @@
 //
 // Rules: `specs/ViewLists`; `picture_rules`, Lists. This project's own.
 ghost use Rattle.std.specs.Prelude.{◌≡◌, ◌≤◌, ◌<◌, ◌++◌, ◌-◌, ◌∷◌, [], ℕ, IfOk, length, replicate, vec_len, vec_capacity};
-ghost use Rattle.level_rules.specs.declared.walk.TheConstants.{MAX_DRAWSEGS};
+ghost use Rattle.picture_rules.specs.Words.{MAX_DRAWSEGS};
 ghost use Rattle.picture_rules.specs.declared.plane.TheConstants.{MOST_VISPLANES};
 ghost use Rattle.frame_core.specs.ViewLists.{list_fragment, nothing_listed, with_fragment, with_makers, with_sprite};
 
-use level_rules::MAX_DRAWSEGS;
-use picture_rules::{ListedFragment, ListedSprite, MAX_VISSPRITES, MOST_VISPLANES, PlaneMaker};
+use picture_rules::{
+    ListedFragment, ListedSprite, MAX_DRAWSEGS, MAX_VISSPRITES, MOST_VISPLANES, PlaneMaker,
+};
 use std::alloc::{AllocError, Global};
 use std::marker::Model;
 
@@ -24,7 +25,7 @@ pub(crate) struct WalkList {
 
 impl Model for WalkList {
     ghost use Rattle.std.specs.Prelude.{◌≤◌, length, vec_capacity};
-    ghost use Rattle.level_rules.specs.declared.walk.TheConstants.{MAX_DRAWSEGS};
+    ghost use Rattle.picture_rules.specs.Words.{MAX_DRAWSEGS};
     ghost use Rattle.picture_rules.specs.declared.plane.TheConstants.{MOST_VISPLANES};
     ghost use Rattle.picture_rules.specs.declared.sprite.TheConstants.{MAX_VISSPRITES};
     ghost use Rattle.frame_core.specs.ViewLists.{WalkListValue};

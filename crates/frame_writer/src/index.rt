@@ -1,9 +1,9 @@
 // A frame as it is, without its palette.
 ghost use Rattle.std.specs.Prelude.{◌≡◌, length};
-ghost use Rattle.outside.specs.Sink.{Writes};
+ghost use Rattle.art_rules.specs.Words.{Writes};
 
 use crate::FRAME_BYTES;
-use outside::{Failed, Sink};
+use art_rules::{Failed, Sink};
 
 /// Appends a frame's bytes to the output, in one put.
 ///

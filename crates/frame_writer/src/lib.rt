@@ -8,11 +8,9 @@
 mod index;
 mod ppm;
 
-use art_rules::PALETTE_SIZE;
+use art_rules::{FRAME_CELLS, FRAME_HEIGHT, FRAME_WIDTH, PALETTE_SIZE};
 pub use index::put_index;
-use pixel_rules::FRAME_CELLS;
 pub use ppm::put_ppm;
-use view_rules::{FRAME_HEIGHT, FRAME_WIDTH};
 
 /// The bytes of a frame, one for each pixel.
 pub const FRAME_BYTES: usize = FRAME_CELLS;

@@ -1,12 +1,12 @@
 // A frame as a PPM file.
 ghost use Rattle.std.specs.Prelude.{◌≡◌, ◌+◌, ◌*◌, ℕ, length, take};
 ghost use Rattle.std.specs.List.{flat_map};
-ghost use Rattle.outside.specs.Sink.{Writes};
+ghost use Rattle.art_rules.specs.Words.{Writes};
 ghost use Rattle.frame_writer.specs.Ppm.{ppm, colour};
 ghost use Rattle.frame_writer.specs.Words.{word_colour};
 
 use crate::{COLOUR_BYTES, FRAME_BYTES, HEADER_BYTES, PALETTE_BYTES};
-use outside::{Failed, Sink};
+use art_rules::{Failed, Sink};
 
 // P6, the width, the height and the greatest value of a colour.
 const HEADER: &[u8; HEADER_BYTES] = b"P6\n320 200\n255\n";

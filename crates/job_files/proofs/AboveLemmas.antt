@@ -1,10 +1,7 @@
 -- What is known of a call whose fault is named as the layer above names it.
-use Rattle.word_rules.proofs.Common.{Bool, Err, err_from_is_err_and, IfErr, MatchResult, Ok, refl, Result, ℕ, ◌≡◌}
-use Rattle.outside.specs.declared.fault.Fault.{Fault}
-use Rattle.outside.specs.declared.fault.Fault.TheVariants.{Refused, ReadFault, ZoneFull, OutOfMemory}
-use Rattle.outside.specs.Faults.{fault_above, from_below, HasCauseAt, HasCauses, ResultIs, itself}
-use Rattle.outside.proofs.StepLemmas.{last_stop}
-use Rattle.outside.proofs.ThroughLemmas.{IsThrough}
+use Rattle.picture_rules.proofs.Common.{Bool, Err, err_from_is_err_and, IfErr, MatchResult, Ok, refl, Result, ℕ, ◌≡◌}
+use Rattle.art_rules.specs.Words.{Fault, fault_above, from_below, HasCauseAt, HasCauses, itself, OutOfMemory, ReadFault, Refused, ResultIs, ZoneFull}
+use Rattle.art_rules.proofs.Laws.{IsThrough, last_stop}
 use Rattle.lump_cache.specs.Calls.{IfFull, InOrderAt}
 
 cause_above : {R Q : Type 0} (lift : R → Q) (before now : ℕ) (fault : Fault R) → HasCauseAt before now fault → HasCauseAt before now (fault_above lift fault)

@@ -1,16 +1,11 @@
 -- What is known of the WADs where all files are accepted.
 use Rattle.std.proofs.Common.{◌≡◌, ℕ, List, Option, Some, None, Result, Ok, Err, refl, ap, ◌∙◌}
-use Rattle.outside.specs.Shelf.{File}
-use Rattle.outside.specs.Faults.{and_then, from_below}
-use Rattle.lump_rules.specs.declared.wad.Lump.{Lump}
-use Rattle.lump_rules.specs.declared.wad.DirRefusal.{DirRefusal}
-use Rattle.lump_rules.specs.Wads.{directory}
+use Rattle.art_rules.specs.Words.{and_then, directory, DirRefusal, else_absent, File, from_below, Lump, no_file}
 use Rattle.job_rules.specs.declared.command.Settings.{Settings}
 use Rattle.job_rules.specs.LevelJobs.{FileNames}
 use Rattle.refusals.specs.declared.refusal.Refusal.{Refusal}
 use Rattle.refusals.specs.declared.refusal.Refusal.TheVariants.{Wad}
 use Rattle.job_files.specs.Files.{FilesValue, tables_file, in_file, texts_in, files_named, lumps_in, files_in}
-use Rattle.outside.specs.Stops.{else_absent, no_file}
 
 -- the WADs of these names have these bytes, which list these lumps
 pub record AreListed (wads : List (List ℕ)) (files : List File) (lumps : List Lump) : Type 0 where

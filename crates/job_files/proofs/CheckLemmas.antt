@@ -1,13 +1,7 @@
 -- A file's length is looked at first, and then its bytes are checked.
-use Rattle.word_rules.proofs.Common.{Bool, cond, Err, false, IsErrAnd, length, List, nat_lt, None, Ok, Option, option_map, refl, Result, Some, true, ℕ, ◌==◌, ◌≡◌}
-use Rattle.outside.specs.Shelf.{File, file_named}
-use Rattle.outside.specs.Faults.{and_then, from_below, ResultIs, itself}
-use Rattle.view_rules.specs.declared.TheConstants.{TABLES_BYTES}
-use Rattle.view_rules.specs.declared.TablesRefusal.{TablesRefusal}
-use Rattle.view_rules.specs.declared.TablesRefusal.TheVariants.{Length}
-use Rattle.view_rules.specs.Refusals.{angles_in, angles_refusal, tables_refusal}
-use Rattle.view_rules.specs.Shape.{shape_of_size}
-use Rattle.view_rules.specs.View.{TablesValue}
+use Rattle.picture_rules.proofs.Common.{Bool, cond, Err, false, IsErrAnd, length, List, nat_lt, None, Ok, Option, option_map, refl, Result, Some, true, ℕ, ◌==◌, ◌≡◌}
+use Rattle.art_rules.specs.Words.{and_then, else_absent, Fault, File, file_named, from_below, itself, no_file, ResultIs, ResultIsOrAbsent}
+use Rattle.picture_rules.specs.Words.{angles_in, angles_refusal, Length, shape_of_size, TABLES_BYTES, tables_refusal, TablesRefusal, TablesValue}
 use Rattle.csv_tables.specs.declared.records.TheConstants.{MAX_TABLE_BYTES}
 use Rattle.csv_tables.specs.declared.fault.CsvRefusal.{CsvRefusal}
 use Rattle.csv_tables.specs.declared.fault.CsvRefusal.TheVariants.{TooLong}
@@ -20,11 +14,9 @@ use Rattle.job_files.specs.declared.whole_files.FileKind.TheVariants as kind
 use Rattle.job_rules.specs.declared.command.Settings.{Settings}
 use Rattle.refusals.specs.declared.refusal.Refusal.{Refusal}
 use Rattle.refusals.specs.declared.refusal.Refusal.TheVariants.{Tables, Things, Path, Weapons}
-use Rattle.outside.specs.declared.fault.Fault.{Fault}
 use Rattle.job_files.specs.Files.{value_unless, in_file, tables_in, tables_file, things_file, path_file, weapons_file}
 use Rattle.job_files.specs.Lengths.{tables_length_refusal, text_length_refusal, length_refusal, bytes_in}
-use Rattle.outside.specs.Stops.{else_absent, no_file, ResultIsOrAbsent}
-use Rattle.outside.proofs.StopLemmas.{step_stops, unread_agrees}
+use Rattle.art_rules.proofs.Laws.{step_stops, unread_agrees}
 
 -- what is read of text that is not too long
 text_length : {A X : Type 0} (long : Bool) (above : CsvRefusal → Refusal) (refusal : CsvRefusal) (records : X) (rows : X → Result A CsvRefusal) (bytes : List ℕ) (read : List ℕ → Result A Refusal) →

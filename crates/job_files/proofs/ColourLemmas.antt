@@ -1,7 +1,6 @@
 -- The lumps of colours by name.
-use Rattle.word_rules.proofs.Common.{Err, MatchResult, None, Ok, ok_or, Option, option_map, refl, Result, Some, ℕ, ◌≡◌}
-use Rattle.lump_rules.specs.declared.wad.LumpNo.{LumpNo}
-use Rattle.lump_rules.specs.Names.{name_of, filled}
+use Rattle.picture_rules.proofs.Common.{Err, MatchResult, None, Ok, ok_or, Option, option_map, refl, Result, Some, ℕ, ◌≡◌}
+use Rattle.art_rules.specs.Words.{filled, LumpNo, name_of}
 use Rattle.scene_rules.specs.declared.TheConstants.{COLORMAP, PLAYPAL}
 use Rattle.scene_rules.specs.declared.refusal.ArtRefusal.{ArtRefusal}
 

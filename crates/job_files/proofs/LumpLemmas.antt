@@ -1,11 +1,7 @@
 -- Lumps in the files where they stand.
-use Rattle.word_rules.proofs.Common.{[], All-get_or, ap, arith, drop, get_or, get_or_from_slice_get, IfSome, length, List, Option, refl, slice_get, slice_get_within, Some, suc, sym, take, zero, ℕ, ◌+◌, ◌<◌, ◌∙◌, ◌∷◌, ◌≡◌, ◌≤◌}
-use Rattle.outside.specs.declared.shelf.FileNo.{FileNo}
-use Rattle.outside.specs.Shelf.{ShelfView, NameFiles, IsPieceAt, Stands}
-use Rattle.outside.proofs.ShelfLemmas.{stands_at}
-use Rattle.lump_rules.specs.declared.wad.Lump.{Lump}
-use Rattle.lump_rules.specs.Contents.{AllWithin, LiesWithin, file_bytes, lump_bytes}
-use Rattle.lump_rules.specs.Lookups.{lump_at, no_lump}
+use Rattle.picture_rules.proofs.Common.{[], All-get_or, ap, arith, drop, get_or, get_or_from_slice_get, IfSome, length, List, Option, refl, slice_get, slice_get_within, Some, suc, sym, take, zero, ℕ, ◌+◌, ◌<◌, ◌∙◌, ◌∷◌, ◌≡◌, ◌≤◌}
+use Rattle.art_rules.specs.Words.{AllWithin, file_bytes, FileNo, IsPieceAt, LiesWithin, Lump, lump_at, lump_bytes, NameFiles, no_lump, ShelfView, Stands}
+use Rattle.art_rules.proofs.Laws.{stands_at}
 
 -- the number of a lump's file stands for the bytes of that file
 pub file_stands : (view : ShelfView) (numbers : List FileNo) (contents : List (List ℕ)) (i : ℕ) (number : FileNo) →

@@ -1,8 +1,7 @@
 -- One step of a job after another.
-use Rattle.word_rules.proofs.Common.{Bool, Err, err_from_is_err_and, IsErrAnd, refl, Result, subst, ℕ, ◌≡◌}
-use Rattle.outside.specs.declared.fault.Fault.{Fault}
-use Rattle.outside.specs.declared.fault.Fault.TheVariants as fault
-use Rattle.outside.specs.Faults.{and_then, FaultFits, ResultIs, itself}
+use Rattle.picture_rules.proofs.Common.{Bool, Err, err_from_is_err_and, IsErrAnd, refl, Result, subst, ℕ, ◌≡◌}
+use Rattle.art_rules.specs.Words.{and_then, Fault, FaultFits, itself, ResultIs}
+use Rattle.art_rules.specs.Fault.TheVariants as fault
 use Rattle.lump_cache.specs.Calls.{IfFull}
 use Rattle.refusals.specs.declared.refusal.Refusal.{Refusal}
 use Rattle.job_files.specs.declared.status.Status.TheVariants.{ZoneFull}

@@ -1,11 +1,7 @@
 -- How many bytes of files are read, by their sizes.
-use Rattle.word_rules.proofs.Common.{[], ap, Err, IsSome, length, List, None, Ok, Option, option_map_or, refl, Result, Some, unwrap_or, ℕ, ◌+◌, ◌≡◌, ◌≤◌}
-use Rattle.outside.specs.Faults.{from_below}
-use Rattle.outside.specs.Shelf.{File, file_named}
+use Rattle.picture_rules.proofs.Common.{[], ap, Err, IsSome, length, List, None, Ok, Option, option_map_or, refl, Result, Some, unwrap_or, ℕ, ◌+◌, ◌≡◌, ◌≤◌}
+use Rattle.art_rules.specs.Words.{DirRefusal, File, file_named, from_below, listing_sizes, Lump}
 use Rattle.frame_writer.specs.declared.TheConstants.{PALETTE_BYTES}
-use Rattle.lump_rules.specs.declared.wad.DirRefusal.{DirRefusal}
-use Rattle.lump_rules.specs.declared.wad.Lump.{Lump}
-use Rattle.lump_rules.specs.Wads.{listing_sizes}
 use Rattle.job_files.specs.Files.{files_named}
 use Rattle.job_files.specs.Sizes.{art_size, flat_reads, flat_size, flat_sizes, named_size, wad_contents}
 use Rattle.refusals.specs.declared.refusal.Refusal.TheVariants.{Wad}

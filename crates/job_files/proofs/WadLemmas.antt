@@ -1,17 +1,11 @@
 -- The lumps of WADs that were asked for.
-use Rattle.word_rules.proofs.Common.{Bool, Err, err_from_is_err_and, IfOk, IsErrAnd, List, Ok, Option, refl, Result, Some, ℕ, ◌≡◌}
-use Rattle.lump_rules.specs.Contents.{AllWithin}
-use Rattle.wad_dir.specs.DirectoryView.{DirectoryView}
-use Rattle.outside.specs.declared.shelf.FileNo.{FileNo}
-use Rattle.outside.specs.Shelf.{File, ShelfView, NameFiles}
-use Rattle.outside.specs.Faults.{itself}
-use Rattle.lump_rules.specs.declared.wad.Lump.{Lump}
+use Rattle.picture_rules.proofs.Common.{Bool, Err, err_from_is_err_and, IfOk, IsErrAnd, List, Ok, Option, refl, Result, Some, ℕ, ◌≡◌}
+use Rattle.art_rules.specs.Words.{AllWithin, else_absent, Fault, FaultFitsOrAbsent, File, FileNo, itself, Lump, NameFiles, no_file, ResultIsOrAbsent, ShelfView}
+use Rattle.lump_cache.specs.DirectoryView.{DirectoryView}
 use Rattle.refusals.specs.declared.refusal.Refusal.{Refusal}
-use Rattle.outside.specs.declared.fault.Fault.{Fault}
 use Rattle.job_files.specs.Files.{files_named, lumps_in, wad_files}
 use Rattle.job_files.specs.Found.{AllStandForNamed}
-use Rattle.outside.specs.Stops.{else_absent, no_file, FaultFitsOrAbsent, ResultIsOrAbsent}
-use Rattle.outside.proofs.StopLemmas.{stops_all}
+use Rattle.art_rules.proofs.Laws.{stops_all}
 
 -- a file was not found
 pub wads_unfound : {B : Type 0} {steady : Bool} {value : B → List Lump} (names : List (List ℕ)) (files : List File) (fault : (Fault Refusal)) (result : Result B (Fault Refusal)) →

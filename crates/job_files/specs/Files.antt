@@ -1,17 +1,10 @@
 -- What the files of a job over a level give: tables of angles, things, a path, weapons where a file
 -- of them is named, and the lumps of the WADs; or the first step that stops.
 use Rattle.std.specs.Prelude.{◌≡◌, ℕ, List, [], ◌∷◌, Option, Some, None, option_and_then, option_map, Result, Ok, Err, IfErr, codes, refl}
-use Rattle.outside.specs.Shelf.{File, file_named}
-use Rattle.outside.specs.Faults.{and_then, from_below}
-use Rattle.outside.specs.declared.fault.Fault.{Fault}
+use Rattle.art_rules.specs.Words.{absent, and_then, directory, else_absent, Fault, File, file_named, from_below, Lump, no_file, Stop}
 use Rattle.lump_cache.specs.Calls.{IfFull}
-use Rattle.lump_rules.specs.declared.wad.Lump.{Lump}
-use Rattle.lump_rules.specs.Wads.{directory}
-use Rattle.view_rules.specs.declared.TablesRefusal.{TablesRefusal}
-use Rattle.view_rules.specs.Refusals.{angles_in, tables_refusal}
-use Rattle.view_rules.specs.View.{TablesValue}
+use Rattle.picture_rules.specs.Words.{angles_in, tables_refusal, TablesRefusal, TablesValue, ThingLine}
 use Rattle.csv_tables.specs.declared.path.PathRow.{PathRow}
-use Rattle.level_rules.specs.declared.ThingLine.{ThingLine}
 use Rattle.csv_tables.specs.declared.weapons.WeaponRow.{WeaponRow}
 use Rattle.csv_tables.specs.Things.{things_in_table}
 use Rattle.csv_tables.specs.Paths.{path_in}
@@ -22,7 +15,6 @@ use Rattle.refusals.specs.declared.refusal.Refusal.{Refusal}
 use Rattle.refusals.specs.declared.refusal.Refusal.TheVariants.{Tables, Things, Path, Weapons, Wad}
 use Rattle.job_files.specs.declared.read.SceneFiles.{SceneFiles}
 use Rattle.job_files.specs.declared.texts.TextTables.{TextTables}
-use Rattle.outside.specs.Stops.{Stop, absent, else_absent, no_file}
 
 -- what the files give, but for the bytes of lumps
 pub record FilesValue : Type 0 where

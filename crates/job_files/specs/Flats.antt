@@ -1,21 +1,12 @@
 -- The picture of a flat, which is laid over the frame again and again.
 use Rattle.std.specs.Prelude.{ℕ, ◌/◌, ◌%◌, List, [], ◌∷◌, take, Option, Some, None, Result, Ok, Err}
-use Rattle.word_rules.specs.Listed.{listed}
-use Rattle.outside.specs.Shelf.{File, file_named}
-use Rattle.outside.specs.Faults.{and_then, from_below}
-use Rattle.lump_rules.specs.declared.wad.Lump.{Lump}
-use Rattle.lump_rules.specs.Wads.{directory}
-use Rattle.lump_rules.specs.Lookups.{flat_of}
-use Rattle.lump_rules.specs.Contents.{lump_bytes}
+use Rattle.picture_rules.specs.Words.{FLAT_SIDE, FRAME_WIDTH, listed}
+use Rattle.art_rules.specs.Words.{and_then, directory, else_absent, File, file_named, flat_byte, flat_of, from_below, Lump, lump_bytes, no_file, Stop}
 use Rattle.frame_writer.specs.declared.TheConstants.{FRAME_BYTES, PALETTE_BYTES}
-use Rattle.view_rules.specs.declared.TheConstants.{FRAME_WIDTH}
-use Rattle.pixel_rules.specs.declared.TheConstants.{FLAT_SIDE}
-use Rattle.art_rules.specs.Flats.{flat_byte}
 use Rattle.refusals.specs.declared.refusal.Refusal.{Refusal}
 use Rattle.refusals.specs.declared.refusal.Refusal.TheVariants.{Wad, Art, Scene}
 use Rattle.scene_rules.specs.declared.refusal.SceneRefusal.TheVariants.{FlatName}
-use Rattle.scene_rules.specs.Scenes.{playpal_of}
-use Rattle.outside.specs.Stops.{Stop, else_absent, no_file}
+use Rattle.scene_rules.specs.Words.{playpal_of}
 
 -- a frame, and the palette for its indices
 pub record PictureValue : Type 0 where

@@ -1,7 +1,6 @@
 -- Files that were all asked for.
 use Rattle.std.specs.Prelude.{◌≡◌, ℕ, List, Some}
-use Rattle.outside.specs.declared.shelf.FileNo.{FileNo}
-use Rattle.outside.specs.Shelf.{File, ShelfView, NameFiles}
+use Rattle.art_rules.specs.Words.{File, FileNo, NameFiles, ShelfView}
 use Rattle.job_files.specs.Files.{files_named}
 
 -- each number stands for the first file of the name at its place

@@ -1,8 +1,6 @@
 -- The lengths of files that are read whole: what is refused of one before the file is read.
 use Rattle.std.specs.Prelude.{◌≡◌, refl, ℕ, cond, ◌==◌, nat_lt, List, length, Option, Some, None, option_map, Result}
-use Rattle.view_rules.specs.declared.TheConstants.{TABLES_BYTES}
-use Rattle.view_rules.specs.declared.TablesRefusal.{TablesRefusal}
-use Rattle.view_rules.specs.declared.TablesRefusal.TheVariants.{Length}
+use Rattle.picture_rules.specs.Words.{Length, TABLES_BYTES, TablesRefusal}
 use Rattle.csv_tables.specs.declared.records.TheConstants.{MAX_TABLE_BYTES}
 use Rattle.csv_tables.specs.declared.fault.CsvRefusal.{CsvRefusal}
 use Rattle.csv_tables.specs.declared.fault.CsvRefusal.TheVariants.{TooLong}

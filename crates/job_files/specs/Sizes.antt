@@ -1,12 +1,8 @@
 -- How many bytes of the files of a job are read, but for those of lumps.
 use Rattle.std.specs.Prelude.{ℕ, ◌+◌, List, [], ◌∷◌, length, unwrap_or, Option, Some, None, Result, Ok, Err}
 use Rattle.std.specs.Option.{option_map_or}
-use Rattle.outside.specs.Shelf.{File, file_named}
+use Rattle.art_rules.specs.Words.{directory, DirRefusal, File, file_named, flat_of, listing_sizes, Lump, lump_at}
 use Rattle.frame_writer.specs.declared.TheConstants.{PALETTE_BYTES}
-use Rattle.lump_rules.specs.declared.wad.Lump.{Lump}
-use Rattle.lump_rules.specs.declared.wad.DirRefusal.{DirRefusal}
-use Rattle.lump_rules.specs.Lookups.{flat_of, lump_at}
-use Rattle.lump_rules.specs.Wads.{directory, listing_sizes}
 use Rattle.job_rules.specs.LevelJobs.{FileNames}
 use Rattle.job_files.specs.Files.{files_named}
 

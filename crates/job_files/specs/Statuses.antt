@@ -1,8 +1,7 @@
 -- What a status says by itself.
 use Rattle.std.specs.Prelude.{ℕ, List}
-use Rattle.outside.specs.Sink.{Grew, GrewByPrefix}
-use Rattle.outside.specs.declared.fault.Fault.{Fault}
-use Rattle.outside.specs.declared.fault.Fault.TheVariants as fault
+use Rattle.art_rules.specs.Words.{Fault, Grew, GrewByPrefix}
+use Rattle.art_rules.specs.Fault.TheVariants as fault
 use Rattle.refusals.specs.declared.refusal.Refusal.{Refusal}
 use Rattle.job_files.specs.declared.status.Status.{Status}
 use Rattle.job_files.specs.declared.status.Status.TheVariants.{Done, Usage, Refused, ReadFault, WriteFault, Limit, ZoneFull, OutOfMemory}

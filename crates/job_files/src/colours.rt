@@ -2,13 +2,13 @@
 //
 // Rules: `scene_rules`, Scenes. The original: `R_InitColormaps`, r_data.c.
 ghost use Rattle.std.specs.Prelude.{◌≡◌, ◌<◌, ◌≤◌, length, Ok, Err, IfOk, IfSome, MatchResult, option_map};
-ghost use Rattle.lump_rules.specs.Lookups.{lump_at};
+ghost use Rattle.art_rules.specs.Words.{lump_at};
 ghost use Rattle.scene_rules.specs.declared.TheConstants.{PALETTE_SIZE};
-ghost use Rattle.scene_rules.specs.Scenes.{colormap_of, long_lump, playpal_of};
+ghost use Rattle.scene_rules.specs.Words.{colormap_of, long_lump, playpal_of};
 
-use lump_rules::Name8;
+use art_rules::Name8;
+use lump_cache::{Directory, LumpNo};
 use scene_rules::{ArtRefusal, COLORMAP, COLORMAP_SIZE, PALETTE_SIZE, PLAYPAL};
-use wad_dir::{Directory, LumpNo};
 
 /// The lump COLORMAP: the last of that name. Takes no memory.
 ///

@@ -1,12 +1,12 @@
 // Why the files of a job, or what it needs of them, are not loaded.
 ghost use Rattle.std.specs.Prelude.{◌≡◌};
-ghost use Rattle.outside.specs.Faults.{fault_above};
-ghost use Rattle.wad_dir.specs.Faults.{dir_fault};
+ghost use Rattle.art_rules.specs.Words.{fault_above};
+ghost use Rattle.lump_cache.specs.Faults.{dir_fault};
 ghost use Rattle.refusals.specs.declared.refusal.Refusal.TheVariants.{Wad};
 
-use outside::Fault;
+use art_rules::Fault;
+use lump_cache::DirFault;
 use refusals::Refusal;
-use wad_dir::DirFault;
 
 /// Why a job has not what it needs: the first refusal of the files' bytes, a file that is absent or
 /// could not be read, a zone without room for a lump, or out of memory.

@@ -1,13 +1,9 @@
 // The job `flat`: one PPM of a flat that is tiled over the frame.
 ghost use Rattle.std.specs.Prelude.{◌≡◌, ◌<◌, ◌≤◌, ◌+◌, ◌∷◌, [], ℕ, List, length, IfOk};
-ghost use Rattle.outside.specs.Causes.{FaultsRose};
-ghost use Rattle.outside.specs.Shelf.{NameFiles, File, IsLaterShelf, Holds, Stands};
-ghost use Rattle.outside.specs.Faults.{ResultIs, HasCauses, itself};
-ghost use Rattle.lump_rules.specs.Contents.{AllWithin};
+ghost use Rattle.art_rules.specs.Words.{AllWithin, FaultsRose, File, HasCauses, Holds, IsLaterShelf, itself, NameFiles, ResultIs, ResultIsOrAbsent, Stands};
 ghost use Rattle.frame_writer.specs.Ppm.{ppm};
 ghost use Rattle.job_files.specs.Flats.{palette_in, flat_in, picture_in, flat_picture, flat_verdict};
 ghost use Rattle.job_files.specs.Statuses.{DeliversBytes};
-ghost use Rattle.outside.specs.Stops.{ResultIsOrAbsent};
 ghost use Rattle.job_files.specs.Files.{IsNeverFull};
 ghost use Rattle.job_files.specs.Sizes.{flat_reads, flat_size, flat_sizes};
 
@@ -18,11 +14,11 @@ use crate::picture::Picture;
 use crate::status::Status;
 use crate::tiling::tile;
 use crate::wads::load_dir;
+use art_rules::{Fault, FileNo, Shelf, Sink};
 use frame_writer::{FRAME_BYTES, PALETTE_BYTES, put_ppm};
-use outside::{Fault, FileNo, Shelf, Sink};
+use lump_cache::{Directory, Name8};
 use refusals::{Refusal, SceneRefusal};
 use std::alloc::Global;
-use wad_dir::{Directory, Name8};
 
 /// The picture of a flat in the first file of that name. Takes all memory of the job. Reads at most
 /// the header and the directory of the file, its first palette and the flat, each once (`taken`).

@@ -1,16 +1,12 @@
 // Lumps that are read straight from the shelf, without a zone.
 ghost use Rattle.std.specs.Prelude.{◌≡◌, ◌<◌, ◌≤◌, ◌+◌, ℕ, List, length, take, Ok, IsTrue, IsOk, IfOk, OnOk, OnErr};
-ghost use Rattle.outside.specs.Causes.{FaultsRose};
-ghost use Rattle.outside.specs.Shelf.{NameFiles, IsLaterShelf};
-ghost use Rattle.outside.specs.Faults.{ResultIs, HasCauses, itself};
-ghost use Rattle.lump_rules.specs.Contents.{AllWithin, lump_bytes};
-ghost use Rattle.lump_rules.specs.Lookups.{lump_at};
+ghost use Rattle.art_rules.specs.Words.{AllWithin, FaultsRose, HasCauses, IsLaterShelf, itself, lump_at, lump_bytes, NameFiles, ResultIs};
 ghost use Rattle.job_files.specs.Files.{IsNeverFull};
 
 use crate::fault::LoadFault;
-use outside::{Failed, Shelf};
+use art_rules::{Failed, Shelf};
+use lump_cache::{Directory, LumpNo};
 use std::alloc::Global;
-use wad_dir::{Directory, LumpNo};
 
 // Fills a piece with the first bytes of a lump. For an empty piece the shelf is not called.
 fn fill_front<S: Shelf>(

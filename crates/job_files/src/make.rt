@@ -1,14 +1,14 @@
 // The job `make`: the bytes of a made file, told by a number alone.
 ghost use Rattle.std.specs.Prelude.{◌≡◌, IfOk};
-ghost use Rattle.outside.specs.Causes.{FaultsRose};
+ghost use Rattle.art_rules.specs.Words.{FaultsRose};
 ghost use Rattle.job_rules.specs.Commands.{IsCountedMake};
 ghost use Rattle.job_files.specs.Made.{made_file};
 ghost use Rattle.job_files.specs.Statuses.{DeliversBytes};
 
 use crate::status::Status;
+use art_rules::{OutOfMemory, Sink};
 use job_rules::MakeJob;
 use level_maker::{make_path, make_tables, make_things, make_wad};
-use outside::{OutOfMemory, Sink};
 use std::alloc::Global;
 
 /// The bytes of a made file. Takes all memory of the job, and asks for no file.

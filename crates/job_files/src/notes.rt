@@ -1,10 +1,10 @@
 // The line that is noted for a status, which goes out in one put. No call takes memory.
 ghost use Rattle.std.specs.Prelude.{◌≡◌, ◌≤◌, codes, length};
-ghost use Rattle.outside.specs.Sink.{Writes};
+ghost use Rattle.art_rules.specs.Words.{Writes};
 ghost use Rattle.job_files.specs.Lines.{line_of, limit_label, refusal_line, pair_line};
 
 use crate::status::Status;
-use outside::{Failed, Sink};
+use art_rules::{Failed, Sink};
 use picture_rules::LimitKind;
 use refusals::{Line, Refusal, add_refusal};
 

@@ -1,27 +1,22 @@
 // All files of a job over a level, in their order.
 ghost use Rattle.std.specs.Prelude.{◌≡◌, ◌<◌, ◌≤◌, ◌+◌, ◌*◌, ◌^◌, ℕ, List, length, map, Some, IfOk};
-ghost use Rattle.outside.specs.Shelf.{NameFiles, File, IsLaterShelf, Holds};
-ghost use Rattle.outside.specs.Faults.{HasCauses, itself};
-ghost use Rattle.lump_rules.specs.Contents.{AllWithin};
-ghost use Rattle.lump_rules.specs.Wads.{listing_sizes};
-ghost use Rattle.view_rules.specs.declared.TheConstants.{MIN_SIZE, MAX_SIZE};
+ghost use Rattle.art_rules.specs.Words.{AllWithin, File, HasCauses, Holds, IsLaterShelf, itself, listing_sizes, NameFiles, ResultIsOrAbsent};
+ghost use Rattle.picture_rules.specs.Words.{MAX_SIZE, MIN_SIZE};
 ghost use Rattle.job_rules.specs.LevelJobs.{file_names};
 ghost use Rattle.job_files.specs.Files.{IsNeverFull, files_in, files_named, value_of};
 ghost use Rattle.job_files.specs.Sizes.{files_size};
-ghost use Rattle.outside.specs.Stops.{ResultIsOrAbsent};
 
 use crate::fault::LoadFault;
 use crate::tables::load_tables;
 use crate::texts::{TextTables, load_texts};
 use crate::wads::load_wads;
 use angle_tables::Tables;
+use art_rules::{HEADER_SIZE, Shelf};
 use csv_tables::{MAX_TABLE_BYTES, PathTable, ThingTable, WeaponTable};
 use job_rules::{Files, Settings};
-use lump_rules::{ENTRY_SIZE, HEADER_SIZE};
-use outside::Shelf;
+use lump_cache::{Directory, ENTRY_SIZE};
+use picture_rules::TABLES_BYTES;
 use std::alloc::Global;
-use view_rules::TABLES_BYTES;
-use wad_dir::Directory;
 
 /// What the files of a job over a level give: the tables of angles, how things look, the views of
 /// the path, the weapon layers where a file of them is named, and the directory of the WADs.

@@ -3,7 +3,7 @@ ghost use Rattle.std.specs.Prelude.{◌≡◌};
 ghost use Rattle.job_files.specs.Statuses.{code_of, status_of};
 
 use crate::fault::LoadFault;
-use outside::Fault;
+use art_rules::Fault;
 use picture_rules::LimitKind;
 use refusals::Refusal;
 

@@ -1,20 +1,18 @@
 // The tables of angles: their file is asked for by name, read whole and then checked.
 ghost use Rattle.std.specs.Prelude.{◌≡◌, ◌≤◌, ◌+◌, ℕ, List, true, IfOk};
-ghost use Rattle.outside.specs.Shelf.{File, IsLaterShelf, Holds};
-ghost use Rattle.outside.specs.Faults.{ResultIs, HasCauses, itself};
-ghost use Rattle.view_rules.specs.declared.TheConstants.{MIN_SIZE, MAX_SIZE};
+ghost use Rattle.art_rules.specs.Words.{File, HasCauses, Holds, IsLaterShelf, itself, ResultIs, ResultIsOrAbsent};
+ghost use Rattle.picture_rules.specs.Words.{MAX_SIZE, MIN_SIZE};
 ghost use Rattle.job_files.specs.Files.{IsNeverFull, in_file, tables_file, tables_in};
 ghost use Rattle.job_files.specs.Sizes.{named_size};
-ghost use Rattle.outside.specs.Stops.{ResultIsOrAbsent};
 
 use crate::fault::LoadFault;
 use crate::whole_files::{FileKind, read_named};
 use angle_tables::{Tables, TablesFault};
+use art_rules::{Fault, Shelf};
 use job_rules::Settings;
-use outside::{Fault, Shelf};
+use picture_rules::{Spans, TABLES_BYTES};
 use refusals::Refusal;
 use std::alloc::Global;
-use view_rules::{Spans, TABLES_BYTES};
 
 // The tables of angles in a file, for views of a size whose spans are stepped so.
 pub fn load_tables<S: Shelf>(

@@ -1,13 +1,12 @@
 // A flat over the frame.
 ghost use Rattle.std.specs.Prelude.{◌≡◌, length, IfOk};
-ghost use Rattle.word_rules.specs.Listed.{listed};
+ghost use Rattle.picture_rules.specs.Words.{listed};
 ghost use Rattle.job_files.specs.Flats.{tiled_index};
 
-use outside::OutOfMemory;
+use art_rules::OutOfMemory;
 use patch_columns::flat_byte;
-use pixel_rules::FLAT_SIDE;
+use picture_rules::{FLAT_SIDE, FRAME_WIDTH};
 use std::alloc::Global;
-use view_rules::FRAME_WIDTH;
 
 // So many indices of a frame that the flat is laid over, row by row.
 pub fn tile(alloc: Global, flat: &[u8], count: usize) -> Result<Vec<u8>, OutOfMemory>

@@ -1,19 +1,14 @@
 // The WADs: all are asked for, and then their directories are read.
 ghost use Rattle.std.specs.Prelude.{◌≡◌, ◌<◌, ◌≤◌, ◌+◌, ◌*◌, ◌^◌, ℕ, List, length, map, Some, IfOk, IfErr};
-ghost use Rattle.outside.specs.Shelf.{NameFiles, File, IsLaterShelf, Holds};
-ghost use Rattle.outside.specs.Faults.{HasCauses, ResultIs, itself};
-ghost use Rattle.lump_rules.specs.Contents.{AllWithin};
-ghost use Rattle.lump_rules.specs.Wads.{listing_sizes};
+ghost use Rattle.art_rules.specs.Words.{AllWithin, else_absent, FaultFitsOrAbsent, File, HasCauses, Holds, IsLaterShelf, itself, listing_sizes, NameFiles, ResultIs, ResultIsOrAbsent};
 ghost use Rattle.refusals.specs.declared.refusal.Refusal.{Refusal};
 ghost use Rattle.job_files.specs.Files.{IsNeverFull, files_named, lumps_in, wad_files};
 ghost use Rattle.job_files.specs.Found.{AllStandForNamed};
-ghost use Rattle.outside.specs.Stops.{ResultIsOrAbsent, FaultFitsOrAbsent, else_absent};
 
 use crate::fault::{LoadFault, wad_fault};
-use lump_rules::{ENTRY_SIZE, HEADER_SIZE};
-use outside::{FileNo, Shelf};
+use art_rules::{FileNo, HEADER_SIZE, Shelf};
+use lump_cache::{Directory, ENTRY_SIZE};
 use std::alloc::Global;
-use wad_dir::Directory;
 
 // The directory of the first files of these names.
 pub fn load_wads<S: Shelf>(
@@ -54,7 +49,7 @@ pub fn load_wads<S: Shelf>(
 /// what it stood for.
 ///
 /// The original: `W_InitMultipleFiles`, w_wad.c.
-#[tactic(auto, using(outside::proofs::ThroughLemmas::ok_through))]
+#[tactic(auto, using(art_rules::proofs::Laws::ok_through))]
 pub fn load_dir<S: Shelf>(
     alloc: Global,
     shelf: &mut S,

@@ -1,18 +1,16 @@
 // The bytes of a named file, which is read whole where its length is not refused.
 ghost use Rattle.std.specs.Prelude.{◌≡◌, ◌≤◌, ◌+◌, ℕ, List, length, IfOk};
-ghost use Rattle.outside.specs.Shelf.{File, IsLaterShelf, Holds, Stands};
-ghost use Rattle.outside.specs.Faults.{ResultIs, HasCauses, itself};
+ghost use Rattle.art_rules.specs.Words.{File, HasCauses, Holds, IsLaterShelf, itself, ResultIs, ResultIsOrAbsent, Stands};
 ghost use Rattle.job_files.specs.Files.{IsNeverFull, in_file, value_unless};
 ghost use Rattle.job_files.specs.Lengths.{bytes_in, length_refusal, most_bytes, tables_length_refusal, text_length_refusal};
 ghost use Rattle.job_files.specs.Sizes.{named_size};
-ghost use Rattle.outside.specs.Stops.{ResultIsOrAbsent};
 
 use crate::fault::LoadFault;
+use art_rules::{Fault, FileNo, Shelf};
 use csv_tables::{CsvRefusal, MAX_TABLE_BYTES};
-use outside::{Fault, FileNo, Shelf};
+use picture_rules::{TABLES_BYTES, TablesRefusal};
 use refusals::Refusal;
 use std::alloc::Global;
-use view_rules::{TABLES_BYTES, TablesRefusal};
 
 // The files that are read whole.
 #[derive(Clone, Copy, Debug, PartialEq, Eq)]

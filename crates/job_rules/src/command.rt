@@ -1,7 +1,7 @@
 // What is asked for: a job with its names, numbers and files.
 
 use lump_rules::Name8;
-use view_rules::Spans;
+use picture_rules::Spans;
 
 /// What frames are written as.
 #[derive(Clone, Copy, Debug, PartialEq, Eq)]

@@ -1,18 +1,11 @@
 -- What is told of lumps of art that are read, in the words of an audit.
-use Rattle.word_rules.proofs.Common.{[], All, All-append, All-map, Any-from_list_any, ap, arith, Bool, cases_eq, eq-eqb, eqb-true, false, get_or, IfSome, inl, inr, length, List, list_any, list_any_at, map, ne_eqb, None, not, Option, refl, Result, Some, subst, suc, sym, true, ℕ, ◌&&◌, ◌<◌, ◌==◌, ◌||◌, ◌∙◌, ◌∷◌, ◌≡◌}
-use Rattle.word_rules.specs.Listed.{joined_lists}
-use Rattle.word_rules.proofs.ListedLemmas.{joined_lists-cons}
-use Rattle.outside.specs.Shelf.{ShelfView}
-use Rattle.outside.specs.Faults.{from_below, itself}
-use Rattle.zone_rules.specs.Zones.{Heap}
-use Rattle.lump_rules.specs.Lookups.{last_of}
-use Rattle.wad_dir.specs.DirectoryView.{DirectoryView}
-use Rattle.lump_cache.specs.Calls.{ReadsLumps}
-use Rattle.level_rules.specs.declared.SideTextures.{SideTextures}
-use Rattle.art_rules.specs.Textures.{TextureLists}
-use Rattle.art_rules.specs.Wanted.{PreparedTexture, prepared_textures}
-use Rattle.texture_lists.specs.declared.number.TexNo.{TexNo}
-use Rattle.outside.specs.declared.fault.Fault.{Fault}
+use Rattle.art_rules.proofs.Common.{[], All, All-append, All-map, Any-from_list_any, ap, arith, Bool, cases_eq, eq-eqb, eqb-true, false, get_or, IfSome, inl, inr, length, List, list_any, list_any_at, map, ne_eqb, None, not, Option, refl, Result, Some, subst, suc, sym, true, ℕ, ◌&&◌, ◌<◌, ◌==◌, ◌||◌, ◌∙◌, ◌∷◌, ◌≡◌}
+use Rattle.art_rules.specs.Words.{book_lumps, each_of, Fault, first_needs, frame_of, from_below, itself, joined_lists, last_of, prepared_textures, PreparedTexture, shape_lumps, ShelfView, TextureLists}
+use Rattle.art_rules.proofs.Laws.{joined_lists-cons}
+use Rattle.scene_rules.specs.Words.{book_in, Heap, is_sky_texture, is_wanted_texture, need_of, shows_texture, SideTextures}
+use Rattle.texture_build.specs.DirectoryView.{DirectoryView}
+use Rattle.texture_build.specs.Calls.{ReadsLumps}
+use Rattle.texture_build.specs.TexNo.{TexNo}
 use Rattle.art_rules.specs.declared.refusal.TexRefusal.{TexRefusal}
 use Rattle.art_rules.specs.declared.refusal.SpriteRefusal.{SpriteRefusal}
 use Rattle.scene_rules.specs.declared.refusal.AuditRefusal.{AuditRefusal}
@@ -22,13 +15,9 @@ use Rattle.texture_build.proofs.PrepareLemmas.{tells_wanted}
 use Rattle.art_rules.specs.declared.shapes.Frame.{Frame}
 use Rattle.art_rules.specs.declared.shapes.Need.{Need}
 use Rattle.art_rules.specs.declared.shapes.Shape.{Shape}
-use Rattle.art_rules.specs.Books.{book_lumps, each_of, first_needs, frame_of, shape_lumps}
 use Rattle.sprite_book.specs.Calls.{IsWanted}
 use Rattle.scene_rules.specs.declared.Placed.{Placed}
 use Rattle.scene_rules.specs.declared.refusal.AuditRefusal.TheVariants.{Texture}
-use Rattle.scene_rules.specs.Places.{need_of}
-use Rattle.scene_rules.specs.Scenes.{book_in}
-use Rattle.scene_rules.specs.Sides.{is_sky_texture, is_wanted_texture, shows_texture}
 use Rattle.sound_scene.specs.Whole.{AreSidePrepared, IsNoneOrPrepared}
 
 -- the wanted textures are those of sides and sky

@@ -1,26 +1,16 @@
 -- Each lump that an audit reads is needed by its scene, and a zone that was full for one is smaller
 -- than `enough`.
-use Rattle.outside.specs.Faults.{itself}
-use Rattle.word_rules.proofs.Common.{ap, arith, cases_lt, eq-eqb, Err, false, IfErr, inl, inr, length, List, Ok, Option, option_map_or, or-true, refl, Result, subst, true, ℕ, ◌+◌, ◌<◌, ◌==◌, ◌∙◌, ◌≡◌, ◌≤◌}
-use Rattle.outside.specs.Shelf.{ShelfView}
-use Rattle.lump_rules.specs.declared.wad.Lump.{Lump}
-use Rattle.lump_rules.specs.Contents.{lump_bytes}
-use Rattle.lump_rules.specs.Lookups.{lump_at}
-use Rattle.zone_rules.specs.declared.TheConstants.{MIN_FRAGMENT}
-use Rattle.zone_rules.specs.Zones.{Heap, block_size}
-use Rattle.wad_dir.specs.DirectoryView.{DirectoryView}
-use Rattle.level_rules.specs.declared.ThingLine.{ThingLine}
-use Rattle.lump_cache.specs.Caches.{IsAtRest}
-use Rattle.lump_cache.specs.Calls.{IfFull, IsFullFor, HoldContents}
-use Rattle.lump_cache.specs.Named.{IsLast}
-use Rattle.lump_cache.proofs.CallLemmas.{full_at, full_room}
+use Rattle.art_rules.specs.Words.{Fault, itself, Lump, lump_at, lump_bytes, ShelfView}
+use Rattle.art_rules.proofs.Common.{ap, arith, cases_lt, eq-eqb, Err, false, IfErr, inl, inr, length, List, Ok, Option, option_map_or, or-true, refl, Result, subst, true, ℕ, ◌+◌, ◌<◌, ◌==◌, ◌∙◌, ◌≡◌, ◌≤◌}
+use Rattle.scene_rules.specs.Words.{art_of, block_size, book_in, colormap_of, enough, Faces, greatest_by, Heap, is_last, is_list, is_map_lump, is_needed, is_wanted_texture, LevelBase, lump_block, MIN_FRAGMENT, needed_lumps, scene_in, SceneValue, sizes_of, ThingLine, zone_sizes}
+use Rattle.texture_build.specs.DirectoryView.{DirectoryView}
+use Rattle.texture_build.specs.Caches.{IsAtRest}
+use Rattle.texture_build.specs.Calls.{IfFull, IsFullFor, HoldContents}
+use Rattle.texture_build.specs.Named.{IsLast}
+use Rattle.texture_build.proofs.CallLemmas.{full_at, full_room}
 use Rattle.art_rules.specs.declared.TheConstants.{PNAMES, TEXTURE1, TEXTURE2}
 use Rattle.texture_lists.specs.Asked.{IsListLump}
-use Rattle.outside.specs.declared.fault.Fault.{Fault}
 use Rattle.scene_rules.specs.declared.refusal.AuditRefusal.{AuditRefusal}
-use Rattle.scene_rules.specs.Scenes.{Faces, LevelBase, SceneValue, art_of, book_in, colormap_of, scene_in, sizes_of}
-use Rattle.scene_rules.specs.Sides.{is_wanted_texture}
-use Rattle.scene_rules.specs.Sizes.{enough, greatest_by, is_last, is_list, is_map_lump, is_needed, lump_block, needed_lumps, zone_sizes}
 use Rattle.level_scene.specs.Asked.{IsLumpOfMap}
 use Rattle.level_audit.specs.Asked.{IsOfBase}
 use Rattle.level_audit.specs.Asked.{IsOfArt, IsOfScene}

@@ -1,16 +1,11 @@
 -- What is told of the steps after COLORMAP, one after the other.
-use Rattle.outside.specs.Faults.{itself}
+use Rattle.art_rules.specs.Words.{Fault, itself, OutOfMemory, ShelfView}
 use Rattle.std.proofs.Common.{◌≡◌, ℕ, List, Result, Ok, Err, refl, sym, ap, ◌∙◌, inl, inr, IsErrAnd}
-use Rattle.outside.specs.Shelf.{ShelfView}
-use Rattle.zone_rules.specs.Zones.{Heap}
-use Rattle.wad_dir.specs.DirectoryView.{DirectoryView}
-use Rattle.level_rules.specs.declared.ThingLine.{ThingLine}
-use Rattle.lump_cache.specs.Calls.{ReadsLumps}
-use Rattle.lump_cache.proofs.CallLemmas.{reads_as, reads_more, reads_same, reads_short, reads_stop, reads_stop_first}
-use Rattle.outside.specs.declared.fault.Fault.{Fault}
+use Rattle.scene_rules.specs.Words.{base_in, Heap, scene_in, scene_on, ThingLine}
+use Rattle.texture_build.specs.DirectoryView.{DirectoryView}
+use Rattle.texture_build.specs.Calls.{ReadsLumps}
+use Rattle.texture_build.proofs.CallLemmas.{reads_as, reads_more, reads_same, reads_short, reads_stop, reads_stop_first}
 use Rattle.scene_rules.specs.declared.refusal.AuditRefusal.{AuditRefusal}
-use Rattle.outside.specs.declared.fault.Fault.TheVariants.{OutOfMemory}
-use Rattle.scene_rules.specs.Scenes.{base_in, scene_in, scene_on}
 use Rattle.sound_scene.specs.declared.parts.ReadBase.{ReadBase}
 use Rattle.level_audit.specs.Asked.{IsOfBase}
 use Rattle.sound_scene.specs.Bases.{base_of}

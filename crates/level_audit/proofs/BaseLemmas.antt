@@ -1,18 +1,13 @@
 -- The steps of a base, and the lumps that stand beside the colormap.
 use Rattle.std.proofs.Common.{◌≡◌, ℕ, true, List, take, Result, Ok, Err, refl, subst}
-use Rattle.outside.specs.Faults.{and_then, from_below}
-use Rattle.lump_rules.specs.declared.wad.Lump.{Lump}
-use Rattle.zone_rules.specs.Zones.{Heap}
-use Rattle.level_rules.specs.maps.Levels.{LevelValue}
-use Rattle.art_rules.specs.Textures.{TextureLists}
-use Rattle.lump_cache.specs.Sizes.{StandsBeside}
+use Rattle.art_rules.specs.Words.{and_then, from_below, Lump, TextureLists}
+use Rattle.scene_rules.specs.Words.{base_in, base_over, colormap_of, Heap, is_map_lump, label_of, level_in, LevelBase, LevelValue, lists_in, playpal_of}
+use Rattle.texture_build.specs.Sizes.{StandsBeside}
 use Rattle.level_scene.specs.Asked.{IsLumpOfMap}
 use Rattle.scene_rules.specs.declared.TheConstants.{PALETTE_SIZE}
 use Rattle.scene_rules.specs.declared.refusal.ArtRefusal.{ArtRefusal}
 use Rattle.scene_rules.specs.declared.refusal.AuditRefusal.{AuditRefusal}
 use Rattle.scene_rules.specs.declared.refusal.AuditRefusal.TheVariants.{Art, Map, Texture}
-use Rattle.scene_rules.specs.Scenes.{LevelBase, colormap_of, playpal_of, label_of, level_in, lists_in, base_in, base_over}
-use Rattle.scene_rules.specs.Sizes.{is_map_lump}
 
 -- the base of a map and its lists, with these colours
 abbrev pub with_colours : ℕ → ℕ → List ℕ → ℕ × LevelValue → TextureLists → LevelBase

@@ -1,11 +1,8 @@
 -- The first palette, as it is read.
-use Rattle.word_rules.proofs.Common.{All-get_or, ap, append-nil, arith, length, length-take, List, min, take, take_all, ℕ, ◌++◌, ◌-◌, ◌<◌, ◌∙◌, ◌≡◌, ◌≤◌}
+use Rattle.art_rules.proofs.Common.{All-get_or, ap, append-nil, arith, length, length-take, List, min, take, take_all, ℕ, ◌++◌, ◌-◌, ◌<◌, ◌∙◌, ◌≡◌, ◌≤◌}
 use lib.ListN.{replicate}
-use Rattle.lump_rules.specs.Contents.{AllWithin, LiesWithin, lump_bytes}
-use Rattle.lump_rules.specs.Lookups.{lump_at, no_lump}
-use Rattle.lump_rules.proofs.ContentLemmas.{lump_bytes-length}
-use Rattle.lump_rules.specs.declared.wad.Lump.{Lump}
-use Rattle.lump_rules.specs.Names.{filled}
+use Rattle.art_rules.specs.Words.{AllWithin, filled, LiesWithin, Lump, lump_at, lump_bytes, no_lump}
+use Rattle.art_rules.proofs.Laws.{lump_bytes-length}
 
 -- where a list has the first so many, filling up adds nothing to them
 pub filled_first : (n count held left : ℕ) (bytes part filled : List ℕ) → count ≡ min n (length bytes) → part ≡ take count bytes → held ≡ length (take count bytes) → left ≡ n - held → filled ≡ take n part ++ replicate left 0 → n ≤ length bytes → filled ≡ take n bytes

@@ -1,29 +1,17 @@
 -- What is told of an audit after its first fetch, that of COLORMAP, by what is told of the rest.
-use Rattle.word_rules.proofs.Common.{ap, arith, Bool, Err, err_from_is_err_and, IfErr, IfOk, inl, inr, IsErrAnd, List, MatchResult, None, Ok, OnOk, Option, option_and_then, option_map, Result, Some, subst, sym, true, ℕ, ◌+◌, ◌<◌, ◌∙◌, ◌≡◌, ◌≢◌, ◌≤◌}
-use Rattle.outside.specs.Shelf.{NameFiles, IsLaterShelf, ShelfView}
-use Rattle.outside.specs.declared.fault.Fault.{Fault}
-use Rattle.outside.specs.Faults.{ResultIs, itself}
-use Rattle.outside.proofs.ShelfLemmas.{all_stand_later}
-use Rattle.lump_rules.specs.Contents.{lump_bytes}
-use Rattle.lump_rules.specs.Lookups.{lump_at}
-use Rattle.zone_rules.specs.Orders.{Item, KeepsOrder}
-use Rattle.zone_rules.specs.declared.TheConstants.{MIN_FRAGMENT}
-use Rattle.zone_rules.specs.declared.Tag.TheVariants.{Static}
-use Rattle.zone_rules.specs.Requests.{gaps}
-use Rattle.zone_rules.specs.Zones.{Owner, Block, Heap, Holding, block_size, holding_of, owned_block}
-use Rattle.zone_rules.proofs.GapLemmas.{small_all}
-use Rattle.zone_rules.proofs.OrderLemmas.{order_then}
-use Rattle.wad_dir.specs.DirectoryView.{DirectoryView}
-use Rattle.lump_cache.specs.declared.fault.CacheFault.{CacheFault}
-use Rattle.lump_cache.specs.declared.fault.CacheFault.TheVariants.{ZoneFull, ReadFault}
-use Rattle.lump_cache.specs.Caches.{HasStatic, IsAtRest, IsFaithful, NoRoom, WhereFull, from_cache, holds_static, is_static_tag, lump_owner}
-use Rattle.level_rules.specs.declared.ThingLine.{ThingLine}
-use Rattle.lump_cache.specs.Calls.{IfFull, InOrderAt, IsFullFor, HoldContents}
-use Rattle.lump_cache.specs.Sizes.{HasSizes, IsGapAround, IsGapBeside, StandsBeside}
-use Rattle.lump_cache.proofs.CallLemmas.{full_at, full_room, order_at}
-use Rattle.outside.specs.declared.fault.Fault.TheVariants.{Refused}
+use Rattle.art_rules.proofs.Common.{ap, arith, Bool, Err, err_from_is_err_and, IfErr, IfOk, inl, inr, IsErrAnd, List, MatchResult, None, Ok, OnOk, Option, option_and_then, option_map, Result, Some, subst, sym, true, ℕ, ◌+◌, ◌<◌, ◌∙◌, ◌≡◌, ◌≢◌, ◌≤◌}
+use Rattle.art_rules.specs.Words.{Fault, IsLaterShelf, itself, lump_at, lump_bytes, NameFiles, Refused, ResultIs, ShelfView}
+use Rattle.art_rules.proofs.Laws.{all_stand_later}
+use Rattle.scene_rules.specs.Words.{Block, block_size, colormap_of, gaps, Heap, Holding, holding_of, Item, KeepsOrder, MIN_FRAGMENT, owned_block, Owner, SceneValue, Static, ThingLine}
+use Rattle.scene_rules.proofs.Laws.{order_then, small_all}
+use Rattle.texture_build.specs.DirectoryView.{DirectoryView}
+use Rattle.texture_build.specs.CacheFault.{CacheFault}
+use Rattle.texture_build.specs.CacheFault.TheVariants.{ZoneFull, ReadFault}
+use Rattle.texture_build.specs.Caches.{HasStatic, IsAtRest, IsFaithful, NoRoom, WhereFull, from_cache, holds_static, is_static_tag, lump_owner}
+use Rattle.texture_build.specs.Calls.{IfFull, InOrderAt, IsFullFor, HoldContents}
+use Rattle.texture_build.specs.Sizes.{HasSizes, IsGapAround, IsGapBeside, StandsBeside}
+use Rattle.texture_build.proofs.CallLemmas.{full_at, full_room, order_at}
 use Rattle.scene_rules.specs.declared.refusal.AuditRefusal.{AuditRefusal}
-use Rattle.scene_rules.specs.Scenes.{SceneValue, colormap_of}
 use Rattle.level_audit.specs.Asked.{IsOfBase}
 use Rattle.level_audit.specs.Reads.{IsFullAudit, IsReadLater}
 use Rattle.sound_scene.specs.Sound.{SoundValue}

@@ -1,16 +1,9 @@
 -- Laws of `is_all_single` and `bad_middle`, and what columns of single patches are read from.
-use Rattle.word_rules.proofs.Common.{All, ap, arith, Bool, cases_lt, eq-eqb, false, get_or, get_or-range_with_len, get_or_default, get_or_past, inl, inr, IsSome, length, length-range_with_len, List, list_all, list_all_at, list_any, list_any_at, range_with_len, refl, subst, suc, sym, true, zero, zero-add, ℕ, ◌&&◌, ◌+◌, ◌<◌, ◌∙◌, ◌≡◌, ◌≤◌}
-use Rattle.word_rules.specs.Least.{least}
-use Rattle.level_rules.specs.declared.Seg.{Seg}
-use Rattle.level_rules.specs.declared.SideTextures.{SideTextures}
-use Rattle.art_rules.specs.Wanted.{PreparedTexture}
-use Rattle.art_rules.specs.Columns.{is_single}
-use Rattle.art_rules.specs.Textures.{mask_of}
-use Rattle.art_rules.specs.Lookups.{single_place}
+use Rattle.art_rules.proofs.Common.{All, ap, arith, Bool, cases_lt, eq-eqb, false, get_or, get_or-range_with_len, get_or_default, get_or_past, inl, inr, IsSome, length, length-range_with_len, List, list_all, list_all_at, list_any, list_any_at, range_with_len, refl, subst, suc, sym, true, zero, zero-add, ℕ, ◌&&◌, ◌+◌, ◌<◌, ◌∙◌, ◌≡◌, ◌≤◌}
+use Rattle.art_rules.specs.Words.{is_single, least, mask_of, PreparedTexture, single_place}
+use Rattle.scene_rules.specs.Words.{bad_middle, is_all_single, is_bad_middle, is_bad_side, is_seen_through, middle_of, Seg, SideTextures, three_textures}
 use Rattle.texture_build.specs.Sources.{own_lookup}
 use Rattle.texture_build.specs.Views.{TexturesView, is_marked}
-use Rattle.scene_rules.specs.Sides.{three_textures}
-use Rattle.scene_rules.specs.Middles.{bad_middle, is_all_single, is_bad_middle, is_bad_side, is_seen_through, middle_of}
 use Rattle.sound_scene.specs.Whole.{AllColumnsSingle, IsMiddleSingle, IsNoneOrSingle}
 
 range_all : (p : ℕ → Bool) (a n : ℕ) → ((k : ℕ) → k < a + n → p k ≡ true) → list_all p (range_with_len a n) ≡ true

@@ -1,27 +1,18 @@
 -- What is told of a part that reads no lump.
-use Rattle.word_rules.proofs.Common.{ap, Err, err_from_is_err_and, List, Ok, Option, refl, Result, subst, sym, true, ℕ, ◌∙◌, ◌≡◌}
-use Rattle.outside.specs.Shelf.{ShelfView}
-use Rattle.outside.specs.Faults.{ResultIs, fault_above, from_below, itself}
-use Rattle.zone_rules.specs.Zones.{Heap}
-use Rattle.wad_dir.specs.DirectoryView.{DirectoryView}
-use Rattle.lump_cache.specs.Calls.{ReadsLumps}
-use Rattle.lump_cache.proofs.CallLemmas.{result_above, reads_above, reads_known, reads_memory, reads_refused}
-use Rattle.level_rules.specs.declared.Seg.{Seg}
-use Rattle.level_rules.specs.declared.SideTextures.{SideTextures}
-use Rattle.level_rules.specs.maps.Levels.{LevelValue}
-use Rattle.art_rules.specs.Textures.{TextureLists}
-use Rattle.art_rules.specs.Wanted.{PreparedTexture}
+use Rattle.art_rules.proofs.Common.{ap, Err, err_from_is_err_and, List, Ok, Option, refl, Result, subst, sym, true, ℕ, ◌∙◌, ◌≡◌}
+use Rattle.art_rules.specs.Words.{Fault, fault_above, from_below, itself, PreparedTexture, ResultIs, ShelfView, TextureLists}
+use Rattle.scene_rules.specs.Words.{bad_middle, checked, faces_in, Heap, LevelValue, Seg, SideTextures, texture_by}
+use Rattle.texture_build.specs.DirectoryView.{DirectoryView}
+use Rattle.texture_build.specs.Calls.{ReadsLumps}
+use Rattle.texture_build.proofs.CallLemmas.{result_above, reads_above, reads_known, reads_memory, reads_refused}
 use Rattle.level_scene.specs.declared.fault.SceneFault.{SceneFault}
 use Rattle.level_scene.specs.declared.fault.SceneFault.TheVariants.{Refused, OutOfMemory}
 use Rattle.level_scene.specs.Faults.{scene_fault}
 use Rattle.scene_rules.specs.declared.Placed.{Placed}
 use Rattle.scene_rules.specs.declared.refusal.AuditRefusal.TheVariants.{Scene}
 use Rattle.scene_rules.specs.declared.refusal.SceneRefusal.{SceneRefusal}
-use Rattle.scene_rules.specs.Middles.{bad_middle}
-use Rattle.scene_rules.specs.Scenes.{checked, faces_in, texture_by}
 use Rattle.level_audit.specs.Faults.{above_scene}
-use Rattle.outside.specs.declared.fault.Fault.{Fault}
-use Rattle.outside.proofs.ThroughLemmas.{IsThrough}
+use Rattle.art_rules.proofs.Laws.{IsThrough}
 use Rattle.sound_scene.specs.declared.parts.ReadFaces.{ReadFaces}
 use Rattle.sound_scene.specs.Scenes.{faces_of}
 

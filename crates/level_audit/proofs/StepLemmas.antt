@@ -1,19 +1,11 @@
 -- A scene over its base, a step at a time.
 use Rattle.std.proofs.Common.{◌≡◌, ℕ, List, Option, Ok, Err, refl, sym, ap, ◌∙◌}
-use Rattle.outside.specs.Faults.{and_then, from_below}
-use Rattle.lump_rules.specs.declared.wad.Lump.{Lump}
-use Rattle.lump_rules.specs.Lookups.{last_of}
-use Rattle.level_rules.specs.declared.ThingLine.{ThingLine}
-use Rattle.art_rules.specs.Textures.{TextureLists}
-use Rattle.art_rules.specs.Wanted.{PreparedTexture, prepared_textures}
+use Rattle.art_rules.specs.Words.{and_then, from_below, last_of, Lump, prepared_textures, PreparedTexture, TextureLists}
+use Rattle.scene_rules.specs.Words.{bad_middle, book_in, checked, Faces, faces_in, is_wanted_texture, LevelBase, placed_things, scene_on, scene_over, scene_with, texture_by, ThingLine}
 use Rattle.art_rules.specs.declared.shapes.Frame.{Frame}
 use Rattle.scene_rules.specs.declared.Placed.{Placed}
 use Rattle.scene_rules.specs.declared.refusal.AuditRefusal.{AuditRefusal}
 use Rattle.scene_rules.specs.declared.refusal.AuditRefusal.TheVariants.{Scene, Sprite, Texture}
-use Rattle.scene_rules.specs.Middles.{bad_middle}
-use Rattle.scene_rules.specs.Places.{placed_things}
-use Rattle.scene_rules.specs.Scenes.{Faces, LevelBase, book_in, checked, faces_in, scene_on, scene_over, scene_with, texture_by}
-use Rattle.scene_rules.specs.Sides.{is_wanted_texture}
 
 module _ (bytes : ℕ → List ℕ) (lumps : List Lump) (g : LevelBase) (faces : Faces) where
   module _ (placed : List Placed) (prepared : List (Option PreparedTexture)) where

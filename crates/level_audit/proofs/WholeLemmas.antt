@@ -1,20 +1,13 @@
 -- What drawing asks of a scene, a step of its reading at a time.
-use Rattle.word_rules.proofs.Common.{All, ap, Err, IfOk, IfSome, length, List, Ok, OnOk, option_map, Result, rules, subst, sym, ℕ, ◌<◌, ◌∙◌, ◌≡◌, ◌≤◌, ◌⊎◌}
-use Rattle.outside.specs.declared.fault.Fault.{Fault}
-use Rattle.lump_rules.specs.declared.wad.Lump.{Lump}
-use Rattle.level_rules.specs.declared.Seg.{Seg}
-use Rattle.level_rules.specs.declared.SideTextures.{SideTextures}
-use Rattle.level_rules.specs.declared.ThingLine.{ThingLine}
+use Rattle.art_rules.proofs.Common.{All, ap, Err, IfOk, IfSome, length, List, Ok, OnOk, option_map, Result, rules, subst, sym, ℕ, ◌<◌, ◌∙◌, ◌≡◌, ◌≤◌, ◌⊎◌}
+use Rattle.art_rules.specs.Words.{book_lumps, Fault, Lump, TextureLists}
+use Rattle.scene_rules.specs.Words.{Faces, faces_in, LevelBase, placed_things, Seg, SideTextures, ThingLine}
 use Rattle.art_rules.specs.declared.TheConstants.{MAX_TEXTURES}
-use Rattle.art_rules.specs.Books.{book_lumps}
-use Rattle.art_rules.specs.Textures.{TextureLists}
-use Rattle.texture_lists.specs.declared.number.TexNo.{TexNo}
+use Rattle.texture_build.specs.TexNo.{TexNo}
 use Rattle.texture_build.specs.Views.{TexturesView, AllTexturesListed, AllThere, IsPrepared}
 use Rattle.level_scene.specs.Bounds.{AreBelow, AreThere}
 use Rattle.scene_rules.specs.declared.Placed.{Placed}
 use Rattle.scene_rules.specs.declared.refusal.AuditRefusal.{AuditRefusal}
-use Rattle.scene_rules.specs.Places.{placed_things}
-use Rattle.scene_rules.specs.Scenes.{LevelBase, Faces, faces_in}
 use Rattle.sound_scene.specs.declared.parts.ReadBase.{ReadBase}
 use Rattle.sound_scene.specs.declared.parts.ReadFaces.{ReadFaces}
 use Rattle.sound_scene.specs.declared.parts.ReadScene.{ReadScene}

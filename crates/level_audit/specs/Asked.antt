@@ -1,15 +1,11 @@
 -- The lumps of a scene that are asked for, COLORMAP aside: those of its base, and those of its art.
 use Rattle.std.specs.Prelude.{◌≡◌, ◌⊎◌, List, Ok, map, ℕ}
-use Rattle.lump_rules.specs.declared.wad.Lump.{Lump}
+use Rattle.art_rules.specs.Words.{Lump}
 use Rattle.level_scene.specs.Asked.{IsLumpOfMap}
 use Rattle.texture_lists.specs.Asked.{IsListLump}
-use Rattle.scene_rules.specs.Scenes.{playpal_of}
-use Rattle.level_rules.specs.declared.ThingLine.{ThingLine}
+use Rattle.scene_rules.specs.Words.{Faces, faces_in, is_wanted_texture, LevelBase, need_of, placed_things, playpal_of, ThingLine}
 use Rattle.texture_build.specs.Asked.{IsWantedPatch}
 use Rattle.sprite_book.specs.Calls.{IsWanted}
-use Rattle.scene_rules.specs.Places.{need_of, placed_things}
-use Rattle.scene_rules.specs.Scenes.{Faces, LevelBase, faces_in}
-use Rattle.scene_rules.specs.Sides.{is_wanted_texture}
 
 -- a lump of the map, or a list of textures
 abbrev pub IsOfMap : List Lump → List ℕ → ℕ → Type 0

@@ -1,14 +1,9 @@
 -- The lumps that an audit reads. Which patches and pictures there are depends on the bytes of others.
 use Rattle.std.specs.Prelude.{◌≡◌, ◌<◌, ℕ, List, Ok, ◌⊎◌}
-use Rattle.outside.specs.Shelf.{ShelfView}
-use Rattle.lump_rules.specs.declared.wad.Lump.{Lump}
-use Rattle.lump_rules.specs.Contents.{lump_bytes}
-use Rattle.lump_rules.specs.Lookups.{lump_at}
-use Rattle.zone_rules.specs.Zones.{Heap, block_size}
-use Rattle.wad_dir.specs.DirectoryView.{DirectoryView}
-use Rattle.level_rules.specs.declared.ThingLine.{ThingLine}
-use Rattle.lump_cache.specs.Calls.{HoldContents}
-use Rattle.scene_rules.specs.Scenes.{LevelBase, colormap_of, base_in}
+use Rattle.art_rules.specs.Words.{Lump, lump_at, lump_bytes, ShelfView}
+use Rattle.scene_rules.specs.Words.{base_in, block_size, colormap_of, Heap, LevelBase, ThingLine}
+use Rattle.texture_build.specs.DirectoryView.{DirectoryView}
+use Rattle.texture_build.specs.Calls.{HoldContents}
 use Rattle.level_audit.specs.Asked.{IsOfBase}
 use Rattle.level_audit.specs.Asked.{IsOfScene}
 

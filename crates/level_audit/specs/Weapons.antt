@@ -1,14 +1,11 @@
 -- What the rows of a weapon table need, and the book of it.
 use Rattle.std.specs.Prelude.{ℕ, ◌<◌, suc, List, [], ◌∷◌, length, All, Option, Some, None, Result, ⊤}
-use Rattle.outside.specs.declared.fault.Fault.{Fault}
-use Rattle.outside.specs.Faults.{fault_above, from_below}
-use Rattle.lump_rules.specs.declared.wad.Lump.{Lump}
+use Rattle.art_rules.specs.Words.{each_of, Fault, fault_above, first_needs, frame_of, from_below, Lump}
 use Rattle.csv_tables.specs.declared.weapons.WeaponRow.{WeaponRow}
 use Rattle.art_rules.specs.declared.refusal.SpriteRefusal.{SpriteRefusal}
 use Rattle.art_rules.specs.declared.refusal.SpriteRefusal.TheVariants as sprite
 use Rattle.art_rules.specs.declared.shapes.Frame.{Frame}
 use Rattle.art_rules.specs.declared.shapes.Need.{Need}
-use Rattle.art_rules.specs.Books.{each_of, first_needs, frame_of}
 use Rattle.scene_rules.specs.declared.refusal.AuditRefusal.{AuditRefusal}
 use Rattle.scene_rules.specs.declared.refusal.AuditRefusal.TheVariants.{WeaponArt}
 use Rattle.scene_rules.specs.declared.refusal.WeaponRefusal.{WeaponRefusal}

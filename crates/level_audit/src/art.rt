@@ -2,15 +2,10 @@
 //
 // Rules: `art_rules`, Wanted; `sprite_book`, Books; `scene_rules`, Scenes. The original:
 // `R_PrecacheLevel`, r_data.c.
-ghost use Rattle.art_rules.specs.Books.{book_lumps};
-ghost use Rattle.art_rules.specs.Wanted.{prepared_textures};
+ghost use Rattle.art_rules.specs.Words.{book_lumps, from_below, itself, last_of, prepared_textures};
 ghost use Rattle.level_scene.specs.Bounds.{AreBelow};
-ghost use Rattle.lump_cache.specs.Calls.{ReadsLumps};
-ghost use Rattle.lump_rules.specs.Lookups.{last_of};
-ghost use Rattle.outside.specs.Faults.{from_below, itself};
-ghost use Rattle.scene_rules.specs.Places.{need_of};
-ghost use Rattle.scene_rules.specs.Scenes.{book_in};
-ghost use Rattle.scene_rules.specs.Sides.{is_wanted_texture};
+ghost use Rattle.texture_build.specs.Calls.{ReadsLumps};
+ghost use Rattle.scene_rules.specs.Words.{book_in, is_wanted_texture, need_of};
 ghost use Rattle.scene_rules.specs.declared.refusal.AuditRefusal.TheVariants.{Sprite, Texture};
 ghost use Rattle.sound_scene.specs.Whole.{AreSidePrepared};
 ghost use Rattle.sprite_book.specs.Calls.{IsWanted};
@@ -20,14 +15,12 @@ ghost use Rattle.texture_build.specs.Views.{AllTexturesListed, AllThere, IsPrepa
 
 use crate::AuditFault;
 use crate::fault::{above_sprites, above_textures};
-use level_rules::SideTextures;
+use art_rules::Shelf;
 use level_scene::{PlacedThings, wanted_textures};
-use lump_cache::LumpCache;
-use outside::Shelf;
+use scene_rules::SideTextures;
 use sprite_book::SpriteBook;
 use std::alloc::Global;
-use texture_build::{TexNo, Textures};
-use wad_dir::Directory;
+use texture_build::{Directory, LumpCache, TexNo, Textures};
 
 // Prepares the textures that sides and sky want, in the order of their numbers.
 pub(crate) fn prepare_faces<S: Shelf>(

@@ -4,18 +4,11 @@
 // `R_InitData`, r_data.c.
 ghost use Rattle.job_rules.specs.Ranges.{IsSkill};
 ghost use Rattle.std.specs.Prelude.{◌≡◌, ◌≢◌, ◌<◌, ◌≤◌, ◌+◌, ℕ, List, length, true, Some, Ok, IfOk, IfErr, IfSome, IsOk};
-ghost use Rattle.outside.specs.Shelf.{NameFiles, IsLaterShelf};
-ghost use Rattle.outside.specs.Faults.{ResultIs, HasCauses, itself};
-ghost use Rattle.lump_rules.specs.Contents.{lump_bytes};
-ghost use Rattle.lump_rules.specs.Lookups.{lump_at};
-ghost use Rattle.zone_rules.specs.declared.TheConstants.{MIN_FRAGMENT};
-ghost use Rattle.zone_rules.specs.Zones.{block_size, bytes_of, holding_of};
-ghost use Rattle.zone_rules.specs.Orders.{Item, has_item, IsInOrder};
-ghost use Rattle.lump_cache.specs.Caches.{IsAtRest, IsEmpty, IsFaithful, KeepsCounts, composite_owner, holds_static, lump_owner};
-ghost use Rattle.lump_cache.specs.Calls.{IfFull, LeavesInOrder, HoldContents, ReadsLumps};
-ghost use Rattle.lump_cache.specs.Sizes.{HasSizes, IsGapAround, StandsBeside};
-ghost use Rattle.scene_rules.specs.Scenes.{SceneValue, art_of, colormap_of, scene_in, sizes_of};
-ghost use Rattle.scene_rules.specs.Sizes.{needed_lumps};
+ghost use Rattle.art_rules.specs.Words.{HasCauses, IsLaterShelf, itself, lump_at, lump_bytes, NameFiles, ResultIs};
+ghost use Rattle.scene_rules.specs.Words.{art_of, block_size, bytes_of, colormap_of, has_item, holding_of, IsInOrder, Item, MIN_FRAGMENT, needed_lumps, scene_in, SceneValue, sizes_of};
+ghost use Rattle.texture_build.specs.Caches.{IsAtRest, IsEmpty, IsFaithful, KeepsCounts, composite_owner, holds_static, lump_owner};
+ghost use Rattle.texture_build.specs.Calls.{IfFull, LeavesInOrder, HoldContents, ReadsLumps};
+ghost use Rattle.texture_build.specs.Sizes.{HasSizes, IsGapAround, StandsBeside};
 ghost use Rattle.level_audit.specs.Asked.{IsOfBase};
 ghost use Rattle.sound_scene.specs.Whole.{IsWholeScene};
 ghost use Rattle.level_audit.specs.Reads.{IsFullAudit, IsReadBy, IsReadLater};
@@ -23,14 +16,11 @@ ghost use Rattle.level_audit.specs.Reads.{IsFullAudit, IsReadBy, IsReadLater};
 use crate::base::read_base;
 use crate::scene::{MapRequest, read_scene};
 use crate::{AuditFault, AuditRefusal, SoundScene};
+use art_rules::{Fault, Name8, Shelf};
 use csv_tables::ThingTable;
 use job_files::find_colormap;
-use lump_cache::LumpCache;
-use lump_rules::Name8;
-use outside::{Fault, Shelf};
 use std::alloc::Global;
-use wad_dir::{Directory, LumpNo};
-use zone_heap::Tag;
+use texture_build::{Directory, LumpCache, LumpNo, Tag};
 
 /// The scene of a map, for a skill of 1 to 5, with things that look as the thing table says; or the
 /// first thing that is wrong with it.

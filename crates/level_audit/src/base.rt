@@ -2,33 +2,28 @@
 //
 // Rules: `scene_rules`, Scenes; `specs/Bases`. The original: `P_SetupLevel`, p_setup.c,
 // `R_InitTextures`, r_data.c.
-ghost use Rattle.outside.specs.Faults.{from_below, itself};
+ghost use Rattle.art_rules.specs.Words.{from_below, itself, MAP_LUMPS};
 ghost use Rattle.std.specs.Prelude.{◌≡◌, ◌<◌, ◌≤◌, ◌+◌, ℕ, [], length, true, Ok, IfOk, OnOk};
-ghost use Rattle.lump_rules.specs.declared.names.TheConstants.{MAP_LUMPS};
-ghost use Rattle.lump_cache.specs.Calls.{ReadsLumps};
-ghost use Rattle.lump_cache.specs.Sizes.{StandsBeside};
+ghost use Rattle.texture_build.specs.Calls.{ReadsLumps};
+ghost use Rattle.texture_build.specs.Sizes.{StandsBeside};
 ghost use Rattle.art_rules.specs.declared.TheConstants.{MAX_TEXTURES};
 ghost use Rattle.level_scene.specs.Asked.{IsLumpOfMap};
 ghost use Rattle.texture_lists.specs.Asked.{IsListLump};
 ghost use Rattle.scene_rules.specs.declared.TheConstants.{PALETTE_SIZE};
 ghost use Rattle.scene_rules.specs.declared.refusal.AuditRefusal.TheVariants.{Map, Texture};
-ghost use Rattle.scene_rules.specs.Scenes.{base_in, base_over, colormap_of, label_of, level_in, lists_in};
-ghost use Rattle.scene_rules.specs.Sizes.{is_map_lump};
+ghost use Rattle.scene_rules.specs.Words.{base_in, base_over, colormap_of, is_map_lump, label_of, level_in, lists_in};
 ghost use Rattle.level_audit.specs.Asked.{IsOfBase, IsOfMap};
 ghost use Rattle.sound_scene.specs.Bases.{base_of};
 
 use crate::colours::read_palette;
 use crate::fault::{above_level, above_textures};
 use crate::{AuditFault, AuditRefusal};
+use art_rules::{Fault, Name8, Shelf};
 use job_files::find_playpal;
 use level_scene::{Level, read_level};
-use lump_cache::LumpCache;
-use lump_rules::Name8;
-use outside::{Fault, Shelf};
 use sound_scene::ReadBase;
 use std::alloc::Global;
-use texture_build::Textures;
-use wad_dir::{Directory, LumpNo};
+use texture_build::{Directory, LumpCache, LumpNo, Textures};
 
 /// What a level stands on, where COLORMAP is found already.
 ///
@@ -128,7 +123,7 @@ fn read_map<S: Shelf>(
 }
 
 // The label of the map and its level, with the faults of an audit.
-#[tactic(auto, using(outside::proofs::ThroughLemmas::ok_through))]
+#[tactic(auto, using(art_rules::proofs::Laws::ok_through))]
 fn read_labelled<S: Shelf>(
     alloc: Global,
     name: &Name8,
@@ -149,7 +144,7 @@ fn read_labelled<S: Shelf>(
 }
 
 // The lists of textures, none of which is prepared, with the faults of an audit.
-#[tactic(auto, using(outside::proofs::ThroughLemmas::ok_through, outside::proofs::ThroughLemmas::done_through))]
+#[tactic(auto, using(art_rules::proofs::Laws::ok_through, art_rules::proofs::Laws::done_through))]
 fn load_lists<S: Shelf>(
     alloc: Global,
     dir: &Directory,

@@ -4,17 +4,16 @@
 // Rules: `scene_rules`, Scenes (`checked`), Middles. The original: `MF_SHADOW`, p_mobj.h;
 // `R_RenderMaskedSegRange`, r_segs.c. This project's own: such a level is refused.
 ghost use Rattle.level_scene.specs.Faults.{scene_fault};
-ghost use Rattle.outside.specs.Faults.{ResultIs};
-ghost use Rattle.scene_rules.specs.Middles.{bad_middle};
-ghost use Rattle.scene_rules.specs.Scenes.{checked, texture_by};
+ghost use Rattle.art_rules.specs.Words.{ResultIs};
+ghost use Rattle.scene_rules.specs.Words.{bad_middle, checked, texture_by};
 ghost use Rattle.sound_scene.specs.Whole.{IsMiddleSingle};
 ghost use Rattle.std.specs.Prelude.{◌≡◌, ◌<◌, ◌^◌, ◌⊎◌, true, All, length, OnOk};
 ghost use Rattle.texture_build.specs.Views.{IsPrepared};
 
 use crate::SceneRefusal;
 use crate::middles::find_bad_middle;
-use level_rules::{Seg, SideTextures};
 use level_scene::{PlacedThings, SceneFault};
+use scene_rules::{Seg, SideTextures};
 use std::alloc::Global;
 use texture_build::Textures;
 

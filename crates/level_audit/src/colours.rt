@@ -1,19 +1,17 @@
 // The first palette.
 //
 // Rules: `scene_rules`, Scenes. The original: `R_InitColormaps`, r_data.c.
-ghost use Rattle.outside.specs.Faults.{itself};
+ghost use Rattle.art_rules.specs.Words.{itself, lump_at};
 ghost use Rattle.std.specs.Prelude.{◌≡◌, ◌<◌, ◌≤◌, length, take, Ok, IfOk, OnOk};
-ghost use Rattle.lump_rules.specs.Lookups.{lump_at};
-ghost use Rattle.lump_cache.specs.Calls.{ReadsLumps};
-ghost use Rattle.lump_cache.specs.Sizes.{StandsBeside};
+ghost use Rattle.texture_build.specs.Calls.{ReadsLumps};
+ghost use Rattle.texture_build.specs.Sizes.{StandsBeside};
 ghost use Rattle.scene_rules.specs.declared.TheConstants.{PALETTE_SIZE};
 
 use crate::{AuditFault, AuditRefusal};
-use lump_cache::{LumpCache, fetch_live, live_lump};
-use outside::{OutOfMemory, Shelf};
+use art_rules::{OutOfMemory, Shelf};
 use scene_rules::{ArtRefusal, PALETTE_SIZE};
 use std::alloc::Global;
-use wad_dir::{Directory, LumpNo};
+use texture_build::{Directory, LumpCache, LumpNo, fetch_live, live_lump};
 
 /// The first 768 bytes of a lump, PLAYPAL: red, green and blue of 256 colours.
 ///

@@ -1,11 +1,11 @@
 // Why a level is not accepted.
 ghost use Rattle.std.specs.Prelude.{◌≡◌};
-ghost use Rattle.outside.specs.Faults.{fault_above};
+ghost use Rattle.art_rules.specs.Words.{fault_above};
 ghost use Rattle.scene_rules.specs.declared.refusal.AuditRefusal.TheVariants.{Map, Sprite, Texture};
 ghost use Rattle.level_audit.specs.Faults.{above_scene};
 
+use art_rules::Fault;
 use level_scene::{LevelFault, SceneFault};
-use outside::Fault;
 use scene_rules::AuditRefusal;
 use sprite_book::SpriteFault;
 use texture_lists::TexFault;

@@ -3,18 +3,18 @@
 // Rules: `scene_rules`, Scenes (`faces_in`). The original: `P_LoadSideDefs` and `P_LoadSectors`,
 // p_setup.c.
 ghost use Rattle.std.specs.Prelude.{◌≡◌, ◌<◌, true, All, length, IfOk, IfSome};
-ghost use Rattle.outside.specs.Faults.{ResultIs};
+ghost use Rattle.art_rules.specs.Words.{ResultIs};
 ghost use Rattle.level_scene.specs.Bounds.{AreBelow, AreThere};
 ghost use Rattle.level_scene.specs.Faults.{scene_fault};
-ghost use Rattle.scene_rules.specs.Scenes.{faces_in};
+ghost use Rattle.scene_rules.specs.Words.{faces_in};
 ghost use Rattle.sound_scene.specs.Scenes.{faces_of};
 
+use art_rules::Name8;
 use level_scene::{Level, SceneFault, find_flats, find_sky, number_sides};
-use lump_rules::Name8;
 use sound_scene::ReadFaces;
 use std::alloc::Global;
-use texture_lists::{ListedTextures, TexNo};
-use wad_dir::Directory;
+use texture_build::{Directory, ListedTextures};
+use texture_lists::TexNo;
 
 // The faces of a level: textures of sides, sky, flats. The first refusal comes, in this order.
 #[tactic(auto, unfolding(scene_rules::specs::Scenes::faces_in))]

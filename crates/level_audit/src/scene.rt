@@ -3,16 +3,14 @@
 // Rules: `scene_rules`, Scenes (`scene_on`); `specs/Scenes`. The original: `P_SetupLevel`,
 // p_setup.c, `R_PrecacheLevel`, r_data.c.
 ghost use Rattle.job_rules.specs.Ranges.{IsSkill};
-ghost use Rattle.outside.specs.Faults.{itself};
+ghost use Rattle.art_rules.specs.Words.{book_lumps, itself};
 ghost use Rattle.std.specs.Prelude.{◌≡◌, ◌<◌, ◌≤◌, ◌⊎◌, All, length, map, IfOk, IfSome, OnOk};
-ghost use Rattle.lump_cache.specs.Calls.{ReadsLumps};
+ghost use Rattle.texture_build.specs.Calls.{ReadsLumps};
 ghost use Rattle.texture_build.specs.Views.{IsPrepared};
 ghost use Rattle.art_rules.specs.declared.TheConstants.{MAX_TEXTURES};
-ghost use Rattle.art_rules.specs.Books.{book_lumps};
 ghost use Rattle.sprite_book.specs.Calls.{IsWanted};
 ghost use Rattle.level_scene.specs.Bounds.{AreBelow};
-ghost use Rattle.scene_rules.specs.Places.{need_of};
-ghost use Rattle.scene_rules.specs.Scenes.{scene_on, scene_over, scene_with};
+ghost use Rattle.scene_rules.specs.Words.{need_of, scene_on, scene_over, scene_with};
 ghost use Rattle.sound_scene.specs.Bases.{base_of};
 ghost use Rattle.level_audit.specs.Asked.{IsOfArt, IsOfScene};
 ghost use Rattle.sound_scene.specs.Scenes.{faces_of, scene_value};
@@ -23,14 +21,12 @@ use crate::art::{prepare_faces, read_book};
 use crate::checks::check_scene;
 use crate::fault::above_scene;
 use crate::names::find_faces;
+use art_rules::{Name8, Shelf};
 use csv_tables::ThingTable;
 use level_scene::{PlacedThings, place_things};
-use lump_cache::LumpCache;
-use lump_rules::Name8;
-use outside::Shelf;
 use sound_scene::{ReadBase, ReadFaces, ReadScene};
 use std::alloc::Global;
-use wad_dir::Directory;
+use texture_build::{Directory, LumpCache};
 
 /// A map by name, the looks of things, and a skill of 1 to 5.
 #[derive(Clone, Copy)]

@@ -2,22 +2,20 @@
 //
 // Rules: `specs/Weapons`. The original: `R_InitSpriteDefs`, r_things.c.
 ghost use Rattle.std.specs.Prelude.{◌≡◌, ◌<◌, ◌≤◌, ◌+◌, ◌++◌, ◌^◌, length, IfOk, OnErr, Some};
-ghost use Rattle.outside.specs.Faults.{from_below, itself};
-ghost use Rattle.lump_cache.specs.Calls.{ReadsLumps};
+ghost use Rattle.art_rules.specs.Words.{from_below, itself};
+ghost use Rattle.texture_build.specs.Calls.{ReadsLumps};
 ghost use Rattle.sprite_book.specs.Calls.{IsWanted};
 ghost use Rattle.scene_rules.specs.declared.refusal.AuditRefusal.TheVariants.{WeaponArt};
 ghost use Rattle.sound_scene.specs.Sound.{with_book};
 ghost use Rattle.level_audit.specs.Weapons.{AreThere, need_of_row, weapon_art, weapon_book, weapon_fault, weapon_needs, weapon_refusal};
 
 use crate::{AuditFault, AuditRefusal, SoundScene, WeaponRefusal};
-use art_rules::SpriteRefusal;
+use art_rules::{OutOfMemory, Shelf, SpriteRefusal};
 use csv_tables::{WeaponRow, WeaponTable};
-use lump_cache::LumpCache;
-use outside::{OutOfMemory, Shelf};
 use sound_scene::find_needed;
 use sprite_book::{Need, SpriteBook, SpriteFault};
 use std::alloc::Global;
-use wad_dir::{Directory, LumpNo};
+use texture_build::{Directory, LumpCache, LumpNo};
 
 /// The pictures of the frames that the rows of a weapon table need, which the scene then needs too:
 /// its lumps and its sizes are those of its own pictures and of these, not of an earlier call's.

@@ -1,20 +1,13 @@
 -- A lump of a map that was fetched, and what adding it to a builder comes to.
-use Rattle.outside.specs.Faults.{itself}
-use Rattle.word_rules.proofs.Common.{ap, Err, err_from_is_err_and, IsErrAnd, List, MatchResult, None, Ok, OnOk, Option, refl, Result, Some, sym, ℕ, ◌↔◌, ◌∙◌, ◌≡◌}
-use Rattle.outside.specs.Shelf.{ShelfView}
-use Rattle.lump_rules.specs.Contents.{lump_bytes}
-use Rattle.zone_rules.specs.Zones.{Heap}
-use Rattle.wad_dir.specs.DirectoryView.{DirectoryView}
-use Rattle.level_rules.specs.declared.maps.lumps.MapLump.{MapLump}
-use Rattle.level_rules.specs.declared.maps.refusal.MapRefusal.{MapRefusal}
-use Rattle.level_rules.specs.maps.Levels.{unless}
-use Rattle.level_rules.specs.maps.Lumps.{size_refusal}
+use Rattle.art_rules.specs.Words.{Fault, itself, lump_bytes, ShelfView}
+use Rattle.art_rules.proofs.Common.{ap, Err, err_from_is_err_and, IsErrAnd, List, MatchResult, None, Ok, OnOk, Option, refl, Result, Some, sym, ℕ, ◌↔◌, ◌∙◌, ◌≡◌}
+use Rattle.scene_rules.specs.Words.{Heap, MapLump, MapRefusal, size_refusal, unless}
+use Rattle.lump_cache.specs.DirectoryView.{DirectoryView}
 use Rattle.map_lumps.specs.declared.fault.MapFault.{MapFault}
 use Rattle.map_lumps.specs.declared.fault.MapFault.TheVariants.{Refused, OutOfMemory}
 use Rattle.map_lumps.specs.Builders.{BuilderValue, with_lump}
 use Rattle.lump_cache.specs.Calls.{ReadsLumps, HoldContents}
 use Rattle.lump_cache.proofs.CallLemmas.{reads_same}
-use Rattle.outside.specs.declared.fault.Fault.{Fault}
 use Rattle.level_scene.specs.Faults.{map_fault}
 use Rattle.level_scene.specs.Lumps.{lump_added}
 

@@ -1,14 +1,9 @@
 -- Laws of `leaf_from` and `is_within`, at a leaf and at a node.
-use Rattle.word_rules.proofs.Common.{arith, List, ltb-true, refl, slice_get, Some, suc, true, zero, ℕ, ℤ, ◌-◌, ◌<◌, ◌≡◌, ◌≤◌}
-use Rattle.level_rules.specs.declared.Node.{Node}
-use Rattle.level_rules.specs.declared.Child.TheVariants.{Node as NodeChild, Leaf as LeafChild}
-use Rattle.level_rules.specs.Levels.{child_on}
-use Rattle.level_rules.specs.maps.Ranges.{is_there}
-use Rattle.level_rules.specs.maps.Trees.{is_within}
-use Rattle.level_rules.proofs.maps.TreeLemmas.{child_passes}
-use Rattle.view_rules.specs.Sides.{side_of}
-use Rattle.level_rules.specs.walk.Boxes.{partition_of}
-use Rattle.scene_rules.specs.Places.{leaf_below, leaf_from}
+use Rattle.art_rules.proofs.Common.{arith, List, ltb-true, refl, slice_get, Some, suc, true, zero, ℕ, ℤ, ◌-◌, ◌<◌, ◌≡◌, ◌≤◌}
+use Rattle.scene_rules.specs.Node.{Node}
+use Rattle.scene_rules.specs.Words.{child_on, is_there, is_within, Leaf as LeafChild, leaf_below, leaf_from, Node as NodeChild, partition_of}
+use Rattle.scene_rules.proofs.Laws.{child_passes}
+use Rattle.art_rules.specs.Words.{side_of}
 
 -- a leaf is the leaf itself
 pub leaf_from-leaf : (nodes : List Node) (x y : ℤ) (levels leaf : ℕ) → leaf_from nodes x y levels (LeafChild leaf) ≡ leaf

@@ -1,28 +1,13 @@
 -- All eight lumps and then the level of their records, and a map that is found by its name.
-use Rattle.word_rules.proofs.Common.{[], ap, Err, IfOk, IsErrAnd, List, MatchResult, None, Ok, ok_or, Option, option_map, refl, Result, Some, sym, true, ℕ, ◌+◌, ◌∙◌, ◌∷◌, ◌≡◌}
-use Rattle.word_rules.specs.Least.{or_else}
-use Rattle.outside.specs.Shelf.{ShelfView}
-use Rattle.outside.specs.Faults.{and_then, itself}
-use Rattle.lump_rules.specs.declared.wad.Lump.{Lump}
-use Rattle.lump_rules.specs.Lookups.{map_of}
-use Rattle.zone_rules.specs.Zones.{Heap}
-use Rattle.wad_dir.specs.DirectoryView.{DirectoryView}
-use Rattle.lump_rules.specs.declared.wad.LumpNo.{LumpNo}
-use Rattle.level_rules.specs.declared.maps.lumps.MapLump.{MapLump}
-use Rattle.level_rules.specs.declared.maps.lumps.MapLump.TheVariants.{Things, Linedefs, Sidedefs, Vertexes, Segs, Ssectors, Nodes, Sectors}
-use Rattle.level_rules.specs.declared.maps.refusal.MapRefusal.{MapRefusal}
-use Rattle.level_rules.specs.declared.maps.refusal.MapRefusal.TheVariants.{NoMap}
-use Rattle.level_rules.specs.maps.Levels.{LevelValue, level_from, level_of, map_refusal, records_of, sizes_refusal, unless}
-use Rattle.level_rules.specs.maps.Lumps.{size_refusal}
+use Rattle.art_rules.proofs.Common.{[], ap, Err, IfOk, IsErrAnd, List, MatchResult, None, Ok, ok_or, Option, option_map, refl, Result, Some, sym, true, ℕ, ◌+◌, ◌∙◌, ◌∷◌, ◌≡◌}
+use Rattle.art_rules.specs.Words.{and_then, Fault, itself, Lump, LumpNo, map_of, or_else, OutOfMemory as LevelShort, Refused as LevelRefused, ShelfView}
+use Rattle.scene_rules.specs.Words.{Heap, is_map_lump, label_of, level_from, level_in, level_of, LevelValue, Linedefs, map_bytes, map_refusal, MapLump, MapRefusal, Nodes, NoMap, records_of, Sectors, Segs, Sidedefs, size_refusal, sizes_refusal, Ssectors, Things, unless, Vertexes}
+use Rattle.lump_cache.specs.DirectoryView.{DirectoryView}
 use Rattle.map_lumps.specs.declared.fault.MapFault.{MapFault}
 use Rattle.map_lumps.specs.declared.fault.MapFault.TheVariants.{Refused, OutOfMemory}
 use Rattle.map_lumps.specs.Builders.{BuilderValue, empty_builder, with_lump, with_records}
 use Rattle.lump_cache.specs.Calls.{ReadsLumps}
 use Rattle.lump_cache.proofs.CallLemmas.{reads_same, reads_short, reads_then_refused, reads_as}
-use Rattle.scene_rules.specs.Scenes.{label_of, level_in, map_bytes}
-use Rattle.scene_rules.specs.Sizes.{is_map_lump}
-use Rattle.outside.specs.declared.fault.Fault.{Fault}
-use Rattle.outside.specs.declared.fault.Fault.TheVariants.{Refused as LevelRefused, OutOfMemory as LevelShort}
 use Rattle.level_scene.specs.Asked.{IsLumpOfMap}
 use Rattle.level_scene.specs.Faults.{map_fault}
 use Rattle.level_scene.specs.Lumps.{lump_added, lumps_from}

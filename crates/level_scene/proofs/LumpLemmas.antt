@@ -1,13 +1,10 @@
 -- Laws of `lumps_from`, and what a builder has whose lumps come in the order of their numbers.
-use Rattle.word_rules.proofs.Common.{[], ap, arith, Bool, cases_eq, Err, false, get_or, get_or-range_with_len, inl, inr, length, length-map, length-range_with_len, List, map, nat_tests, Ok, range_with_len, refl, replicate, Result, subst, suc, sym, take, true, zero, ℕ, ◌++◌, ◌+◌, ◌-◌, ◌<◌, ◌∙◌, ◌∷◌, ◌≡◌, ◌≢◌, ◌≤◌, ◌⊎◌}
+use Rattle.art_rules.proofs.Common.{[], ap, arith, Bool, cases_eq, Err, false, get_or, get_or-range_with_len, inl, inr, length, length-map, length-range_with_len, List, map, nat_tests, Ok, range_with_len, refl, replicate, Result, subst, suc, sym, take, true, zero, ℕ, ◌++◌, ◌+◌, ◌-◌, ◌<◌, ◌∙◌, ◌∷◌, ◌≡◌, ◌≢◌, ◌≤◌, ◌⊎◌}
 use Rattle.std.proofs.Math.ListN.{set}
 use Rattle.std.proofs.lemmas.List.{get_or-map}
-use Rattle.outside.specs.Faults.{and_then}
-use Rattle.level_rules.specs.declared.maps.lumps.MapLump.{MapLump}
-use Rattle.level_rules.specs.declared.maps.refusal.MapRefusal.{MapRefusal}
-use Rattle.level_rules.specs.maps.Lumps.{lump_no}
+use Rattle.art_rules.specs.Words.{and_then}
+use Rattle.scene_rules.specs.Words.{is_map_lump, lump_no, MapLump, MapRefusal}
 use Rattle.map_lumps.specs.Builders.{BuilderValue, is_added}
-use Rattle.scene_rules.specs.Sizes.{is_map_lump}
 use Rattle.level_scene.specs.Lumps.{lump_added, lumps_from}
 
 -- before the first lump

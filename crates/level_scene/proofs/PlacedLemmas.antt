@@ -1,10 +1,7 @@
 -- Laws of `placed_from`.
-use Rattle.word_rules.proofs.Common.{add-one, ap, append-nil, append_assoc, at_drop_all, at_drop_more, drop, get_or, length, List, refl, sym, ℕ, ◌++◌, ◌+◌, ◌<◌, ◌∙◌, ◌≡◌, ◌≤◌}
-use Rattle.level_rules.specs.declared.Thing.{Thing}
-use Rattle.level_rules.specs.maps.Levels.{LevelValue}
-use Rattle.level_rules.specs.declared.ThingLine.{ThingLine}
+use Rattle.art_rules.proofs.Common.{add-one, ap, append-nil, append_assoc, at_drop_all, at_drop_more, drop, get_or, length, List, refl, sym, ℕ, ◌++◌, ◌+◌, ◌<◌, ◌∙◌, ◌≡◌, ◌≤◌}
+use Rattle.scene_rules.specs.Words.{LevelValue, placed_from, placed_if, placed_row, Thing, ThingLine}
 use Rattle.scene_rules.specs.declared.Placed.{Placed}
-use Rattle.scene_rules.specs.Places.{placed_from, placed_if, placed_row}
 
 module _ (level : LevelValue) (lines : List ThingLine) (skill : ℕ) where
   -- one thing more

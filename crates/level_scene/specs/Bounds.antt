@@ -1,6 +1,6 @@
 -- Numbers of textures and of flats that are there.
 use Rattle.std.specs.Prelude.{ℕ, ◌<◌, ⊤}
-use Rattle.level_rules.specs.declared.SideTextures.{SideTextures}
+use Rattle.scene_rules.specs.Words.{SideTextures}
 use Rattle.scene_rules.specs.declared.Flat.{Flat}
 use Rattle.scene_rules.specs.declared.Flat.TheVariants.{Sky, Lump as LumpFlat}
 use Rattle.scene_rules.specs.declared.SectorFlats.{SectorFlats}

@@ -1,7 +1,7 @@
 -- Faults of scenes and of maps as those of any layer.
-use Rattle.outside.specs.declared.fault.Fault.{Fault}
-use Rattle.outside.specs.declared.fault.Fault.TheVariants as above
-use Rattle.level_rules.specs.declared.maps.refusal.MapRefusal.{MapRefusal}
+use Rattle.art_rules.specs.Words.{Fault}
+use Rattle.art_rules.specs.Fault.TheVariants as above
+use Rattle.scene_rules.specs.Words.{MapRefusal}
 use Rattle.map_lumps.specs.declared.fault.MapFault.{MapFault}
 use Rattle.map_lumps.specs.declared.fault.MapFault.TheVariants as map
 use Rattle.scene_rules.specs.declared.refusal.SceneRefusal.{SceneRefusal}

@@ -1,10 +1,7 @@
 -- A builder with some lumps of a map, or the first of them that is too large.
 use Rattle.std.specs.Prelude.{ℕ, suc, ◌+◌, List, [], ◌∷◌, Result, Ok}
-use Rattle.outside.specs.Faults.{and_then}
-use Rattle.level_rules.specs.declared.maps.lumps.MapLump.{MapLump}
-use Rattle.level_rules.specs.declared.maps.refusal.MapRefusal.{MapRefusal}
-use Rattle.level_rules.specs.maps.Levels.{unless}
-use Rattle.level_rules.specs.maps.Lumps.{size_refusal}
+use Rattle.art_rules.specs.Words.{and_then}
+use Rattle.scene_rules.specs.Words.{MapLump, MapRefusal, size_refusal, unless}
 use Rattle.map_lumps.specs.Builders.{BuilderValue, with_lump}
 
 -- the builder with one lump more, refused where that is too large

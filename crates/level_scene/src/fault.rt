@@ -1,11 +1,11 @@
 // Why there is no level, or no part of a scene.
 ghost use Rattle.std.specs.Prelude.{◌≡◌};
-ghost use Rattle.outside.specs.Faults.{IsAboveBy};
+ghost use Rattle.art_rules.specs.Words.{IsAboveBy};
 ghost use Rattle.level_scene.specs.Faults.{map_fault, scene_fault};
 ghost use Rattle.level_scene.specs.declared.fault.SceneFault.TheVariants.{OutOfMemory, Refused};
 
+use art_rules::Fault;
 use map_lumps::{MapFault, MapRefusal};
-use outside::Fault;
 use scene_rules::SceneRefusal;
 use std::alloc::{AllocError, AllocFailed};
 use thiserror::Error;

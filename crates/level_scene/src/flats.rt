@@ -2,19 +2,17 @@
 //
 // Rules: `scene_rules`, SectorFlats. The original: `P_LoadSectors`, p_setup.c.
 ghost use Rattle.std.specs.Prelude.{◌≡◌, true, length, All, IfOk, IfSome};
-ghost use Rattle.outside.specs.Faults.{ResultIs};
-ghost use Rattle.scene_rules.specs.SectorFlats.{flat_named, flat_number, flats_of, sector_flats, surface_of, surfaces_of};
+ghost use Rattle.art_rules.specs.Words.{ResultIs};
+ghost use Rattle.scene_rules.specs.Words.{flat_named, flat_number, flats_of, sector_flats, surface_of, surfaces_of};
 ghost use Rattle.level_scene.specs.Bounds.{AreThere, IsThere};
 ghost use Rattle.level_scene.specs.Faults.{scene_fault};
 
 use crate::SceneFault;
 use crate::sides::is_sky_name;
-use level_rules::{SKY_FLAT, Sector, Surface};
-use lump_rules::Name8;
-use outside::OutOfMemory;
-use scene_rules::{Flat, SceneRefusal, SectorFlats};
+use art_rules::{Name8, OutOfMemory};
+use lump_cache::Directory;
+use scene_rules::{Flat, SKY_FLAT, SceneRefusal, Sector, SectorFlats, Surface};
 use std::alloc::Global;
-use wad_dir::Directory;
 
 /// The flats of all sectors, in the order of the sectors.
 ///

@@ -1,24 +1,20 @@
 // A level from the lumps of its map.
 //
 // Rules: `level_rules/maps`, Levels; `scene_rules`, Scenes. The original: `P_SetupLevel`, p_setup.c.
-ghost use Rattle.outside.specs.Faults.{itself};
+ghost use Rattle.art_rules.specs.Words.{itself};
 ghost use Rattle.std.specs.Prelude.{◌≡◌, ◌<◌, ◌≤◌, ◌+◌, ◌^◌, ℕ, length, true, Ok, Err, IfOk, MatchResult};
 ghost use Rattle.lump_cache.specs.Calls.{ReadsLumps};
 ghost use Rattle.lump_cache.specs.Sizes.{StandsBeside};
-ghost use Rattle.level_rules.specs.maps.Levels.{level_of};
-ghost use Rattle.scene_rules.specs.Scenes.{label_of, level_in, map_bytes};
-ghost use Rattle.scene_rules.specs.Sizes.{is_map_lump};
+ghost use Rattle.scene_rules.specs.Words.{is_map_lump, label_of, level_in, level_of, map_bytes};
 ghost use Rattle.level_scene.specs.Asked.{IsLumpOfMap};
 
 use crate::LevelFault;
 use crate::fault::map_fault;
 use crate::lumps::{LUMPS, add_lumps};
-use lump_cache::LumpCache;
-use lump_rules::{MAP_LUMPS, Name8};
+use art_rules::{Fault, MAP_LUMPS, Name8, Shelf};
+use lump_cache::{Directory, LumpCache, LumpNo};
 use map_lumps::{Level, MapRefusal};
-use outside::{Fault, Shelf};
 use std::alloc::Global;
-use wad_dir::{Directory, LumpNo};
 
 /// The label of the map of that name, and its level.
 ///

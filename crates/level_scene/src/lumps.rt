@@ -2,24 +2,21 @@
 //
 // Rules: `specs/Lumps`; what a call over a cache answers stands in `lump_cache`. The original:
 // `P_SetupLevel`, p_setup.c.
-ghost use Rattle.outside.specs.Faults.{itself};
+ghost use Rattle.art_rules.specs.Words.{itself};
 ghost use Rattle.std.specs.Prelude.{◌≡◌, ◌<◌, ◌≤◌, ◌+◌, ◌^◌, ℕ, length, map, true, false, Ok, IfOk, OnOk, slice_set};
 ghost use Rattle.std.specs.List.{range_with_len};
-ghost use Rattle.level_rules.specs.maps.Lumps.{lump_no};
+ghost use Rattle.scene_rules.specs.Words.{is_map_lump, lump_no};
 ghost use Rattle.map_lumps.specs.Builders.{all_added, empty_builder, is_added};
 ghost use Rattle.lump_cache.specs.Calls.{ReadsLumps};
 ghost use Rattle.lump_cache.specs.Sizes.{StandsBeside};
-ghost use Rattle.scene_rules.specs.Sizes.{is_map_lump};
 ghost use Rattle.level_scene.specs.Lumps.{lump_added, lumps_from};
 
 use crate::LevelFault;
 use crate::fault::map_fault;
-use lump_cache::{LumpCache, fetch_live, live_lump};
-use lump_rules::{MAP_LUMP_COUNT, MAP_LUMPS};
+use art_rules::{MAP_LUMP_COUNT, MAP_LUMPS, Shelf};
+use lump_cache::{Directory, LumpCache, LumpNo, fetch_live, live_lump};
 use map_lumps::{LevelBuilder, MapLump, MapRefusal};
-use outside::Shelf;
 use std::alloc::Global;
-use wad_dir::{Directory, LumpNo};
 
 // The lumps of a map in the order of their numbers, in which they stand behind the label.
 pub(crate) const LUMPS: [MapLump; MAP_LUMP_COUNT] = [

@@ -3,26 +3,20 @@
 // Rules: `scene_rules`, Places. The original: `P_SpawnMapThing`, p_mobj.c; `P_SetThingPosition`,
 // p_maputl.c; `R_PointInSubsector`, r_main.c.
 ghost use Rattle.std.specs.Prelude.{◌≡◌, ◌<◌, ◌≤◌, ◌+◌, ◌-◌, ◌++◌, ℕ, true, [], length, map, replicate, slice_get, Some, All, IfOk, OnOk};
-ghost use Rattle.level_rules.specs.declared.TheConstants.{MAX_DEPTH};
-ghost use Rattle.level_rules.specs.declared.Child.TheVariants.{Node as NodeChild};
-ghost use Rattle.level_rules.specs.Levels.{child_on};
-ghost use Rattle.level_rules.specs.maps.Sound.{IsChildIn, IsNodeIn};
-ghost use Rattle.level_rules.specs.maps.Trees.{is_within};
+ghost use Rattle.scene_rules.specs.Words.{child_on, first_shadow, is_in_skill, is_shadow, is_within, IsChildIn, IsNodeIn, leaf_from, MAX_DEPTH, need_of, Node as NodeChild, placed_if, placed_in, placed_row, placed_thing, placed_things, sector_at, skill_option, thing_angle, thing_height, things_of};
 ghost use Rattle.scene_rules.specs.declared.Placed.{Placed};
-ghost use Rattle.scene_rules.specs.Places.{first_shadow, is_in_skill, is_shadow, leaf_from, need_of, placed_if, placed_in, placed_row, placed_thing, placed_things, sector_at, skill_option, thing_angle, thing_height, things_of};
 ghost use Rattle.level_scene.specs.Groups.{AreGroupsOf, IsIn};
 
-use art_rules::Need;
+use art_rules::{ANG45, FRACTION_BITS, Need, OutOfMemory};
 use csv_tables::{ThingRow, ThingTable};
-use fx_words::{minus, shl_word, times};
-use level_rules::{Child, MAX_DEPTH, Node, PlacedThing, Sector, Thing, partition_of};
 use map_lumps::Level;
-use outside::OutOfMemory;
-use scene_rules::{EASY, EIGHTH_DEGREES, HARD, LAST_EASY, NORMAL, NORMAL_SKILL, NOT_ALONE, Placed};
+use scene_rules::{
+    Child, EASY, EIGHTH_DEGREES, HARD, LAST_EASY, MAX_DEPTH, NORMAL, NORMAL_SKILL, NOT_ALONE, Node,
+    Placed, PlacedThing, Sector, Thing, partition_of,
+};
 use std::alloc::Global;
 use std::marker::Model;
-use view_frame::side_of;
-use word_rules::{ANG45, FRACTION_BITS};
+use view_frame::{minus, shl_word, side_of, times};
 
 /// The number of the sector at the point x, y (map units, 16.16 fixed point): that of the leaf
 /// (subsector) to which the nodes lead.
@@ -79,7 +73,7 @@ fn node_at(level: &Level, n: u16) -> &Node
 }
 
 // The child of a node on side 0 or 1 of its line.
-#[tactic(auto, unfolding(level_rules::specs::Levels::child_on))]
+#[tactic(auto, unfolding(scene_rules::specs::Words::child_on))]
 fn child_on(node: &Node, side: u8) -> Child
     requires { side ≤ 1 }
     ensures { result ≡ child_on node.now side }

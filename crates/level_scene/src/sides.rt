@@ -4,18 +4,18 @@
 // `G_DoLoadLevel`, g_game.c.
 ghost use Rattle.std.specs.Prelude.{◌≡◌, ◌<◌, ◌==◌, ◌&&◌, ◌||◌, ℕ, true, not, length, option_map, All, IfOk, IfSome, OnOk};
 ghost use Rattle.std.specs.List.{list_any};
-ghost use Rattle.outside.specs.declared.fault.Fault.TheVariants.{Refused};
-ghost use Rattle.outside.specs.Faults.{ResultIs};
-ghost use Rattle.scene_rules.specs.Skies.{episode_sky, has_sky, is_digit, is_episode_map, is_numbered_map, is_sky_name, map_number, numbered_sky, shows_sky, sky_name};
-ghost use Rattle.scene_rules.specs.Sides.{is_sky_texture, is_wanted_texture, shows_texture, side_textures, sky_texture, textures_of};
+ghost use Rattle.art_rules.specs.Words.{Refused, ResultIs};
+ghost use Rattle.scene_rules.specs.Words.{episode_sky, has_sky, is_digit, is_episode_map, is_numbered_map, is_sky_name, is_sky_texture, is_wanted_texture, map_number, numbered_sky, shows_sky, shows_texture, side_textures, sky_name, sky_texture, textures_of};
 ghost use Rattle.level_scene.specs.Bounds.{AreBelow, IsNoneOrBelow};
 ghost use Rattle.level_scene.specs.Faults.{scene_fault};
 
 use crate::SceneFault;
-use level_rules::{Sector, Side, SideTextures};
-use lump_rules::{NAME_SIZE, Name8};
-use outside::OutOfMemory;
-use scene_rules::{SECOND_SKY_MAP, SKY_NAME, SKY1, SKY2, SKY3, SKY4, SceneRefusal, THIRD_SKY_MAP};
+use art_rules::{Name8, OutOfMemory};
+use lump_cache::NAME_SIZE;
+use scene_rules::{
+    SECOND_SKY_MAP, SKY_NAME, SKY1, SKY2, SKY3, SKY4, SceneRefusal, Sector, Side, SideTextures,
+    THIRD_SKY_MAP,
+};
 use std::alloc::Global;
 use texture_lists::{ListedTextures, TexNo};
 

@@ -19,3 +19,6 @@ pub mod TagLemmas
 pub mod TakeLemmas
 pub mod WriteLemmas
 pub mod LiftLemmas
+pub use Rattle.zone_rules.proofs.GapLemmas
+pub use Rattle.zone_rules.proofs.OrderChangeLemmas
+pub use Rattle.zone_rules.proofs.OwnerLemmas

@@ -4,3 +4,10 @@ pub mod Fetches
 pub mod Lives
 pub mod Named
 pub mod Sizes
+pub use Rattle.wad_dir.specs.DirectoryView
+pub use Rattle.wad_dir.specs.Faults
+pub use Rattle.wad_dir.specs.Indexes
+pub use Rattle.zone_rules.specs.Frees
+pub use Rattle.zone_rules.specs.Orders
+pub use Rattle.zone_rules.specs.declared.Tag
+pub use Rattle.zone_rules.specs.Zones

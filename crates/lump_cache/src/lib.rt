@@ -22,3 +22,7 @@ mod tags;
 pub use cache::LumpCache;
 pub use fault::CacheFault;
 pub use fetch::{fetch_live, fetch_named, live_bytes, live_lump};
+pub use lump_rules::{ENTRY_SIZE, NAME_SIZE};
+pub use outside::{MemoryShelf, MemorySink, PutFault, Shelf};
+pub use wad_dir::{DirFault, Directory, LumpNo, Name8};
+pub use zone_heap::{Tag, ZoneFull, ZoneMake};

@@ -1,18 +1,10 @@
 -- What the loops of the masked pass have painted and marked, and how one fragment more changes it.
-use Rattle.word_rules.proofs.Common.{ap, arith, Bool, Err, get_or, gets, ints, IsErrAnd, length, List, None, Ok, Option, pos, refl, Result, slice_get, Some, subst, sym, true, ℕ, ℤ, ⊤, ◌++◌, ◌+◌, ◌-◌, ◌<◌, ◌∙◌, ◌≡◌, ◌≤ℤ◌}
-use Rattle.word_rules.specs.Words.{minus_one}
-use Rattle.lump_cache.specs.declared.fault.CacheFault.{CacheFault}
-use Rattle.lump_cache.specs.Caches.{cache_fault}
-use Rattle.view_rules.specs.View.{ViewValue}
-use Rattle.pixel_rules.specs.declared.Painter.{Painter}
-use Rattle.pixel_rules.specs.Dots.{Dot}
-use Rattle.pixel_rules.specs.Art.{Art}
+use Rattle.picture_rules.proofs.Common.{ap, arith, Bool, Err, get_or, gets, ints, IsErrAnd, length, List, None, Ok, Option, pos, refl, Result, slice_get, Some, subst, sym, true, ℕ, ℤ, ⊤, ◌++◌, ◌+◌, ◌-◌, ◌<◌, ◌∙◌, ◌≡◌, ◌≤ℤ◌}
+use Rattle.picture_rules.specs.Words.{Art, Dot, entry_has, gives_bottom, gives_top, greatest_clip, IsWholeNote, least_clip, middles_at, middles_of, minus_one, Painter, ViewValue}
+use Rattle.texture_build.specs.CacheFault.{CacheFault}
+use Rattle.texture_build.specs.Caches.{cache_fault}
 use Rattle.picture_rules.specs.declared.wall.FragmentNote.{FragmentNote}
 use Rattle.picture_rules.specs.declared.sprite.SpriteEntry.{SpriteEntry}
-use Rattle.picture_rules.specs.sprite.Drawsegs.{entry_has}
-use Rattle.picture_rules.specs.sprite.Clips.{gives_bottom, gives_top}
-use Rattle.picture_rules.specs.sprite.Middles.{middles_at, middles_of}
-use Rattle.picture_rules.specs.Noted.{IsWholeNote, greatest_clip, least_clip}
 use Rattle.texture_build.specs.Paints.{PaintState, Paints}
 use Rattle.texture_build.proofs.PaintLemmas.{on_ok_err, paints-none, paints-same, paints-then, paints-then_stop, paints-value, paints-wider}
 use Rattle.masked_draw.specs.declared.clips.SpriteClips.{SpriteClips}

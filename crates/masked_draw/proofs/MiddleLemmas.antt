@@ -1,36 +1,14 @@
 -- Laws of the masked column of a fragment: whose bytes it has, and its dots by them.
-use Rattle.word_rules.proofs.Common.{[], and_le_r, ap, arith, IfSome, ints, IsSome, length, List, negsuc, None, Option, option_map, pos, refl, Some, subst, sym, unsigned_abs, unwrap_or, ℕ, ℤ, ◌<◌, ◌∙◌, ◌∷◌, ◌≡◌, ◌≤ℤ◌, ◌≤◌}
-use Rattle.outside.specs.Shelf.{ShelfView}
-use Rattle.word_rules.specs.Words.{bits_of}
-use Rattle.word_rules.proofs.WordLemmas.{clamp_word-low, clamp_word-high}
-use Rattle.word_rules.specs.Listed.{joined_lists}
-use Rattle.view_rules.specs.declared.TheConstants.{LIGHT_LEVELS}
-use Rattle.view_rules.specs.declared.ViewShape.{ViewShape}
-use Rattle.view_rules.specs.View.{ViewValue}
-use Rattle.view_rules.specs.Lights.{light_number, scale_map}
-use Rattle.lump_rules.specs.declared.wad.Lump.{Lump}
-use Rattle.lump_rules.specs.Contents.{lump_bytes}
-use Rattle.zone_rules.specs.Zones.{Heap, Holding, IsLive, Owner, bytes_of, holding_of}
-use Rattle.wad_dir.specs.DirectoryView.{DirectoryView}
-use Rattle.lump_cache.specs.Caches.{IsFaithful, lump_owner}
+use Rattle.picture_rules.proofs.Common.{[], and_le_r, ap, arith, IfSome, ints, IsSome, length, List, negsuc, None, Option, option_map, pos, refl, Some, subst, sym, unsigned_abs, unwrap_or, ℕ, ℤ, ◌<◌, ◌∙◌, ◌∷◌, ◌≡◌, ◌≤ℤ◌, ◌≤◌}
+use Rattle.art_rules.specs.Words.{byte_at, Lump, lump_bytes, mask_of, masked_column, posts, PreparedTexture, ShelfView, single_place}
+use Rattle.picture_rules.specs.Words.{bits_of, Drawseg, drawseg_scale, joined_lists, LIGHT_LEVELS, light_number, LUMP, MaskedColumn, MIDDLE, middle_by as dots_by, middle_column, middle_masked, Painter, painter_of, Post, post_colour, post_dots, post_rows, posts_dots, scale_map, seg_light, shade, ViewShape, ViewValue}
+use Rattle.picture_rules.proofs.Laws.{clamp_word-high, clamp_word-low}
+use Rattle.texture_build.specs.Zones.{Heap, Holding, IsLive, Owner, bytes_of, holding_of}
+use Rattle.texture_build.specs.DirectoryView.{DirectoryView}
+use Rattle.texture_build.specs.Caches.{IsFaithful, lump_owner}
 use Rattle.art_rules.specs.declared.ColumnLookup.{ColumnLookup}
 use Rattle.art_rules.specs.declared.ColumnLookup.TheVariants.{Empty, Single, Composed}
-use Rattle.art_rules.specs.Bytes.{byte_at}
-use Rattle.art_rules.specs.Patches.{posts}
-use Rattle.art_rules.specs.Lookups.{masked_column, single_place}
-use Rattle.art_rules.specs.Textures.{mask_of}
-use Rattle.art_rules.specs.Wanted.{PreparedTexture}
-use Rattle.pixel_rules.specs.declared.MaskedColumn.{MaskedColumn}
-use Rattle.pixel_rules.specs.declared.Painter.{Painter}
-use Rattle.pixel_rules.specs.declared.Post.{Post}
-use Rattle.pixel_rules.specs.declared.TheConstants.{LUMP, MIDDLE}
-use Rattle.pixel_rules.specs.Art.{painter_of}
-use Rattle.pixel_rules.specs.Posts.{post_dots, post_colour, post_rows, posts_dots}
-use Rattle.pixel_rules.specs.Strips.{shade}
-use Rattle.picture_rules.specs.wall.Numbers.{seg_light}
 use Rattle.picture_rules.specs.declared.wall.FragmentNote.{FragmentNote}
-use Rattle.picture_rules.specs.sprite.Drawsegs.{Drawseg}
-use Rattle.picture_rules.specs.sprite.Middles.{drawseg_scale, middle_by as dots_by, middle_column, middle_masked}
 use Rattle.texture_build.specs.Arts.{view_art}
 use Rattle.texture_build.specs.Sources.{IsColumnLive, IsColumnThere, column_in, column_index}
 use Rattle.texture_build.specs.Views.{TexturesView, prepared_texture}

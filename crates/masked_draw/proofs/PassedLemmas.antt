@@ -1,14 +1,8 @@
 -- Laws of a fragment that a sprite, or the end of the pass, comes to: the unmarked columns are those of the moment, and what is marked after it.
-use Rattle.word_rules.proofs.Common.{and-false_left, ap, arith, Bool, cases_lt, cond, false, filter, IfSome, inl, inr, is_some, length, List, nat_lt, nat_tests, None, not, Option, refl, slice_get, Some, subst, sym, true, ℕ, ◌&&◌, ◌+◌, ◌-◌, ◌<◌, ◌||◌, ◌∙◌, ◌≡◌, ◌≢◌, ◌≤◌, ◌⊎◌}
-use Rattle.word_rules.specs.Listed.{listed_from, joined_lists}
-use Rattle.view_rules.specs.View.{ViewValue}
-use Rattle.pixel_rules.specs.Art.{Art}
+use Rattle.picture_rules.proofs.Common.{and-false_left, ap, arith, Bool, cases_lt, cond, false, filter, IfSome, inl, inr, is_some, length, List, nat_lt, nat_tests, None, not, Option, refl, slice_get, Some, subst, sym, true, ℕ, ◌&&◌, ◌+◌, ◌-◌, ◌<◌, ◌||◌, ◌∙◌, ◌≡◌, ◌≢◌, ◌≤◌, ◌⊎◌}
+use Rattle.picture_rules.specs.Words.{Art, columns_at, Drawseg, joined_lists, listed_from, ListsApart, middle_column, middles_of, same_number, sprite_in_front, ViewValue}
 use Rattle.picture_rules.specs.declared.wall.FragmentNote.{FragmentNote}
 use Rattle.picture_rules.specs.declared.sprite.SpriteEntry.{SpriteEntry}
-use Rattle.picture_rules.specs.sprite.Drawsegs.{Drawseg}
-use Rattle.picture_rules.specs.sprite.Clips.{sprite_in_front}
-use Rattle.picture_rules.specs.sprite.Middles.{middle_column, columns_at, middles_of, same_number}
-use Rattle.picture_rules.specs.Noted.{ListsApart}
 use Rattle.masked_draw.specs.Marks.{mark_of, unmarked_by, unmarked_dots, is_between, is_passed, is_before, IsOutside, MarksBy, AreBefore, MarkedTo}
 use Rattle.masked_draw.proofs.MomentLemmas.{front-now, front-more, front-left}
 use Rattle.masked_draw.proofs.MarkLemmas.{range_agree, range_none, own_at}

@@ -1,28 +1,13 @@
 -- Laws of the columns of a picture, by its bytes and those of the colormap.
-use Rattle.word_rules.proofs.Common.{[], ap, append-nil, arith, Bool, cond, false, int_le, int_lt, ints, List, map, map-range_with_len_more, Option, pos, range_with_len, refl, Some, some-same, sym, true, ℕ, ℤ, ◌&&◌, ◌++◌, ◌+◌, ◌-◌, ◌∙◌, ◌∷◌, ◌≡◌, ◌≤◌}
-use Rattle.word_rules.specs.Words.{natural}
-use Rattle.word_rules.specs.Listed.{joined_lists, listed_from}
-use Rattle.word_rules.proofs.ListedLemmas.{joined_lists-append}
-use Rattle.lump_rules.specs.declared.wad.Lump.{Lump}
-use Rattle.view_rules.specs.View.{ViewValue}
-use Rattle.view_rules.specs.declared.ViewShape.{ViewShape}
-use Rattle.pixel_rules.specs.declared.Painter.{Painter}
-use Rattle.pixel_rules.specs.declared.Post.{Post}
-use Rattle.pixel_rules.specs.declared.MaskedColumn.{MaskedColumn}
-use Rattle.pixel_rules.specs.declared.TheConstants.{LUMP, SPRITE}
-use Rattle.pixel_rules.specs.Dots.{Dot}
-use Rattle.pixel_rules.specs.Art.{lump_source, painter_of}
-use Rattle.pixel_rules.specs.Strips.{rows_between, shade}
-use Rattle.pixel_rules.specs.Posts.{posts_dots}
-use Rattle.pixel_rules.proofs.DotLemmas.{put_dots-append}
-use Rattle.art_rules.specs.Bytes.{byte_at, half_at}
-use Rattle.art_rules.specs.Patches.{column_place, posts}
+use Rattle.picture_rules.proofs.Common.{[], ap, append-nil, arith, Bool, cond, false, int_le, int_lt, ints, List, map, map-range_with_len_more, Option, pos, range_with_len, refl, Some, some-same, sym, true, ℕ, ℤ, ◌&&◌, ◌++◌, ◌+◌, ◌-◌, ◌∙◌, ◌∷◌, ◌≡◌, ◌≤◌}
+use Rattle.picture_rules.specs.Words.{Dot, joined_lists, listed_from, LUMP, lump_source, MaskedColumn, natural, Painter, painter_of, picture_column, Post, posts_dots, rows_between, shade, SPRITE, ViewShape, ViewValue}
+use Rattle.picture_rules.proofs.Laws.{joined_lists-append, put_dots-append}
+use Rattle.art_rules.specs.Words.{byte_at, column_place, half_at, Lump, posts}
 use Rattle.pixel_strips.specs.Canvases.{CanvasView, with_dots, with_painter}
 use Rattle.pixel_strips.specs.Dotted.{HasDots}
 use Rattle.pixel_strips.proofs.CanvasLemmas.{dots_none}
 use Rattle.pixel_strips.proofs.DottedLemmas.{has_dots-as, has_dots-painted}
 use Rattle.picture_rules.specs.declared.sprite.SpriteEntry.{SpriteEntry}
-use Rattle.picture_rules.specs.sprite.Sprites.{picture_column}
 use Rattle.texture_build.specs.Arts.{own_posts, view_art}
 use Rattle.texture_build.specs.Draws.{FitBeside, FitsBeside}
 use Rattle.texture_build.specs.Views.{TexturesView}

@@ -1,26 +1,13 @@
 -- Laws of the posts of a masked column: which rows they have, and their dots one post after the other.
-use Rattle.word_rules.proofs.Common.{[], ap, arith, Bool, cases_lt, clamps, false, FitsSigned, get_or_past, if◌then◌else◌, inl, inr, int_lt, int_wrap_fits, ints, length, List, min, negsuc, None, pos, refl, slice_index, Some, subst, sym, true, w32, ℕ, ℤ, ◌++◌, ◌+ℤ◌, ◌+◌, ◌-ℤ◌, ◌<ℤ◌, ◌<◌, ◌^◌, ◌∙◌, ◌∷◌, ◌≡◌, ◌≤ℤ◌, ◌≤◌, ◌⊎◌}
-use Rattle.word_rules.specs.declared.TheConstants.{FRACTION_BITS}
-use Rattle.word_rules.specs.Words.{plus, minus, fixed, shr_word, greater_word, lesser_word, minus_one}
-use Rattle.word_rules.specs.Listed.{listed_from, joined_lists}
-use Rattle.word_rules.proofs.ListedLemmas.{joined_lists-cons}
-use Rattle.view_rules.specs.declared.TheConstants.{MAX_FRACTION}
-use Rattle.view_rules.specs.declared.ViewShape.{ViewShape}
-use Rattle.art_rules.specs.Bytes.{byte_at}
-use Rattle.art_rules.specs.Patches.{is_post, next_place, post_at, post_in, posts}
+use Rattle.picture_rules.proofs.Common.{[], ap, arith, Bool, cases_lt, clamps, false, FitsSigned, get_or_past, if◌then◌else◌, inl, inr, int_lt, int_wrap_fits, ints, length, List, min, negsuc, None, pos, refl, slice_index, Some, subst, sym, true, w32, ℕ, ℤ, ◌++◌, ◌+ℤ◌, ◌+◌, ◌-ℤ◌, ◌<ℤ◌, ◌<◌, ◌^◌, ◌∙◌, ◌∷◌, ◌≡◌, ◌≤ℤ◌, ◌≤◌, ◌⊎◌}
+use Rattle.picture_rules.specs.Words.{column_dots, Dot, fixed, FRACTION_BITS, greater_word, greatest_clip, joined_lists, least_clip, lesser_word, listed_from, MaskedColumn, MAX_FRACTION, minus, minus_one, Painter, picture_top, plus, Post, post_bottom, post_colour, post_dots, post_first, post_last, post_rows, post_texel, post_top, posts_dots, row_fraction, rows_between, shade, shr_word, texel_row, ViewShape}
+use Rattle.picture_rules.proofs.Laws.{joined_lists-cons, put_dots-append}
+use Rattle.art_rules.specs.Words.{byte_at, is_post, next_place, post_at, post_in, posts}
 use Rattle.art_rules.proofs.PostLemmas.{is_post-within, posts-none, posts-some}
-use Rattle.pixel_rules.specs.declared.MaskedColumn.{MaskedColumn}
-use Rattle.pixel_rules.specs.declared.Painter.{Painter}
-use Rattle.pixel_rules.specs.declared.Post.{Post}
-use Rattle.pixel_rules.specs.Dots.{Dot}
-use Rattle.pixel_rules.specs.Posts.{picture_top, post_bottom, post_colour, post_dots, post_first, post_last, post_rows, post_texel, post_top, posts_dots}
-use Rattle.pixel_rules.specs.Strips.{column_dots, row_fraction, rows_between, shade, texel_row}
-use Rattle.pixel_rules.proofs.DotLemmas.{put_dots-append}
 use Rattle.pixel_strips.specs.Canvases.{CanvasView, with_dots}
 use Rattle.pixel_strips.specs.Strips.{column_strip_dots, strip_colour}
 use Rattle.pixel_strips.proofs.CanvasLemmas.{dots_none}
 use Rattle.pixel_strips.proofs.RowLemmas.{row_shade, rows-between, strip-rows}
-use Rattle.picture_rules.specs.Noted.{least_clip, greatest_clip}
 use Rattle.masked_draw.specs.Clipped.{HasClipsIn}
 
 -- what lies between two words is a word

@@ -1,11 +1,8 @@
 -- Laws of the clips that a sprite takes from the fragments, the last first: the first that is taken stays.
-use Rattle.word_rules.proofs.Common.{ap, Bool, cond, false, IfSome, length, List, None, Option, option_map, pos, refl, slice_get, Some, subst, sym, true, unwrap_or, ℕ, ℤ, ◌+◌, ◌∙◌, ◌≡◌, ◌≤ℤ◌}
-use Rattle.word_rules.specs.Words.{minus_one}
-use Rattle.word_rules.specs.Least.{greatest, or_else}
-use Rattle.word_rules.proofs.LeastLemmas.{greatest-more}
+use Rattle.picture_rules.proofs.Common.{ap, Bool, cond, false, IfSome, length, List, None, Option, option_map, pos, refl, slice_get, Some, subst, sym, true, unwrap_or, ℕ, ℤ, ◌+◌, ◌∙◌, ◌≡◌, ◌≤ℤ◌}
+use Rattle.picture_rules.specs.Words.{clip_of_number, clip_of_some, Drawseg, gives_bottom, gives_top, greatest, greatest_that, minus_one, or_else, passes_at, sprite_bottom, sprite_top}
+use Rattle.picture_rules.proofs.Laws.{greatest-more}
 use Rattle.picture_rules.specs.declared.sprite.SpriteEntry.{SpriteEntry}
-use Rattle.picture_rules.specs.sprite.Drawsegs.{Drawseg}
-use Rattle.picture_rules.specs.sprite.Clips.{gives_bottom, gives_top, passes_at, greatest_that, clip_of_some, clip_of_number, sprite_bottom, sprite_top}
 use Rattle.masked_draw.specs.Clipped.{row_in, row_after}
 
 -- the clip of the greatest fragment below m that passes

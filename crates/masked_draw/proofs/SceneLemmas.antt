@@ -1,18 +1,12 @@
 -- Laws of the notes of a scene as drawn fragments, and of what the calls ask of them.
-use Rattle.word_rules.proofs.Common.{All-get_or, and_parts, ap, arith, Bool, get_or, gets, IfSome, int_lt, leb-true, length, length-map, List, nat_le, nat_tests, not, Option, option_map, pos, refl, Result, slice_get, slice_get-map, slice_get_within, Some, subst, true, ℕ, ℤ, ◌&&◌, ◌<◌, ◌==◌, ◌∙◌, ◌≡◌, ◌≢◌, ◌≤ℤ◌, ◌≤◌}
-use Rattle.word_rules.specs.Words.{minus_one}
-use Rattle.lump_rules.specs.declared.wad.Lump.{Lump}
-use Rattle.zone_rules.specs.Zones.{Heap}
-use Rattle.lump_cache.specs.declared.fault.CacheFault.{CacheFault}
-use Rattle.lump_cache.specs.Caches.{KeepsCounts, cache_fault}
-use Rattle.view_rules.specs.declared.ViewShape.{ViewShape}
-use Rattle.pixel_rules.specs.declared.Painter.{Painter}
-use Rattle.pixel_rules.specs.Dots.{Dot}
+use Rattle.picture_rules.proofs.Common.{All-get_or, and_parts, ap, arith, Bool, get_or, gets, IfSome, int_lt, leb-true, length, length-map, List, nat_le, nat_tests, not, Option, option_map, pos, refl, Result, slice_get, slice_get-map, slice_get_within, Some, subst, true, ℕ, ℤ, ◌&&◌, ◌<◌, ◌==◌, ◌∙◌, ◌≡◌, ◌≢◌, ◌≤ℤ◌, ◌≤◌}
+use Rattle.picture_rules.specs.Words.{AreNoted, Dot, Drawseg, drawseg_has, gives_bottom, gives_top, greatest_clip, is_behind, IsWholeNote, least_clip, minus_one, Painter, ViewShape}
+use Rattle.art_rules.specs.Words.{Lump}
+use Rattle.texture_build.specs.Zones.{Heap}
+use Rattle.texture_build.specs.CacheFault.{CacheFault}
+use Rattle.texture_build.specs.Caches.{KeepsCounts, cache_fault}
 use Rattle.picture_rules.specs.declared.wall.FragmentNote.{FragmentNote}
 use Rattle.picture_rules.specs.declared.sprite.SpriteEntry.{SpriteEntry}
-use Rattle.picture_rules.specs.sprite.Drawsegs.{Drawseg, drawseg_has, is_behind}
-use Rattle.picture_rules.specs.sprite.Clips.{gives_bottom, gives_top}
-use Rattle.picture_rules.specs.Noted.{AreNoted, IsWholeNote, least_clip, greatest_clip}
 use Rattle.texture_build.specs.Paints.{PaintState, Paints}
 use Rattle.texture_build.specs.Views.{TexturesView}
 use Rattle.texture_build.proofs.PaintLemmas.{slots-later}

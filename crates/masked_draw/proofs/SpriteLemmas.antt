@@ -1,17 +1,9 @@
 -- Laws of a sprite that is painted by the clips that were taken.
-use Rattle.word_rules.proofs.Common.{[], ap, arith, Bool, cond, false, int_lt, length, List, map, nat_le, nat_lt, nat_tests, Ok, pos, range_with_len, refl, Result, slice_get, Some, subst, suc, sym, true, zero, ℕ, ℤ, ◌&&◌, ◌++◌, ◌+◌, ◌-◌, ◌<◌, ◌∙◌, ◌≡◌, ◌≤◌}
-use Rattle.word_rules.specs.Words.{natural}
-use Rattle.word_rules.specs.Listed.{joined_lists, listed_from}
-use Rattle.lump_cache.specs.declared.fault.CacheFault.{CacheFault}
-use Rattle.pixel_rules.specs.declared.Painter.{Painter}
-use Rattle.pixel_rules.specs.Dots.{Dot}
-use Rattle.pixel_rules.specs.Art.{Art}
-use Rattle.pixel_rules.specs.Strips.{rows_between}
+use Rattle.picture_rules.proofs.Common.{[], ap, arith, Bool, cond, false, int_lt, length, List, map, nat_le, nat_lt, nat_tests, Ok, pos, range_with_len, refl, Result, slice_get, Some, subst, suc, sym, true, zero, ℕ, ℤ, ◌&&◌, ◌++◌, ◌+◌, ◌-◌, ◌<◌, ◌∙◌, ◌≡◌, ◌≤◌}
+use Rattle.picture_rules.specs.Words.{Art, Dot, entry_has, joined_lists, listed_from, middles_at, natural, Painter, rows_between, sprite_column, sprite_dots, sprite_masked, sprite_step}
+use Rattle.texture_build.specs.CacheFault.{CacheFault}
 use Rattle.picture_rules.specs.declared.wall.FragmentNote.{FragmentNote}
 use Rattle.picture_rules.specs.declared.sprite.SpriteEntry.{SpriteEntry}
-use Rattle.picture_rules.specs.sprite.Drawsegs.{entry_has}
-use Rattle.picture_rules.specs.sprite.Sprites.{sprite_column, sprite_dots, sprite_masked}
-use Rattle.picture_rules.specs.sprite.Middles.{middles_at, sprite_step}
 use Rattle.texture_lists.proofs.BesideLemmas.{on_ok}
 use Rattle.texture_build.specs.Paints.{PaintState}
 use Rattle.texture_build.proofs.PaintLemmas.{paints-none, paints-same, paints-then, paints-wider}

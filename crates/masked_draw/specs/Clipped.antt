@@ -1,28 +1,14 @@
 -- How far a sprite is seen by the clips that were taken, and what is painted of it and of a masked column.
 use Rattle.std.specs.Prelude.{◌≡◌, ◌<◌, ◌⊎◌, ◌+◌, ◌-◌, ◌≤ℤ◌, ◌==◌, ◌&&◌, ℕ, ℤ, pos, bit_and, int_lt, not, Bool, cond, List, length, map, ⊤, Option, Some, None, unwrap_or, slice_index_or}
-use Rattle.word_rules.specs.Words.{minus_one}
-use Rattle.word_rules.specs.Listed.{joined_lists}
+use Rattle.picture_rules.specs.Words.{Art, Dot, Drawseg, gives_bottom, gives_top, greatest_clip, joined_lists, least_clip, lump_source, MaskedColumn, minus_one, Painter, painter_of, picture_column, posts_dots, rows_between, shade, SPRITE, sprite_bottom, sprite_top, ViewShape, ViewValue}
 use Rattle.std.specs.List.{range_with_len}
-use Rattle.view_rules.specs.View.{ViewValue}
-use Rattle.view_rules.specs.declared.ViewShape.{ViewShape}
-use Rattle.pixel_rules.specs.Dots.{Dot}
-use Rattle.pixel_rules.specs.declared.TheConstants.{SPRITE}
-use Rattle.pixel_rules.specs.declared.MaskedColumn.{MaskedColumn}
-use Rattle.pixel_rules.specs.declared.Painter.{Painter}
-use Rattle.pixel_rules.specs.Art.{Art, lump_source, painter_of}
-use Rattle.pixel_rules.specs.Strips.{rows_between, shade}
-use Rattle.pixel_rules.specs.Posts.{posts_dots}
-use Rattle.art_rules.specs.Bytes.{byte_at}
+use Rattle.art_rules.specs.Words.{byte_at}
 use Rattle.texture_build.specs.Arts.{own_posts}
 use Rattle.picture_rules.specs.declared.wall.TheConstants.{SIL_BOTTOM, SIL_TOP}
 use Rattle.picture_rules.specs.declared.wall.Clip.{Clip}
 use Rattle.picture_rules.specs.declared.wall.Clip.TheVariants.{Absent, Constant, Saved}
 use Rattle.picture_rules.specs.declared.wall.FragmentNote.{FragmentNote}
 use Rattle.picture_rules.specs.declared.sprite.SpriteEntry.{SpriteEntry}
-use Rattle.picture_rules.specs.sprite.Drawsegs.{Drawseg}
-use Rattle.picture_rules.specs.sprite.Clips.{gives_bottom, gives_top, sprite_bottom, sprite_top}
-use Rattle.picture_rules.specs.sprite.Sprites.{picture_column}
-use Rattle.picture_rules.specs.Noted.{least_clip, greatest_clip}
 use Rattle.masked_draw.specs.declared.clips.SpriteClips.{SpriteClips}
 use Rattle.masked_draw.specs.declared.middles.Middle.{Middle}
 use Rattle.masked_draw.specs.declared.scene.MaskScene.{MaskScene}

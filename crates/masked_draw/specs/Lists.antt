@@ -1,19 +1,9 @@
 -- The drawn fragments as the masked pass sees them: by their notes, the openings, and the lists of the level (R_RenderMaskedSegRange, r_segs.c).
 use Rattle.std.specs.Prelude.{ℕ, ◌+◌, ◌-◌, ◌==◌, bit_and, ℤ, pos, not, List, [], map, Option, Some, None, is_some, slice_index_or}
-use Rattle.view_rules.specs.View.{ViewValue}
-use Rattle.level_rules.specs.declared.Seg.{Seg}
-use Rattle.level_rules.specs.declared.Side.{Side}
-use Rattle.level_rules.specs.declared.Sector.{Sector}
-use Rattle.level_rules.specs.declared.Surface.{Surface}
-use Rattle.level_rules.specs.Levels.{no_seg}
-use Rattle.art_rules.specs.Textures.{texture_at}
+use Rattle.picture_rules.specs.Words.{clip_row_at, Drawseg, masked_mid, no_seg, no_side, Sector, Seg, seg_light, Side, Surface, ViewValue}
+use Rattle.art_rules.specs.Words.{texture_at}
 use Rattle.picture_rules.specs.declared.wall.TheConstants.{SIL_BOTTOM, SIL_TOP}
 use Rattle.picture_rules.specs.declared.wall.FragmentNote.{FragmentNote}
-use Rattle.picture_rules.specs.wall.Numbers.{seg_light}
-use Rattle.picture_rules.specs.wall.Notes.{clip_row_at}
-use Rattle.picture_rules.specs.sprite.Drawsegs.{Drawseg}
-use Rattle.picture_rules.specs.sprite.Middles.{masked_mid}
-use Rattle.picture_rules.specs.Scene.{no_side}
 use Rattle.texture_build.specs.Views.{TexturesView}
 
 -- the lists of a level, with the number of each side's middle texture

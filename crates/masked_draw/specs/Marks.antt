@@ -1,14 +1,8 @@
 -- The marks of masked columns that are painted: one for each opening, at the place of its texture column.
 use Rattle.std.specs.Prelude.{◌≡◌, ◌≤◌, ◌<◌, ◌+◌, ◌-◌, ◌⊎◌, ◌&&◌, ◌||◌, ℕ, Bool, false, cond, not, nat_le, nat_lt, List, [], Option, Some, None, slice_get, slice_index_or, filter, IfSome, ⊤}
-use Rattle.word_rules.specs.Listed.{listed_from, joined_lists}
-use Rattle.view_rules.specs.View.{ViewValue}
-use Rattle.pixel_rules.specs.Dots.{Dot}
-use Rattle.pixel_rules.specs.Art.{Art}
+use Rattle.picture_rules.specs.Words.{Art, Dot, Drawseg, entry_has, is_behind, joined_lists, listed_from, middle_column, sprite_in_front, ViewValue}
 use Rattle.picture_rules.specs.declared.wall.FragmentNote.{FragmentNote}
 use Rattle.picture_rules.specs.declared.sprite.SpriteEntry.{SpriteEntry}
-use Rattle.picture_rules.specs.sprite.Drawsegs.{Drawseg, entry_has, is_behind}
-use Rattle.picture_rules.specs.sprite.Clips.{sprite_in_front}
-use Rattle.picture_rules.specs.sprite.Middles.{middle_column}
 
 -- the mark at a place, not set past the end
 abbrev pub mark_in : List Bool → ℕ → Bool

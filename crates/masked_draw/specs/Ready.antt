@@ -1,11 +1,8 @@
 -- What the masked pass asks of the lists, the textures and the sprites, and which bytes it paints with.
 use Rattle.std.specs.Prelude.{◌≡◌, ◌<◌, ◌≤◌, ℕ, List, Contains, length, IfSome, IsSome}
-use Rattle.lump_rules.specs.declared.wad.Lump.{Lump}
-use Rattle.zone_rules.specs.Zones.{Heap}
+use Rattle.art_rules.specs.Words.{Lump, mask_of, PreparedTexture, single_place}
+use Rattle.texture_build.specs.Zones.{Heap}
 use Rattle.picture_rules.specs.declared.wall.FragmentNote.{FragmentNote}
-use Rattle.art_rules.specs.Textures.{mask_of}
-use Rattle.art_rules.specs.Lookups.{single_place}
-use Rattle.art_rules.specs.Wanted.{PreparedTexture}
 use Rattle.picture_rules.specs.declared.sprite.SpriteEntry.{SpriteEntry}
 use Rattle.texture_build.specs.Views.{TexturesView, prepared_texture}
 use Rattle.texture_build.specs.Sources.{own_lookup}

@@ -1,17 +1,12 @@
 -- What stays while the masked pass runs, what a call of it paints, and what each of its calls asks.
 use Rattle.std.specs.Prelude.{◌≡◌, ◌≤◌, ◌<◌, ◌+◌, ℕ, Bool, List, All, length, Result, ⊤}
-use Rattle.view_rules.specs.declared.TheConstants.{FRAME_WIDTH, FRAME_HEIGHT}
-use Rattle.outside.specs.Shelf.{ShelfView}
-use Rattle.lump_cache.specs.declared.fault.CacheFault.{CacheFault}
-use Rattle.lump_cache.specs.Caches.{cache_fault}
-use Rattle.pixel_rules.specs.declared.Painter.{Painter}
-use Rattle.pixel_rules.specs.Dots.{Dot}
-use Rattle.pixel_rules.specs.Art.{Art}
+use Rattle.picture_rules.specs.Words.{AreNoted, Art, Dot, Drawseg, FRAME_HEIGHT, FRAME_WIDTH, IsWholeNote, Painter}
+use Rattle.art_rules.specs.Words.{ShelfView}
+use Rattle.texture_build.specs.CacheFault.{CacheFault}
+use Rattle.texture_build.specs.Caches.{cache_fault}
 use Rattle.pixel_strips.specs.Canvases.{CanvasView}
 use Rattle.pixel_strips.specs.Dotted.{HasDots}
 use Rattle.picture_rules.specs.declared.wall.FragmentNote.{FragmentNote}
-use Rattle.picture_rules.specs.sprite.Drawsegs.{Drawseg}
-use Rattle.picture_rules.specs.Noted.{AreNoted, IsWholeNote}
 use Rattle.texture_build.specs.Paints.{FitIn, Holds, PaintState, PaintTools, Paints, paint_state, paint_tools, painted_art}
 use Rattle.masked_draw.specs.declared.scene.MaskHands.{MaskHands}
 use Rattle.masked_draw.specs.declared.scene.MaskScene.{MaskScene}

@@ -1,12 +1,9 @@
 -- What the masked pass is drawn with, by the values of its tools.
 use Rattle.std.specs.Prelude.{◌≡◌, ℕ, List}
-use Rattle.outside.specs.Shelf.{ShelfView}
-use Rattle.lump_rules.specs.Contents.{lump_bytes}
-use Rattle.pixel_rules.specs.Dots.{Dot}
+use Rattle.art_rules.specs.Words.{lump_bytes, ShelfView}
+use Rattle.picture_rules.specs.Words.{Dot, draw_order, masked_dots}
 use Rattle.picture_rules.specs.declared.wall.FragmentNote.{FragmentNote}
 use Rattle.picture_rules.specs.declared.sprite.SpriteEntry.{SpriteEntry}
-use Rattle.picture_rules.specs.sprite.Middles.{masked_dots}
-use Rattle.picture_rules.specs.sprite.Order.{draw_order}
 use Rattle.texture_build.specs.Arts.{view_art}
 use Rattle.texture_build.specs.Draws.{HoldsArt}
 use Rattle.masked_draw.specs.declared.tools.MaskedTools.{MaskedTools}

@@ -4,13 +4,10 @@
 // `R_DrawMasked` and `R_DrawSprite`, r_things.c.
 ghost use Rattle.std.specs.Prelude.{◌≡◌, ◌<◌, ◌≤◌, ◌≤ℤ◌, ℕ, true, false, List, All, OnOk, Some, None, length, slice_get};
 ghost use Rattle.std.specs.List.{AllPass};
-ghost use Rattle.lump_cache.specs.Caches.{cache_fault};
+ghost use Rattle.texture_build.specs.Caches.{cache_fault};
 ghost use Rattle.picture_rules.specs.declared.sprite.SpriteEntry.{SpriteEntry};
-ghost use Rattle.picture_rules.specs.sprite.Drawsegs.{entry_has};
-ghost use Rattle.picture_rules.specs.sprite.Order.{draw_order};
-ghost use Rattle.picture_rules.specs.sprite.Middles.{middles_at, sprites_from};
+ghost use Rattle.picture_rules.specs.Words.{AreNoted, draw_order, entry_has, middles_at, sprites_from};
 ghost use Rattle.vissprites.specs.Bounds.{lies_within, has_lump_below};
-ghost use Rattle.picture_rules.specs.Noted.{AreNoted};
 ghost use Rattle.pixel_strips.specs.Dotted.{HasDots, PlacedAlike};
 ghost use Rattle.pixel_strips.specs.Standing.{StandsInFrame};
 ghost use Rattle.texture_build.specs.Draws.{FitBeside, DrawsWith};
@@ -27,10 +24,10 @@ use crate::pictures::column_of;
 use crate::scene::{MaskHands, MaskScene};
 use crate::sprites::paint_sprite;
 use crate::tools::MaskedTools;
-use lump_cache::CacheFault;
-use outside::Shelf;
+use art_rules::Shelf;
 use picture_rules::{FragmentNote, SpriteEntry};
 use pixel_strips::Canvas;
+use texture_build::CacheFault;
 use vissprites::Sprites;
 
 /// Draws the sprites, the least scale first, each after the masked mid textures that are behind it,

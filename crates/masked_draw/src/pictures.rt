@@ -1,22 +1,17 @@
 // The columns of a picture: rules `picture_rules/sprite`, Sprites; `texture_build`, Arts.
-ghost use Rattle.art_rules.specs.Bytes.{byte_at, half_at};
+ghost use Rattle.art_rules.specs.Words.{byte_at, half_at};
 ghost use Rattle.masked_draw.specs.Clipped.{HasClipsIn};
-ghost use Rattle.picture_rules.specs.sprite.Sprites.{picture_column};
-ghost use Rattle.pixel_rules.specs.Posts.{posts_dots};
-ghost use Rattle.pixel_rules.specs.Strips.{shade};
+ghost use Rattle.picture_rules.specs.Words.{FRAME_HEIGHT, FRAME_WIDTH, picture_column, posts_dots, shade};
 ghost use Rattle.pixel_strips.specs.Canvases.{with_dots};
 ghost use Rattle.std.specs.Prelude.{◌≡◌, ◌<◌, ◌≤◌, ◌+◌, ◌^◌, ◌≤ℤ◌, ◌<ℤ◌, ◌&&◌, pos, true, int_le, int_lt};
 ghost use Rattle.texture_build.specs.Arts.{own_posts};
-ghost use Rattle.view_rules.specs.declared.TheConstants.{FRAME_WIDTH, FRAME_HEIGHT};
 
 use crate::posts::{ColumnArt, paint_posts};
 use art_rules::half_at;
-use fx_words::{fixed, minus, shr_word, times};
 use patch_columns::column_place;
-use pixel_rules::MaskedColumn;
+use picture_rules::{FRACTION_BITS, MaskedColumn, ViewShape};
 use pixel_strips::Canvas;
-use view_rules::ViewShape;
-use word_rules::FRACTION_BITS;
+use view_frame::{fixed, minus, shr_word, times};
 
 /// Paints column `own` of a picture in column `x` of the view, within the clips of `column`; nothing
 /// where the picture has no such column. Takes no memory.

@@ -1,12 +1,10 @@
 // The tools of the masked pass in two parts: what stays as it is, and what is written.
 
-use level_rules::{Sector, Seg, Side};
-use lump_cache::LumpCache;
-use outside::Shelf;
+use art_rules::Shelf;
+use picture_rules::{Sector, Seg, Side};
 use pixel_strips::Canvas;
-use texture_build::Textures;
+use texture_build::{Directory, LumpCache, LumpNo, Textures};
 use view_frame::View;
-use wad_dir::{Directory, LumpNo};
 
 /// What stays as it is while sprites and masked mid textures are drawn.
 #[derive(Clone, Copy)]

@@ -12,9 +12,8 @@ ghost use Rattle.node_walk.specs.Visits.{Visits, TakesAll, Walks};
 use crate::cover::Cover;
 use crate::scene::Lists;
 use crate::visitor::Visitor;
-use fx_words::same_word;
 use level_rules::{Seg, Surface};
-use view_frame::{ColumnRange, View};
+use view_frame::{ColumnRange, View, same_word};
 
 // The columns in which a seg is seen.
 #[tactic(auto, unfolding(level_rules::specs::walk::Segs::seg_range))]

@@ -1,9 +1,7 @@
 -- Laws of columns into which posts are put.
 use Rattle.std.proofs.Common.{◌≡◌, ℕ, ◌<◌, cond, List, [], ◌∷◌, ◌++◌, length, get_or, Option, Some, None, unwrap_or, refl, ap, sym, ◌∙◌}
-use Rattle.word_rules.specs.Least.{or_else}
-use Rattle.word_rules.specs.Listed.{listed}
-use Rattle.word_rules.proofs.ListedLemmas.{length-listed, get_or-listed, listed-all}
-use Rattle.art_rules.specs.Columns.{PlacedPost, is_put_at, put_byte, last_put, composed_byte}
+use Rattle.art_rules.specs.Words.{composed_byte, is_put_at, last_put, listed, or_else, PlacedPost, put_byte}
+use Rattle.art_rules.proofs.Laws.{get_or-listed, length-listed, listed-all}
 use Rattle.patch_columns.specs.Composites.{row_with, with_posts}
 
 or_else-none : {X : Type 0} (x : Option X) → x ≡ or_else x None

@@ -1,7 +1,7 @@
 -- Laws of lists of equal length that are joined, one for each number that passes a test.
-use Rattle.word_rules.proofs.Common.{[], ap, append-nil, append_assoc, arith, Bool, cond, false, filter, filter-append, length, length-append, List, map-id, map-range_with_len_more, range_with_len, suc, sym, true, ℕ, ◌*◌, ◌++◌, ◌+◌, ◌-◌, ◌<◌, ◌∙◌, ◌∷◌, ◌≡◌}
-use Rattle.word_rules.specs.Listed.{joined_lists}
-use Rattle.word_rules.proofs.ListedLemmas.{joined_lists-append, joined_lists-cons}
+use Rattle.art_rules.proofs.Common.{[], ap, append-nil, append_assoc, arith, Bool, cond, false, filter, filter-append, length, length-append, List, map-id, map-range_with_len_more, range_with_len, suc, sym, true, ℕ, ◌*◌, ◌++◌, ◌+◌, ◌-◌, ◌<◌, ◌∙◌, ◌∷◌, ◌≡◌}
+use Rattle.art_rules.specs.Words.{joined_lists}
+use Rattle.art_rules.proofs.Laws.{joined_lists-append, joined_lists-cons}
 
 pub length-joined_lists : {X Y : Type 0} (f : X → List Y) (n : ℕ) (xs : List X) → ((x : X) → length (f x) ≡ n) → length (joined_lists f xs) ≡ n * length xs
 unfolding joined_lists

@@ -1,7 +1,6 @@
 -- Laws of the posts from a place of a patch on, put one after the other.
-use Rattle.word_rules.proofs.Common.{[], ap, arith, Bool, false, if◌then◌else◌, length, List, map, None, pos, refl, Some, sym, true, ℕ, ℤ, ◌+ℤ◌, ◌+◌, ◌<◌, ◌∙◌, ◌∷◌, ◌≡◌, ◌≤◌}
-use Rattle.pixel_rules.specs.declared.Post.{Post}
-use Rattle.art_rules.specs.Patches.{is_post, post_in, post_at, next_place, posts}
+use Rattle.art_rules.proofs.Common.{[], ap, arith, Bool, false, if◌then◌else◌, length, List, map, None, pos, refl, Some, sym, true, ℕ, ℤ, ◌+ℤ◌, ◌+◌, ◌<◌, ◌∙◌, ◌∷◌, ◌≡◌, ◌≤◌}
+use Rattle.art_rules.specs.Words.{is_post, next_place, Post, post_at, post_in, posts}
 use Rattle.art_rules.proofs.PostLemmas.{is_post-within, posts-none, posts-some}
 use Rattle.patch_columns.specs.Composites.{placed_post, posts_at, with_posts}
 use Rattle.patch_columns.proofs.ColumnLemmas.{with_posts-none, with_posts-append}

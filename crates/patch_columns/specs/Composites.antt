@@ -1,13 +1,8 @@
 -- Columns of a composite while the posts of a patch are put into them (R_GenerateComposite,
 -- R_DrawColumnInCache, r_data.c).
 use Rattle.std.specs.Prelude.{◌≡◌, ℕ, cond, ℤ, pos, negsuc, ◌+ℤ◌, List, [], ◌∷◌, length, map, unwrap_or, slice_index, refl}
-use Rattle.word_rules.specs.Listed.{listed}
-use Rattle.word_rules.specs.Words.{natural}
-use Rattle.pixel_rules.specs.declared.Post.{Post}
+use Rattle.art_rules.specs.Words.{byte_at, column_place, first_row, is_put_at, last_put, listed, natural, own_column, PlacedPost, Post, posts, put_byte, put_count, rows_above, stands_in}
 use Rattle.art_rules.specs.declared.PlacedPatch.{PlacedPatch}
-use Rattle.art_rules.specs.Bytes.{byte_at}
-use Rattle.art_rules.specs.Patches.{column_place, posts}
-use Rattle.art_rules.specs.Columns.{PlacedPost, stands_in, own_column, first_row, rows_above, put_count, is_put_at, put_byte, last_put}
 
 -- a post whose first byte has that row in its texture
 unfoldable pub placed_post : ℤ → Post → List ℕ → PlacedPost

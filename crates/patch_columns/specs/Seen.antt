@@ -1,12 +1,9 @@
 -- What each column of a texture is read from while its patches come one after the other.
 use Rattle.std.specs.Prelude.{◌≡◌, ℕ, ◌<◌, pos, List, [], length, cond, slice_index_or, refl}
-use Rattle.word_rules.specs.Listed.{listed}
+use Rattle.art_rules.specs.Words.{column_place, listed, lookup_of, own_column, patches_in, stands_in}
 use Rattle.art_rules.specs.declared.PlacedPatch.{PlacedPatch}
 use Rattle.art_rules.specs.declared.ColumnLookup.{ColumnLookup}
 use Rattle.art_rules.specs.declared.ColumnLookup.TheVariants.{Empty, Single, Composed}
-use Rattle.art_rules.specs.Patches.{column_place}
-use Rattle.art_rules.specs.Columns.{own_column, patches_in, stands_in}
-use Rattle.art_rules.specs.Lookups.{lookup_of}
 
 -- column x by the patches so far; where in the composite it begins is not known yet, and stands as
 -- 0

@@ -2,12 +2,9 @@
 //
 // Rules: `art_rules`, Flats, and `shade` of `pixel_rules`. The original: r_draw.c, r_data.c.
 ghost use Rattle.std.specs.Prelude.{◌≡◌};
-ghost use Rattle.art_rules.specs.Flats.{flat_byte, palette_colour};
-ghost use Rattle.art_rules.specs.Bytes.{byte_at};
-ghost use Rattle.pixel_rules.specs.Strips.{shade};
+ghost use Rattle.art_rules.specs.Words.{byte_at, flat_byte, palette_colour, shade};
 
-use art_rules::{COLOUR_SIZE, byte_at};
-use pixel_rules::{FLAT_SIDE, MAP_COLOURS};
+use art_rules::{COLOUR_SIZE, FLAT_SIDE, MAP_COLOURS, byte_at};
 
 /// The texel of a flat at column `x` and row `y`, both in texels, 0 past the lump's end.
 ///
@@ -22,7 +19,7 @@ pub fn flat_byte(bytes: &[u8], x: u32, y: u32) -> u8
 /// The colour `index` through colormap `map` of the lump COLORMAP, 0 past the lump's end.
 ///
 /// The original: `dc_colormap`, r_draw.c.
-#[tactic(auto, unfolding(pixel_rules::specs::Strips::shade, art_rules::specs::Bytes::byte_at))]
+#[tactic(auto, unfolding(art_rules::specs::Words::shade, art_rules::specs::Bytes::byte_at))]
 pub fn shade(colormap: &[u8], map: u8, index: u8) -> u8
     ensures { result ≡ shade colormap.now map index }
 {

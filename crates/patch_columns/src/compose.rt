@@ -4,9 +4,7 @@
 // `R_GenerateComposite`, `R_DrawColumnInCache`, r_data.c.
 ghost use Rattle.std.specs.Prelude.{◌≡◌, ◌<◌, ◌+◌, ◌^◌, ◌+ℤ◌, pos, ◌++◌, ◌∷◌, [], ℕ, List, length, Some, slice_get};
 ghost use Rattle.art_rules.specs.declared.ColumnLookup.TheVariants.{Composed};
-ghost use Rattle.art_rules.specs.Columns.{first_row, rows_above, put_count};
-ghost use Rattle.art_rules.specs.Lookups.{AreColumnsOf, composite_of_first};
-ghost use Rattle.art_rules.specs.Patches.{post_at, next_place};
+ghost use Rattle.art_rules.specs.Words.{AreColumnsOf, composite_of_first, first_row, next_place, post_at, put_count, rows_above};
 ghost use Rattle.patch_columns.specs.Composites.{placed_post, posts_at, posts_in, with_posts};
 
 use crate::lookups::{own_column, stands_in};
@@ -120,7 +118,7 @@ fn put_post(lump: &[u8], row: i32, post: Post, column: &mut [u8])
 }
 
 // The row from which a post is put.
-#[tactic(auto, unfolding(art_rules::specs::Columns::first_row, word_rules::specs::Words::natural))]
+#[tactic(auto, unfolding(art_rules::specs::Columns::first_row, art_rules::specs::Words::natural))]
 fn first_row(row: i32) -> usize
     ensures { result ≡ first_row row }
 {
@@ -128,7 +126,7 @@ fn first_row(row: i32) -> usize
 }
 
 // How many bytes of a post lie above the first row.
-#[tactic(auto, unfolding(art_rules::specs::Columns::rows_above, word_rules::specs::Words::natural))]
+#[tactic(auto, unfolding(art_rules::specs::Columns::rows_above, art_rules::specs::Words::natural))]
 fn rows_above(row: i32) -> usize
     ensures { result ≡ rows_above row }
 {

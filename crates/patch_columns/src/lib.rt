@@ -13,9 +13,8 @@ mod compose;
 mod lookups;
 mod posts;
 
-pub use art_rules::{Patch, byte_at};
+pub use art_rules::{Patch, Post, byte_at};
 pub use colours::{flat_byte, palette_colour, shade};
 pub use compose::put_patch;
 pub use lookups::{add_patch, place_columns};
-pub use pixel_rules::Post;
 pub use posts::{column_place, next_place, post_at};

@@ -3,8 +3,7 @@
 // Rules: `art_rules`, Lookups, and `specs/Seen`. The original: `R_GenerateLookup`, r_data.c.
 ghost use Rattle.std.specs.Prelude.{◌≡◌, ◌<◌, ◌^◌, ◌++◌, ◌∷◌, [], ℕ, List, length, true};
 ghost use Rattle.art_rules.specs.declared.PlacedPatch.{PlacedPatch};
-ghost use Rattle.art_rules.specs.Columns.{composite_size, own_column, stands_in};
-ghost use Rattle.art_rules.specs.Lookups.{AreColumnsOf, column_lookups};
+ghost use Rattle.art_rules.specs.Words.{AreColumnsOf, column_lookups, composite_size, own_column, stands_in};
 ghost use Rattle.patch_columns.specs.Seen.{AreSeen, columns_with, composed_bytes, lookup_behind, lookup_with, placed_lookup, seen_lookups};
 
 use crate::column_place;
@@ -90,7 +89,7 @@ pub fn stands_in(x: u16, patch: PlacedPatch) -> bool
 }
 
 // Which column of the patch stands in column `x` of the texture.
-#[tactic(auto, unfolding(art_rules::specs::Columns::own_column, art_rules::specs::Columns::stands_in, word_rules::specs::Words::natural))]
+#[tactic(auto, unfolding(art_rules::specs::Columns::own_column, art_rules::specs::Columns::stands_in, art_rules::specs::Words::natural))]
 pub fn own_column(x: u16, patch: PlacedPatch) -> u16
     requires { stands_in x patch ≡ true }
     ensures { result ≡ own_column x patch }

@@ -3,12 +3,12 @@
 // Rules: `art_rules`, Patches. The original: `R_DrawMaskedColumn`, r_things.c, `R_GetColumn`,
 // r_data.c.
 ghost use Rattle.std.specs.Prelude.{◌≡◌, ◌<◌, ◌^◌};
-ghost use Rattle.art_rules.specs.Patches.{column_place, is_post, post_in, post_at, next_place};
+ghost use Rattle.art_rules.specs.Words.{column_place, is_post, next_place, post_at, post_in};
 
 use art_rules::{
-    COLUMN_PLACE_SIZE, COLUMN_PLACES_AT, POST_BYTES_AT, POST_LENGTH_AT, POSTS_END, byte_at, word_at,
+    COLUMN_PLACE_SIZE, COLUMN_PLACES_AT, POST_BYTES_AT, POST_LENGTH_AT, POSTS_END, Post, byte_at,
+    word_at,
 };
-use pixel_rules::Post;
 
 /// Where in the patch the posts of column `x` begin, in bytes.
 ///

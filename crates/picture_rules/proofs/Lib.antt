@@ -4,3 +4,5 @@ pub mod ThingLemmas
 pub mod CountLemmas
 pub mod ListLemmas
 pub mod NamedLemmas
+pub mod Laws
+pub use Rattle.word_rules.proofs.Common

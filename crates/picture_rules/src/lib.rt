@@ -62,3 +62,17 @@ pub struct OverLimit {
     pub kind: LimitKind,
     pub count: u32,
 }
+
+pub use level_rules::{
+    BOTTOM_UNPEGGED, MAX_DRAWSEGS, PlacedThing, SKY_FLAT, Sector, Seg, Side, SideTextures, Surface,
+    TOP_UNPEGGED,
+};
+pub use pixel_rules::{
+    FLAT_SIDE, FRAME_CELLS, LUMP, MIDDLE, MaskedColumn, PLANE, Painter, Post, SKY, SPRITE, WALL,
+    WEAPON,
+};
+pub use view_rules::{
+    Eye, FRAME_HEIGHT, FRAME_WIDTH, HALF_UNIT, MAX_FRACTION, MAX_SCALE, MAX_SIZE, Partition, Spans,
+    TABLES_BYTES, TANGENTS, TablesRefusal, ViewShape,
+};
+pub use word_rules::{ANG90, ANG180, FRACTION_BITS, FRACTION_UNIT};

@@ -1,17 +1,12 @@
 -- What each call that draws planes may take from what it asks.
-use Rattle.word_rules.proofs.Common.{[], All, All-get_or, and_from, ap, arith, Bool, Contains-get_or, false, false≢true, IfSome, inl, inr, IsSome, le-leb, length, List, nat_le, None, Option, refl, Result, slice_index_or, Some, subst, suc, sym, true, zero, ℕ, ◌<◌, ◌↔◌, ◌∙◌, ◌∷◌, ◌≡◌, ◌≤◌, ◌⊎◌}
-use Rattle.view_rules.specs.declared.ViewShape.{ViewShape}
+use Rattle.picture_rules.proofs.Common.{[], All, All-get_or, and_from, ap, arith, Bool, Contains-get_or, false, false≢true, IfSome, inl, inr, IsSome, le-leb, length, List, nat_le, None, Option, refl, Result, slice_index_or, Some, subst, suc, sym, true, zero, ℕ, ◌<◌, ◌↔◌, ◌∙◌, ◌∷◌, ◌≡◌, ◌≤◌, ◌⊎◌}
+use Rattle.picture_rules.specs.Words.{column, Dot, holds, holds_row, is_sky_key, Painter, Plane, same_flat, ViewShape}
 use Rattle.picture_rules.specs.declared.plane.Flat4.{Flat4}
 use Rattle.picture_rules.specs.declared.plane.Flat4.TheVariants as flat
-use Rattle.picture_rules.specs.plane.Keys.{is_sky_key, same_flat}
-use Rattle.picture_rules.specs.plane.Planes.{Plane, column}
-use Rattle.picture_rules.specs.plane.Spans.{holds, holds_row}
 use Rattle.visplanes.specs.Planes.{no_plane, plane_at}
 use Rattle.visplanes.specs.Spans.{IsSeen}
-use Rattle.pixel_rules.specs.declared.Painter.{Painter}
-use Rattle.pixel_rules.specs.Dots.{Dot}
-use Rattle.lump_cache.specs.declared.fault.CacheFault.{CacheFault}
-use Rattle.texture_lists.specs.declared.number.TexNo.{TexNo}
+use Rattle.texture_build.specs.CacheFault.{CacheFault}
+use Rattle.texture_build.specs.TexNo.{TexNo}
 use Rattle.texture_build.specs.Draws.{CanDraw}
 use Rattle.texture_build.specs.Paints.{PaintState}
 use Rattle.texture_build.proofs.PaintLemmas.{can_draw-later, slots-later}

@@ -1,18 +1,13 @@
 -- Laws of a floor that was painted by its flat and the colormap.
-use Rattle.word_rules.proofs.Common.{[], ap, List, refl, slice_index, subst, sym, ℕ, ◌≡◌}
-use Rattle.view_rules.specs.View.{ViewValue}
-use Rattle.pixel_rules.specs.declared.Painter.{Painter}
-use Rattle.pixel_rules.specs.Art.{Art}
-use Rattle.pixel_rules.specs.Strips.{shade}
+use Rattle.picture_rules.proofs.Common.{[], ap, List, refl, slice_index, subst, sym, ℕ, ◌≡◌}
+use Rattle.picture_rules.specs.Words.{Art, Painter, Plane, plane_dots, shade, ViewValue}
 use Rattle.pixel_strips.specs.Canvases.{CanvasView, with_dots, with_painter}
 use Rattle.pixel_strips.specs.Dotted.{HasDots, PlacedAlike}
 use Rattle.pixel_strips.proofs.DottedLemmas.{has_dots-painted, placed-has_dots}
 use Rattle.picture_rules.specs.declared.plane.Flat4.TheVariants as flat
-use Rattle.picture_rules.specs.plane.Planes.{Plane}
-use Rattle.picture_rules.specs.plane.Skies.{plane_dots}
 use Rattle.visplanes.specs.Planes.{flat_lump}
 use Rattle.visplanes.specs.Spans.{GivesFlat}
-use Rattle.art_rules.specs.Bytes.{byte_at}
+use Rattle.art_rules.specs.Words.{byte_at}
 use Rattle.texture_build.specs.Arts.{view_art}
 use Rattle.texture_build.specs.Views.{TexturesView}
 

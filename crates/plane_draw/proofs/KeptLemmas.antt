@@ -1,8 +1,7 @@
 -- What the loops over planes and columns keep: the references, what each call asks, and the dots that are painted.
 use Rattle.std.proofs.Common.{◌≡◌, ℕ, List, ◌++◌, [], Ok, refl, ◌∙◌}
-use Rattle.outside.specs.Shelf.{ShelfView}
-use Rattle.pixel_rules.specs.declared.Painter.{Painter}
-use Rattle.pixel_rules.specs.Dots.{Dot}
+use Rattle.art_rules.specs.Words.{ShelfView}
+use Rattle.picture_rules.specs.Words.{Dot, Painter}
 use Rattle.pixel_strips.specs.Canvases.{CanvasView}
 use Rattle.texture_build.specs.declared.hands.Hands.{Hands}
 use Rattle.texture_build.specs.Hands.{AreSameHands, hands_state}

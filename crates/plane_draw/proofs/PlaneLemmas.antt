@@ -1,22 +1,10 @@
 -- Laws of the dots of planes: one by one, by their flats, and by the art of a scene.
-use Rattle.word_rules.proofs.Common.{[], ap, append-nil, arith, cases_lt, inl, inr, length, List, map, None, Option, range_with_len, refl, Some, suc, sym, zero, ℕ, ◌++◌, ◌+◌, ◌-◌, ◌<◌, ◌∙◌, ◌∷◌, ◌≡◌, ◌≤◌}
-use Rattle.word_rules.specs.Listed.{joined_lists, listed}
-use Rattle.word_rules.proofs.ListedLemmas.{joined_lists-append, listed-more, listed_from-none}
-use Rattle.lump_rules.specs.declared.wad.Lump.{Lump}
-use Rattle.view_rules.specs.View.{ViewValue}
-use Rattle.pixel_rules.specs.declared.Painter.{Painter}
-use Rattle.pixel_rules.specs.declared.TheConstants.{PLANE, SKY}
-use Rattle.pixel_rules.specs.Dots.{Dot}
-use Rattle.pixel_rules.specs.Art.{Art, lump_source, painter_of}
-use Rattle.pixel_rules.specs.Strips.{column_dots}
-use Rattle.pixel_rules.proofs.StripLemmas.{column_dots-none}
+use Rattle.picture_rules.proofs.Common.{[], ap, append-nil, arith, cases_lt, inl, inr, length, List, map, None, Option, range_with_len, refl, Some, suc, sym, zero, ℕ, ◌++◌, ◌+◌, ◌-◌, ◌<◌, ◌∙◌, ◌∷◌, ◌≡◌, ◌≤◌}
+use Rattle.picture_rules.specs.Words.{Art, column, column_dots, Dot, floor_colour, floor_dots, joined_lists, listed, lump_source, Painter, painter_of, PLANE, Plane, plane_dots, plane_dots_by, planes_dots, planes_from, run_dots, Scene, SKY, sky_colour, sky_column, sky_dots, ViewValue}
+use Rattle.picture_rules.proofs.Laws.{column_dots-none, joined_lists-append, listed-more, listed_from-none}
+use Rattle.art_rules.specs.Words.{Lump}
 use Rattle.picture_rules.specs.declared.plane.Flat4.{Flat4}
 use Rattle.picture_rules.specs.declared.plane.Flat4.TheVariants as flat
-use Rattle.picture_rules.specs.plane.Planes.{Plane, column}
-use Rattle.picture_rules.specs.plane.Floors.{floor_colour, floor_dots, run_dots}
-use Rattle.picture_rules.specs.plane.Skies.{plane_dots, plane_dots_by, sky_colour, sky_column, sky_dots}
-use Rattle.picture_rules.specs.Scene.{Scene}
-use Rattle.picture_rules.specs.Planes.{planes_dots, planes_from}
 use Rattle.visplanes.specs.Planes.{plane_at}
 use Rattle.texture_build.specs.Draws.{FitBeside, FitsBeside}
 use Rattle.texture_build.specs.Views.{TexturesView}

@@ -1,22 +1,14 @@
 -- Laws of a sky's column that was painted.
 use Rattle.std.proofs.Common.{◌≡◌, ◌+◌, ℕ, ℤ, List, Some, ap, subst, ◌∙◌}
-use Rattle.lump_rules.specs.declared.wad.Lump.{Lump}
-use Rattle.view_rules.specs.View.{ViewValue}
+use Rattle.art_rules.specs.Words.{byte_at, Lump}
+use Rattle.picture_rules.specs.Words.{column_dots, listed_from, Painter, painter_of, row_fraction, run_dots, shade, SKY, sky_colour, sky_column, texel_row, ViewValue}
 use Rattle.art_rules.specs.declared.ColumnLookup.{ColumnLookup}
-use Rattle.art_rules.specs.Bytes.{byte_at}
-use Rattle.word_rules.specs.Listed.{listed_from}
-use Rattle.pixel_rules.specs.declared.Painter.{Painter}
-use Rattle.pixel_rules.specs.declared.TheConstants.{SKY}
-use Rattle.pixel_rules.specs.Art.{painter_of}
-use Rattle.pixel_rules.specs.Strips.{column_dots, row_fraction, shade, texel_row}
 use Rattle.pixel_strips.specs.Canvases.{CanvasView, with_dots, with_painter}
 use Rattle.pixel_strips.specs.Dotted.{HasDots}
 use Rattle.pixel_strips.specs.Strips.{column_strip_dots, strip_colour}
 use Rattle.pixel_strips.proofs.DottedLemmas.{has_dots-as, has_dots-painted}
 use Rattle.pixel_strips.proofs.RowLemmas.{row_shade, strip-rows}
 use Rattle.picture_rules.specs.declared.plane.TheConstants.{SKY_MAP, SKY_MID}
-use Rattle.picture_rules.specs.plane.Floors.{run_dots}
-use Rattle.picture_rules.specs.plane.Skies.{sky_colour, sky_column}
 use Rattle.texture_build.specs.Arts.{column_texel, lookup_source, view_art}
 use Rattle.texture_build.specs.Draws.{FitsBeside}
 use Rattle.texture_build.specs.Sources.{column_in}

@@ -1,11 +1,10 @@
 -- What drawing planes asks of them, and with whose bytes it draws.
 use Rattle.std.specs.Prelude.{◌≡◌, ◌<◌, ℕ, List, Contains, Option, IfSome, IsSome}
-use Rattle.view_rules.specs.declared.ViewShape.{ViewShape}
+use Rattle.picture_rules.specs.Words.{column, Plane, ViewShape}
 use Rattle.picture_rules.specs.declared.plane.Flat4.{Flat4}
 use Rattle.picture_rules.specs.declared.plane.Flat4.TheVariants as flat
-use Rattle.picture_rules.specs.plane.Planes.{Plane, column}
 use Rattle.visplanes.specs.Spans.{IsSeen}
-use Rattle.texture_lists.specs.declared.number.TexNo.{TexNo}
+use Rattle.texture_build.specs.TexNo.{TexNo}
 
 -- the flat of a plane is a lump of the directory, and there is a texture of the sky for sky
 abbrev pub HasFlat : ℕ → Option TexNo → Flat4 → Type 0

@@ -1,18 +1,9 @@
 -- What stays while planes are drawn, what each call asks, and what it paints.
 use Rattle.std.specs.Prelude.{◌≡◌, ◌≤◌, ◌<◌, ◌+◌, ℕ, List, All, IfSome, Option, Result, length}
-use Rattle.view_rules.specs.declared.TheConstants.{FRAME_WIDTH, FRAME_HEIGHT}
-use Rattle.view_rules.specs.View.{ViewValue}
-use Rattle.word_rules.specs.Listed.{listed, joined_lists}
-use Rattle.lump_rules.specs.Contents.{lump_bytes}
-use Rattle.lump_cache.specs.declared.fault.CacheFault.{CacheFault}
-use Rattle.lump_cache.specs.Caches.{cache_fault}
-use Rattle.pixel_rules.specs.declared.Painter.{Painter}
-use Rattle.pixel_rules.specs.declared.TheConstants.{SKY}
-use Rattle.pixel_rules.specs.Dots.{Dot}
-use Rattle.pixel_rules.specs.Art.{Art, painter_of}
-use Rattle.picture_rules.specs.plane.Planes.{Plane, column}
-use Rattle.picture_rules.specs.plane.Floors.{run_dots}
-use Rattle.picture_rules.specs.plane.Skies.{plane_dots, sky_colour, sky_column}
+use Rattle.picture_rules.specs.Words.{Art, column, Dot, FRAME_HEIGHT, FRAME_WIDTH, joined_lists, listed, Painter, painter_of, Plane, plane_dots, run_dots, SKY, sky_colour, sky_column, ViewValue}
+use Rattle.art_rules.specs.Words.{lump_bytes}
+use Rattle.texture_build.specs.CacheFault.{CacheFault}
+use Rattle.texture_build.specs.Caches.{cache_fault}
 use Rattle.visplanes.specs.Planes.{plane_at}
 use Rattle.texture_build.specs.Arts.{view_art}
 use Rattle.texture_build.specs.Draws.{CanDraw}

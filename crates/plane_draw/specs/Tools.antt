@@ -1,8 +1,7 @@
 -- What planes are drawn with, by the values of their tools.
 use Rattle.std.specs.Prelude.{◌≡◌, ℕ, List, IfSome}
-use Rattle.outside.specs.Shelf.{ShelfView}
-use Rattle.lump_rules.specs.Contents.{lump_bytes}
-use Rattle.picture_rules.specs.Scene.{Scene}
+use Rattle.art_rules.specs.Words.{lump_bytes, ShelfView}
+use Rattle.picture_rules.specs.Words.{Scene}
 use Rattle.texture_build.specs.Arts.{view_art}
 use Rattle.texture_build.specs.Draws.{HoldsArt}
 use Rattle.plane_draw.specs.declared.tools.PlaneTools.{PlaneTools}

@@ -1,10 +1,8 @@
 // The planes of a view, in order of making.
 //
 // Rules: `picture_rules`, Planes; `specs/Planes`. The original: `R_DrawPlanes`, r_plane.c.
-ghost use Rattle.lump_cache.specs.Caches.{cache_fault};
-ghost use Rattle.picture_rules.specs.Planes.{planes_dots};
-ghost use Rattle.picture_rules.specs.Scene.{Scene};
-ghost use Rattle.picture_rules.specs.plane.Skies.{plane_dots};
+ghost use Rattle.texture_build.specs.Caches.{cache_fault};
+ghost use Rattle.picture_rules.specs.Words.{plane_dots, planes_dots, Scene};
 ghost use Rattle.pixel_strips.specs.Dotted.{HasDots, PlacedAlike};
 ghost use Rattle.pixel_strips.specs.Standing.{StandsInFrame};
 ghost use Rattle.plane_draw.specs.Planes.{CanDrawPlane, IsSky, IsFlatOf};
@@ -19,13 +17,11 @@ use crate::floor::draw_floor;
 use crate::scene::PlaneScene;
 use crate::sky::draw_sky;
 use crate::tools::PlaneTools;
-use lump_cache::CacheFault;
-use outside::Shelf;
+use art_rules::Shelf;
 use picture_rules::Flat4;
 use pixel_strips::Canvas;
-use texture_build::Hands;
+use texture_build::{CacheFault, Hands, LumpNo};
 use visplanes::{PlaneNo, Planes};
-use wad_dir::LumpNo;
 
 /// Paints all planes, in order of making: a floor or a ceiling by its flat, and the sky by its
 /// texture, column by column. A plane without a marked column asks for nothing. Takes no memory.

@@ -2,12 +2,12 @@
 //
 // Rules: `picture_rules/plane`, Floors. The original: `R_DrawPlanes`, r_plane.c.
 ghost use Rattle.std.specs.Prelude.{◌≡◌, ◌<◌, ℕ, List, length};
-ghost use Rattle.outside.specs.Shelf.{ShelfView};
-ghost use Rattle.zone_rules.specs.Zones.{IsLive};
-ghost use Rattle.lump_cache.specs.Caches.{lump_owner};
+ghost use Rattle.art_rules.specs.Words.{ShelfView};
+ghost use Rattle.texture_build.specs.Zones.{IsLive};
+ghost use Rattle.texture_build.specs.Caches.{lump_owner};
 ghost use Rattle.pixel_strips.specs.Dotted.{HasDots, PlacedAlike};
 ghost use Rattle.picture_rules.specs.declared.plane.Flat4.TheVariants.{Lump};
-ghost use Rattle.picture_rules.specs.plane.Skies.{plane_dots};
+ghost use Rattle.picture_rules.specs.Words.{plane_dots};
 ghost use Rattle.visplanes.specs.Planes.{plane_at};
 ghost use Rattle.texture_build.specs.Draws.{HoldsArt, FitBeside};
 ghost use Rattle.texture_build.specs.Hands.{AreSameHands, hands_state};
@@ -15,13 +15,10 @@ ghost use Rattle.plane_draw.specs.Planes.{IsMarked};
 ghost use Rattle.plane_draw.specs.Scenes.{CanDrawAt, PaintsPlanes, plane_art};
 
 use crate::scene::PlaneScene;
-use lump_cache::CacheFault;
-use outside::Shelf;
+use art_rules::Shelf;
 use pixel_strips::Canvas;
-use texture_build::Hands;
+use texture_build::{CacheFault, Hands, LumpNo, Tag};
 use visplanes::{PlaneNo, draw_plane};
-use wad_dir::LumpNo;
-use zone_heap::Tag;
 
 /// Paints a plane that is not sky and has a run, by its flat.
 pub fn draw_floor<S: Shelf, C: Canvas>(

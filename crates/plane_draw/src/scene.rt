@@ -1,9 +1,8 @@
 // The tools of planes that stay as they are.
 
-use texture_build::{TexNo, Textures};
+use texture_build::{Directory, LumpNo, TexNo, Textures};
 use view_frame::View;
 use visplanes::Planes;
-use wad_dir::{Directory, LumpNo};
 
 /// What stays as it is while planes are drawn.
 #[derive(Clone, Copy)]

@@ -2,15 +2,12 @@
 //
 // Rules: `picture_rules/plane`, Skies. The original: `R_DrawPlanes`, r_plane.c.
 ghost use Rattle.std.specs.Prelude.{◌≡◌, ◌<◌, ◌≤◌, ℕ, List, Some};
-ghost use Rattle.outside.specs.Shelf.{ShelfView};
+ghost use Rattle.art_rules.specs.Words.{ShelfView};
 ghost use Rattle.art_rules.specs.declared.ColumnLookup.{ColumnLookup};
-ghost use Rattle.pixel_rules.specs.declared.TheConstants.{SKY};
-ghost use Rattle.pixel_rules.specs.Strips.{row_fraction};
+ghost use Rattle.picture_rules.specs.Words.{column, plane_dots, row_fraction, SKY, sky_column};
 ghost use Rattle.pixel_strips.specs.Dotted.{HasDots, PlacedAlike};
 ghost use Rattle.picture_rules.specs.declared.plane.Flat4.TheVariants.{Sky};
 ghost use Rattle.picture_rules.specs.declared.plane.TheConstants.{SKY_MAP, SKY_MID};
-ghost use Rattle.picture_rules.specs.plane.Planes.{column};
-ghost use Rattle.picture_rules.specs.plane.Skies.{plane_dots, sky_column};
 ghost use Rattle.visplanes.specs.Planes.{plane_at};
 ghost use Rattle.texture_build.specs.Sources.{IsColumnLive, IsColumnThere, column_in};
 ghost use Rattle.texture_build.specs.Views.{prepared_texture};
@@ -19,15 +16,11 @@ ghost use Rattle.texture_build.specs.Hands.{AreSameHands, hands_state};
 ghost use Rattle.plane_draw.specs.Scenes.{CanDrawAt, CanDrawPlanes, PaintsPlanes, plane_art, sky_run};
 
 use crate::scene::PlaneScene;
-use art_rules::ColumnLookup;
-use fx_words::{minus, plus, times, turn};
-use lump_cache::CacheFault;
-use outside::Shelf;
-use picture_rules::{SKY_MAP, SKY_MID, SKY_SHIFT};
-use pixel_rules::SKY;
+use art_rules::{ColumnLookup, Shelf};
+use picture_rules::{SKY, SKY_MAP, SKY_MID, SKY_SHIFT};
 use pixel_strips::{Canvas, ColumnStrip, paint_column};
-use texture_build::{Column, Hands, TexNo};
-use view_frame::View;
+use texture_build::{CacheFault, Column, Hands, TexNo};
+use view_frame::{View, minus, plus, times, turn};
 use visplanes::PlaneNo;
 
 // A run of a sky plane in one of its columns: the plane's number, the sky's texture, the column,
@@ -52,7 +45,7 @@ fn sky_column(view: &View<'_>, x: u16) -> i32
 }
 
 // The texel row of the sky at row `first`.
-#[tactic(auto, unfolding(pixel_rules::specs::Strips::row_fraction))]
+#[tactic(auto, unfolding(picture_rules::specs::Words::row_fraction))]
 fn sky_fraction(view: &View<'_>, first: u16) -> i32
     ensures { result
         ≡ row_fraction view.now.shape.centre_y SKY_MID view.now.shape.sky_step first }

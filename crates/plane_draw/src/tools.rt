@@ -1,11 +1,9 @@
 // What planes are drawn with.
 
-use lump_cache::LumpCache;
-use outside::Shelf;
+use art_rules::Shelf;
 use pixel_strips::Canvas;
-use texture_build::{TexNo, Textures};
+use texture_build::{Directory, LumpCache, LumpNo, TexNo, Textures};
 use view_frame::View;
-use wad_dir::{Directory, LumpNo};
 
 /// What planes are drawn with: the view, the textures and the sky's among them, the cache with its
 /// directory and shelf, and the canvas. `colormap` is the number of the lump COLORMAP.

@@ -1,14 +1,13 @@
 -- The code of a refusal, its numbers, and how they are written.
 use Rattle.std.specs.Prelude.{ℕ, ◌+◌, List, [], ◌∷◌, ◌++◌, codes, decimal, ℤ}
 use Rattle.std.specs.Fmt.{signed_decimal}
-use Rattle.view_rules.specs.declared.TablesRefusal.{TablesRefusal}
-use Rattle.view_rules.specs.declared.TablesRefusal.TheVariants as tables
-use Rattle.lump_rules.specs.declared.wad.DirRefusal.{DirRefusal}
-use Rattle.lump_rules.specs.declared.wad.DirRefusal.TheVariants as wad
+use Rattle.art_rules.specs.Words.{DirRefusal, TablesRefusal}
+use Rattle.art_rules.specs.TablesRefusal.TheVariants as tables
+use Rattle.art_rules.specs.DirRefusal.TheVariants as wad
 use Rattle.scene_rules.specs.declared.refusal.ArtRefusal.{ArtRefusal}
 use Rattle.scene_rules.specs.declared.refusal.ArtRefusal.TheVariants as art
-use Rattle.level_rules.specs.declared.maps.refusal.MapRefusal.{MapRefusal}
-use Rattle.level_rules.specs.declared.maps.refusal.MapRefusal.TheVariants as map
+use Rattle.scene_rules.specs.Words.{MapRefusal}
+use Rattle.scene_rules.specs.MapRefusal.TheVariants as map
 use Rattle.art_rules.specs.declared.refusal.TexRefusal.{TexRefusal}
 use Rattle.art_rules.specs.declared.refusal.TexRefusal.TheVariants as texture
 use Rattle.art_rules.specs.declared.refusal.SpriteRefusal.{SpriteRefusal}

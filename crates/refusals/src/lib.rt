@@ -10,13 +10,10 @@ mod line;
 mod lines;
 mod refusal;
 
-pub use art_rules::{SpriteRefusal, TexRefusal};
+pub use art_rules::{DirRefusal, SpriteRefusal, TablesRefusal, TexRefusal};
 pub use csv_tables::CsvRefusal;
 pub use job_rules::TrimRefusal;
-pub use level_rules::MapRefusal;
 pub use line::{DIGITS, LINE_ROOM, Line, NUMBERS_ROOM};
 pub use lines::add_refusal;
-pub use lump_rules::DirRefusal;
 pub use refusal::Refusal;
-pub use scene_rules::{ArtRefusal, SceneRefusal, WeaponRefusal};
-pub use view_rules::TablesRefusal;
+pub use scene_rules::{ArtRefusal, MapRefusal, SceneRefusal, WeaponRefusal};

@@ -1,12 +1,12 @@
 // A line, put together before it goes out, so that it goes out in one put.
 ghost use Rattle.std.specs.Prelude.{◌≡◌, ◌+◌, ◌≤◌, ◌++◌, [], List, ℕ, length};
 ghost use Rattle.std.specs.List.{flat_map};
-ghost use Rattle.outside.specs.Sink.{Writes};
+ghost use Rattle.art_rules.specs.Words.{Writes};
 ghost use Rattle.refusals.specs.Lines.{labelled, labelled_signed, spaced};
 
 use arrayvec::ArrayVec;
+use art_rules::{Failed, Sink};
 use itoa::Buffer;
-use outside::{Failed, Sink};
 use std::marker::Model;
 
 /// The bytes of a line, at most. The longest has seven labels and as many numbers.

@@ -2,14 +2,11 @@
 ghost use Rattle.std.specs.Prelude.{◌≡◌};
 ghost use Rattle.refusals.specs.Groups.{of_audit};
 
-use art_rules::{SpriteRefusal, TexRefusal};
+use art_rules::{DirRefusal, SpriteRefusal, TablesRefusal, TexRefusal};
 use csv_tables::CsvRefusal;
 use job_rules::TrimRefusal;
-use level_rules::MapRefusal;
-use lump_rules::DirRefusal;
-use scene_rules::{ArtRefusal, AuditRefusal, SceneRefusal, WeaponRefusal};
+use scene_rules::{ArtRefusal, AuditRefusal, MapRefusal, SceneRefusal, WeaponRefusal};
 use thiserror::Error;
-use view_rules::TablesRefusal;
 
 /// Why a run is refused: a group for each kind of file or check.
 #[derive(Clone, Copy, Debug, PartialEq, Eq, Error)]

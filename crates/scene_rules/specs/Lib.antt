@@ -6,3 +6,6 @@ pub mod Places
 pub mod Middles
 pub mod Sizes
 pub mod Scenes
+pub mod Words
+pub use Rattle.level_rules.specs.declared.maps.refusal.MapRefusal
+pub use Rattle.level_rules.specs.declared.Node

@@ -100,3 +100,12 @@ pub struct ZoneSizes {
     pub enough: u64,
     pub roomy: u64,
 }
+
+pub use level_rules::{
+    Child, MAX_DEPTH, MapRefusal, Node, PlacedThing, SKY_FLAT, Sector, Seg, Side, SideTextures,
+    Surface, Thing, partition_of,
+};
+pub use lump_rules::{DirRefusal, Name8};
+pub use outside::{Failed, Fault, MemorySink, PutFault, Sink};
+pub use view_rules::{Spans, TablesRefusal};
+pub use zone_rules::{HEADER_SIZE, MIN_FRAGMENT, WORD_SIZE};

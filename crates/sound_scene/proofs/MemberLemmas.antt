@@ -1,10 +1,7 @@
 -- What is among the items of a list that a definition makes of another.
-use Rattle.word_rules.proofs.Common.{[], ap, arith, Bool, cond, Contains, false, filter, get_or, inl, inr, length, List, list_any, list_any-append, list_any_at, map, Ok, or_left, or_right, refl, Result, subst, suc, sym, true, zero, ℕ, ◌<◌, ◌∙◌, ◌∷◌, ◌≡◌, ◌⊎◌}
-use Rattle.word_rules.specs.Listed.{joined_lists}
-use Rattle.word_rules.proofs.ListedLemmas.{joined_lists-cons}
-use Rattle.outside.specs.Faults.{and_then}
-use Rattle.outside.proofs.AnswerLemmas.{and_then-ok}
-use Rattle.art_rules.specs.Books.{each_of}
+use Rattle.art_rules.proofs.Common.{[], ap, arith, Bool, cond, Contains, false, filter, get_or, inl, inr, length, List, list_any, list_any-append, list_any_at, map, Ok, or_left, or_right, refl, Result, subst, suc, sym, true, zero, ℕ, ◌<◌, ◌∙◌, ◌∷◌, ◌≡◌, ◌⊎◌}
+use Rattle.art_rules.specs.Words.{and_then, each_of, joined_lists}
+use Rattle.art_rules.proofs.Laws.{and_then-ok, joined_lists-cons}
 
 module _ {X : Type 0} where
   -- none is in an empty list; else it is the first item or among the rest

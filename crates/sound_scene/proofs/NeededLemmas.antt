@@ -1,13 +1,9 @@
 -- Why a scene needs a lump, and how large the block of a needed lump is.
-use Rattle.word_rules.proofs.Common.{[], ap, arith, eqb-true, get_or_past, inl, inr, length, List, list_any, or-true, or_cases, refl, true, ℕ, ◌<◌, ◌==◌, ◌∙◌, ◌∷◌, ◌≡◌, ◌≤◌}
-use Rattle.lump_rules.specs.declared.wad.Lump.{Lump}
-use Rattle.lump_rules.specs.Lookups.{lump_at, no_lump}
-use Rattle.zone_rules.specs.declared.TheConstants.{HEADER_SIZE}
-use Rattle.zone_rules.specs.Zones.{block_size}
-use Rattle.zone_rules.proofs.OrderSumLemmas.{block_least}
-use Rattle.art_rules.specs.Wanted.{is_patch_of_any}
+use Rattle.art_rules.proofs.Common.{[], ap, arith, eqb-true, get_or_past, inl, inr, length, List, list_any, or-true, or_cases, refl, true, ℕ, ◌<◌, ◌==◌, ◌∙◌, ◌∷◌, ◌≡◌, ◌≤◌}
+use Rattle.art_rules.specs.Words.{is_patch_of_any, Lump, lump_at, no_lump}
+use Rattle.scene_rules.specs.Words.{block_size, greatest_by, HEADER_SIZE, is_list, is_map_lump, is_needed, lump_block, needed_lumps, SceneArt}
+use Rattle.scene_rules.proofs.Laws.{block_least}
 use Rattle.sound_scene.proofs.MarkLemmas.{any_passed}
-use Rattle.scene_rules.specs.Sizes.{SceneArt, greatest_by, is_list, is_map_lump, is_needed, lump_block, needed_lumps}
 
 -- the reasons for which a lump is needed
 module _ (lumps : List Lump) (art : SceneArt) (lump : ℕ) where

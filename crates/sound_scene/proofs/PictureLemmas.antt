@@ -1,14 +1,10 @@
 -- Lists of pictures with the same members: a scene needs the same lumps with each of them.
-use Rattle.word_rules.proofs.Common.{Any-from_list_any, ap, arith, Contains, Contains-append_cases, Contains-append_left, Contains-append_right, Decides, eq-from_true, eq-true, get_or, inl, inr, length, List, list_any, list_any_at, map-append, nat_tests, refl, same_from_decides, subst, sym, true, ℕ, ◌++◌, ◌==◌, ◌||◌, ◌↔◌, ◌∙◌, ◌≡◌, ◌⊎◌}
+use Rattle.art_rules.proofs.Common.{Any-from_list_any, ap, arith, Contains, Contains-append_cases, Contains-append_left, Contains-append_right, Decides, eq-from_true, eq-true, get_or, inl, inr, length, List, list_any, list_any_at, map-append, nat_tests, refl, same_from_decides, subst, sym, true, ℕ, ◌++◌, ◌==◌, ◌||◌, ◌↔◌, ◌∙◌, ◌≡◌, ◌⊎◌}
 use Rattle.texture_build.proofs.MarkLemmas.{filter_same}
-use Rattle.lump_rules.specs.declared.wad.Lump.{Lump}
-use Rattle.lump_rules.specs.declared.wad.LumpNo.{LumpNo}
-use Rattle.art_rules.specs.Wanted.{is_patch_of_any}
+use Rattle.art_rules.specs.Words.{book_lumps, is_patch_of_any, Lump, LumpNo}
 use Rattle.art_rules.specs.declared.shapes.Frame.{Frame}
-use Rattle.art_rules.specs.Books.{book_lumps}
 use Rattle.scene_rules.specs.declared.ZoneSizes.{ZoneSizes}
-use Rattle.scene_rules.specs.Scenes.{SceneValue, art_of, sizes_of}
-use Rattle.scene_rules.specs.Sizes.{enough, has_flat, is_list, is_map_lump, is_needed, needed_lumps, roomy, zone_sizes}
+use Rattle.scene_rules.specs.Words.{art_of, enough, has_flat, is_list, is_map_lump, is_needed, needed_lumps, roomy, SceneValue, sizes_of, zone_sizes}
 use Rattle.sound_scene.specs.Views.{lump_numbers}
 use Rattle.sound_scene.specs.Sound.{SoundValue, art_with, with_book}
 

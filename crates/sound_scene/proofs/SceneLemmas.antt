@@ -1,13 +1,9 @@
 -- A scene by its steps: the base and the rest over it, and what an accepted
 -- scene is made of.
-use Rattle.word_rules.proofs.Common.{ap, Bool, cond, Err, false, length, List, nat_le, None, Ok, ok_or, Option, option_and_then, refl, Result, Some, subst, sym, take, true, ℕ, ◌<◌, ◌∙◌, ◌≡◌}
-use Rattle.word_rules.proofs.LeastLemmas.{greatest-is}
-use Rattle.outside.specs.Faults.{and_then, from_below}
-use Rattle.outside.proofs.AnswerLemmas.{and_then-ok}
-use Rattle.lump_rules.specs.declared.wad.Lump.{Lump}
-use Rattle.lump_rules.specs.Lookups.{has_name, last_of, lump_at}
-use Rattle.level_rules.specs.declared.ThingLine.{ThingLine}
-use Rattle.art_rules.specs.Wanted.{PreparedTexture, prepared_textures}
+use Rattle.art_rules.proofs.Common.{ap, Bool, cond, Err, false, length, List, nat_le, None, Ok, ok_or, Option, option_and_then, refl, Result, Some, subst, sym, take, true, ℕ, ◌<◌, ◌∙◌, ◌≡◌}
+use Rattle.art_rules.proofs.Laws.{and_then-ok, greatest-is}
+use Rattle.art_rules.specs.Words.{and_then, from_below, has_name, last_of, Lump, lump_at, prepared_textures, PreparedTexture}
+use Rattle.scene_rules.specs.Words.{bad_middle, base_in, base_over, book_in, checked, colormap_of, Faces, faces_in, if_long, is_wanted_texture, label_of, level_in, level_of, LevelBase, lists_in, long_lump, placed_things, playpal_of, scene_in, scene_on, scene_over, scene_with, SceneValue, texture_by, ThingLine}
 use Rattle.art_rules.specs.declared.shapes.Frame.{Frame}
 use Rattle.scene_rules.specs.declared.Placed.{Placed}
 use Rattle.scene_rules.specs.declared.TheConstants.{COLORMAP, COLORMAP_SIZE, PALETTE_SIZE}
@@ -15,11 +11,6 @@ use Rattle.scene_rules.specs.declared.refusal.ArtRefusal.{ArtRefusal}
 use Rattle.scene_rules.specs.declared.refusal.ArtRefusal.TheVariants.{Colormap}
 use Rattle.scene_rules.specs.declared.refusal.AuditRefusal.{AuditRefusal}
 use Rattle.scene_rules.specs.declared.refusal.AuditRefusal.TheVariants.{Art, Map, Texture, Sprite, Scene}
-use Rattle.scene_rules.specs.Middles.{bad_middle}
-use Rattle.scene_rules.specs.Places.{placed_things}
-use Rattle.scene_rules.specs.Scenes.{Faces, LevelBase, SceneValue, book_in, checked, colormap_of, faces_in, base_in, base_over, if_long, label_of, level_in, lists_in, long_lump, playpal_of, scene_in, scene_on, scene_over, scene_with, texture_by}
-use Rattle.scene_rules.specs.Sides.{is_wanted_texture}
-use Rattle.level_rules.specs.maps.Levels.{level_of}
 
 -- a step of the layer below, likewise
 pub from_below-ok : {A R Q : Type 0} (f : R → Q) (r : Result A R) (x : A) → from_below f r ≡ Ok x → r ≡ Ok x

@@ -1,6 +1,6 @@
 -- What contracts see of what a level stands on.
 use Rattle.sound_scene.specs.declared.parts.ReadBase.{ReadBase}
-use Rattle.scene_rules.specs.Scenes.{LevelBase}
+use Rattle.scene_rules.specs.Words.{LevelBase}
 
 abbrev pub base_of : ReadBase → LevelBase
 base_of base = record {

@@ -1,7 +1,7 @@
 -- What contracts see of what the names in a level mean, and of a scene.
 use Rattle.std.specs.Prelude.{option_map}
-use Rattle.texture_lists.specs.declared.number.TexNo.{TexNo}
-use Rattle.scene_rules.specs.Scenes.{Faces, SceneValue}
+use Rattle.texture_build.specs.TexNo.{TexNo}
+use Rattle.scene_rules.specs.Words.{Faces, SceneValue}
 use Rattle.sound_scene.specs.Bases.{base_of}
 use Rattle.sound_scene.specs.declared.parts.ReadFaces.{ReadFaces}
 use Rattle.sound_scene.specs.declared.parts.ReadScene.{ReadScene}

@@ -1,13 +1,10 @@
 -- What contracts see of a scene that passed its audit.
 use Rattle.std.specs.Prelude.{ℕ, List, ◌++◌, map}
-use Rattle.lump_rules.specs.declared.wad.Lump.{Lump}
-use Rattle.level_rules.specs.declared.SideTextures.{SideTextures}
+use Rattle.art_rules.specs.Words.{book_lumps, Lump}
+use Rattle.scene_rules.specs.Words.{needed_lumps, SceneArt, SceneValue, SideTextures, zone_sizes}
 use Rattle.texture_build.specs.Views.{TexturesView}
 use Rattle.art_rules.specs.declared.shapes.Frame.{Frame}
-use Rattle.art_rules.specs.Books.{book_lumps}
 use Rattle.scene_rules.specs.declared.ZoneSizes.{ZoneSizes}
-use Rattle.scene_rules.specs.Scenes.{SceneValue}
-use Rattle.scene_rules.specs.Sizes.{SceneArt, needed_lumps, zone_sizes}
 
 -- the scene, the lumps that it needs, and how large a zone has to be for them
 pub record SoundValue : Type 0 where

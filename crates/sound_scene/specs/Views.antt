@@ -1,6 +1,6 @@
 -- What a contract sees of the art of a scene.
 use Rattle.std.specs.Prelude.{◌≡◌, ℕ, ◌<◌, ◌||◌, Bool, List, length, map}
-use Rattle.lump_rules.specs.declared.wad.LumpNo.{LumpNo}
+use Rattle.art_rules.specs.Words.{LumpNo}
 use Rattle.texture_build.specs.Views.{is_marked}
 
 -- the numbers of lumps

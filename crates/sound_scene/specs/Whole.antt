@@ -1,17 +1,8 @@
 -- What drawing asks of a scene that passed its audit, whatever the bytes of its lumps were.
 use Rattle.std.specs.Prelude.{◌≡◌, ◌<◌, ◌≤◌, ◌⊎◌, ℕ, List, length, All, IfSome, IsSome, Ok}
-use Rattle.lump_rules.specs.declared.wad.Lump.{Lump}
-use Rattle.level_rules.specs.declared.Seg.{Seg}
-use Rattle.level_rules.specs.declared.SideTextures.{SideTextures}
-use Rattle.level_rules.specs.declared.ThingLine.{ThingLine}
+use Rattle.art_rules.specs.Words.{book_lumps, Lump, mask_of, PreparedTexture, single_place}
+use Rattle.scene_rules.specs.Words.{faces_in, middle_of, placed_things, SceneValue, Seg, SideTextures, ThingLine}
 use Rattle.art_rules.specs.declared.TheConstants.{MAX_TEXTURES}
-use Rattle.art_rules.specs.Textures.{mask_of}
-use Rattle.art_rules.specs.Lookups.{single_place}
-use Rattle.art_rules.specs.Wanted.{PreparedTexture}
-use Rattle.art_rules.specs.Books.{book_lumps}
-use Rattle.scene_rules.specs.Middles.{middle_of}
-use Rattle.scene_rules.specs.Places.{placed_things}
-use Rattle.scene_rules.specs.Scenes.{SceneValue, faces_in}
 use Rattle.texture_build.specs.Sources.{own_lookup}
 use Rattle.texture_build.specs.Views.{TexturesView, AllTexturesListed, AllThere, IsPrepared, prepared_texture}
 use Rattle.level_scene.specs.Bounds.{AreBelow, AreThere}

@@ -15,10 +15,9 @@ mod parts;
 mod sizes;
 mod sound;
 
-pub use level_rules::{PlacedThing, SideTextures, Surface};
 pub use marks::Marks;
 pub use needed::{mark_flats, mark_lumps};
 pub use needs::{Needed, find_needed};
 pub use parts::{ReadBase, ReadFaces, ReadScene};
-pub use scene_rules::{Flat, SectorFlats, ZoneSizes};
+pub use scene_rules::{Flat, PlacedThing, SectorFlats, SideTextures, Surface, ZoneSizes};
 pub use sound::SoundScene;

@@ -6,10 +6,10 @@ ghost use Rattle.std.specs.List.{range_with_len};
 ghost use Rattle.texture_build.specs.Views.{is_marked};
 ghost use Rattle.sound_scene.specs.Views.{AddsMarks, lump_numbers};
 
-use outside::OutOfMemory;
+use art_rules::OutOfMemory;
 use std::alloc::Global;
 use std::marker::Model;
-use wad_dir::LumpNo;
+use texture_build::LumpNo;
 
 /// A mark for each number below a count. Contracts see the list of marks.
 ///

@@ -3,22 +3,16 @@
 // Rules: `scene_rules`, Sizes. The original: `R_PrecacheLevel`, r_data.c.
 ghost use Rattle.std.specs.Prelude.{◌≡◌, ◌≤◌, ◌==◌, length, IfOk};
 ghost use Rattle.std.specs.List.{list_any};
-ghost use Rattle.lump_rules.specs.declared.wad.TheConstants.{MAX_LUMPS};
-ghost use Rattle.level_rules.specs.declared.TheConstants.{SKY_FLAT};
-ghost use Rattle.art_rules.specs.Wanted.{is_patch_of_any};
-ghost use Rattle.scene_rules.specs.SectorFlats.{flat_number};
-ghost use Rattle.scene_rules.specs.Sizes.{has_flat, is_last, is_list, is_map_lump, is_needed, needed_lumps};
+ghost use Rattle.art_rules.specs.Words.{is_patch_of_any, MAX_LUMPS};
+ghost use Rattle.scene_rules.specs.Words.{flat_number, has_flat, is_last, is_list, is_map_lump, is_needed, needed_lumps, SKY_FLAT};
 ghost use Rattle.sound_scene.specs.Views.{AddsMarks, lump_numbers};
 
 use crate::marks::Marks;
-use art_rules::{PNAMES, TEXTURE1, TEXTURE2};
-use lump_rules::{MAP_LUMP_COUNT, Name8};
-use outside::OutOfMemory;
+use art_rules::{MAP_LUMP_COUNT, Name8, OutOfMemory, PNAMES, TEXTURE1, TEXTURE2};
 use scene_rules::{Flat, SectorFlats};
 use std::alloc::Global;
 use std::marker::Model;
-use texture_build::Textures;
-use wad_dir::{Directory, LumpNo};
+use texture_build::{Directory, LumpNo, Textures};
 
 /// What a scene takes from the directory: its lumps of colours, the label of its map, its prepared
 /// textures, the flats of its sectors, and the lumps of its pictures. Contracts see their numbers, the
@@ -36,7 +30,7 @@ pub struct NeededArt<'a> {
 }
 
 impl<'a> Model for NeededArt<'a> {
-    ghost use Rattle.scene_rules.specs.Sizes.{SceneArt};
+    ghost use Rattle.scene_rules.specs.Words.{SceneArt};
     ghost use Rattle.sound_scene.specs.Views.{lump_numbers};
 
     ghost Value = { SceneArt };

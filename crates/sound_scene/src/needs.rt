@@ -2,7 +2,7 @@
 //
 // Rules: `scene_rules`, Sizes. The original: `R_PrecacheLevel`, r_data.c, which reads them.
 ghost use Rattle.std.specs.Prelude.{◌≡◌, ◌<◌, length, IfOk};
-ghost use Rattle.scene_rules.specs.Sizes.{needed_lumps, zone_sizes};
+ghost use Rattle.scene_rules.specs.Words.{needed_lumps, zone_sizes};
 ghost use Rattle.sound_scene.specs.Views.{lump_numbers};
 ghost use Rattle.sound_scene.specs.Scenes.{scene_value};
 ghost use Rattle.sound_scene.specs.Sound.{art_with};
@@ -10,10 +10,10 @@ ghost use Rattle.sound_scene.specs.Sound.{art_with};
 use crate::needed::{NeededArt, needed_lumps};
 use crate::parts::ReadScene;
 use crate::sizes::zone_sizes;
-use outside::OutOfMemory;
+use art_rules::OutOfMemory;
 use scene_rules::ZoneSizes;
 use std::alloc::Global;
-use wad_dir::{Directory, LumpNo};
+use texture_build::{Directory, LumpNo};
 
 /// The numbers of the lumps that are needed, ascending, and the sizes of a zone for them, in bytes.
 ///

@@ -2,12 +2,10 @@
 //
 // Rules: `scene_rules`, Scenes; `specs/Bases` and `specs/Scenes`. The original: the globals of
 // p_setup.c and r_data.c.
-use level_rules::SideTextures;
 use level_scene::{Level, PlacedThings};
-use scene_rules::SectorFlats;
+use scene_rules::{SectorFlats, SideTextures};
 use sprite_book::SpriteBook;
-use texture_build::{TexNo, Textures};
-use wad_dir::LumpNo;
+use texture_build::{LumpNo, TexNo, Textures};
 
 /// What a level stands on: the lumps of colours, the first palette, the label of the map, the level,
 /// and the lists of textures, none of which is prepared yet.

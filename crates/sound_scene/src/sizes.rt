@@ -3,17 +3,13 @@
 // Rules: `scene_rules`, Sizes. The original: `Z_Init`, z_zone.c, which takes what it gets.
 ghost use Rattle.std.specs.Prelude.{◌≡◌, ◌+◌, ◌<◌, ◌≤◌, ◌^◌, All, length, max, sum_by};
 ghost use Rattle.std.specs.List.Sorted.{IsStrictlyIncreasing};
-ghost use Rattle.zone_rules.specs.declared.TheConstants.{HEADER_SIZE, WORD_SIZE};
-ghost use Rattle.zone_rules.specs.Zones.{block_size};
+ghost use Rattle.scene_rules.specs.Words.{block_or_none, block_size, composite_block, greatest_by, HEADER_SIZE, lump_block, needed_lumps, WORD_SIZE, zone_sizes};
 ghost use Rattle.texture_build.specs.Views.{prepared_at};
-ghost use Rattle.scene_rules.specs.Sizes.{block_or_none, composite_block, greatest_by, lump_block, needed_lumps, zone_sizes};
 ghost use Rattle.sound_scene.specs.Views.{lump_numbers};
 
 use crate::needed::NeededArt;
-use scene_rules::ZoneSizes;
-use texture_build::{TexNo, Textures};
-use wad_dir::{Directory, LumpNo};
-use zone_rules::{HEADER_SIZE, MIN_FRAGMENT, WORD_SIZE};
+use scene_rules::{HEADER_SIZE, MIN_FRAGMENT, WORD_SIZE, ZoneSizes};
+use texture_build::{Directory, LumpNo, TexNo, Textures};
 
 /// How large a zone has to be, in bytes, for a scene that needs these lumps: with `enough` COLORMAP
 /// stands beside the greatest composite and two further lumps, each block with up to the 64 bytes that

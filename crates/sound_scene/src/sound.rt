@@ -4,25 +4,20 @@
 // and r_data.c.
 ghost use Rattle.std.specs.Prelude.{◌≡◌, ◌<◌, length, map, option_map, IfOk};
 ghost use Rattle.scene_rules.specs.declared.TheConstants.{PALETTE_SIZE};
-ghost use Rattle.scene_rules.specs.Places.{sector_at, things_of};
-ghost use Rattle.scene_rules.specs.Scenes.{art_of, sizes_of};
-ghost use Rattle.scene_rules.specs.SectorFlats.{surfaces_of};
-ghost use Rattle.scene_rules.specs.Sizes.{needed_lumps};
+ghost use Rattle.scene_rules.specs.Words.{art_of, needed_lumps, sector_at, sizes_of, surfaces_of, things_of};
 ghost use Rattle.sound_scene.specs.Views.{lump_numbers};
 ghost use Rattle.sound_scene.specs.Scenes.{scene_value};
 ghost use Rattle.sound_scene.specs.Sound.{middles_of, textures_view};
 
 use crate::needs::{Needed, find_needed};
 use crate::parts::ReadScene;
-use level_rules::{PlacedThing, SideTextures, Surface};
+use art_rules::OutOfMemory;
 use level_scene::{Level, make_surfaces, sector_at};
-use outside::OutOfMemory;
-use scene_rules::{SectorFlats, ZoneSizes};
+use scene_rules::{PlacedThing, SectorFlats, SideTextures, Surface, ZoneSizes};
 use sprite_book::SpriteBook;
 use std::alloc::Global;
 use std::marker::Model;
-use texture_build::{TexNo, Textures};
-use wad_dir::{Directory, LumpNo};
+use texture_build::{Directory, LumpNo, TexNo, Textures};
 
 /// A scene that passed its audit, with what the drawing layers borrow of it. Contracts see the scene,
 /// the numbers of the lumps that it needs, and how large a zone has to be for them.
@@ -39,7 +34,7 @@ pub struct SoundScene {
 impl Model for SoundScene {
     ghost use Rattle.std.specs.Prelude.{◌≡◌, length};
     ghost use Rattle.scene_rules.specs.declared.TheConstants.{PALETTE_SIZE};
-    ghost use Rattle.scene_rules.specs.SectorFlats.{surfaces_of};
+    ghost use Rattle.scene_rules.specs.Words.{surfaces_of};
     ghost use Rattle.sound_scene.specs.Scenes.{scene_value};
     ghost use Rattle.sound_scene.specs.Views.{lump_numbers};
     ghost use Rattle.sound_scene.specs.Sound.{SoundValue, middles_of};

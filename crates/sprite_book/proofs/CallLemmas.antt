@@ -1,19 +1,14 @@
 -- One call after another, by what is told of each and what was read so far.
-use Rattle.word_rules.proofs.Common.{ap, Err, err_from_is_err_and, IfErr, IfOk, IfSome, IsErrAnd, List, MatchResult, None, Ok, Option, refl, replicate, Result, slice_index_or, Some, subst, suc, sym, zero, ℕ, ◌∙◌, ◌≡◌}
-use Rattle.outside.specs.Shelf.{ShelfView}
-use Rattle.outside.specs.Faults.{FaultFits, HasCauseAt, itself}
-use Rattle.zone_rules.specs.Zones.{Heap}
-use Rattle.zone_rules.specs.Orders.{KeepsOrder}
+use Rattle.art_rules.proofs.Common.{ap, Err, err_from_is_err_and, IfErr, IfOk, IfSome, IsErrAnd, List, MatchResult, None, Ok, Option, refl, replicate, Result, slice_index_or, Some, subst, suc, sym, zero, ℕ, ◌∙◌, ◌≡◌}
+use Rattle.art_rules.specs.Words.{Fault, FaultFits, HasCauseAt, itself, lump_bytes, OutOfMemory, patch_of, Refused, ShelfView}
+use Rattle.lump_cache.specs.Zones.{Heap}
+use Rattle.lump_cache.specs.Orders.{KeepsOrder}
 use Rattle.zone_rules.proofs.OrderLemmas.{order_none, order_then}
-use Rattle.lump_rules.specs.Contents.{lump_bytes}
-use Rattle.wad_dir.specs.DirectoryView.{DirectoryView}
+use Rattle.lump_cache.specs.DirectoryView.{DirectoryView}
 use Rattle.art_rules.specs.declared.patch.Patch.{Patch}
 use Rattle.art_rules.specs.declared.refusal.SpriteRefusal.{SpriteRefusal}
-use Rattle.art_rules.specs.Patches.{patch_of}
 use Rattle.lump_cache.specs.Calls.{ReadsLumps, PreservesCache, IsFullFor, IfFull, InOrderAt}
 use Rattle.lump_cache.proofs.CallLemmas.{keeps_none, keeps_then, told_later, full_for_earlier, cause_later, full_at, order_at, reads_at}
-use Rattle.outside.specs.declared.fault.Fault.{Fault}
-use Rattle.outside.specs.declared.fault.Fault.TheVariants.{Refused, OutOfMemory}
 use Rattle.sprite_book.specs.Calls.{Reads, HoldContentsWith, ArePatchesOf}
 
 -- the contents are told later too

@@ -1,22 +1,15 @@
 -- The shapes of a frame, one picture after another, and the lumps of its pictures.
-use Rattle.word_rules.proofs.Common.{[], All, All-append, All-cons, All-head, All-nil, All-tail, ap, Bool, cond, drop, drop-cons, Err, false, get_or, length, List, map, map-append, None, Ok, ok_or, Option, range_with_len, refl, Result, Some, subst, suc, sym, take, take-append-drop, take_more, take_more_set, true, ℕ, ◌++◌, ◌+◌, ◌-◌, ◌<◌, ◌==◌, ◌∙◌, ◌∷◌, ◌≡◌}
+use Rattle.art_rules.proofs.Common.{[], All, All-append, All-cons, All-head, All-nil, All-tail, ap, Bool, cond, drop, drop-cons, Err, false, get_or, length, List, map, map-append, None, Ok, ok_or, Option, range_with_len, refl, Result, Some, subst, suc, sym, take, take-append-drop, take_more, take_more_set, true, ℕ, ◌++◌, ◌+◌, ◌-◌, ◌<◌, ◌==◌, ◌∙◌, ◌∷◌, ◌≡◌}
 use Rattle.std.proofs.Math.ListN.{set}
-use Rattle.outside.specs.Faults.{and_then}
-use Rattle.word_rules.specs.Least.{or_else}
-use Rattle.word_rules.specs.Listed.{joined_lists}
-use Rattle.lump_rules.specs.declared.wad.Lump.{Lump}
-use Rattle.lump_rules.specs.declared.names.Group.TheVariants.{Sprites}
-use Rattle.lump_rules.specs.Lookups.{members, lump_at}
+use Rattle.art_rules.specs.Words.{and_then, each_of, frame_in, frame_of, frame_picture, is_of_frame, is_of_rotation, is_of_sprite, is_pair, joined_lists, last_mention, last_that, Lump, lump_at, lump_mentions, members, mention_at, mention_outline, mentions, name_mentions, or_else, Outline, outline, outline_in, outline_of, patch_or_bad, picture_by, picture_if, picture_or_missing, pictures_of, shape_in, shape_of, shape_outline, Sprites}
 use Rattle.art_rules.specs.declared.Mention.{Mention}
 use Rattle.art_rules.specs.declared.patch.Patch.{Patch}
 use Rattle.art_rules.specs.declared.TheConstants.{SPRITE_LETTERS, SECOND_PAIR_AT}
 use Rattle.art_rules.specs.declared.refusal.SpriteRefusal.{SpriteRefusal}
 use Rattle.art_rules.specs.declared.refusal.SpriteRefusal.TheVariants.{MissingRotation}
-use Rattle.art_rules.specs.Frames.{mentions, lump_mentions, name_mentions, mention_at, is_pair, is_of_sprite, last_that, is_of_frame, is_of_rotation, frame_picture, picture_if, picture_by}
 use Rattle.art_rules.specs.declared.shapes.Need.{Need}
 use Rattle.art_rules.specs.declared.shapes.Shape.{Shape}
 use Rattle.art_rules.specs.declared.shapes.Frame.{Frame}
-use Rattle.art_rules.specs.Books.{each_of, last_mention, picture_or_missing, pictures_of, patch_or_bad, shape_in, shape_of, frame_in, frame_of, shape_outline, mention_outline, outline, outline_in, outline_of, Outline}
 use Rattle.art_rules.proofs.EachLemmas.{each_of-push, each_of-stop}
 use Rattle.sprite_book.proofs.MentionLemmas.{members_below}
 

@@ -1,15 +1,9 @@
 -- The last mention of a list, and an index of mentions as it grows.
-use Rattle.word_rules.proofs.Common.{[], All, All-filter, All-from_get_or, All-get_or, ap, append-nil, arith, Bool, bytes_eq, cases_eq, cases_lt, cond, eq-eqb, Equal, false, get, get_or, get_or-range_with_len, Greater, inl, inr, is_at, is_eq, is_eq-slice_cmp, IsEmpty, length, length-map, length-range_with_len, Less, List, lookup, map, nat_cmp, nat_cmp_is, ne_eqb, None, Option, Ordering, ordering_then, range_with_len, refl, slice_cmp, Some, subst, sym, take, take-length, take_more, true, Updates, ℕ, ◌&&◌, ◌++◌, ◌+◌, ◌<◌, ◌==◌, ◌∙◌, ◌∷◌, ◌≡◌}
+use Rattle.art_rules.proofs.Common.{[], All, All-filter, All-from_get_or, All-get_or, ap, append-nil, arith, Bool, bytes_eq, cases_eq, cases_lt, cond, eq-eqb, Equal, false, get, get_or, get_or-range_with_len, Greater, inl, inr, is_at, is_eq, is_eq-slice_cmp, IsEmpty, length, length-map, length-range_with_len, Less, List, lookup, map, nat_cmp, nat_cmp_is, ne_eqb, None, Option, Ordering, ordering_then, range_with_len, refl, slice_cmp, Some, subst, sym, take, take-length, take_more, true, Updates, ℕ, ◌&&◌, ◌++◌, ◌+◌, ◌<◌, ◌==◌, ◌∙◌, ◌∷◌, ◌≡◌}
 use Rattle.std.proofs.Math.ListN.{get_or-map}
-use Rattle.word_rules.specs.Least.{or_else}
-use Rattle.word_rules.specs.Listed.{joined_lists}
-use Rattle.word_rules.proofs.ListedLemmas.{joined_lists-append}
-use Rattle.lump_rules.specs.declared.wad.LumpNo.{LumpNo}
-use Rattle.lump_rules.specs.declared.wad.Lump.{Lump}
-use Rattle.lump_rules.specs.declared.names.Group.TheVariants.{Sprites}
-use Rattle.lump_rules.specs.Lookups.{members, is_member, lump_at}
+use Rattle.art_rules.specs.Words.{is_member, is_of_frame, is_of_rotation, is_of_sprite, joined_lists, last_that, Lump, lump_at, lump_mentions, LumpNo, members, mentions, name_mentions, or_else, Sprites}
+use Rattle.art_rules.proofs.Laws.{joined_lists-append}
 use Rattle.art_rules.specs.declared.Mention.{Mention}
-use Rattle.art_rules.specs.Frames.{last_that, is_of_frame, is_of_rotation, mentions, lump_mentions, name_mentions, is_of_sprite}
 use Rattle.sprite_book.specs.declared.mentions.Mentions.{Mentions}
 use Rattle.sprite_book.specs.Indexes.{IsIndexOf, frame_cmp, turned_cmp}
 

@@ -1,13 +1,10 @@
 -- Needs of different frames, as a loop goes over them.
-use Rattle.word_rules.proofs.Common.{[], and_parts, ap, append-nil, Bool, bytes_eq, bytes_eq-Decides, cond, Contains-get_or, drop, eqb-true, Err, false, filter, filter-append, get_or, is_some, is_some-false, length, List, list_any, map, None, not, Ok, Option, position_from, refl, Result, Some, suc, sym, take, take_more, true, ℕ, ◌&&◌, ◌++◌, ◌+◌, ◌<◌, ◌==◌, ◌||◌, ◌∙◌, ◌∷◌, ◌≡◌}
+use Rattle.art_rules.proofs.Common.{[], and_parts, ap, append-nil, Bool, bytes_eq, bytes_eq-Decides, cond, Contains-get_or, drop, eqb-true, Err, false, filter, filter-append, get_or, is_some, is_some-false, length, List, list_any, map, None, not, Ok, Option, position_from, refl, Result, Some, suc, sym, take, take_more, true, ℕ, ◌&&◌, ◌++◌, ◌+◌, ◌<◌, ◌==◌, ◌||◌, ◌∙◌, ◌∷◌, ◌≡◌}
 use Rattle.art_rules.specs.declared.Mention.{Mention}
-use Rattle.art_rules.specs.Frames.{mentions}
-use Rattle.outside.specs.Faults.{and_then}
+use Rattle.art_rules.specs.Words.{and_then, each_of, first_needs, is_frame, Lump, mention_outline, mentions, Outline, outline, outline_in, outline_of, pictures_of, same_frame}
 use Rattle.art_rules.specs.declared.refusal.SpriteRefusal.{SpriteRefusal}
-use Rattle.lump_rules.specs.declared.wad.Lump.{Lump}
 use Rattle.art_rules.specs.declared.shapes.Need.{Need}
 use Rattle.art_rules.specs.declared.shapes.Frame.{Frame}
-use Rattle.art_rules.specs.Books.{each_of, first_needs, same_frame, is_frame, outline, outline_of, outline_in, pictures_of, mention_outline, Outline}
 use Rattle.art_rules.proofs.EachLemmas.{each_of-push, each_of-stop}
 use Rattle.sprite_book.specs.Calls.{IsWanted, IsWantedBy}
 use Rattle.sprite_book.proofs.FrameLemmas.{split_at}

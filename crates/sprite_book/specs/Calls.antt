@@ -1,21 +1,14 @@
 -- Calls that read sprite lumps: which they may ask for, and which patches were read so far.
 use Rattle.std.specs.Prelude.{◌≡◌, ◌≤◌, ℕ, List, length, Option, Some, None, IfSome, IfErr, MatchResult, Result, Ok, Contains, slice_index_or}
-use Rattle.outside.specs.Shelf.{ShelfView}
-use Rattle.outside.specs.Faults.{ResultIs, HasCauses, itself}
-use Rattle.zone_rules.specs.Zones.{Heap}
-use Rattle.zone_rules.specs.Orders.{Item, IsInOrder, KeepsOrder}
-use Rattle.lump_rules.specs.declared.wad.Lump.{Lump}
-use Rattle.lump_rules.specs.Contents.{lump_bytes}
-use Rattle.wad_dir.specs.DirectoryView.{DirectoryView}
+use Rattle.art_rules.specs.Words.{Fault, HasCauses, itself, Lump, lump_bytes, mentions, patch_of, pictures_of, ResultIs, ShelfView}
+use Rattle.lump_cache.specs.Zones.{Heap}
+use Rattle.lump_cache.specs.Orders.{Item, IsInOrder, KeepsOrder}
+use Rattle.lump_cache.specs.DirectoryView.{DirectoryView}
 use Rattle.art_rules.specs.declared.Mention.{Mention}
 use Rattle.art_rules.specs.declared.patch.Patch.{Patch}
 use Rattle.art_rules.specs.declared.refusal.SpriteRefusal.{SpriteRefusal}
-use Rattle.art_rules.specs.Patches.{patch_of}
-use Rattle.art_rules.specs.Frames.{mentions}
 use Rattle.lump_cache.specs.Calls.{PreservesCache, HoldContents, IsFullFor, IfFull, LeavesInOrder, HasAll}
-use Rattle.outside.specs.declared.fault.Fault.{Fault}
 use Rattle.art_rules.specs.declared.shapes.Need.{Need}
-use Rattle.art_rules.specs.Books.{pictures_of}
 
 -- for each of so many lumps there is a slot of the cache, and a place for its patch
 abbrev pub HavePlaces : ℕ → ℕ → ℕ → Type 0

@@ -7,10 +7,9 @@ use Rattle.std.specs.declared.cmp.Ordering.{Ordering}
 use Rattle.std.specs.Cmp.Lexicographic.{slice_cmp}
 use Rattle.std.specs.BTreeMap.{BTreeMap, get}
 use Rattle.art_rules.specs.declared.Mention.{Mention}
-use Rattle.art_rules.specs.Frames.{last_that, is_of_frame, is_of_rotation}
+use Rattle.art_rules.specs.Words.{book_lumps, is_frame, is_of_frame, is_of_rotation, last_that}
 use Rattle.sprite_book.specs.declared.mentions.Mentions.{Mentions}
 use Rattle.art_rules.specs.declared.shapes.Frame.{Frame}
-use Rattle.art_rules.specs.Books.{is_frame, book_lumps}
 
 -- how keys are ordered: by letters, then by frame, then by rotation
 abbrev pub frame_cmp : (List ℕ × ℕ) → (List ℕ × ℕ) → Ordering

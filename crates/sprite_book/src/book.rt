@@ -1,19 +1,14 @@
 // A book of frames.
-ghost use Rattle.art_rules.specs.Books.{book_of, outlines_of, outline, frame_of, outline_of, each_of, first_needs, picked, book_lumps};
-ghost use Rattle.art_rules.specs.Frames.{mentions};
+ghost use Rattle.art_rules.specs.Words.{AllWithin, book_lumps, book_of, each_of, first_needs, frame_of, HasCauses, IsLaterShelf, itself, lump_at, mentions, NameFiles, outline, outline_of, outlines_of, picked, ResultIs};
 ghost use Rattle.art_rules.specs.declared.shapes.Frame.{Frame};
 ghost use Rattle.lump_cache.specs.Caches.{IsFaithful, IsAtRest, KeepsCounts, lump_owner, composite_owner};
 ghost use Rattle.lump_cache.specs.Calls.{ReadsLumps, IfFull, LeavesInOrder};
-ghost use Rattle.lump_rules.specs.Contents.{AllWithin};
-ghost use Rattle.lump_rules.specs.Lookups.{lump_at};
-ghost use Rattle.outside.specs.Faults.{ResultIs, HasCauses, itself};
-ghost use Rattle.outside.specs.Shelf.{IsLaterShelf, NameFiles};
 ghost use Rattle.sprite_book.specs.Calls.{IsWanted};
 ghost use Rattle.sprite_book.specs.Indexes.{IsPlaceOf};
 ghost use Rattle.std.specs.List.Sorted.{IsStrictlyIncreasing};
 ghost use Rattle.std.specs.Prelude.{◌≡◌, ◌<◌, ◌≤◌, ◌+◌, ◌↔◌, true, ℕ, List, length, map, All, Contains, Option, Some, Ok, IfOk, IfErr, IfSome};
-ghost use Rattle.zone_rules.specs.Orders.{Item, has_item, IsInOrder};
-ghost use Rattle.zone_rules.specs.Zones.{block_size, bytes_of};
+ghost use Rattle.lump_cache.specs.Orders.{Item, has_item, IsInOrder};
+ghost use Rattle.lump_cache.specs.Zones.{block_size, bytes_of};
 ghost use Rattle.zone_rules.specs.declared.TheConstants.{MIN_FRAGMENT};
 
 use crate::fault::SpriteFault;
@@ -21,12 +16,10 @@ use crate::list::{FrameList, list_pictures};
 use crate::mentions::index_mentions;
 use crate::needs::read_list;
 use crate::{Need, Shape};
-use art_rules::{ROTATIONS, SPRITE_LETTERS};
-use lump_cache::LumpCache;
-use outside::{OutOfMemory, Shelf};
+use art_rules::{OutOfMemory, ROTATIONS, SPRITE_LETTERS, Shelf};
+use lump_cache::{Directory, LumpCache, LumpNo};
 use std::alloc::Global;
 use std::marker::Model;
-use wad_dir::{Directory, LumpNo};
 
 /// The frames that things need, each with its shapes from the eight rotations. Contracts see them
 /// as a list, in the order in which they are first needed.

@@ -1,15 +1,15 @@
 // The frames of a book, and the lumps of their shapes.
 ghost use Rattle.std.specs.Prelude.{◌≡◌, ◌<◌, ◌++◌, ◌∷◌, [], map, is_some, slice_get, None, IfOk, OnOk};
 ghost use Rattle.std.specs.List.{position_from};
-ghost use Rattle.art_rules.specs.Books.{is_frame, picked, book_lumps};
+ghost use Rattle.art_rules.specs.Words.{book_lumps, is_frame, picked};
 ghost use Rattle.sprite_book.specs.Indexes.{IsPlaceOf, ArePictures};
 
 use crate::mentions::Letters;
 use crate::{Frame, Need, Shape};
-use outside::OutOfMemory;
+use art_rules::OutOfMemory;
+use lump_cache::LumpNo;
 use std::alloc::Global;
 use std::collections::BTreeMap;
-use wad_dir::LumpNo;
 
 /// Frames in the order in which they were added, and the place of each.
 #[derive(Drop)]

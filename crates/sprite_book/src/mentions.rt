@@ -3,17 +3,16 @@ ghost use Rattle.std.specs.Prelude.{◌≡◌, ◌==◌, ◌+◌, ◌<◌, ◌++
 ghost use Rattle.std.specs.Option.{option_to_list};
 ghost use Rattle.std.specs.Str.{bytes_eq};
 ghost use Rattle.art_rules.specs.declared.Mention.{Mention};
-ghost use Rattle.art_rules.specs.Frames.{is_pair, mention_at, name_mentions, is_of_sprite, mentions};
+ghost use Rattle.art_rules.specs.Words.{is_of_sprite, is_pair, mention_at, mentions, name_mentions};
 ghost use Rattle.sprite_book.specs.Indexes.{IsIndexOf};
 
 use art_rules::{
-    FIRST_FRAME, FIRST_ROTATION, LAST_FRAME, LAST_ROTATION, Mention, SECOND_PAIR_AT, SPRITE_LETTERS,
+    FIRST_FRAME, FIRST_ROTATION, LAST_FRAME, LAST_ROTATION, Mention, OutOfMemory, SECOND_PAIR_AT,
+    SPRITE_LETTERS,
 };
-use lump_rules::NAME_SIZE;
-use outside::OutOfMemory;
+use lump_cache::{Directory, NAME_SIZE};
 use std::alloc::Global;
 use std::collections::BTreeMap;
-use wad_dir::Directory;
 
 /// The letters of a sprite.
 pub type Letters = [u8; SPRITE_LETTERS];

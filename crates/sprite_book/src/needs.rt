@@ -1,10 +1,8 @@
 // The frames that are needed, one after another.
-ghost use Rattle.outside.specs.Faults.{itself};
+ghost use Rattle.art_rules.specs.Words.{each_of, first_needs, frame_of, itself, mentions, outline, outline_of};
 ghost use Rattle.std.specs.Prelude.{◌≡◌, ◌≤◌, [], length, map, replicate, Option, None, Ok, IfOk, OnOk};
 ghost use Rattle.art_rules.specs.declared.patch.Patch.{Patch};
-ghost use Rattle.art_rules.specs.Frames.{mentions};
 ghost use Rattle.lump_cache.specs.Calls.{ReadsLumps};
-ghost use Rattle.art_rules.specs.Books.{frame_of, outline, outline_of, each_of, first_needs};
 ghost use Rattle.sprite_book.specs.Calls.{HavePlaces, Reads, IsWanted};
 ghost use Rattle.sprite_book.specs.Indexes.{IsIndexOf, IsPlaceOf};
 
@@ -13,11 +11,9 @@ use crate::fault::SpriteFault;
 use crate::list::FrameList;
 use crate::mentions::Mentions;
 use crate::read::read_frame;
-use art_rules::Patch;
-use lump_cache::LumpCache;
-use outside::{OutOfMemory, Shelf};
+use art_rules::{OutOfMemory, Patch, Shelf};
+use lump_cache::{Directory, LumpCache};
 use std::alloc::Global;
-use wad_dir::Directory;
 
 // The needed frames.
 pub fn read_list<S: Shelf>(

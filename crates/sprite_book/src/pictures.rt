@@ -2,8 +2,7 @@
 ghost use Rattle.std.specs.Prelude.{◌≡◌, ◌<◌, ◌+◌, ◌*◌, ◌^◌, ◌-◌, List, ℕ, length, Some, MatchResult, Ok, Err};
 ghost use Rattle.std.specs.List.{range_with_len};
 ghost use Rattle.art_rules.specs.declared.Mention.{Mention};
-ghost use Rattle.art_rules.specs.Frames.{frame_picture, last_that, is_of_frame};
-ghost use Rattle.art_rules.specs.Books.{pictures_of, picture_or_missing, last_mention, each_of};
+ghost use Rattle.art_rules.specs.Words.{each_of, frame_picture, is_of_frame, last_mention, last_that, picture_or_missing, pictures_of};
 ghost use Rattle.sprite_book.specs.Indexes.{IsIndexOf};
 
 use crate::Need;

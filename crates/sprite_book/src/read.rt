@@ -1,14 +1,11 @@
 // The shapes of a frame, read from its lumps.
-ghost use Rattle.outside.specs.Faults.{itself};
+ghost use Rattle.art_rules.specs.Words.{each_of, frame_of, itself, mention_outline, mentions, outline, outline_of, patch_of, patch_or_bad, shape_in, shape_of, shape_outline};
 ghost use Rattle.std.specs.Prelude.{◌≡◌, ◌<◌, ◌≤◌, length, map, All, Option, Some, Ok, IfOk, OnOk};
 ghost use Rattle.std.specs.Option.{option_and_then};
-ghost use Rattle.zone_rules.specs.Zones.{bytes_of};
+ghost use Rattle.lump_cache.specs.Zones.{bytes_of};
 ghost use Rattle.art_rules.specs.declared.patch.Patch.{Patch};
-ghost use Rattle.art_rules.specs.Patches.{patch_of};
-ghost use Rattle.art_rules.specs.Frames.{mentions};
 ghost use Rattle.lump_cache.specs.Caches.{lump_owner};
 ghost use Rattle.lump_cache.specs.Calls.{ReadsLumps};
-ghost use Rattle.art_rules.specs.Books.{patch_or_bad, shape_in, shape_of, each_of, frame_of, shape_outline, mention_outline, outline, outline_of};
 ghost use Rattle.sprite_book.specs.Calls.{HavePlaces, Reads, IsLumpOf, IsWantedBy};
 ghost use Rattle.sprite_book.specs.Indexes.{IsIndexOf};
 
@@ -16,10 +13,8 @@ use crate::fault::SpriteFault;
 use crate::mentions::Mentions;
 use crate::pictures::find_pictures;
 use crate::{Frame, Need, Shape};
-use art_rules::{Mention, Patch, ROTATIONS, SpriteRefusal};
-use lump_cache::{LumpCache, fetch_live};
-use outside::Shelf;
-use wad_dir::{Directory, LumpNo};
+use art_rules::{Mention, Patch, ROTATIONS, Shelf, SpriteRefusal};
+use lump_cache::{Directory, LumpCache, LumpNo, fetch_live};
 
 // What stands in the place of a shape that is not read yet.
 const NO_SHAPE: Shape = Shape {

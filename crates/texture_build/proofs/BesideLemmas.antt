@@ -1,9 +1,6 @@
 -- Laws of `FitBeside`: none, one list after the other, and the dots of a column by one painter.
 use Rattle.std.proofs.Common.{◌≡◌, ℕ, List, [], ◌∷◌, ◌++◌, subst}
-use Rattle.lump_rules.specs.declared.wad.Lump.{Lump}
-use Rattle.pixel_rules.specs.declared.Painter.{Painter}
-use Rattle.pixel_rules.specs.Dots.{Dot}
-use Rattle.pixel_rules.specs.Strips.{column_dots}
+use Rattle.art_rules.specs.Words.{column_dots, Dot, Lump, Painter}
 use Rattle.texture_build.specs.Views.{TexturesView}
 use Rattle.texture_build.specs.Draws.{FitsBeside, FitBeside}
 

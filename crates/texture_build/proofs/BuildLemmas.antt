@@ -1,23 +1,18 @@
 -- The steps by which a composite is built, one after another.
-use Rattle.word_rules.proofs.Common.{[], ap, arith, Contains, Err, err_from_is_err_and, false, IfErr, IsErrAnd, List, MatchResult, Ok, refl, Result, subst, sym, ℕ, ◌+◌, ◌<◌, ◌∙◌, ◌∷◌, ◌≡◌, ◌≤◌}
-use Rattle.outside.specs.Causes.{FaultsRose}
-use Rattle.outside.specs.Shelf.{ShelfView}
-use Rattle.outside.specs.Faults.{ResultIs, HasCauses}
-use Rattle.outside.proofs.ShelfLemmas.{follows_none, follows_then, all_stand_later}
-use Rattle.lump_rules.specs.declared.wad.Lump.{Lump}
-use Rattle.lump_rules.specs.Lookups.{lump_at}
-use Rattle.zone_rules.specs.Zones.{Owner, Heap, owned_block, block_size, same_owner}
-use Rattle.zone_rules.specs.Orders.{Item, KeepsOrder}
-use Rattle.zone_rules.proofs.GapLemmas.{small_all}
+use Rattle.art_rules.proofs.Common.{[], ap, arith, Contains, Err, err_from_is_err_and, false, IfErr, IsErrAnd, List, MatchResult, Ok, refl, Result, subst, sym, ℕ, ◌+◌, ◌<◌, ◌∙◌, ◌∷◌, ◌≡◌, ◌≤◌}
+use Rattle.art_rules.specs.Words.{FaultsRose, HasCauses, Lump, lump_at, PreparedTexture, ResultIs, ShelfView}
+use Rattle.art_rules.proofs.Laws.{all_stand_later, follows_none, follows_then}
+use Rattle.lump_cache.specs.Zones.{Owner, Heap, owned_block, block_size, same_owner}
+use Rattle.lump_cache.specs.Orders.{Item, KeepsOrder}
+use Rattle.lump_cache.proofs.GapLemmas.{small_all}
 use Rattle.zone_rules.proofs.OrderLemmas.{order_none, order_then}
-use Rattle.wad_dir.specs.DirectoryView.{DirectoryView}
+use Rattle.lump_cache.specs.DirectoryView.{DirectoryView}
 use Rattle.lump_cache.specs.declared.fault.CacheFault.{CacheFault}
 use Rattle.lump_cache.specs.declared.fault.CacheFault.TheVariants.{ZoneFull, ReadFault}
 use Rattle.lump_cache.specs.Caches.{HasAsked, IsAtRestExcept, IsPinned, KeepsCounts, NoRoom, WhereFull, cache_fault, composite_owner, lump_owner}
 use Rattle.lump_cache.specs.Calls.{IfFull, InOrderAt, HoldContents}
 use Rattle.lump_cache.specs.Sizes.{IsGapBesideTwo}
 use Rattle.art_rules.specs.declared.PlacedPatch.{PlacedPatch}
-use Rattle.art_rules.specs.Wanted.{PreparedTexture}
 use Rattle.texture_build.specs.Asked.{IsGapBesideComposite, size_of}
 use Rattle.texture_build.specs.Builds.{KeepsBuild, IsFullForPatch, PutsPatches}
 use Rattle.texture_build.proofs.FillLemmas.{others_none, others_then}

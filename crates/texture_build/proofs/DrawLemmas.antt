@@ -1,14 +1,11 @@
 -- Laws of calls that draw: none, one after another, one that ends the whole, and a layer above.
-use Rattle.word_rules.proofs.Common.{ap, Err, err_from_is_err_and, inl, inr, IsErrAnd, IsTrue, List, MatchResult, Ok, OnOk, refl, Result, subst, sym, ℕ, ◌∙◌, ◌≡◌, ◌⊎◌}
-use Rattle.outside.specs.Shelf.{ShelfView}
-use Rattle.outside.specs.declared.fault.Fault.{Fault}
-use Rattle.outside.specs.declared.fault.Fault.TheVariants.{Refused, ReadFault, ZoneFull, OutOfMemory}
-use Rattle.outside.specs.Faults.{fault_above, HasCauseAt}
-use Rattle.outside.proofs.ShelfLemmas.{follows_none, follows_then, all_stand_later}
-use Rattle.zone_rules.specs.Zones.{Heap, block_size}
-use Rattle.zone_rules.specs.Orders.{Item, KeepsOrder}
+use Rattle.art_rules.proofs.Common.{ap, Err, err_from_is_err_and, inl, inr, IsErrAnd, IsTrue, List, MatchResult, Ok, OnOk, refl, Result, subst, sym, ℕ, ◌∙◌, ◌≡◌, ◌⊎◌}
+use Rattle.art_rules.specs.Words.{Fault, fault_above, HasCauseAt, OutOfMemory, ReadFault, Refused, ShelfView, ZoneFull}
+use Rattle.art_rules.proofs.Laws.{all_stand_later, follows_none, follows_then}
+use Rattle.lump_cache.specs.Zones.{Heap, block_size}
+use Rattle.lump_cache.specs.Orders.{Item, KeepsOrder}
 use Rattle.zone_rules.proofs.OrderLemmas.{order_none, order_then}
-use Rattle.wad_dir.specs.DirectoryView.{DirectoryView}
+use Rattle.lump_cache.specs.DirectoryView.{DirectoryView}
 use Rattle.lump_cache.specs.Calls.{HoldContents, IfFull, InOrderAt, IsFullFor}
 use Rattle.lump_cache.proofs.CallLemmas.{cause_later, full_at, order_at, result_above}
 use Rattle.lump_cache.specs.Sizes.{IsGapBeside}

@@ -1,12 +1,12 @@
 -- What a composite that is being built is, where its bytes or other blocks change.
-use Rattle.word_rules.proofs.Common.{[], ap, Bool, cond, cond-true, false, IfSome, IsSome, length, List, map, None, Option, option_and_then, option_map, refl, Some, subst, sym, true, ℕ, ◌==◌, ◌∙◌, ◌∷◌, ◌≡◌}
-use Rattle.lump_rules.specs.declared.wad.Lump.{Lump}
-use Rattle.zone_rules.specs.declared.Tag.TheVariants.{Level}
-use Rattle.zone_rules.specs.Zones.{Owner, Holding, Block, Heap, IsLive, is_held_by, owned_block, bytes_of, same_owner, pins}
-use Rattle.zone_rules.specs.Frees.{write_block, write_holding}
-use Rattle.zone_rules.specs.Orders.{Item, IsInOrder, KeepsOrder}
-use Rattle.zone_rules.proofs.OwnerLemmas.{owned_block-map, write_held}
-use Rattle.zone_rules.proofs.OrderChangeLemmas.{order_written}
+use Rattle.art_rules.proofs.Common.{[], ap, Bool, cond, cond-true, false, IfSome, IsSome, length, List, map, None, Option, option_and_then, option_map, refl, Some, subst, sym, true, ℕ, ◌==◌, ◌∙◌, ◌∷◌, ◌≡◌}
+use Rattle.art_rules.specs.Words.{Lump}
+use Rattle.lump_cache.specs.Tag.TheVariants.{Level}
+use Rattle.lump_cache.specs.Zones.{Owner, Holding, Block, Heap, IsLive, is_held_by, owned_block, bytes_of, same_owner, pins}
+use Rattle.lump_cache.specs.Frees.{write_block, write_holding}
+use Rattle.lump_cache.specs.Orders.{Item, IsInOrder, KeepsOrder}
+use Rattle.lump_cache.proofs.OwnerLemmas.{owned_block-map, write_held}
+use Rattle.lump_cache.proofs.OrderChangeLemmas.{order_written}
 use Rattle.lump_cache.specs.Caches.{HasAsked, HasBlock, HasUse, IsAsked, IsAtRestExcept, IsFaithful, IsFilled, IsPinned, KeepsCounts, KeptOrPurged, composite_owner}
 use Rattle.lump_cache.proofs.CallLemmas.{bytes_stay, bytes_then}
 use Rattle.lump_cache.proofs.FaithLemmas.{bytes_in}

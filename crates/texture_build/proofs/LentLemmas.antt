@@ -1,10 +1,8 @@
 -- What a cache that has the art lends: the colormap, texture columns, and what fits beside them.
-use Rattle.word_rules.proofs.Common.{ap, false, IfSome, IsSome, length, List, ne_eqb, None, Option, option_map, refl, Some, subst, sym, ℕ, ◌+◌, ◌<◌, ◌∙◌, ◌≡◌, ◌≢◌, ◌≤◌}
-use Rattle.outside.specs.Shelf.{ShelfView}
-use Rattle.lump_rules.specs.Lookups.{lump_at}
-use Rattle.lump_rules.specs.Contents.{lump_bytes}
-use Rattle.zone_rules.specs.Zones.{Owner, Holding, Block, Heap, IsLive, bytes_of, block_size, holding_of, owned_block, same_owner}
-use Rattle.wad_dir.specs.DirectoryView.{DirectoryView}
+use Rattle.art_rules.proofs.Common.{ap, false, IfSome, IsSome, length, List, ne_eqb, None, Option, option_map, refl, Some, subst, sym, ℕ, ◌+◌, ◌<◌, ◌∙◌, ◌≡◌, ◌≢◌, ◌≤◌}
+use Rattle.art_rules.specs.Words.{LUMP, lump_at, lump_bytes, painter_of, PreparedTexture, ShelfView}
+use Rattle.lump_cache.specs.Zones.{Owner, Holding, Block, Heap, IsLive, bytes_of, block_size, holding_of, owned_block, same_owner}
+use Rattle.lump_cache.specs.DirectoryView.{DirectoryView}
 use Rattle.lump_cache.specs.Caches.{IsStatic, composite_owner, lump_owner}
 use Rattle.lump_cache.specs.Calls.{HoldContents}
 use Rattle.lump_cache.proofs.FetchLemmas.{live_faithful}
@@ -12,10 +10,7 @@ use Rattle.lump_cache.proofs.SizeLemmas.{sizes_told}
 use Rattle.art_rules.specs.declared.ColumnLookup.{ColumnLookup}
 use Rattle.art_rules.specs.declared.ColumnLookup.TheVariants.{Empty, Single, Composed}
 use Rattle.art_rules.specs.declared.layout.TheConstants.{POST_BYTES_AT}
-use Rattle.art_rules.specs.Wanted.{PreparedTexture}
 use Rattle.art_rules.proofs.LookupLemmas.{composite_size-length}
-use Rattle.pixel_rules.specs.declared.TheConstants.{LUMP}
-use Rattle.pixel_rules.specs.Art.{painter_of}
 use Rattle.texture_build.specs.Arts.{lookup_source}
 use Rattle.texture_build.specs.Composites.{composite_of}
 use Rattle.texture_build.specs.Asked.{size_of}

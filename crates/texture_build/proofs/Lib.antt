@@ -14,3 +14,9 @@ pub mod BesideLemmas
 pub mod LiveLemmas
 pub mod LentLemmas
 pub mod PaintLemmas
+pub use Rattle.lump_cache.proofs.CallLemmas
+pub use Rattle.lump_cache.proofs.FetchLemmas
+pub use Rattle.lump_cache.proofs.SizeLemmas
+pub use Rattle.lump_cache.proofs.StaticLemmas
+pub use Rattle.texture_lists.proofs.JudgeLemmas
+pub use Rattle.wad_dir.proofs.MapLemmas

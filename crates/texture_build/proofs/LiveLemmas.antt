@@ -1,14 +1,9 @@
 -- A texture column or a lump that was made live, as a call that draws.
-use Rattle.word_rules.proofs.Common.{Bool, Err, IfErr, inl, inr, IsTrue, length, List, Ok, refl, Result, subst, sym, ℕ, ℤ, ◌<◌, ◌≡◌, ◌⊎◌}
-use Rattle.outside.specs.Shelf.{ShelfView}
-use Rattle.outside.specs.declared.fault.Fault.{Fault}
-use Rattle.outside.specs.declared.fault.Fault.TheVariants.{Refused, ReadFault, ZoneFull, OutOfMemory}
-use Rattle.outside.specs.Faults.{FaultFits, ResultIs}
-use Rattle.lump_rules.specs.declared.wad.Lump.{Lump}
-use Rattle.lump_rules.specs.Contents.{lump_bytes}
-use Rattle.zone_rules.specs.declared.Tag.TheVariants.{Cache}
-use Rattle.zone_rules.specs.Zones.{Heap}
-use Rattle.wad_dir.specs.DirectoryView.{DirectoryView}
+use Rattle.art_rules.proofs.Common.{Bool, Err, IfErr, inl, inr, IsTrue, length, List, Ok, refl, Result, subst, sym, ℕ, ℤ, ◌<◌, ◌≡◌, ◌⊎◌}
+use Rattle.art_rules.specs.Words.{Fault, FaultFits, Lump, lump_bytes, OutOfMemory, ReadFault, Refused, ResultIs, ShelfView, ZoneFull}
+use Rattle.lump_cache.specs.Tag.TheVariants.{Cache}
+use Rattle.lump_cache.specs.Zones.{Heap}
+use Rattle.lump_cache.specs.DirectoryView.{DirectoryView}
 use Rattle.lump_cache.specs.declared.fault.CacheFault.{CacheFault}
 use Rattle.lump_cache.specs.Caches.{cache_fault, composite_owner}
 use Rattle.lump_cache.specs.Calls.{IfFull, IsFullFor}

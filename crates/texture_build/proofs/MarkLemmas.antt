@@ -1,6 +1,6 @@
 -- Marks by number: what is set, and the numbers that are marked.
-use Rattle.word_rules.proofs.Common.{[], add-zero, ap, append-nil, arith, Bool, cond, false, filter, filter-append, get_or, length, List, Option, range_with_len, refl, suc, sym, take, take-append-le, take-length, true, zero, zero-add, ℕ, ◌++◌, ◌+◌, ◌<◌, ◌∙◌, ◌∷◌, ◌≡◌, ◌≤◌}
-use Rattle.art_rules.specs.Wanted.{PreparedTexture, is_patch_of_any, patch_lumps}
+use Rattle.art_rules.proofs.Common.{[], add-zero, ap, append-nil, arith, Bool, cond, false, filter, filter-append, get_or, length, List, Option, range_with_len, refl, suc, sym, take, take-append-le, take-length, true, zero, zero-add, ℕ, ◌++◌, ◌+◌, ◌<◌, ◌∙◌, ◌∷◌, ◌≡◌, ◌≤◌}
+use Rattle.art_rules.specs.Words.{is_patch_of_any, patch_lumps, PreparedTexture}
 use Rattle.art_rules.proofs.EachLemmas.{range_more}
 
 -- two tests that agree at each number keep the same ones

@@ -1,12 +1,8 @@
 -- Laws of a call that paints: nothing, one after the other, an error, the same dots by other words, what was made live first.
 use Rattle.std.proofs.Common.{◌≡◌, ◌≤◌, ◌<◌, ◌+◌, ℕ, Bool, true, false, List, ◌++◌, [], length, Result, Ok, Err, IsErrAnd, OnOk, sym, subst}
-use Rattle.outside.specs.Shelf.{ShelfView}
-use Rattle.outside.specs.Faults.{fault_above}
-use Rattle.outside.specs.declared.fault.Fault.{Fault}
-use Rattle.zone_rules.specs.Zones.{Heap}
+use Rattle.art_rules.specs.Words.{Dot, Fault, fault_above, Painter, ShelfView}
+use Rattle.lump_cache.specs.Zones.{Heap}
 use Rattle.lump_cache.proofs.FillLemmas.{on_ok}
-use Rattle.pixel_rules.specs.declared.Painter.{Painter}
-use Rattle.pixel_rules.specs.Dots.{Dot}
 use Rattle.pixel_strips.specs.Canvases.{CanvasView}
 use Rattle.pixel_strips.specs.Dotted.{HasDots, PlacedAlike}
 use Rattle.pixel_strips.proofs.DottedLemmas.{has_dots-none, has_dots-append, placed-none, placed-then}

@@ -1,16 +1,12 @@
 -- A patch that is fetched and placed, and the patches of a texture one after the other.
-use Rattle.word_rules.proofs.Common.{[], ap, drop, Err, get_or, IfSome, length, List, None, Ok, Option, option_and_then, option_map, refl, Some, split_at, subst, suc, sym, take, take_more, ℕ, ◌++◌, ◌+◌, ◌<◌, ◌∙◌, ◌∷◌, ◌≡◌}
-use Rattle.lump_rules.specs.declared.wad.Lump.{Lump}
-use Rattle.lump_rules.specs.Lookups.{last_of}
-use Rattle.lump_rules.specs.declared.wad.LumpNo.{LumpNo}
+use Rattle.art_rules.proofs.Common.{[], ap, drop, Err, get_or, IfSome, length, List, None, Ok, Option, option_and_then, option_map, refl, Some, split_at, subst, suc, sym, take, take_more, ℕ, ◌++◌, ◌+◌, ◌<◌, ◌∙◌, ◌∷◌, ◌≡◌}
+use Rattle.art_rules.specs.Words.{last_of, Lump, LumpNo, patch_of, place_lump, place_patch, placed_patch, placed_patches}
 use Rattle.art_rules.specs.declared.patch.Patch.{Patch}
 use Rattle.art_rules.specs.declared.PlacedPatch.{PlacedPatch}
 use Rattle.art_rules.specs.declared.ColumnLookup.{ColumnLookup}
 use Rattle.art_rules.specs.declared.TextureEntry.{TextureEntry}
 use Rattle.art_rules.specs.declared.refusal.TexRefusal.{TexRefusal}
 use Rattle.art_rules.specs.declared.refusal.TexRefusal.TheVariants.{MissingPatch}
-use Rattle.art_rules.specs.Patches.{patch_of}
-use Rattle.art_rules.specs.Wanted.{place_lump, place_patch, placed_patch, placed_patches}
 use Rattle.patch_columns.specs.Seen.{columns_with, seen_lookups}
 use Rattle.patch_columns.proofs.SeenLemmas.{columns_with-seen}
 use Rattle.texture_build.specs.Asked.{patch_lump}

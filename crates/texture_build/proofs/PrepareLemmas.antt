@@ -1,13 +1,10 @@
 -- A texture that is prepared, and all wanted textures one after the other.
-use Rattle.word_rules.proofs.Common.{[], All, ap, arith, Bool, cases_lt, cond, drop, eq-eqb, Err, false, false≢true, get_or, get_or-append, get_or-append_seam, get_or-eq_default, get_or-replicate, IfErr, IfOk, IfSome, inl, inr, is_some, IsNone, IsSome, length, length-append, length-map, length-replicate, length-take-le, List, list_any_at, list_any_none, map, nat_lt, nat_tests, None, Ok, Option, option_map, refl, replicate, Result, slice_get-get_or, Some, split_at, subst, suc, sym, take, take_all, take_more, true, zero, ℕ, ◌++◌, ◌+◌, ◌-◌, ◌<◌, ◌==◌, ◌↔◌, ◌∙◌, ◌∷◌, ◌≡◌, ◌≤◌}
+use Rattle.art_rules.proofs.Common.{[], All, ap, arith, Bool, cases_lt, cond, drop, eq-eqb, Err, false, false≢true, get_or, get_or-append, get_or-append_seam, get_or-eq_default, get_or-replicate, IfErr, IfOk, IfSome, inl, inr, is_some, IsNone, IsSome, length, length-append, length-map, length-replicate, length-take-le, List, list_any_at, list_any_none, map, nat_lt, nat_tests, None, Ok, Option, option_map, refl, replicate, Result, slice_get-get_or, Some, split_at, subst, suc, sym, take, take_all, take_more, true, zero, ℕ, ◌++◌, ◌+◌, ◌-◌, ◌<◌, ◌==◌, ◌↔◌, ◌∙◌, ◌∷◌, ◌≡◌, ◌≤◌}
 use Rattle.std.proofs.lemmas.List.{get_or-map}
-use Rattle.outside.specs.Shelf.{ShelfView}
-use Rattle.outside.specs.Faults.{and_then, itself}
-use Rattle.word_rules.proofs.ListedLemmas.{listed-all}
-use Rattle.lump_rules.specs.declared.wad.Lump.{Lump}
-use Rattle.lump_rules.specs.Lookups.{last_of}
-use Rattle.zone_rules.specs.Zones.{Heap}
-use Rattle.wad_dir.specs.DirectoryView.{DirectoryView}
+use Rattle.art_rules.specs.Words.{and_then, column_lookups, composite_size, Fault, itself, last_of, lookup_of, Lump, patches_in, placed_patches, prepared, prepared_from, prepared_if, prepared_textures, PreparedTexture, Refused, ShelfView, Texture, texture_at, texture_of, TextureLists, unless_missing, unless_too_big, unlisted}
+use Rattle.art_rules.proofs.Laws.{listed-all}
+use Rattle.lump_cache.specs.Zones.{Heap}
+use Rattle.lump_cache.specs.DirectoryView.{DirectoryView}
 use Rattle.lump_cache.specs.Calls.{ReadsLumps}
 use Rattle.lump_cache.proofs.CallLemmas.{reads_as, reads_then_refused}
 use Rattle.art_rules.specs.declared.TheConstants.{MAX_COMPOSITE}
@@ -16,13 +13,7 @@ use Rattle.art_rules.specs.declared.ColumnLookup.{ColumnLookup}
 use Rattle.art_rules.specs.declared.ColumnLookup.TheVariants.{Empty}
 use Rattle.art_rules.specs.declared.refusal.TexRefusal.{TexRefusal}
 use Rattle.art_rules.specs.declared.refusal.TexRefusal.TheVariants.{TooBig}
-use Rattle.art_rules.specs.Columns.{composite_size, patches_in}
-use Rattle.art_rules.specs.Lookups.{column_lookups, lookup_of}
-use Rattle.art_rules.specs.Textures.{Texture, TextureLists, texture_at, unlisted}
-use Rattle.art_rules.specs.Wanted.{PreparedTexture, placed_patches, prepared, prepared_from, prepared_if, prepared_textures, texture_of, unless_missing, unless_too_big}
 use Rattle.patch_columns.specs.Seen.{seen_lookup, seen_lookups}
-use Rattle.outside.specs.declared.fault.Fault.{Fault}
-use Rattle.outside.specs.declared.fault.Fault.TheVariants.{Refused}
 use Rattle.texture_lists.specs.declared.number.TexNo.{TexNo}
 use Rattle.texture_build.specs.Asked.{IsWantedPatch}
 use Rattle.texture_build.specs.Parts.{IsEntryPatch, PatchesPart, or_missing, patches_part}

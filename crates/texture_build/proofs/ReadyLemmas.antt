@@ -1,13 +1,10 @@
 -- What a column is read from, made live: by each kind of column.
-use Rattle.word_rules.proofs.Common.{Bool, eqb-true, Err, false, IfErr, IfSome, inl, length, List, None, Ok, OnErr, OnOk, Option, refl, Result, Some, subst, sym, true, ℕ, ◌+◌, ◌<◌, ◌==◌, ◌≡◌}
-use Rattle.outside.specs.Shelf.{ShelfView}
-use Rattle.outside.proofs.ShelfLemmas.{follows_none}
-use Rattle.lump_rules.specs.declared.wad.Lump.{Lump}
-use Rattle.lump_rules.specs.Contents.{lump_bytes}
-use Rattle.lump_rules.specs.Lookups.{lump_at}
-use Rattle.zone_rules.specs.Zones.{Block, Heap, IsLive, block_size, bytes_of, owned_block}
+use Rattle.art_rules.proofs.Common.{Bool, eqb-true, Err, false, IfErr, IfSome, inl, length, List, None, Ok, OnErr, OnOk, Option, refl, Result, Some, subst, sym, true, ℕ, ◌+◌, ◌<◌, ◌==◌, ◌≡◌}
+use Rattle.art_rules.specs.Words.{Lump, lump_at, lump_bytes, PreparedTexture, ShelfView}
+use Rattle.art_rules.proofs.Laws.{follows_none}
+use Rattle.lump_cache.specs.Zones.{Block, Heap, IsLive, block_size, bytes_of, owned_block}
 use Rattle.zone_rules.proofs.OrderLemmas.{order_none}
-use Rattle.wad_dir.specs.DirectoryView.{DirectoryView}
+use Rattle.lump_cache.specs.DirectoryView.{DirectoryView}
 use Rattle.lump_cache.specs.declared.fault.CacheFault.{CacheFault}
 use Rattle.lump_cache.specs.declared.fault.CacheFault.TheVariants.{ZoneFull, ReadFault}
 use Rattle.lump_cache.specs.Caches.{IsAtRest, KeptOrPurged, NoRoom, WhereFull, cache_fault, composite_owner, lump_owner}
@@ -16,11 +13,10 @@ use Rattle.lump_cache.specs.Calls.{IfFull}
 use Rattle.lump_cache.specs.Fetches.{FetchesLump}
 use Rattle.lump_cache.specs.Sizes.{IsGapBeside}
 use Rattle.lump_cache.proofs.FetchLemmas.{fetch_gap, fetch_no_room, fetch_reads}
-use Rattle.zone_rules.specs.declared.Tag.TheVariants.{Cache}
-use Rattle.zone_rules.specs.Orders.{has_item}
+use Rattle.lump_cache.specs.Tag.TheVariants.{Cache}
+use Rattle.lump_cache.specs.Orders.{has_item}
 use Rattle.art_rules.specs.declared.ColumnLookup.{ColumnLookup}
 use Rattle.art_rules.specs.declared.ColumnLookup.TheVariants.{Single}
-use Rattle.art_rules.specs.Wanted.{PreparedTexture}
 use Rattle.texture_build.specs.Asked.{IsFullForColumn}
 use Rattle.texture_build.specs.Builds.{OthersKeep}
 use Rattle.texture_build.specs.Composites.{AreComposites, composite_of}

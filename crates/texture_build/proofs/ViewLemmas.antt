@@ -1,12 +1,8 @@
 -- Laws of `AreTexturesOf`: what is prepared of such textures has a column, and its columns are
 -- those of its patches.
 use Rattle.std.proofs.Common.{◌≡◌, ℕ, ◌<◌, List, length, Some, None, sym, ap, arith}
-use Rattle.lump_rules.specs.declared.wad.Lump.{Lump}
-use Rattle.lump_rules.specs.Contents.{lump_bytes}
+use Rattle.art_rules.specs.Words.{column_lookups, list_count, Lump, lump_bytes, PreparedTexture, Texture, texture_in, texture_of, texture_place, wrong_record}
 use Rattle.art_rules.specs.declared.PlacedPatch.{PlacedPatch}
-use Rattle.art_rules.specs.Textures.{Texture, wrong_record, texture_in, texture_place, list_count}
-use Rattle.art_rules.specs.Lookups.{column_lookups}
-use Rattle.art_rules.specs.Wanted.{PreparedTexture, texture_of}
 use Rattle.art_rules.proofs.LookupLemmas.{length-column_lookups}
 use Rattle.texture_lists.proofs.PartLemmas.{width_within}
 use Rattle.texture_build.specs.Views.{AreTexturesOf, TexturesView, prepared_at}

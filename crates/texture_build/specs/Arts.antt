@@ -1,17 +1,8 @@
 -- The art of a view: what prepared textures and the bytes of lumps give (R_GetColumn, r_data.c).
 use Rattle.std.specs.Prelude.{ℕ, ◌&&◌, ℤ, pos, int_le, int_lt, cond, List, [], length}
-use Rattle.word_rules.specs.Words.{natural}
-use Rattle.pixel_rules.specs.declared.Post.{Post}
-use Rattle.pixel_rules.specs.declared.Source.{Source}
-use Rattle.pixel_rules.specs.declared.TheConstants.{NO_SOURCE, LUMP, COMPOSITE}
-use Rattle.pixel_rules.specs.Art.{Art}
-use Rattle.pixel_rules.specs.Strips.{shade}
+use Rattle.art_rules.specs.Words.{Art, byte_at, column_place, COMPOSITE, half_at, LUMP, natural, NO_SOURCE, Post, posts, PreparedTexture, shade, Source, texel}
 use Rattle.art_rules.specs.declared.ColumnLookup.{ColumnLookup}
 use Rattle.art_rules.specs.declared.ColumnLookup.TheVariants.{Empty, Single, Composed}
-use Rattle.art_rules.specs.Bytes.{byte_at, half_at}
-use Rattle.art_rules.specs.Patches.{column_place, posts}
-use Rattle.art_rules.specs.Columns.{texel}
-use Rattle.art_rules.specs.Wanted.{PreparedTexture}
 use Rattle.texture_build.specs.Views.{TexturesView, prepared_texture}
 use Rattle.texture_build.specs.Sources.{column_in, column_index}
 

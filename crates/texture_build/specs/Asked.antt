@@ -1,18 +1,14 @@
 -- What may be asked of the zone, and how small a zone is that had no room.
 use Rattle.std.specs.Prelude.{◌≡◌, ℕ, ◌+◌, ◌<◌, Bool, true, List, Contains, Option, Some, length, option_and_then, slice_get, ◌⊎◌}
-use Rattle.lump_rules.specs.declared.wad.Lump.{Lump}
-use Rattle.lump_rules.specs.Lookups.{last_of, lump_at}
-use Rattle.zone_rules.specs.Zones.{Owner, Heap, block_size}
-use Rattle.zone_rules.specs.Orders.{Item, has_item}
+use Rattle.art_rules.specs.Words.{composite_size, last_of, Lump, lump_at, PreparedTexture, Texture, TextureLists}
+use Rattle.lump_cache.specs.Zones.{Owner, Heap, block_size}
+use Rattle.lump_cache.specs.Orders.{Item, has_item}
 use Rattle.lump_cache.specs.Caches.{IsAtRest, lump_owner, composite_owner}
 use Rattle.lump_cache.specs.Sizes.{IsGapBeside, IsGapBesideTwo}
 use Rattle.art_rules.specs.declared.PlacedPatch.{PlacedPatch}
 use Rattle.art_rules.specs.declared.TextureEntry.{TextureEntry}
 use Rattle.art_rules.specs.declared.ColumnLookup.{ColumnLookup}
 use Rattle.art_rules.specs.declared.ColumnLookup.TheVariants.{Empty, Single, Composed}
-use Rattle.art_rules.specs.Textures.{Texture, TextureLists}
-use Rattle.art_rules.specs.Columns.{composite_size}
-use Rattle.art_rules.specs.Wanted.{PreparedTexture}
 use Rattle.texture_build.specs.Sources.{IsComposedColumn}
 
 -- the lump of a patch's name

@@ -1,19 +1,14 @@
 -- The steps by which a composite is built, while its block is pinned.
 use Rattle.std.specs.Prelude.{◌≡◌, ℕ, ◌+◌, ◌<◌, ◌==◌, false, true, List, [], ◌∷◌, length, replicate, Some, None, IfSome, IfErr, OnOk, OnErr, MatchResult, Result, Ok, slice_get}
-use Rattle.outside.specs.Shelf.{ShelfView, IsLaterShelf, NameFiles}
-use Rattle.outside.specs.Faults.{ResultIs, HasCauses}
-use Rattle.lump_rules.specs.declared.wad.Lump.{Lump}
-use Rattle.lump_rules.specs.Contents.{AllWithin, lump_bytes}
-use Rattle.zone_rules.specs.Zones.{Owner, Heap, owned_block, bytes_of, block_size, same_owner}
-use Rattle.zone_rules.specs.Orders.{Item, IsInOrder, KeepsOrder, has_item}
-use Rattle.wad_dir.specs.DirectoryView.{DirectoryView}
+use Rattle.art_rules.specs.Words.{AllWithin, composite_of_first, HasCauses, IsLaterShelf, Lump, lump_bytes, NameFiles, PreparedTexture, ResultIs, ShelfView}
+use Rattle.lump_cache.specs.Zones.{Owner, Heap, owned_block, bytes_of, block_size, same_owner}
+use Rattle.lump_cache.specs.Orders.{Item, IsInOrder, KeepsOrder, has_item}
+use Rattle.lump_cache.specs.DirectoryView.{DirectoryView}
 use Rattle.lump_cache.specs.declared.fault.CacheFault.{CacheFault}
 use Rattle.lump_cache.specs.Caches.{HasAsked, IsAtRest, IsAtRestExcept, IsFaithful, IsPinned, KeepsCounts, cache_fault, composite_owner, lump_owner, release_heap}
 use Rattle.lump_cache.specs.Calls.{IfFull, LeavesInOrder, HoldContents}
 use Rattle.lump_cache.specs.Sizes.{IsGapBeside}
 use Rattle.art_rules.specs.declared.PlacedPatch.{PlacedPatch}
-use Rattle.art_rules.specs.Lookups.{composite_of_first}
-use Rattle.art_rules.specs.Wanted.{PreparedTexture}
 use Rattle.texture_build.specs.Asked.{IsPatch, IsGapBesideComposite, size_of}
 
 -- the composite's block is pinned, and has `size` bytes

@@ -1,9 +1,8 @@
 -- The composites that a cache holds.
 use Rattle.std.specs.Prelude.{◌≡◌, ℕ, List, length, IfSome}
-use Rattle.zone_rules.specs.Zones.{Heap, bytes_of}
+use Rattle.lump_cache.specs.Zones.{Heap, bytes_of}
 use Rattle.lump_cache.specs.Caches.{composite_owner}
-use Rattle.art_rules.specs.Columns.{composite}
-use Rattle.art_rules.specs.Wanted.{PreparedTexture}
+use Rattle.art_rules.specs.Words.{composite, PreparedTexture}
 use Rattle.texture_build.specs.Views.{TexturesView, prepared_at}
 
 -- the composite of a prepared texture

@@ -1,21 +1,12 @@
 -- What a call that draws keeps of the cache, and whose bytes it may paint with.
 use Rattle.std.specs.Prelude.{◌≡◌, ◌≢◌, ◌<◌, ◌≤◌, ◌+◌, ◌⊎◌, ℕ, ℤ, List, IsTrue, IfErr, MatchResult, Result, ⊤}
 use Rattle.std.specs.List.{AllByRecursion}
-use Rattle.outside.specs.Shelf.{ShelfView, IsLaterShelf, NameFiles}
-use Rattle.outside.specs.Faults.{HasCauses}
-use Rattle.outside.specs.declared.fault.Fault.{Fault}
-use Rattle.outside.specs.declared.fault.Fault.TheVariants.{Refused, ReadFault, ZoneFull, OutOfMemory}
-use Rattle.lump_rules.specs.declared.wad.Lump.{Lump}
-use Rattle.lump_rules.specs.Lookups.{lump_at}
-use Rattle.lump_rules.specs.Contents.{AllWithin, lump_bytes}
-use Rattle.zone_rules.specs.Zones.{Heap, block_size}
-use Rattle.zone_rules.specs.Orders.{Item, IsInOrder, KeepsOrder}
-use Rattle.wad_dir.specs.DirectoryView.{DirectoryView}
+use Rattle.art_rules.specs.Words.{AllWithin, COMPOSITE, Dot, Fault, HasCauses, IsLaterShelf, LUMP, Lump, lump_at, lump_bytes, NameFiles, OutOfMemory, Painter, ReadFault, Refused, ShelfView, ZoneFull}
+use Rattle.lump_cache.specs.Zones.{Heap, block_size}
+use Rattle.lump_cache.specs.Orders.{Item, IsInOrder, KeepsOrder}
+use Rattle.lump_cache.specs.DirectoryView.{DirectoryView}
 use Rattle.lump_cache.specs.Caches.{IsAtRest, IsFaithful, KeepsCounts}
 use Rattle.lump_cache.specs.Calls.{HasAll, HoldContents, IfFull, LeavesInOrder, IsFullFor}
-use Rattle.pixel_rules.specs.declared.Painter.{Painter}
-use Rattle.pixel_rules.specs.declared.TheConstants.{LUMP, COMPOSITE}
-use Rattle.pixel_rules.specs.Dots.{Dot}
 use Rattle.texture_build.specs.Asked.{HasColumnAsked, IsFullForColumn, size_of}
 use Rattle.texture_build.specs.Composites.{AreComposites}
 use Rattle.texture_build.specs.Sources.{column_in}

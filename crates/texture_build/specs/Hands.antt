@@ -1,6 +1,6 @@
 -- What a call that paints writes, by the values of its hands.
 use Rattle.std.specs.Prelude.{◌≡◌}
-use Rattle.outside.specs.Shelf.{ShelfView}
+use Rattle.art_rules.specs.Words.{ShelfView}
 use Rattle.pixel_strips.specs.Canvases.{CanvasView}
 use Rattle.texture_build.specs.Paints.{PaintState, paint_state}
 use Rattle.texture_build.specs.declared.hands.Hands.{Hands}

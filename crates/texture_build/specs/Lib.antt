@@ -9,3 +9,11 @@ pub mod Arts
 pub mod Draws
 pub mod Paints
 pub mod Hands
+pub use Rattle.lump_cache.specs.declared.fault.CacheFault
+pub use Rattle.lump_cache.specs.Caches
+pub use Rattle.lump_cache.specs.Calls
+pub use Rattle.lump_cache.specs.Named
+pub use Rattle.lump_cache.specs.Sizes
+pub use Rattle.texture_lists.specs.declared.number.TexNo
+pub use Rattle.wad_dir.specs.DirectoryView
+pub use Rattle.zone_rules.specs.Zones

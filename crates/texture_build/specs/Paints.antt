@@ -1,15 +1,10 @@
 -- A call that paints, by the dots that it gives the canvas.
 use Rattle.std.specs.Prelude.{ℕ, Bool, true, false, List, OnOk, Result}
-use Rattle.outside.specs.Shelf.{ShelfView}
-use Rattle.outside.specs.declared.fault.Fault.{Fault}
-use Rattle.lump_rules.specs.Contents.{lump_bytes}
-use Rattle.zone_rules.specs.Zones.{Heap}
-use Rattle.wad_dir.specs.DirectoryView.{DirectoryView}
+use Rattle.art_rules.specs.Words.{Art, Dot, Fault, lump_bytes, Painter, ShelfView}
+use Rattle.lump_cache.specs.Zones.{Heap}
+use Rattle.lump_cache.specs.DirectoryView.{DirectoryView}
 use Rattle.lump_cache.specs.Caches.{IsAtRest}
 use Rattle.lump_cache.specs.Calls.{HoldContents}
-use Rattle.pixel_rules.specs.declared.Painter.{Painter}
-use Rattle.pixel_rules.specs.Art.{Art}
-use Rattle.pixel_rules.specs.Dots.{Dot}
 use Rattle.pixel_strips.specs.Canvases.{CanvasView}
 use Rattle.pixel_strips.specs.Dotted.{HasDots, PlacedAlike}
 use Rattle.texture_build.specs.Arts.{view_art}

@@ -1,6 +1,6 @@
 -- A texture while its patches come one after the other.
 use Rattle.std.specs.Prelude.{◌≡◌, ℕ, List, Contains, Option, None, Some, Result, Ok, Err}
-use Rattle.lump_rules.specs.declared.wad.Lump.{Lump}
+use Rattle.art_rules.specs.Words.{Lump}
 use Rattle.art_rules.specs.declared.PlacedPatch.{PlacedPatch}
 use Rattle.art_rules.specs.declared.ColumnLookup.{ColumnLookup}
 use Rattle.art_rules.specs.declared.TextureEntry.{TextureEntry}

@@ -1,13 +1,9 @@
 -- What a contract sees of textures: the lists, and by number those that are prepared.
 use Rattle.std.specs.Prelude.{◌≡◌, ℕ, ◌<◌, ◌==◌, Bool, false, List, [], length, All, Option, None, IsSome, IfSome, unwrap_or, slice_index_or, Ok}
 use Rattle.std.specs.List.{list_any}
-use Rattle.lump_rules.specs.declared.wad.Lump.{Lump}
-use Rattle.lump_rules.specs.Lookups.{last_of}
-use Rattle.lump_rules.specs.Contents.{lump_bytes, named_bytes}
+use Rattle.art_rules.specs.Words.{last_of, Lump, lump_bytes, named_bytes, prepared_textures, PreparedTexture, Texture, texture_at, texture_lists, TextureLists}
 use Rattle.art_rules.specs.declared.PlacedPatch.{PlacedPatch}
 use Rattle.art_rules.specs.declared.TheConstants.{PNAMES, TEXTURE1, TEXTURE2}
-use Rattle.art_rules.specs.Textures.{Texture, TextureLists, texture_at, texture_lists}
-use Rattle.art_rules.specs.Wanted.{PreparedTexture, prepared_textures}
 use Rattle.texture_lists.specs.declared.number.TexNo.{TexNo}
 
 pub record TexturesView : Type 0 where

@@ -2,7 +2,7 @@
 //
 // Rules: `specs/Builds`, over `art_rules`, Lookups. The original: `R_GenerateComposite`, r_data.c.
 ghost use Rattle.std.specs.Prelude.{◌≡◌, ◌<◌, ◌≤◌, ◌+◌, ℕ, Contains, length, replicate, Ok, Some, slice_get, MatchResult, IsNone};
-ghost use Rattle.zone_rules.specs.Zones.{IsLive, holding_of};
+ghost use Rattle.lump_cache.specs.Zones.{IsLive, holding_of};
 ghost use Rattle.lump_cache.specs.Caches.{IsFilled, composite_owner, lump_owner};
 ghost use Rattle.art_rules.specs.declared.ColumnLookup.TheVariants.{Composed};
 ghost use Rattle.texture_build.specs.Asked.{size_of};
@@ -11,12 +11,9 @@ ghost use Rattle.texture_build.specs.Ready.{MakesColumnLive};
 ghost use Rattle.texture_build.specs.Views.{ArePatchesThere};
 
 use crate::prepared::PreparedTexture;
-use art_rules::PlacedPatch;
-use lump_cache::{CacheFault, LumpCache};
-use outside::Shelf;
+use art_rules::{PlacedPatch, Shelf};
+use lump_cache::{CacheFault, Directory, LumpCache, LumpNo, Tag, ZoneFull};
 use patch_columns::put_patch;
-use wad_dir::{Directory, LumpNo};
-use zone_heap::{Tag, ZoneFull};
 
 // Builds the composite of a texture, whose slot is empty: its block is taken and pinned, each of
 // its bytes set to 0, and each patch is fetched, put and released. Then it is made purgeable, or

@@ -3,15 +3,13 @@
 // Rules: `specs/Sources`. The original: `R_GetColumn`, r_data.c.
 ghost use Rattle.std.specs.Prelude.{◌≡◌, ◌<◌, ◌+◌, ◌^◌, ℕ, Some, IfSome, length, option_map};
 ghost use Rattle.std.specs.Option.{option_copied};
-ghost use Rattle.art_rules.specs.Bytes.{byte_at};
-ghost use Rattle.art_rules.specs.Lookups.{single_place};
+ghost use Rattle.art_rules.specs.Words.{byte_at, single_place};
 ghost use Rattle.lump_cache.specs.Caches.{IsAtRest};
 ghost use Rattle.texture_build.specs.Sources.{IsLentBeside, column_from, column_view};
 
 use art_rules::{ColumnLookup, POST_BYTES_AT, byte_at};
-use lump_cache::LumpCache;
+use lump_cache::{LumpCache, LumpNo};
 use std::marker::Model;
-use wad_dir::LumpNo;
 
 /// A texture column, as the bytes that it is read from and the place of its first texel in them.
 ///

@@ -1,7 +1,7 @@
 // What calls that paint write.
 
+use art_rules::Shelf;
 use lump_cache::LumpCache;
-use outside::Shelf;
 use pixel_strips::Canvas;
 
 /// What a call that paints writes: the cache by its shelf, and the canvas.

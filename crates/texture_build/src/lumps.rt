@@ -3,14 +3,12 @@
 // Rules: `art_rules`, Wanted.
 ghost use Rattle.std.specs.Prelude.{◌≡◌, ◌<◌, ◌==◌, ◌||◌, ◌^◌, false, true, ℕ, length, filter, map, IfOk, slice_index_or, slice_set};
 ghost use Rattle.std.specs.List.{list_any, range_with_len};
-ghost use Rattle.art_rules.specs.Wanted.{is_patch_of, is_patch_of_any, patch_lumps};
+ghost use Rattle.art_rules.specs.Words.{is_patch_of, is_patch_of_any, patch_lumps};
 
 use crate::prepared::PreparedTexture;
-use art_rules::PlacedPatch;
-use lump_rules::MAX_LUMPS;
-use outside::OutOfMemory;
+use art_rules::{MAX_LUMPS, OutOfMemory, PlacedPatch};
+use lump_cache::LumpNo;
 use std::alloc::Global;
-use wad_dir::LumpNo;
 
 // The lumps of the patches of these textures, ascending and each once. Each patch is looked at
 // once.

@@ -1,16 +1,12 @@
 // What stands behind `Textures::prepare`: the wanted textures, one after the other.
 //
 // Rules: `art_rules`, Wanted. The original: `R_PrecacheLevel`, `R_GenerateLookup`, r_data.c.
-ghost use Rattle.outside.specs.Faults.{itself};
+ghost use Rattle.art_rules.specs.Words.{itself, last_of, prepared, prepared_if, prepared_textures, Refused, texture_at, unless_too_big};
 ghost use Rattle.std.specs.Prelude.{◌≡◌, ◌<◌, ◌≤◌, ◌^◌, ◌||◌, false, true, ℕ, List, All, length, is_some, map, replicate, slice_index_or, Ok, Err, IfErr, IfOk, IfSome, IsSome};
-ghost use Rattle.lump_rules.specs.Lookups.{last_of};
 ghost use Rattle.lump_cache.specs.Calls.{ReadsLumps};
 ghost use Rattle.art_rules.specs.declared.ColumnLookup.TheVariants.{Empty};
 ghost use Rattle.art_rules.specs.declared.refusal.TexRefusal.TheVariants.{TooBig};
-ghost use Rattle.art_rules.specs.Textures.{texture_at};
-ghost use Rattle.art_rules.specs.Wanted.{prepared, prepared_if, prepared_textures, unless_too_big};
 ghost use Rattle.patch_columns.specs.Seen.{AreSeen, seen_lookups};
-ghost use Rattle.outside.specs.declared.fault.Fault.TheVariants.{Refused};
 ghost use Rattle.texture_build.specs.Asked.{IsWantedPatch};
 ghost use Rattle.texture_build.specs.Parts.{IsEntryPatch};
 ghost use Rattle.texture_build.specs.Views.{ArePatchesThere, IsListedAs, is_marked, is_wanted, prepared_at};
@@ -19,12 +15,10 @@ use crate::lumps::{no_marks, set_mark};
 use crate::place::place_patches;
 use crate::prepared::PreparedTexture;
 use crate::prepared_list::PreparedList;
-use art_rules::{ColumnLookup, PlacedPatch, TexRefusal};
-use lump_cache::LumpCache;
-use outside::{OutOfMemory, Shelf};
+use art_rules::{ColumnLookup, OutOfMemory, PlacedPatch, Shelf, TexRefusal};
+use lump_cache::{Directory, LumpCache};
 use std::alloc::Global;
 use texture_lists::{ListedTextures, TexFault, TexNo};
-use wad_dir::Directory;
 
 // The wanted textures of the lists, prepared.
 pub(crate) fn prepare_wanted<S: Shelf>(

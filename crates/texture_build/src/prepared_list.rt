@@ -2,16 +2,15 @@
 //
 // Rules: `art_rules`, Wanted.
 ghost use Rattle.std.specs.Prelude.{◌≡◌, [], is_some, map, unwrap_or, IfOk, IsSome};
-ghost use Rattle.art_rules.specs.Wanted.{patch_lumps};
+ghost use Rattle.art_rules.specs.Words.{patch_lumps};
 ghost use Rattle.texture_build.specs.Views.{prepared_at, unprepared};
 
 use crate::lumps::list_lumps;
 use crate::prepared::PreparedTexture;
-use lump_rules::MAX_LUMPS;
-use outside::OutOfMemory;
+use art_rules::{MAX_LUMPS, OutOfMemory};
+use lump_cache::LumpNo;
 use std::alloc::Global;
 use std::marker::Model;
-use wad_dir::LumpNo;
 
 // The textures of some numbers, prepared, and the lumps of their patches, ascending and each once.
 #[derive(Drop)]
@@ -22,8 +21,7 @@ pub(crate) struct PreparedList {
 
 impl Model for PreparedList {
     ghost use Rattle.std.specs.Prelude.{◌≡◌, List, Option, map};
-    ghost use Rattle.lump_rules.specs.declared.wad.TheConstants.{MAX_LUMPS};
-    ghost use Rattle.art_rules.specs.Wanted.{PreparedTexture, patch_lumps};
+    ghost use Rattle.art_rules.specs.Words.{MAX_LUMPS, patch_lumps, PreparedTexture};
 
     ghost Value = { List (Option PreparedTexture) };
 

@@ -2,7 +2,7 @@
 //
 // Rules: `specs/Ready`, `specs/Sources` and `specs/Asked`. The original: `R_GetColumn`, r_data.c.
 ghost use Rattle.std.specs.Prelude.{◌≡◌, ◌<◌, ◌≤◌, length, Ok};
-ghost use Rattle.zone_rules.specs.Orders.{is_live};
+ghost use Rattle.lump_cache.specs.Orders.{is_live};
 ghost use Rattle.lump_cache.specs.Caches.{lump_owner, composite_owner};
 ghost use Rattle.art_rules.specs.declared.ColumnLookup.TheVariants.{Composed};
 ghost use Rattle.texture_build.specs.Ready.{MakesColumnLive};
@@ -11,11 +11,8 @@ ghost use Rattle.texture_build.specs.Views.{ArePatchesThere};
 
 use crate::build::build_composite;
 use crate::prepared::PreparedTexture;
-use art_rules::ColumnLookup;
-use lump_cache::{CacheFault, LumpCache};
-use outside::Shelf;
-use wad_dir::{Directory, LumpNo};
-use zone_heap::Tag;
+use art_rules::{ColumnLookup, Shelf};
+use lump_cache::{CacheFault, Directory, LumpCache, LumpNo, Tag};
 
 // Makes live what a column of the texture of that number is read from, by its lookup: the lump of
 // its one patch, or the composite, which is built where it is not live. A cache at rest is at rest

@@ -2,15 +2,13 @@
 //
 // Rules: `specs/Sources`. The original: `texturecolumnlump`, r_data.c.
 ghost use Rattle.std.specs.Prelude.{◌≡◌, IsSome, Some};
-ghost use Rattle.art_rules.specs.Lookups.{single_place};
-ghost use Rattle.pixel_rules.specs.Art.{painter_of};
+ghost use Rattle.art_rules.specs.Words.{painter_of, single_place};
 ghost use Rattle.texture_build.specs.Arts.{lookup_source};
 ghost use Rattle.texture_build.specs.Sources.{source_of};
 
-use art_rules::ColumnLookup;
-use pixel_rules::{COMPOSITE, LUMP, NO_SOURCE, Painter};
+use art_rules::{COMPOSITE, ColumnLookup, LUMP, NO_SOURCE, Painter};
+use lump_cache::LumpNo;
 use texture_lists::TexNo;
-use wad_dir::LumpNo;
 
 /// Whose bytes a texture column has: of no patch, of one patch lump, or of the texture's composite.
 ///
@@ -35,7 +33,7 @@ pub(crate) fn source_of(tex: TexNo, lookup: ColumnLookup) -> ColumnSource
 
 // Who paints with a column's bytes, as a painter of that kind and number.
 #[inline(always)]
-#[tactic(auto, unfolding(pixel_rules::specs::Art::painter_of))]
+#[tactic(auto, unfolding(art_rules::specs::Words::painter_of))]
 pub(crate) fn painter_of(kind: u8, number: u16, tex: TexNo, lookup: ColumnLookup) -> Painter
     ensures { result ≡ painter_of kind number (lookup_source tex.0 lookup) }
 {

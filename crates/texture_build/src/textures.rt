@@ -2,18 +2,10 @@
 //
 // Rules: `art_rules`, Textures, Columns, Lookups and Wanted; `specs/Views`, `specs/Sources`,
 // `specs/Asked` and `specs/Composites`. The original: r_data.c.
-ghost use Rattle.art_rules.specs.Columns.{is_single};
-ghost use Rattle.art_rules.specs.Lookups.{single_place};
-ghost use Rattle.art_rules.specs.Textures.{mask_of, texture_at, texture_lists, texture_number};
-ghost use Rattle.art_rules.specs.Wanted.{patch_lumps, prepared_textures};
+ghost use Rattle.art_rules.specs.Words.{is_single, itself, last_of, Lump, mask_of, named_bytes, painter_of, patch_lumps, prepared_textures, single_place, texture_at, texture_lists, texture_number};
 ghost use Rattle.lump_cache.specs.Calls.{ReadsLumps};
 ghost use Rattle.lump_cache.specs.Sizes.{StandsBeside};
-ghost use Rattle.lump_rules.specs.Contents.{named_bytes};
-ghost use Rattle.lump_rules.specs.Lookups.{last_of};
-ghost use Rattle.lump_rules.specs.declared.wad.Lump.{Lump};
-ghost use Rattle.outside.specs.Faults.{itself};
 ghost use Rattle.std.specs.Prelude.{◌≡◌, ◌<◌, ◌≤◌, ℕ, [], List, All, length, is_some, map, option_map, IfOk, IfSome, IsSome, Ok, OnErr, OnOk, Some};
-ghost use Rattle.pixel_rules.specs.Art.{painter_of};
 ghost use Rattle.texture_build.specs.Arts.{lookup_source};
 ghost use Rattle.texture_build.specs.Asked.{IsWantedPatch, size_of};
 ghost use Rattle.texture_build.specs.Sources.{IsColumnThere, column_in, own_lookup, source_of};
@@ -25,15 +17,14 @@ mod columns;
 use crate::prepare::prepare_wanted;
 use crate::prepared_list::PreparedList;
 use crate::source::{ColumnSource, painter_of, posts_place, source_of};
-use art_rules::{ColumnLookup, MAX_COMPOSITE, MAX_TEXTURES, PNAMES, TEXTURE1, TEXTURE2};
-use lump_cache::LumpCache;
-use lump_rules::{MAX_LUMPS, Name8};
-use outside::Shelf;
-use pixel_rules::Painter;
+use art_rules::{
+    ColumnLookup, MAX_COMPOSITE, MAX_LUMPS, MAX_TEXTURES, Name8, PNAMES, Painter, Shelf, TEXTURE1,
+    TEXTURE2,
+};
+use lump_cache::{Directory, LumpCache, LumpNo};
 use std::alloc::Global;
 use std::marker::Model;
 use texture_lists::{ListedTextures, TexFault, TexNo};
-use wad_dir::{Directory, LumpNo};
 
 /// The textures of a directory. Contracts see the lists, and by number what is prepared.
 ///

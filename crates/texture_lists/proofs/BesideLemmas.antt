@@ -1,10 +1,8 @@
 -- A list of textures that was fetched by name stands beside the colormap.
-use Rattle.word_rules.proofs.Common.{ap, Err, false, IfSome, length, List, Ok, OnOk, Option, option_map, Result, ℕ, ◌+◌, ◌<◌, ◌∙◌, ◌≡◌, ◌≤◌}
-use Rattle.outside.specs.Shelf.{ShelfView}
-use Rattle.lump_rules.specs.Lookups.{last_of}
-use Rattle.zone_rules.specs.Zones.{Heap, IsLive, block_size, owned_block, same_owner}
-use Rattle.wad_dir.specs.DirectoryView.{DirectoryView}
-use Rattle.lump_rules.specs.declared.wad.LumpNo.{LumpNo}
+use Rattle.art_rules.proofs.Common.{ap, Err, false, IfSome, length, List, Ok, OnOk, Option, option_map, Result, ℕ, ◌+◌, ◌<◌, ◌∙◌, ◌≡◌, ◌≤◌}
+use Rattle.art_rules.specs.Words.{last_of, LumpNo, ShelfView}
+use Rattle.lump_cache.specs.Zones.{Heap, IsLive, block_size, owned_block, same_owner}
+use Rattle.lump_cache.specs.DirectoryView.{DirectoryView}
 use Rattle.lump_cache.specs.Caches.{HasStatic, lump_owner}
 use Rattle.lump_cache.specs.Calls.{PreservesCache}
 use Rattle.lump_cache.specs.Named.{IsLast, live_bytes}

@@ -1,9 +1,8 @@
 -- An index of the least texture of each name, as it grows.
-use Rattle.word_rules.proofs.Common.{ap, Bool, BTreeMap, bytes_eq, bytes_eq-Decides, cond, false, is_some, length, List, nat_cmp, None, Option, refl, slice_cmp, slice_get, Some, sym, texts_ties, true, Updates, ℕ, ◌+◌, ◌<◌, ◌∙◌, ◌≡◌}
-use Rattle.word_rules.specs.Least.{least, or_else}
-use Rattle.word_rules.proofs.LeastLemmas.{least-more, least-is}
-use Rattle.art_rules.specs.Textures.{Texture, is_named, least_named}
-use Rattle.wad_dir.specs.Indexes.{indexed}
+use Rattle.art_rules.proofs.Common.{ap, Bool, BTreeMap, bytes_eq, bytes_eq-Decides, cond, false, is_some, length, List, nat_cmp, None, Option, refl, slice_cmp, slice_get, Some, sym, texts_ties, true, Updates, ℕ, ◌+◌, ◌<◌, ◌∙◌, ◌≡◌}
+use Rattle.art_rules.specs.Words.{is_named, least, least_named, or_else, Texture}
+use Rattle.art_rules.proofs.Laws.{least-is, least-more}
+use Rattle.lump_cache.specs.Indexes.{indexed}
 
 -- the test of texture i
 named_at : (textures : List Texture) (i : ℕ) (t : Texture) (name : List ℕ) → slice_get textures i ≡ Some t → is_named textures name i ≡ bytes_eq t.name name

@@ -1,15 +1,8 @@
 -- Lumps that are fetched by name and then judged by their bytes.
 use Rattle.std.proofs.Common.{◌≡◌, ℕ, true, List, Option, Result, Ok, Err, refl, sym, ap, ◌∙◌, IsErrAnd}
-use Rattle.outside.specs.Shelf.{ShelfView}
-use Rattle.outside.specs.declared.fault.Fault.{Fault}
-use Rattle.outside.specs.declared.fault.Fault.TheVariants.{Refused, ReadFault, ZoneFull, OutOfMemory}
-use Rattle.outside.specs.Faults.{ResultIs, itself}
-use Rattle.lump_rules.specs.Lookups.{last_of}
-use Rattle.lump_rules.specs.Contents.{lump_bytes, named_bytes}
-use Rattle.lump_rules.specs.Names.{name_of, filled}
-use Rattle.zone_rules.specs.Zones.{Heap}
-use Rattle.wad_dir.specs.DirectoryView.{DirectoryView}
-use Rattle.lump_rules.specs.declared.wad.LumpNo.{LumpNo}
+use Rattle.art_rules.specs.Words.{Fault, filled, itself, last_of, lump_bytes, LumpNo, name_of, named_bytes, OutOfMemory, ReadFault, Refused, ResultIs, ShelfView, ZoneFull}
+use Rattle.lump_cache.specs.Zones.{Heap}
+use Rattle.lump_cache.specs.DirectoryView.{DirectoryView}
 use Rattle.lump_cache.specs.Calls.{ReadsLumps, HoldContents}
 use Rattle.lump_cache.specs.Named.{IsLast}
 use Rattle.lump_cache.proofs.CallLemmas.{reads_stop_first, reads_short, reads_then_refused, reads_then_found}

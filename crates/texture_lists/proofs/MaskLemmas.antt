@@ -1,6 +1,6 @@
 -- The mask of a texture's columns, halved down from the greatest.
-use Rattle.word_rules.proofs.Common.{add-one, arith, false, lt-false, lt-true, nat_lt, nat_tests, refl, true, ℕ, ◌+◌, ◌-◌, ◌<◌, ◌^◌, ◌≡◌, ◌≤◌}
-use Rattle.art_rules.specs.Textures.{mask_of, mask_from}
+use Rattle.art_rules.proofs.Common.{add-one, arith, false, lt-false, lt-true, nat_lt, nat_tests, refl, true, ℕ, ◌+◌, ◌-◌, ◌<◌, ◌^◌, ◌≡◌, ◌≤◌}
+use Rattle.art_rules.specs.Words.{mask_from, mask_of}
 
 pub mask_of-from : (width : ℕ) → mask_of width ≡ mask_from 16 width
 unfolding mask_of

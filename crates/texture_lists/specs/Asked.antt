@@ -1,7 +1,6 @@
 -- The lumps that are asked for by name.
 use Rattle.std.specs.Prelude.{ℕ, List, ◌⊎◌, Option, option_map}
-use Rattle.lump_rules.specs.declared.wad.Lump.{Lump}
-use Rattle.lump_rules.specs.declared.wad.LumpNo.{LumpNo}
+use Rattle.art_rules.specs.Words.{Lump, LumpNo}
 use Rattle.lump_cache.specs.Named.{IsLast}
 use Rattle.art_rules.specs.declared.TheConstants.{PNAMES, TEXTURE1, TEXTURE2}
 

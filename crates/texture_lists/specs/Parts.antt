@@ -1,12 +1,8 @@
 -- What is kept of each list of textures while both are read, and how reading may end. No byte of a
 -- list is kept.
 use Rattle.std.specs.Prelude.{ℕ, ◌+◌, List, [], ◌++◌, Option, None, Some, Result, Ok, Err, option_map, ⊤}
-use Rattle.outside.specs.declared.fault.Fault.{Fault}
-use Rattle.outside.specs.declared.fault.Fault.TheVariants.{Refused, ReadFault, ZoneFull, OutOfMemory}
-use Rattle.outside.specs.Faults.{and_then}
-use Rattle.word_rules.specs.Least.{or_else}
+use Rattle.art_rules.specs.Words.{and_then, Fault, first_list, list_count, or_else, OutOfMemory, ReadFault, Refused, second_list, Texture, textures_in, unless_wrong, wrong_record, ZoneFull}
 use Rattle.art_rules.specs.declared.refusal.TexRefusal.{TexRefusal}
-use Rattle.art_rules.specs.Textures.{Texture, list_count, wrong_record, textures_in, first_list, second_list, unless_wrong}
 
 -- how many textures a list counts, its first wrong record, and its textures where none is wrong
 pub record ListPart : Type 0 where

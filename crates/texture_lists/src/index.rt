@@ -1,19 +1,16 @@
 // The least texture of each name. Rules: `art_rules`, Textures.
 ghost use Rattle.std.specs.Prelude.{◌≡◌, ◌≤◌, ℕ, List, length, if◌then◌else◌, Some, None, IfOk, OnOk};
 ghost use Rattle.std.specs.Str.{bytes_eq};
-ghost use Rattle.word_rules.specs.Least.{or_else};
-ghost use Rattle.art_rules.specs.Textures.{least_named};
-ghost use Rattle.wad_dir.specs.Indexes.{indexed};
+ghost use Rattle.art_rules.specs.Words.{least_named, or_else};
+ghost use Rattle.lump_cache.specs.Indexes.{indexed};
 
 use crate::records::ListedTexture;
-use art_rules::{MAX_TEXTURES, NAME_SIZE};
-use lump_rules::Name8;
-use outside::OutOfMemory;
+use art_rules::{MAX_TEXTURES, NAME_SIZE, Name8, OutOfMemory};
 use std::alloc::Global;
 use std::collections::BTreeMap;
 
 // The least texture of each name.
-#[tactic(auto, unfolding(art_rules::specs::Textures::least_named, word_rules::specs::Least::least))]
+#[tactic(auto, unfolding(art_rules::specs::Textures::least_named, art_rules::specs::Words::least))]
 pub(crate) fn index_textures(
     alloc: Global,
     textures: &[ListedTexture],

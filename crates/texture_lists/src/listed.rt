@@ -1,9 +1,7 @@
 // The textures of a directory.
-ghost use Rattle.outside.specs.Faults.{itself};
+ghost use Rattle.art_rules.specs.Words.{is_no_texture, itself, mask_of, named_bytes, texture_at, texture_lists, texture_number};
 ghost use Rattle.std.specs.Prelude.{◌≡◌, ◌<◌, ◌≤◌, ℕ, length, option_map, slice_get, IfOk, IfSome, OnOk};
-ghost use Rattle.art_rules.specs.Textures.{is_no_texture, mask_of, texture_at, texture_lists, texture_number};
 ghost use Rattle.lump_cache.specs.Calls.{ReadsLumps};
-ghost use Rattle.lump_rules.specs.Contents.{named_bytes};
 ghost use Rattle.lump_cache.specs.Sizes.{StandsBeside};
 ghost use Rattle.texture_lists.specs.Asked.{IsListLump};
 
@@ -11,14 +9,14 @@ use crate::index::{index_textures, look_up};
 use crate::load::{load_both, load_names};
 use crate::records::ListedTexture;
 use crate::{TexFault, TexNo};
-use art_rules::{MAX_TEXTURES, NAME_SIZE, NO_TEXTURE, PNAMES, TEXTURE1, TEXTURE2, TextureEntry};
-use lump_cache::LumpCache;
-use lump_rules::Name8;
-use outside::{OutOfMemory, Shelf};
+use art_rules::{
+    MAX_TEXTURES, NAME_SIZE, NO_TEXTURE, Name8, OutOfMemory, PNAMES, Shelf, TEXTURE1, TEXTURE2,
+    TextureEntry,
+};
+use lump_cache::{Directory, LumpCache};
 use std::alloc::Global;
 use std::collections::BTreeMap;
 use std::marker::Model;
-use wad_dir::Directory;
 
 /// The textures that a directory lists, with the names of patches. Contracts see the lists that
 /// were read.
@@ -35,8 +33,8 @@ pub struct ListedTextures {
 impl Model for ListedTextures {
     ghost use Rattle.std.specs.Prelude.{◌≡◌, ◌≤◌, ℕ, List, length};
     ghost use Rattle.art_rules.specs.declared.TheConstants.{MAX_TEXTURES};
-    ghost use Rattle.art_rules.specs.Textures.{TextureLists, least_named};
-    ghost use Rattle.wad_dir.specs.Indexes.{indexed};
+    ghost use Rattle.art_rules.specs.Words.{least_named, TextureLists};
+    ghost use Rattle.lump_cache.specs.Indexes.{indexed};
 
     ghost Value = { TextureLists };
 

@@ -1,19 +1,15 @@
 // The two lists of textures. Rules: `art_rules`, Textures.
 ghost use Rattle.std.specs.Prelude.{◌≡◌, ◌<◌, ◌≤◌, ◌+◌, ◌*◌, ◌^◌, None, true, false, length, IfOk, option_map};
-ghost use Rattle.word_rules.specs.Least.{or_else};
+ghost use Rattle.art_rules.specs.Words.{is_bad_list, itself, list_count, listed, or_else, ResultIs, texture_place, textures_in, wrong_record};
 ghost use Rattle.std.specs.Option.{option_copied};
-ghost use Rattle.outside.specs.Faults.{ResultIs, itself};
-ghost use Rattle.word_rules.specs.Listed.{listed};
-ghost use Rattle.art_rules.specs.Textures.{is_bad_list, list_count, texture_place, textures_in, wrong_record};
 ghost use Rattle.texture_lists.specs.Parts.{IsOfBytes, first_part, if_sound, joined_parts, list_part, second_part};
 
 use crate::TexFault;
 use crate::names::{is_short, list_count};
 use crate::records::{ListedTexture, is_wrong, read_texture};
 use art_rules::{
-    COUNT_SIZE, FIRST_LIST, MAX_TEXTURES, PLACE_SIZE, SECOND_LIST, TexRefusal, word_at,
+    COUNT_SIZE, FIRST_LIST, MAX_TEXTURES, OutOfMemory, PLACE_SIZE, SECOND_LIST, TexRefusal, word_at,
 };
-use outside::OutOfMemory;
 use std::alloc::Global;
 use std::marker::Model;
 
@@ -177,7 +173,7 @@ fn read_sound(
 }
 
 // The textures of a list without a wrong record.
-#[tactic(auto, using(word_rules::proofs::ListedLemmas::listing), unfolding(art_rules::specs::Textures::textures_in))]
+#[tactic(auto, using(art_rules::proofs::Laws::listing), unfolding(art_rules::specs::Textures::textures_in))]
 fn read_textures(alloc: Global, bytes: &[u8]) -> Result<Vec<ListedTexture>, OutOfMemory>
     requires few { list_count bytes.now ≤ MAX_TEXTURES }
     requires right { wrong_record bytes.now ≡ None }
@@ -202,7 +198,7 @@ fn texture_place(bytes: &[u8], i: u32) -> u64
 }
 
 // The first wrong record of a list.
-#[tactic(auto, using(word_rules::proofs::LeastLemmas::leasts), unfolding(art_rules::specs::Textures::wrong_record))]
+#[tactic(auto, using(art_rules::proofs::Laws::leasts), unfolding(art_rules::specs::Textures::wrong_record))]
 fn wrong_record(bytes: &[u8]) -> Option<u32>
     ensures { result ≡ wrong_record bytes.now }
 {

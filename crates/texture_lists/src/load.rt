@@ -1,11 +1,8 @@
 // The lists of textures, read through the cache: PNAMES, TEXTURE1 and TEXTURE2, each fetched and
 // then judged, and of no list more than its textures kept.
-ghost use Rattle.outside.specs.Faults.{itself};
+ghost use Rattle.art_rules.specs.Words.{both_lists, itself, last_of, lump_bytes, named_bytes, patch_names};
 ghost use Rattle.std.specs.Prelude.{◌≡◌, ◌<◌, ◌≤◌, ◌+◌, ℕ, List, length, Ok, IfOk, IfSome, OnOk};
-ghost use Rattle.art_rules.specs.Textures.{both_lists, patch_names};
-ghost use Rattle.lump_rules.specs.Contents.{lump_bytes, named_bytes};
-ghost use Rattle.lump_rules.specs.Lookups.{last_of};
-ghost use Rattle.zone_rules.specs.Zones.{IsLive};
+ghost use Rattle.lump_cache.specs.Zones.{IsLive};
 ghost use Rattle.lump_cache.specs.Caches.{lump_owner};
 ghost use Rattle.lump_cache.specs.Calls.{HoldContents, ReadsLumps};
 ghost use Rattle.lump_cache.specs.Named.{IsLast, live_bytes};
@@ -17,12 +14,9 @@ use crate::TexFault;
 use crate::lists::{ReadList, first_part, second_part};
 use crate::names::patch_names;
 use crate::records::ListedTexture;
-use art_rules::{MAX_TEXTURES, PNAMES, TEXTURE1, TEXTURE2};
-use lump_cache::{CacheFault, LumpCache, fetch_named, live_bytes};
-use lump_rules::Name8;
-use outside::Shelf;
+use art_rules::{MAX_TEXTURES, Name8, PNAMES, Shelf, TEXTURE1, TEXTURE2};
+use lump_cache::{CacheFault, Directory, LumpCache, LumpNo, fetch_named, live_bytes};
 use std::alloc::Global;
-use wad_dir::{Directory, LumpNo};
 
 // Makes the last lump of a name live, as `fetch_named`, with the faults of textures.
 fn fetch_list<S: Shelf>(

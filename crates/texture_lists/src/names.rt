@@ -1,15 +1,12 @@
 // The names of patches, from PNAMES. Rules: `art_rules`, Textures.
 ghost use Rattle.std.specs.Prelude.{◌≡◌, ◌<◌, ◌+◌, ◌*◌, ◌^◌, false, true, IfOk};
 ghost use Rattle.std.specs.Option.{option_copied};
-ghost use Rattle.outside.specs.Faults.{ResultIs, itself};
-ghost use Rattle.art_rules.specs.Textures.{is_short, list_count, names_in, patch_names};
+ghost use Rattle.art_rules.specs.Words.{is_short, itself, list_count, names_in, patch_names, ResultIs};
 ghost use Rattle.texture_lists.specs.Parts.{IsOfBytes};
 
 use crate::TexFault;
 use crate::records::name_at;
-use art_rules::{COUNT_SIZE, NAME_SIZE, TexRefusal, word_at};
-use lump_rules::Name8;
-use outside::OutOfMemory;
+use art_rules::{COUNT_SIZE, NAME_SIZE, Name8, OutOfMemory, TexRefusal, word_at};
 use std::alloc::Global;
 
 // What a list counts.
@@ -46,7 +43,7 @@ pub(crate) fn patch_names(alloc: Global, bytes: Option<&[u8]>) -> Result<Vec<Nam
 }
 
 // The names of a list that is not short.
-#[tactic(auto, using(word_rules::proofs::ListedLemmas::listing), unfolding(art_rules::specs::Textures::names_in, art_rules::specs::Textures::is_short))]
+#[tactic(auto, using(art_rules::proofs::Laws::listing), unfolding(art_rules::specs::Textures::names_in, art_rules::specs::Textures::is_short))]
 fn read_names(alloc: Global, bytes: &[u8]) -> Result<Vec<Name8>, OutOfMemory>
     requires { is_short NAME_SIZE bytes.now ≡ false }
     ensures { IfOk result (λ names. names.items ≡ names_in bytes.now) }

@@ -1,15 +1,12 @@
 // The records of textures in TEXTURE1 and TEXTURE2. Rules: `art_rules`, Textures.
 ghost use Rattle.std.specs.Prelude.{◌≡◌, ◌<◌, ◌≤◌, ◌+◌, ◌*◌, ◌^◌, length, IfOk};
-ghost use Rattle.word_rules.specs.Listed.{listed};
-ghost use Rattle.art_rules.specs.Bytes.{half_at};
-ghost use Rattle.art_rules.specs.Textures.{entry_at, is_wrong, mask_of, name_at, patch_count, texture_in};
+ghost use Rattle.art_rules.specs.Words.{half_at, is_wrong, listed, mask_of, name_at, patch_count, texture_in};
+ghost use Rattle.art_rules.specs.Textures.{entry_at};
 
 use art_rules::{
-    ENTRY_NUMBER_AT, ENTRY_SIZE, ENTRY_Y_AT, NAME_SIZE, PATCH_COUNT_AT, TEXTURE_HEAD_SIZE,
-    TEXTURE_HEIGHT_AT, TEXTURE_WIDTH_AT, TextureEntry, half_at, signed_half_at,
+    ENTRY_NUMBER_AT, ENTRY_SIZE, ENTRY_Y_AT, NAME_SIZE, Name8, OutOfMemory, PATCH_COUNT_AT,
+    TEXTURE_HEAD_SIZE, TEXTURE_HEIGHT_AT, TEXTURE_WIDTH_AT, TextureEntry, half_at, signed_half_at,
 };
-use lump_rules::Name8;
-use outside::OutOfMemory;
 use std::alloc::Global;
 use std::marker::Model;
 
@@ -25,7 +22,7 @@ pub(crate) struct ListedTexture {
 
 impl Model for ListedTexture {
     ghost use Rattle.std.specs.Prelude.{◌≡◌, ◌<◌};
-    ghost use Rattle.art_rules.specs.Textures.{Texture, mask_of};
+    ghost use Rattle.art_rules.specs.Words.{mask_of, Texture};
 
     ghost Value = { Texture };
 
@@ -115,7 +112,7 @@ fn patch_count(bytes: &[u8], place: u64) -> u16
 }
 
 // The `count` patches of a texture, from `place` on.
-#[tactic(auto, using(word_rules::proofs::ListedLemmas::listing))]
+#[tactic(auto, using(art_rules::proofs::Laws::listing))]
 fn read_entries(
     alloc: Global,
     bytes: &[u8],

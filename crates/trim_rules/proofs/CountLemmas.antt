@@ -1,13 +1,7 @@
 -- A directory lists no more lumps than it may.
-use Rattle.word_rules.proofs.Common.{[], ap, arith, Bool, false, if◌then◌else◌, length, length-append, List, ltb-false, nat_lt, None, not, Ok, Option, or_else-none, refl, Some, suc, take, true, ℕ, ◌++◌, ◌+◌, ◌∷◌, ◌≡◌, ◌≤◌}
-use Rattle.word_rules.specs.Least.{or_else}
-use Rattle.lump_rules.specs.declared.wad.Lump.{Lump}
-use Rattle.lump_rules.specs.declared.wad.DirRefusal.{DirRefusal}
-use Rattle.lump_rules.specs.declared.wad.DirRefusal.TheVariants.{NotWad, Short, TooMany}
-use Rattle.lump_rules.specs.declared.wad.TheConstants.{HEADER_SIZE, MAX_LUMPS}
-use Rattle.lump_rules.specs.declared.names.TheConstants.{LETTER_COUNT}
-use Rattle.lump_rules.specs.Wads.{directory, directory_place, directory_size, entry_count, file_lumps, file_refusal, header, header_refusal, is_wad, lumps_from, refusal_from, unless_refused, whole_header_refusal}
-use Rattle.lump_rules.proofs.WadLemmas.{file_lumps-length}
+use Rattle.art_rules.proofs.Common.{[], ap, arith, Bool, false, if◌then◌else◌, length, length-append, List, ltb-false, nat_lt, None, not, Ok, Option, or_else-none, refl, Some, suc, take, true, ℕ, ◌++◌, ◌+◌, ◌∷◌, ◌≡◌, ◌≤◌}
+use Rattle.art_rules.specs.Words.{directory, directory_place, directory_size, DirRefusal, entry_count, file_lumps, file_refusal, header, header_refusal, HEADER_SIZE, is_wad, LETTER_COUNT, Lump, lumps_from, MAX_LUMPS, NotWad, or_else, refusal_from, Short, TooMany, unless_refused, whole_header_refusal}
+use Rattle.art_rules.proofs.Laws.{file_lumps-length}
 
 else_none : (b : Bool) (refusal : DirRefusal) (o : Option DirRefusal) → (if b then Some refusal else o) ≡ None → (b ≡ false) × (o ≡ None)
 else_none true refusal o e = absurd (cc)

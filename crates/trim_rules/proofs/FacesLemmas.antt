@@ -1,18 +1,9 @@
 -- What the names of a level mean by the trimmed file: the same sides and sky, and the flats under other numbers.
-use Rattle.word_rules.proofs.Common.{AllByRecursion, ap, Err, length, List, map, Ok, Option, refl, Result, sym, ℕ, ◌∙◌, ◌≡◌, ◌≤◌}
-use Rattle.outside.specs.Faults.{and_then}
-use Rattle.outside.proofs.AnswerLemmas.{and_then-ok}
-use Rattle.lump_rules.specs.declared.wad.Lump.{Lump}
-use Rattle.level_rules.specs.declared.Sector.{Sector}
-use Rattle.level_rules.specs.declared.SideTextures.{SideTextures}
-use Rattle.level_rules.specs.declared.TheConstants.{SKY_FLAT}
-use Rattle.level_rules.specs.maps.Levels.{LevelValue}
-use Rattle.art_rules.specs.Textures.{TextureLists}
+use Rattle.art_rules.proofs.Common.{AllByRecursion, ap, Err, length, List, map, Ok, Option, refl, Result, sym, ℕ, ◌∙◌, ◌≡◌, ◌≤◌}
+use Rattle.art_rules.specs.Words.{and_then, Lump, TextureLists}
+use Rattle.art_rules.proofs.Laws.{and_then-ok}
+use Rattle.scene_rules.specs.Words.{Faces, faces_in, LevelValue, SceneArt, Sector, sector_flats, side_textures, SideTextures, SKY_FLAT, sky_texture}
 use Rattle.scene_rules.specs.declared.SectorFlats.{SectorFlats}
-use Rattle.scene_rules.specs.Scenes.{Faces, faces_in}
-use Rattle.scene_rules.specs.SectorFlats.{sector_flats}
-use Rattle.scene_rules.specs.Sides.{side_textures, sky_texture}
-use Rattle.scene_rules.specs.Sizes.{SceneArt}
 use Rattle.trim_rules.specs.Parts.{trim_parts}
 use Rattle.trim_rules.specs.Files.{trimmed_lumps}
 use Rattle.trim_rules.proofs.HeldFlatLemmas.{flat_part, flats-held}

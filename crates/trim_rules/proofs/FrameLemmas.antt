@@ -1,16 +1,9 @@
 -- The pictures of a frame: its last mention is one of them, and what f gives of each item.
-use Rattle.word_rules.proofs.Common.{[], AllByRecursion, and-true_true, and_parts, ap, arith, Bool, cases_lt, cond, Decides-eqb, Err, false, inl, inr, leb-true, List, map, nat_le, None, Ok, Option, range_with_len, refl, Result, Some, some-injective, subst, suc, sym, true, zero, ℕ, ◌&&◌, ◌+◌, ◌-◌, ◌<◌, ◌==◌, ◌∙◌, ◌∷◌, ◌≡◌, ◌≤◌}
-use Rattle.outside.specs.Faults.{and_then}
-use Rattle.outside.proofs.AnswerLemmas.{and_then-ok}
-use Rattle.word_rules.specs.Least.{or_else}
-use Rattle.word_rules.specs.Listed.{joined_lists}
-use Rattle.lump_rules.specs.declared.wad.Lump.{Lump}
-use Rattle.lump_rules.specs.declared.names.Group.TheVariants.{Sprites}
-use Rattle.lump_rules.specs.Lookups.{lump_at, members}
+use Rattle.art_rules.proofs.Common.{[], AllByRecursion, and-true_true, and_parts, ap, arith, Bool, cases_lt, cond, Decides-eqb, Err, false, inl, inr, leb-true, List, map, nat_le, None, Ok, Option, range_with_len, refl, Result, Some, some-injective, subst, suc, sym, true, zero, ℕ, ◌&&◌, ◌+◌, ◌-◌, ◌<◌, ◌==◌, ◌∙◌, ◌∷◌, ◌≡◌, ◌≤◌}
+use Rattle.art_rules.specs.Words.{and_then, each_of, frame_picture, is_of_frame, is_of_rotation, is_pair, joined_lists, last_that, Lump, lump_at, lump_mentions, members, mention_at, mentions, name_mentions, or_else, picture_by, picture_if, Sprites}
+use Rattle.art_rules.proofs.Laws.{and_then-ok}
 use Rattle.art_rules.specs.declared.Mention.{Mention}
 use Rattle.art_rules.specs.declared.TheConstants.{FIRST_FRAME, FIRST_ROTATION, LAST_FRAME, LAST_ROTATION, ROTATIONS, SECOND_PAIR_AT, SPRITE_LETTERS}
-use Rattle.art_rules.specs.Books.{each_of}
-use Rattle.art_rules.specs.Frames.{frame_picture, is_of_frame, is_of_rotation, is_pair, last_that, lump_mentions, mention_at, mentions, name_mentions, picture_by, picture_if}
 use Rattle.trim_rules.proofs.ThereLemmas.{all-append}
 
 ok_of : {X R : Type 0} (a b : X) → (let l : Result X R = Ok a in l) ≡ Ok b → a ≡ b

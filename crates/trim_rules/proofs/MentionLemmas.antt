@@ -1,8 +1,7 @@
 -- The pictures of a frame by the mentions of fewer lumps: where those that are its pictures are kept, they stay so.
-use Rattle.word_rules.proofs.Common.{[], ap, Bool, cond, false, filter, List, None, Option, refl, Some, suc, sym, true, ℕ, ◌==◌, ◌∙◌, ◌∷◌, ◌≡◌}
-use Rattle.word_rules.specs.Least.{or_else}
+use Rattle.art_rules.proofs.Common.{[], ap, Bool, cond, false, filter, List, None, Option, refl, Some, suc, sym, true, ℕ, ◌==◌, ◌∙◌, ◌∷◌, ◌≡◌}
+use Rattle.art_rules.specs.Words.{frame_picture, is_of_frame, is_of_rotation, last_that, or_else, picture_by, picture_if}
 use Rattle.art_rules.specs.declared.Mention.{Mention}
-use Rattle.art_rules.specs.Frames.{last_that, is_of_frame, is_of_rotation, picture_by, picture_if, frame_picture}
 
 -- none passes among fewer
 fewer_none : (passes keep : Mention → Bool) (x : Mention) (rest : List Mention) (kept : Bool)

@@ -1,21 +1,13 @@
 -- The flats of the sectors by the trimmed directory are those by the given one under other numbers.
-use Rattle.word_rules.proofs.Common.{[], and_parts, ap, arith, Bool, bytes_eq, bytes_eq-Decides, cases_lt, cond, Decides-eqb, Err, false, filter, get_or, inl, inr, length, List, list_any, map, None, Ok, ok_or, Option, option_and_then, option_map, or-cases, or-true_left, or-true_right, range_with_len, refl, Result, Some, some-injective, suc, sym, true, zero, ℕ, ◌&&◌, ◌+◌, ◌<◌, ◌==◌, ◌||◌, ◌∙◌, ◌∷◌, ◌≡◌, ◌≤◌}
-use Rattle.outside.specs.Faults.{and_then}
-use Rattle.outside.proofs.AnswerLemmas.{and_then-ok}
-use Rattle.word_rules.proofs.LeastLemmas.{greatest-is}
-use Rattle.lump_rules.specs.declared.wad.Lump.{Lump}
-use Rattle.lump_rules.specs.declared.names.Group.TheVariants.{Flats}
-use Rattle.lump_rules.specs.Lookups.{flat_of, has_name, is_member, lump_at}
-use Rattle.level_rules.specs.declared.Sector.{Sector}
+use Rattle.art_rules.proofs.Common.{[], and_parts, ap, arith, Bool, bytes_eq, bytes_eq-Decides, cases_lt, cond, Decides-eqb, Err, false, filter, get_or, inl, inr, length, List, list_any, map, None, Ok, ok_or, Option, option_and_then, option_map, or-cases, or-true_left, or-true_right, range_with_len, refl, Result, Some, some-injective, suc, sym, true, zero, ℕ, ◌&&◌, ◌+◌, ◌<◌, ◌==◌, ◌||◌, ◌∙◌, ◌∷◌, ◌≡◌, ◌≤◌}
+use Rattle.art_rules.specs.Words.{and_then, flat_of, Flats, has_name, is_member, Lump, lump_at}
+use Rattle.art_rules.proofs.Laws.{and_then-ok, greatest-is}
+use Rattle.scene_rules.specs.Words.{both_flats, each_from, each_or, flat_named, flat_number, flats_of, has_flat, is_sky_name, lump_flat, Sector, sector_flats}
 use Rattle.scene_rules.specs.declared.Flat.{Flat}
 use Rattle.scene_rules.specs.declared.Flat.TheVariants.{Sky, Lump as LumpFlat}
 use Rattle.scene_rules.specs.declared.SectorFlats.{SectorFlats}
 use Rattle.scene_rules.specs.declared.refusal.SceneRefusal.{SceneRefusal}
 use Rattle.scene_rules.specs.declared.refusal.SceneRefusal.TheVariants.{SectorFlat}
-use Rattle.scene_rules.specs.Numbered.{each_from, each_or}
-use Rattle.scene_rules.specs.SectorFlats.{both_flats, flat_named, flat_number, flats_of, lump_flat, sector_flats}
-use Rattle.scene_rules.specs.Skies.{is_sky_name}
-use Rattle.scene_rules.specs.Sizes.{has_flat}
 use Rattle.trim_rules.specs.Parts.{flat_lumps}
 use Rattle.trim_rules.proofs.FlatLemmas.{HasFlats, trimmed_flat}
 use Rattle.trim_rules.proofs.MemberLemmas.{is_lump-at}

@@ -1,8 +1,7 @@
 -- The textures that are prepared by a directory that finds their patches: the same, but for the numbers of the patches.
-use Rattle.word_rules.proofs.Common.{[], AllByRecursion, ap, Bool, cond, Err, false, List, map, nat_lt, None, Ok, Option, option_and_then, option_map, range_with_len, refl, Result, slice_get, Some, some-injective, subst, suc, sym, true, ℕ, ⊤, ◌∙◌, ◌∷◌, ◌≡◌}
-use Rattle.outside.specs.Faults.{and_then}
-use Rattle.outside.proofs.AnswerLemmas.{and_then-ok}
-use Rattle.word_rules.specs.Listed.{listed}
+use Rattle.art_rules.proofs.Common.{[], AllByRecursion, ap, Bool, cond, Err, false, List, map, nat_lt, None, Ok, Option, option_and_then, option_map, range_with_len, refl, Result, slice_get, Some, some-injective, subst, suc, sym, true, ℕ, ⊤, ◌∙◌, ◌∷◌, ◌≡◌}
+use Rattle.art_rules.specs.Words.{and_then, column_lookup, column_lookups, composed_count, composite_size, listed, patch_of, place_lump, place_patch, placed_patch, placed_patches, prepared, prepared_from, prepared_if, prepared_textures, PreparedTexture, Texture, texture_of, TextureLists, unless_missing, unless_too_big}
+use Rattle.art_rules.proofs.Laws.{and_then-ok}
 use Rattle.art_rules.specs.declared.ColumnLookup.{ColumnLookup}
 use Rattle.art_rules.specs.declared.PlacedPatch.{PlacedPatch}
 use Rattle.art_rules.specs.declared.TextureEntry.{TextureEntry}
@@ -10,11 +9,6 @@ use Rattle.art_rules.specs.declared.patch.Patch.{Patch}
 use Rattle.art_rules.specs.declared.refusal.TexRefusal.{TexRefusal}
 use Rattle.art_rules.specs.declared.refusal.TexRefusal.TheVariants.{TooBig}
 use Rattle.art_rules.specs.declared.TheConstants.{MAX_COMPOSITE}
-use Rattle.art_rules.specs.Columns.{composed_count, composite_size}
-use Rattle.art_rules.specs.Lookups.{column_lookup, column_lookups}
-use Rattle.art_rules.specs.Patches.{patch_of}
-use Rattle.art_rules.specs.Textures.{Texture, TextureLists}
-use Rattle.art_rules.specs.Wanted.{PreparedTexture, place_lump, place_patch, placed_patch, placed_patches, prepared, prepared_from, prepared_if, prepared_textures, texture_of, unless_missing, unless_too_big}
 use Rattle.trim_rules.proofs.TexelLemmas.{column_lookup-moved, composed_columns-moved, moved, moved_lookup}
 
 -- a prepared texture under other numbers

@@ -1,21 +1,9 @@
 -- The scene of an accepted level by the trimmed file: the same, with its lumps moved.
-use Rattle.word_rules.proofs.Common.{[], AllByRecursion, ap, Err, length, List, list_any, map, Ok, option_map, refl, Result, subst, sym, true, ℕ, ◌==◌, ◌∙◌, ◌∷◌, ◌≡◌, ◌≤◌}
-use Rattle.outside.specs.Faults.{and_then, from_below}
-use Rattle.outside.proofs.AnswerLemmas.{and_then-ok}
-use Rattle.lump_rules.specs.declared.wad.Lump.{Lump}
-use Rattle.lump_rules.specs.Contents.{lump_bytes}
-use Rattle.lump_rules.specs.Lookups.{last_of}
-use Rattle.lump_rules.specs.Wads.{directory}
-use Rattle.level_rules.specs.declared.ThingLine.{ThingLine}
-use Rattle.level_rules.specs.declared.TheConstants.{SKY_FLAT}
-use Rattle.art_rules.specs.Books.{book_lumps, first_needs}
-use Rattle.art_rules.specs.Wanted.{prepared_textures}
+use Rattle.art_rules.proofs.Common.{[], AllByRecursion, ap, Err, length, List, list_any, map, Ok, option_map, refl, Result, subst, sym, true, ℕ, ◌==◌, ◌∙◌, ◌∷◌, ◌≡◌, ◌≤◌}
+use Rattle.art_rules.specs.Words.{and_then, book_lumps, directory, first_needs, from_below, last_of, Lump, lump_bytes, prepared_textures}
+use Rattle.art_rules.proofs.Laws.{and_then-ok}
+use Rattle.scene_rules.specs.Words.{bad_middle, base_in, book_in, checked, faces_in, is_wanted_texture, LevelBase, need_of, placed_things, scene_in, scene_on, scene_over, scene_with, SceneArt, SceneValue, SKY_FLAT, texture_by, ThingLine}
 use Rattle.scene_rules.specs.declared.refusal.AuditRefusal.TheVariants.{Texture, Sprite, Scene}
-use Rattle.scene_rules.specs.Middles.{bad_middle}
-use Rattle.scene_rules.specs.Places.{need_of, placed_things}
-use Rattle.scene_rules.specs.Scenes.{LevelBase, SceneValue, base_in, book_in, checked, faces_in, scene_in, scene_on, scene_over, scene_with, texture_by}
-use Rattle.scene_rules.specs.Sides.{is_wanted_texture}
-use Rattle.scene_rules.specs.Sizes.{SceneArt}
 use Rattle.trim_rules.specs.declared.part.TrimPart.{TrimPart}
 use Rattle.trim_rules.specs.Parts.{trim_parts, trim_plan}
 use Rattle.trim_rules.specs.Files.{trimmed_file, trimmed_lumps}

@@ -1,24 +1,13 @@
 -- The trimmed file gives the base of the level again: its map, its lists of textures and its palette.
-use Rattle.word_rules.proofs.Common.{[], ap, arith, Bool, cond, Err, false, filter, length, List, map, nat_le, None, not, Ok, ok_or, Option, option_and_then, option_map, refl, Result, Some, subst, suc, sym, take, true, zero, ℕ, ◌++◌, ◌+◌, ◌<◌, ◌∙◌, ◌∷◌, ◌≡◌}
-use Rattle.outside.specs.Faults.{and_then, from_below}
-use Rattle.outside.proofs.AnswerLemmas.{and_then-ok}
-use Rattle.word_rules.proofs.LeastLemmas.{greatest-is}
-use Rattle.lump_rules.specs.declared.wad.Lump.{Lump}
-use Rattle.lump_rules.specs.Contents.{LiesWithin, lump_bytes, named_bytes}
-use Rattle.lump_rules.specs.Lookups.{has_name, last_of, lump_at, map_of, no_lump}
-use Rattle.lump_rules.specs.Wads.{directory}
-use Rattle.lump_rules.proofs.ContentLemmas.{directory_within, lump_bytes-length}
+use Rattle.art_rules.proofs.Common.{[], ap, arith, Bool, cond, Err, false, filter, length, List, map, nat_le, None, not, Ok, ok_or, Option, option_and_then, option_map, refl, Result, Some, subst, suc, sym, take, true, zero, ℕ, ◌++◌, ◌+◌, ◌<◌, ◌∙◌, ◌∷◌, ◌≡◌}
+use Rattle.art_rules.specs.Words.{and_then, both_lists, directory, first_list, from_below, has_name, last_of, LiesWithin, Lump, lump_at, lump_bytes, map_of, named_bytes, no_lump, patch_names, prepared_textures, Texture as ListedTexture, texture_lists, TextureLists}
+use Rattle.art_rules.proofs.Laws.{and_then-ok, directory_within, greatest-is, lump_bytes-length}
 use Rattle.made_rules.specs.declared.wad.TheConstants.{HEAD_SIZE}
-use Rattle.level_rules.specs.declared.maps.refusal.MapRefusal.TheVariants.{NoMap}
-use Rattle.level_rules.specs.maps.Levels.{level_of}
+use Rattle.scene_rules.specs.Words.{base_in, base_over, colormap_of, if_long, label_of, level_in, level_of, LevelBase, lists_in, long_lump, map_bytes, NoMap, playpal_of, SceneArt}
 use Rattle.art_rules.specs.declared.TheConstants.{PNAMES, TEXTURE1, TEXTURE2}
-use Rattle.art_rules.specs.Textures.{Texture as ListedTexture, TextureLists, both_lists, first_list, patch_names, texture_lists}
-use Rattle.art_rules.specs.Wanted.{prepared_textures}
 use Rattle.scene_rules.specs.declared.TheConstants.{COLORMAP, COLORMAP_SIZE, PLAYPAL, PALETTE_SIZE}
 use Rattle.scene_rules.specs.declared.refusal.ArtRefusal.TheVariants.{Colormap, Playpal}
 use Rattle.scene_rules.specs.declared.refusal.AuditRefusal.TheVariants.{Art, Map, Texture}
-use Rattle.scene_rules.specs.Scenes.{LevelBase, base_in, base_over, colormap_of, if_long, label_of, level_in, lists_in, long_lump, map_bytes, playpal_of}
-use Rattle.scene_rules.specs.Sizes.{SceneArt}
 use Rattle.trim_rules.specs.declared.part.TrimPart.{TrimPart}
 use Rattle.trim_rules.specs.Parts.{called_lumps, copy_part, label_or_copy, trim_parts}
 use Rattle.trim_rules.specs.Files.{part_bytes, part_lump, stored_from, stored_lumps, trimmed_file, trimmed_lumps}

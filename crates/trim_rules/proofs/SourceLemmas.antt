@@ -1,11 +1,8 @@
 -- What an accepted level finds by its name is found by the trimmed directory too, as the lump that was copied from it.
-use Rattle.word_rules.proofs.Common.{[], AllByRecursion, ap, arith, Bool, false, filter, length, length-map, List, list_any, map, None, not, Option, option_map, range_with_len, refl, Some, suc, sym, true, zero, ℕ, ◌+◌, ◌<◌, ◌==◌, ◌∙◌, ◌∷◌, ◌≡◌}
-use Rattle.word_rules.specs.Least.{greatest}
-use Rattle.lump_rules.specs.declared.wad.Lump.{Lump}
-use Rattle.lump_rules.specs.Lookups.{has_name, last_of, map_of}
+use Rattle.art_rules.proofs.Common.{[], AllByRecursion, ap, arith, Bool, false, filter, length, length-map, List, list_any, map, None, not, Option, option_map, range_with_len, refl, Some, suc, sym, true, zero, ℕ, ◌+◌, ◌<◌, ◌==◌, ◌∙◌, ◌∷◌, ◌≡◌}
+use Rattle.art_rules.specs.Words.{greatest, has_name, is_patch_of_any, last_of, Lump, map_of, patch_lumps, PreparedTexture}
 use Rattle.made_rules.specs.declared.wad.TheConstants.{HEAD_SIZE}
-use Rattle.art_rules.specs.Wanted.{PreparedTexture, is_patch_of_any, patch_lumps}
-use Rattle.scene_rules.specs.Sizes.{SceneArt}
+use Rattle.scene_rules.specs.Words.{SceneArt}
 use Rattle.trim_rules.specs.declared.part.TrimPart.{TrimPart}
 use Rattle.trim_rules.specs.declared.part.TrimPart.TheVariants.{Mark, Label, Copy}
 use Rattle.trim_rules.specs.Parts.{called_lumps, fixed_lumps, trim_parts}

@@ -1,14 +1,9 @@
 -- The prepared textures of an accepted level by the trimmed directory: the same, with their patches moved.
-use Rattle.word_rules.proofs.Common.{[], AllByRecursion, Bool, Decides-eqb, false, length, List, list_any, map, None, Ok, Option, option_map, or-true_left, or-true_right, refl, Some, true, ℕ, ◌==◌, ◌||◌, ◌∷◌, ◌≡◌, ◌≤◌}
-use Rattle.word_rules.proofs.LeastLemmas.{greatest-is}
-use Rattle.lump_rules.specs.declared.wad.Lump.{Lump}
-use Rattle.lump_rules.specs.Contents.{lump_bytes}
-use Rattle.lump_rules.specs.Lookups.{has_name, last_of}
-use Rattle.level_rules.specs.declared.TheConstants.{SKY_FLAT}
+use Rattle.art_rules.proofs.Common.{[], AllByRecursion, Bool, Decides-eqb, false, length, List, list_any, map, None, Ok, Option, option_map, or-true_left, or-true_right, refl, Some, true, ℕ, ◌==◌, ◌||◌, ◌∷◌, ◌≡◌, ◌≤◌}
+use Rattle.art_rules.proofs.Laws.{greatest-is}
+use Rattle.art_rules.specs.Words.{has_name, is_patch_of, is_patch_of_any, last_of, Lump, lump_bytes, prepared_textures, PreparedTexture}
+use Rattle.scene_rules.specs.Words.{base_in, LevelBase, SceneArt, SKY_FLAT}
 use Rattle.art_rules.specs.declared.PlacedPatch.{PlacedPatch}
-use Rattle.art_rules.specs.Wanted.{PreparedTexture, is_patch_of, is_patch_of_any, prepared_textures}
-use Rattle.scene_rules.specs.Scenes.{LevelBase, base_in}
-use Rattle.scene_rules.specs.Sizes.{SceneArt}
 use Rattle.trim_rules.specs.declared.part.TrimPart.{TrimPart}
 use Rattle.trim_rules.specs.Parts.{trim_parts}
 use Rattle.trim_rules.specs.Files.{trimmed_file, trimmed_lumps}

@@ -1,14 +1,10 @@
 -- The groups of a trimmed file: the flats of part 1 and the pictures of part 2, where no lump that is copied has the
 -- name of a mark.
-use Rattle.word_rules.proofs.Common.{[], AllByRecursion, and-second_false, ap, append_assoc, Bool, Decides-eqb, false, filter, length, List, list_any, map, map-append, None, not, Option, or-true_right, range_with_len, refl, Some, subst, suc, sym, true, ℕ, ⊤, ◌&&◌, ◌++◌, ◌<◌, ◌||◌, ◌∙◌, ◌∷◌, ◌≡◌}
-use Rattle.word_rules.proofs.LeastLemmas.{none-below}
-use Rattle.lump_rules.specs.declared.wad.Lump.{Lump}
-use Rattle.lump_rules.specs.declared.names.TheConstants.{F_START, F_END, MAP_LUMPS, S_START, S_END}
-use Rattle.lump_rules.specs.declared.names.Group.{Group}
-use Rattle.lump_rules.specs.declared.names.Group.TheVariants.{Flats, Sprites}
-use Rattle.lump_rules.specs.Lookups.{has_name, is_end, is_start, lump_at, map_of}
+use Rattle.art_rules.proofs.Common.{[], AllByRecursion, and-second_false, ap, append_assoc, Bool, Decides-eqb, false, filter, length, List, list_any, map, map-append, None, not, Option, or-true_right, range_with_len, refl, Some, subst, suc, sym, true, ℕ, ⊤, ◌&&◌, ◌++◌, ◌<◌, ◌||◌, ◌∙◌, ◌∷◌, ◌≡◌}
+use Rattle.art_rules.proofs.Laws.{none-below}
+use Rattle.art_rules.specs.Words.{F_END, F_START, Flats, Group, has_name, is_end, is_start, Lump, lump_at, MAP_LUMPS, map_of, S_END, S_START, Sprites}
 use Rattle.made_rules.specs.declared.wad.TheConstants.{HEAD_SIZE}
-use Rattle.scene_rules.specs.Sizes.{SceneArt}
+use Rattle.scene_rules.specs.Words.{SceneArt}
 use Rattle.trim_rules.specs.declared.part.TrimPart.{TrimPart}
 use Rattle.trim_rules.specs.declared.part.TrimPart.TheVariants.{Mark, Label, Copy}
 use Rattle.trim_rules.specs.Parts.{called_lumps, copy_part, flat_lumps, group_parts, is_lump_part, is_mark, label_or_copy, label_part, map_parts, marked_lump, part_name, picture_lumps, trim_parts}

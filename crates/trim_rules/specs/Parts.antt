@@ -1,18 +1,12 @@
 -- The parts of the trimmed file of a level, in their order, or why there is none.
 use Rattle.std.specs.Prelude.{ℕ, suc, ◌+◌, ◌*◌, ◌==◌, ◌&&◌, ◌||◌, Bool, false, not, cond, nat_lt, List, [], ◌∷◌, ◌++◌, length, map, filter, sum_by, Option, Some, None, option_map, Result, Ok, Err}
 use Rattle.std.specs.List.{list_any, range_with_len}
-use Rattle.word_rules.specs.Least.{least, or_else}
-use Rattle.lump_rules.specs.declared.wad.Lump.{Lump}
-use Rattle.lump_rules.specs.declared.wad.TheConstants.{ENTRY_SIZE, MAX_LUMPS}
-use Rattle.lump_rules.specs.declared.names.TheConstants.{F_START, F_END, S_START, S_END, MAP_LUMPS}
-use Rattle.lump_rules.specs.declared.names.Group.TheVariants.{Flats, Sprites}
-use Rattle.lump_rules.specs.Lookups.{has_name, is_end, is_start, last_of, lump_at, map_of}
+use Rattle.art_rules.specs.Words.{ENTRY_SIZE, F_END, F_START, Flats, has_name, is_end, is_start, last_of, least, Lump, lump_at, MAP_LUMPS, map_of, MAX_LUMPS, or_else, patch_lumps, PreparedTexture, S_END, S_START, Sprites}
 use Rattle.made_rules.specs.declared.wad.TheConstants.{HEAD_SIZE}
 use Rattle.art_rules.specs.declared.TheConstants.{PNAMES, TEXTURE1, TEXTURE2}
-use Rattle.art_rules.specs.Wanted.{PreparedTexture, patch_lumps}
 use Rattle.scene_rules.specs.declared.TheConstants.{COLORMAP, PLAYPAL}
 use Rattle.scene_rules.specs.declared.SectorFlats.{SectorFlats}
-use Rattle.scene_rules.specs.Sizes.{SceneArt, has_flat}
+use Rattle.scene_rules.specs.Words.{has_flat, SceneArt}
 use Rattle.trim_rules.specs.declared.part.TrimPart.{TrimPart}
 use Rattle.trim_rules.specs.declared.part.TrimPart.TheVariants.{Mark, Label, Copy}
 use Rattle.job_rules.specs.declared.trim.TrimRefusal.{TrimRefusal}

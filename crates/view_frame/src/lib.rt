@@ -10,6 +10,11 @@ mod ranges;
 mod sides;
 mod view;
 
+pub use angle_tables::{Tables, projection};
+pub use fx_words::{
+    abs_word, div, fine_angle, fixed, greater_word, inverse_word, lesser_word, minus, mul,
+    neg_word, plus, same_word, shl_word, shr_word, signed_of, times, turn, turn_back,
+};
 pub use sides::side_of;
 pub use view::View;
 pub use view_rules::{ColumnRange, Eye, Partition, Spans, ViewShape};

@@ -1,13 +1,7 @@
 -- Laws of the dots of spans: which pixel each has, and that those of rows that end have one at each pixel of the rows.
-use Rattle.word_rules.proofs.Common.{[], ap, arith, Bool, cases_eq, cond, false, inl, inr, max, min, nat_le, nat_lt, nat_tests, None, not, Option, or_else-none_right, refl, Some, suc, sym, true, zero, ℕ, ◌&&◌, ◌++◌, ◌+◌, ◌-◌, ◌<◌, ◌||◌, ◌∙◌, ◌≡◌, ◌≢◌, ◌≤◌, ◌⊎◌}
-use Rattle.word_rules.specs.Least.{or_else}
-use Rattle.view_rules.specs.declared.TheConstants.{FRAME_WIDTH, FRAME_HEIGHT}
-use Rattle.pixel_rules.specs.declared.Painter.{Painter}
-use Rattle.pixel_rules.specs.Dots.{Dot, last_dot, AreInFrame}
-use Rattle.pixel_rules.specs.Strips.{span_dots}
-use Rattle.pixel_rules.proofs.DotLemmas.{last_dot-append, last_dot-none, in_frame-append}
-use Rattle.pixel_rules.proofs.StripLemmas.{in_row-span_dots, in_frame-span_dots}
-use Rattle.pixel_rules.proofs.ColumnLemmas.{last_dot-span_dots, last_dot-beside_span, last_dot-other_row}
+use Rattle.picture_rules.proofs.Common.{[], ap, arith, Bool, cases_eq, cond, false, inl, inr, max, min, nat_le, nat_lt, nat_tests, None, not, Option, or_else-none_right, refl, Some, suc, sym, true, zero, ℕ, ◌&&◌, ◌++◌, ◌+◌, ◌-◌, ◌<◌, ◌||◌, ◌∙◌, ◌≡◌, ◌≢◌, ◌≤◌, ◌⊎◌}
+use Rattle.picture_rules.specs.Words.{AreInFrame, Dot, FRAME_HEIGHT, FRAME_WIDTH, last_dot, or_else, Painter, span_dots}
+use Rattle.picture_rules.proofs.Laws.{in_frame-append, in_frame-span_dots, in_row-span_dots, last_dot-append, last_dot-beside_span, last_dot-none, last_dot-other_row, last_dot-span_dots}
 use Rattle.visplanes.specs.declared.rows.Rows.{Rows}
 use Rattle.visplanes.specs.Spans.{FloorView, pixel_colour, row_dots, closed_rows, closed_dots, is_in}
 

@@ -1,13 +1,7 @@
 -- Laws of a canvas that is given a plane's spans from column to column: none yet, one column more, all.
-use Rattle.word_rules.proofs.Common.{[], and_left, and_right, ap, ap₂, arith, Bool, both_ways, cases_eq, cases_lt, cond, false, inl, inr, le-ltb, List, lt-ltb, max, min, nat_lt, None, not, Option, refl, Some, suc, sym, true, zero, ℕ, ◌&&◌, ◌++◌, ◌+◌, ◌-◌, ◌<◌, ◌||◌, ◌∙◌, ◌≡◌, ◌≤◌}
-use Rattle.word_rules.specs.Least.{or_else}
-use Rattle.view_rules.specs.declared.TheConstants.{FRAME_WIDTH, FRAME_HEIGHT}
-use Rattle.view_rules.specs.declared.ViewShape.{ViewShape}
-use Rattle.pixel_rules.specs.declared.Painter.{Painter}
-use Rattle.pixel_rules.specs.Dots.{Dot, last_dot}
-use Rattle.pixel_rules.proofs.DotLemmas.{last_dot-append, last_dot-none, put_dots-append, in_frame-append}
-use Rattle.picture_rules.specs.plane.Planes.{Plane}
-use Rattle.picture_rules.specs.plane.Spans.{holds_row, holds, span_start}
+use Rattle.picture_rules.proofs.Common.{[], and_left, and_right, ap, ap₂, arith, Bool, both_ways, cases_eq, cases_lt, cond, false, inl, inr, le-ltb, List, lt-ltb, max, min, nat_lt, None, not, Option, refl, Some, suc, sym, true, zero, ℕ, ◌&&◌, ◌++◌, ◌+◌, ◌-◌, ◌<◌, ◌||◌, ◌∙◌, ◌≡◌, ◌≤◌}
+use Rattle.picture_rules.specs.Words.{Dot, FRAME_HEIGHT, FRAME_WIDTH, holds, holds_row, last_dot, or_else, Painter, Plane, span_start, ViewShape}
+use Rattle.picture_rules.proofs.Laws.{in_frame-append, last_dot-append, last_dot-none, put_dots-append}
 use Rattle.picture_rules.proofs.plane.SpanLemmas.{span_start-on, span_start-off, span_start-zero, span_start-within, span_start-passes, span_start-least, span_start-is}
 use Rattle.pixel_strips.specs.Canvases.{CanvasView, with_dots}
 use Rattle.pixel_strips.proofs.CanvasLemmas.{dots_none}

@@ -1,26 +1,9 @@
 -- A canvas that has a plane's spans has the dots of the plane, in whatever order they came.
-use Rattle.word_rules.proofs.Common.{[], and_from, and_right, ap, arith, Bool, cases_lt, cond, false, inl, inr, le-leb, List, lt-ltb, nat_le, nat_lt, None, Option, pos, refl, Some, suc, sym, true, zero, ℕ, ℤ, ◌&&◌, ◌+◌, ◌<◌, ◌∙◌, ◌∷◌, ◌≡◌, ◌≤◌}
-use Rattle.word_rules.specs.Listed.{listed, joined_lists}
-use Rattle.word_rules.proofs.ListedLemmas.{listed_from-length, listed_from-none}
-use Rattle.view_rules.specs.declared.TheConstants.{FRAME_WIDTH}
-use Rattle.view_rules.specs.declared.ViewShape.{ViewShape}
-use Rattle.view_rules.specs.View.{ViewValue}
-use Rattle.view_rules.specs.Lights.{light_number, distance_map}
-use Rattle.pixel_rules.specs.declared.Painter.{Painter}
-use Rattle.pixel_rules.specs.declared.TheConstants.{PLANE}
-use Rattle.pixel_rules.specs.Dots.{Dot, last_dot, AreInFrame, AreInColumn}
-use Rattle.pixel_rules.specs.Art.{Art, lump_source, painter_of}
-use Rattle.pixel_rules.specs.Strips.{shade, span_colour}
-use Rattle.pixel_rules.proofs.DotLemmas.{put_dots-same, last_dot-none, in_frame-append}
-use Rattle.pixel_rules.proofs.StripLemmas.{in_frame-column_dots, column_dots-none}
-use Rattle.pixel_rules.proofs.ColumnLemmas.{last_dot-no_column}
+use Rattle.picture_rules.proofs.Common.{[], and_from, and_right, ap, arith, Bool, cases_lt, cond, false, inl, inr, le-leb, List, lt-ltb, nat_le, nat_lt, None, Option, pos, refl, Some, suc, sym, true, zero, ℕ, ℤ, ◌&&◌, ◌+◌, ◌<◌, ◌∙◌, ◌∷◌, ◌≡◌, ◌≤◌}
+use Rattle.picture_rules.specs.Words.{AreInColumn, AreInFrame, Art, column, distance_map, Dot, flat_colour, floor_colour, floor_dots, FRAME_WIDTH, holds, holds_row, is_sky_key, joined_lists, last_dot, light_number, listed, lump_source, Painter, painter_of, pixel_place, PLANE, Plane, plane_dots, plane_dots_by, row_distance, run_dots, same_flat, shade, span_colour, span_start, ViewShape, ViewValue}
+use Rattle.picture_rules.proofs.Laws.{column_dots-none, in_frame-append, in_frame-column_dots, last_dot-no_column, last_dot-none, listed_from-length, listed_from-none, put_dots-same}
 use Rattle.picture_rules.specs.declared.plane.Flat4.{Flat4}
 use Rattle.picture_rules.specs.declared.plane.Flat4.TheVariants.{Sky, Lump}
-use Rattle.picture_rules.specs.plane.Keys.{same_flat, is_sky_key}
-use Rattle.picture_rules.specs.plane.Planes.{Plane, column}
-use Rattle.picture_rules.specs.plane.Spans.{holds_row, holds, span_start}
-use Rattle.picture_rules.specs.plane.Floors.{row_distance, pixel_place, flat_colour, floor_colour, run_dots, floor_dots}
-use Rattle.picture_rules.specs.plane.Skies.{plane_dots_by, plane_dots}
 use Rattle.picture_rules.proofs.plane.FloorLemmas.{in_column-run_dots, last_dot-floor_dots}
 use Rattle.pixel_strips.specs.Canvases.{CanvasView, with_dots}
 use Rattle.visplanes.specs.Planes.{flat_lump}

@@ -1,11 +1,6 @@
 -- The colours of a span strip are those of a plane's span.
-use Rattle.word_rules.proofs.Common.{ap, ℕ, ℤ, ◌≡◌}
-use Rattle.word_rules.specs.Words.{mul}
-use Rattle.view_rules.specs.declared.Spans.{Spans}
-use Rattle.view_rules.specs.Lights.{distance_map}
-use Rattle.pixel_rules.specs.declared.Painter.{Painter}
-use Rattle.pixel_rules.specs.Strips.{span_dots}
-use Rattle.picture_rules.specs.plane.Floors.{base_x, base_y, span_x, span_y, pixel_place}
+use Rattle.picture_rules.proofs.Common.{ap, ℕ, ℤ, ◌≡◌}
+use Rattle.picture_rules.specs.Words.{base_x, base_y, distance_map, mul, Painter, pixel_place, span_dots, span_x, span_y, Spans}
 use Rattle.pixel_strips.specs.Strips.{row_colour}
 use Rattle.visplanes.specs.Spans.{FloorView, distance_at, light_at, pixel_colour, row_dots}
 

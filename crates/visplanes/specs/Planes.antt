@@ -2,7 +2,7 @@
 use Rattle.std.specs.Prelude.{◌≡◌, ℕ, ◌-◌, ◌<◌, ◌≤◌, pos, List, Some, length, slice_index_or}
 use Rattle.picture_rules.specs.declared.plane.Flat4.{Flat4}
 use Rattle.picture_rules.specs.declared.plane.Flat4.TheVariants.{Sky, Lump}
-use Rattle.picture_rules.specs.plane.Planes.{Plane, empty_plane, number_of}
+use Rattle.picture_rules.specs.Words.{empty_plane, number_of, Plane}
 
 pub record PlanesView : Type 0 where
   pub planes : List Plane

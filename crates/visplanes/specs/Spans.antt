@@ -1,19 +1,8 @@
 -- How a plane's rows are cut into spans: the runs from a column on, the rows that end and begin at a column, and the
 -- dots that are painted by then.
 use Rattle.std.specs.Prelude.{◌≡◌, ℕ, zero, suc, ◌+◌, ◌-◌, ◌<◌, ◌≤◌, min, max, ◌&&◌, nat_le, nat_lt, ℤ, pos, cond, Bool, true, List, [], ◌++◌, drop, length, Option, Some, None, slice_index}
-use Rattle.view_rules.specs.declared.TheConstants.{FRAME_WIDTH, FRAME_HEIGHT}
-use Rattle.view_rules.specs.declared.ViewShape.{ViewShape}
-use Rattle.view_rules.specs.View.{ViewValue}
-use Rattle.view_rules.specs.Lights.{light_number, distance_map}
-use Rattle.level_rules.specs.walk.Covered.{runs}
-use Rattle.pixel_rules.specs.declared.Painter.{Painter}
-use Rattle.pixel_rules.specs.Dots.{Dot, last_dot, AreInFrame}
-use Rattle.pixel_rules.specs.Art.{Art}
-use Rattle.pixel_rules.specs.Strips.{shade, span_colour, span_dots}
+use Rattle.picture_rules.specs.Words.{AreInFrame, Art, column, distance_map, Dot, FRAME_HEIGHT, FRAME_WIDTH, holds, last_dot, light_number, Painter, pixel_place, Plane, plane_gaps, row_distance, runs, shade, span_colour, span_dots, span_start, ViewShape, ViewValue}
 use Rattle.picture_rules.specs.declared.plane.PlaneKey.{PlaneKey}
-use Rattle.picture_rules.specs.plane.Planes.{Plane, column}
-use Rattle.picture_rules.specs.plane.Spans.{holds, span_start, plane_gaps}
-use Rattle.picture_rules.specs.plane.Floors.{row_distance, pixel_place}
 use Rattle.pixel_strips.specs.Canvases.{CanvasView, with_dots}
 use Rattle.visplanes.specs.declared.rows.Rows.{Rows}
 

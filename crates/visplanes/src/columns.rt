@@ -1,13 +1,10 @@
 // The columns of a plane.
 ghost use Rattle.std.specs.Prelude.{◌≡◌, ℕ, ◌+◌, ◌<◌, ◌≤◌, ◌↔◌, IfSome, IsSome, None, true, false, length, slice_index};
-ghost use Rattle.view_rules.specs.declared.TheConstants.{FRAME_WIDTH, FRAME_HEIGHT};
-ghost use Rattle.picture_rules.specs.plane.Planes.{empty_plane, is_free, with_run, column};
-ghost use Rattle.picture_rules.specs.plane.Spans.{holds};
+ghost use Rattle.picture_rules.specs.Words.{column, empty_plane, FRAME_HEIGHT, FRAME_WIDTH, holds, is_free, with_run};
 ghost use Rattle.visplanes.specs.Columns.{HasRun};
 
-use picture_rules::PlaneKey;
+use picture_rules::{FRAME_WIDTH, PlaneKey};
 use std::marker::Model;
-use view_rules::FRAME_WIDTH;
 
 /// The top of a column without a run.
 pub const NO_RUN: u8 = 255;
@@ -27,7 +24,7 @@ pub struct Visplane {
 }
 
 impl Model for Visplane {
-    ghost use Rattle.picture_rules.specs.plane.Planes.{Plane};
+    ghost use Rattle.picture_rules.specs.Words.{Plane};
     ghost use Rattle.visplanes.specs.Columns.{plane_of, IsKept};
 
     ghost Value = { Plane };

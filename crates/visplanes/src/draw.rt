@@ -1,11 +1,7 @@
 // The pixels of a plane, by spans that open and close from column to column.
 ghost use Rattle.std.specs.Prelude.{◌≡◌, ℕ, ◌+◌, ◌-◌, ◌<◌, ◌≤◌, true, false, length, slice_index};
-ghost use Rattle.view_rules.specs.declared.TheConstants.{FRAME_WIDTH, FRAME_HEIGHT};
-ghost use Rattle.pixel_rules.specs.declared.TheConstants.{PLANE};
-ghost use Rattle.pixel_rules.specs.Art.{Art, lump_source, painter_of};
+ghost use Rattle.picture_rules.specs.Words.{Art, FRAME_HEIGHT, FRAME_WIDTH, is_sky_key, lump_source, painter_of, PLANE, plane_dots};
 ghost use Rattle.picture_rules.specs.declared.plane.Flat4.{Flat4};
-ghost use Rattle.picture_rules.specs.plane.Keys.{is_sky_key};
-ghost use Rattle.picture_rules.specs.plane.Skies.{plane_dots};
 ghost use Rattle.pixel_strips.specs.Canvases.{with_painter, with_dots};
 ghost use Rattle.visplanes.specs.Planes.{plane_at, flat_lump};
 ghost use Rattle.visplanes.specs.Spans.{is_in, closed_rows, closed_dots, AreOpen, IsSeen, HasSpans, GivesFlat};
@@ -15,11 +11,9 @@ use crate::floor::Floor;
 use crate::keys::flat_lump;
 use crate::planes::{PlaneNo, Planes};
 use crate::rows::{NO_ROWS, Rows, rows_of};
-use picture_rules::Flat4;
-use pixel_rules::{LUMP, PLANE, Painter};
+use picture_rules::{FRAME_HEIGHT, Flat4, LUMP, PLANE, Painter};
 use pixel_strips::Canvas;
 use view_frame::View;
-use view_rules::FRAME_HEIGHT;
 
 /// Paints a plane that is not sky: each pixel that its runs hold, once, by the fractions of the
 /// first column of its span.
@@ -59,7 +53,7 @@ pub fn draw_plane<C: Canvas>(
 }
 
 // Who paints the plane.
-#[tactic(auto, unfolding(pixel_rules::specs::Art::lump_source, pixel_rules::specs::Art::painter_of))]
+#[tactic(auto, unfolding(picture_rules::specs::Words::lump_source, picture_rules::specs::Words::painter_of))]
 fn painter_of(plane: PlaneNo, flat: Flat4) -> Painter
     ensures { result ≡ painter_of PLANE plane.0 (lump_source (flat_lump flat)) }
 {

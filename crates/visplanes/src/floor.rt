@@ -1,20 +1,15 @@
 // What the spans of a plane are painted with, and one span.
 ghost use Rattle.std.specs.Prelude.{◌≡◌, ◌+◌, ◌<◌, ◌≤◌, pos};
-ghost use Rattle.word_rules.specs.Words.{plus, minus, mul, neg_word};
-ghost use Rattle.view_rules.specs.Angles.{sine_at, cosine_at};
-ghost use Rattle.word_rules.specs.declared.TheConstants.{FINE_ANGLES};
-ghost use Rattle.view_rules.specs.declared.TheConstants.{FRAME_WIDTH, FRAME_HEIGHT};
-ghost use Rattle.picture_rules.specs.plane.Floors.{base_angle, base_x, base_y, row_distance, span_length, span_angle, span_x, span_y};
+ghost use Rattle.picture_rules.specs.Words.{base_angle, base_x, base_y, cosine_at, FINE_ANGLES, FRAME_HEIGHT, FRAME_WIDTH, minus, mul, neg_word, plus, row_distance, sine_at, span_angle, span_length, span_x, span_y};
 ghost use Rattle.pixel_strips.specs.Canvases.{with_dots};
 ghost use Rattle.visplanes.specs.Spans.{floor_view, row_dots};
 
-use angle_tables::projection;
-use fx_words::{abs_word, div, fine_angle, minus, mul, neg_word, plus, turn, turn_back};
-use picture_rules::PlaneKey;
+use picture_rules::{ANG90, PlaneKey};
 use pixel_strips::{Canvas, SpanStrip, paint_span_as};
 use std::marker::Model;
-use view_frame::View;
-use word_rules::ANG90;
+use view_frame::{
+    View, abs_word, div, fine_angle, minus, mul, neg_word, plus, projection, turn, turn_back,
+};
 
 /// The view, the key of the plane, the bytes of its flat and of the colormaps; and what all rows
 /// have in common: the light number, and what a column to the right gains at distance 1.
@@ -31,9 +26,7 @@ pub struct Floor<'a, 'b> {
 
 impl<'a, 'b> Model for Floor<'a, 'b> {
     ghost use Rattle.std.specs.Prelude.{◌≡◌, ◌<◌, pos};
-    ghost use Rattle.view_rules.specs.Lights.{light_number};
-    ghost use Rattle.view_rules.specs.declared.TheConstants.{LIGHT_LEVELS};
-    ghost use Rattle.picture_rules.specs.plane.Floors.{base_x, base_y};
+    ghost use Rattle.picture_rules.specs.Words.{base_x, base_y, LIGHT_LEVELS, light_number};
     ghost use Rattle.visplanes.specs.Spans.{FloorView, floor_view};
 
     ghost Value = { FloorView };

@@ -1,10 +1,10 @@
 // The keys of planes, compared.
 ghost use Rattle.std.specs.Prelude.{◌≡◌};
-ghost use Rattle.picture_rules.specs.plane.Keys.{same_flat, same_key};
+ghost use Rattle.picture_rules.specs.Words.{same_flat, same_key};
 ghost use Rattle.visplanes.specs.Planes.{flat_lump};
 
-use fx_words::same_word;
 use picture_rules::{Flat4, PlaneKey};
+use view_frame::same_word;
 
 /// Whether two keys are equal.
 #[tactic(auto, unfolding(picture_rules::specs::plane::Keys::same_key))]

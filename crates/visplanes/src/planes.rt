@@ -1,10 +1,7 @@
 // The planes of a view.
 ghost use Rattle.std.specs.Prelude.{◌≡◌, ℕ, ◌+◌, ◌<◌, ◌≤◌, ◌↔◌, true, Some, [], None, length, position, IfOk, IfErr, IfSome, IsSome, IsErr, OnOk, OnErr};
-ghost use Rattle.view_rules.specs.declared.TheConstants.{FRAME_WIDTH, FRAME_HEIGHT};
+ghost use Rattle.picture_rules.specs.Words.{add, AreWide, check, column, find, FRAME_HEIGHT, FRAME_WIDTH, holds, mark, number_of, row_runs, same_key};
 ghost use Rattle.picture_rules.specs.declared.plane.TheConstants.{MOST_VISPLANES};
-ghost use Rattle.picture_rules.specs.plane.Keys.{same_key};
-ghost use Rattle.picture_rules.specs.plane.Planes.{find, check, mark, add, column, number_of, AreWide};
-ghost use Rattle.picture_rules.specs.plane.Spans.{holds, row_runs};
 ghost use Rattle.visplanes.specs.Full.{ChoosesPlane};
 ghost use Rattle.visplanes.specs.Planes.{PlanesView, with_planes, plane_at, IsFirst};
 
@@ -44,7 +41,7 @@ pub struct Planes {
 impl Model for Planes {
     ghost use Rattle.std.specs.Prelude.{take, length, ◌≤◌};
     ghost use Rattle.picture_rules.specs.declared.plane.TheConstants.{MOST_VISPLANES};
-    ghost use Rattle.picture_rules.specs.plane.Planes.{AreWide};
+    ghost use Rattle.picture_rules.specs.Words.{AreWide};
     ghost use Rattle.visplanes.specs.Planes.{PlanesView, IsFirst};
 
     ghost Value = { PlanesView };

@@ -1,14 +1,13 @@
 // The runs of columns that hold a row.
 ghost use Rattle.std.specs.Prelude.{◌≡◌, ℕ, ◌+◌, ◌-◌, ◌<◌, ◌≤◌, ◌∷◌, length, true};
 ghost use Rattle.std.specs.Iterator.{YieldsFirst, item_count};
-ghost use Rattle.view_rules.specs.declared.TheConstants.{FRAME_WIDTH};
-ghost use Rattle.picture_rules.specs.plane.Spans.{holds, row_runs};
+ghost use Rattle.picture_rules.specs.Words.{FRAME_WIDTH, holds, row_runs};
 ghost use Rattle.visplanes.specs.Spans.{runs_from};
 
 use crate::columns::Visplane;
 use crate::rows::holds_row;
+use picture_rules::FRAME_WIDTH;
 use std::marker::Model;
-use view_rules::FRAME_WIDTH;
 
 /// The runs of columns of a plane that hold a row and are still to come, from left to right, each
 /// by its first and its last column.
@@ -21,7 +20,7 @@ pub struct RowRuns<'a> {
 
 impl<'a> Model for RowRuns<'a> {
     ghost use Rattle.std.specs.Prelude.{List, ℕ, ◌≤◌, ◌≡◌, length};
-    ghost use Rattle.view_rules.specs.declared.TheConstants.{FRAME_WIDTH};
+    ghost use Rattle.picture_rules.specs.Words.{FRAME_WIDTH};
     ghost use Rattle.visplanes.specs.Spans.{runs_from};
 
     ghost Value = { List (ℕ × ℕ) };

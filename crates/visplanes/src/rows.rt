@@ -1,7 +1,6 @@
 // The rows of a column, and those that one column has and another has not.
 ghost use Rattle.std.specs.Prelude.{◌≡◌, ◌+◌, ◌<◌, ◌≤◌, IfSome};
-ghost use Rattle.view_rules.specs.declared.TheConstants.{FRAME_HEIGHT};
-ghost use Rattle.picture_rules.specs.plane.Spans.{holds_row};
+ghost use Rattle.picture_rules.specs.Words.{FRAME_HEIGHT, holds_row};
 ghost use Rattle.visplanes.specs.Spans.{rows_of};
 
 /// The rows from `begin` on, before `end`.

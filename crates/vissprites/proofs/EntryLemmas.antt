@@ -1,17 +1,12 @@
 -- Laws of what is seen of a thing, and of its entry.
-use Rattle.word_rules.proofs.Common.{ap, arith, Bool, cond, false, int_lt, ints, nat_le, nat_tests, negsuc, None, pos, refl, Some, subst, sym, true, ℕ, ℤ, ◌*◌, ◌/◌, ◌^◌, ◌≡◌, ◌≤ℤ◌, ◌≤◌}
-use Rattle.word_rules.specs.Words.{minus, div, greater_word, lesser_word}
-use Rattle.word_rules.specs.declared.TheConstants.{FRACTION_UNIT}
-use Rattle.view_rules.specs.View.{ViewValue}
-use Rattle.view_rules.specs.Sound.{IsWithinFrame}
-use Rattle.view_rules.proofs.ColumnLemmas.{projection_is}
+use Rattle.picture_rules.proofs.Common.{ap, arith, Bool, cond, false, int_lt, ints, nat_le, nat_tests, negsuc, None, pos, refl, Some, subst, sym, true, ℕ, ℤ, ◌*◌, ◌/◌, ◌^◌, ◌≡◌, ◌≤ℤ◌, ◌≤◌}
+use Rattle.picture_rules.specs.Words.{depth, div, entry_for, entry_of, entry_within, FRACTION_UNIT, greater_word, IsWithinFrame, lesser_word, minus, picture_height, project, seen_at, seen_within, side, sprite_map, sprite_scale, ViewValue}
+use Rattle.picture_rules.proofs.Laws.{projection_is}
 use Rattle.picture_rules.specs.declared.sprite.TheConstants.{MIN_DEPTH}
 use Rattle.picture_rules.specs.declared.sprite.Placed.{Placed}
 use Rattle.picture_rules.specs.declared.sprite.Seen.{Seen}
 use Rattle.picture_rules.specs.declared.sprite.Shape5.{Shape5}
 use Rattle.picture_rules.specs.declared.sprite.SpriteEntry.{SpriteEntry}
-use Rattle.picture_rules.specs.sprite.Projection.{depth, side, sprite_scale, seen_at, seen_within, project}
-use Rattle.picture_rules.specs.sprite.Entries.{sprite_map, picture_height, entry_of, entry_within, entry_for}
 
 -- the scale of what is not too near is not negative
 div_positive : (n : ℕ) (d : ℤ) → n ≤ 160 → int_lt d MIN_DEPTH ≡ false → pos 0 ≤ℤ div (pos (n * 65536)) d

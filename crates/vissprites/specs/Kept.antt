@@ -2,7 +2,7 @@
 use Rattle.std.specs.Prelude.{◌≡◌, ℕ, suc, ◌≤◌, ◌&&◌, nat_lt, Bool, true, cond, List, [], ◌∷◌, length, IsTrue}
 use Rattle.picture_rules.specs.declared.sprite.TheConstants.{MAX_VISSPRITES}
 use Rattle.picture_rules.specs.declared.sprite.SpriteEntry.{SpriteEntry}
-use Rattle.picture_rules.specs.sprite.Order.{draw_order, is_smaller}
+use Rattle.picture_rules.specs.Words.{draw_order, is_smaller}
 
 -- e before the first of the entries that was made later
 unfoldable pub insert_made : SpriteEntry → List SpriteEntry → List SpriteEntry

@@ -1,15 +1,12 @@
 // The vissprite of a thing that is seen with a picture.
 
 ghost use Rattle.std.specs.Prelude.{◌≡◌, ◌<◌, ◌≤ℤ◌, pos, Some};
-ghost use Rattle.view_rules.specs.declared.TheConstants.{LIGHT_LEVELS};
-ghost use Rattle.picture_rules.specs.sprite.Projection.{project};
-ghost use Rattle.picture_rules.specs.sprite.Entries.{left_edge, right_edge, edge_column, picture_first, picture_last, misses_view, sprite_map, picture_height, entry_of, entry_for};
+ghost use Rattle.picture_rules.specs.Words.{edge_column, entry_for, entry_of, left_edge, LIGHT_LEVELS, misses_view, picture_first, picture_height, picture_last, project, right_edge, sprite_map};
 
-use angle_tables::projection;
-use fx_words::{div, fixed, greater_word, lesser_word, minus, mul, plus, shr_word};
-use picture_rules::{Placed, Seen, Shape5, SpriteEntry};
-use view_frame::View;
-use word_rules::{FRACTION_BITS, FRACTION_UNIT};
+use picture_rules::{FRACTION_BITS, FRACTION_UNIT, Placed, Seen, Shape5, SpriteEntry};
+use view_frame::{
+    View, div, fixed, greater_word, lesser_word, minus, mul, plus, projection, shr_word,
+};
 
 /// The entry of this number of a thing that is seen, None where its picture misses the view.
 #[tactic(auto, unfolding(picture_rules::specs::sprite::Entries::entry_for, picture_rules::specs::sprite::Entries::entry_within))]

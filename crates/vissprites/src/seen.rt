@@ -1,12 +1,13 @@
 // Where a thing is seen, before its picture is known.
 
 ghost use Rattle.std.specs.Prelude.{◌≡◌, ◌<◌, IfSome};
-ghost use Rattle.picture_rules.specs.sprite.Projection.{view_sine, view_cosine, depth, side, sprite_scale, rotation, seen_at, seen_within, project};
+ghost use Rattle.picture_rules.specs.Words.{depth, project, rotation, seen_at, seen_within, side, sprite_scale, view_cosine, view_sine};
 
-use angle_tables::projection;
-use fx_words::{abs_word, div, fine_angle, minus, mul, neg_word, plus, shl_word, turn, turn_back};
 use picture_rules::{MIN_DEPTH, Placed, ROTATION_SHIFT, ROTATION_TURN, SIDE_SHIFT, Seen};
-use view_frame::View;
+use view_frame::{
+    View, abs_word, div, fine_angle, minus, mul, neg_word, plus, projection, shl_word, turn,
+    turn_back,
+};
 
 /// The pictures of a thing by its turn to the viewpoint.
 pub const ROTATIONS: u8 = 8;

@@ -3,11 +3,8 @@
 ghost use Rattle.std.specs.Prelude.{◌≡◌, [], ◌<◌, ◌≤◌, ℕ, Bool, Some, IfOk, length, vec_len, vec_capacity};
 ghost use Rattle.std.specs.List.{AllPass};
 ghost use Rattle.std.specs.List.Sorted.{IsSortedBy, IsStableBy};
-ghost use Rattle.view_rules.specs.declared.TheConstants.{LIGHT_LEVELS};
+ghost use Rattle.picture_rules.specs.Words.{add_entry, draw_order, insert_last, is_smaller, LIGHT_LEVELS, project, with_entry};
 ghost use Rattle.picture_rules.specs.declared.sprite.TheConstants.{MAX_VISSPRITES};
-ghost use Rattle.picture_rules.specs.sprite.Projection.{project};
-ghost use Rattle.picture_rules.specs.sprite.Entries.{add_entry, with_entry};
-ghost use Rattle.picture_rules.specs.sprite.Order.{is_smaller, insert_last, draw_order};
 ghost use Rattle.picture_rules.specs.declared.sprite.SpriteEntry.{SpriteEntry};
 ghost use Rattle.vissprites.specs.Kept.{made_order, IsKept, count_before};
 ghost use Rattle.vissprites.specs.Bounds.{lies_within, has_lump_below};

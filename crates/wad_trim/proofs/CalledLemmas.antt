@@ -1,11 +1,9 @@
 -- The lumps that are found by their names.
-use Rattle.word_rules.proofs.Common.{[], ap, append-nil, append_assoc, arith, Bool, cond, false, filter, filter-append, length, List, list_any, nat_lt, nat_tests, not, Option, range_with_len, refl, suc, true, zero, ℕ, ◌&&◌, ◌++◌, ◌+◌, ◌-◌, ◌<◌, ◌==◌, ◌∙◌, ◌∷◌, ◌≡◌, ◌≤◌}
-use Rattle.lump_rules.specs.Names.{filled, name_of}
-use Rattle.lump_rules.specs.declared.wad.Lump.{Lump}
+use Rattle.art_rules.proofs.Common.{[], ap, append-nil, append_assoc, arith, Bool, cond, false, filter, filter-append, length, List, list_any, nat_lt, nat_tests, not, Option, range_with_len, refl, suc, true, zero, ℕ, ◌&&◌, ◌++◌, ◌+◌, ◌-◌, ◌<◌, ◌==◌, ◌∙◌, ◌∷◌, ◌≡◌, ◌≤◌}
+use Rattle.art_rules.specs.Words.{filled, is_patch_of_any, Lump, name_of, patch_lumps, PreparedTexture}
 use Rattle.art_rules.specs.declared.TheConstants.{PNAMES, TEXTURE1, TEXTURE2}
-use Rattle.art_rules.specs.Wanted.{PreparedTexture, is_patch_of_any, patch_lumps}
 use Rattle.scene_rules.specs.declared.TheConstants.{COLORMAP, PLAYPAL}
-use Rattle.texture_lists.proofs.JudgeLemmas.{pnames_name, texture1_name, texture2_name}
+use Rattle.texture_build.proofs.JudgeLemmas.{pnames_name, texture1_name, texture2_name}
 use Rattle.trim_rules.specs.Parts.{called_lumps, fixed_lumps, listed_last}
 
 -- the patches among the first numbers, out of those among more

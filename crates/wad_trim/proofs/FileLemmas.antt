@@ -1,11 +1,7 @@
 -- The bytes of a trimmed file, in the order in which they are written.
-use Rattle.word_rules.proofs.Common.{[], add-zero, All, ap, append_assoc, arith, codes, drop, drop-cons, flat_map, flat_map-append, flat_map-cons, get_or, length, length-append, length-map, List, map, refl, suc, sum_by-cons, sum_by_more, sym, take, take-append-drop, take_all, take_more, zero, ℕ, ◌*◌, ◌++◌, ◌+◌, ◌<◌, ◌∙◌, ◌∷◌, ◌≡◌, ◌≤◌}
-use Rattle.lump_rules.specs.declared.wad.Lump.{Lump}
-use Rattle.lump_rules.specs.declared.wad.LumpNo.{LumpNo}
-use Rattle.lump_rules.specs.declared.wad.TheConstants.{ENTRY_SIZE, HEADER_SIZE}
-use Rattle.lump_rules.specs.Contents.{AllWithin, lump_bytes}
-use Rattle.lump_rules.specs.Lookups.{no_lump}
-use Rattle.lump_rules.proofs.ContentLemmas.{lump_bytes-length}
+use Rattle.art_rules.proofs.Common.{[], add-zero, All, ap, append_assoc, arith, codes, drop, drop-cons, flat_map, flat_map-append, flat_map-cons, get_or, length, length-append, length-map, List, map, refl, suc, sum_by-cons, sum_by_more, sym, take, take-append-drop, take_all, take_more, zero, ℕ, ◌*◌, ◌++◌, ◌+◌, ◌<◌, ◌∙◌, ◌∷◌, ◌≡◌, ◌≤◌}
+use Rattle.art_rules.specs.Words.{AllWithin, ENTRY_SIZE, HEADER_SIZE, Lump, lump_bytes, LumpNo, no_lump}
+use Rattle.art_rules.proofs.Laws.{lump_bytes-length}
 use Rattle.made_rules.specs.Bytes.{word_bytes}
 use Rattle.made_rules.specs.declared.wad.TheConstants.{HEAD_SIZE}
 use Rattle.made_rules.specs.Wads.{contents, entries, file_of, wad_file}

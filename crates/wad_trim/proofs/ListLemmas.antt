@@ -1,9 +1,8 @@
 -- Lists of lumps by their numbers, and what marks of numbers list.
-use Rattle.word_rules.proofs.Common.{[], All, AllByRecursion, Any-from_list_any, ap, arith, Bool, Contains, Decides, eq-from_true, eq-true, filter, get_or, length, List, list_any, list_any-append, list_any_at, nat_tests, range_with_len, refl, same_from_decides, subst, suc, sym, true, zero, ℕ, ◌++◌, ◌<◌, ◌==◌, ◌||◌, ◌↔◌, ◌∙◌, ◌∷◌, ◌≡◌}
-use Rattle.lump_rules.specs.declared.wad.Lump.{Lump}
-use Rattle.lump_rules.specs.declared.wad.LumpNo.{LumpNo}
+use Rattle.art_rules.proofs.Common.{[], All, AllByRecursion, Any-from_list_any, ap, arith, Bool, Contains, Decides, eq-from_true, eq-true, filter, get_or, length, List, list_any, list_any-append, list_any_at, nat_tests, range_with_len, refl, same_from_decides, subst, suc, sym, true, zero, ℕ, ◌++◌, ◌<◌, ◌==◌, ◌||◌, ◌↔◌, ◌∙◌, ◌∷◌, ◌≡◌}
+use Rattle.art_rules.specs.Words.{Lump, LumpNo}
 use Rattle.scene_rules.specs.declared.SectorFlats.{SectorFlats}
-use Rattle.scene_rules.specs.Sizes.{has_flat}
+use Rattle.scene_rules.specs.Words.{has_flat}
 use Rattle.texture_build.specs.Views.{is_marked}
 use Rattle.texture_build.proofs.MarkLemmas.{filter_same}
 use Rattle.sound_scene.specs.Views.{lump_numbers}

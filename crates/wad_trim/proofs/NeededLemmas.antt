@@ -1,16 +1,9 @@
 -- Each lump that is copied is one that the level needs.
-use Rattle.word_rules.proofs.Common.{[], All-contains, All-from_recursion, AllByRecursion, ap, arith, Bool, bytes_eq, bytes_eq-Decides, cond, eq-eqb, false, filter, inl, inr, length, List, list_any, map, nat_le, nat_tests, None, not, Ok, ok_or, Option, option_and_then, option_map_or, or-true, or_cases, range_with_len, refl, Some, subst, suc, sym, true, zero, ℕ, ⊤, ◌++◌, ◌+◌, ◌<◌, ◌==◌, ◌||◌, ◌∙◌, ◌∷◌, ◌≡◌, ◌≤◌}
-use Rattle.lump_rules.specs.declared.wad.Lump.{Lump}
-use Rattle.lump_rules.specs.declared.names.TheConstants.{F_START, F_END, MAP_LUMPS, S_START, S_END}
-use Rattle.lump_rules.specs.Lookups.{has_name, last_of, lump_at, map_of}
-use Rattle.level_rules.specs.declared.ThingLine.{ThingLine}
-use Rattle.level_rules.specs.declared.maps.refusal.MapRefusal.TheVariants.{NoMap}
+use Rattle.art_rules.proofs.Common.{[], All-contains, All-from_recursion, AllByRecursion, ap, arith, Bool, bytes_eq, bytes_eq-Decides, cond, eq-eqb, false, filter, inl, inr, length, List, list_any, map, nat_le, nat_tests, None, not, Ok, ok_or, Option, option_and_then, option_map_or, or-true, or_cases, range_with_len, refl, Some, subst, suc, sym, true, zero, ℕ, ⊤, ◌++◌, ◌+◌, ◌<◌, ◌==◌, ◌||◌, ◌∙◌, ◌∷◌, ◌≡◌, ◌≤◌}
+use Rattle.art_rules.specs.Words.{F_END, F_START, has_name, is_patch_of_any, last_of, Lump, lump_at, MAP_LUMPS, map_of, patch_lumps, S_END, S_START}
+use Rattle.scene_rules.specs.Words.{colormap_of, has_flat, if_long, is_last, is_list, is_map_lump, is_needed, is_wanted_texture, label_of, LevelBase, NoMap, playpal_of, SceneArt, SceneValue, ThingLine}
 use Rattle.art_rules.specs.declared.TheConstants.{PNAMES, TEXTURE1, TEXTURE2}
-use Rattle.art_rules.specs.Wanted.{is_patch_of_any, patch_lumps}
 use Rattle.scene_rules.specs.declared.TheConstants.{COLORMAP, COLORMAP_SIZE, PLAYPAL, PALETTE_SIZE}
-use Rattle.scene_rules.specs.Scenes.{LevelBase, SceneValue, colormap_of, if_long, label_of, playpal_of}
-use Rattle.scene_rules.specs.Sides.{is_wanted_texture}
-use Rattle.scene_rules.specs.Sizes.{SceneArt, has_flat, is_last, is_list, is_map_lump, is_needed}
 use Rattle.sound_scene.specs.Sound.{art_with}
 use Rattle.sound_scene.proofs.NeededLemmas.{for_colormap, for_list, for_map, for_palette, for_patch, for_picture}
 use Rattle.sound_scene.proofs.SceneLemmas.{IsSceneOf, base_parts}

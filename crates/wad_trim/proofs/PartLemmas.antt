@@ -1,14 +1,10 @@
 -- The parts of a file: that they are those of the definition, are there, and are few.
-use Rattle.word_rules.proofs.Common.{[], All, AllByRecursion, ap, append_assoc, arith, Bool, count_by-le-length, filter, get_or, length, length-append, length-filter, length-map, length-range_with_len, List, list_any, map, map-range_with_len_more, None, not, Option, range_with_len, refl, Some, subst, suc, sym, zero, ℕ, ◌++◌, ◌+◌, ◌<◌, ◌==◌, ◌^◌, ◌∙◌, ◌∷◌, ◌≡◌, ◌≤◌}
-use Rattle.lump_rules.specs.Names.{filled, name_of}
-use Rattle.lump_rules.specs.declared.names.TheConstants.{F_START, F_END, MAP_LUMPS, S_START, S_END}
-use Rattle.lump_rules.specs.declared.wad.Lump.{Lump}
-use Rattle.lump_rules.specs.Lookups.{has_name, last_of, map_of}
+use Rattle.art_rules.proofs.Common.{[], All, AllByRecursion, ap, append_assoc, arith, Bool, count_by-le-length, filter, get_or, length, length-append, length-filter, length-map, length-range_with_len, List, list_any, map, map-range_with_len_more, None, not, Option, range_with_len, refl, Some, subst, suc, sym, zero, ℕ, ◌++◌, ◌+◌, ◌<◌, ◌==◌, ◌^◌, ◌∙◌, ◌∷◌, ◌≡◌, ◌≤◌}
+use Rattle.art_rules.specs.Words.{F_END, F_START, filled, has_name, is_patch_of_any, last_of, Lump, MAP_LUMPS, map_of, name_of, patch_lumps, PreparedTexture, S_END, S_START}
 use Rattle.art_rules.specs.declared.TheConstants.{PNAMES, TEXTURE1, TEXTURE2}
-use Rattle.art_rules.specs.Wanted.{PreparedTexture, is_patch_of_any, patch_lumps}
 use Rattle.scene_rules.specs.declared.SectorFlats.{SectorFlats}
 use Rattle.scene_rules.specs.declared.TheConstants.{COLORMAP, PLAYPAL}
-use Rattle.scene_rules.specs.Sizes.{SceneArt, has_flat}
+use Rattle.scene_rules.specs.Words.{has_flat, SceneArt}
 use Rattle.trim_rules.specs.declared.part.TrimPart.{TrimPart}
 use Rattle.trim_rules.specs.declared.part.TrimPart.TheVariants.{Mark, Label, Copy}
 use Rattle.trim_rules.specs.Parts.{called_lumps, copy_part, fixed_lumps, flat_lumps, group_parts, last_list, listed_last, map_parts, picture_lumps, trim_parts}

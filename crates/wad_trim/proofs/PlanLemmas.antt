@@ -1,7 +1,7 @@
 -- The plan of a level, by whether its parts are refused.
 use Rattle.std.proofs.Common.{◌≡◌, ℕ, List, Some, None, Ok, Err, ap, sym, subst, ◌∙◌}
-use Rattle.lump_rules.specs.declared.wad.Lump.{Lump}
-use Rattle.scene_rules.specs.Sizes.{SceneArt}
+use Rattle.art_rules.specs.Words.{Lump}
+use Rattle.scene_rules.specs.Words.{SceneArt}
 use Rattle.trim_rules.specs.declared.part.TrimPart.{TrimPart}
 use Rattle.job_rules.specs.declared.trim.TrimRefusal.{TrimRefusal}
 use Rattle.trim_rules.specs.Parts.{trim_parts, trim_plan, trim_refusal, unless_trim_refused}

@@ -1,20 +1,16 @@
 -- Calls that read lumps and write bytes, one after the other.
-use Rattle.word_rules.proofs.Common.{[], ap, append_assoc, arith, Err, err_from_is_err_and, IsErrAnd, IsTrue, length, List, Ok, on_err_weaker, on_ok_weaker, OnErr, OnOk, refl, Result, Some, subst, sym, ℕ, ◌++◌, ◌<◌, ◌∙◌, ◌≡◌, ◌≤◌}
-use Rattle.outside.specs.Causes.{FaultsRose}
-use Rattle.outside.specs.Shelf.{ShelfView}
-use Rattle.outside.specs.Sink.{Grew, GrewByPrefix, Writes}
-use Rattle.outside.specs.declared.shelf.Failed.{Failed}
-use Rattle.outside.proofs.WriteLemmas.{grew_more, grew_none, grew_partly, prefix_none, prefix_of_more}
-use Rattle.lump_rules.specs.Contents.{lump_bytes}
-use Rattle.zone_rules.specs.Zones.{Heap, IsLive, bytes_of}
-use Rattle.zone_rules.proofs.OrderLemmas.{order_none, order_then}
-use Rattle.wad_dir.specs.DirectoryView.{DirectoryView}
-use Rattle.lump_cache.specs.declared.fault.CacheFault.{CacheFault}
-use Rattle.lump_cache.specs.declared.fault.CacheFault.TheVariants as cache
-use Rattle.lump_cache.specs.Caches.{cache_fault, lump_owner}
-use Rattle.lump_cache.specs.Calls.{HoldContents, IsFullFor, ReadsLumps}
-use Rattle.lump_cache.proofs.CallLemmas.{full_for_earlier, keeps_none, keeps_then, told_later}
-use Rattle.lump_cache.proofs.FetchLemmas.{live_faithful}
+use Rattle.art_rules.proofs.Common.{[], ap, append_assoc, arith, Err, err_from_is_err_and, IsErrAnd, IsTrue, length, List, Ok, on_err_weaker, on_ok_weaker, OnErr, OnOk, refl, Result, Some, subst, sym, ℕ, ◌++◌, ◌<◌, ◌∙◌, ◌≡◌, ◌≤◌}
+use Rattle.art_rules.specs.Words.{Failed, FaultsRose, Grew, GrewByPrefix, lump_bytes, ShelfView, Writes}
+use Rattle.art_rules.proofs.Laws.{grew_more, grew_none, grew_partly, prefix_none, prefix_of_more}
+use Rattle.scene_rules.specs.Words.{bytes_of, Heap, IsLive}
+use Rattle.scene_rules.proofs.Laws.{order_none, order_then}
+use Rattle.texture_build.specs.DirectoryView.{DirectoryView}
+use Rattle.texture_build.specs.CacheFault.{CacheFault}
+use Rattle.texture_build.specs.CacheFault.TheVariants as cache
+use Rattle.texture_build.specs.Caches.{cache_fault, lump_owner}
+use Rattle.texture_build.specs.Calls.{HoldContents, IsFullFor, ReadsLumps}
+use Rattle.texture_build.proofs.CallLemmas.{full_for_earlier, keeps_none, keeps_then, told_later}
+use Rattle.texture_build.proofs.FetchLemmas.{live_faithful}
 use Rattle.wad_trim.specs.declared.fault.TrimWrite.{TrimWrite}
 use Rattle.wad_trim.specs.declared.fault.TrimWrite.TheVariants.{ReadFault, WriteFault, ZoneFull}
 use Rattle.wad_trim.specs.Faults.{write_of_cache}

@@ -1,14 +1,10 @@
 -- A call that reads lumps through the cache and writes bytes: what it appends, what it keeps, and
 -- the cause of each fault.
 use Rattle.std.specs.Prelude.{◌≡◌, ◌≤◌, ◌<◌, ℕ, List, Contains, IsTrue, OnErr, OnOk, Result, Ok, Err, ⊤}
-use Rattle.outside.specs.Causes.{FaultsRose}
-use Rattle.outside.specs.Shelf.{ShelfView}
-use Rattle.outside.specs.Sink.{Grew, GrewByPrefix}
-use Rattle.lump_rules.specs.Contents.{lump_bytes}
-use Rattle.zone_rules.specs.Zones.{Heap}
-use Rattle.zone_rules.specs.Orders.{Item, IsInOrder, KeepsOrder}
-use Rattle.wad_dir.specs.DirectoryView.{DirectoryView}
-use Rattle.lump_cache.specs.Calls.{HasAll, HoldContents, IsFullFor, PreservesCache}
+use Rattle.art_rules.specs.Words.{FaultsRose, Grew, GrewByPrefix, lump_bytes, ShelfView}
+use Rattle.scene_rules.specs.Words.{Heap, IsInOrder, Item, KeepsOrder}
+use Rattle.texture_build.specs.DirectoryView.{DirectoryView}
+use Rattle.texture_build.specs.Calls.{HasAll, HoldContents, IsFullFor, PreservesCache}
 use Rattle.trim_rules.specs.declared.part.TrimPart.{TrimPart}
 use Rattle.trim_rules.specs.declared.part.TrimPart.TheVariants.{Mark, Label, Copy}
 use Rattle.wad_trim.specs.declared.fault.TrimWrite.{TrimWrite}

@@ -4,9 +4,9 @@ ghost use Rattle.wad_trim.specs.declared.fault.TrimFault.TheVariants as fault;
 ghost use Rattle.wad_trim.specs.declared.fault.TrimWrite.TheVariants.{WriteFault};
 ghost use Rattle.wad_trim.specs.Faults.{write_of_cache};
 
+use art_rules::{Failed, OutOfMemory};
 use job_rules::TrimRefusal;
-use lump_cache::CacheFault;
-use outside::{Failed, OutOfMemory};
+use texture_build::CacheFault;
 use thiserror::Error;
 
 /// Why there is no plan of a trimmed file. This project's own.

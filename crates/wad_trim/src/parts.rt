@@ -4,24 +4,22 @@
 ghost use Rattle.std.specs.Prelude.{◌≡◌, ◌≤◌, ◌<◌, ◌++◌, ◌^◌, ◌==◌, ◌&&◌, nat_lt, map, not, filter, length, All, IfOk, OnOk};
 ghost use Rattle.std.specs.List.{list_any};
 ghost use Rattle.std.specs.Option.{option_copied};
-ghost use Rattle.lump_rules.specs.Lookups.{has_name, map_of};
-ghost use Rattle.art_rules.specs.Books.{book_lumps};
-ghost use Rattle.lump_rules.specs.Names.{name_of};
+ghost use Rattle.art_rules.specs.Words.{book_lumps, has_name, map_of, name_of};
 ghost use Rattle.sound_scene.specs.Views.{AddsMarks, lump_numbers};
 ghost use Rattle.trim_rules.specs.Parts.{called_lumps, copy_part, fixed_lumps, flat_lumps, group_parts, label_or_copy, listed_last, map_parts, picture_lumps, trim_parts};
 ghost use Rattle.wad_trim.specs.Plans.{trim_art, layer_lumps};
 ghost use Rattle.wad_trim.specs.Writes.{IsPartThere};
 
-use art_rules::{PNAMES, TEXTURE1, TEXTURE2};
-use lump_rules::{F_END, F_START, MAP_LUMP_COUNT, NAME_SIZE, Name8, S_END, S_START};
-use outside::OutOfMemory;
+use art_rules::{
+    F_END, F_START, MAP_LUMP_COUNT, Name8, OutOfMemory, PNAMES, S_END, S_START, TEXTURE1, TEXTURE2,
+};
+use lump_cache::NAME_SIZE;
 use scene_rules::{COLORMAP, PLAYPAL, SectorFlats};
 use sound_scene::{Marks, SoundScene, mark_flats, mark_lumps};
 use sprite_book::SpriteBook;
 use std::alloc::Global;
-use texture_build::Textures;
+use texture_build::{Directory, LumpNo, Textures};
 use trim_rules::TrimPart;
-use wad_dir::{Directory, LumpNo};
 
 // All parts. Takes memory for them, and while it runs a byte for each lump of the directory.
 pub(crate) fn list_parts(

@@ -11,15 +11,13 @@ use crate::fault::{TrimFault, TrimWrite};
 use crate::parts::list_parts;
 use crate::refuse::trim_refusal;
 use crate::write::write_parts;
-use lump_cache::LumpCache;
-use lump_rules::Name8;
-use outside::{Shelf, Sink};
+use art_rules::{Name8, Shelf, Sink};
 use sound_scene::SoundScene;
 use sprite_book::SpriteBook;
 use std::alloc::Global;
 use std::marker::Model;
+use texture_build::{Directory, LumpCache};
 use trim_rules::TrimPart;
-use wad_dir::Directory;
 
 /// The parts of a trimmed file, in their order. Contracts see the list of them.
 ///

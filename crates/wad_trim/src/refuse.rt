@@ -3,19 +3,18 @@
 // Rules: `trim_rules`, Parts.
 ghost use Rattle.std.specs.Prelude.{◌≡◌, ◌≤◌, ◌<◌, ◌^◌, ◌==◌, ◌||◌, ◌∷◌, [], ℕ, false, cond, length, All, Some, None, IfSome, option_map};
 ghost use Rattle.std.specs.Option.{option_map_or};
-ghost use Rattle.lump_rules.specs.Lookups.{is_end, is_start, lump_at};
-ghost use Rattle.lump_rules.specs.declared.names.Group.TheVariants.{Flats, Sprites};
+ghost use Rattle.art_rules.specs.Words.{Flats, is_end, is_start, lump_at, Sprites};
 ghost use Rattle.trim_rules.specs.Parts.{file_size, is_lump_part, is_mark, marked_lump, part_size, parts_size, trim_refusal};
 ghost use Rattle.wad_trim.specs.Lessers.{lesser};
 ghost use Rattle.wad_trim.specs.Writes.{IsPartThere};
 
-use job_rules::{MAX_FILE_BYTES, TrimRefusal};
-use lump_rules::{
-    ENTRY_SIZE, F_END, F_START, FF_END, FF_START, HEADER_SIZE, MAX_LUMPS, NAME_SIZE, S_END,
-    S_START, SS_END, SS_START,
+use art_rules::{
+    F_END, F_START, FF_END, FF_START, HEADER_SIZE, MAX_LUMPS, S_END, S_START, SS_END, SS_START,
 };
+use job_rules::{MAX_FILE_BYTES, TrimRefusal};
+use lump_cache::{ENTRY_SIZE, NAME_SIZE};
+use texture_build::{Directory, LumpNo};
 use trim_rules::TrimPart;
-use wad_dir::{Directory, LumpNo};
 
 // In order: a lump with the name of a mark, too many entries, too many bytes.
 #[tactic(auto, unfolding(trim_rules::specs::Parts::trim_refusal, trim_rules::specs::Parts::too_many, trim_rules::specs::Parts::too_large))]

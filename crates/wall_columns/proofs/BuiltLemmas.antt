@@ -1,28 +1,14 @@
 -- Laws of what is built: nothing, a leaf more, a fragment more.
-use Rattle.word_rules.proofs.Common.{[], All-nil, All-push, ap, arith, Bool, cond, length, length-append, List, nat_le, nat_lt, nat_tests, None, Option, refl, subst, suc, sym, take, true, ℕ, ℤ, ◌&&◌, ◌++◌, ◌+◌, ◌-◌, ◌<◌, ◌∙◌, ◌∷◌, ◌≡◌, ◌≤◌}
-use Rattle.view_rules.specs.View.{ViewValue}
-use Rattle.view_rules.specs.declared.TheConstants.{FRAME_WIDTH}
-use Rattle.view_rules.specs.declared.ViewShape.{ViewShape}
+use Rattle.picture_rules.proofs.Common.{[], All-nil, All-push, ap, arith, Bool, cond, length, length-append, List, nat_le, nat_lt, nat_tests, None, Option, refl, subst, suc, sym, take, true, ℕ, ℤ, ◌&&◌, ◌++◌, ◌+◌, ◌-◌, ◌<◌, ◌∙◌, ◌∷◌, ◌≡◌, ◌≤◌}
+use Rattle.picture_rules.specs.Words.{after_event, bottom_clips, ceiling_checked, ceiling_found, ceiling_marks, ceiling_rows, clip_after, clip_before, clip_past, columns_marked, Draws, edges_at, Finds, floor_checked, floor_found, floor_marks, floor_rows, fragment_numbers, FRAME_WIDTH, has_column, MarkAlike, marked_rows, middle_columns, no_planes, note_at, notes_from, open_clip, openings_list, past_wall, Plane, plane_wall, PlanesNow, PlaneWall, room_if, saved_by, saved_from, saves_bottom, saves_top, texture_column, top_clips, view_notes, ViewShape, ViewValue, Wall, wall_edges, wall_marked, wall_of, wall_step}
 use Rattle.picture_rules.specs.declared.wall.ColumnClip.{ColumnClip}
 use Rattle.picture_rules.specs.declared.wall.FragmentNote.{FragmentNote}
 use Rattle.picture_rules.specs.declared.wall.FragmentNumbers.{FragmentNumbers}
 use Rattle.picture_rules.specs.declared.wall.WallFacts.{WallFacts}
-use Rattle.picture_rules.specs.wall.Clips.{open_clip, clip_after, ceiling_rows, floor_rows}
-use Rattle.picture_rules.specs.wall.Columns.{texture_column}
-use Rattle.picture_rules.specs.wall.Edges.{edges_at}
-use Rattle.picture_rules.specs.wall.Openings.{saves_top, saves_bottom}
-use Rattle.picture_rules.specs.wall.Notes.{room_if, middle_columns, top_clips, bottom_clips, saved_by, saved_from, notes_from, openings_list, view_notes, note_at}
-use Rattle.picture_rules.specs.wall.Numbers.{fragment_numbers}
-use Rattle.picture_rules.specs.wall.Strips.{marked_rows, ceiling_marks, floor_marks}
-use Rattle.picture_rules.specs.wall.Walls.{Wall, wall_of, has_column, wall_edges, past_wall, clip_before, clip_past}
 use Rattle.picture_rules.proofs.wall.NoteLemmas.{openings_list-more, view_notes-more}
 use Rattle.picture_rules.proofs.wall.WallLemmas.{clip_past-next, clip_before-front}
 use Rattle.picture_rules.specs.declared.plane.PlaneKey.{PlaneKey}
-use Rattle.picture_rules.specs.plane.Planes.{Plane}
-use Rattle.picture_rules.specs.plane.Built.{PlaneWall, PlanesNow, no_planes, floor_found, ceiling_found, ceiling_checked, floor_checked, columns_marked, wall_marked, after_event, MarkAlike}
-use Rattle.picture_rules.specs.plane.Built.PlaneEvent.{Finds, Draws}
 use Rattle.picture_rules.proofs.plane.BuiltLemmas.{after_event-alike, sound-after_event}
-use Rattle.picture_rules.specs.Planes.{plane_wall, wall_step}
 use Rattle.visplanes.specs.Planes.{PlanesView}
 use Rattle.wall_edges.specs.Fragments.{FragmentValue, fragment_of}
 use Rattle.wall_columns.specs.declared.notes.SavePlaces.{SavePlaces}

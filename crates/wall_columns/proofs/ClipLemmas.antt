@@ -1,18 +1,10 @@
 -- Laws of the clips of a column: they stay in their ranges, and so do the rows between them.
-use Rattle.word_rules.proofs.Common.{arith, Bool, clamps, cond, false, FitsSigned, int_le, int_shr, int_wrap, int_wrap_fits, ints, List, negsuc, None, Option, pos, refl, SFits-int_wrap, slice_get, Some, subst, suc, sym, true, w32, zero, ℕ, ℤ, ◌+ℤ◌, ◌-ℤ◌, ◌-◌, ◌<ℤ◌, ◌≡◌, ◌≤ℤ◌, ◌≤◌}
-use Rattle.word_rules.specs.Words.{plus, minus, shr_word, greater_word, lesser_word, minus_one}
-use Rattle.word_rules.specs.Steps.{step_at}
-use Rattle.view_rules.specs.declared.TheConstants.{FRAME_HEIGHT}
-use Rattle.view_rules.specs.declared.ViewShape.{ViewShape}
+use Rattle.picture_rules.proofs.Common.{arith, Bool, clamps, cond, false, FitsSigned, int_le, int_shr, int_wrap, int_wrap_fits, ints, List, negsuc, None, Option, pos, refl, SFits-int_wrap, slice_get, Some, subst, suc, sym, true, w32, zero, ℕ, ℤ, ◌+ℤ◌, ◌-ℤ◌, ◌-◌, ◌<ℤ◌, ◌≡◌, ◌≤ℤ◌, ◌≤◌}
+use Rattle.picture_rules.specs.Words.{above_clip, below_clip, bottom_first, bottom_rows, ceiling_after, ceiling_past_none, ceiling_past_top, ceiling_rows, clip_after, clip_before, edge_at, edges_at, floor_after, floor_past_bottom, floor_past_none, floor_rows, FRAME_HEIGHT, greater_word, greatest_clip, has_column, has_texture, least_clip, lesser_word, middle_rows, minus, minus_one, narrowed_clip, open_clip, past_some, past_wall, plus, row_from, row_to, shr_word, shut_clip, step_at, top_last, top_rows, ViewShape, Wall, wall_edges, wall_first, wall_last}
 use Rattle.picture_rules.specs.declared.wall.TheConstants.{MAX_EDGE_FRACTION}
 use Rattle.picture_rules.specs.declared.wall.ColumnClip.{ColumnClip}
 use Rattle.picture_rules.specs.declared.wall.Edges.{Edges}
 use Rattle.picture_rules.specs.declared.wall.FragmentNumbers.{FragmentNumbers}
-use Rattle.picture_rules.specs.wall.Parts.{has_texture}
-use Rattle.picture_rules.specs.wall.Edges.{edge_at, edges_at}
-use Rattle.picture_rules.specs.wall.Clips.{open_clip, row_from, row_to, below_clip, above_clip, wall_first, wall_last, ceiling_rows, floor_rows, middle_rows, top_last, top_rows, ceiling_past_top, ceiling_past_none, ceiling_after, bottom_first, bottom_rows, floor_past_bottom, floor_past_none, floor_after, shut_clip, narrowed_clip, clip_after}
-use Rattle.picture_rules.specs.wall.Walls.{Wall, has_column, wall_edges, past_wall, past_some, clip_before}
-use Rattle.picture_rules.specs.Noted.{least_clip, greatest_clip}
 use Rattle.wall_columns.specs.Windows.{IsClipIn}
 use Rattle.wall_columns.specs.Plans.{AreEdgeWords, AreRowsIn}
 

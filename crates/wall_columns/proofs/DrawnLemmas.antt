@@ -1,23 +1,12 @@
 -- Laws of the columns of a fragment as they are painted one by one.
-use Rattle.word_rules.proofs.Common.{[], All, AllByRecursion, ap, append-nil, arith, false, inl, inr, ints, length, List, map, map-range_with_len_more, or_parts, pos, range_with_len, recursion_from_All, refl, Result, subst, suc, sym, zero, ℕ, ℤ, ◌++◌, ◌+◌, ◌-◌, ◌<ℤ◌, ◌<◌, ◌||◌, ◌∙◌, ◌∷◌, ◌≡◌, ◌≢◌, ◌≤ℤ◌, ◌≤◌}
-use Rattle.outside.specs.declared.fault.Fault.{Fault}
-use Rattle.word_rules.specs.Listed.{listed_from, joined_lists}
-use Rattle.word_rules.proofs.ListedLemmas.{joined_lists-append}
-use Rattle.view_rules.specs.View.{ViewValue}
-use Rattle.view_rules.specs.declared.TheConstants.{FRAME_WIDTH, FRAME_HEIGHT}
-use Rattle.pixel_rules.specs.declared.Painter.{Painter}
-use Rattle.pixel_rules.specs.Art.{Art}
-use Rattle.pixel_rules.specs.Dots.{Dot}
+use Rattle.picture_rules.proofs.Common.{[], All, AllByRecursion, ap, append-nil, arith, false, inl, inr, ints, length, List, map, map-range_with_len_more, or_parts, pos, range_with_len, recursion_from_All, refl, Result, subst, suc, sym, zero, ℕ, ℤ, ◌++◌, ◌+◌, ◌-◌, ◌<ℤ◌, ◌<◌, ◌||◌, ◌∙◌, ◌∷◌, ◌≡◌, ◌≢◌, ◌≤ℤ◌, ◌≤◌}
+use Rattle.art_rules.specs.Words.{Fault}
+use Rattle.picture_rules.specs.Words.{Art, clip_before, Dot, edges_at, fragment_numbers, FRAME_HEIGHT, FRAME_WIDTH, has_texture, joined_lists, listed_from, Painter, Plane, PlanesNow, strip_dots, strip_of, texture_column, ViewValue, Wall, wall_column, wall_column_by, wall_dots, wall_edges, wall_of, wall_strips, WallStrip}
+use Rattle.picture_rules.proofs.Laws.{joined_lists-append}
 use Rattle.picture_rules.specs.declared.wall.ColumnClip.{ColumnClip}
 use Rattle.picture_rules.specs.declared.wall.Edges.{Edges}
 use Rattle.picture_rules.specs.declared.wall.FragmentNumbers.{FragmentNumbers}
 use Rattle.picture_rules.specs.declared.wall.WallFacts.{WallFacts}
-use Rattle.picture_rules.specs.wall.Parts.{has_texture}
-use Rattle.picture_rules.specs.wall.Columns.{texture_column}
-use Rattle.picture_rules.specs.wall.Edges.{edges_at}
-use Rattle.picture_rules.specs.wall.Numbers.{fragment_numbers}
-use Rattle.picture_rules.specs.wall.Walls.{Wall, wall_of, wall_edges, clip_before}
-use Rattle.picture_rules.specs.wall.Strips.{WallStrip, strip_of, strip_dots, wall_strips, wall_column_by, wall_column, wall_dots}
 use Rattle.wall_edges.specs.Fragments.{FragmentValue, fragment_of}
 use Rattle.texture_build.specs.Draws.{CanDraw}
 use Rattle.texture_build.specs.Paints.{PaintState, PaintTools, Paints, painted_art}
@@ -27,8 +16,6 @@ use Rattle.wall_columns.specs.declared.fault.DrawFault.{DrawFault}
 use Rattle.wall_columns.specs.Draws.{IsWallTexture}
 use Rattle.wall_columns.specs.Plans.{has_part, IsPartTexture, IsPlanTexture, plan_of, strips_by, HasRows, IsInRows, AreEdgeWords}
 use Rattle.picture_rules.specs.declared.wall.FragmentNote.{FragmentNote}
-use Rattle.picture_rules.specs.plane.Planes.{Plane}
-use Rattle.picture_rules.specs.plane.Built.{PlanesNow}
 use Rattle.wall_columns.specs.declared.column_state.ColumnState.{ColumnState}
 use Rattle.wall_columns.specs.Built.{IsBuilt, with_wall}
 use Rattle.wall_columns.specs.States.{walls_view}

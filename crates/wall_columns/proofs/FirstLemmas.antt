@@ -1,15 +1,10 @@
 -- Laws of the strip of a plan that is painted first, and of the one below it.
-use Rattle.word_rules.proofs.Common.{[], AllByRecursion, ap, Bool, cond, false, inl, inr, int_lt, List, not, refl, subst, sym, true, ℕ, ◌&&◌, ◌++◌, ◌∙◌, ◌∷◌, ◌≡◌}
-use Rattle.word_rules.specs.Listed.{joined_lists}
-use Rattle.view_rules.specs.declared.ViewShape.{ViewShape}
-use Rattle.pixel_rules.specs.Art.{Art}
-use Rattle.pixel_rules.specs.Dots.{Dot}
+use Rattle.picture_rules.proofs.Common.{[], AllByRecursion, ap, Bool, cond, false, inl, inr, int_lt, List, not, refl, subst, sym, true, ℕ, ◌&&◌, ◌++◌, ◌∙◌, ◌∷◌, ◌≡◌}
+use Rattle.picture_rules.specs.Words.{Art, Dot, has_texture, joined_lists, ViewShape, WallStrip}
 use Rattle.picture_rules.specs.declared.wall.ColumnClip.{ColumnClip}
 use Rattle.picture_rules.specs.declared.wall.Edges.{Edges}
 use Rattle.picture_rules.specs.declared.wall.FragmentNumbers.{FragmentNumbers}
 use Rattle.picture_rules.specs.declared.wall.RowRange.{RowRange}
-use Rattle.picture_rules.specs.wall.Parts.{has_texture}
-use Rattle.picture_rules.specs.wall.Strips.{WallStrip}
 use Rattle.wall_columns.specs.declared.clips.ColumnPlan.{ColumnPlan}
 use Rattle.wall_columns.specs.declared.paint.ColumnLook.{ColumnLook}
 use Rattle.wall_columns.specs.Painted.{look_dots, strip_with, strips_dots}

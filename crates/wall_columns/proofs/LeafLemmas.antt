@@ -1,12 +1,10 @@
 -- Laws of the planes of a leaf: what finding and checking them one after the other comes to, and what
 -- is told where one passes its room.
-use Rattle.word_rules.proofs.Common.{ap, arith, Bool, Err, false, IsErr, IsErrAnd, length, List, lt-true, nat_lt, nat_tests, None, Ok, Option, refl, Result, Some, sym, true, ℕ, ◌<◌, ◌∙◌, ◌≡◌, ◌≤◌}
+use Rattle.picture_rules.proofs.Common.{ap, arith, Bool, Err, false, IsErr, IsErrAnd, length, List, lt-true, nat_lt, nat_tests, None, Ok, Option, refl, Result, Some, sym, true, ℕ, ◌<◌, ◌∙◌, ◌≡◌, ◌≤◌}
 use Rattle.picture_rules.specs.declared.plane.PlaneKey.{PlaneKey}
-use Rattle.picture_rules.specs.plane.Planes.{Plane, PlaneChoice, find}
-use Rattle.picture_rules.specs.plane.Built.{PlanesNow, floor_found, ceiling_found, checked_plane, with_ceiling, with_floor, IsAmongPlanes}
+use Rattle.picture_rules.specs.Words.{ceiling_found, checked_plane, find, floor_found, IsAmongPlanes, openings_count, Plane, PlaneChoice, planes_count, PlanesNow, with_ceiling, with_floor}
 use Rattle.picture_rules.proofs.plane.PlaneLemmas.{length-find}
 use Rattle.picture_rules.specs.declared.OverLimit.{OverLimit}
-use Rattle.picture_rules.specs.Counts.{planes_count, openings_count}
 use Rattle.visplanes.specs.Planes.{PlanesView, with_planes}
 use Rattle.picture_rules.specs.declared.wall.FragmentNumbers.{FragmentNumbers}
 use Rattle.wall_columns.specs.declared.fault.DrawFault.{DrawFault}

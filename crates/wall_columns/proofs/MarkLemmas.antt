@@ -1,18 +1,11 @@
 -- Laws of the columns of a fragment as they are drawn one by one: none, and one more.
-use Rattle.word_rules.proofs.Common.{ap, arith, Bool, cond, false, length, List, nat_le, nat_lt, nat_tests, None, Option, refl, Some, subst, suc, sym, true, within-row, ℕ, ℤ, ◌&&◌, ◌+◌, ◌-◌, ◌<◌, ◌==◌, ◌∙◌, ◌≡◌, ◌≢◌}
-use Rattle.view_rules.specs.View.{ViewValue}
-use Rattle.view_rules.specs.declared.TheConstants.{FRAME_WIDTH}
+use Rattle.picture_rules.proofs.Common.{ap, arith, Bool, cond, false, length, List, nat_le, nat_lt, nat_tests, None, Option, refl, Some, subst, suc, sym, true, within-row, ℕ, ℤ, ◌&&◌, ◌+◌, ◌-◌, ◌<◌, ◌==◌, ◌∙◌, ◌≡◌, ◌≢◌}
+use Rattle.picture_rules.specs.Words.{ceiling_rows, clip_after, column_marked, columns_marked, edges_at, floor_rows, FRAME_WIDTH, marked_rows, Plane, set_run, texture_column, ViewValue}
 use Rattle.picture_rules.specs.declared.wall.ColumnClip.{ColumnClip}
 use Rattle.picture_rules.specs.declared.wall.Edges.{Edges}
 use Rattle.picture_rules.specs.declared.wall.FragmentNumbers.{FragmentNumbers}
 use Rattle.picture_rules.specs.declared.wall.RowRange.{RowRange}
 use Rattle.picture_rules.specs.declared.wall.WallFacts.{WallFacts}
-use Rattle.picture_rules.specs.wall.Clips.{clip_after, ceiling_rows, floor_rows}
-use Rattle.picture_rules.specs.wall.Columns.{texture_column}
-use Rattle.picture_rules.specs.wall.Edges.{edges_at}
-use Rattle.picture_rules.specs.wall.Strips.{marked_rows}
-use Rattle.picture_rules.specs.plane.Planes.{Plane}
-use Rattle.picture_rules.specs.plane.Built.{set_run, column_marked, columns_marked}
 use Rattle.picture_rules.proofs.plane.BuiltLemmas.{columns_marked-none, columns_marked-more}
 use Rattle.visplanes.specs.Planes.{PlanesView, with_planes}
 use Rattle.visplanes.specs.declared.planes.PlaneNo.{PlaneNo}

@@ -1,15 +1,10 @@
 -- Laws of a fragment's note and of the places of its lists.
 use Rattle.std.proofs.Common.{◌≡◌, ℕ, ◌+◌, ◌-◌, ◌≤◌, Bool, true, false, ℤ, pos, Option, refl, ap, sym, subst, ◌∙◌, arith}
-use Rattle.word_rules.specs.Words.{minus_one}
-use Rattle.view_rules.specs.View.{ViewValue}
+use Rattle.picture_rules.specs.Words.{clip_note, fragment_numbers, minus_one, note_at, place_if, room_if, saves_bottom, saves_top, silhouette_of, ViewValue, wall_of}
 use Rattle.picture_rules.specs.declared.wall.Clip.{Clip}
 use Rattle.picture_rules.specs.declared.wall.FragmentNote.{FragmentNote}
 use Rattle.picture_rules.specs.declared.wall.FragmentNumbers.{FragmentNumbers}
 use Rattle.picture_rules.specs.declared.wall.WallFacts.{WallFacts}
-use Rattle.picture_rules.specs.wall.Openings.{saves_top, saves_bottom}
-use Rattle.picture_rules.specs.wall.Numbers.{fragment_numbers}
-use Rattle.picture_rules.specs.wall.Notes.{silhouette_of, clip_note, place_if, note_at, room_if}
-use Rattle.picture_rules.specs.wall.Walls.{wall_of}
 use Rattle.wall_columns.specs.declared.notes.SavePlaces.{SavePlaces}
 use Rattle.wall_columns.specs.Places.{room_of, places_of, clip_noted}
 use Rattle.wall_columns.specs.Columns.{IsPlaceIn, ArePlacesIn}

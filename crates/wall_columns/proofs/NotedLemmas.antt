@@ -1,25 +1,13 @@
 -- Laws of the notes of a view: their lists are whole and apart, their scales above 0, their clips
 -- rows of the view, and behind the seg of a masked one there is a sector.
-use Rattle.word_rules.proofs.Common.{[], All, AllByRecursion, ap, append_assoc, arith, bit_and, Bool, cond, false, from_bool, IfSome, ints, IsSome, length, length-append, List, None, not, Option, pos, recursion_from_All, refl, slice_get, Some, subst, suc, sym, true, zero, ℕ, ℤ, ◌&&◌, ◌*◌, ◌++◌, ◌+◌, ◌-◌, ◌<ℤ◌, ◌<◌, ◌||◌, ◌∙◌, ◌∷◌, ◌≡◌, ◌≢◌, ◌≤ℤ◌, ◌≤◌}
-use Rattle.word_rules.specs.Words.{minus_one}
-use Rattle.word_rules.specs.Steps.{step_at}
-use Rattle.view_rules.specs.View.{ViewValue}
-use Rattle.view_rules.specs.declared.TheConstants.{FRAME_HEIGHT}
-use Rattle.view_rules.specs.declared.ViewShape.{ViewShape}
-use Rattle.level_rules.specs.declared.Surface.{Surface}
+use Rattle.picture_rules.proofs.Common.{[], All, AllByRecursion, ap, append_assoc, arith, bit_and, Bool, cond, false, from_bool, IfSome, ints, IsSome, length, length-append, List, None, not, Option, pos, recursion_from_All, refl, slice_get, Some, subst, suc, sym, true, zero, ℕ, ℤ, ◌&&◌, ◌*◌, ◌++◌, ◌+◌, ◌-◌, ◌<ℤ◌, ◌<◌, ◌||◌, ◌∙◌, ◌∷◌, ◌≡◌, ◌≢◌, ◌≤ℤ◌, ◌≤◌}
+use Rattle.picture_rules.specs.Words.{AreNoted, bottom_clip, clip_note, clip_past, fragment_numbers, FRAME_HEIGHT, greatest_clip, is_masked, IsClip, IsClipAmong, IsListAt, IsWholeNote, least_clip, ListsApart, MAX_DRAWSEGS, minus_one, note_at, notes_from, numbers_by, openings_list, place_if, room_if, saved_by, saved_from, saves_bottom, saves_top, silhouette_of, step_at, Surface, top_clip, view_notes, ViewShape, ViewValue, Wall, wall_of}
 use Rattle.picture_rules.specs.declared.wall.TheConstants.{SIL_BOTTOM, SIL_TOP}
 use Rattle.picture_rules.specs.declared.wall.ColumnClip.{ColumnClip}
 use Rattle.picture_rules.specs.declared.wall.FragmentNote.{FragmentNote}
 use Rattle.picture_rules.specs.declared.wall.FragmentNumbers.{FragmentNumbers}
 use Rattle.picture_rules.specs.declared.wall.WallFacts.{WallFacts}
-use Rattle.picture_rules.specs.wall.Numbers.{numbers_by, fragment_numbers}
-use Rattle.picture_rules.specs.wall.Parts.{is_masked}
-use Rattle.picture_rules.specs.wall.Openings.{saves_top, saves_bottom, top_clip, bottom_clip}
-use Rattle.picture_rules.specs.wall.Notes.{silhouette_of, saved_by, saved_from, openings_list, room_if, clip_note, place_if, note_at, notes_from, view_notes}
-use Rattle.picture_rules.specs.wall.Walls.{Wall, wall_of, clip_past}
 use Rattle.picture_rules.proofs.wall.NoteLemmas.{length-saved_by, note-top_clip, note-bottom_clip}
-use Rattle.picture_rules.specs.Noted.{greatest_clip, least_clip, IsListAt, IsClipAmong, IsClip, IsWholeNote, ListsApart, AreNoted}
-use Rattle.level_rules.specs.declared.walk.TheConstants.{MAX_DRAWSEGS}
 use Rattle.wall_columns.specs.Windows.{IsClipIn}
 use Rattle.wall_columns.specs.Built.{IsDrawn}
 use Rattle.wall_columns.specs.Noted.{HaveBacks}

@@ -1,18 +1,11 @@
 -- Laws of the first count of a step that passes its limit.
-use Rattle.word_rules.proofs.Common.{ap, arith, Bool, cond, Err, false, length, List, nat_lt, None, Ok, OnOk, Option, refl, Result, Some, sym, true, ℕ, ◌+◌, ◌-◌, ◌∙◌, ◌≡◌}
-use Rattle.view_rules.specs.View.{ViewValue}
+use Rattle.picture_rules.proofs.Common.{ap, arith, Bool, cond, Err, false, length, List, nat_lt, None, Ok, OnOk, Option, refl, Result, Some, sym, true, ℕ, ◌+◌, ◌-◌, ◌∙◌, ◌≡◌}
+use Rattle.picture_rules.specs.Words.{ceiling_checked, floor_checked, fragment_numbers, limit_of, openings_count, openings_counts, openings_of, passes_limit, plane_counts, plane_wall, planes_count, PlanesNow, room_if, ViewValue, Wall, wall_of, wall_step}
 use Rattle.picture_rules.specs.declared.wall.FragmentNumbers.{FragmentNumbers}
 use Rattle.picture_rules.specs.declared.wall.WallFacts.{WallFacts}
-use Rattle.picture_rules.specs.wall.Numbers.{fragment_numbers}
-use Rattle.picture_rules.specs.wall.Notes.{room_if}
-use Rattle.picture_rules.specs.wall.Openings.{openings_of}
-use Rattle.picture_rules.specs.wall.Walls.{Wall, wall_of}
 use Rattle.picture_rules.proofs.wall.NoteLemmas.{length-saved_by, length-saved_openings}
 use Rattle.picture_rules.specs.declared.plane.PlaneKey.{PlaneKey}
-use Rattle.picture_rules.specs.plane.Built.{PlanesNow, ceiling_checked, floor_checked, plane_counts}
 use Rattle.picture_rules.specs.declared.OverLimit.{OverLimit}
-use Rattle.picture_rules.specs.Counts.{openings_counts, planes_count, openings_count, passes_limit, limit_of}
-use Rattle.picture_rules.specs.Planes.{plane_wall, wall_step}
 use Rattle.visplanes.specs.Planes.{PlanesView}
 use Rattle.wall_columns.specs.declared.fault.DrawFault.{DrawFault}
 use Rattle.wall_columns.specs.declared.fault.DrawFault.TheVariants.{Planes, Openings, ZoneFull, ReadFault}

@@ -1,20 +1,11 @@
 -- Laws of the strips of a fragment's column, and of a call that paints one of a live column.
-use Rattle.word_rules.proofs.Common.{[], ap, append-nil, Err, false, int_lt, IsErrAnd, length, List, Ok, pos, refl, Result, subst, sym, true, ℕ, ℤ, ◌++◌, ◌+◌, ◌<◌, ◌∙◌, ◌∷◌, ◌≡◌}
-use Rattle.outside.specs.Shelf.{ShelfView}
-use Rattle.word_rules.specs.Listed.{listed_from, joined_lists}
-use Rattle.word_rules.proofs.ListedLemmas.{joined_lists-append}
-use Rattle.lump_rules.specs.declared.wad.Lump.{Lump}
-use Rattle.lump_rules.specs.Contents.{lump_bytes}
-use Rattle.zone_rules.specs.Zones.{Heap}
-use Rattle.view_rules.specs.declared.ViewShape.{ViewShape}
-use Rattle.lump_cache.specs.Caches.{KeepsCounts}
+use Rattle.picture_rules.proofs.Common.{[], ap, append-nil, Err, false, int_lt, IsErrAnd, length, List, Ok, pos, refl, Result, subst, sym, true, ℕ, ℤ, ◌++◌, ◌+◌, ◌<◌, ◌∙◌, ◌∷◌, ◌≡◌}
+use Rattle.art_rules.specs.Words.{byte_at, Lump, lump_bytes, ShelfView}
+use Rattle.picture_rules.specs.Words.{Art, column_dots, Dot, joined_lists, listed_from, Painter, painter_of, row_fraction, rows_between, shade, texel_row, ViewShape, WALL, WallStrip}
+use Rattle.picture_rules.proofs.Laws.{joined_lists-append}
+use Rattle.texture_build.specs.Zones.{Heap}
+use Rattle.texture_build.specs.Caches.{KeepsCounts}
 use Rattle.art_rules.specs.declared.ColumnLookup.{ColumnLookup}
-use Rattle.art_rules.specs.Bytes.{byte_at}
-use Rattle.pixel_rules.specs.declared.Painter.{Painter}
-use Rattle.pixel_rules.specs.declared.TheConstants.{WALL}
-use Rattle.pixel_rules.specs.Art.{Art, painter_of}
-use Rattle.pixel_rules.specs.Dots.{Dot}
-use Rattle.pixel_rules.specs.Strips.{row_fraction, rows_between, shade, texel_row, column_dots}
 use Rattle.pixel_strips.specs.Canvases.{CanvasView, with_dots, with_painter}
 use Rattle.pixel_strips.specs.Dotted.{HasDots, PlacedAlike}
 use Rattle.pixel_strips.specs.Strips.{strip_colour, column_strip_dots}
@@ -29,7 +20,6 @@ use Rattle.texture_build.proofs.BesideLemmas.{fit_beside-column_dots}
 use Rattle.texture_build.proofs.PaintLemmas.{paints-live, paints-missed, paints-same}
 use Rattle.picture_rules.specs.declared.wall.Part.{Part}
 use Rattle.picture_rules.specs.declared.wall.RowRange.{RowRange}
-use Rattle.picture_rules.specs.wall.Strips.{WallStrip}
 use Rattle.wall_columns.specs.declared.fault.DrawFault.{DrawFault}
 use Rattle.wall_columns.specs.declared.paint.ColumnLook.{ColumnLook}
 use Rattle.wall_columns.specs.Draws.{IsNoPicture}

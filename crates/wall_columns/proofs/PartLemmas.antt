@@ -1,12 +1,9 @@
 -- Laws of the parts of a wall state: windows, openings and the planes of a leaf.
-use Rattle.word_rules.proofs.Common.{[], All-replicate, All-set, ap, arith, Bool, cond, false, get_or-replicate, ints, is_none, length, length-append, length-replicate, length-set, length-take, List, None, Option, pos, replicate, slice_get, Some, sym, take, take-set-lt, true, ℕ, ℤ, ◌+◌, ◌<◌, ◌∙◌, ◌∷◌, ◌≡◌, ◌≤ℤ◌, ◌≤◌}
+use Rattle.picture_rules.proofs.Common.{[], All-replicate, All-set, ap, arith, Bool, cond, false, get_or-replicate, ints, is_none, length, length-append, length-replicate, length-set, length-take, List, None, Option, pos, replicate, slice_get, Some, sym, take, take-set-lt, true, ℕ, ℤ, ◌+◌, ◌<◌, ◌∙◌, ◌∷◌, ◌≡◌, ◌≤ℤ◌, ◌≤◌}
 use Rattle.std.proofs.Common.{set}
-use Rattle.word_rules.specs.Words.{minus_one}
-use Rattle.view_rules.specs.declared.TheConstants.{FRAME_WIDTH, FRAME_HEIGHT}
+use Rattle.picture_rules.specs.Words.{add, check, check_plane, check_some, empty_plane, find, FRAME_HEIGHT, FRAME_WIDTH, greatest_clip, is_free, least_clip, minus_one, number_of, Plane}
 use Rattle.picture_rules.specs.declared.plane.PlaneKey.{PlaneKey}
-use Rattle.picture_rules.specs.plane.Planes.{Plane, empty_plane, add, is_free, check_plane, check_some, check, number_of, find}
 use Rattle.picture_rules.proofs.plane.PlaneLemmas.{length-check, length-find}
-use Rattle.picture_rules.specs.Noted.{least_clip, greatest_clip}
 use Rattle.picture_rules.specs.declared.wall.ColumnClip.{ColumnClip}
 use Rattle.wall_columns.specs.Walls.{AreClips}
 use Rattle.wall_columns.specs.Saved.{OpeningsView, with_saved}

@@ -1,22 +1,14 @@
 -- Laws of the strips of a plan.
-use Rattle.word_rules.proofs.Common.{[], All, AllByRecursion, ap, arith, int_lt, ints, List, of_z, recursion_from_All, refl, SFits, to_z, true, w32, ℕ, ℤ, ◌<ℤ◌, ◌∙◌, ◌≡◌}
+use Rattle.picture_rules.proofs.Common.{[], All, AllByRecursion, ap, arith, int_lt, ints, List, of_z, recursion_from_All, refl, SFits, to_z, true, w32, ℕ, ℤ, ◌<ℤ◌, ◌∙◌, ◌≡◌}
 use Rattle.std.proofs.Common.{to_z-of_z}
-use Rattle.word_rules.specs.Words.{inverse_word}
-use Rattle.word_rules.specs.Listed.{joined_lists}
-use Rattle.lump_rules.specs.declared.wad.Lump.{Lump}
-use Rattle.zone_rules.specs.Zones.{Heap}
-use Rattle.view_rules.specs.View.{ViewValue}
-use Rattle.view_rules.specs.Lights.{scale_map}
-use Rattle.pixel_rules.specs.Art.{Art}
-use Rattle.pixel_rules.specs.Dots.{Dot}
-use Rattle.pixel_rules.specs.Strips.{rows_between, column_dots}
+use Rattle.picture_rules.specs.Words.{Art, column_dots, Dot, inverse_word, joined_lists, rows_between, scale_map, strip_dots, texture_column, ViewValue, wall_colour, WallStrip}
+use Rattle.art_rules.specs.Words.{Lump}
+use Rattle.texture_build.specs.Zones.{Heap}
 use Rattle.texture_build.specs.Views.{TexturesView}
 use Rattle.texture_build.specs.Draws.{CanDraw}
 use Rattle.picture_rules.specs.declared.wall.FragmentNumbers.{FragmentNumbers}
 use Rattle.picture_rules.specs.declared.wall.RowRange.{RowRange}
 use Rattle.picture_rules.specs.declared.wall.WallFacts.{WallFacts}
-use Rattle.picture_rules.specs.wall.Columns.{texture_column}
-use Rattle.picture_rules.specs.wall.Strips.{WallStrip, strip_dots, wall_colour}
 use Rattle.wall_columns.specs.declared.clips.ColumnPlan.{ColumnPlan}
 use Rattle.wall_columns.specs.declared.paint.ColumnLook.{ColumnLook}
 use Rattle.wall_columns.specs.Painted.{look_colour, look_dots, strips_dots}

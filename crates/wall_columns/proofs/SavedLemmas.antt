@@ -1,13 +1,11 @@
 -- Laws of what a fragment saves column by column: in the end its three lists stand one after the
 -- other behind the openings that there were.
-use Rattle.word_rules.proofs.Common.{[], ap, append-nil, append_assoc, arith, Bool, drop, false, get_or, get_or-set_other, get_or-set_same, length, length-append, length-drop, length-set, length-take-le, List, nat_lt, nat_tests, pos, refl, set-append_left, set-append_right, subst, suc, sym, take, take-append-drop, true, zero, ℕ, ℤ, ◌++◌, ◌+◌, ◌-◌, ◌<◌, ◌∙◌, ◌∷◌, ◌≡◌, ◌≤◌}
+use Rattle.picture_rules.proofs.Common.{[], ap, append-nil, append_assoc, arith, Bool, drop, false, get_or, get_or-set_other, get_or-set_same, length, length-append, length-drop, length-set, length-take-le, List, nat_lt, nat_tests, pos, refl, set-append_left, set-append_right, subst, suc, sym, take, take-append-drop, true, zero, ℕ, ℤ, ◌++◌, ◌+◌, ◌-◌, ◌<◌, ◌∙◌, ◌∷◌, ◌≡◌, ◌≤◌}
 use Rattle.std.proofs.Common.{set}
-use Rattle.word_rules.specs.Listed.{listed, listed_from}
-use Rattle.word_rules.proofs.ListedLemmas.{listed-all, length-listed_from, get_or-listed_from}
+use Rattle.picture_rules.specs.Words.{listed, listed_from, place_if, saved_if, saves_bottom, saves_top}
+use Rattle.picture_rules.proofs.Laws.{get_or-listed_from, length-listed_from, listed-all}
 use Rattle.picture_rules.specs.declared.wall.ColumnClip.{ColumnClip}
 use Rattle.picture_rules.specs.declared.wall.FragmentNumbers.{FragmentNumbers}
-use Rattle.picture_rules.specs.wall.Openings.{saves_top, saves_bottom}
-use Rattle.picture_rules.specs.wall.Notes.{place_if, saved_if}
 use Rattle.wall_columns.specs.Places.{room_of, places_of}
 use Rattle.wall_columns.specs.Saved.{with_saved, column_saved, columns_saved}
 

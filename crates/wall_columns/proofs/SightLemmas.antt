@@ -1,19 +1,9 @@
 -- Laws of a fragment's numbers: its scale at each of its columns is above 0, its light is one of the
 -- levels, and its parts have the textures of its facts.
-use Rattle.word_rules.proofs.Common.{ap, arith, Bool, cond, false, FitsSigned, inl, inr, int_div, int_wrap, int_wrap_fits, ints, mul-le-mul_right, nat_tests, neg_ℤ, negsuc, None, Option, pos, refl, Some, subst, suc, sym, true, unsigned_abs, w32, zero, ℕ, ℤ, ◌*ℤ◌, ◌*◌, ◌+ℤ◌, ◌+◌, ◌-ℤ◌, ◌-◌, ◌/◌, ◌<ℤ◌, ◌<◌, ◌==◌, ◌∙◌, ◌≡◌, ◌≢◌, ◌≤ℤ◌, ◌≤◌, ◌⊎◌}
-use Rattle.word_rules.specs.Words.{plus, minus, times, clamp_word}
-use Rattle.word_rules.specs.Steps.{step_at}
-use Rattle.word_rules.proofs.WordLemmas.{clamp_word-low, clamp_word-high}
-use Rattle.view_rules.specs.declared.TheConstants.{MIN_SCALE, MAX_SCALE, LIGHT_LEVELS}
-use Rattle.view_rules.specs.View.{ViewValue}
-use Rattle.view_rules.specs.Bearings.{scale_at, scale_by}
-use Rattle.view_rules.specs.Lights.{light_number}
-use Rattle.level_rules.specs.declared.Seg.{Seg}
-use Rattle.level_rules.specs.declared.Surface.{Surface}
+use Rattle.picture_rules.proofs.Common.{ap, arith, Bool, cond, false, FitsSigned, inl, inr, int_div, int_wrap, int_wrap_fits, ints, mul-le-mul_right, nat_tests, neg_ℤ, negsuc, None, Option, pos, refl, Some, subst, suc, sym, true, unsigned_abs, w32, zero, ℕ, ℤ, ◌*ℤ◌, ◌*◌, ◌+ℤ◌, ◌+◌, ◌-ℤ◌, ◌-◌, ◌/◌, ◌<ℤ◌, ◌<◌, ◌==◌, ◌∙◌, ◌≡◌, ◌≢◌, ◌≤ℤ◌, ◌≤◌, ◌⊎◌}
+use Rattle.picture_rules.specs.Words.{bottom_part, clamp_word, fragment_numbers, LIGHT_LEVELS, light_number, MAX_SCALE, middle_part, MIN_SCALE, minus, no_part, numbers_by, plus, scale_at, scale_by, scale_of_column, scale_step, Seg, seg_light, step_at, Surface, times, top_part, ViewValue}
+use Rattle.picture_rules.proofs.Laws.{clamp_word-high, clamp_word-low}
 use Rattle.picture_rules.specs.declared.wall.WallFacts.{WallFacts}
-use Rattle.picture_rules.specs.wall.Scales.{scale_of_column, scale_step}
-use Rattle.picture_rules.specs.wall.Parts.{middle_part, top_part, bottom_part, no_part}
-use Rattle.picture_rules.specs.wall.Numbers.{seg_light, numbers_by, fragment_numbers}
 use Rattle.picture_rules.specs.declared.wall.Part.{Part}
 use Rattle.wall_columns.specs.Plans.{IsPartTexture}
 

@@ -1,6 +1,6 @@
 -- What holds of a view and of tools holds of those with the same references.
 use Rattle.std.proofs.Common.{◌≡◌, sym, ap, subst, ◌∙◌}
-use Rattle.view_rules.specs.View.{ViewValue}
+use Rattle.picture_rules.specs.Words.{ViewValue}
 use Rattle.texture_build.specs.Paints.{PaintTools, paint_tools}
 use Rattle.wall_columns.specs.declared.tools.WallTools.{WallTools}
 use Rattle.wall_columns.specs.Tools.{AreSameWallTools, wall_tools}

@@ -1,16 +1,9 @@
 -- The walls of a view and its planes as the drawn fragments so far make them.
 use Rattle.std.specs.Prelude.{◌≡◌, ◌≤◌, ◌<◌, ◌++◌, ℕ, List, [], ◌∷◌, All, Option, None, find, length, map}
-use Rattle.view_rules.specs.View.{ViewValue}
-use Rattle.picture_rules.specs.wall.Walls.{Wall, wall_of, clip_before}
-use Rattle.picture_rules.specs.wall.Notes.{view_notes, openings_list}
+use Rattle.picture_rules.specs.Words.{clip_before, Finds, IsSoundNow, openings_counts, openings_list, passes_limit, Plane, plane_counts, planes_count, PlanesNow, Step, view_notes, ViewValue, Wall, wall_of, wall_step}
 use Rattle.picture_rules.specs.declared.plane.PlaneKey.{PlaneKey}
-use Rattle.picture_rules.specs.plane.Planes.{Plane}
-use Rattle.picture_rules.specs.plane.Built.{PlanesNow, IsSoundNow, plane_counts}
-use Rattle.picture_rules.specs.plane.Built.PlaneEvent.{Finds}
 use Rattle.picture_rules.specs.declared.Limits.{Limits}
 use Rattle.picture_rules.specs.declared.OverLimit.{OverLimit}
-use Rattle.picture_rules.specs.Counts.{openings_counts, planes_count, passes_limit}
-use Rattle.picture_rules.specs.Planes.{Step, wall_step}
 use Rattle.visplanes.specs.Planes.{PlanesView}
 use Rattle.wall_columns.specs.Walls.{WallsView, clip_at}
 

@@ -1,16 +1,10 @@
 -- The columns of a fragment as they are drawn one by one: clips, planes and openings.
 use Rattle.std.specs.Prelude.{◌≡◌, ◌<◌, ◌≤◌, ◌+◌, ◌-◌, ◌&&◌, ℕ, Bool, nat_le, nat_lt, cond, Option, None, option_map, IfSome, length}
-use Rattle.view_rules.specs.View.{ViewValue}
-use Rattle.view_rules.specs.declared.TheConstants.{FRAME_WIDTH}
+use Rattle.picture_rules.specs.Words.{ceiling_rows, clip_after, columns_marked, edges_at, floor_rows, FRAME_WIDTH, marked_rows, PlaneWall, texture_column, ViewValue}
 use Rattle.picture_rules.specs.declared.wall.ColumnClip.{ColumnClip}
 use Rattle.picture_rules.specs.declared.wall.Edges.{Edges}
 use Rattle.picture_rules.specs.declared.wall.FragmentNumbers.{FragmentNumbers}
 use Rattle.picture_rules.specs.declared.wall.WallFacts.{WallFacts}
-use Rattle.picture_rules.specs.wall.Clips.{clip_after, ceiling_rows, floor_rows}
-use Rattle.picture_rules.specs.wall.Columns.{texture_column}
-use Rattle.picture_rules.specs.wall.Edges.{edges_at}
-use Rattle.picture_rules.specs.wall.Strips.{marked_rows}
-use Rattle.picture_rules.specs.plane.Built.{PlaneWall, columns_marked}
 use Rattle.visplanes.specs.Planes.{PlanesView, with_planes}
 use Rattle.visplanes.specs.declared.planes.PlaneNo.{PlaneNo}
 use Rattle.wall_edges.specs.Fragments.{FragmentValue, fragment_of}

@@ -1,13 +1,13 @@
 -- The faults of drawing as those of any layer, which refuses what passes a limit.
 use Rattle.std.specs.Prelude.{Option, Some, None, Result, Ok, Err, ⊤}
-use Rattle.outside.specs.declared.fault.Fault.{Fault}
-use Rattle.outside.specs.declared.fault.Fault.TheVariants as fault
+use Rattle.art_rules.specs.Words.{Fault}
+use Rattle.art_rules.specs.Fault.TheVariants as fault
 use Rattle.picture_rules.specs.declared.OverLimit.{OverLimit}
-use Rattle.picture_rules.specs.Counts.{planes_count, openings_count}
+use Rattle.picture_rules.specs.Words.{openings_count, planes_count}
 use Rattle.wall_columns.specs.declared.fault.DrawFault.{DrawFault}
 use Rattle.wall_columns.specs.declared.fault.DrawFault.TheVariants.{Planes, Openings, ZoneFull, ReadFault}
-use Rattle.lump_cache.specs.declared.fault.CacheFault.{CacheFault}
-use Rattle.lump_cache.specs.declared.fault.CacheFault.TheVariants as cache
+use Rattle.texture_build.specs.CacheFault.{CacheFault}
+use Rattle.texture_build.specs.CacheFault.TheVariants as cache
 
 -- the fault of the cache, here
 abbrev pub from_cache_fault : CacheFault → DrawFault

@@ -1,15 +1,8 @@
 -- The strips of a fragment in one of its columns, by what they have in common.
 use Rattle.std.specs.Prelude.{◌<◌, ℕ, List, length, Result}
-use Rattle.word_rules.specs.Listed.{joined_lists}
-use Rattle.view_rules.specs.declared.ViewShape.{ViewShape}
-use Rattle.pixel_rules.specs.declared.Painter.{Painter}
-use Rattle.pixel_rules.specs.declared.TheConstants.{WALL}
-use Rattle.pixel_rules.specs.Art.{Art, painter_of}
-use Rattle.pixel_rules.specs.Dots.{Dot}
-use Rattle.pixel_rules.specs.Strips.{texel_row, row_fraction, rows_between, column_dots}
+use Rattle.picture_rules.specs.Words.{Art, column_dots, Dot, joined_lists, Painter, painter_of, row_fraction, rows_between, texel_row, ViewShape, WALL, WallStrip}
 use Rattle.picture_rules.specs.declared.wall.Part.{Part}
 use Rattle.picture_rules.specs.declared.wall.RowRange.{RowRange}
-use Rattle.picture_rules.specs.wall.Strips.{WallStrip}
 use Rattle.texture_build.specs.Paints.{PaintState, PaintTools, Paints, painted_art}
 use Rattle.wall_columns.specs.declared.fault.DrawFault.{DrawFault}
 use Rattle.wall_columns.specs.declared.paint.ColumnLook.{ColumnLook}

@@ -3,8 +3,7 @@ use Rattle.std.specs.Prelude.{ℕ, ◌+◌, ℤ, Bool, cond, Option, Some, None}
 use Rattle.picture_rules.specs.declared.wall.Clip.{Clip}
 use Rattle.picture_rules.specs.declared.wall.Clip.TheVariants.{Absent, Constant, Saved}
 use Rattle.picture_rules.specs.declared.wall.FragmentNumbers.{FragmentNumbers}
-use Rattle.picture_rules.specs.wall.Openings.{saves_top, saves_bottom}
-use Rattle.picture_rules.specs.wall.Notes.{place_if}
+use Rattle.picture_rules.specs.Words.{place_if, saves_bottom, saves_top}
 use Rattle.wall_columns.specs.declared.notes.SavePlaces.{SavePlaces}
 
 -- how many openings a list takes, where it is saved

@@ -1,15 +1,10 @@
 -- What walls are drawn with, by the values of their tools.
 use Rattle.std.specs.Prelude.{◌≡◌, ◌<◌, ◌≤◌, ◌+◌, ℕ, List, length, All}
-use Rattle.outside.specs.Shelf.{ShelfView}
-use Rattle.lump_rules.specs.Contents.{lump_bytes}
-use Rattle.view_rules.specs.declared.TheConstants.{FRAME_WIDTH, FRAME_HEIGHT}
-use Rattle.view_rules.specs.View.{ViewValue}
-use Rattle.pixel_rules.specs.Dots.{Dot}
+use Rattle.art_rules.specs.Words.{lump_bytes, ShelfView}
+use Rattle.picture_rules.specs.Words.{Dot, FRAME_HEIGHT, FRAME_WIDTH, ViewValue, Wall, wall_dots, wall_of}
 use Rattle.pixel_strips.specs.Canvases.{CanvasView}
 use Rattle.picture_rules.specs.declared.wall.FragmentNumbers.{FragmentNumbers}
 use Rattle.picture_rules.specs.declared.wall.WallFacts.{WallFacts}
-use Rattle.picture_rules.specs.wall.Walls.{Wall, wall_of}
-use Rattle.picture_rules.specs.wall.Strips.{wall_dots}
 use Rattle.texture_build.specs.Arts.{view_art}
 use Rattle.texture_build.specs.Draws.{CanDraw, HoldsArt}
 use Rattle.texture_build.specs.Paints.{PaintState, PaintTools, paint_state, paint_tools}

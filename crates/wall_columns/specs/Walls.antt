@@ -1,8 +1,6 @@
 -- What contracts see of the walls of a view as far as they are drawn.
 use Rattle.std.specs.Prelude.{◌≡◌, ◌≤◌, ◌≤ℤ◌, ℕ, ℤ, pos, List, All, Option, length, slice_index_or}
-use Rattle.word_rules.specs.Words.{minus_one}
-use Rattle.view_rules.specs.declared.TheConstants.{FRAME_WIDTH, FRAME_HEIGHT}
-use Rattle.picture_rules.specs.Noted.{least_clip, greatest_clip}
+use Rattle.picture_rules.specs.Words.{FRAME_HEIGHT, FRAME_WIDTH, greatest_clip, least_clip, minus_one}
 use Rattle.picture_rules.specs.declared.wall.ColumnClip.{ColumnClip}
 use Rattle.picture_rules.specs.declared.wall.FragmentNote.{FragmentNote}
 

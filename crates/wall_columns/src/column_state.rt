@@ -2,13 +2,9 @@
 //
 // Rules: this crate's Columns, Leaves and Saved.
 ghost use Rattle.std.specs.Prelude.{◌≡◌, ◌≢◌, ◌<◌, ◌≤◌, ◌+◌, ◌-◌, ℕ, [], None, Some, IfOk, IfErr, OnOk, length, take};
-ghost use Rattle.view_rules.specs.declared.TheConstants.{FRAME_WIDTH, FRAME_HEIGHT};
+ghost use Rattle.picture_rules.specs.Words.{ceiling_found, ceiling_rows, floor_found, floor_rows, FRAME_HEIGHT, FRAME_WIDTH, IsAmongPlanes, marked_rows, open_clip, PlanesNow, set_run, texture_column};
 ghost use Rattle.picture_rules.specs.declared.wall.TheConstants.{MOST_OPENINGS};
 ghost use Rattle.picture_rules.specs.declared.wall.WallFacts.{WallFacts};
-ghost use Rattle.picture_rules.specs.wall.Clips.{open_clip, ceiling_rows, floor_rows};
-ghost use Rattle.picture_rules.specs.wall.Columns.{texture_column};
-ghost use Rattle.picture_rules.specs.wall.Strips.{marked_rows};
-ghost use Rattle.picture_rules.specs.plane.Built.{PlanesNow, IsAmongPlanes, set_run, floor_found, ceiling_found};
 ghost use Rattle.visplanes.specs.Planes.{with_planes};
 ghost use Rattle.wall_edges.specs.Fragments.{fragment_of};
 ghost use Rattle.wall_columns.specs.Faults.{limit_of_result, IsPlanesFault, IsLimitFault};

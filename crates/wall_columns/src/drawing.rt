@@ -1,6 +1,6 @@
 // The columns of a fragment, drawn from left to right: this crate's Columns and Drawn.
 ghost use Rattle.std.specs.Prelude.{◌≡◌, None, OnOk, length};
-ghost use Rattle.picture_rules.specs.plane.Built.{IsAmongPlanes};
+ghost use Rattle.picture_rules.specs.Words.{IsAmongPlanes};
 ghost use Rattle.wall_columns.specs.Faults.{limit_of_result};
 ghost use Rattle.wall_columns.specs.Windows.{window_at};
 ghost use Rattle.wall_columns.specs.Columns.{plane_number, columns_of, HasMarked, HasSaved, ArePlacesIn};
@@ -13,7 +13,7 @@ use crate::fault::DrawFault;
 use crate::notes::SavePlaces;
 use crate::paint::paint_plan;
 use crate::tools::WallTools;
-use outside::Shelf;
+use art_rules::Shelf;
 use picture_rules::FragmentNumbers;
 use pixel_strips::Canvas;
 use wall_edges::{Fragment, Stepper};

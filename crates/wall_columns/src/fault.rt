@@ -2,7 +2,7 @@
 ghost use Rattle.std.specs.Prelude.{◌≡◌};
 ghost use Rattle.wall_columns.specs.Faults.{from_cache_fault};
 
-use lump_cache::CacheFault;
+use texture_build::CacheFault;
 use thiserror::Error;
 
 /// What ends a view while its walls are drawn: planes or openings past their limit, with the count;

@@ -1,7 +1,6 @@
 // The planes of a leaf: found where the leaf is entered, checked where a fragment marks them.
 ghost use Rattle.std.specs.Prelude.{◌≡◌, ◌<◌, ◌≤◌, ◌↔◌, IfOk, IfErr, IsErr, OnOk, length};
-ghost use Rattle.view_rules.specs.declared.TheConstants.{FRAME_WIDTH};
-ghost use Rattle.picture_rules.specs.plane.Built.{IsAmongPlanes, checked_plane};
+ghost use Rattle.picture_rules.specs.Words.{checked_plane, FRAME_WIDTH, IsAmongPlanes};
 ghost use Rattle.visplanes.specs.Planes.{with_planes};
 ghost use Rattle.wall_columns.specs.Columns.{plane_number};
 ghost use Rattle.wall_columns.specs.Leaves.{planes_found, number_found, planes_checked, number_checked};

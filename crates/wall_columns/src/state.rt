@@ -2,13 +2,8 @@
 //
 // Rules: `specs/Walls`, `specs/Built`. The original: r_segs.c, and `R_Subsector` of r_bsp.c.
 ghost use Rattle.std.specs.Prelude.{◌≡◌, ◌<◌, ◌≤◌, ◌+◌, ◌↔◌, ℕ, [], List, None, Ok, IfOk, IfErr, OnOk, IsTrue, length};
-ghost use Rattle.view_rules.specs.declared.TheConstants.{FRAME_WIDTH, FRAME_HEIGHT};
-ghost use Rattle.view_rules.specs.View.{ViewValue};
-ghost use Rattle.level_rules.specs.declared.walk.TheConstants.{MAX_DRAWSEGS};
+ghost use Rattle.picture_rules.specs.Words.{after_event, AreNoted, FRAME_HEIGHT, FRAME_WIDTH, IsAmongPlanes, MAX_DRAWSEGS, no_planes, PlanesNow, ViewValue, Wall, wall_of};
 ghost use Rattle.picture_rules.specs.declared.wall.TheConstants.{MOST_OPENINGS};
-ghost use Rattle.picture_rules.specs.wall.Walls.{Wall, wall_of};
-ghost use Rattle.picture_rules.specs.plane.Built.{PlanesNow, IsAmongPlanes, no_planes, after_event};
-ghost use Rattle.picture_rules.specs.Noted.{AreNoted};
 ghost use Rattle.texture_build.specs.Draws.{FitBeside, CanDraw, DrawsWith};
 ghost use Rattle.wall_columns.specs.Walls.{WallsView};
 ghost use Rattle.wall_columns.specs.Built.{IsBuilt, with_wall, step_of_wall, step_of_leaf, limits_of, step_over};
@@ -23,9 +18,8 @@ use crate::fault::DrawFault;
 use crate::leaf::LeafPlanes;
 use crate::notes::note_of;
 use crate::tools::WallTools;
-use level_rules::MAX_DRAWSEGS;
-use outside::Shelf;
-use picture_rules::{FragmentNote, WallFacts};
+use art_rules::Shelf;
+use picture_rules::{FragmentNote, MAX_DRAWSEGS, WallFacts};
 use pixel_strips::Canvas;
 use std::alloc::{AllocError, Global};
 use std::marker::Model;
@@ -47,7 +41,7 @@ pub struct WallState {
 
 impl Model for WallState {
     ghost use Rattle.std.specs.Prelude.{◌≤◌, length, vec_capacity};
-    ghost use Rattle.level_rules.specs.declared.walk.TheConstants.{MAX_DRAWSEGS};
+    ghost use Rattle.picture_rules.specs.Words.{MAX_DRAWSEGS};
     ghost use Rattle.wall_columns.specs.Walls.{WallsView};
     ghost use Rattle.wall_columns.specs.States.{walls_view};
 

@@ -1,12 +1,10 @@
 // What is open of each column of a frame, and the rows of the view: this crate's Windows.
 ghost use Rattle.std.specs.Prelude.{◌≡◌, ◌≢◌, ◌<◌, ◌≤◌, ℕ, replicate};
-ghost use Rattle.view_rules.specs.declared.TheConstants.{FRAME_WIDTH, FRAME_HEIGHT};
-ghost use Rattle.picture_rules.specs.wall.Clips.{open_clip};
+ghost use Rattle.picture_rules.specs.Words.{FRAME_HEIGHT, FRAME_WIDTH, open_clip};
 ghost use Rattle.wall_columns.specs.Windows.{window_at, with_window, IsClipIn};
 
-use picture_rules::ColumnClip;
+use picture_rules::{ColumnClip, FRAME_WIDTH};
 use std::marker::Model;
-use view_rules::FRAME_WIDTH;
 
 /// What is open of each column of a frame, and the rows of the view. Contracts see `WindowsView`.
 ///

@@ -1,8 +1,7 @@
 -- Laws of a stepper: it begins at the first column of its fragment, and goes on from column to column.
-use Rattle.word_rules.proofs.Common.{ap, arith, Bool, cond, eq-false_positive, false, FitsSigned, nat_tests, None, refl, Some, subst, suc, sym, w32, zero, ℕ, ◌+◌, ◌-◌, ◌<◌, ◌==◌, ◌∙◌, ◌≡◌, ◌≤◌}
-use Rattle.view_rules.specs.declared.TheConstants.{FRAME_WIDTH}
+use Rattle.picture_rules.proofs.Common.{ap, arith, Bool, cond, eq-false_positive, false, FitsSigned, nat_tests, None, refl, Some, subst, suc, sym, w32, zero, ℕ, ◌+◌, ◌-◌, ◌<◌, ◌==◌, ◌∙◌, ◌≡◌, ◌≤◌}
+use Rattle.picture_rules.specs.Words.{edges_at, edges_first, edges_plus, edges_step, FRAME_WIDTH}
 use Rattle.picture_rules.specs.declared.wall.Edges.{Edges}
-use Rattle.picture_rules.specs.wall.Edges.{edges_at, edges_first, edges_step, edges_plus}
 use Rattle.picture_rules.proofs.wall.EdgeLemmas.{edges_at-zero, edges_at-more}
 use Rattle.wall_edges.specs.declared.stepper.Stepper.{Stepper}
 use Rattle.wall_edges.specs.Fragments.{FragmentValue}

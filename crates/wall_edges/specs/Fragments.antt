@@ -1,11 +1,8 @@
 -- What a fragment keeps: the numbers that it shows, all its numbers, its columns, and the line on which it lies (R_StoreWallRange, r_segs.c).
 use Rattle.std.specs.Prelude.{ℕ, ℤ, Bool}
-use Rattle.view_rules.specs.View.{ViewValue}
-use Rattle.view_rules.specs.declared.ViewShape.{ViewShape}
+use Rattle.picture_rules.specs.Words.{fragment_numbers, silhouette_of, ViewShape, ViewValue}
 use Rattle.picture_rules.specs.declared.wall.WallFacts.{WallFacts}
 use Rattle.picture_rules.specs.declared.wall.FragmentNumbers.{FragmentNumbers}
-use Rattle.picture_rules.specs.wall.Numbers.{fragment_numbers}
-use Rattle.picture_rules.specs.wall.Notes.{silhouette_of}
 use Rattle.wall_edges.specs.declared.line.SegLine.{SegLine}
 use Rattle.wall_edges.specs.Lines.{seg_line_of}
 

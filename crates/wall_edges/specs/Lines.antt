@@ -1,8 +1,6 @@
 -- The line of a seg, as a view sees it and as a fragment keeps it (R_StoreWallRange, r_segs.c).
-use Rattle.view_rules.specs.View.{ViewValue}
+use Rattle.picture_rules.specs.Words.{seg_distance, seg_normal, texture_offset, ViewValue}
 use Rattle.picture_rules.specs.declared.wall.WallFacts.{WallFacts}
-use Rattle.picture_rules.specs.wall.Scales.{seg_normal, seg_distance}
-use Rattle.picture_rules.specs.wall.Columns.{texture_offset}
 use Rattle.wall_edges.specs.declared.line.SegLine.{SegLine}
 
 abbrev pub seg_line_of : ViewValue → WallFacts → SegLine

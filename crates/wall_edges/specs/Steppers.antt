@@ -1,8 +1,7 @@
 -- A stepper: what it answers, what it is then, and where on a fragment it stands (R_RenderSegLoop, r_segs.c).
 use Rattle.std.specs.Prelude.{◌≡◌, ℕ, zero, suc, ◌+◌, ◌-◌, ◌%◌, ◌^◌, ◌<◌, ◌==◌, cond, Option, Some, None}
-use Rattle.view_rules.specs.declared.TheConstants.{FRAME_WIDTH}
+use Rattle.picture_rules.specs.Words.{edges_at, edges_plus, edges_step, FRAME_WIDTH}
 use Rattle.picture_rules.specs.declared.wall.Edges.{Edges}
-use Rattle.picture_rules.specs.wall.Edges.{edges_at, edges_step, edges_plus}
 use Rattle.wall_edges.specs.Fragments.{FragmentValue}
 use Rattle.wall_edges.specs.declared.stepper.Stepper.{Stepper}
 

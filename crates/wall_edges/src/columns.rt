@@ -1,20 +1,13 @@
 // The angles at which columns look, and the texture columns of a line: rules `picture_rules/wall`, Columns.
 
 ghost use Rattle.std.specs.Prelude.{◌≡◌, ◌<◌};
-ghost use Rattle.view_rules.specs.Tables.{angle_of_column};
-ghost use Rattle.level_rules.specs.declared.Seg.{Seg};
+ghost use Rattle.picture_rules.specs.Words.{angle_of_column, column_tangent, Seg, seg_normal, tangent_at, TANGENTS, texture_column};
 ghost use Rattle.picture_rules.specs.declared.wall.WallFacts.{WallFacts};
-ghost use Rattle.view_rules.specs.declared.TheConstants.{TANGENTS};
-ghost use Rattle.view_rules.specs.Angles.{tangent_at};
-ghost use Rattle.picture_rules.specs.wall.Scales.{seg_normal};
-ghost use Rattle.picture_rules.specs.wall.Columns.{column_tangent, texture_column};
 ghost use Rattle.wall_edges.specs.Lines.{seg_line_of};
 
 use crate::line::SegLine;
-use fx_words::{fine_angle, minus, mul, shr_word, turn, turn_back};
-use view_frame::View;
-use view_rules::TANGENTS;
-use word_rules::{ANG90, FRACTION_BITS};
+use picture_rules::{ANG90, FRACTION_BITS, TANGENTS};
+use view_frame::{View, fine_angle, minus, mul, shr_word, turn, turn_back};
 
 /// The angle (BAM) at which column `x` looks, from the view's own.
 #[inline(always)]

@@ -1,17 +1,14 @@
 // The edges of a fragment at a column: rules `picture_rules/wall`, Edges.
 
 ghost use Rattle.std.specs.Prelude.{◌≡◌};
-ghost use Rattle.word_rules.specs.Words.{shr_word};
-ghost use Rattle.word_rules.specs.Steps.{step_at};
+ghost use Rattle.picture_rules.specs.Words.{centre_edge, edge_at, edge_first, edge_step, edges_at, edges_first, edges_plus, edges_step, shr_word, step_at};
 ghost use Rattle.picture_rules.specs.declared.wall.TheConstants.{HEIGHT_SHIFT};
-ghost use Rattle.picture_rules.specs.wall.Edges.{centre_edge, edge_first, edge_step, edge_at, edges_at, edges_first, edges_step, edges_plus};
 
-use fx_words::{fixed, minus, mul, neg_word, plus, shr_word, times};
-use picture_rules::{Edges, FragmentNumbers, HEIGHT_SHIFT};
-use view_rules::ViewShape;
+use picture_rules::{Edges, FragmentNumbers, HEIGHT_SHIFT, ViewShape};
+use view_frame::{fixed, minus, mul, neg_word, plus, shr_word, times};
 
 // The value after `k` steps.
-#[tactic(auto, unfolding(word_rules::specs::Steps::step_at))]
+#[tactic(auto, unfolding(picture_rules::specs::Words::step_at))]
 fn step_at(first: i32, step: i32, k: u16) -> i32
     ensures { result ≡ step_at first step k }
 {

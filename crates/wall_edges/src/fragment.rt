@@ -1,8 +1,7 @@
 // A fragment: a visible piece of a seg, and what it is drawn with.
 
 ghost use Rattle.picture_rules.specs.declared.wall.WallFacts.{WallFacts};
-ghost use Rattle.picture_rules.specs.wall.Columns.{texture_column};
-ghost use Rattle.picture_rules.specs.wall.Edges.{edges_at};
+ghost use Rattle.picture_rules.specs.Words.{edges_at, texture_column};
 ghost use Rattle.std.specs.Prelude.{◌≡◌, ℕ, ◌-◌, ◌<◌, ◌≤◌};
 ghost use Rattle.wall_edges.specs.Fragments.{fragment_of};
 
@@ -10,10 +9,9 @@ use crate::columns::texture_column;
 use crate::edges::edges_at;
 use crate::line::{SegLine, seg_line_of};
 use crate::numbers::{fragment_numbers, silhouette_of};
-use picture_rules::{Edges, FragmentNumbers, WallFacts};
+use picture_rules::{Edges, FragmentNumbers, ViewShape, WallFacts};
 use std::marker::Model;
 use view_frame::View;
-use view_rules::ViewShape;
 
 /// The columns from a first to a last one in which a seg is seen, and what they are drawn with.
 ///
@@ -47,7 +45,7 @@ pub struct Fragment {
 
 impl Model for Fragment {
     ghost use Rattle.std.specs.Prelude.{◌<◌, ◌≤◌};
-    ghost use Rattle.view_rules.specs.declared.TheConstants.{FRAME_WIDTH};
+    ghost use Rattle.picture_rules.specs.Words.{FRAME_WIDTH};
     ghost use Rattle.wall_edges.specs.Fragments.{FragmentValue};
 
     ghost Value = { FragmentValue };

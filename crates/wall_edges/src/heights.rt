@@ -1,11 +1,10 @@
 // The heights of a fragment's sectors above the viewpoint: rules `picture_rules/wall`, Heights.
 
 ghost use Rattle.std.specs.Prelude.{◌≡◌};
-ghost use Rattle.level_rules.specs.Levels.{is_sky};
-ghost use Rattle.picture_rules.specs.wall.Heights.{both_sky, world_high, world_low, world_top, world_bottom};
+ghost use Rattle.picture_rules.specs.Words.{both_sky, is_sky, world_bottom, world_high, world_low, world_top};
 
-use fx_words::minus;
-use level_rules::{SKY_FLAT, Surface};
+use picture_rules::{SKY_FLAT, Surface};
+use view_frame::minus;
 
 /// Whether the flat is sky.
 pub fn is_sky(flat: u32) -> bool

@@ -1,18 +1,11 @@
 // The line of a seg as a view sees it: rules `picture_rules/wall`, Scales and Columns.
 
 ghost use Rattle.std.specs.Prelude.{◌≡◌, ◌<◌, min, cond, nat_lt, unsigned_abs};
-ghost use Rattle.word_rules.specs.declared.TheConstants.{FINE_ANGLES};
-ghost use Rattle.word_rules.specs.Words.{mul, abs_word, signed_of, neg_word, turn_back, ang90, ang180, fine_angle};
-ghost use Rattle.view_rules.specs.Angles.{sine_at};
-ghost use Rattle.picture_rules.specs.wall.Scales.{seg_normal, vertex_angle, vertex_dist, normal_turn};
-ghost use Rattle.picture_rules.specs.wall.Columns.{quarter_of, texture_offset};
+ghost use Rattle.picture_rules.specs.Words.{abs_word, ang180, ang90, fine_angle, FINE_ANGLES, mul, neg_word, normal_turn, quarter_of, seg_normal, signed_of, sine_at, texture_offset, turn_back, vertex_angle, vertex_dist};
 ghost use Rattle.wall_edges.specs.Lines.{seg_line_of};
 
-use fx_words::{abs_word, fine_angle, mul, neg_word, plus, signed_of, turn, turn_back};
-use level_rules::Seg;
-use picture_rules::WallFacts;
-use view_frame::View;
-use word_rules::{ANG90, ANG180};
+use picture_rules::{ANG90, ANG180, Seg, WallFacts};
+use view_frame::{View, abs_word, fine_angle, mul, neg_word, plus, signed_of, turn, turn_back};
 
 /// The line of a seg as a view sees it: the angle of its normal (BAM), its distance (map units,
 /// 16.16), and the texture column (16.16) where the viewpoint stands straight before it.

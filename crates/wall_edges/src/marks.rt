@@ -1,22 +1,21 @@
 // Whether a fragment marks rows of its leaf's planes: rules `picture_rules/wall`, Marks.
 
 ghost use Rattle.std.specs.Prelude.{◌≡◌};
-ghost use Rattle.level_rules.specs.walk.Segs.{is_closed};
-ghost use Rattle.picture_rules.specs.wall.Marks.{floors_differ, ceilings_differ, floor_mark, ceiling_mark};
+ghost use Rattle.picture_rules.specs.Words.{ceiling_mark, ceilings_differ, floor_mark, floors_differ, is_closed};
 
 use crate::heights::{is_sky, world_bottom, world_high, world_low, world_top};
 use crate::silhouettes::{shuts_bottom, shuts_top};
-use level_rules::Surface;
+use picture_rules::Surface;
 
 // Nothing is seen through the line.
-#[tactic(auto, unfolding(level_rules::specs::walk::Segs::is_closed, picture_rules::specs::wall::Silhouettes::shuts_bottom, picture_rules::specs::wall::Silhouettes::shuts_top))]
+#[tactic(auto, unfolding(picture_rules::specs::Words::is_closed, picture_rules::specs::wall::Silhouettes::shuts_bottom, picture_rules::specs::wall::Silhouettes::shuts_top))]
 fn is_closed(front: Surface, back: Surface) -> bool
     ensures { result ≡ is_closed front back }
 {
     shuts_bottom(front, back) || shuts_top(front, back)
 }
 
-#[tactic(auto, unfolding(picture_rules::specs::wall::Marks::floors_differ, word_rules::specs::Words::same_word))]
+#[tactic(auto, unfolding(picture_rules::specs::wall::Marks::floors_differ, picture_rules::specs::Words::same_word))]
 fn floors_differ(eye_z: i32, front: Surface, back: Surface) -> bool
     ensures { result ≡ floors_differ eye_z front back }
 {
@@ -25,7 +24,7 @@ fn floors_differ(eye_z: i32, front: Surface, back: Surface) -> bool
         || front.light != back.light
 }
 
-#[tactic(auto, unfolding(picture_rules::specs::wall::Marks::ceilings_differ, word_rules::specs::Words::same_word))]
+#[tactic(auto, unfolding(picture_rules::specs::wall::Marks::ceilings_differ, picture_rules::specs::Words::same_word))]
 fn ceilings_differ(eye_z: i32, front: Surface, back: Surface) -> bool
     ensures { result ≡ ceilings_differ eye_z front back }
 {

@@ -1,10 +1,7 @@
 // The numbers of a fragment: rules `picture_rules/wall`, Scales and Numbers.
 
 ghost use Rattle.std.specs.Prelude.{◌≡◌, ◌<◌, ◌≤◌};
-ghost use Rattle.view_rules.specs.declared.TheConstants.{LIGHT_LEVELS};
-ghost use Rattle.picture_rules.specs.wall.Scales.{seg_distance, scale_of_column, scale_step};
-ghost use Rattle.picture_rules.specs.wall.Numbers.{seg_contrast, seg_light, numbers_by, fragment_numbers};
-ghost use Rattle.picture_rules.specs.wall.Notes.{silhouette_of};
+ghost use Rattle.picture_rules.specs.Words.{fragment_numbers, LIGHT_LEVELS, numbers_by, scale_of_column, scale_step, seg_contrast, seg_distance, seg_light, silhouette_of};
 
 use crate::columns::angle_of_column;
 use crate::heights::{world_bottom, world_high, world_low, world_top};
@@ -12,10 +9,8 @@ use crate::line::seg_normal;
 use crate::marks::{ceiling_mark, floor_mark};
 use crate::parts::{bottom_part, is_masked, middle_part, top_part};
 use crate::silhouettes::{bottom_is_constant, bottom_silhouette, top_is_constant, top_silhouette};
-use fx_words::{minus, same_word, turn};
-use level_rules::Seg;
-use picture_rules::{FragmentNumbers, SIL_BOTTOM, SIL_TOP, WallFacts};
-use view_frame::View;
+use picture_rules::{FragmentNumbers, SIL_BOTTOM, SIL_TOP, Seg, WallFacts};
+use view_frame::{View, minus, same_word, turn};
 
 /// The scale of a seg, whose line is `distance` off, at column `x`.
 #[tactic(auto, unfolding(picture_rules::specs::wall::Scales::scale_of_column))]

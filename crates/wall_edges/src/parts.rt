@@ -2,12 +2,11 @@
 // Parts.
 
 ghost use Rattle.std.specs.Prelude.{◌≡◌};
-ghost use Rattle.picture_rules.specs.wall.Parts.{no_part, top_is_unpegged, bottom_is_unpegged, mid_from, middle_mid, middle_part, top_mid, top_part, bottom_mid, bottom_part, is_masked};
+ghost use Rattle.picture_rules.specs.Words.{bottom_is_unpegged, bottom_mid, bottom_part, is_masked, mid_from, middle_mid, middle_part, no_part, top_is_unpegged, top_mid, top_part};
 
 use crate::heights::{world_bottom, world_high, world_low, world_top};
-use fx_words::{fixed, minus, plus};
-use level_rules::{BOTTOM_UNPEGGED, Seg, Surface, TOP_UNPEGGED};
-use picture_rules::{Part, WallFacts, WallTexture};
+use picture_rules::{BOTTOM_UNPEGGED, Part, Seg, Surface, TOP_UNPEGGED, WallFacts, WallTexture};
+use view_frame::{fixed, minus, plus};
 
 fn no_part() -> Part
     ensures { result ≡ no_part }

@@ -1,10 +1,9 @@
 // Where a fragment clips what is behind it: rules `picture_rules/wall`, Silhouettes.
 
 ghost use Rattle.std.specs.Prelude.{◌≡◌};
-ghost use Rattle.picture_rules.specs.wall.Silhouettes.{silhouette_at, no_silhouette, shuts_bottom, shuts_top, bottom_by_step, top_by_step, with_masked, bottom_silhouette, top_silhouette, bottom_is_constant, top_is_constant};
+ghost use Rattle.picture_rules.specs.Words.{bottom_by_step, bottom_is_constant, bottom_silhouette, no_silhouette, shuts_bottom, shuts_top, silhouette_at, top_by_step, top_is_constant, top_silhouette, with_masked};
 
-use level_rules::Surface;
-use picture_rules::Silhouette;
+use picture_rules::{Silhouette, Surface};
 
 // Nothing is clipped.
 fn no_silhouette() -> Silhouette

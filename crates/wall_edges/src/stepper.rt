@@ -1,7 +1,7 @@
 // The edges of a fragment, stepped from column to column.
 
 ghost use Rattle.std.specs.Prelude.{◌≡◌, ℕ, ◌+◌, IfSome, IfNone};
-ghost use Rattle.picture_rules.specs.wall.Edges.{edges_at};
+ghost use Rattle.picture_rules.specs.Words.{edges_at};
 ghost use Rattle.wall_edges.specs.Fragments.{FragmentValue};
 ghost use Rattle.wall_edges.specs.Steppers.{next_edges, next_stepper, IsAt};
 

@@ -1,12 +1,7 @@
 -- Rows of sprites, by evaluation: their order, and how a fragment in front of them cuts them.
 use Rattle.std.specs.Prelude.{◌≡◌, ℕ, ℤ, pos, true, false, [], ◌∷◌, map, None, refl}
-use Rattle.word_rules.specs.Words.{minus_one, words_unfolded}
-use Rattle.word_rules.specs.Least.{greatest}
+use Rattle.picture_rules.specs.Words.{clip_of_number, clip_of_some, draw_order, Drawseg, drawseg_has, entry_has, gives_bottom, gives_top, greatest, greatest_that, insert_entry, insert_last, is_behind, is_in_front, is_smaller, minus_one, passes_at, seg_line, side_by_product, side_by_slope, side_of, sprite_bottom, sprite_top, words_unfolded}
 use Rattle.picture_rules.specs.declared.sprite.SpriteEntry.{SpriteEntry}
-use Rattle.picture_rules.specs.sprite.Order.{insert_entry, draw_order, is_smaller, insert_last}
-use Rattle.picture_rules.specs.sprite.Drawsegs.{Drawseg, seg_line, drawseg_has, entry_has, is_in_front, is_behind}
-use Rattle.picture_rules.specs.sprite.Clips.{gives_bottom, gives_top, passes_at, greatest_that, clip_of_some, clip_of_number, sprite_bottom, sprite_top}
-use Rattle.view_rules.specs.Sides.{side_by_product, side_by_slope, side_of}
 
 -- who unfolds it unfolds the rules of these
 unfoldable pub sprites_cut : ℕ

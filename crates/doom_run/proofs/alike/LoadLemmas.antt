@@ -1,26 +1,13 @@
 -- What is loaded of a trimmed file: what was loaded of the WADs that it was made of, under other numbers of lumps.
-use Rattle.word_rules.proofs.Common.{[], All, AllByRecursion, ap, arith, Err, inl, length, List, list_any, map, None, Ok, Option, option_map, refl, Result, Some, subst, sym, true, unwrap_or, ℕ, ◌==◌, ◌∙◌, ◌∷◌, ◌≡◌, ◌≤◌}
-use Rattle.outside.specs.Faults.{and_then, from_below}
-use Rattle.outside.specs.Shelf.{File, file_named}
-use Rattle.outside.proofs.AnswerLemmas.{and_then-ok}
-use Rattle.lump_rules.specs.declared.wad.Lump.{Lump}
-use Rattle.lump_rules.specs.declared.wad.TheConstants.{MAX_LUMPS}
-use Rattle.lump_rules.specs.Contents.{lump_bytes}
-use Rattle.lump_rules.specs.Wads.{directory}
-use Rattle.level_rules.specs.declared.TheConstants.{SKY_FLAT}
-use Rattle.level_rules.specs.declared.ThingLine.{ThingLine}
-use Rattle.level_rules.specs.maps.Levels.{LevelValue}
+use Rattle.picture_rules.proofs.Common.{[], All, AllByRecursion, ap, arith, Err, inl, length, List, list_any, map, None, Ok, Option, option_map, refl, Result, Some, subst, sym, true, unwrap_or, ℕ, ◌==◌, ◌∙◌, ◌∷◌, ◌≡◌, ◌≤◌}
+use Rattle.art_rules.specs.Words.{and_then, book_lumps, directory, each_of, File, file_named, first_needs, frame_of, from_below, Lump, lump_bytes, MAX_LUMPS, TextureLists}
+use Rattle.art_rules.proofs.Laws.{and_then-ok}
+use Rattle.picture_rules.specs.Words.{LevelValue, SKY_FLAT, ThingLine}
 use Rattle.csv_tables.specs.declared.weapons.WeaponRow.{WeaponRow}
 use Rattle.art_rules.specs.declared.shapes.Frame.{Frame}
-use Rattle.art_rules.specs.Textures.{TextureLists}
-use Rattle.art_rules.specs.Books.{book_lumps, each_of, first_needs, frame_of}
 use Rattle.job_rules.specs.LevelJobs.{FileNames, LevelJobValue}
 use Rattle.scene_rules.specs.declared.refusal.AuditRefusal.TheVariants.{WeaponArt}
-use Rattle.scene_rules.specs.Places.{need_of}
-use Rattle.scene_rules.specs.Scenes.{Faces, SceneValue, book_in, faces_in, map_bytes, scene_in}
-use Rattle.scene_rules.specs.SectorFlats.{sector_flats}
-use Rattle.scene_rules.specs.Sides.{side_textures, sky_texture}
-use Rattle.scene_rules.specs.Sizes.{SceneArt}
+use Rattle.scene_rules.specs.Words.{book_in, Faces, faces_in, map_bytes, need_of, scene_in, SceneArt, SceneValue, sector_flats, side_textures, sky_texture}
 use Rattle.job_files.specs.Files.{path_file, tables_file, things_file, weapons_file}
 use Rattle.job_files.specs.Sizes.{wad_contents}
 use Rattle.sound_scene.specs.Sound.{art_with}

@@ -1,28 +1,16 @@
 -- What is rendered of a trimmed file: the same bytes, lines and end as of the WADs that it was made of.
-use Rattle.word_rules.proofs.Common.{[], ap, Bool, cond, false, is_some, length, length-map, List, map, map-append, None, Ok, Option, option_and_then, option_map, option_to_list, refl, slice_get, slice_index_or, Some, subst, suc, sym, take, take-map, true, unwrap_or, zero, ℕ, ℤ, ◌+◌, ◌==◌, ◌∙◌, ◌∷◌, ◌≡◌}
-use Rattle.outside.specs.Shelf.{File}
-use Rattle.word_rules.specs.Least.{least}
-use Rattle.word_rules.specs.Listed.{joined_lists, listed}
-use Rattle.view_rules.specs.View.{ViewValue, view_of}
-use Rattle.view_rules.specs.declared.Eye.{Eye}
-use Rattle.level_rules.specs.declared.Sector.{Sector}
-use Rattle.level_rules.specs.Levels.{no_surface, sky_flat, surface_at}
-use Rattle.level_rules.specs.maps.Levels.{LevelValue}
+use Rattle.picture_rules.proofs.Common.{[], ap, Bool, cond, false, is_some, length, length-map, List, map, map-append, None, Ok, Option, option_and_then, option_map, option_to_list, refl, slice_get, slice_index_or, Some, subst, suc, sym, take, take-map, true, unwrap_or, zero, ℕ, ℤ, ◌+◌, ◌==◌, ◌∙◌, ◌∷◌, ◌≡◌}
+use Rattle.art_rules.specs.Words.{File, picked}
+use Rattle.picture_rules.specs.Words.{Eye, joined_lists, least, LevelValue, listed, no_surface, overlaid_picture, Sector, sky_flat, surface_at, view_of, view_over, ViewValue, WeaponLayer}
 use Rattle.csv_tables.specs.declared.path.PathRow.{PathRow}
 use Rattle.csv_tables.specs.declared.weapons.WeaponRow.{WeaponRow}
 use Rattle.art_rules.specs.declared.shapes.Frame.{Frame}
 use Rattle.art_rules.specs.declared.shapes.Shape.{Shape}
-use Rattle.art_rules.specs.Books.{picked}
 use Rattle.job_rules.specs.LevelJobs.{LevelJobValue}
 use Rattle.job_rules.specs.declared.command.Format.{Format}
 use Rattle.job_rules.specs.declared.command.Settings.{Settings}
 use Rattle.scene_rules.specs.declared.SectorFlats.{SectorFlats}
-use Rattle.scene_rules.specs.Places.{sector_at}
-use Rattle.scene_rules.specs.Scenes.{SceneValue}
-use Rattle.scene_rules.specs.SectorFlats.{surface_of, surfaces_of}
-use Rattle.picture_rules.specs.Counts.{view_over}
-use Rattle.picture_rules.specs.Picture.{overlaid_picture}
-use Rattle.picture_rules.specs.sprite.Weapons.{WeaponLayer}
+use Rattle.scene_rules.specs.Words.{SceneValue, sector_at, surface_of, surfaces_of}
 use Rattle.sound_scene.specs.Sound.{art_with}
 use Rattle.level_audit.specs.scene_load.Loads.{LoadedValue, load_in, loaded_pictures, wad_bytes}
 use Rattle.trim_rules.specs.declared.part.TrimPart.{TrimPart}

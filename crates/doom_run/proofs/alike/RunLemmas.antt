@@ -1,9 +1,7 @@
 -- What a trimmed file is for: rendering it comes to the same as rendering the WADs that it was made of.
 use Rattle.std.proofs.Common.{◌≡◌, ℕ, List, [], ◌∷◌, Some, Result, Ok, Err, ap, refl, subst, sym, ◌∙◌}
-use Rattle.outside.specs.Faults.{and_then, from_below}
-use Rattle.outside.specs.Shelf.{File}
-use Rattle.outside.specs.Stops.{Stop, no_file}
-use Rattle.outside.proofs.AnswerLemmas.{and_then-ok}
+use Rattle.art_rules.specs.Words.{and_then, File, from_below, no_file, Stop}
+use Rattle.art_rules.proofs.Laws.{and_then-ok}
 use Rattle.job_rules.specs.Commands.{level_job}
 use Rattle.job_rules.specs.LevelJobs.{LevelJobValue}
 use Rattle.job_rules.specs.declared.command.Format.{Format}

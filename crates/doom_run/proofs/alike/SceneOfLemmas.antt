@@ -1,16 +1,12 @@
 -- The scene that is drawn of a level whose lumps have other numbers is the same scene under the other numbers.
-use Rattle.word_rules.proofs.Common.{[], All, ap, List, map, None, Option, option_map, refl, Some, sym, unwrap_or, ℕ, ◌∙◌, ◌∷◌, ◌≡◌}
-use Rattle.level_rules.specs.declared.Sector.{Sector}
-use Rattle.level_rules.specs.Levels.{sky_flat}
+use Rattle.picture_rules.proofs.Common.{[], All, ap, List, map, None, Option, option_map, refl, Some, sym, unwrap_or, ℕ, ◌∙◌, ◌∷◌, ◌≡◌}
+use Rattle.picture_rules.specs.Words.{Sector, sky_flat}
 use Rattle.art_rules.specs.declared.shapes.Shape.{Shape}
-use Rattle.art_rules.specs.Books.{picked}
-use Rattle.art_rules.specs.Textures.{texture_at}
+use Rattle.art_rules.specs.Words.{picked, texture_at}
 use Rattle.scene_rules.specs.declared.Flat.{Flat}
 use Rattle.scene_rules.specs.declared.Flat.TheVariants.{Sky, Lump as LumpFlat}
 use Rattle.scene_rules.specs.declared.SectorFlats.{SectorFlats}
-use Rattle.scene_rules.specs.Places.{things_of}
-use Rattle.scene_rules.specs.Scenes.{SceneValue}
-use Rattle.scene_rules.specs.SectorFlats.{flat_number, surface_of, surfaces_of}
+use Rattle.scene_rules.specs.Words.{flat_number, SceneValue, surface_of, surfaces_of, things_of}
 use Rattle.sound_scene.specs.Sound.{textures_view}
 use Rattle.frame_core.specs.Scenes.{drawn_shape, lists_of, scene_of}
 use Rattle.alike_rules.proofs.EntryLemmas.{moved_shape}

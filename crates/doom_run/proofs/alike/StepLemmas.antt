@@ -1,17 +1,13 @@
 -- The steps of a load: each file gives what it should, and the lumps give the scene and the weapon layers.
 use Rattle.std.proofs.Common.{◌≡◌, ℕ, List, [], ◌∷◌, Option, Some, None, Result, Ok, Err, refl, ap, subst, ◌∙◌}
-use Rattle.outside.specs.Faults.{and_then, from_below}
-use Rattle.outside.specs.Shelf.{File, file_named}
-use Rattle.outside.specs.Stops.{Stop, else_absent, no_file}
-use Rattle.outside.proofs.AnswerLemmas.{and_then-ok}
-use Rattle.lump_rules.specs.declared.wad.Lump.{Lump}
-use Rattle.lump_rules.specs.Wads.{directory}
+use Rattle.art_rules.specs.Words.{and_then, directory, else_absent, File, file_named, from_below, Lump, no_file, Stop}
+use Rattle.art_rules.proofs.Laws.{and_then-ok}
 use Rattle.job_rules.specs.declared.command.Settings.{Settings}
 use Rattle.job_rules.specs.LevelJobs.{FileNames, LevelJobValue}
 use Rattle.refusals.specs.declared.refusal.Refusal.{Refusal}
 use Rattle.refusals.specs.declared.refusal.Refusal.TheVariants.{Wad}
 use Rattle.refusals.specs.Groups.{of_audit}
-use Rattle.scene_rules.specs.Scenes.{scene_in}
+use Rattle.scene_rules.specs.Words.{scene_in}
 use Rattle.job_files.specs.declared.texts.TextTables.{TextTables}
 use Rattle.job_files.specs.Files.{FilesValue, files_in, files_named, in_file, in_optional_file, lumps_in, path_file, tables_file, texts_in, things_file, wad_files, weapons_file}
 use Rattle.job_files.specs.Sizes.{wad_contents}

@@ -1,13 +1,13 @@
 // The made tables of angles, with the numbers of their file, and those of two sizes of the view.
 ghost use Rattle.std.specs.Prelude.{◌≤◌};
-ghost use Rattle.view_rules.specs.declared.TheConstants.{MIN_SIZE, MAX_SIZE};
+ghost use Rattle.art_rules.specs.Words.{MAX_SIZE, MIN_SIZE};
 
 use angle_tables::Tables;
+use art_rules::MAX_SIZE;
 use level_maker::make_tables;
 use std::alloc::Global;
 use std::process::Abort;
 use std::test::Fail;
-use view_rules::MAX_SIZE;
 
 fn made(alloc: Global, size: u8) -> Result<Box<Tables>, Fail>
     requires { (MIN_SIZE ≤ size) × (size ≤ MAX_SIZE) }

@@ -1,11 +1,11 @@
 // A shelf of one file, and its directory.
 ghost use Rattle.std.specs.Prelude.{◌<◌, ◌^◌, IfOk, length};
 
-use outside::{MemoryShelf, Shelf};
+use art_rules::{MemoryShelf, Shelf};
+use lump_cache::Directory;
 use std::alloc::{AllocError, Global};
 use std::test::Fail;
 use test_files::file_of;
-use wad_dir::Directory;
 
 // The call of a shelf that fails where none does: calls are numbered from 1.
 pub(crate) const NO_CALL: u64 = 0;

@@ -1,6 +1,6 @@
 // What no clause says: how many puts a frame and a picture are.
+use art_rules::{MemorySink, PutFault};
 use frame_writer::{FRAME_BYTES, PALETTE_BYTES, PPM_BYTES, put_index, put_ppm};
-use outside::{MemorySink, PutFault};
 use std::alloc::{AllocError, Global};
 use std::test::Fail;
 

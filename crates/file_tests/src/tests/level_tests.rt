@@ -1,7 +1,7 @@
 // Values from outside: the level of a file by hand.
 use crate::tests::levels::read_map;
+use art_rules::Name8;
 use level_scene::Level;
-use lump_rules::Name8;
 use map_lumps::{Box4, Child, Leaf, Node, Partition4, Sector, Seg, Side, Thing};
 use std::process::Abort;
 use std::test::Fail;

@@ -6,14 +6,12 @@
 ghost use Rattle.std.specs.Prelude.{◌<◌, ◌^◌, length};
 
 use crate::tests::files::{NO_CALL, load_directory, shelf_of};
+use art_rules::{MemoryShelf, Name8};
 use level_scene::{Level, read_level};
-use lump_cache::LumpCache;
-use lump_rules::Name8;
-use outside::MemoryShelf;
+use lump_cache::{Directory, LumpCache};
 use std::alloc::{AllocError, Global};
 use std::test::Fail;
 use test_files::put_halves;
-use wad_dir::Directory;
 
 // Five things: in front of the line, behind it, in front and hanging, for several players, and in
 // hard skills alone. Turned by 89 and by -45 degrees, and not.

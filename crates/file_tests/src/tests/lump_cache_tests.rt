@@ -2,11 +2,10 @@
 ghost use Rattle.std.specs.Prelude.{◌<◌, length};
 
 use crate::tests::files::{NO_CALL, load_directory, shelf_of};
-use lump_cache::{CacheFault, LumpCache, fetch_named, live_bytes};
-use outside::MemoryShelf;
+use art_rules::MemoryShelf;
+use lump_cache::{CacheFault, Directory, LumpCache, LumpNo, Name8, fetch_named, live_bytes};
 use std::alloc::Global;
 use std::test::Fail;
-use wad_dir::{Directory, LumpNo, Name8};
 
 // A lump FIVE with the bytes 1 to 5 at 12, LONG of 45 bytes at 19, the empty lump NONE, a later FIVE
 // with 6 and 7 at 17, and the directory at 64.

@@ -1,5 +1,5 @@
 // A file of the system, and outputs in memory.
-use outside::{Failed, FileNo, HostShelf, MemorySink, PutFault, Shelf, Sink, TallySink};
+use art_rules::{Failed, FileNo, HostShelf, MemorySink, PutFault, Shelf, Sink, TallySink};
 use std::fs;
 use std::test::Fail;
 

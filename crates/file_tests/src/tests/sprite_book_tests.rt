@@ -2,8 +2,8 @@
 ghost use Rattle.std.specs.Prelude.{◌<◌};
 
 use crate::tests::files::{NO_CALL, load_directory, shelf_of};
+use art_rules::MemoryShelf;
 use lump_cache::LumpCache;
-use outside::MemoryShelf;
 use sprite_book::{Need, SpriteBook, SpriteFault, SpriteRefusal};
 use std::alloc::{AllocError, Global};
 use std::test::Fail;

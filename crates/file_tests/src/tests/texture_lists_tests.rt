@@ -1,8 +1,7 @@
 // Values from outside: a file of small lists, written by hand in their format.
 use crate::tests::files::{NO_CALL, load_directory, shelf_of};
+use art_rules::{MemoryShelf, Name8};
 use lump_cache::LumpCache;
-use lump_rules::Name8;
-use outside::MemoryShelf;
 use std::alloc::Global;
 use std::process::Abort;
 use std::test::Fail;

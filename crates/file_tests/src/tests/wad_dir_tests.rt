@@ -1,10 +1,10 @@
 // Values from outside: what is found in two small files.
-use outside::{FileNo, MemoryShelf, Shelf};
+use art_rules::{FileNo, MemoryShelf, Shelf};
+use lump_cache::{Directory, LumpNo, Name8};
 use std::alloc::{AllocError, Global};
 use std::process::Abort;
 use std::test::Fail;
 use test_files::file_of;
-use wad_dir::{Directory, LumpNo, Name8};
 
 // PLAYPAL of 768 bytes at 12 and the flat TILE of ten bytes at 780: 854 bytes.
 fn tiny_wad(alloc: Global) -> Result<Vec<u8>, AllocError> {

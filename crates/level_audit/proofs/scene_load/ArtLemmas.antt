@@ -1,24 +1,17 @@
 -- What the cache and the textures hold once all is loaded.
-use Rattle.word_rules.proofs.Common.{ap, IfSome, List, None, Ok, Option, option_and_then, option_map, refl, Some, subst, sym, ℕ, ◌∙◌, ◌≡◌}
-use Rattle.outside.specs.Shelf.{ShelfView}
-use Rattle.outside.specs.Faults.{from_below}
-use Rattle.outside.proofs.AnswerLemmas.{and_then-ok}
-use Rattle.lump_rules.specs.declared.wad.Lump.{Lump}
-use Rattle.lump_rules.specs.Contents.{lump_bytes}
-use Rattle.zone_rules.specs.Zones.{Holding, Block, Heap, bytes_of}
-use Rattle.wad_dir.specs.DirectoryView.{DirectoryView}
-use Rattle.lump_cache.specs.Caches.{IsAtRest, IsEmpty, composite_owner}
-use Rattle.lump_cache.specs.Calls.{HoldContents, PreservesCache}
-use Rattle.level_rules.specs.declared.ThingLine.{ThingLine}
-use Rattle.art_rules.specs.Wanted.{PreparedTexture}
+use Rattle.art_rules.proofs.Common.{ap, IfSome, List, None, Ok, Option, option_and_then, option_map, refl, Some, subst, sym, ℕ, ◌∙◌, ◌≡◌}
+use Rattle.art_rules.specs.Words.{from_below, Lump, lump_bytes, PreparedTexture, ShelfView}
+use Rattle.art_rules.proofs.Laws.{and_then-ok}
+use Rattle.scene_rules.specs.Words.{base_in, base_over, Block, bytes_of, colormap_of, Heap, Holding, is_wanted_texture, level_in, LevelBase, lists_in, playpal_of, scene_in, SceneValue, ThingLine}
+use Rattle.texture_build.specs.DirectoryView.{DirectoryView}
+use Rattle.texture_build.specs.Caches.{IsAtRest, IsEmpty, composite_owner}
+use Rattle.texture_build.specs.Calls.{HoldContents, PreservesCache}
 use Rattle.texture_build.specs.Composites.{AreComposites, composite_of}
 use Rattle.texture_build.specs.Draws.{HoldsArt}
 use Rattle.texture_build.specs.Views.{TexturesView, AreTexturesOf, prepared_at}
 use Rattle.job_rules.specs.LevelJobs.{LevelJobValue}
 use Rattle.refusals.specs.Groups.{of_audit}
 use Rattle.scene_rules.specs.declared.refusal.AuditRefusal.TheVariants.{Art, Map, Texture}
-use Rattle.scene_rules.specs.Scenes.{LevelBase, SceneValue, base_in, base_over, colormap_of, level_in, lists_in, playpal_of, scene_in}
-use Rattle.scene_rules.specs.Sides.{is_wanted_texture}
 use Rattle.sound_scene.specs.Sound.{textures_view}
 use Rattle.sound_scene.proofs.SceneLemmas.{from_below-ok, scene_parts}
 use Rattle.job_files.specs.Files.{FilesValue}

@@ -1,24 +1,17 @@
 -- When the zone is full while files are audited, and while all is loaded.
 use Rattle.refusals.specs.declared.refusal.Refusal.{Refusal}
 use Rattle.scene_rules.specs.declared.refusal.AuditRefusal.{AuditRefusal}
-use Rattle.outside.specs.Faults.{itself}
-use Rattle.word_rules.proofs.Common.{ap, arith, Err, err_from_is_err_and, IfErr, inl, inr, IsErrAnd, IsOk, List, Ok, Option, refl, Result, subst, sym, ℕ, ◌+◌, ◌<◌, ◌∙◌, ◌≡◌}
-use Rattle.outside.specs.Shelf.{File, ShelfView}
-use Rattle.lump_rules.specs.Contents.{lump_bytes}
-use Rattle.lump_rules.specs.Lookups.{lump_at}
-use Rattle.zone_rules.specs.declared.TheConstants.{MIN_FRAGMENT}
-use Rattle.zone_rules.specs.Zones.{Heap, block_size}
-use Rattle.lump_cache.specs.Caches.{IsAtRest, IsEmpty}
-use Rattle.lump_cache.specs.Calls.{IfFull, IsFullFor, HoldContents}
-use Rattle.lump_cache.specs.Sizes.{IsGapAround, IsGapBeside}
-use Rattle.lump_cache.proofs.CallLemmas.{full_room}
+use Rattle.art_rules.specs.Words.{Fault, File, itself, lump_at, lump_bytes, OutOfMemory, ReadFault, Refused, ShelfView, ZoneFull}
+use Rattle.art_rules.proofs.Common.{ap, arith, Err, err_from_is_err_and, IfErr, inl, inr, IsErrAnd, IsOk, List, Ok, Option, refl, Result, subst, sym, ℕ, ◌+◌, ◌<◌, ◌∙◌, ◌≡◌}
+use Rattle.scene_rules.specs.Words.{block_size, colormap_of, Heap, MIN_FRAGMENT, scene_in, SceneValue, sizes_of}
+use Rattle.texture_build.specs.Caches.{IsAtRest, IsEmpty}
+use Rattle.texture_build.specs.Calls.{IfFull, IsFullFor, HoldContents}
+use Rattle.texture_build.specs.Sizes.{IsGapAround, IsGapBeside}
+use Rattle.texture_build.proofs.CallLemmas.{full_room}
 use Rattle.art_rules.specs.declared.shapes.Frame.{Frame}
 use Rattle.job_rules.specs.LevelJobs.{LevelJobValue}
 use Rattle.job_files.specs.declared.read.SceneFiles.{SceneFiles}
 use Rattle.job_files.specs.Files.{FilesValue, IsNeverFull, files_in, value_of}
-use Rattle.scene_rules.specs.Scenes.{SceneValue, colormap_of, scene_in, sizes_of}
-use Rattle.outside.specs.declared.fault.Fault.{Fault}
-use Rattle.outside.specs.declared.fault.Fault.TheVariants.{Refused, ReadFault, ZoneFull, OutOfMemory}
 use Rattle.level_audit.specs.Reads.{IsFullAudit}
 use Rattle.sound_scene.specs.Sound.{SoundValue}
 use Rattle.sound_scene.proofs.SceneLemmas.{colormap_there, same_value}

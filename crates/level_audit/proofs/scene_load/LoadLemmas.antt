@@ -1,19 +1,14 @@
 -- What is told of a job's loading, step after step.
-use Rattle.word_rules.proofs.Common.{ap, Bool, Err, err_from_is_err_and, IfErr, IsErrAnd, List, Ok, refl, Result, Some, sym, ℕ, ◌∙◌, ◌≡◌}
-use Rattle.outside.specs.Shelf.{NameFiles, File, ShelfView}
-use Rattle.outside.specs.declared.fault.Fault.TheVariants.{OutOfMemory}
-use Rattle.outside.specs.Faults.{FaultFits, HasCauseAt, HasCauses, ResultIs, from_below, itself}
-use Rattle.lump_rules.specs.Contents.{AllWithin}
-use Rattle.zone_rules.specs.Zones.{Heap}
-use Rattle.wad_dir.specs.DirectoryView.{DirectoryView}
-use Rattle.lump_cache.specs.Caches.{IsFaithful}
-use Rattle.lump_cache.specs.Calls.{IfFull, HoldContents}
+use Rattle.art_rules.proofs.Common.{ap, Bool, Err, err_from_is_err_and, IfErr, IsErrAnd, List, Ok, refl, Result, Some, sym, ℕ, ◌∙◌, ◌≡◌}
+use Rattle.art_rules.specs.Words.{AllWithin, Fault, FaultFits, FaultFitsOrAbsent, File, from_below, HasCauseAt, HasCauses, itself, NameFiles, no_file, OutOfMemory, ResultIs, ResultIsOrAbsent, ShelfView, Stop}
+use Rattle.scene_rules.specs.Words.{Heap}
+use Rattle.texture_build.specs.DirectoryView.{DirectoryView}
+use Rattle.texture_build.specs.Caches.{IsFaithful}
+use Rattle.texture_build.specs.Calls.{IfFull, HoldContents}
 use Rattle.job_rules.specs.LevelJobs.{LevelJobValue}
-use Rattle.outside.specs.declared.fault.Fault.{Fault}
 use Rattle.job_files.specs.Files.{FilesValue, files_in, files_named}
-use Rattle.outside.specs.Stops.{Stop, ResultIsOrAbsent, FaultFitsOrAbsent, no_file}
 use Rattle.job_files.proofs.AcceptedLemmas.{wads_accepted}
-use Rattle.outside.proofs.StopLemmas.{all_passed, no_file_agrees, step_stops}
+use Rattle.art_rules.proofs.Laws.{all_passed, no_file_agrees, step_stops}
 use Rattle.scene_rules.specs.declared.refusal.AuditRefusal.{AuditRefusal}
 use Rattle.refusals.specs.declared.refusal.Refusal.{Refusal}
 use Rattle.refusals.specs.Groups.{of_audit}

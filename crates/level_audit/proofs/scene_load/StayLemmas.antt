@@ -1,10 +1,8 @@
 -- What is told of a call that failed, where the zone is in order for all that is asked for.
-use Rattle.word_rules.proofs.Common.{ap, Err, err_from_is_err_and, IsErrAnd, MatchResult, Result, subst, sym, ◌∙◌, ◌≡◌}
-use Rattle.outside.specs.declared.fault.Fault.{Fault}
-use Rattle.outside.specs.declared.fault.Fault.TheVariants.{Refused, ReadFault, ZoneFull, OutOfMemory}
-use Rattle.outside.specs.Faults.{itself}
-use Rattle.lump_cache.specs.Calls.{IfFull, InOrderAt}
-use Rattle.lump_cache.proofs.CallLemmas.{order_at}
+use Rattle.art_rules.proofs.Common.{ap, Err, err_from_is_err_and, IsErrAnd, MatchResult, Result, subst, sym, ◌∙◌, ◌≡◌}
+use Rattle.art_rules.specs.Words.{Fault, itself, OutOfMemory, ReadFault, Refused, ZoneFull}
+use Rattle.texture_build.specs.Calls.{IfFull, InOrderAt}
+use Rattle.texture_build.proofs.CallLemmas.{order_at}
 use Rattle.job_files.specs.Files.{IsNeverFull}
 
 never_full : {R : Type 0} (P : Type 0) (fault : Fault R) → IfFull fault (λ wanted widest'. ⊥) → P → InOrderAt fault P

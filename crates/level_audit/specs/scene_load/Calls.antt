@@ -1,15 +1,9 @@
 -- What a call that loads a scene answers, and what it leaves; the same of the audits that it makes.
 use Rattle.std.specs.Prelude.{◌≡◌, ◌<◌, ◌≤◌, ◌+◌, ◌^◌, ℕ, List, length, Option, Some, None, Result, Ok, IfOk, IfErr, MatchResult}
-use Rattle.outside.specs.Faults.{HasCauses, ResultIs, itself}
-use Rattle.outside.specs.Shelf.{File, Holds, IsLaterShelf, NameFiles, ShelfView}
-use Rattle.outside.specs.Stops.{ResultIsOrAbsent}
-use Rattle.outside.specs.declared.fault.Fault.{Fault}
-use Rattle.lump_rules.specs.Contents.{lump_bytes}
-use Rattle.lump_rules.specs.Lookups.{lump_at}
-use Rattle.zone_rules.specs.Orders.{IsInOrder}
-use Rattle.zone_rules.specs.Zones.{Heap, bytes_of}
-use Rattle.lump_cache.specs.Caches.{IsAtRest, IsFaithful, KeepsCounts, composite_owner}
-use Rattle.lump_cache.specs.Calls.{HoldContents, IfFull, InOrderAt, LeavesInOrder}
+use Rattle.art_rules.specs.Words.{Fault, File, HasCauses, Holds, IsLaterShelf, itself, lump_at, lump_bytes, NameFiles, ResultIs, ResultIsOrAbsent, ShelfView}
+use Rattle.scene_rules.specs.Words.{bytes_of, Heap, IsInOrder}
+use Rattle.texture_build.specs.Caches.{IsAtRest, IsFaithful, KeepsCounts, composite_owner}
+use Rattle.texture_build.specs.Calls.{HoldContents, IfFull, InOrderAt, LeavesInOrder}
 use Rattle.art_rules.specs.declared.shapes.Frame.{Frame}
 use Rattle.texture_build.specs.Draws.{HoldsArt}
 use Rattle.job_rules.specs.LevelJobs.{LevelJobValue}

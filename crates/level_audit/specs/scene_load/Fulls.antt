@@ -1,16 +1,12 @@
 -- When the zone is full while a scene is loaded.
 use Rattle.std.specs.Prelude.{◌≡◌, ◌≢◌, ◌<◌, ◌≤◌, ◌+◌, ℕ, List, Option, Some, Ok, ◌⊎◌}
-use Rattle.outside.specs.Shelf.{File}
-use Rattle.lump_rules.specs.declared.wad.Lump.{Lump}
-use Rattle.lump_rules.specs.Lookups.{lump_at}
-use Rattle.zone_rules.specs.declared.TheConstants.{MIN_FRAGMENT}
-use Rattle.zone_rules.specs.Zones.{block_size}
-use Rattle.lump_cache.specs.Sizes.{IsGapAround}
+use Rattle.art_rules.specs.Words.{File, Lump, lump_at}
+use Rattle.scene_rules.specs.Words.{block_size, colormap_of, MIN_FRAGMENT}
+use Rattle.texture_build.specs.Sizes.{IsGapAround}
 use Rattle.csv_tables.specs.declared.weapons.WeaponRow.{WeaponRow}
 use Rattle.sprite_book.specs.Calls.{IsWanted}
 use Rattle.job_rules.specs.LevelJobs.{LevelJobValue}
 use Rattle.job_files.specs.Files.{FilesValue, files_in}
-use Rattle.scene_rules.specs.Scenes.{colormap_of}
 use Rattle.level_audit.specs.Asked.{IsOfBase}
 use Rattle.level_audit.specs.Reads.{IsReadBy}
 use Rattle.level_audit.specs.Weapons.{weapon_needs}

@@ -1,23 +1,17 @@
 -- What the files of a job over a level give: tables, a scene and the pictures of weapon layers; or the
 -- first step that stops.
 use Rattle.std.specs.Prelude.{ℕ, List, [], ◌++◌, Option, Some, None, Result, Ok}
-use Rattle.outside.specs.Shelf.{File}
-use Rattle.outside.specs.Faults.{and_then, from_below}
-use Rattle.lump_rules.specs.declared.wad.Lump.{Lump}
-use Rattle.lump_rules.specs.Contents.{lump_bytes}
+use Rattle.art_rules.specs.Words.{and_then, book_lumps, File, from_below, Lump, lump_bytes, no_file, Stop}
 use Rattle.csv_tables.specs.declared.weapons.WeaponRow.{WeaponRow}
 use Rattle.art_rules.specs.declared.shapes.Frame.{Frame}
-use Rattle.art_rules.specs.Books.{book_lumps}
 use Rattle.job_rules.specs.LevelJobs.{LevelJobValue}
 use Rattle.refusals.specs.declared.refusal.Refusal.{Refusal}
 use Rattle.job_files.specs.Files.{FilesValue, files_in, value_of}
 use Rattle.job_files.specs.Sizes.{wad_contents}
-use Rattle.outside.specs.Stops.{Stop, no_file}
 use Rattle.scene_rules.specs.declared.ZoneSizes.{ZoneSizes}
 use Rattle.scene_rules.specs.declared.refusal.AuditRefusal.{AuditRefusal}
 use Rattle.scene_rules.specs.declared.refusal.AuditRefusal.TheVariants.{WeaponArt}
-use Rattle.scene_rules.specs.Scenes.{SceneValue, scene_in}
-use Rattle.scene_rules.specs.Sizes.{needed_lumps, zone_sizes}
+use Rattle.scene_rules.specs.Words.{needed_lumps, scene_in, SceneValue, zone_sizes}
 use Rattle.sound_scene.specs.Sound.{SoundValue, art_with, with_book}
 use Rattle.level_audit.specs.Weapons.{weapon_book}
 use Rattle.refusals.specs.Groups.{of_audit}

@@ -1,13 +1,9 @@
 -- What loading and drawing ask the zone for, and how many bytes are read at most where the zone has
 -- room for all of it.
 use Rattle.std.specs.Prelude.{ℕ, ◌+◌, ◌≤◌, ◌==◌, cond, List, [], ◌∷◌, ◌++◌, map, sum_by, Option, Some, None}
-use Rattle.outside.specs.Shelf.{File}
-use Rattle.lump_rules.specs.declared.wad.Lump.{Lump}
-use Rattle.lump_rules.specs.Lookups.{lump_at}
-use Rattle.zone_rules.specs.Zones.{Heap}
-use Rattle.zone_rules.specs.Orders.{Item, IsInOrder, live_sum, lump_size}
-use Rattle.lump_cache.specs.Caches.{composite_owner, lump_owner}
-use Rattle.art_rules.specs.Wanted.{PreparedTexture}
+use Rattle.art_rules.specs.Words.{File, Lump, lump_at, PreparedTexture}
+use Rattle.scene_rules.specs.Words.{Heap, IsInOrder, Item, live_sum, lump_size}
+use Rattle.texture_build.specs.Caches.{composite_owner, lump_owner}
 use Rattle.texture_build.specs.Asked.{size_of}
 use Rattle.job_rules.specs.LevelJobs.{LevelJobValue}
 use Rattle.job_files.specs.Sizes.{files_size}

@@ -1,6 +1,6 @@
 // A fault of an audit as that of a job.
 ghost use Rattle.std.specs.Prelude.{◌≡◌};
-ghost use Rattle.outside.specs.Faults.{fault_above};
+ghost use Rattle.art_rules.specs.Words.{fault_above};
 ghost use Rattle.refusals.specs.Groups.{of_audit};
 
 use crate::AuditFault;

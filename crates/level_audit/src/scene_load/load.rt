@@ -4,13 +4,10 @@
 // p_setup.c.
 ghost use Rattle.job_rules.specs.Ranges.{IsSkill};
 ghost use Rattle.std.specs.Prelude.{◌≡◌, ◌<◌, ◌≤◌, ◌^◌, ℕ, List, length, map, IfOk, IfErr};
-ghost use Rattle.outside.specs.Faults.{from_below, itself};
-ghost use Rattle.outside.specs.declared.fault.Fault.TheVariants.{OutOfMemory};
-ghost use Rattle.zone_rules.specs.Zones.{IsZoneSize};
-ghost use Rattle.zone_rules.specs.Orders.{Item, AreRoomy, IsInOrder};
-ghost use Rattle.view_rules.specs.declared.TheConstants.{MIN_SIZE, MAX_SIZE};
-ghost use Rattle.lump_cache.specs.Caches.{IsEmpty, IsFaithful};
-ghost use Rattle.lump_cache.specs.Calls.{ReadsLumps};
+ghost use Rattle.art_rules.specs.Words.{from_below, itself, MAX_SIZE, MIN_SIZE, OutOfMemory};
+ghost use Rattle.scene_rules.specs.Words.{AreRoomy, IsInOrder, IsZoneSize, Item};
+ghost use Rattle.texture_build.specs.Caches.{IsEmpty, IsFaithful};
+ghost use Rattle.texture_build.specs.Calls.{ReadsLumps};
 ghost use Rattle.job_rules.specs.LevelJobs.{level_job_value};
 ghost use Rattle.refusals.specs.Groups.{of_audit};
 ghost use Rattle.level_audit.specs.Weapons.{AreThere};
@@ -20,15 +17,13 @@ ghost use Rattle.level_audit.specs.scene_load.Loads.{weapons_of, with_layers};
 
 use crate::scene_load::fault::audit_fault;
 use crate::{AuditFault, SoundScene, audit, audit_weapons};
+use art_rules::{Fault, Shelf};
 use csv_tables::WeaponTable;
 use job_files::{LoadFault, SceneFiles, read_files};
 use job_rules::LevelJob;
-use lump_cache::LumpCache;
-use outside::{Fault, Shelf};
 use sprite_book::SpriteBook;
 use std::alloc::Global;
-use wad_dir::Directory;
-use zone_heap::ZoneMake;
+use texture_build::{Directory, LumpCache, ZoneMake};
 
 /// The slots of composites: one for each texture that there may be.
 pub const COMPOSITE_SLOTS: u32 = 32767;

@@ -3,11 +3,7 @@
 // Rules: `art_rules`, Columns and Lookups; `specs/Sources`, `specs/Asked` and `specs/Composites`.
 // The original: `R_GetColumn` and `R_GenerateComposite`, r_data.c.
 ghost use Rattle.std.specs.Prelude.{◌≡◌, ◌<◌, ◌≤◌, ◌+◌, ℕ, ℤ, List, length, IfSome, Ok, None, ◌^◌};
-ghost use Rattle.lump_rules.specs.Contents.{lump_bytes};
-ghost use Rattle.lump_rules.specs.declared.wad.Lump.{Lump};
-ghost use Rattle.art_rules.specs.Bytes.{byte_at};
-ghost use Rattle.art_rules.specs.Columns.{texel};
-ghost use Rattle.art_rules.specs.Lookups.{single_place};
+ghost use Rattle.art_rules.specs.Words.{byte_at, Lump, lump_bytes, single_place, texel};
 ghost use Rattle.lump_cache.specs.Caches.{IsAtRest, IsFaithful};
 ghost use Rattle.texture_build.specs.Composites.{AreComposites};
 ghost use Rattle.texture_build.specs.Draws.{KeepsArt};
@@ -18,11 +14,9 @@ ghost use Rattle.texture_build.specs.Views.{AreTexturesOf, ArePatchesThere, IsPr
 use super::Textures;
 use crate::column::{Column, lend_lookup};
 use crate::ready::make_ready_at;
-use art_rules::ColumnLookup;
-use lump_cache::{CacheFault, LumpCache};
-use outside::Shelf;
+use art_rules::{ColumnLookup, Shelf};
+use lump_cache::{CacheFault, Directory, LumpCache};
 use texture_lists::TexNo;
-use wad_dir::Directory;
 
 impl Textures {
     /// Makes live what a texture column of a prepared texture is read from: the lump of its one

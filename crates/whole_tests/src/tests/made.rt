@@ -1,10 +1,10 @@
 // Viewpoints, and the made tables of angles.
 
-use angle_tables::Tables;
 use level_maker::make_tables;
+use picture_rules::{Eye, MAX_SIZE};
 use std::alloc::Global;
 use std::test::Fail;
-use view_rules::{Eye, MAX_SIZE};
+use view_frame::Tables;
 
 /// At the origin, 41 map units up, looking east.
 pub(crate) const EYE: Eye = Eye {

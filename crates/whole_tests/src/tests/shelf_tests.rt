@@ -10,21 +10,17 @@ ghost use Rattle.frame_core.specs.Views.{CanDrawView, IsDrawable};
 ghost use Rattle.whole_tests.specs.declared.tests.shelf_tests.TheConstants.{COMPOSITE_SLOTS};
 
 use crate::tests::made::{FIRST, made_angles};
-use angle_tables::Tables;
 use csv_tables::ThingTable;
 use frame_core::{Limits, ViewFault, Workshop, draw_view};
 use level_audit::audit;
 use level_maker::{make_things, make_wad};
-use lump_cache::LumpCache;
-use lump_rules::Name8;
-use outside::{MemoryShelf, Shelf};
+use lump_cache::{Directory, LumpCache, MemoryShelf, Name8, Shelf, Tag};
 use pixel_strips::FLAT_BYTES;
 use sound_scene::SoundScene;
 use std::alloc::Global;
 use std::test::Fail;
 use test_files::{file_of, sum_of};
-use wad_dir::Directory;
-use zone_rules::Tag;
+use view_frame::Tables;
 
 const FIRST_SUM: u64 = 0x2b08_c9ba_b7db_3cb6;
 

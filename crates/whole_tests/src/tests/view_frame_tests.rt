@@ -1,10 +1,10 @@
 // Points that are seen from the origin, through the made tables.
 
 use crate::tests::made::{EYE, made_angles};
+use picture_rules::{Eye, Partition};
 use std::process::Abort;
 use std::test::Fail;
 use view_frame::{View, side_of};
-use view_rules::{Eye, Partition};
 
 // A line from the origin to the north.
 const NORTH: Partition = Partition {

@@ -2,11 +2,10 @@
 // seen from its middle through the made tables.
 
 use crate::tests::made::{EYE, made_angles};
-use level_rules::{Seg, Surface};
+use picture_rules::{Eye, Seg, Surface};
 use std::process::Abort;
 use std::test::Fail;
 use view_frame::{ColumnRange, View};
-use view_rules::Eye;
 use wall_edges::{Edges, Fragment, Stepper, WallFacts, WallTexture};
 
 const ROOM: Surface = Surface {

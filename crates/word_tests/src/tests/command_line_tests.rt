@@ -2,10 +2,9 @@
 
 use command_line::{CommandFault, command_of};
 use job_rules::{Command, Format, LevelTask, MakeJob, Settings};
-use lump_rules::Name8;
+use scene_rules::{Name8, Spans};
 use std::alloc::{AllocError, Global};
 use std::test::Fail;
-use view_rules::Spans;
 
 // An audit of one WAD with no option but its files.
 const AUDIT: &str = "audit MAP01 a.wad --tables t --things o --path p";

@@ -3,18 +3,14 @@
 use angle_tables::TablesFault;
 use command_line::CommandFault;
 use csv_tables::{CsvFault, CsvRefusal};
-use level_rules::MapRefusal;
-use lump_cache::CacheFault;
-use lump_rules::DirRefusal;
+use lump_cache::{CacheFault, DirFault, ZoneFull, ZoneMake};
 use map_lumps::MapFault;
-use outside::{Failed, Fault, PutFault};
-use scene_rules::{ArtRefusal, AuditRefusal};
+use scene_rules::{
+    ArtRefusal, AuditRefusal, DirRefusal, Failed, Fault, MapRefusal, PutFault, TablesRefusal,
+};
 use std::fmt::Display;
 use std::process::Abort;
 use std::test::Fail;
-use view_rules::TablesRefusal;
-use wad_dir::DirFault;
-use zone_heap::{ZoneFull, ZoneMake};
 
 // Compares what several faults read as with their sentences.
 fn read<R: Abort + AllocGlobal, M: Display>(rt: &R, faults: &M, told: &str) -> Result<(), Fail> {

@@ -1,11 +1,11 @@
 // Each refusal as it is told: its code and its numbers as they are written, and its sentence as the
 // person who mends the file reads it.
 
-use outside::{MemorySink, Sink};
 use refusals::{
     ArtRefusal, CsvRefusal, DirRefusal, Line, MapRefusal, Refusal, SceneRefusal, SpriteRefusal,
     TablesRefusal, TexRefusal, TrimRefusal, WeaponRefusal, add_refusal,
 };
+use scene_rules::{MemorySink, Sink};
 use std::alloc::Global;
 use std::process::Abort;
 use std::test::Fail;

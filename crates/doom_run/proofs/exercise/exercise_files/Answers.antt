@@ -1,5 +1,5 @@
 use Rattle.std.proofs.Common.{ap, sym, arith, length, subst}
-use Rattle.outside.specs.MemoryShelf.{memory_view}
+use Rattle.art_rules.specs.Words.{memory_view}
 use Rattle.job_rules.specs.LevelJobs.{LevelJobValue}
 use Rattle.job_rules.specs.Ranges.{AreSettings}
 use Rattle.doom_run.specs.Exercises.{made_files}

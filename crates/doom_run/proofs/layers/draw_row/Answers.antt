@@ -1,7 +1,7 @@
 -- A row of another view, one whose frame has no picture, and one of this view.
-use Rattle.word_rules.proofs.Common.{Contains, rules, Some, subst, sym, w16}
+use Rattle.picture_rules.proofs.Common.{Contains, rules, Some, subst, sym, w16}
 use Rattle.std.proofs.lemmas.Int.{to_z-of_z}
-use Rattle.art_rules.specs.Books.{book_lumps}
+use Rattle.art_rules.specs.Words.{book_lumps}
 use Rattle.texture_build.proofs.PaintLemmas.{paints-none, paints-same, paints-wider}
 use Rattle.weapon_overlay.specs.Layers.{layer_value}
 use Rattle.doom_run.proofs.PictureLemmas.{layer_there}

@@ -1,6 +1,6 @@
 -- The layers of the rows before are drawn.
-use Rattle.word_rules.proofs.Common.{Contains, Ok, take}
-use Rattle.art_rules.specs.Books.{book_lumps}
+use Rattle.picture_rules.proofs.Common.{Contains, Ok, take}
+use Rattle.art_rules.specs.Words.{book_lumps}
 use Rattle.texture_build.specs.Paints.{paint_state}
 use Rattle.weapon_overlay.specs.Layers.{PaintsLayer}
 use Rattle.doom_run.proofs.RowLemmas.{rows_dots}

@@ -1,5 +1,5 @@
 use Rattle.std.proofs.Common.{List, ◌++◌, ◌∙◌, ap, append_assoc, refl}
-use Rattle.outside.proofs.WriteLemmas.{writes_stop, writes_stopped, writes_then}
+use Rattle.art_rules.proofs.Laws.{writes_stop, writes_stopped, writes_then}
 use Rattle.picture_rules.specs.declared.list.ListedFragment.{ListedFragment}
 use Rattle.picture_rules.specs.declared.list.ListedPlane.{ListedPlane}
 use Rattle.picture_rules.specs.declared.list.ListedSprite.{ListedSprite}

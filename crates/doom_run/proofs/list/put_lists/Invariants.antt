@@ -1,6 +1,5 @@
 use Rattle.std.proofs.Common.{◌≡◌, ℕ, List, Ok}
-use Rattle.outside.specs.declared.shelf.Failed.{Failed}
-use Rattle.outside.specs.Sink.{Writes}
+use Rattle.art_rules.specs.Words.{Failed, Writes}
 use Rattle.doom_run.specs.Renders.{ready_views}
 use Rattle.doom_run.specs.Lists.{first_lists}
 use Rattle.doom_run.proofs.list.put_lists.Given as goal

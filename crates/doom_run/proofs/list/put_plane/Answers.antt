@@ -1,4 +1,4 @@
-use Rattle.word_rules.proofs.Common.{ap, codes, of_z, rules, to_z, w16, w32, ℤ, ◌++◌, ◌∙◌, ◌≡◌}
+use Rattle.picture_rules.proofs.Common.{ap, codes, of_z, rules, to_z, w16, w32, ℤ, ◌++◌, ◌∙◌, ◌≡◌}
 use Rattle.std.proofs.lemmas.Int.{to_z-of_z}
 use Rattle.refusals.specs.Lines.{labelled, labelled_signed}
 use Rattle.doom_run.specs.Lists.{flat_part, item_start, maker_part}

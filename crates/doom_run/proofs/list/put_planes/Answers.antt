@@ -1,5 +1,5 @@
 use Rattle.std.proofs.Common.{arith, refl}
-use Rattle.outside.proofs.WriteLemmas.{writes_more, writes_stopped}
+use Rattle.art_rules.proofs.Laws.{writes_more, writes_stopped}
 use Rattle.doom_run.specs.Lists.{plane_line}
 use Rattle.doom_run.proofs.ListLemmas.{lines-left, lines-more, lines_behind, none_put}
 use Rattle.doom_run.proofs.list.put_planes.Goals as goal

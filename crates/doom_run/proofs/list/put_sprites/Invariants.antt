@@ -1,6 +1,5 @@
 use Rattle.std.proofs.Common.{take, Ok}
-use Rattle.outside.specs.declared.shelf.Failed.{Failed}
-use Rattle.outside.specs.Sink.{Writes}
+use Rattle.art_rules.specs.Words.{Failed, Writes}
 use Rattle.doom_run.specs.Lists.{sprite_line, lines_from}
 use Rattle.doom_run.proofs.list.put_sprites.Given as goal
 

@@ -1,4 +1,4 @@
-use Rattle.word_rules.proofs.Common.{ap, codes, List, ℕ, ◌++◌, ◌∙◌}
+use Rattle.picture_rules.proofs.Common.{ap, codes, List, ℕ, ◌++◌, ◌∙◌}
 use Rattle.refusals.specs.Lines.{labelled}
 use Rattle.doom_run.proofs.LimitLemmas.{same_bytes}
 use Rattle.doom_run.proofs.ListLemmas.{seven_added}

@@ -1,9 +1,9 @@
 -- One view after the other, up to the first that ends the rendering.
-use Rattle.word_rules.proofs.Common.{ap, arith, cases_lt, inl, inr, length, refl, subst, ◌<◌, ◌∙◌, ◌≡◌}
-use Rattle.outside.proofs.ShelfLemmas.{follows_then}
-use Rattle.lump_rules.specs.Contents.{lump_bytes}
+use Rattle.picture_rules.proofs.Common.{ap, arith, cases_lt, inl, inr, length, refl, subst, ◌<◌, ◌∙◌, ◌≡◌}
+use Rattle.art_rules.proofs.Laws.{follows_then}
+use Rattle.art_rules.specs.Words.{lump_bytes}
 use Rattle.job_files.specs.declared.read.SceneFiles.{SceneFiles}
-use Rattle.zone_rules.proofs.OrderLemmas.{order_none, order_then}
+use Rattle.scene_rules.proofs.Laws.{order_none, order_then}
 use Rattle.doom_run.proofs.TakeLemmas.{after_all, asked-later}
 use Rattle.doom_run.proofs.FitLemmas.{due_done, due_stops, fits_at-later}
 use Rattle.doom_run.specs.Frames.{form_of}

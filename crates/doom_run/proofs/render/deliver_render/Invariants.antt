@@ -1,8 +1,8 @@
 -- The views below the number are written, and none of them is over a limit; what they are painted from
 -- stands beside COLORMAP, the canvas has the form that it had, and a zone in order stayed so.
 use Rattle.std.proofs.Common.{◌≡◌, ◌<◌, ◌≤◌, ℕ, List}
-use Rattle.lump_rules.specs.Contents.{lump_bytes}
-use Rattle.zone_rules.specs.Orders.{Item, IsInOrder, KeepsOrder}
+use Rattle.art_rules.specs.Words.{lump_bytes}
+use Rattle.scene_rules.specs.Words.{IsInOrder, Item, KeepsOrder}
 use Rattle.texture_build.specs.Draws.{HoldsArt}
 use Rattle.sound_scene.specs.Sound.{textures_view}
 use Rattle.doom_run.specs.Frames.{KeepsReady, form_of}

@@ -1,5 +1,5 @@
 -- A canvas that is cleared and given a view has it.
-use Rattle.word_rules.proofs.Common.{ap, on_ok_weaker}
+use Rattle.picture_rules.proofs.Common.{ap, on_ok_weaker}
 use Rattle.pixel_strips.specs.Canvases.{CanvasView}
 use Rattle.doom_run.proofs.CanvasLemmas.{index_drawn, ppm_drawn, trace_drawn}
 use Rattle.doom_run.proofs.render.draw_at.Goals as goal

@@ -1,6 +1,6 @@
 -- A viewpoint stands for the number of its view.
-use Rattle.word_rules.proofs.Common.{on_ok_weaker, ◌∙◌}
-use Rattle.lump_rules.specs.Contents.{lump_bytes}
+use Rattle.picture_rules.proofs.Common.{on_ok_weaker, ◌∙◌}
+use Rattle.art_rules.specs.Words.{lump_bytes}
 use Rattle.doom_run.proofs.CanvasLemmas.{has_view, on_ok_both}
 use Rattle.doom_run.proofs.FitLemmas.{fits_at}
 use Rattle.doom_run.proofs.FrameLemmas.{over_at-eye}

@@ -1,6 +1,6 @@
 -- A view that is drawn is written, or a fault ends it.
 use Rattle.std.proofs.Common.{ap, ◌∙◌}
-use Rattle.lump_rules.specs.Contents.{lump_bytes}
+use Rattle.art_rules.specs.Words.{lump_bytes}
 use Rattle.sound_scene.specs.Sound.{SoundValue}
 use Rattle.doom_run.specs.Frames.{form_of}
 use Rattle.doom_run.proofs.TakeLemmas.{both_asked, drawn_after}

@@ -1,5 +1,5 @@
 use Rattle.std.proofs.Common.{◌≡◌, Some, inl, refl}
-use Rattle.outside.proofs.WriteLemmas.{grew_none}
+use Rattle.art_rules.proofs.Laws.{grew_none}
 use Rattle.command_line.specs.Commands.{command_of}
 use Rattle.job_rules.specs.Commands.{command_value}
 use Rattle.doom_run.specs.Words.{texts}

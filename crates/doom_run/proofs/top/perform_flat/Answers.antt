@@ -1,7 +1,6 @@
 use Rattle.std.proofs.Common.{ap, refl, Ok, Result}
-use Rattle.outside.specs.Faults.{and_then}
-use Rattle.outside.specs.Stops.{Stop}
-use Rattle.outside.proofs.StopLemmas.{stops_all}
+use Rattle.art_rules.specs.Words.{and_then, Stop}
+use Rattle.art_rules.proofs.Laws.{stops_all}
 use Rattle.frame_writer.specs.Ppm.{ppm}
 use Rattle.refusals.specs.declared.refusal.Refusal.{Refusal}
 use Rattle.job_files.specs.Flats.{PictureValue, flat_verdict}

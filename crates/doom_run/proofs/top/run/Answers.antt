@@ -1,4 +1,4 @@
-use Rattle.outside.proofs.WriteLemmas.{prefix_written}
+use Rattle.art_rules.proofs.Laws.{prefix_written}
 use Rattle.command_line.specs.Commands.{command_of}
 use Rattle.doom_run.specs.Words.{texts}
 use Rattle.doom_run.proofs.FullLemmas.{run_held, run_room}

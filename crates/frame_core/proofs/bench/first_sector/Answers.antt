@@ -1,7 +1,5 @@
 use Rattle.std.proofs.Common.{subst, arith}
-use Rattle.level_rules.specs.Levels.{no_seg}
-use Rattle.level_rules.specs.maps.Levels.{LevelValue}
-use Rattle.level_rules.specs.maps.Sound.{IsSound}
+use Rattle.picture_rules.specs.Words.{IsSound, LevelValue, no_seg}
 use Rattle.frame_core.proofs.bench.first_sector.Goals as goal
 
 pub returns-in-None-clause-there : goal.returns-in-None-clause-there

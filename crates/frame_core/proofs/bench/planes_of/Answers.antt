@@ -1,6 +1,5 @@
 use Rattle.std.proofs.Common.{◌≤◌, subst, sym}
-use Rattle.level_rules.specs.declared.Surface.{Surface}
-use Rattle.level_rules.specs.declared.TheConstants.{SKY_FLAT}
+use Rattle.picture_rules.specs.Words.{SKY_FLAT, Surface}
 use Rattle.frame_core.proofs.NumberLemmas.{numbers_at}
 use Rattle.frame_core.proofs.bench.planes_of.Goals as goal
 

@@ -1,11 +1,11 @@
 -- The planes of the bench are those of the view, and may be drawn.
-use Rattle.word_rules.proofs.Common.{IfSome, List, Result, subst, sym, ℕ}
-use Rattle.texture_lists.specs.declared.number.TexNo.{TexNo}
+use Rattle.picture_rules.proofs.Common.{IfSome, List, Result, subst, sym, ℕ}
+use Rattle.texture_build.specs.TexNo.{TexNo}
 use Rattle.texture_build.specs.Draws.{CanDraw}
 use Rattle.texture_build.specs.Views.{TexturesView}
 use Rattle.texture_build.specs.Paints.{paint_state}
 use Rattle.texture_build.proofs.DrawLemmas.{IsMapped}
-use Rattle.lump_rules.specs.Contents.{lump_bytes}
+use Rattle.art_rules.specs.Words.{lump_bytes}
 use Rattle.frame_core.specs.declared.fault.ViewFault.{ViewFault}
 use Rattle.frame_core.specs.Faults.{from_cache}
 use Rattle.frame_core.specs.Views.{PaintsView, held_scene, tools_scene, tools_state}

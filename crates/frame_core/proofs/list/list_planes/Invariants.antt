@@ -1,4 +1,4 @@
-use Rattle.word_rules.proofs.Common.{take, vec_capacity, vec_len, ◌≡◌, ◌≤◌}
+use Rattle.picture_rules.proofs.Common.{take, vec_capacity, vec_len, ◌≡◌, ◌≤◌}
 use Rattle.picture_rules.specs.declared.plane.TheConstants.{MOST_VISPLANES}
 use Rattle.frame_core.specs.ViewLists.{listed_planes}
 use Rattle.frame_core.proofs.list.list_planes.Given as goal

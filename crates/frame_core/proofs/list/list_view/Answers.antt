@@ -1,12 +1,10 @@
 -- The bench and the list that the view was walked in are counted and listed.
-use Rattle.word_rules.proofs.Common.{ap, arith, length, List, None, subst, ◌∙◌, ◌≡◌}
-use Rattle.view_rules.specs.View.{ViewValue}
+use Rattle.picture_rules.proofs.Common.{ap, arith, length, List, None, subst, ◌∙◌, ◌≡◌}
+use Rattle.picture_rules.specs.Words.{view_counts, view_list, view_over, ViewListValue, ViewValue}
 use Rattle.picture_rules.specs.declared.wall.FragmentNote.{FragmentNote}
 use Rattle.picture_rules.specs.declared.list.PlaneMaker.{PlaneMaker}
 use Rattle.picture_rules.specs.declared.Counts.{Counts}
 use Rattle.picture_rules.specs.declared.Limits.{Limits}
-use Rattle.picture_rules.specs.Counts.{view_counts, view_over}
-use Rattle.picture_rules.specs.Lists.{ViewListValue, view_list}
 use Rattle.frame_core.specs.Scenes.{scene_of}
 use Rattle.frame_core.specs.ViewLists.{listed_planes}
 use Rattle.frame_core.specs.Workshops.{WorkshopView}

@@ -1,4 +1,4 @@
-use Rattle.word_rules.proofs.Common.{count_by, is_some, take, ◌≡◌, ◌≤◌}
+use Rattle.picture_rules.proofs.Common.{count_by, is_some, take, ◌≡◌, ◌≤◌}
 use Rattle.visplanes.specs.Planes.{plane_at}
 use Rattle.frame_core.proofs.list.marked_columns.Given as goal
 

@@ -1,6 +1,6 @@
 -- The whole walk, of a lister that no event was given.
 use Rattle.std.proofs.Common.{length, sym, ap, ◌∙◌}
-use Rattle.level_rules.specs.maps.Levels.{LevelValue}
+use Rattle.picture_rules.specs.Words.{LevelValue}
 use Rattle.frame_core.proofs.CounterLemmas.{counted-bench, counted-over}
 use Rattle.frame_core.proofs.ListerLemmas.{lister-viewed}
 use Rattle.frame_core.proofs.PainterLemmas.{lists-walked}

@@ -1,7 +1,6 @@
 -- What the masked pass asks is there, and what it paints is what the picture has.
 use Rattle.std.proofs.Common.{◌≤◌, arith, refl, subst}
-use Rattle.view_rules.specs.declared.TheConstants.{FRAME_WIDTH, FRAME_HEIGHT}
-use Rattle.level_rules.specs.maps.Sound.{IsSound}
+use Rattle.picture_rules.specs.Words.{FRAME_HEIGHT, FRAME_WIDTH, IsSound}
 use Rattle.frame_core.proofs.MaskLemmas.{masks-above, parts-listed, parts-noted, parts-same, sprites-below, sprites-within, walls-built}
 use Rattle.frame_core.proofs.masks.draw_masks.Goals as goal
 

@@ -1,8 +1,7 @@
 -- The whole walk, of a painter that no event was given.
 use Rattle.std.proofs.Common.{length, sym, ap, ◌∙◌}
-use Rattle.level_rules.specs.maps.Levels.{LevelValue}
-use Rattle.outside.specs.Shelf.{ShelfView}
-use Rattle.level_rules.specs.walk.Walk.{view_events}
+use Rattle.picture_rules.specs.Words.{LevelValue, view_events}
+use Rattle.art_rules.specs.Words.{ShelfView}
 use Rattle.pixel_strips.specs.Canvases.{CanvasView}
 use Rattle.frame_core.specs.declared.painter.ViewPainter.{ViewPainter}
 use Rattle.frame_core.specs.Scenes.{lists_of}

@@ -1,8 +1,6 @@
 use Rattle.std.proofs.Common.{List, ℤ, pos, w16, rules, sym, ap, ◌∙◌}
 use Rattle.std.proofs.lemmas.Int.{to_z-of_z}
-use Rattle.view_rules.specs.Lights.{light_number}
-use Rattle.level_rules.specs.declared.PlacedThing.{PlacedThing}
-use Rattle.level_rules.specs.declared.Surface.{Surface}
+use Rattle.picture_rules.specs.Words.{light_number, PlacedThing, Surface}
 use Rattle.frame_core.specs.Scenes.{scene_of}
 use Rattle.frame_core.specs.ViewLists.{with_sprites}
 use Rattle.frame_core.proofs.ShownLemmas.{sprites_end, sprites_more}

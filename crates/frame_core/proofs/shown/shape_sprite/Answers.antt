@@ -1,6 +1,5 @@
 use Rattle.std.proofs.Common.{◌≤◌, subst, arith}
-use Rattle.view_rules.specs.declared.TheConstants.{FRAME_WIDTH}
-use Rattle.view_rules.specs.declared.ViewShape.{ViewShape}
+use Rattle.picture_rules.specs.Words.{FRAME_WIDTH, ViewShape}
 use Rattle.frame_core.proofs.ShownLemmas.{entry-first, entry-last, shape_listed, shape_unlisted}
 use Rattle.frame_core.proofs.shown.shape_sprite.Goals as goal
 

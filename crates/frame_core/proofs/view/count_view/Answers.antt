@@ -1,10 +1,9 @@
 -- The bench that the view was walked in is counted.
-use Rattle.word_rules.proofs.Common.{ap, arith, length, List, None, subst, ◌∙◌, ◌≡◌}
-use Rattle.view_rules.specs.View.{ViewValue}
+use Rattle.picture_rules.proofs.Common.{ap, arith, length, List, None, subst, ◌∙◌, ◌≡◌}
+use Rattle.picture_rules.specs.Words.{view_counts, view_over, ViewValue}
 use Rattle.picture_rules.specs.declared.wall.FragmentNote.{FragmentNote}
 use Rattle.picture_rules.specs.declared.Counts.{Counts}
 use Rattle.picture_rules.specs.declared.Limits.{Limits}
-use Rattle.picture_rules.specs.Counts.{view_counts, view_over}
 use Rattle.frame_core.specs.Scenes.{scene_of}
 use Rattle.frame_core.specs.Workshops.{WorkshopView}
 use Rattle.frame_core.proofs.CountLemmas.{counts-walked, few-notes, within-walked}

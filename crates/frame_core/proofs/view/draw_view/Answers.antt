@@ -1,11 +1,8 @@
 -- The cleared frame is the canvas.
 use Rattle.std.proofs.Common.{◌≡◌, OnOk, ap, subst, ◌∙◌}
-use Rattle.lump_rules.specs.Contents.{lump_bytes}
+use Rattle.art_rules.specs.Words.{lump_bytes}
 use Rattle.pixel_strips.specs.Canvases.{CanvasView}
-use Rattle.view_rules.specs.View.{ViewValue, view_of}
-use Rattle.view_rules.specs.Sound.{IsWithinFrame}
-use Rattle.picture_rules.specs.Paints.{view_paints}
-use Rattle.picture_rules.specs.Picture.{picture}
+use Rattle.picture_rules.specs.Words.{IsWithinFrame, picture, view_of, view_paints, ViewValue}
 use Rattle.sound_scene.specs.Sound.{textures_view}
 use Rattle.texture_build.specs.Draws.{FitBeside}
 use Rattle.frame_core.specs.Scenes.{scene_of}

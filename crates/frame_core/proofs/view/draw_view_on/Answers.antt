@@ -1,8 +1,5 @@
 use Rattle.std.proofs.Common.{OnOk, ap, ◌∙◌, subst}
-use Rattle.view_rules.specs.View.{ViewValue}
-use Rattle.view_rules.specs.Sound.{IsWithinFrame}
-use Rattle.picture_rules.specs.Picture.{AreInView}
-use Rattle.picture_rules.specs.Paints.{view_paints}
+use Rattle.picture_rules.specs.Words.{AreInView, IsWithinFrame, view_paints, ViewValue}
 use Rattle.frame_core.specs.Scenes.{scene_of}
 use Rattle.texture_build.specs.Paints.{paint_state}
 use Rattle.frame_core.specs.Views.{PaintsView, placed_for, view_scene}

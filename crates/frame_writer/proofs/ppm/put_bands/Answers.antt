@@ -2,7 +2,7 @@ use Rattle.std.proofs.Common.{◌*◌, ◌+◌, ◌-◌, refl, arith}
 use Rattle.frame_writer.specs.declared.ppm.TheConstants.{BAND_BYTES}
 use Rattle.frame_writer.specs.Words.{word_colour}
 use Rattle.frame_writer.proofs.BandLemmas.{pieces_more, pieces_left}
-use Rattle.outside.proofs.WriteLemmas.{writes_more, writes_stopped}
+use Rattle.art_rules.proofs.Laws.{writes_more, writes_stopped}
 use Rattle.frame_writer.proofs.ppm.put_bands.Goals as goal
 
 pub returns-in_err-put_band : goal.returns-in_err-put_band

@@ -1,7 +1,6 @@
 use Rattle.std.proofs.Common.{◌*◌, take, Ok}
 use Rattle.std.specs.List.{flat_map}
-use Rattle.outside.specs.declared.shelf.Failed.{Failed}
-use Rattle.outside.specs.Sink.{Writes}
+use Rattle.art_rules.specs.Words.{Failed, Writes}
 use Rattle.frame_writer.specs.declared.ppm.TheConstants.{BAND_BYTES}
 use Rattle.frame_writer.specs.Words.{word_colour}
 use Rattle.frame_writer.proofs.ppm.put_bands.Given as goal

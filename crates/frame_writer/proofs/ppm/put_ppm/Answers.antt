@@ -2,7 +2,7 @@ use Rattle.std.proofs.Common.{List, ◌++◌, ℕ, ap, refl}
 use Rattle.std.specs.List.{flat_map}
 use Rattle.frame_writer.specs.Ppm.{colour, ppm, ppm_header}
 use Rattle.frame_writer.proofs.WordLemmas.{words_frame}
-use Rattle.outside.proofs.WriteLemmas.{writes_stop, writes_then}
+use Rattle.art_rules.proofs.Laws.{writes_stop, writes_then}
 use Rattle.frame_writer.proofs.ppm.put_ppm.Goals as goal
 
 pub returns-in_err-put : goal.returns-in_err-put

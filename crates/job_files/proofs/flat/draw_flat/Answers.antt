@@ -1,6 +1,5 @@
 use Rattle.std.proofs.Common.{refl}
-use Rattle.outside.proofs.ShelfLemmas.{all_stand_later}
-use Rattle.outside.proofs.StepLemmas.{step}
+use Rattle.art_rules.proofs.Laws.{all_stand_later, step}
 use Rattle.job_files.proofs.FlatLemmas.{picture_is}
 use Rattle.job_files.proofs.StepLemmas.{stop_same}
 use Rattle.job_files.proofs.flat.draw_flat.Goals as goal

@@ -1,7 +1,7 @@
 use Rattle.std.proofs.Common.{◌∷◌, [], ◌∙◌, arith}
-use Rattle.outside.specs.Shelf.{StandsForNamed, file_named}
+use Rattle.art_rules.specs.Words.{file_named, StandsForNamed}
 use Rattle.job_files.specs.Flats.{flat_picture}
-use Rattle.outside.proofs.StopLemmas.{file_agrees}
+use Rattle.art_rules.proofs.Laws.{file_agrees}
 use Rattle.job_files.proofs.TakenLemmas.{flat_taken}
 use Rattle.job_files.proofs.flat.prepare_flat.Goals as goal
 

@@ -1,5 +1,5 @@
-use Rattle.word_rules.proofs.Common.{arith, common_steps, length, on_ok_weaker}
-use Rattle.lump_rules.specs.Lookups.{lump_at}
+use Rattle.picture_rules.proofs.Common.{arith, common_steps, length, on_ok_weaker}
+use Rattle.art_rules.specs.Words.{lump_at}
 use Rattle.job_files.proofs.LumpLemmas.{file_stands, lump_within, piece_of_lump, front_is_there}
 use Rattle.job_files.proofs.lumps.fill_front.Goals as goal
 

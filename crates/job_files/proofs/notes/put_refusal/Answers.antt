@@ -1,4 +1,4 @@
-use Rattle.word_rules.proofs.Common.{codes, flat_map}
+use Rattle.picture_rules.proofs.Common.{codes, flat_map}
 use Rattle.refusals.specs.Lines.{numbers_of, spaced}
 use Rattle.job_files.proofs.LineLemmas.{three_added}
 use Rattle.job_files.proofs.notes.put_refusal.Goals as goal

@@ -1,8 +1,7 @@
 use Rattle.std.proofs.Common.{◌∙◌, refl, arith, rules}
-use Rattle.outside.proofs.ShelfLemmas.{follows_then}
+use Rattle.art_rules.proofs.Laws.{all_passed, follows_then, step_passed, step_stops}
 use Rattle.job_files.specs.Files.{texts_in}
 use Rattle.job_files.specs.Sizes.{texts_size}
-use Rattle.outside.proofs.StopLemmas.{step_passed, step_stops, all_passed}
 use Rattle.job_files.proofs.texts.load_texts.Goals as goal
 
 pub returns-in_err-things : goal.returns-in_err-things

@@ -1,6 +1,6 @@
 use Rattle.std.proofs.Common.{Some, Ok, refl}
 use Rattle.job_files.specs.Files.{in_optional_file}
-use Rattle.outside.proofs.StopLemmas.{step_stops, all_passed}
+use Rattle.art_rules.proofs.Laws.{all_passed, step_stops}
 use Rattle.job_files.proofs.texts.load_weapons.Goals as goal
 
 pub returns-in_err-load_layers-in-Some-clause-answers : goal.returns-in_err-load_layers-in-Some-clause-answers

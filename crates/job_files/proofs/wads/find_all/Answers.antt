@@ -1,5 +1,5 @@
-use Rattle.word_rules.proofs.Common.{[], ap, arith, err_from_is_err_and, length, length-append, map_more, refl, take_all, ◌∙◌, ◌∷◌}
-use Rattle.outside.proofs.ShelfLemmas.{follows_none, follows_then}
+use Rattle.picture_rules.proofs.Common.{[], ap, arith, err_from_is_err_and, length, length-append, map_more, refl, take_all, ◌∙◌, ◌∷◌}
+use Rattle.art_rules.proofs.Laws.{follows_none, follows_then}
 use Rattle.job_files.proofs.FoundLemmas.{none_found, found_more, lacking_stops}
 use Rattle.job_files.proofs.wads.find_all.Goals as goal
 

@@ -1,5 +1,5 @@
 use Rattle.std.proofs.Common.{◌≡◌, List, length, map, take}
-use Rattle.outside.specs.Shelf.{File, IsLaterShelf, Holds}
+use Rattle.art_rules.specs.Words.{File, Holds, IsLaterShelf}
 use Rattle.job_files.specs.Found.{AllStandForNamed}
 use Rattle.job_files.proofs.wads.find_all.Given as goal
 

@@ -1,5 +1,5 @@
-use Rattle.lump_rules.specs.Wads.{directory}
-use Rattle.wad_dir.specs.Faults.{dir_fault}
+use Rattle.art_rules.specs.Words.{directory}
+use Rattle.lump_cache.specs.Faults.{dir_fault}
 use Rattle.refusals.specs.declared.refusal.Refusal.TheVariants.{Wad}
 use Rattle.job_files.proofs.AboveLemmas.{answers_above, causes_above}
 use Rattle.job_files.proofs.wads.load_dir.Goals as goal

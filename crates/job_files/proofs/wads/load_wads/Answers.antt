@@ -1,8 +1,7 @@
 use Rattle.std.proofs.Common.{arith}
-use Rattle.outside.specs.Shelf.{NameFiles}
-use Rattle.outside.proofs.ShelfLemmas.{all_stand_later, follows_then}
+use Rattle.art_rules.specs.Words.{NameFiles}
+use Rattle.art_rules.proofs.Laws.{all_stand_later, follows_then, no_file_agrees}
 use Rattle.job_files.specs.Files.{wad_files}
-use Rattle.outside.proofs.StopLemmas.{no_file_agrees}
 use Rattle.job_files.proofs.WadLemmas.{wads_unfound, wads_stand, lumps_found, stand_named}
 use Rattle.job_files.proofs.wads.load_wads.Goals as goal
 

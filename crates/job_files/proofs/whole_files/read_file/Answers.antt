@@ -1,5 +1,5 @@
-use Rattle.word_rules.proofs.Common.{arith, common_steps, length, sym, ◌≡◌}
-use Rattle.outside.specs.Shelf.{IsPieceAt}
+use Rattle.picture_rules.proofs.Common.{arith, common_steps, length, sym, ◌≡◌}
+use Rattle.art_rules.specs.Words.{IsPieceAt}
 use Rattle.job_files.proofs.LengthLemmas.{bytes_refused, bytes_whole}
 use Rattle.job_files.proofs.whole_files.read_file.Goals as goal
 

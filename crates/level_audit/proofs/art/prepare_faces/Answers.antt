@@ -1,6 +1,6 @@
-use Rattle.word_rules.proofs.Common.{ap, on_ok_weaker, option_map, ◌∙◌}
-use Rattle.outside.proofs.ThroughLemmas.{done_through}
-use Rattle.texture_lists.specs.declared.number.TexNo.{TexNo}
+use Rattle.art_rules.proofs.Common.{ap, on_ok_weaker, option_map, ◌∙◌}
+use Rattle.art_rules.proofs.Laws.{done_through}
+use Rattle.texture_build.specs.TexNo.{TexNo}
 use Rattle.texture_build.specs.Views.{is_wanted}
 use Rattle.scene_rules.specs.declared.refusal.AuditRefusal.TheVariants.{Texture}
 use Rattle.level_audit.proofs.ArtLemmas.{sides_prepared, sky_prepared, textures_wanted}

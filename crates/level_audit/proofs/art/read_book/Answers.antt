@@ -1,5 +1,5 @@
-use Rattle.word_rules.proofs.Common.{IfOk-weaker, length, ◌∙◌}
-use Rattle.outside.proofs.ThroughLemmas.{ok_through}
+use Rattle.art_rules.proofs.Common.{IfOk-weaker, length, ◌∙◌}
+use Rattle.art_rules.proofs.Laws.{ok_through}
 use Rattle.scene_rules.specs.declared.refusal.AuditRefusal.TheVariants.{Sprite}
 use Rattle.level_audit.proofs.ArtLemmas.{book_needed, pictures_there}
 use Rattle.level_audit.proofs.PartLemmas.{above_reads}

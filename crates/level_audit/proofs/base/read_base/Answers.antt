@@ -1,9 +1,9 @@
-use Rattle.word_rules.proofs.Common.{ap, IfOk-weaker, inl, inr, Ok, refl, sym, ◌∙◌}
+use Rattle.art_rules.proofs.Common.{ap, IfOk-weaker, inl, inr, Ok, refl, sym, ◌∙◌}
 use Rattle.scene_rules.specs.declared.refusal.AuditRefusal.TheVariants.{Art}
-use Rattle.outside.specs.declared.fault.Fault.TheVariants.{Refused}
-use Rattle.lump_cache.proofs.CallLemmas.{reads_refused, reads_then}
-use Rattle.lump_cache.proofs.SizeLemmas.{either_beside}
-use Rattle.scene_rules.specs.Scenes.{base_in}
+use Rattle.art_rules.specs.Words.{Refused}
+use Rattle.texture_build.proofs.CallLemmas.{reads_refused, reads_then}
+use Rattle.texture_build.proofs.SizeLemmas.{either_beside}
+use Rattle.scene_rules.specs.Words.{base_in}
 use Rattle.level_audit.proofs.BaseLemmas.{base-stop, base-more, playpal_beside}
 use Rattle.level_audit.proofs.base.read_base.Goals as goal
 

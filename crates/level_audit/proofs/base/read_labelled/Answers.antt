@@ -1,4 +1,4 @@
-use Rattle.outside.proofs.ThroughLemmas.{ok_through}
+use Rattle.art_rules.proofs.Laws.{ok_through}
 use Rattle.scene_rules.specs.declared.refusal.AuditRefusal.TheVariants.{Map}
 use Rattle.level_audit.proofs.PartLemmas.{above_reads}
 use Rattle.level_audit.proofs.base.read_labelled.Goals as goal

@@ -1,8 +1,7 @@
-use Rattle.word_rules.proofs.Common.{arith, below_more, Bool, length, sym, ℕ, ◌&&◌, ◌∙◌}
-use Rattle.word_rules.proofs.LeastLemmas.{least-none, least-some}
+use Rattle.art_rules.proofs.Common.{arith, below_more, Bool, length, sym, ℕ, ◌&&◌, ◌∙◌}
+use Rattle.art_rules.proofs.Laws.{least-none, least-some}
 use Rattle.texture_build.specs.Views.{is_marked}
-use Rattle.scene_rules.specs.Middles.{is_bad_middle, middle_of}
-use Rattle.scene_rules.specs.Scenes.{texture_by}
+use Rattle.scene_rules.specs.Words.{is_bad_middle, middle_of, texture_by}
 use Rattle.level_audit.proofs.MiddleLemmas.{marked_read, single_read}
 use Rattle.level_audit.proofs.middles.first_bad.Goals as goal
 

@@ -1,7 +1,6 @@
-use Rattle.word_rules.proofs.Common.{false, true, ℕ, ◌&&◌, ◌<◌, ◌≡◌}
+use Rattle.art_rules.proofs.Common.{false, true, ℕ, ◌&&◌, ◌<◌, ◌≡◌}
 use Rattle.texture_build.specs.Views.{is_marked}
-use Rattle.scene_rules.specs.Middles.{is_bad_middle, middle_of}
-use Rattle.scene_rules.specs.Scenes.{texture_by}
+use Rattle.scene_rules.specs.Words.{is_bad_middle, middle_of, texture_by}
 use Rattle.sound_scene.specs.Whole.{IsNoneOrSingle}
 use Rattle.level_audit.proofs.middles.first_bad.Given as goal
 

@@ -1,6 +1,5 @@
-use Rattle.word_rules.proofs.Common.{IsSome, true, ℕ, ◌<◌, ◌≡◌}
-use Rattle.art_rules.specs.Columns.{is_single}
-use Rattle.art_rules.specs.Lookups.{single_place}
+use Rattle.art_rules.proofs.Common.{IsSome, true, ℕ, ◌<◌, ◌≡◌}
+use Rattle.art_rules.specs.Words.{is_single, single_place}
 use Rattle.texture_build.specs.Sources.{own_lookup}
 use Rattle.texture_build.specs.Views.{prepared_texture}
 use Rattle.level_audit.proofs.middles.is_all_single.Given as goal

@@ -1,15 +1,13 @@
-use Rattle.word_rules.proofs.Common.{All, inl, inr, List, map, Ok, refl, subst, sym}
-use Rattle.level_rules.specs.declared.SideTextures.{SideTextures}
-use Rattle.lump_cache.proofs.CallLemmas.{reads_same, reads_short, reads_stop_first, reads_then}
+use Rattle.art_rules.proofs.Common.{All, inl, inr, List, map, Ok, refl, subst, sym}
+use Rattle.scene_rules.specs.Words.{need_of, scene_with, SideTextures}
+use Rattle.texture_build.proofs.CallLemmas.{reads_same, reads_short, reads_stop_first, reads_then}
 use Rattle.sprite_book.specs.Calls.{IsWanted}
 use Rattle.scene_rules.specs.declared.Placed.{Placed}
-use Rattle.scene_rules.specs.Places.{need_of}
-use Rattle.outside.specs.declared.fault.Fault.TheVariants.{OutOfMemory}
+use Rattle.art_rules.specs.Words.{OutOfMemory}
 use Rattle.sound_scene.specs.Bases.{base_of}
 use Rattle.sound_scene.specs.declared.parts.ReadBase.{ReadBase}
 use Rattle.sound_scene.specs.Whole.{AreSidePrepared}
 use Rattle.sound_scene.specs.Scenes.{faces_of}
-use Rattle.scene_rules.specs.Scenes.{scene_with}
 use Rattle.level_audit.proofs.ArtLemmas.{sides_told}
 use Rattle.level_audit.proofs.StepLemmas.{scene_with-more, scene_with-stop}
 use Rattle.level_audit.proofs.WholeLemmas.{art_after, middles_prepared}

@@ -1,10 +1,9 @@
 use Rattle.std.proofs.Common.{length, map, Ok, Err, refl, ap, arith}
-use Rattle.lump_cache.proofs.CallLemmas.{reads_more, reads_same, reads_stop, reads_stop_first}
+use Rattle.texture_build.proofs.CallLemmas.{reads_more, reads_same, reads_stop, reads_stop_first}
 use Rattle.sprite_book.specs.Calls.{IsWanted}
 use Rattle.level_audit.specs.Faults.{above_scene}
 use Rattle.sound_scene.specs.Bases.{base_of}
-use Rattle.scene_rules.specs.Places.{need_of}
-use Rattle.scene_rules.specs.Scenes.{scene_over}
+use Rattle.scene_rules.specs.Words.{need_of, scene_over}
 use Rattle.sound_scene.specs.Scenes.{faces_of}
 use Rattle.level_audit.proofs.PartLemmas.{checks_told}
 use Rattle.level_audit.proofs.StepLemmas.{scene_over-sound, scene_over-unread, scene_over-unsound}

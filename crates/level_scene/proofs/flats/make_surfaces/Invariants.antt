@@ -1,5 +1,5 @@
 use Rattle.std.proofs.Common.{◌≡◌, length, take}
-use Rattle.scene_rules.specs.SectorFlats.{surfaces_of}
+use Rattle.scene_rules.specs.Words.{surfaces_of}
 use Rattle.level_scene.proofs.flats.make_surfaces.Given as goal
 
 -- the surfaces of the sectors so far

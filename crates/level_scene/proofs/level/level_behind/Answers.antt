@@ -1,8 +1,6 @@
 use Rattle.std.proofs.Common.{refl}
-use Rattle.outside.proofs.ThroughLemmas.{if_ok}
-use Rattle.level_rules.specs.maps.Levels.{level_of}
-use Rattle.level_rules.specs.maps.Lumps.{lump_no}
-use Rattle.scene_rules.specs.Scenes.{map_bytes}
+use Rattle.art_rules.proofs.Laws.{if_ok}
+use Rattle.scene_rules.specs.Words.{level_of, lump_no, map_bytes}
 use Rattle.lump_cache.proofs.CallLemmas.{reads_stop_first}
 use Rattle.level_scene.proofs.LevelLemmas.{level_of-stop, finish_done}
 use Rattle.level_scene.proofs.level.level_behind.Goals as goal

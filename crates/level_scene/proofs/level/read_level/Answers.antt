@@ -1,7 +1,7 @@
 use Rattle.std.proofs.Common.{refl}
-use Rattle.scene_rules.specs.Scenes.{level_in}
+use Rattle.scene_rules.specs.Words.{level_in}
 use Rattle.lump_cache.proofs.CallLemmas.{reads_as, reads_refused, reads_stop_first}
-use Rattle.outside.specs.declared.fault.Fault.TheVariants.{Refused}
+use Rattle.art_rules.specs.Words.{Refused}
 use Rattle.level_scene.proofs.LevelLemmas.{level_in-none, level_in-stop, level_in-more, of_map}
 use Rattle.level_scene.proofs.level.read_level.Goals as goal
 

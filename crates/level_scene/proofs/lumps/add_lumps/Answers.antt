@@ -1,5 +1,5 @@
 use Rattle.std.proofs.Common.{◌≡◌, ◌<◌, ◌+◌, Ok, take, sym, ap, ◌∙◌, refl, arith}
-use Rattle.level_rules.specs.declared.maps.lumps.MapLump.TheVariants.{Things}
+use Rattle.scene_rules.specs.Words.{Things}
 use Rattle.map_lumps.specs.Builders.{BuilderValue, empty_builder}
 use Rattle.lump_cache.specs.Sizes.{StandsBeside}
 use Rattle.lump_cache.proofs.SizeLemmas.{beside_earlier}

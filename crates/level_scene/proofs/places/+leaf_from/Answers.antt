@@ -1,7 +1,6 @@
 use Rattle.std.proofs.Common.{◌≡◌, ◌+◌, ◌-◌, ◌<◌, ℕ, w32, to_z, of_z, ap, sym, ◌∙◌, arith, rules}
 use Rattle.std.proofs.lemmas.Int.{to_z-of_z}
-use Rattle.level_rules.specs.declared.Child.{Child}
-use Rattle.scene_rules.specs.Places.{leaf_from}
+use Rattle.scene_rules.specs.Words.{Child, leaf_from}
 use Rattle.level_scene.proofs.LeafLemmas.{leaf_from-leaf, there-leaf, there-node, within-node}
 use Rattle.level_scene.proofs.places.+leaf_from.Goals as goal
 

@@ -1,10 +1,6 @@
 use Rattle.std.proofs.Common.{◌≡◌, ◌-◌, ap, ◌∙◌, rules}
-use Rattle.level_rules.specs.declared.Child.{Child}
-use Rattle.level_rules.specs.Levels.{child_on}
-use Rattle.level_rules.specs.maps.Trees.{is_within}
-use Rattle.view_rules.specs.Sides.{side_of}
-use Rattle.level_rules.specs.walk.Boxes.{partition_of}
-use Rattle.scene_rules.specs.Places.{leaf_from}
+use Rattle.scene_rules.specs.Words.{Child, child_on, is_within, leaf_from, partition_of}
+use Rattle.art_rules.specs.Words.{side_of}
 use Rattle.level_scene.proofs.LeafLemmas.{leaf_from-child, within-child}
 use Rattle.level_scene.proofs.places.child_toward.Goals as goal
 

@@ -1,5 +1,5 @@
 use Rattle.std.proofs.Common.{◌≡◌, drop}
-use Rattle.scene_rules.specs.Places.{first_shadow}
+use Rattle.scene_rules.specs.Words.{first_shadow}
 use Rattle.level_scene.proofs.places.first_shadow.Given as goal
 
 -- what is first of the rest is first of all

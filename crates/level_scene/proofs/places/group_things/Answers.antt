@@ -1,4 +1,4 @@
-use Rattle.word_rules.proofs.Common.{All, arith, drop_all, length, length-reverse, length-set, length_push, List, subst, sym, YieldsList-from_rev_slice, YieldsList-turn, ℕ, ◌-◌, ◌∙◌}
+use Rattle.art_rules.proofs.Common.{All, arith, drop_all, length, length-reverse, length-set, length_push, List, subst, sym, YieldsList-from_rev_slice, YieldsList-turn, ℕ, ◌-◌, ◌∙◌}
 use Rattle.scene_rules.specs.declared.Placed.{Placed}
 use Rattle.level_scene.specs.Groups.{AreGroupsOf, IsIn}
 use Rattle.level_scene.proofs.GroupLemmas.{groups-count, groups-more, groups-none}

@@ -1,6 +1,5 @@
-use Rattle.word_rules.proofs.Common.{All-nil, ap, length, List, sym}
-use Rattle.level_rules.specs.declared.Thing.{Thing}
-use Rattle.scene_rules.specs.Places.{placed_from, placed_things}
+use Rattle.art_rules.proofs.Common.{All-nil, ap, length, List, sym}
+use Rattle.scene_rules.specs.Words.{placed_from, placed_things, Thing}
 use Rattle.level_scene.specs.Groups.{IsIn}
 use Rattle.level_scene.proofs.places.place_all.Goals as goal
 

@@ -1,5 +1,5 @@
-use Rattle.word_rules.proofs.Common.{All, drop, length, ◌++◌, ◌≡◌}
-use Rattle.scene_rules.specs.Places.{placed_from, placed_things}
+use Rattle.art_rules.proofs.Common.{All, drop, length, ◌++◌, ◌≡◌}
+use Rattle.scene_rules.specs.Words.{placed_from, placed_things}
 use Rattle.level_scene.specs.Groups.{IsIn}
 use Rattle.level_scene.proofs.places.place_all.Given as goal
 

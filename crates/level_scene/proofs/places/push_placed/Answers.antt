@@ -1,5 +1,5 @@
-use Rattle.word_rules.proofs.Common.{All-push, length}
-use Rattle.scene_rules.specs.Places.{placed_in}
+use Rattle.art_rules.proofs.Common.{All-push, length}
+use Rattle.scene_rules.specs.Words.{placed_in}
 use Rattle.level_scene.specs.Groups.{IsIn}
 use Rattle.level_scene.proofs.places.push_placed.Goals as goal
 

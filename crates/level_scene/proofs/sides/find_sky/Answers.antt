@@ -1,5 +1,5 @@
 use Rattle.std.proofs.Common.{ap, sym, ◌∙◌}
-use Rattle.art_rules.specs.Textures.{texture_number}
+use Rattle.art_rules.specs.Words.{texture_number}
 use Rattle.scene_rules.proofs.SkyLemmas.{sky_is_listed}
 use Rattle.level_scene.proofs.sides.find_sky.Goals as goal
 

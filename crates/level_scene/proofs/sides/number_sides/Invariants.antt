@@ -1,7 +1,6 @@
-use Rattle.word_rules.proofs.Common.{All, drop, length, ◌≡◌}
+use Rattle.art_rules.proofs.Common.{All, drop, length, ◌≡◌}
 use Rattle.scene_rules.specs.declared.refusal.SceneRefusal.TheVariants.{SideTexture}
-use Rattle.scene_rules.specs.Numbered.{each_or}
-use Rattle.scene_rules.specs.Sides.{textures_of}
+use Rattle.scene_rules.specs.Words.{each_or, textures_of}
 use Rattle.scene_rules.proofs.NumberedLemmas.{each_after}
 use Rattle.level_scene.specs.Bounds.{AreBelow}
 use Rattle.level_scene.proofs.sides.number_sides.Given as goal

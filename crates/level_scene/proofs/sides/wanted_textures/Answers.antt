@@ -1,7 +1,6 @@
-use Rattle.word_rules.proofs.Common.{All-get_or, ap, arith, get_or, not, option_map, sym, ◌&&◌, ◌==◌, ◌||◌, ◌∙◌}
-use Rattle.level_rules.specs.declared.SideTextures.{SideTextures}
+use Rattle.art_rules.proofs.Common.{All-get_or, ap, arith, get_or, not, option_map, sym, ◌&&◌, ◌==◌, ◌||◌, ◌∙◌}
+use Rattle.scene_rules.specs.Words.{shows_texture, SideTextures}
 use Rattle.texture_lists.specs.declared.number.TexNo.{TexNo}
-use Rattle.scene_rules.specs.Sides.{shows_texture}
 use Rattle.scene_rules.proofs.SideLemmas.{is_wanted-more}
 use Rattle.level_scene.specs.Bounds.{AreBelow}
 use Rattle.level_scene.proofs.sides.wanted_textures.Goals as goal

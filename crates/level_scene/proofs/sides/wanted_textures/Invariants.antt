@@ -1,6 +1,6 @@
-use Rattle.word_rules.proofs.Common.{All, IfSome, list_any, option_map, take, ℕ, ◌<◌, ◌==◌, ◌≡◌}
+use Rattle.art_rules.proofs.Common.{All, IfSome, list_any, option_map, take, ℕ, ◌<◌, ◌==◌, ◌≡◌}
 use Rattle.texture_lists.specs.declared.number.TexNo.{TexNo}
-use Rattle.scene_rules.specs.Sides.{is_wanted_texture}
+use Rattle.scene_rules.specs.Words.{is_wanted_texture}
 use Rattle.level_scene.specs.Bounds.{AreBelow}
 use Rattle.level_scene.proofs.sides.wanted_textures.Given as goal
 

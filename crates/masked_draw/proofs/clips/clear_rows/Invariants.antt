@@ -1,4 +1,4 @@
-use Rattle.word_rules.proofs.Common.{None, ℕ, ◌<◌, ◌≡◌, ◌≤◌, ◌⊎◌}
+use Rattle.picture_rules.proofs.Common.{None, ℕ, ◌<◌, ◌≡◌, ◌≤◌, ◌⊎◌}
 use Rattle.masked_draw.specs.Clipped.{row_in}
 use Rattle.masked_draw.proofs.clips.clear_rows.Given as goal
 

@@ -1,5 +1,5 @@
-use Rattle.word_rules.proofs.Common.{get_or-replicate, None}
-use Rattle.view_rules.specs.declared.TheConstants.{FRAME_WIDTH}
+use Rattle.picture_rules.proofs.Common.{get_or-replicate, None}
+use Rattle.picture_rules.specs.Words.{FRAME_WIDTH}
 use Rattle.masked_draw.proofs.clips.same_rows.Goals as goal
 
 pub returns : goal.returns

@@ -1,5 +1,5 @@
 use Rattle.std.proofs.Common.{◌≡◌, ℕ}
-use Rattle.picture_rules.specs.wall.Notes.{clip_row_at}
+use Rattle.picture_rules.specs.Words.{clip_row_at}
 use Rattle.masked_draw.specs.Clipped.{row_in, row_after}
 use Rattle.masked_draw.proofs.MarkLemmas.{between}
 use Rattle.masked_draw.proofs.clips.take_rows.Given as goal

@@ -1,17 +1,9 @@
 -- The entries of the lists that the code reads are those of the rule.
-use Rattle.word_rules.proofs.Common.{ap, arith, get_or_default, IfSome, IsSome, None, of_z, Option, refl, rules, slice_index_or, Some, to_z, w16, w32, ℕ, ℤ, ◌∙◌, ◌≡◌}
+use Rattle.picture_rules.proofs.Common.{ap, arith, get_or_default, IfSome, IsSome, None, of_z, Option, refl, rules, slice_index_or, Some, to_z, w16, w32, ℕ, ℤ, ◌∙◌, ◌≡◌}
 use Rattle.std.proofs.lemmas.Int.{to_z-of_z}
-use Rattle.level_rules.specs.declared.Side.{Side}
-use Rattle.picture_rules.specs.Scene.{no_side}
-use Rattle.view_rules.specs.View.{ViewValue}
-use Rattle.view_rules.specs.declared.Eye.{Eye}
-use Rattle.level_rules.specs.declared.Sector.{Sector}
-use Rattle.level_rules.specs.declared.Seg.{Seg}
-use Rattle.level_rules.specs.declared.Surface.{Surface}
-use Rattle.picture_rules.specs.wall.Numbers.{seg_light}
+use Rattle.picture_rules.specs.Words.{Eye, masked_mid, no_side, Sector, Seg, seg_light, Side, Surface, ViewValue}
 use Rattle.picture_rules.specs.declared.wall.FragmentNote.{FragmentNote}
-use Rattle.picture_rules.specs.sprite.Middles.{masked_mid}
-use Rattle.art_rules.specs.Textures.{texture_at}
+use Rattle.art_rules.specs.Words.{texture_at}
 use Rattle.texture_build.specs.Views.{TexturesView}
 use Rattle.masked_draw.specs.Lists.{MaskedLists, heights_of, middle_by, no_sector, note_mid, note_seg, noted_drawseg, sector_by, side_by}
 use Rattle.masked_draw.specs.Scenes.{scene_lists}

@@ -1,10 +1,7 @@
 -- The loop paints and marks the columns one by one.
 use Rattle.std.proofs.Common.{◌≡◌, ℕ, ◌+◌, ◌≤◌, Bool, List, ◌++◌, Some, sym, ap, ◌∙◌, arith}
-use Rattle.pixel_rules.specs.Art.{Art}
-use Rattle.view_rules.specs.View.{ViewValue}
+use Rattle.picture_rules.specs.Words.{Art, Drawseg, middle_column, ViewValue}
 use Rattle.picture_rules.specs.declared.wall.FragmentNote.{FragmentNote}
-use Rattle.picture_rules.specs.sprite.Drawsegs.{Drawseg}
-use Rattle.picture_rules.specs.sprite.Middles.{middle_column}
 use Rattle.texture_build.proofs.PaintLemmas.{paints-none, paints-same, paints-then, paints-then_stop}
 use Rattle.masked_draw.specs.Marks.{MarksBy, if_unmarked, is_between, mark_of, unmarked_dots}
 use Rattle.masked_draw.specs.Scenes.{scene_art, scene_drawseg}

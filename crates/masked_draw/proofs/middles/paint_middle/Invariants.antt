@@ -1,5 +1,5 @@
 -- The columns below x are painted and marked, where they were not.
-use Rattle.word_rules.proofs.Common.{Ok, ℕ}
+use Rattle.picture_rules.proofs.Common.{Ok, ℕ}
 use Rattle.masked_draw.specs.Marks.{MarksBy, unmarked_dots}
 use Rattle.masked_draw.specs.Ready.{IsListed, IsMiddleNumber}
 use Rattle.masked_draw.specs.Scenes.{CanPaint, PaintsDots, mask_hands, scene_drawseg, scene_lists}

@@ -1,10 +1,8 @@
 use Rattle.std.proofs.Common.{◌≡◌, ◌<◌, ℕ, w32, sym, subst, ◌∙◌, rules, arith}
 use Rattle.std.proofs.lemmas.Int.{to_z-of_z}
-use Rattle.view_rules.specs.declared.TheConstants.{LIGHT_LEVELS}
-use Rattle.lump_rules.specs.Contents.{lump_bytes}
-use Rattle.lump_cache.proofs.StaticLemmas.{rest_static}
-use Rattle.view_rules.specs.Lights.{scale_map}
-use Rattle.pixel_rules.specs.declared.TheConstants.{MIDDLE}
+use Rattle.picture_rules.specs.Words.{LIGHT_LEVELS, MIDDLE, scale_map}
+use Rattle.art_rules.specs.Words.{lump_bytes}
+use Rattle.texture_build.proofs.StaticLemmas.{rest_static}
 use Rattle.texture_build.proofs.LentLemmas.{fits-lump}
 use Rattle.texture_build.specs.Views.{prepared_texture}
 use Rattle.masked_draw.specs.Ready.{IsSingle}

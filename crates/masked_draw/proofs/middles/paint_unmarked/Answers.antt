@@ -1,7 +1,6 @@
 -- A column that is marked gets no dots, and another one those of the call.
 use Rattle.std.proofs.Common.{◌≡◌, Bool, true, false, List, [], is_some, sym, ap}
-use Rattle.pixel_rules.specs.Dots.{Dot}
-use Rattle.picture_rules.specs.sprite.Middles.{middle_column}
+use Rattle.picture_rules.specs.Words.{Dot, middle_column}
 use Rattle.texture_build.proofs.PaintLemmas.{paints-none, paints-same, paints-wider}
 use Rattle.masked_draw.specs.Marks.{if_unmarked, mark_of}
 use Rattle.masked_draw.specs.Scenes.{scene_art, scene_drawseg}

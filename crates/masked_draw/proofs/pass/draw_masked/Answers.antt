@@ -1,6 +1,6 @@
 -- The sprites, and then the columns that are left.
 use Rattle.std.proofs.Common.{rules}
-use Rattle.picture_rules.specs.sprite.Order.{draw_order}
+use Rattle.picture_rules.specs.Words.{draw_order}
 use Rattle.masked_draw.specs.declared.scene.MaskScene.{MaskScene}
 use Rattle.masked_draw.proofs.PassLemmas.{pass-end}
 use Rattle.masked_draw.proofs.SceneLemmas.{can_pass-later}

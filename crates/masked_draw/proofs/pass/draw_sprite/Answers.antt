@@ -1,8 +1,8 @@
 -- A sprite without a column, and one behind which the masked columns come first.
-use Rattle.word_rules.proofs.Common.{and_parts, ap, arith, false, int_lt, ints, leb-true, List, ltb-true, nat_le, nat_lt, None, Option, pos, rules, subst, sym, true, w32, ℕ, ℤ, ◌+◌, ◌<ℤ◌, ◌<◌, ◌^◌, ◌∙◌, ◌≡◌, ◌≤ℤ◌, ◌≤◌}
+use Rattle.picture_rules.proofs.Common.{and_parts, ap, arith, false, int_lt, ints, leb-true, List, ltb-true, nat_le, nat_lt, None, Option, pos, rules, subst, sym, true, w32, ℕ, ℤ, ◌+◌, ◌<ℤ◌, ◌<◌, ◌^◌, ◌∙◌, ◌≡◌, ◌≤ℤ◌, ◌≤◌}
 use Rattle.std.proofs.lemmas.Int.{to_z-of_z}
 use Rattle.picture_rules.specs.declared.sprite.SpriteEntry.{SpriteEntry}
-use Rattle.picture_rules.specs.sprite.Drawsegs.{entry_has}
+use Rattle.picture_rules.specs.Words.{entry_has}
 use Rattle.masked_draw.specs.Clipped.{row_in}
 use Rattle.masked_draw.proofs.EntryLemmas.{entry-between, entry-numbers, entry-within}
 use Rattle.masked_draw.proofs.SpriteLemmas.{has-column, sprite-none, sprite-then}

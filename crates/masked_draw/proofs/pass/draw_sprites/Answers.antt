@@ -1,8 +1,7 @@
 -- One sprite after the other, in drawing order.
-use Rattle.word_rules.proofs.Common.{ap, length, length_push, List, map-id, subst, sym, YieldsList-end, YieldsList-from_first, YieldsList-turn, ℕ, ◌∙◌, ◌≡◌}
+use Rattle.picture_rules.proofs.Common.{ap, length, length_push, List, map-id, subst, sym, YieldsList-end, YieldsList-from_first, YieldsList-turn, ℕ, ◌∙◌, ◌≡◌}
 use Rattle.picture_rules.specs.declared.sprite.SpriteEntry.{SpriteEntry}
-use Rattle.picture_rules.specs.sprite.Order.{draw_order}
-use Rattle.picture_rules.specs.sprite.Middles.{sprites_from}
+use Rattle.picture_rules.specs.Words.{draw_order, sprites_from}
 use Rattle.texture_build.proofs.PaintLemmas.{paints-same, paints-then_stop, paints-wider}
 use Rattle.masked_draw.specs.Marks.{MarkedTo}
 use Rattle.masked_draw.specs.Scenes.{scene_art, scene_drawseg, scene_drawsegs}

@@ -1,7 +1,6 @@
 -- The sprites that the loop came to are drawn.
-use Rattle.word_rules.proofs.Common.{length, Ok}
-use Rattle.picture_rules.specs.sprite.Order.{draw_order}
-use Rattle.picture_rules.specs.sprite.Middles.{sprites_from}
+use Rattle.picture_rules.proofs.Common.{length, Ok}
+use Rattle.picture_rules.specs.Words.{draw_order, sprites_from}
 use Rattle.masked_draw.specs.Marks.{MarkedTo}
 use Rattle.masked_draw.specs.Ready.{IsNotedMiddle, IsSpriteLump}
 use Rattle.masked_draw.specs.Scenes.{PaintsDots, mask_hands, scene_drawseg, scene_drawsegs, scene_lists}

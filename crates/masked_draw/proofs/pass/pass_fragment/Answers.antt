@@ -1,12 +1,10 @@
 -- A fragment that misses the sprite, one behind it, and one in front of it.
-use Rattle.word_rules.proofs.Common.{ap, arith, Bool, false, List, max, min, Option, pos, refl, rules, subst, sym, true, w32, ℕ, ℤ, ◌&&◌, ◌<ℤ◌, ◌^◌, ◌∙◌, ◌≡◌, ◌≤ℤ◌, ◌≤◌}
+use Rattle.picture_rules.proofs.Common.{ap, arith, Bool, false, List, max, min, Option, pos, refl, rules, subst, sym, true, w32, ℕ, ℤ, ◌&&◌, ◌<ℤ◌, ◌^◌, ◌∙◌, ◌≡◌, ◌≤ℤ◌, ◌≤◌}
 use Rattle.std.proofs.lemmas.Int.{to_z-of_z}
 use Rattle.lump_cache.proofs.FillLemmas.{on_ok}
 use Rattle.picture_rules.specs.declared.wall.FragmentNote.{FragmentNote}
 use Rattle.picture_rules.specs.declared.sprite.SpriteEntry.{SpriteEntry}
-use Rattle.picture_rules.specs.sprite.Drawsegs.{Drawseg, is_behind}
-use Rattle.view_rules.specs.View.{ViewValue}
-use Rattle.pixel_rules.specs.Art.{Art}
+use Rattle.picture_rules.specs.Words.{Art, Drawseg, is_behind, ViewValue}
 use Rattle.texture_build.proofs.PaintLemmas.{paints-none, paints-same}
 use Rattle.masked_draw.specs.Clipped.{clips_bottom, clips_top, row_after}
 use Rattle.masked_draw.specs.Lists.{noted_drawseg, note_seg}

@@ -1,5 +1,5 @@
 -- The fragments from k on are done.
-use Rattle.word_rules.proofs.Common.{length, List, slice_get, Some, ℕ, ◌<◌, ◌≡◌}
+use Rattle.picture_rules.proofs.Common.{length, List, slice_get, Some, ℕ, ◌<◌, ◌≡◌}
 use Rattle.picture_rules.specs.declared.sprite.SpriteEntry.{SpriteEntry}
 use Rattle.masked_draw.specs.Marks.{MarkedTo}
 use Rattle.masked_draw.specs.Scenes.{mask_hands, scene_drawseg}

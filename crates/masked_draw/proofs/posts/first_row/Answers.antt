@@ -1,6 +1,6 @@
 use Rattle.std.proofs.Common.{◌≤ℤ◌, pos, rules}
 use Rattle.std.proofs.lemmas.Int.{to_z-of_z}
-use Rattle.pixel_rules.specs.Posts.{post_first}
+use Rattle.picture_rules.specs.Words.{post_first}
 use Rattle.masked_draw.proofs.PostLemmas.{post_first-low}
 use Rattle.masked_draw.proofs.posts.first_row.Goals as goal
 

@@ -1,6 +1,6 @@
 use Rattle.std.proofs.Common.{◌<ℤ◌, pos, rules, arith}
 use Rattle.std.proofs.lemmas.Int.{to_z-of_z}
-use Rattle.pixel_rules.specs.Posts.{post_last}
+use Rattle.picture_rules.specs.Words.{post_last}
 use Rattle.masked_draw.proofs.PostLemmas.{post_last-high}
 use Rattle.masked_draw.proofs.posts.last_row.Goals as goal
 

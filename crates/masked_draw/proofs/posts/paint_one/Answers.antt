@@ -1,14 +1,7 @@
-use Rattle.word_rules.proofs.Common.{ap, arith, false, int_lt, ints, List, nat_abs, pos, rules, subst, sym, true, ℕ, ℤ, ◌<ℤ◌, ◌∙◌, ◌≡◌, ◌≤ℤ◌}
+use Rattle.picture_rules.proofs.Common.{ap, arith, false, int_lt, ints, List, nat_abs, pos, rules, subst, sym, true, ℕ, ℤ, ◌<ℤ◌, ◌∙◌, ◌≡◌, ◌≤ℤ◌}
 use Rattle.std.proofs.lemmas.Int.{to_z-of_z}
-use Rattle.word_rules.specs.Words.{fixed, minus, plus, times}
-use Rattle.view_rules.specs.declared.ViewShape.{ViewShape}
-use Rattle.pixel_rules.specs.declared.MaskedColumn.{MaskedColumn}
-use Rattle.pixel_rules.specs.declared.Painter.{Painter}
-use Rattle.pixel_rules.specs.declared.Post.{Post}
-use Rattle.pixel_rules.specs.Dots.{Dot}
-use Rattle.pixel_rules.specs.Posts.{post_first, post_last, post_top, post_bottom, picture_top}
-use Rattle.pixel_rules.specs.Strips.{row_fraction, shade}
-use Rattle.art_rules.specs.Bytes.{byte_at}
+use Rattle.picture_rules.specs.Words.{Dot, fixed, MaskedColumn, minus, Painter, picture_top, plus, Post, post_bottom, post_first, post_last, post_top, row_fraction, shade, times, ViewShape}
+use Rattle.art_rules.specs.Words.{byte_at}
 use Rattle.pixel_strips.specs.Canvases.{with_dots}
 use Rattle.pixel_strips.specs.Strips.{column_strip_dots, strip_colour}
 use Rattle.pixel_strips.proofs.CanvasLemmas.{dots_none}

@@ -1,7 +1,6 @@
 use Rattle.std.proofs.Common.{arith}
-use Rattle.art_rules.specs.Bytes.{byte_at}
-use Rattle.art_rules.specs.Patches.{posts}
-use Rattle.pixel_rules.specs.Strips.{shade}
+use Rattle.art_rules.specs.Words.{byte_at, posts}
+use Rattle.picture_rules.specs.Words.{shade}
 use Rattle.masked_draw.proofs.PostLemmas.{shut-dots}
 use Rattle.masked_draw.proofs.posts.paint_posts.Goals as goal
 

@@ -1,7 +1,7 @@
 -- The column of the picture that is seen at a column of the view.
 use Rattle.std.proofs.Common.{w32, sym, ◌∙◌, subst, rules}
 use Rattle.std.proofs.lemmas.Int.{to_z-of_z}
-use Rattle.picture_rules.specs.sprite.Sprites.{picture_column}
+use Rattle.picture_rules.specs.Words.{picture_column}
 use Rattle.masked_draw.specs.Clipped.{HasClipsIn, clipped_masked}
 use Rattle.masked_draw.proofs.PictureLemmas.{column-own, same_words}
 use Rattle.masked_draw.proofs.sprites.paint_column.Goals as goal

@@ -1,10 +1,9 @@
 -- The bytes that are lent are those of the picture and of the colormap.
-use Rattle.word_rules.proofs.Common.{some-same, sym}
-use Rattle.lump_rules.specs.Contents.{lump_bytes}
-use Rattle.lump_cache.proofs.FetchLemmas.{live_faithful}
-use Rattle.lump_cache.proofs.StaticLemmas.{rest_static}
-use Rattle.pixel_rules.specs.declared.TheConstants.{SPRITE}
-use Rattle.pixel_rules.specs.Art.{lump_source}
+use Rattle.picture_rules.proofs.Common.{some-same, sym}
+use Rattle.art_rules.specs.Words.{lump_bytes}
+use Rattle.texture_build.proofs.FetchLemmas.{live_faithful}
+use Rattle.texture_build.proofs.StaticLemmas.{rest_static}
+use Rattle.picture_rules.specs.Words.{lump_source, SPRITE}
 use Rattle.texture_build.proofs.LentLemmas.{colormap_lent, fits-lump}
 use Rattle.masked_draw.proofs.PictureLemmas.{fit-columns, picture-painted}
 use Rattle.masked_draw.proofs.sprites.paint_live.Goals as goal

@@ -1,7 +1,7 @@
 -- The dots of all planes are those of the scene.
 use Rattle.std.proofs.Common.{List, OnOk, subst}
-use Rattle.lump_rules.specs.Contents.{lump_bytes}
-use Rattle.pixel_rules.specs.Dots.{Dot}
+use Rattle.art_rules.specs.Words.{lump_bytes}
+use Rattle.picture_rules.specs.Words.{Dot}
 use Rattle.pixel_strips.specs.Dotted.{HasDots}
 use Rattle.texture_build.specs.Arts.{view_art}
 use Rattle.texture_build.specs.Draws.{FitBeside}

@@ -1,7 +1,6 @@
 -- One column after the other.
 use Rattle.std.proofs.Common.{◌≡◌, ◌<◌, ◌≤◌, ℕ, None, refl, ap, ◌∙◌, arith, inl, inr}
-use Rattle.view_rules.specs.declared.ViewShape.{ViewShape}
-use Rattle.picture_rules.specs.plane.Planes.{column}
+use Rattle.picture_rules.specs.Words.{column, ViewShape}
 use Rattle.visplanes.specs.Planes.{plane_at}
 use Rattle.plane_draw.specs.Scenes.{plane_art}
 use Rattle.plane_draw.proofs.CanLemmas.{sky-number}

@@ -1,7 +1,7 @@
 -- The column is made live, and then painted.
-use Rattle.word_rules.proofs.Common.{ap, arith, nat_tests, rules, w32, ◌<◌, ◌∙◌, ◌≡◌}
+use Rattle.picture_rules.proofs.Common.{ap, arith, nat_tests, rules, w32, ◌<◌, ◌∙◌, ◌≡◌}
 use Rattle.std.proofs.Common.{to_z-of_z}
-use Rattle.picture_rules.specs.plane.Skies.{sky_column}
+use Rattle.picture_rules.specs.Words.{sky_column}
 use Rattle.texture_build.specs.Sources.{column_in}
 use Rattle.texture_build.specs.Views.{prepared_texture}
 use Rattle.texture_build.proofs.DrawLemmas.{draws-wider}

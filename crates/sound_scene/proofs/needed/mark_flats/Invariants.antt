@@ -1,5 +1,5 @@
-use Rattle.word_rules.proofs.Common.{length, list_any, take, ◌≡◌}
-use Rattle.scene_rules.specs.Sizes.{has_flat}
+use Rattle.art_rules.proofs.Common.{length, list_any, take, ◌≡◌}
+use Rattle.scene_rules.specs.Words.{has_flat}
 use Rattle.sound_scene.specs.Views.{AddsMarks}
 use Rattle.sound_scene.proofs.needed.mark_flats.Given as goal
 

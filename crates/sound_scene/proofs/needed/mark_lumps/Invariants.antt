@@ -1,5 +1,5 @@
-use Rattle.word_rules.proofs.Common.{length, list_any, take, ◌==◌, ◌≡◌}
-use Rattle.lump_rules.specs.declared.wad.LumpNo.{LumpNo}
+use Rattle.art_rules.proofs.Common.{length, list_any, take, ◌==◌, ◌≡◌}
+use Rattle.art_rules.specs.Words.{LumpNo}
 use Rattle.sound_scene.specs.Views.{AddsMarks}
 use Rattle.sound_scene.proofs.needed.mark_lumps.Given as goal
 

@@ -1,5 +1,5 @@
 use Rattle.std.proofs.Common.{◌≡◌, length, refl, arith}
-use Rattle.lump_rules.specs.declared.names.TheConstants.{MAP_LUMPS}
+use Rattle.art_rules.specs.Words.{MAP_LUMPS}
 use Rattle.sound_scene.proofs.MarkLemmas.{map_added}
 use Rattle.sound_scene.proofs.needed.mark_map.Goals as goal
 

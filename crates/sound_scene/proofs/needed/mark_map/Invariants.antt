@@ -1,4 +1,4 @@
-use Rattle.word_rules.proofs.Common.{length, nat_le, nat_lt, ◌&&◌, ◌+◌, ◌≡◌}
+use Rattle.art_rules.proofs.Common.{length, nat_le, nat_lt, ◌&&◌, ◌+◌, ◌≡◌}
 use Rattle.sound_scene.specs.Views.{AddsMarks}
 use Rattle.sound_scene.proofs.needed.mark_map.Given as goal
 

@@ -1,4 +1,4 @@
-use Rattle.lump_rules.specs.declared.wad.TheConstants.{MAX_LUMPS}
+use Rattle.art_rules.specs.Words.{MAX_LUMPS}
 use Rattle.sound_scene.specs.Views.{lump_numbers}
 use Rattle.sound_scene.proofs.MarkLemmas.{patches_added}
 use Rattle.sound_scene.proofs.needed.mark_patches.Goals as goal

@@ -1,5 +1,5 @@
-use Rattle.word_rules.proofs.Common.{ap, arith, IfOk-weaker, ◌||◌, ◌∙◌}
-use Rattle.scene_rules.specs.Sizes.{is_needed}
+use Rattle.art_rules.proofs.Common.{ap, arith, IfOk-weaker, ◌||◌, ◌∙◌}
+use Rattle.scene_rules.specs.Words.{is_needed}
 use Rattle.sound_scene.proofs.MarkLemmas.{needed_marked}
 use Rattle.sound_scene.proofs.needed.needed_lumps.Goals as goal
 

@@ -1,6 +1,6 @@
 use Rattle.std.proofs.Common.{ℕ, ap, sym, ◌∙◌}
 use Rattle.texture_build.specs.Views.{prepared_at}
-use Rattle.scene_rules.specs.Sizes.{block_or_none}
+use Rattle.scene_rules.specs.Words.{block_or_none}
 use Rattle.sound_scene.proofs.SizeLemmas.{prepared_block, unprepared_block}
 use Rattle.sound_scene.proofs.sizes.composite_block.Goals as goal
 

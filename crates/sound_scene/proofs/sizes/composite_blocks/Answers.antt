@@ -1,5 +1,5 @@
-use Rattle.word_rules.proofs.Common.{arith, None, refl}
-use Rattle.scene_rules.specs.Sizes.{composite_block}
+use Rattle.art_rules.proofs.Common.{arith, None, refl}
+use Rattle.scene_rules.specs.Words.{composite_block}
 use Rattle.sound_scene.proofs.SizeLemmas.{composite_block-none, greatest_none, greatest_step, sum_step}
 use Rattle.sound_scene.proofs.sizes.composite_blocks.Goals as goal
 

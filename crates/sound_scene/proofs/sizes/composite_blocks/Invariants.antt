@@ -1,5 +1,5 @@
-use Rattle.word_rules.proofs.Common.{sum_by, take, ◌*◌, ◌^◌, ◌≡◌, ◌≤◌}
-use Rattle.scene_rules.specs.Sizes.{composite_block, greatest_by}
+use Rattle.art_rules.proofs.Common.{sum_by, take, ◌*◌, ◌^◌, ◌≡◌, ◌≤◌}
+use Rattle.scene_rules.specs.Words.{composite_block, greatest_by}
 use Rattle.sound_scene.proofs.sizes.composite_blocks.Given as goal
 
 -- the blocks of the textures so far, each of at most 2 ^ 17 bytes

@@ -1,6 +1,6 @@
-use Rattle.word_rules.proofs.Common.{sum_by, take, ◌*◌, ◌^◌, ◌≡◌, ◌≤◌}
-use Rattle.lump_rules.specs.declared.wad.LumpNo.{LumpNo}
-use Rattle.scene_rules.specs.Sizes.{greatest_by, lump_block}
+use Rattle.art_rules.proofs.Common.{sum_by, take, ◌*◌, ◌^◌, ◌≡◌, ◌≤◌}
+use Rattle.art_rules.specs.Words.{LumpNo}
+use Rattle.scene_rules.specs.Words.{greatest_by, lump_block}
 use Rattle.sound_scene.proofs.sizes.lump_blocks.Given as goal
 
 -- the blocks of the lumps so far, each of at most 2 ^ 33 bytes

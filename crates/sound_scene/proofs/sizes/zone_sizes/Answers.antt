@@ -1,5 +1,5 @@
-use Rattle.word_rules.proofs.Common.{ap, IsStrictlyIncreasing, List, subst, sum_by, sym, ℕ, ◌∙◌}
-use Rattle.scene_rules.specs.Sizes.{SceneArt, composite_block, greatest_by, lump_block}
+use Rattle.art_rules.proofs.Common.{ap, IsStrictlyIncreasing, List, subst, sum_by, sym, ℕ, ◌∙◌}
+use Rattle.scene_rules.specs.Words.{composite_block, greatest_by, lump_block, SceneArt}
 use Rattle.sound_scene.specs.Views.{lump_numbers}
 use Rattle.sound_scene.proofs.SizeLemmas.{enough_is, needed_increase, needed_there, roomy_is, sizes_are}
 use Rattle.sound_scene.proofs.sizes.zone_sizes.Goals as goal

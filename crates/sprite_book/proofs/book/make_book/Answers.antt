@@ -1,6 +1,5 @@
 use Rattle.std.proofs.Common.{Ok, sym, ap, ◌∙◌, refl}
-use Rattle.outside.specs.declared.fault.Fault.TheVariants.{OutOfMemory}
-use Rattle.art_rules.specs.Books.{each_of, frame_of, first_needs}
+use Rattle.art_rules.specs.Words.{each_of, first_needs, frame_of, OutOfMemory}
 use Rattle.lump_cache.proofs.CallLemmas.{reads_memory, reads_same, reads_short, reads_stop_first, reads_as}
 use Rattle.sprite_book.proofs.book.make_book.Goals as goal
 

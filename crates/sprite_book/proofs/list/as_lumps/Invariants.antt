@@ -1,5 +1,5 @@
 use Rattle.std.proofs.Common.{◌≡◌, map, take}
-use Rattle.lump_rules.specs.declared.wad.LumpNo.{LumpNo}
+use Rattle.art_rules.specs.Words.{LumpNo}
 use Rattle.sprite_book.proofs.list.as_lumps.Given as goal
 
 abbrev pub invariant-loop-number : goal.invariant-loop-number

@@ -1,4 +1,4 @@
-use Rattle.word_rules.proofs.Common.{dedup_is, IfOk-weaker, ◌∙◌}
+use Rattle.art_rules.proofs.Common.{dedup_is, IfOk-weaker, ◌∙◌}
 use Rattle.sprite_book.proofs.ListLemmas.{listed_once}
 use Rattle.sprite_book.proofs.list.list_pictures.Goals as goal
 

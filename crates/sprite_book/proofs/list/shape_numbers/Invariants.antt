@@ -1,5 +1,5 @@
 use Rattle.std.proofs.Common.{◌≡◌, take}
-use Rattle.art_rules.specs.Books.{book_lumps}
+use Rattle.art_rules.specs.Words.{book_lumps}
 use Rattle.sprite_book.proofs.list.shape_numbers.Given as goal
 
 abbrev pub invariant-loop-frame : goal.invariant-loop-frame

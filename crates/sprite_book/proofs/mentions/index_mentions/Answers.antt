@@ -1,5 +1,5 @@
 use Rattle.std.proofs.Common.{map, arith, ◌∙◌}
-use Rattle.lump_rules.specs.declared.wad.LumpNo.{LumpNo}
+use Rattle.art_rules.specs.Words.{LumpNo}
 use Rattle.sprite_book.proofs.MentionLemmas.{index_none, entry_below, index_step, index_whole}
 use Rattle.sprite_book.proofs.mentions.index_mentions.Goals as goal
 

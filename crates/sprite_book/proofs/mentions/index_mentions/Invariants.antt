@@ -1,7 +1,5 @@
 use Rattle.std.proofs.Common.{take, map}
-use Rattle.word_rules.specs.Listed.{joined_lists}
-use Rattle.art_rules.specs.Frames.{lump_mentions}
-use Rattle.lump_rules.specs.declared.wad.LumpNo.{LumpNo}
+use Rattle.art_rules.specs.Words.{joined_lists, lump_mentions, LumpNo}
 use Rattle.sprite_book.specs.Indexes.{IsIndexOf}
 use Rattle.sprite_book.proofs.mentions.index_mentions.Given as goal
 

@@ -1,5 +1,5 @@
 use Rattle.std.proofs.Common.{◌≡◌, take, map, Ok}
-use Rattle.art_rules.specs.Books.{each_of, frame_of, first_needs, outline, outline_of}
+use Rattle.art_rules.specs.Words.{each_of, first_needs, frame_of, outline, outline_of}
 use Rattle.sprite_book.specs.Calls.{Reads, IsWanted}
 use Rattle.sprite_book.specs.Indexes.{IsPlaceOf}
 use Rattle.sprite_book.proofs.needs.read_frames.Given as goal

@@ -1,6 +1,5 @@
 use Rattle.std.proofs.Common.{◌∙◌, refl}
-use Rattle.outside.specs.declared.fault.Fault.TheVariants.{OutOfMemory}
-use Rattle.art_rules.specs.Books.{each_of, frame_of, first_needs}
+use Rattle.art_rules.specs.Words.{each_of, first_needs, frame_of, OutOfMemory}
 use Rattle.lump_cache.proofs.CallLemmas.{reads_memory, reads_same, reads_stop_first, reads_as}
 use Rattle.sprite_book.proofs.CallLemmas.{reads_alone, nothing_read}
 use Rattle.sprite_book.proofs.needs.read_list.Goals as goal

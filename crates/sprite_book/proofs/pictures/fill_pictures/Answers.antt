@@ -1,5 +1,5 @@
 use Rattle.std.proofs.Common.{sym, ◌∙◌, arith, take, length}
-use Rattle.art_rules.specs.Books.{picture_or_missing}
+use Rattle.art_rules.specs.Words.{picture_or_missing}
 use Rattle.art_rules.proofs.EachLemmas.{each_of-nil, numbers-push, numbers-stop}
 use Rattle.sprite_book.proofs.PictureLemmas.{told_error}
 use Rattle.sprite_book.proofs.pictures.fill_pictures.Goals as goal

@@ -1,7 +1,6 @@
-use Rattle.word_rules.proofs.Common.{List, Ok, range_with_len, Some, take, ℕ, ◌≡◌}
+use Rattle.art_rules.proofs.Common.{List, Ok, range_with_len, Some, take, ℕ, ◌≡◌}
 use Rattle.art_rules.specs.declared.Mention.{Mention}
-use Rattle.art_rules.specs.Frames.{last_that, is_of_frame}
-use Rattle.art_rules.specs.Books.{picture_or_missing, each_of}
+use Rattle.art_rules.specs.Words.{each_of, is_of_frame, last_that, picture_or_missing}
 use Rattle.sprite_book.specs.Indexes.{IsIndexOf}
 use Rattle.sprite_book.proofs.pictures.fill_pictures.Given as goal
 

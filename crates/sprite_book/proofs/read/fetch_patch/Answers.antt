@@ -1,5 +1,5 @@
-use Rattle.word_rules.proofs.Common.{ap, option_and_then, ◌∙◌}
-use Rattle.art_rules.specs.Patches.{patch_of}
+use Rattle.art_rules.proofs.Common.{ap, option_and_then, ◌∙◌}
+use Rattle.art_rules.specs.Words.{patch_of}
 use Rattle.sprite_book.proofs.ReadLemmas.{fetch_stopped, fetch_found, fetch_bad}
 use Rattle.sprite_book.proofs.read.fetch_patch.Goals as goal
 

@@ -1,5 +1,5 @@
 use Rattle.std.proofs.Common.{◌≡◌, take, map, Ok}
-use Rattle.art_rules.specs.Books.{each_of, shape_of, shape_outline, mention_outline}
+use Rattle.art_rules.specs.Words.{each_of, mention_outline, shape_of, shape_outline}
 use Rattle.sprite_book.specs.Calls.{Reads, IsLumpOf}
 use Rattle.sprite_book.proofs.read.fill_shapes.Given as goal
 

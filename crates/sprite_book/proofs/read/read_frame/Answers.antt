@@ -1,6 +1,5 @@
 use Rattle.std.proofs.Common.{◌≡◌, Ok, sym, ◌∙◌}
-use Rattle.art_rules.specs.Frames.{mentions}
-use Rattle.art_rules.specs.Books.{pictures_of, frame_of}
+use Rattle.art_rules.specs.Words.{frame_of, mentions, pictures_of}
 use Rattle.sprite_book.proofs.CallLemmas.{reads_nothing, reads_refused, reads_more, reads_stop, reads_same}
 use Rattle.sprite_book.proofs.PictureLemmas.{passed, refused}
 use Rattle.sprite_book.proofs.FrameLemmas.{frame_refused, frame_stop, frame_made, outline_made, pictures_there}

@@ -1,6 +1,6 @@
 use Rattle.std.proofs.Common.{arith}
 use Rattle.lump_cache.proofs.CallLemmas.{reads_same}
-use Rattle.art_rules.specs.Books.{patch_or_bad}
+use Rattle.art_rules.specs.Words.{patch_or_bad}
 use Rattle.sprite_book.proofs.CallLemmas.{reads_known, reads_of}
 use Rattle.sprite_book.proofs.ReadLemmas.{read_before, read_kept}
 use Rattle.sprite_book.proofs.read.read_patch.Goals as goal

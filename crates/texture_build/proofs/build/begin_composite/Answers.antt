@@ -1,5 +1,5 @@
-use Rattle.word_rules.proofs.Common.{[], ap, false≢true, inl, MatchResult, refl, replicate, Result, Some, ℕ, ◌∙◌, ◌∷◌}
-use Rattle.zone_rules.specs.Zones.{owned_block}
+use Rattle.art_rules.proofs.Common.{[], ap, false≢true, inl, MatchResult, refl, replicate, Result, Some, ℕ, ◌∙◌, ◌∷◌}
+use Rattle.lump_cache.specs.Zones.{owned_block}
 use Rattle.zone_rules.proofs.OrderLemmas.{order_then}
 use Rattle.lump_cache.specs.Caches.{composite_owner}
 use Rattle.lump_cache.proofs.RestButLemmas.{rest_but_none}

@@ -1,7 +1,7 @@
-use Rattle.word_rules.proofs.Common.{[], ap, Err, err_from_is_err_and, inl, inr, refl, subst, ℕ, ◌∙◌, ◌≡◌}
-use Rattle.outside.proofs.ShelfLemmas.{follows_none}
-use Rattle.lump_rules.specs.Contents.{lump_bytes}
-use Rattle.zone_rules.specs.Zones.{owned_block}
+use Rattle.art_rules.proofs.Common.{[], ap, Err, err_from_is_err_and, inl, inr, refl, subst, ℕ, ◌∙◌, ◌≡◌}
+use Rattle.art_rules.proofs.Laws.{follows_none}
+use Rattle.art_rules.specs.Words.{lump_bytes}
+use Rattle.lump_cache.specs.Zones.{owned_block}
 use Rattle.lump_cache.specs.declared.fault.CacheFault.TheVariants.{ZoneFull}
 use Rattle.lump_cache.specs.Caches.{composite_owner}
 use Rattle.lump_cache.proofs.FillLemmas.{on_err}

@@ -1,4 +1,4 @@
-use Rattle.word_rules.proofs.Common.{ap, get_or, length, List, pos, slice_get-get_or, Some, subst, sym, ◌+◌, ◌<◌, ◌∙◌}
+use Rattle.art_rules.proofs.Common.{ap, get_or, length, List, pos, slice_get-get_or, Some, subst, sym, ◌+◌, ◌<◌, ◌∙◌}
 use Rattle.art_rules.specs.declared.PlacedPatch.{PlacedPatch}
 use Rattle.texture_build.specs.Builds.{PutsPatches}
 use Rattle.texture_build.specs.Asked.{size_of}

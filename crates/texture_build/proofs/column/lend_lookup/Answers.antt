@@ -1,5 +1,5 @@
-use Rattle.word_rules.proofs.Common.{false, IfSome, length, List, None, Option, option_copied, option_map, Some, ℕ, ◌+◌, ◌≡◌, ◌≤◌}
-use Rattle.zone_rules.specs.Zones.{block_size, same_owner}
+use Rattle.art_rules.proofs.Common.{false, IfSome, length, List, None, Option, option_copied, option_map, Some, ℕ, ◌+◌, ◌≡◌, ◌≤◌}
+use Rattle.lump_cache.specs.Zones.{block_size, same_owner}
 use Rattle.lump_cache.specs.Caches.{lump_owner}
 use Rattle.lump_cache.proofs.StaticLemmas.{rest_static}
 use Rattle.art_rules.specs.declared.ColumnLookup.{ColumnLookup}

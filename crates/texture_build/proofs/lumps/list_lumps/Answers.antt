@@ -1,5 +1,5 @@
-use Rattle.word_rules.proofs.Common.{ap, arith, false, get_or, IfOk-weaker, length, ◌||◌, ◌∙◌, ◌≡◌}
-use Rattle.art_rules.specs.Wanted.{is_patch_of_any}
+use Rattle.art_rules.proofs.Common.{ap, arith, false, get_or, IfOk-weaker, length, ◌||◌, ◌∙◌, ◌≡◌}
+use Rattle.art_rules.specs.Words.{is_patch_of_any}
 use Rattle.texture_build.proofs.MarkLemmas.{lumps_marked, same_front}
 use Rattle.texture_build.proofs.lumps.list_lumps.Goals as goal
 

@@ -1,4 +1,4 @@
-use Rattle.word_rules.proofs.Common.{false, get_or, length, list_any, take, ℕ, ◌<◌, ◌==◌, ◌||◌, ◌≡◌}
+use Rattle.art_rules.proofs.Common.{false, get_or, length, list_any, take, ℕ, ◌<◌, ◌==◌, ◌||◌, ◌≡◌}
 use Rattle.art_rules.specs.declared.PlacedPatch.{PlacedPatch}
 use Rattle.texture_build.proofs.lumps.mark_patches.Given as goal
 

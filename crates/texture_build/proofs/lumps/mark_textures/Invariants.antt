@@ -1,5 +1,5 @@
-use Rattle.word_rules.proofs.Common.{false, get_or, length, list_any, take, ℕ, ◌<◌, ◌||◌, ◌≡◌}
-use Rattle.art_rules.specs.Wanted.{is_patch_of}
+use Rattle.art_rules.proofs.Common.{false, get_or, length, list_any, take, ℕ, ◌<◌, ◌||◌, ◌≡◌}
+use Rattle.art_rules.specs.Words.{is_patch_of}
 use Rattle.texture_build.proofs.lumps.mark_textures.Given as goal
 
 abbrev pub invariant-loop-texture : goal.invariant-loop-texture

@@ -1,6 +1,6 @@
-use Rattle.word_rules.proofs.Common.{[], ap, false, get_or, Global, map, map-append, sym, ◌++◌, ◌∙◌, ◌∷◌}
+use Rattle.art_rules.proofs.Common.{[], ap, false, get_or, Global, map, map-append, sym, ◌++◌, ◌∙◌, ◌∷◌}
 use Rattle.std.proofs.Common.{Vec}
-use Rattle.lump_rules.specs.declared.wad.LumpNo.{LumpNo}
+use Rattle.art_rules.specs.Words.{LumpNo}
 use Rattle.texture_build.proofs.MarkLemmas.{passed_on, passed_off}
 use Rattle.texture_build.proofs.lumps.marked_lumps.Goals as goal
 use Rattle.texture_build.proofs.lumps.marked_lumps.Goals.{then-marked+in_ok-push, else-marked}

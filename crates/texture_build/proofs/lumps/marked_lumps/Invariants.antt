@@ -1,5 +1,5 @@
-use Rattle.word_rules.proofs.Common.{false, filter, get_or, map, range_with_len, ◌≡◌}
-use Rattle.lump_rules.specs.declared.wad.LumpNo.{LumpNo}
+use Rattle.art_rules.proofs.Common.{false, filter, get_or, map, range_with_len, ◌≡◌}
+use Rattle.art_rules.specs.Words.{LumpNo}
 use Rattle.texture_build.proofs.lumps.marked_lumps.Given as goal
 
 abbrev pub invariant-loop-number : goal.invariant-loop-number

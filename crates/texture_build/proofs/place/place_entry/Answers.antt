@@ -1,5 +1,5 @@
-use Rattle.outside.specs.Faults.{itself}
-use Rattle.word_rules.proofs.Common.{ap, option_map, Some, sym, ◌∙◌, ◌≡◌}
+use Rattle.art_rules.specs.Words.{itself}
+use Rattle.art_rules.proofs.Common.{ap, option_map, Some, sym, ◌∙◌, ◌≡◌}
 use Rattle.lump_cache.proofs.CallLemmas.{reads_refused, reads_wider}
 use Rattle.art_rules.specs.declared.refusal.TexRefusal.TheVariants.{MissingPatch}
 use Rattle.texture_build.specs.Asked.{patch_lump}

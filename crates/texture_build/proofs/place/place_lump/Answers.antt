@@ -1,6 +1,5 @@
-use Rattle.outside.specs.Faults.{itself}
+use Rattle.art_rules.specs.Words.{itself, lump_bytes}
 use Rattle.std.proofs.Common.{ap}
-use Rattle.lump_rules.specs.Contents.{lump_bytes}
 use Rattle.lump_cache.proofs.CallLemmas.{reads_told, reads_then_refused}
 use Rattle.art_rules.specs.declared.refusal.TexRefusal.TheVariants.{MissingPatch}
 use Rattle.texture_build.proofs.PlaceLemmas.{lump_placed, step_made, step_missing}

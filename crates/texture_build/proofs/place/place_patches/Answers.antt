@@ -1,13 +1,11 @@
-use Rattle.word_rules.proofs.Common.{[], All, All-nil, All-push, ap, arith, Contains-get_or, get_or, length, List, Ok, option_map, pos, refl, subst, sym, take, ℕ, ◌++◌, ◌+◌, ◌<◌, ◌∙◌, ◌∷◌}
-use Rattle.lump_rules.specs.Lookups.{last_of}
+use Rattle.art_rules.proofs.Common.{[], All, All-nil, All-push, ap, arith, Contains-get_or, get_or, length, List, Ok, option_map, pos, refl, subst, sym, take, ℕ, ◌++◌, ◌+◌, ◌<◌, ◌∙◌, ◌∷◌}
+use Rattle.art_rules.specs.Words.{last_of, OutOfMemory, placed_patches}
 use Rattle.lump_cache.proofs.CallLemmas.{reads_known, reads_more, reads_stop, reads_same, reads_short}
 use Rattle.art_rules.specs.declared.ColumnLookup.{ColumnLookup}
 use Rattle.art_rules.specs.declared.PlacedPatch.{PlacedPatch}
 use Rattle.art_rules.specs.declared.TextureEntry.{TextureEntry}
-use Rattle.art_rules.specs.Wanted.{placed_patches}
 use Rattle.patch_columns.specs.Seen.{AreSeen}
 use Rattle.patch_columns.proofs.AnyBytesLemmas.{seen_all}
-use Rattle.outside.specs.declared.fault.Fault.TheVariants.{OutOfMemory}
 use Rattle.texture_build.specs.Parts.{IsEntryPatch, PatchesPart, or_missing, patches_part}
 use Rattle.texture_build.proofs.PlaceLemmas.{part_none, part_push, part_stop}
 use Rattle.texture_build.proofs.place.place_patches.Goals as goal

@@ -1,4 +1,4 @@
-use Rattle.word_rules.proofs.Common.{ap, arith, false, get_or, length, ◌||◌, ◌∙◌}
+use Rattle.art_rules.proofs.Common.{ap, arith, false, get_or, length, ◌||◌, ◌∙◌}
 use Rattle.texture_build.specs.Views.{is_marked, is_wanted}
 use Rattle.texture_build.proofs.MarkLemmas.{same_front}
 use Rattle.texture_build.proofs.PrepareLemmas.{marks_tell}

@@ -1,8 +1,6 @@
 use Rattle.std.proofs.Common.{Some, None}
-use Rattle.lump_rules.specs.Lookups.{last_of}
+use Rattle.art_rules.specs.Words.{last_of, prepared, prepared_if, texture_at}
 use Rattle.lump_cache.proofs.CallLemmas.{reads_known, reads_more, reads_nothing, reads_stop_first}
-use Rattle.art_rules.specs.Textures.{texture_at}
-use Rattle.art_rules.specs.Wanted.{prepared, prepared_if}
 use Rattle.texture_build.proofs.PrepareLemmas.{if_made, if_refused, if_unwanted}
 use Rattle.texture_build.proofs.prepare.prepare_if.Goals as goal
 

@@ -1,9 +1,6 @@
-use Rattle.word_rules.proofs.Common.{[], All, All-nil, All-push, ap, arith, false, IfSome, is_some, length, List, map, map-append, Ok, Option, refl, subst, sym, take, take_more, ℕ, ◌++◌, ◌+◌, ◌<◌, ◌∙◌, ◌∷◌}
-use Rattle.lump_rules.specs.Lookups.{last_of}
+use Rattle.art_rules.proofs.Common.{[], All, All-nil, All-push, ap, arith, false, IfSome, is_some, length, List, map, map-append, Ok, Option, refl, subst, sym, take, take_more, ℕ, ◌++◌, ◌+◌, ◌<◌, ◌∙◌, ◌∷◌}
+use Rattle.art_rules.specs.Words.{last_of, OutOfMemory, prepared, prepared_from, PreparedTexture, texture_at}
 use Rattle.lump_cache.proofs.CallLemmas.{reads_as, reads_known, reads_more, reads_same, reads_short, reads_stop}
-use Rattle.art_rules.specs.Textures.{texture_at}
-use Rattle.art_rules.specs.Wanted.{PreparedTexture, prepared, prepared_from}
-use Rattle.outside.specs.declared.fault.Fault.TheVariants.{OutOfMemory}
 use Rattle.texture_build.specs.Asked.{IsWantedPatch}
 use Rattle.texture_build.specs.Views.{ArePatchesThere, IsListedAs, is_marked, prepared_at}
 use Rattle.texture_build.proofs.PrepareLemmas.{count_marked, from_all, from_none, from_push, from_stop, from_textures, listed_none, listed_push, wanted_patch}

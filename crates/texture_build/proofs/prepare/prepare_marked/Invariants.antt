@@ -1,9 +1,6 @@
-use Rattle.outside.specs.Faults.{itself}
-use Rattle.word_rules.proofs.Common.{All, IfSome, is_some, map, Ok, Option, take, ℕ, ◌≡◌}
-use Rattle.lump_rules.specs.Lookups.{last_of}
+use Rattle.art_rules.specs.Words.{itself, last_of, prepared, prepared_from, PreparedTexture, texture_at}
+use Rattle.art_rules.proofs.Common.{All, IfSome, is_some, map, Ok, Option, take, ℕ, ◌≡◌}
 use Rattle.lump_cache.specs.Calls.{ReadsLumps}
-use Rattle.art_rules.specs.Textures.{texture_at}
-use Rattle.art_rules.specs.Wanted.{PreparedTexture, prepared, prepared_from}
 use Rattle.texture_build.specs.Asked.{IsWantedPatch}
 use Rattle.texture_build.specs.Views.{ArePatchesThere, IsListedAs, is_marked, prepared_at}
 use Rattle.texture_build.proofs.prepare.prepare_marked.Given as goal

@@ -1,8 +1,6 @@
-use Rattle.word_rules.proofs.Common.{All, ap, is_some, IsSome, length, length-map, Ok, refl, subst, sym, ℕ, ◌<◌, ◌∙◌}
+use Rattle.art_rules.proofs.Common.{All, ap, is_some, IsSome, length, length-map, Ok, refl, subst, sym, ℕ, ◌<◌, ◌∙◌}
 use Rattle.lump_cache.proofs.CallLemmas.{reads_more, reads_nothing, reads_same, reads_short, reads_stop_first}
-use Rattle.lump_rules.specs.Lookups.{last_of}
-use Rattle.art_rules.specs.Wanted.{prepared_textures}
-use Rattle.outside.specs.declared.fault.Fault.TheVariants.{OutOfMemory}
+use Rattle.art_rules.specs.Words.{last_of, OutOfMemory, prepared_textures}
 use Rattle.texture_lists.specs.declared.number.TexNo.{TexNo}
 use Rattle.texture_build.specs.Views.{is_marked, is_wanted, prepared_at}
 use Rattle.texture_build.proofs.PrepareLemmas.{tells_wanted, wanted_prepared}

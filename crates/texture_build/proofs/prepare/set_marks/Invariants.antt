@@ -1,4 +1,4 @@
-use Rattle.word_rules.proofs.Common.{false, get_or, length, take, ℕ, ◌<◌, ◌||◌, ◌≡◌}
+use Rattle.art_rules.proofs.Common.{false, get_or, length, take, ℕ, ◌<◌, ◌||◌, ◌≡◌}
 use Rattle.texture_build.specs.Views.{is_wanted}
 use Rattle.texture_build.proofs.prepare.set_marks.Given as goal
 

@@ -1,4 +1,4 @@
-use Rattle.word_rules.proofs.Common.{arith, refl, slice_get_read}
+use Rattle.art_rules.proofs.Common.{arith, refl, slice_get_read}
 use Rattle.texture_lists.proofs.IndexLemmas.{name_more}
 use Rattle.texture_lists.proofs.index.index_textures.Goals as goal
 

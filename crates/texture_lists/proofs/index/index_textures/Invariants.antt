@@ -1,7 +1,6 @@
 use Rattle.std.proofs.Common.{◌≡◌, ℕ, List}
-use Rattle.word_rules.specs.Least.{least}
-use Rattle.art_rules.specs.Textures.{is_named}
-use Rattle.wad_dir.specs.Indexes.{indexed}
+use Rattle.art_rules.specs.Words.{is_named, least}
+use Rattle.lump_cache.specs.Indexes.{indexed}
 use Rattle.texture_lists.proofs.index.index_textures.Given as goal
 
 abbrev pub invariant-loop-i : goal.invariant-loop-i

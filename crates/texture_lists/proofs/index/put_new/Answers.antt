@@ -1,4 +1,4 @@
-use Rattle.word_rules.proofs.Common.{ap, is_some, List, nat_cmp, slice_cmp, Some, subst, sym, Updates, ℕ, ◌∙◌}
+use Rattle.art_rules.proofs.Common.{ap, is_some, List, nat_cmp, slice_cmp, Some, subst, sym, Updates, ℕ, ◌∙◌}
 use Rattle.texture_lists.proofs.IndexLemmas.{name_known, name_put, none_if}
 use Rattle.texture_lists.proofs.index.put_new.Goals as goal
 

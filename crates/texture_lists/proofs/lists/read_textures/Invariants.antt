@@ -1,6 +1,5 @@
 use Rattle.std.proofs.Common.{◌≡◌}
-use Rattle.word_rules.specs.Listed.{listed}
-use Rattle.art_rules.specs.Textures.{texture_in, texture_place}
+use Rattle.art_rules.specs.Words.{listed, texture_in, texture_place}
 use Rattle.texture_lists.proofs.lists.read_textures.Given as goal
 
 abbrev pub invariant-loop-i : goal.invariant-loop-i

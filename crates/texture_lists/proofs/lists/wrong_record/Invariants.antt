@@ -1,5 +1,5 @@
 use Rattle.std.proofs.Common.{◌≡◌, ◌<◌, ℕ, false}
-use Rattle.art_rules.specs.Textures.{is_wrong, texture_place}
+use Rattle.art_rules.specs.Words.{is_wrong, texture_place}
 use Rattle.texture_lists.proofs.lists.wrong_record.Given as goal
 
 abbrev pub invariant-loop-i : goal.invariant-loop-i

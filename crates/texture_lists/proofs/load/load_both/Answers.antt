@@ -1,8 +1,6 @@
 use Rattle.std.proofs.Common.{ap, inl, inr}
-use Rattle.outside.specs.Faults.{and_then}
+use Rattle.art_rules.specs.Words.{and_then, both_lists, named_bytes}
 use Rattle.art_rules.specs.declared.TheConstants.{TEXTURE1, TEXTURE2}
-use Rattle.art_rules.specs.Textures.{both_lists}
-use Rattle.lump_rules.specs.Contents.{named_bytes}
 use Rattle.lump_cache.proofs.CallLemmas.{reads_stop_first, reads_then}
 use Rattle.lump_cache.proofs.SizeLemmas.{either_beside}
 use Rattle.texture_lists.specs.Parts.{joined_parts}

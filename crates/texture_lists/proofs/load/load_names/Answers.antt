@@ -1,5 +1,5 @@
 use Rattle.std.proofs.Common.{◌∙◌}
-use Rattle.art_rules.specs.Textures.{patch_names}
+use Rattle.art_rules.specs.Words.{patch_names}
 use Rattle.texture_lists.proofs.JudgeLemmas.{pnames_name, fetch_stopped, fetch_judged}
 use Rattle.texture_lists.proofs.BesideLemmas.{list_beside}
 use Rattle.texture_lists.proofs.load.load_names.Goals as goal

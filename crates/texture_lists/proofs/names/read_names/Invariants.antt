@@ -1,7 +1,6 @@
 use Rattle.std.proofs.Common.{◌≡◌, ◌+◌, ◌*◌}
-use Rattle.word_rules.specs.Listed.{listed}
+use Rattle.art_rules.specs.Words.{listed, name_at}
 use Rattle.art_rules.specs.declared.layout.TheConstants.{COUNT_SIZE, NAME_SIZE}
-use Rattle.art_rules.specs.Textures.{name_at}
 use Rattle.texture_lists.proofs.names.read_names.Given as goal
 
 abbrev pub invariant-loop-i : goal.invariant-loop-i

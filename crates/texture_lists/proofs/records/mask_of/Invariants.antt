@@ -1,5 +1,5 @@
 use Rattle.std.proofs.Common.{◌≡◌, ◌≤◌}
-use Rattle.art_rules.specs.Textures.{mask_of, mask_from}
+use Rattle.art_rules.specs.Words.{mask_from, mask_of}
 use Rattle.texture_lists.proofs.records.mask_of.Given as goal
 
 -- the mask is that of the bits that are left

@@ -1,5 +1,5 @@
 use Rattle.std.proofs.Common.{◌≡◌, ◌+◌, ◌*◌}
-use Rattle.word_rules.specs.Listed.{listed}
+use Rattle.art_rules.specs.Words.{listed}
 use Rattle.art_rules.specs.declared.layout.TheConstants.{ENTRY_SIZE}
 use Rattle.art_rules.specs.Textures.{entry_at}
 use Rattle.texture_lists.proofs.records.read_entries.Given as goal

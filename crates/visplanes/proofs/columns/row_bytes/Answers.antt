@@ -1,5 +1,5 @@
 use Rattle.std.proofs.lemmas.List.{get_or-replicate}
-use Rattle.view_rules.specs.declared.TheConstants.{FRAME_WIDTH}
+use Rattle.picture_rules.specs.Words.{FRAME_WIDTH}
 use Rattle.visplanes.proofs.columns.row_bytes.Goals as goal
 
 pub returns-clause-each : goal.returns-clause-each

@@ -1,4 +1,4 @@
-use Rattle.word_rules.proofs.Common.{ap, min, slice_index, ℕ, ◌++◌, ◌-◌, ◌∙◌}
+use Rattle.picture_rules.proofs.Common.{ap, min, slice_index, ℕ, ◌++◌, ◌-◌, ◌∙◌}
 use Rattle.pixel_strips.specs.Canvases.{CanvasView, with_dots}
 use Rattle.visplanes.specs.Spans.{closed_rows, closed_dots}
 use Rattle.visplanes.proofs.DrawLemmas.{dots_append}

@@ -1,7 +1,5 @@
-use Rattle.word_rules.proofs.Common.{ap, arith, both_ways, cases_Bool, false, false_from_ne_true, inl, inr, length, refl, rules, slice_index, subst, sym, true, ℕ, ◌+◌, ◌<◌, ◌∙◌, ◌≡◌, ◌≤◌}
-use Rattle.view_rules.specs.declared.TheConstants.{FRAME_WIDTH}
-use Rattle.picture_rules.specs.plane.Planes.{Plane, column}
-use Rattle.picture_rules.specs.plane.Spans.{holds, span_start}
+use Rattle.picture_rules.proofs.Common.{ap, arith, both_ways, cases_Bool, false, false_from_ne_true, inl, inr, length, refl, rules, slice_index, subst, sym, true, ℕ, ◌+◌, ◌<◌, ◌∙◌, ◌≡◌, ◌≤◌}
+use Rattle.picture_rules.specs.Words.{column, FRAME_WIDTH, holds, Plane, span_start}
 use Rattle.pixel_strips.specs.Canvases.{CanvasView}
 use Rattle.visplanes.specs.declared.rows.Rows.{Rows}
 use Rattle.visplanes.specs.Spans.{rows_of, is_in, CanPaint}

@@ -1,6 +1,5 @@
-use Rattle.word_rules.proofs.Common.{slice_index, true, ℕ, ◌≡◌, ◌≤◌}
-use Rattle.view_rules.specs.declared.TheConstants.{FRAME_HEIGHT}
-use Rattle.picture_rules.specs.plane.Spans.{holds, span_start}
+use Rattle.picture_rules.proofs.Common.{slice_index, true, ℕ, ◌≡◌, ◌≤◌}
+use Rattle.picture_rules.specs.Words.{FRAME_HEIGHT, holds, span_start}
 use Rattle.visplanes.specs.Spans.{is_in, HasSpans}
 use Rattle.visplanes.proofs.DrawLemmas.{held_before}
 use Rattle.visplanes.proofs.draw.draw_columns.Given as goal

@@ -1,10 +1,6 @@
 use Rattle.std.proofs.Common.{◌≡◌, ap, ◌∙◌, refl, subst}
-use Rattle.view_rules.specs.declared.TheConstants.{FRAME_WIDTH}
-use Rattle.pixel_rules.specs.declared.Painter.{Painter}
-use Rattle.pixel_rules.specs.declared.TheConstants.{PLANE}
-use Rattle.pixel_rules.specs.Art.{lump_source, painter_of}
+use Rattle.picture_rules.specs.Words.{FRAME_WIDTH, lump_source, Painter, painter_of, PLANE, Plane}
 use Rattle.picture_rules.specs.declared.plane.PlaneKey.{PlaneKey}
-use Rattle.picture_rules.specs.plane.Planes.{Plane}
 use Rattle.pixel_strips.specs.Canvases.{CanvasView, with_painter}
 use Rattle.visplanes.specs.Planes.{plane_at, flat_lump}
 use Rattle.visplanes.specs.Spans.{FloorView, HasSpans}

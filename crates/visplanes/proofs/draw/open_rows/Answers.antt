@@ -1,4 +1,4 @@
-use Rattle.word_rules.proofs.Common.{arith, cases_lt, inl, inr, ◌∙◌}
+use Rattle.picture_rules.proofs.Common.{arith, cases_lt, inl, inr, ◌∙◌}
 use Rattle.visplanes.proofs.RowLemmas.{is_in-parts, is_in-not}
 use Rattle.visplanes.proofs.draw.open_rows.Goals as goal
 

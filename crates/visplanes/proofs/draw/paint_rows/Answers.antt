@@ -1,5 +1,5 @@
-use Rattle.word_rules.proofs.Common.{ap, arith, List, slice_index, sym, ◌-◌, ◌∙◌}
-use Rattle.pixel_rules.specs.Dots.{Dot}
+use Rattle.picture_rules.proofs.Common.{ap, arith, List, slice_index, sym, ◌-◌, ◌∙◌}
+use Rattle.picture_rules.specs.Words.{Dot}
 use Rattle.pixel_strips.specs.Canvases.{with_dots}
 use Rattle.pixel_strips.proofs.CanvasLemmas.{dots_none}
 use Rattle.visplanes.proofs.DotLemmas.{closed_rows-none}

@@ -1,4 +1,4 @@
-use Rattle.word_rules.proofs.Common.{max, slice_index, ◌-◌, ◌≡◌, ◌≤◌}
+use Rattle.picture_rules.proofs.Common.{max, slice_index, ◌-◌, ◌≡◌, ◌≤◌}
 use Rattle.pixel_strips.specs.Canvases.{with_dots}
 use Rattle.visplanes.specs.Spans.{closed_rows}
 use Rattle.visplanes.proofs.draw.paint_spans.Given as goal

@@ -1,5 +1,5 @@
-use Rattle.word_rules.proofs.Common.{ap, length, length_push, List, subst, sym, ℕ, ◌+◌, ◌∙◌}
-use Rattle.picture_rules.specs.plane.Planes.{Plane, AreWide}
+use Rattle.picture_rules.proofs.Common.{ap, length, length_push, List, subst, sym, ℕ, ◌+◌, ◌∙◌}
+use Rattle.picture_rules.specs.Words.{AreWide, Plane}
 use Rattle.visplanes.proofs.ListLemmas.{wide-push, length-empty_plane}
 use Rattle.visplanes.proofs.planes.blank_planes.Goals as goal
 

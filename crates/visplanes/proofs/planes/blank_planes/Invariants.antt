@@ -1,5 +1,5 @@
 use Rattle.std.proofs.Common.{◌≡◌, length}
-use Rattle.picture_rules.specs.plane.Planes.{AreWide}
+use Rattle.picture_rules.specs.Words.{AreWide}
 use Rattle.visplanes.proofs.planes.blank_planes.Given as goal
 
 abbrev pub invariant-loop : goal.invariant-loop

@@ -1,5 +1,5 @@
 use Rattle.std.proofs.Common.{◌≡◌, ℕ, ◌+◌, false, Option, ap, sym, ◌∙◌, refl, arith}
-use Rattle.picture_rules.specs.plane.Spans.{holds_row, holds}
+use Rattle.picture_rules.specs.Words.{holds, holds_row}
 use Rattle.visplanes.proofs.RunLemmas.{runs_from-off}
 use Rattle.visplanes.proofs.row_runs.first_holding.Goals as goal
 

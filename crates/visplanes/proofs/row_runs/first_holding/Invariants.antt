@@ -1,5 +1,5 @@
 use Rattle.std.proofs.Common.{◌≡◌, ◌-◌, ◌≤◌}
-use Rattle.view_rules.specs.declared.TheConstants.{FRAME_WIDTH}
+use Rattle.picture_rules.specs.Words.{FRAME_WIDTH}
 use Rattle.visplanes.specs.Spans.{runs_from}
 use Rattle.visplanes.proofs.row_runs.first_holding.Given as goal
 

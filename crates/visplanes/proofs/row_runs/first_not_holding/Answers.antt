@@ -1,5 +1,5 @@
-use Rattle.word_rules.proofs.Common.{ap, arith, cases_lt, false, inl, inr, Option, sym, true, ℕ, ◌∙◌, ◌≡◌}
-use Rattle.picture_rules.specs.plane.Spans.{holds_row, holds}
+use Rattle.picture_rules.proofs.Common.{ap, arith, cases_lt, false, inl, inr, Option, sym, true, ℕ, ◌∙◌, ◌≡◌}
+use Rattle.picture_rules.specs.Words.{holds, holds_row}
 use Rattle.visplanes.proofs.RunLemmas.{runs_from-run}
 use Rattle.visplanes.proofs.row_runs.first_not_holding.Goals as goal
 

@@ -1,6 +1,5 @@
 use Rattle.std.proofs.Common.{◌≡◌, ℕ, ◌-◌, ◌<◌, ◌≤◌, true}
-use Rattle.view_rules.specs.declared.TheConstants.{FRAME_WIDTH}
-use Rattle.picture_rules.specs.plane.Spans.{holds}
+use Rattle.picture_rules.specs.Words.{FRAME_WIDTH, holds}
 use Rattle.visplanes.proofs.row_runs.first_not_holding.Given as goal
 
 abbrev pub invariant-loop-x : goal.invariant-loop-x

@@ -1,7 +1,6 @@
 use Rattle.std.proofs.Common.{rules, pos, ◌≤ℤ◌, subst}
 use Rattle.std.proofs.lemmas.Int.{to_z-of_z}
-use Rattle.view_rules.specs.declared.ViewShape.{ViewShape}
-use Rattle.view_rules.specs.Sound.{IsWithinFrame}
+use Rattle.picture_rules.specs.Words.{IsWithinFrame, ViewShape}
 use Rattle.vissprites.proofs.EntryLemmas.{entry_of-parts, project-scale}
 use Rattle.vissprites.proofs.entries.entry_of.Goals as goal
 

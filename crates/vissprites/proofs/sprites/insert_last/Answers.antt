@@ -1,4 +1,4 @@
-use Rattle.word_rules.proofs.Common.{ap, insert, ℕ, ◌∙◌, ◌≡◌}
+use Rattle.picture_rules.proofs.Common.{ap, insert, ℕ, ◌∙◌, ◌≡◌}
 use Rattle.vissprites.specs.Kept.{count_before}
 use Rattle.vissprites.proofs.KeptLemmas.{insert_last-split}
 use Rattle.vissprites.proofs.sprites.insert_last.Goals as goal

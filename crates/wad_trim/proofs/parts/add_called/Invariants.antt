@@ -1,5 +1,5 @@
 use Rattle.std.proofs.Common.{◌≡◌, ◌++◌, filter, map, not, take}
-use Rattle.lump_rules.specs.Lookups.{has_name}
+use Rattle.art_rules.specs.Words.{has_name}
 use Rattle.sound_scene.specs.Views.{lump_numbers}
 use Rattle.trim_rules.specs.Parts.{copy_part}
 use Rattle.wad_trim.proofs.parts.add_called.Given as goal

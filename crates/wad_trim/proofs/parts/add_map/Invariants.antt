@@ -1,4 +1,4 @@
-use Rattle.word_rules.proofs.Common.{map, range_with_len, suc, ◌++◌, ◌≡◌}
+use Rattle.art_rules.proofs.Common.{map, range_with_len, suc, ◌++◌, ◌≡◌}
 use Rattle.trim_rules.specs.Parts.{copy_part}
 use Rattle.wad_trim.proofs.parts.add_map.Given as goal
 

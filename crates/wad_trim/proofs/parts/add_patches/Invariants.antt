@@ -1,4 +1,4 @@
-use Rattle.word_rules.proofs.Common.{filter, list_any, nat_lt, not, take, ◌&&◌, ◌++◌, ◌==◌, ◌≡◌}
+use Rattle.art_rules.proofs.Common.{filter, list_any, nat_lt, not, take, ◌&&◌, ◌++◌, ◌==◌, ◌≡◌}
 use Rattle.sound_scene.specs.Views.{lump_numbers}
 use Rattle.wad_trim.proofs.parts.add_patches.Given as goal
 

@@ -1,5 +1,5 @@
-use Rattle.word_rules.proofs.Common.{ap, arith, IfOk-weaker, list_any, ◌||◌, ◌∙◌}
-use Rattle.scene_rules.specs.Sizes.{has_flat}
+use Rattle.art_rules.proofs.Common.{ap, arith, IfOk-weaker, list_any, ◌||◌, ◌∙◌}
+use Rattle.scene_rules.specs.Words.{has_flat}
 use Rattle.wad_trim.proofs.ListLemmas.{flats-marked}
 use Rattle.wad_trim.proofs.parts.flat_lumps.Goals as goal
 

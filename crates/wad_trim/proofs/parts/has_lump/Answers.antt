@@ -1,5 +1,5 @@
-use Rattle.word_rules.proofs.Common.{ap, arith, eq-true, list_any, list_any_at, sym, take_all, ◌==◌, ◌∙◌}
-use Rattle.lump_rules.specs.declared.wad.LumpNo.{LumpNo}
+use Rattle.art_rules.proofs.Common.{ap, arith, eq-true, list_any, list_any_at, sym, take_all, ◌==◌, ◌∙◌}
+use Rattle.art_rules.specs.Words.{LumpNo}
 use Rattle.wad_trim.proofs.ListLemmas.{any-number}
 use Rattle.wad_trim.proofs.parts.has_lump.Goals as goal
 

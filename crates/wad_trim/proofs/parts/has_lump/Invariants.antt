@@ -1,5 +1,5 @@
-use Rattle.word_rules.proofs.Common.{false, list_any, take, ◌==◌, ◌≡◌}
-use Rattle.lump_rules.specs.declared.wad.LumpNo.{LumpNo}
+use Rattle.art_rules.proofs.Common.{false, list_any, take, ◌==◌, ◌≡◌}
+use Rattle.art_rules.specs.Words.{LumpNo}
 use Rattle.wad_trim.proofs.parts.has_lump.Given as goal
 
 -- none so far is the lump

@@ -1,6 +1,5 @@
-use Rattle.word_rules.proofs.Common.{ap, arith, list_any, list_any_at, sym, take_all, ◌∙◌}
-use Rattle.lump_rules.specs.declared.wad.LumpNo.{LumpNo}
-use Rattle.lump_rules.specs.Lookups.{has_name}
+use Rattle.art_rules.proofs.Common.{ap, arith, list_any, list_any_at, sym, take_all, ◌∙◌}
+use Rattle.art_rules.specs.Words.{has_name, LumpNo}
 use Rattle.wad_trim.proofs.ListLemmas.{any-number}
 use Rattle.wad_trim.proofs.parts.has_named.Goals as goal
 

@@ -1,6 +1,5 @@
-use Rattle.word_rules.proofs.Common.{false, list_any, take, ◌≡◌}
-use Rattle.lump_rules.specs.declared.wad.LumpNo.{LumpNo}
-use Rattle.lump_rules.specs.Lookups.{has_name}
+use Rattle.art_rules.proofs.Common.{false, list_any, take, ◌≡◌}
+use Rattle.art_rules.specs.Words.{has_name, LumpNo}
 use Rattle.wad_trim.proofs.parts.has_named.Given as goal
 
 -- none so far has the name

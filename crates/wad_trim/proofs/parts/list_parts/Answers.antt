@@ -1,5 +1,5 @@
-use Rattle.word_rules.proofs.Common.{ap, option_copied, ◌++◌, ◌∙◌}
-use Rattle.art_rules.specs.Books.{book_lumps}
+use Rattle.art_rules.proofs.Common.{ap, option_copied, ◌++◌, ◌∙◌}
+use Rattle.art_rules.specs.Words.{book_lumps}
 use Rattle.sound_scene.specs.Views.{lump_numbers}
 use Rattle.trim_rules.specs.Parts.{called_lumps, flat_lumps, picture_lumps}
 use Rattle.wad_trim.specs.Plans.{trim_art, layer_lumps}

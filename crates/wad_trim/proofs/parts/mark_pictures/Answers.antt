@@ -1,5 +1,5 @@
-use Rattle.word_rules.proofs.Common.{list_any, ◌==◌}
-use Rattle.art_rules.specs.Books.{book_lumps}
+use Rattle.art_rules.proofs.Common.{list_any, ◌==◌}
+use Rattle.art_rules.specs.Words.{book_lumps}
 use Rattle.sound_scene.specs.Views.{lump_numbers}
 use Rattle.sound_scene.proofs.MarkLemmas.{adds_same}
 use Rattle.wad_trim.proofs.ListLemmas.{members-same}

@@ -1,5 +1,5 @@
-use Rattle.word_rules.proofs.Common.{ap, arith, IfOk-weaker, list_any, option_copied, ◌++◌, ◌==◌, ◌||◌, ◌∙◌}
-use Rattle.art_rules.specs.Books.{book_lumps}
+use Rattle.art_rules.proofs.Common.{ap, arith, IfOk-weaker, list_any, option_copied, ◌++◌, ◌==◌, ◌||◌, ◌∙◌}
+use Rattle.art_rules.specs.Words.{book_lumps}
 use Rattle.wad_trim.specs.Plans.{layer_lumps}
 use Rattle.wad_trim.proofs.ListLemmas.{either-picture, pictures-marked}
 use Rattle.wad_trim.proofs.parts.picture_lumps.Goals as goal

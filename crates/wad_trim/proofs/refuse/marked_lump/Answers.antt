@@ -1,5 +1,5 @@
-use Rattle.word_rules.proofs.Common.{[], ap, arith, Option, option_map, sym, take, ℕ, ◌∙◌, ◌∷◌}
-use Rattle.lump_rules.specs.declared.wad.LumpNo.{LumpNo}
+use Rattle.art_rules.proofs.Common.{[], ap, arith, Option, option_map, sym, take, ℕ, ◌∙◌, ◌∷◌}
+use Rattle.art_rules.specs.Words.{LumpNo}
 use Rattle.trim_rules.specs.declared.part.TrimPart.{TrimPart}
 use Rattle.trim_rules.specs.Parts.{marked_lump}
 use Rattle.wad_trim.specs.Lessers.{lesser}

@@ -1,5 +1,5 @@
-use Rattle.word_rules.proofs.Common.{option_map, take, ◌≡◌}
-use Rattle.lump_rules.specs.declared.wad.LumpNo.{LumpNo}
+use Rattle.art_rules.proofs.Common.{option_map, take, ◌≡◌}
+use Rattle.art_rules.specs.Words.{LumpNo}
 use Rattle.trim_rules.specs.Parts.{marked_lump}
 use Rattle.wad_trim.proofs.refuse.marked_lump.Given as goal
 

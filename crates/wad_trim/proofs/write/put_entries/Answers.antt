@@ -1,8 +1,6 @@
 use Rattle.std.proofs.Common.{◌≡◌, ◌≤◌, ◌+◌, ℕ, List, ◌++◌, get_or, take, Ok, ap, sym, subst, ◌∙◌, refl, arith}
-use Rattle.outside.proofs.WriteLemmas.{writes_more, writes_none, writes_stopped}
-use Rattle.outside.specs.Sink.{Writes}
-use Rattle.outside.specs.declared.shelf.Failed.{Failed}
-use Rattle.lump_rules.specs.declared.wad.TheConstants.{HEADER_SIZE}
+use Rattle.art_rules.proofs.Laws.{writes_more, writes_none, writes_stopped}
+use Rattle.art_rules.specs.Words.{Failed, HEADER_SIZE, Writes}
 use Rattle.trim_rules.specs.Parts.{part_name, part_size, parts_size}
 use Rattle.job_rules.specs.declared.trim.TheConstants.{MAX_FILE_BYTES}
 use Rattle.wad_trim.specs.Plans.{entries_from}

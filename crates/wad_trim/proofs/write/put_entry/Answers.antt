@@ -1,5 +1,5 @@
 use Rattle.std.proofs.Common.{List, ℕ, ◌++◌, ap, refl}
-use Rattle.outside.proofs.WriteLemmas.{writes_stop, writes_stopped, writes_then}
+use Rattle.art_rules.proofs.Laws.{writes_stop, writes_stopped, writes_then}
 use Rattle.made_rules.specs.Bytes.{word_bytes}
 use Rattle.wad_trim.proofs.write.put_entry.Goals as goal
 

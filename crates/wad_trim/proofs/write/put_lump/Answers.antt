@@ -1,6 +1,6 @@
 use Rattle.std.proofs.Common.{[], append-nil, ◌∙◌}
-use Rattle.lump_cache.proofs.CallLemmas.{told_later}
-use Rattle.lump_cache.proofs.FetchLemmas.{fetch_reads}
+use Rattle.texture_build.proofs.CallLemmas.{told_later}
+use Rattle.texture_build.proofs.FetchLemmas.{fetch_reads}
 use Rattle.wad_trim.proofs.WriteLemmas.{fetch-done, fetch-stopped, lent-bytes, put-done, put-stopped}
 use Rattle.wad_trim.proofs.write.put_lump.Goals as goal
 

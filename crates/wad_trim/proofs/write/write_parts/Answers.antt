@@ -1,6 +1,5 @@
 use Rattle.std.proofs.Common.{ℕ, ◌+◌, List, suc, [], ◌++◌, drop, ap, sym, ◌∙◌, append-nil, arith}
-use Rattle.lump_rules.specs.Contents.{lump_bytes}
-use Rattle.lump_rules.specs.declared.wad.TheConstants.{HEADER_SIZE}
+use Rattle.art_rules.specs.Words.{HEADER_SIZE, lump_bytes}
 use Rattle.trim_rules.specs.Files.{trimmed_file}
 use Rattle.wad_trim.specs.Plans.{entries_from}
 use Rattle.wad_trim.specs.Writes.{IsCopied}

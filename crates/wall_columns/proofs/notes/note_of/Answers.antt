@@ -1,10 +1,8 @@
 -- A note is made of its parts.
-use Rattle.word_rules.proofs.Common.{ap, arith, ints, refl, rules, sym, to_z, w32, ◌+◌, ◌-◌, ◌∙◌, ◌≡◌}
+use Rattle.picture_rules.proofs.Common.{ap, arith, ints, refl, rules, sym, to_z, w32, ◌+◌, ◌-◌, ◌∙◌, ◌≡◌}
 use Rattle.std.proofs.lemmas.Int.{to_z-of_z}
-use Rattle.word_rules.specs.Words.{minus_one}
+use Rattle.picture_rules.specs.Words.{fragment_numbers, minus_one, silhouette_of}
 use Rattle.picture_rules.specs.declared.wall.FragmentNumbers.{FragmentNumbers}
-use Rattle.picture_rules.specs.wall.Notes.{silhouette_of}
-use Rattle.picture_rules.specs.wall.Numbers.{fragment_numbers}
 use Rattle.wall_edges.specs.Fragments.{FragmentValue}
 use Rattle.wall_columns.specs.Places.{places_of}
 use Rattle.wall_columns.proofs.NoteLemmas.{note_of-parts}

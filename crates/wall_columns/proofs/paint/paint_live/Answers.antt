@@ -1,11 +1,8 @@
-use Rattle.word_rules.proofs.Common.{ap, arith, false, int_lt, ints, List, Option, Some, sym, ℕ, ℤ, ◌+◌, ◌∙◌, ◌≡◌, ◌≤ℤ◌}
-use Rattle.lump_rules.specs.Contents.{lump_bytes}
+use Rattle.picture_rules.proofs.Common.{ap, arith, false, int_lt, ints, List, Option, Some, sym, ℕ, ℤ, ◌+◌, ◌∙◌, ◌≡◌, ◌≤ℤ◌}
+use Rattle.art_rules.specs.Words.{byte_at, lump_bytes}
 use Rattle.texture_build.proofs.ColumnLemmas.{single_slot}
 use Rattle.texture_build.proofs.LentLemmas.{colormap_lent, fits-column}
-use Rattle.art_rules.specs.Bytes.{byte_at}
-use Rattle.view_rules.specs.declared.ViewShape.{ViewShape}
-use Rattle.pixel_rules.specs.Strips.{row_fraction}
-use Rattle.pixel_rules.specs.declared.TheConstants.{WALL}
+use Rattle.picture_rules.specs.Words.{row_fraction, ViewShape, WALL}
 use Rattle.wall_columns.proofs.PaintedLemmas.{live-painted}
 use Rattle.wall_columns.proofs.paint.paint_live.Goals as goal
 

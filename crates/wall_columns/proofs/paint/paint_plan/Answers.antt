@@ -1,5 +1,5 @@
 use Rattle.std.proofs.Common.{rules, ◌≡◌}
-use Rattle.picture_rules.specs.wall.Columns.{texture_column}
+use Rattle.picture_rules.specs.Words.{texture_column}
 use Rattle.texture_build.specs.Paints.{painted_art}
 use Rattle.texture_build.proofs.PaintLemmas.{paints-asked, paints-none, paints-same}
 use Rattle.wall_edges.specs.Fragments.{fragment_of}

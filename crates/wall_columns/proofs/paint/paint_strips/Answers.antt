@@ -1,7 +1,7 @@
 -- The first strip, and the lower wall below an upper one.
 use Rattle.std.proofs.Common.{ℕ, ◌∷◌, [], refl, sym, subst, ◌∙◌, inr}
 use Rattle.picture_rules.specs.declared.wall.FragmentNumbers.{FragmentNumbers}
-use Rattle.picture_rules.specs.wall.Strips.{WallStrip}
+use Rattle.picture_rules.specs.Words.{WallStrip}
 use Rattle.texture_build.specs.Draws.{CanDraw}
 use Rattle.texture_build.specs.Paints.{painted_art}
 use Rattle.texture_build.proofs.PaintLemmas.{can_draw-later, paints-same, paints-stop, paints-then, paints-wider}

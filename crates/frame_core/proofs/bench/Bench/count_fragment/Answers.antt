@@ -1,6 +1,5 @@
 use Rattle.std.proofs.Common.{◌≤◌, subst, ap, arith}
-use Rattle.view_rules.specs.declared.TheConstants.{FRAME_HEIGHT}
-use Rattle.view_rules.specs.declared.ViewShape.{ViewShape}
+use Rattle.picture_rules.specs.Words.{FRAME_HEIGHT, ViewShape}
 use Rattle.wall_columns.specs.Faults.{limit_of_result}
 use Rattle.frame_core.proofs.WalkedLemmas.{same_limits}
 use Rattle.frame_core.proofs.WalkedFragmentLemmas.{TakesFragment, over-fragment, walked-range}

@@ -1,9 +1,5 @@
 use Rattle.std.proofs.Common.{◌≡◌, ◌≤◌, ◌<◌, List, length, subst, ap, sym, ◌∙◌, arith, rules}
-use Rattle.view_rules.specs.declared.ViewShape.{ViewShape}
-use Rattle.view_rules.specs.declared.TheConstants.{FRAME_WIDTH}
-use Rattle.level_rules.specs.maps.Levels.{LevelValue}
-use Rattle.level_rules.specs.maps.Sound.{IsSound}
-use Rattle.level_rules.specs.declared.Sector.{Sector}
+use Rattle.picture_rules.specs.Words.{FRAME_WIDTH, IsSound, LevelValue, Sector, ViewShape}
 use Rattle.frame_core.proofs.WalkedLemmas.{walked-none}
 use Rattle.frame_core.proofs.bench.Bench.start.Goals as goal
 

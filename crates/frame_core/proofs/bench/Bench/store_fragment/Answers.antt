@@ -1,10 +1,8 @@
 use Rattle.std.proofs.Common.{◌≤◌, ℕ, List, Result, ap, sym, ◌∙◌, arith}
-use Rattle.level_rules.specs.walk.Events.{Event}
+use Rattle.picture_rules.specs.Words.{Event, FRAME_HEIGHT, surface_at}
 use Rattle.picture_rules.specs.declared.Limits.{Limits}
 use Rattle.texture_build.specs.Paints.{paint_state}
 use Rattle.texture_build.proofs.DrawLemmas.{IsMapped}
-use Rattle.view_rules.specs.declared.TheConstants.{FRAME_HEIGHT}
-use Rattle.level_rules.specs.Levels.{surface_at}
 use Rattle.wall_columns.specs.Faults.{limit_of_result}
 use Rattle.frame_core.specs.Scenes.{lists_of}
 use Rattle.frame_core.specs.declared.fault.ViewFault.{ViewFault}

@@ -1,5 +1,5 @@
 -- A leaf that was counted, and one at which a limit was passed.
-use Rattle.level_rules.specs.walk.Events.Event.{LeafEvent}
+use Rattle.picture_rules.specs.Words.{LeafEvent}
 use Rattle.frame_core.proofs.CounterLemmas.{counts-passed, counts-stopped}
 use Rattle.frame_core.proofs.counter.ViewCounterVisitor.leaf.Goals as goal
 

@@ -1,5 +1,5 @@
 -- A fragment that was listed, and one at which a limit was passed.
-use Rattle.level_rules.specs.walk.Events.Event.{FragmentEvent}
+use Rattle.picture_rules.specs.Words.{FragmentEvent}
 use Rattle.frame_core.proofs.CounterLemmas.{counts-passed, counts-stopped}
 use Rattle.frame_core.proofs.ListerLemmas.{lists-passed, lists-stopped}
 use Rattle.frame_core.proofs.ViewListLemmas.{fragment-listed}

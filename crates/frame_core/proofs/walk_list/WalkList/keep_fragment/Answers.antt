@@ -1,5 +1,5 @@
 use Rattle.std.proofs.Common.{◌≡◌, ◌<◌, ◌≤◌, length, vec_len, rules, ap, ◌∙◌, arith}
-use Rattle.level_rules.specs.declared.walk.TheConstants.{MAX_DRAWSEGS}
+use Rattle.picture_rules.specs.Words.{MAX_DRAWSEGS}
 use Rattle.frame_core.specs.ViewLists.{WalkListValue, with_fragment}
 use Rattle.frame_core.proofs.WalkListLemmas.{fragment-full, fragment-room, made_walk}
 use Rattle.frame_core.proofs.walk_list.WalkList.keep_fragment.Goals as goal

@@ -1,15 +1,12 @@
 use Rattle.std.proofs.Common.{◌≡◌, ◌<◌, ap, sym, subst, ◌∙◌, length, Ok, inl, inr, arith}
-use Rattle.outside.specs.Faults.{itself}
-use Rattle.outside.proofs.ShelfLemmas.{all_stand_later, follows_then}
-use Rattle.lump_rules.specs.Contents.{lump_bytes}
-use Rattle.lump_rules.specs.Lookups.{lump_at}
-use Rattle.zone_rules.specs.Orders.{KeepsOrder}
-use Rattle.zone_rules.proofs.OrderLemmas.{order_then}
-use Rattle.lump_cache.specs.Caches.{IsAtRest}
-use Rattle.lump_cache.proofs.SizeLemmas.{sizes_empty}
+use Rattle.art_rules.specs.Words.{itself, lump_at, lump_bytes}
+use Rattle.art_rules.proofs.Laws.{all_stand_later, follows_then}
+use Rattle.scene_rules.specs.Words.{KeepsOrder, SceneValue}
+use Rattle.scene_rules.proofs.Laws.{order_then}
+use Rattle.texture_build.specs.Caches.{IsAtRest}
+use Rattle.texture_build.proofs.SizeLemmas.{sizes_empty}
 use Rattle.job_rules.specs.LevelJobs.{level_job_value}
 use Rattle.job_files.specs.Files.{value_of}
-use Rattle.scene_rules.specs.Scenes.{SceneValue}
 use Rattle.sound_scene.specs.Sound.{SoundValue}
 use Rattle.sound_scene.specs.Whole.{IsWholeScene}
 use Rattle.level_audit.proofs.FetchLemmas.{order_after, told_after}

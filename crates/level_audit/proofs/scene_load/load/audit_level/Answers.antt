@@ -1,7 +1,6 @@
-use Rattle.outside.specs.Faults.{itself}
-use Rattle.outside.proofs.ThroughLemmas.{ok_through}
-use Rattle.lump_rules.specs.Contents.{lump_bytes}
-use Rattle.zone_rules.specs.Orders.{KeepsOrder}
+use Rattle.art_rules.specs.Words.{itself, lump_bytes}
+use Rattle.art_rules.proofs.Laws.{ok_through}
+use Rattle.scene_rules.specs.Words.{KeepsOrder}
 use Rattle.job_rules.specs.LevelJobs.{level_job_value}
 use Rattle.refusals.specs.Groups.{of_audit}
 use Rattle.job_files.specs.Files.{value_of}

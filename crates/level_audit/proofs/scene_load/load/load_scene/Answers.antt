@@ -1,7 +1,7 @@
 use Rattle.std.proofs.Common.{Bor, ℕ, List, map, refl, ◌∙◌, arith}
-use Rattle.outside.proofs.ShelfLemmas.{all_stand_later, follows_then}
-use Rattle.zone_rules.specs.Orders.{IsInOrder, KeepsOrder}
-use Rattle.lump_cache.specs.Calls.{HoldContents}
+use Rattle.art_rules.proofs.Laws.{all_stand_later, follows_then}
+use Rattle.scene_rules.specs.Words.{IsInOrder, KeepsOrder}
+use Rattle.texture_build.specs.Calls.{HoldContents}
 use Rattle.job_rules.specs.LevelJobs.{level_job_value}
 use Rattle.job_files.specs.Files.{value_of}
 use Rattle.level_audit.specs.scene_load.Fulls.{IsFullLoad}

@@ -1,6 +1,6 @@
-use Rattle.word_rules.proofs.Common.{[], ap, Bool, Global, List, map-append, sym, ◌++◌, ◌∙◌, ◌∷◌}
+use Rattle.art_rules.proofs.Common.{[], ap, Bool, Global, List, map-append, sym, ◌++◌, ◌∙◌, ◌∷◌}
 use Rattle.std.proofs.Common.{Vec}
-use Rattle.lump_rules.specs.declared.wad.LumpNo.{LumpNo}
+use Rattle.art_rules.specs.Words.{LumpNo}
 use Rattle.texture_build.specs.Views.{is_marked}
 use Rattle.texture_build.proofs.MarkLemmas.{passed_on, passed_off}
 use Rattle.sound_scene.specs.Views.{lump_numbers}

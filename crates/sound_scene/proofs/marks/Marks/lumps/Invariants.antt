@@ -1,4 +1,4 @@
-use Rattle.word_rules.proofs.Common.{filter, range_with_len, ◌≡◌}
+use Rattle.art_rules.proofs.Common.{filter, range_with_len, ◌≡◌}
 use Rattle.texture_build.specs.Views.{is_marked}
 use Rattle.sound_scene.specs.Views.{lump_numbers}
 use Rattle.sound_scene.proofs.marks.Marks.lumps.Given as goal

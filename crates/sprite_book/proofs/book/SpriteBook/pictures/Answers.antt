@@ -1,7 +1,6 @@
-use Rattle.word_rules.proofs.Common.{Contains, List, map, subst, sym, ℕ, ◌↔◌}
-use Rattle.lump_rules.specs.declared.wad.LumpNo.{LumpNo}
+use Rattle.art_rules.proofs.Common.{Contains, List, map, subst, sym, ℕ, ◌↔◌}
+use Rattle.art_rules.specs.Words.{book_lumps, LumpNo}
 use Rattle.art_rules.specs.declared.shapes.Frame.{Frame}
-use Rattle.art_rules.specs.Books.{book_lumps}
 use Rattle.sprite_book.proofs.book.SpriteBook.pictures.Goals as goal
 
 pub returns-clause-lumps : goal.returns-clause-lumps

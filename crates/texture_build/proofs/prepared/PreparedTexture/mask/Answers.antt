@@ -1,5 +1,5 @@
 use Rattle.std.proofs.Common.{ℕ, ◌<◌, length, sym, subst}
-use Rattle.art_rules.specs.Wanted.{PreparedTexture}
+use Rattle.art_rules.specs.Words.{PreparedTexture}
 use Rattle.texture_build.proofs.ColumnLemmas.{mask_within}
 use Rattle.texture_build.proofs.prepared.PreparedTexture.mask.Goals as goal
 

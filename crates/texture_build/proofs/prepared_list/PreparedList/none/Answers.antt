@@ -1,7 +1,5 @@
 use Rattle.std.proofs.Common.{ap, map, sym, ◌∙◌}
-use Rattle.lump_rules.specs.declared.wad.TheConstants.{MAX_LUMPS}
-use Rattle.lump_rules.specs.declared.wad.LumpNo.{LumpNo}
-use Rattle.art_rules.specs.Wanted.{patch_lumps}
+use Rattle.art_rules.specs.Words.{LumpNo, MAX_LUMPS, patch_lumps}
 use Rattle.texture_build.proofs.MarkLemmas.{lumps_none}
 use Rattle.texture_build.proofs.prepared_list.PreparedList.none.Goals as goal
 

@@ -1,7 +1,6 @@
 use Rattle.std.proofs.Common.{ap}
-use Rattle.lump_rules.specs.Lookups.{last_of}
+use Rattle.art_rules.specs.Words.{last_of, prepared_textures}
 use Rattle.lump_cache.proofs.CallLemmas.{reads_more, reads_nothing, reads_stop_first}
-use Rattle.art_rules.specs.Wanted.{prepared_textures}
 use Rattle.texture_build.specs.Views.{TexturesView, is_wanted}
 use Rattle.texture_build.proofs.PrepareLemmas.{tells_lists}
 use Rattle.texture_build.proofs.textures.Textures.prepare.Goals as goal

@@ -1,11 +1,8 @@
 use Rattle.std.proofs.Common.{ap, ◌∙◌, refl, sym, inl, inr, Ok}
-use Rattle.outside.specs.Faults.{and_then}
+use Rattle.art_rules.specs.Words.{and_then, named_bytes, OutOfMemory, texture_lists}
 use Rattle.art_rules.specs.declared.TheConstants.{PNAMES, TEXTURE1, TEXTURE2}
-use Rattle.art_rules.specs.Textures.{texture_lists}
-use Rattle.lump_rules.specs.Contents.{named_bytes}
 use Rattle.lump_cache.proofs.CallLemmas.{reads_as, reads_same, reads_short, reads_stop_first, reads_then}
 use Rattle.lump_cache.proofs.SizeLemmas.{either_beside}
-use Rattle.outside.specs.declared.fault.Fault.TheVariants.{OutOfMemory}
 use Rattle.texture_lists.proofs.PartLemmas.{texture_lists-stop, texture_lists-more, then_lists, with_names}
 use Rattle.texture_lists.proofs.listed.ListedTextures.load.Goals as goal
 

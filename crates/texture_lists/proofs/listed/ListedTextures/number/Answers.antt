@@ -1,5 +1,5 @@
 use Rattle.std.proofs.Common.{◌∙◌, ap, arith, length}
-use Rattle.art_rules.specs.Textures.{TextureLists}
+use Rattle.art_rules.specs.Words.{TextureLists}
 use Rattle.texture_lists.proofs.IndexLemmas.{least_there}
 use Rattle.texture_lists.proofs.listed.ListedTextures.number.Goals as goal
 

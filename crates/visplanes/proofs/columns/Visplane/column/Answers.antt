@@ -1,5 +1,5 @@
 use Rattle.std.proofs.Common.{ap, sym, ◌∙◌, arith}
-use Rattle.picture_rules.specs.plane.Planes.{Plane, column}
+use Rattle.picture_rules.specs.Words.{column, Plane}
 use Rattle.visplanes.proofs.ColumnLemmas.{run_at-none, run_at-some, column-kept, column-past}
 use Rattle.visplanes.proofs.columns.Visplane.column.Goals as goal
 

@@ -1,6 +1,5 @@
-use Rattle.word_rules.proofs.Common.{ap, arith, cases_eq, eq-eqb, eqb-true, inl, inr, None, sym, ◌<◌, ◌∙◌, ◌≡◌}
-use Rattle.view_rules.specs.declared.TheConstants.{FRAME_WIDTH}
-use Rattle.picture_rules.specs.plane.Planes.{Plane, column}
+use Rattle.picture_rules.proofs.Common.{ap, arith, cases_eq, eq-eqb, eqb-true, inl, inr, None, sym, ◌<◌, ◌∙◌, ◌≡◌}
+use Rattle.picture_rules.specs.Words.{column, FRAME_WIDTH, Plane}
 use Rattle.visplanes.specs.Columns.{plane_of}
 use Rattle.visplanes.proofs.ColumnLemmas.{kept-blank, kept-run}
 use Rattle.visplanes.proofs.columns.Visplane.is_empty.Goals as goal

@@ -1,5 +1,5 @@
-use Rattle.word_rules.proofs.Common.{ap, arith, cases_Bool, inl, inr, sym, ◌∙◌}
-use Rattle.picture_rules.specs.plane.Planes.{Plane, is_free}
+use Rattle.picture_rules.proofs.Common.{ap, arith, cases_Bool, inl, inr, sym, ◌∙◌}
+use Rattle.picture_rules.specs.Words.{is_free, Plane}
 use Rattle.visplanes.proofs.ColumnLemmas.{kept-free, kept-taken}
 use Rattle.visplanes.proofs.columns.Visplane.is_free.Goals as goal
 

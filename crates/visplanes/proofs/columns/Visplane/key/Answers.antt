@@ -1,6 +1,5 @@
 use Rattle.std.proofs.Common.{ap, ◌∙◌}
-use Rattle.picture_rules.specs.plane.Planes.{Plane}
-use Rattle.picture_rules.specs.plane.Spans.{holds}
+use Rattle.picture_rules.specs.Words.{holds, Plane}
 use Rattle.visplanes.proofs.ColumnLemmas.{kept-frame}
 use Rattle.visplanes.proofs.columns.Visplane.key.Goals as goal
 

@@ -1,6 +1,6 @@
-use Rattle.word_rules.proofs.Common.{ap, arith, max, subst, sym, ℕ, ◌∙◌}
+use Rattle.picture_rules.proofs.Common.{ap, arith, max, subst, sym, ℕ, ◌∙◌}
 use Rattle.std.proofs.Common.{set}
-use Rattle.picture_rules.specs.plane.Planes.{Plane, with_run}
+use Rattle.picture_rules.specs.Words.{Plane, with_run}
 use Rattle.visplanes.specs.Columns.{IsKept}
 use Rattle.visplanes.proofs.ColumnLemmas.{plane_of-marked, kept-more}
 use Rattle.visplanes.proofs.columns.Visplane.mark.Goals as goal

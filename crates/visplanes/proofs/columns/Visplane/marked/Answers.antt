@@ -1,6 +1,5 @@
-use Rattle.word_rules.proofs.Common.{ap, IsSome, length, refl, subst, sym, ◌∙◌}
-use Rattle.picture_rules.specs.plane.Planes.{Plane, column}
-use Rattle.picture_rules.specs.plane.Spans.{holds}
+use Rattle.picture_rules.proofs.Common.{ap, IsSome, length, refl, subst, sym, ◌∙◌}
+use Rattle.picture_rules.specs.Words.{column, holds, Plane}
 use Rattle.visplanes.proofs.ColumnLemmas.{kept-before, kept-behind, kept-last, kept-marked, kept-run, length-runs_of}
 use Rattle.visplanes.proofs.columns.Visplane.marked.Goals as goal
 

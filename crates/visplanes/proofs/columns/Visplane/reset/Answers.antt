@@ -1,5 +1,5 @@
-use Rattle.word_rules.proofs.Common.{ap, arith, get_or-replicate, List, slice_index, ℕ, ◌<◌, ◌∙◌, ◌≡◌}
-use Rattle.view_rules.specs.declared.TheConstants.{FRAME_WIDTH}
+use Rattle.picture_rules.proofs.Common.{ap, arith, get_or-replicate, List, slice_index, ℕ, ◌<◌, ◌∙◌, ◌≡◌}
+use Rattle.picture_rules.specs.Words.{FRAME_WIDTH}
 use Rattle.visplanes.specs.declared.columns.TheConstants.{NO_RUN}
 use Rattle.visplanes.proofs.ColumnLemmas.{kept-empty, plane_of-empty}
 use Rattle.visplanes.proofs.columns.Visplane.reset.Goals as goal

@@ -1,9 +1,6 @@
-use Rattle.word_rules.proofs.Common.{ap, List, of_z, rules, to_z, w32, ℕ, ℤ, ◌∙◌, ◌≡◌}
+use Rattle.picture_rules.proofs.Common.{ap, List, of_z, rules, to_z, w32, ℕ, ℤ, ◌∙◌, ◌≡◌}
 use Rattle.std.proofs.lemmas.Int.{to_z-of_z}
-use Rattle.word_rules.specs.Words.{mul}
-use Rattle.view_rules.specs.Lights.{distance_map}
-use Rattle.pixel_rules.specs.Dots.{Dot}
-use Rattle.picture_rules.specs.plane.Floors.{row_distance, span_x, span_y}
+use Rattle.picture_rules.specs.Words.{distance_map, Dot, mul, row_distance, span_x, span_y}
 use Rattle.pixel_strips.specs.Canvases.{with_dots}
 use Rattle.visplanes.specs.Spans.{FloorView, distance_at, light_at, row_dots}
 use Rattle.visplanes.proofs.FloorLemmas.{span-row}

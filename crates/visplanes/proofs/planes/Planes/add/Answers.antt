@@ -1,5 +1,5 @@
-use Rattle.word_rules.proofs.Common.{ap, arith, length, length-set, ◌∙◌}
-use Rattle.picture_rules.specs.plane.Planes.{Plane}
+use Rattle.picture_rules.proofs.Common.{ap, arith, length, length-set, ◌∙◌}
+use Rattle.picture_rules.specs.Words.{Plane}
 use Rattle.visplanes.proofs.ListLemmas.{wide-put, length-empty_plane}
 use Rattle.visplanes.proofs.RecentLemmas.{first-put_next}
 use Rattle.visplanes.proofs.planes.Planes.add.Goals as goal

@@ -1,5 +1,5 @@
-use Rattle.word_rules.proofs.Common.{ap, arith, false≢true, IfOk, IsErr, length, OnOk, subst, sym, ◌<◌, ◌≡◌, ◌≤◌}
-use Rattle.picture_rules.specs.plane.Planes.{PlaneChoice}
+use Rattle.picture_rules.proofs.Common.{ap, arith, false≢true, IfOk, IsErr, length, OnOk, subst, sym, ◌<◌, ◌≡◌, ◌≤◌}
+use Rattle.picture_rules.specs.Words.{PlaneChoice}
 use Rattle.visplanes.specs.Planes.{with_planes}
 use Rattle.visplanes.proofs.ListLemmas.{within_room, check-read, check-added}
 use Rattle.visplanes.proofs.planes.Planes.check.Goals as goal

@@ -1,5 +1,5 @@
-use Rattle.word_rules.proofs.Common.{ap, arith, false≢true, length, subst, sym, ◌<◌}
-use Rattle.picture_rules.specs.plane.Planes.{PlaneChoice}
+use Rattle.picture_rules.proofs.Common.{ap, arith, false≢true, length, subst, sym, ◌<◌}
+use Rattle.picture_rules.specs.Words.{PlaneChoice}
 use Rattle.visplanes.specs.Full.{ChoosesPlane}
 use Rattle.visplanes.specs.Planes.{with_planes}
 use Rattle.picture_rules.proofs.plane.PlaneLemmas.{find-some, find-none, find-within}

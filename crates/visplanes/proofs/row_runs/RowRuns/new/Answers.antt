@@ -1,5 +1,5 @@
-use Rattle.word_rules.proofs.Common.{arith, false_from_ne_true}
-use Rattle.picture_rules.specs.plane.Spans.{holds}
+use Rattle.picture_rules.proofs.Common.{arith, false_from_ne_true}
+use Rattle.picture_rules.specs.Words.{holds}
 use Rattle.visplanes.proofs.RunLemmas.{row_runs-skipped}
 use Rattle.visplanes.proofs.row_runs.RowRuns.new.Goals as goal
 

@@ -1,4 +1,4 @@
-use Rattle.word_rules.proofs.Common.{ap, option_copied, Some, sym, ◌∙◌, ◌≡◌}
+use Rattle.art_rules.proofs.Common.{ap, option_copied, Some, sym, ◌∙◌, ◌≡◌}
 use Rattle.trim_rules.specs.Parts.{trim_refusal}
 use Rattle.wad_trim.specs.Plans.{trim_art, layer_lumps}
 use Rattle.wad_trim.proofs.PlanLemmas.{plan-fits, plan-ok, plan-refused}

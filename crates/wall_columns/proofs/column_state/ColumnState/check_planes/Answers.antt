@@ -1,6 +1,6 @@
 -- The two planes are checked one after the other, and the first count past the room is told.
 use Rattle.std.proofs.Common.{◌<◌, ◌∙◌, length, ap, sym, refl, arith}
-use Rattle.picture_rules.specs.plane.Built.{checked_plane}
+use Rattle.picture_rules.specs.Words.{checked_plane}
 use Rattle.visplanes.specs.Planes.{with_planes}
 use Rattle.wall_columns.specs.Columns.{plane_number}
 use Rattle.wall_columns.specs.Faults.{limit_of_fault}

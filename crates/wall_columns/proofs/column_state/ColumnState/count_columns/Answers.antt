@@ -1,8 +1,6 @@
 -- A column more is marked and saved.
 use Rattle.std.proofs.Common.{◌≡◌, ◌<◌, ◌+◌, ℕ, length, ap, ◌∙◌, arith}
-use Rattle.view_rules.specs.declared.TheConstants.{FRAME_WIDTH}
-use Rattle.picture_rules.specs.wall.Columns.{texture_column}
-use Rattle.picture_rules.specs.wall.Edges.{edges_at}
+use Rattle.picture_rules.specs.Words.{edges_at, FRAME_WIDTH, texture_column}
 use Rattle.wall_edges.specs.Fragments.{FragmentValue}
 use Rattle.wall_columns.specs.declared.column_state.ColumnState.{ColumnState}
 use Rattle.wall_columns.specs.Saved.{OpeningsView, column_saved}

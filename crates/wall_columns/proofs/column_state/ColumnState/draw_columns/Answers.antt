@@ -1,4 +1,4 @@
-use Rattle.word_rules.proofs.Common.{false, subst, sym, ◌∙◌, ◌≡◌}
+use Rattle.picture_rules.proofs.Common.{false, subst, sym, ◌∙◌, ◌≡◌}
 use Rattle.picture_rules.specs.declared.wall.FragmentNumbers.{FragmentNumbers}
 use Rattle.texture_build.specs.Paints.{painted_art}
 use Rattle.texture_build.proofs.PaintLemmas.{paints-none, paints-same}

@@ -1,6 +1,6 @@
 -- The places end where the openings end, and their count is told where it passes the room.
 use Rattle.std.proofs.Common.{◌≡◌, ◌<◌, ◌+◌, ◌-◌, ℕ, Some, None, length, arith, refl, ap, sym, ◌∙◌}
-use Rattle.picture_rules.specs.Counts.{openings_count}
+use Rattle.picture_rules.specs.Words.{openings_count}
 use Rattle.wall_columns.specs.declared.notes.SavePlaces.{SavePlaces}
 use Rattle.wall_columns.specs.Faults.{limit_of_fault}
 use Rattle.wall_columns.specs.Places.{places_of}

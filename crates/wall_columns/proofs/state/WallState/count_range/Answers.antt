@@ -1,11 +1,8 @@
 -- A fragment is counted: what is built, and what is told.
 use Rattle.std.proofs.Common.{◌≡◌, ◌+◌, ◌-◌, ◌≤◌, ◌++◌, ◌∷◌, [], List, length, ap, sym, refl, subst, ◌∙◌, arith}
-use Rattle.view_rules.specs.declared.TheConstants.{FRAME_WIDTH}
-use Rattle.view_rules.specs.declared.ViewShape.{ViewShape}
+use Rattle.picture_rules.specs.Words.{after_event, FRAME_WIDTH, ViewShape, wall_of}
 use Rattle.picture_rules.specs.declared.wall.FragmentNote.{FragmentNote}
 use Rattle.picture_rules.specs.declared.wall.FragmentNumbers.{FragmentNumbers}
-use Rattle.picture_rules.specs.wall.Walls.{wall_of}
-use Rattle.picture_rules.specs.plane.Built.{after_event}
 use Rattle.wall_columns.specs.Built.{IsBuilt, with_wall, step_of_wall}
 use Rattle.wall_columns.specs.Places.{places_of}
 use Rattle.wall_columns.specs.States.{walls_view}

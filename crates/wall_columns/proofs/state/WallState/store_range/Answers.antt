@@ -1,12 +1,9 @@
 -- A fragment is drawn: what is built, what is told, and what is painted.
 use Rattle.std.proofs.Common.{◌≡◌, ◌+◌, ◌-◌, ◌≤◌, ◌++◌, ◌∷◌, [], ℕ, List, length, ap, sym, refl, subst, ◌∙◌, arith}
-use Rattle.lump_rules.specs.Contents.{lump_bytes}
-use Rattle.view_rules.specs.declared.TheConstants.{FRAME_WIDTH}
-use Rattle.view_rules.specs.declared.ViewShape.{ViewShape}
+use Rattle.art_rules.specs.Words.{lump_bytes}
+use Rattle.picture_rules.specs.Words.{after_event, FRAME_WIDTH, ViewShape, wall_of}
 use Rattle.picture_rules.specs.declared.wall.FragmentNote.{FragmentNote}
 use Rattle.picture_rules.specs.declared.wall.FragmentNumbers.{FragmentNumbers}
-use Rattle.picture_rules.specs.wall.Walls.{wall_of}
-use Rattle.picture_rules.specs.plane.Built.{after_event}
 use Rattle.pixel_strips.proofs.DottedLemmas.{has_dots-as}
 use Rattle.texture_build.specs.Arts.{view_art}
 use Rattle.texture_build.proofs.BesideLemmas.{fit_beside-as}

@@ -1,7 +1,6 @@
 -- Open windows are in their ranges.
-use Rattle.word_rules.proofs.Common.{pos, replicate, rules, to_z_pos, ◌≡◌}
-use Rattle.word_rules.specs.Words.{minus_one}
-use Rattle.view_rules.specs.declared.TheConstants.{FRAME_WIDTH}
+use Rattle.picture_rules.proofs.Common.{pos, replicate, rules, to_z_pos, ◌≡◌}
+use Rattle.picture_rules.specs.Words.{FRAME_WIDTH, minus_one}
 use Rattle.wall_columns.proofs.PartLemmas.{are_clips-filled}
 use Rattle.wall_columns.proofs.windows.Windows.open.Goals as goal
 
