@@ -22,3 +22,4 @@ pub mod LiftLemmas
 pub use Rattle.zone_rules.proofs.GapLemmas
 pub use Rattle.zone_rules.proofs.OrderChangeLemmas
 pub use Rattle.zone_rules.proofs.OwnerLemmas
+pub use Rattle.wad_dir.proofs.MapLemmas

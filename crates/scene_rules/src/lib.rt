@@ -10,7 +10,7 @@
 
 mod refusal;
 
-use level_rules::{PlacedThing, ThingRow};
+use level_rules::ThingRow;
 use lump_rules::LumpNo;
 pub use refusal::{ArtRefusal, AuditRefusal, SceneRefusal, WeaponRefusal};
 

@@ -19,4 +19,4 @@ pub use Rattle.lump_cache.proofs.FetchLemmas
 pub use Rattle.lump_cache.proofs.SizeLemmas
 pub use Rattle.lump_cache.proofs.StaticLemmas
 pub use Rattle.texture_lists.proofs.JudgeLemmas
-pub use Rattle.wad_dir.proofs.MapLemmas
+pub use Rattle.lump_cache.proofs.MapLemmas

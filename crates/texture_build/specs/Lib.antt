@@ -15,5 +15,5 @@ pub use Rattle.lump_cache.specs.Calls
 pub use Rattle.lump_cache.specs.Named
 pub use Rattle.lump_cache.specs.Sizes
 pub use Rattle.texture_lists.specs.declared.number.TexNo
-pub use Rattle.wad_dir.specs.DirectoryView
+pub use Rattle.lump_cache.specs.DirectoryView
 pub use Rattle.zone_rules.specs.Zones

@@ -23,9 +23,9 @@ mod textures;
 pub use art_rules::{ColumnLookup, TexRefusal};
 pub use column::Column;
 pub use hands::Hands;
-pub use lump_cache::{CacheFault, LumpCache, fetch_live, live_lump};
+pub use lump_cache::{
+    CacheFault, Directory, LumpCache, LumpNo, Name8, Tag, ZoneMake, fetch_live, live_lump,
+};
 pub use source::ColumnSource;
 pub use texture_lists::{ListedTextures, TexFault, TexNo};
 pub use textures::Textures;
-pub use wad_dir::{Directory, LumpNo, Name8};
-pub use zone_heap::{Tag, ZoneMake};
