@@ -8,11 +8,27 @@ from .png import indexed_png
 from .trouble import Trouble
 
 PLACE = '/*DATA*/null'  # of the data in a template
+DIGITS = ''.join(chr(code) for code in range(35, 127) if chr(code) not in '\\<')  # none that a text has to escape
 
 
 def packed(data):
     """Data as a page has it: nothing in it can end the script that it stands in."""
     return json.dumps(data, separators=(',', ':')).replace('</', '<\\/')
+
+
+def columns(rows):
+    """Rows of whole numbers as a page has them: of each column the least number, the digits of a number, and the
+    digits of all numbers without the least."""
+    return [column(numbers) for numbers in zip(*rows)]
+
+
+def column(numbers):
+    least, width = min(numbers), 1
+    while len(DIGITS) ** width <= max(numbers) - least:
+        width += 1
+    places = [len(DIGITS) ** place for place in reversed(range(width))]
+    return [least, width, ''.join(DIGITS[(number - least) // place % len(DIGITS)]
+                                  for number in numbers for place in places)]
 
 
 def page(template, data):

@@ -1,15 +1,17 @@
 """Tests the tool limits-map: with a stand-in for doomview, and with the program that DOOMVIEW_TESTED names."""
 import json
 import os
+import random
 import signal
 import struct
 import subprocess
 import time
+import types
 import unittest
 
 import pages_shown
 from made_files import COMMAND, Tools, name, wad
-from doomview_tools import ground, levels, limits_page, traces
+from doomview_tools import cells, counting, ground, levels, limits_page, traces
 
 COARSE = ['--step', '256', '--directions', '4']
 TESTED = os.environ.get('DOOMVIEW_TESTED', '')
@@ -58,6 +60,21 @@ def hall():
             ('NODES', b''.join(struct.pack('<12h2H', *it) for it in nodes)),
             ('SECTORS', b''.join(struct.pack('<hh8s8shhh', *it, name('F'), name('F'), 160, 0, tag)
                                  for tag, it in enumerate(sectors)))]
+
+
+class Made:
+    """Runs that count by chance, and draw frames that no compression makes smaller."""
+
+    def __init__(self):
+        self.chance = random.Random(1)
+
+    def counts(self, rows, what=''):
+        return [{'planes': self.chance.randrange(1025), 'openings': self.chance.randrange(245761),
+                 'fragments': self.chance.randrange(257), 'sprites': self.chance.randrange(129)} for _ in rows]
+
+    def drawn(self, job, rows, size):
+        repeated = 1 if job == 'render' else 64
+        return [self.chance.randbytes(size // repeated) * repeated for _ in rows]
 
 
 class LimitsMap(Tools):
@@ -119,8 +136,9 @@ class LimitsMap(Tools):
         data = pages_shown.data_of(self.at('page.html'))
         self.assertEqual((data['title'], data['reached'], data['doors']), ('MAP01 of hall.wad', 3, [1]))
         for number, state in enumerate(data['states']):
-            self.assertIn(0, {cell[5] for cell in state['cells']})
-            for x, y, size, floor, sector, _, planes, _, openings, _, fragments, _, sprites, way in state['cells']:
+            places = pages_shown.rows_of(state['cells'])
+            self.assertIn(0, {place[5] for place in places})
+            for x, y, size, floor, sector, _, planes, _, openings, _, fragments, _, sprites, way in places:
                 counts = 60 + x // 4 + number, y, min(256, abs(y)), way * 16 // data['directions']
                 self.assertEqual((planes, openings, fragments, sprites), counts)
             for view in state['views']:
@@ -137,6 +155,31 @@ class LimitsMap(Tools):
         fragments, planes = [['lump 7', 2], ['texture 3', 1]], [['lump 8', 2], ['texture 2', 1]]
         self.assertEqual(found, {'fragments': [2, 2, fragments], 'planes': [3, 2, planes],
                                  'sprites': [1, 1, [['lump 9', 1]]]})
+
+    def test_size(self):
+        """A page of as many places and views as there can be is no larger than 3 MB, and the worst have pictures."""
+        plan = ground.Plan(levels.read([self.hall], 'MAP01'))
+        options = types.SimpleNamespace(limits=counting.LIMITS, all=True, step=8, directions=8, views=20)
+        states = [limits_page.State(label, cells.Grid(ground.Ground(plan), Made(), {0, 1, 2}, options), Made())
+                  for label in ('shut', 'open')]
+        self.assertGreater(min(len(state.grid.cells) for state in states), 9000)
+        page = self.write('page.html', limits_page.limits_page(plan, [self.hall], states, bytes(768), options, {1: 124}))
+        self.assertLessEqual(os.path.getsize(page), 3000000)
+        for shown in pages_shown.data_of(page)['states']:
+            for order in shown['order'].values():
+                found = [len(shown['views'][view]['picture']) for view in order]
+                self.assertGreater(found[0], 16000)
+                self.assertGreater(len(set(found)), 1)
+                self.assertEqual(found, sorted(found, reverse=True))
+
+    def test_pictures(self):
+        """Pictures are whole as far as there is room, then of half the size, then none."""
+        for room, sizes in [(99, [9, 9, 9]), (27, [9, 9, 9]), (26, [9, 9, 3]), (15, [9, 3, 3]), (9, [3, 3, 3]),
+                            (8, [3, 3, 0]), (0, [0, 0, 0])]:
+            views = [{}, {}, {}]
+            limits_page.put_in([(view, {'picture': ('123456', '12', ''), 'planes': ('123', '1', '')})
+                                for view in views], room)
+            self.assertEqual([len(view['picture'] + view['planes']) for view in views], sizes)
 
     @unittest.skipUnless(pages_shown.BROWSER, 'no Chromium here')
     def test_shown(self):
@@ -175,7 +218,7 @@ class LimitsMap(Tools):
         self.assertGreater(overs, 3)
         self.assertGreater(black, .8 * overs)  # but for lines, dots and the cone over them
         self.assertGreater(cut, 3)
-        self.assertEqual(pointed, len(data['states'][1]['cells']))
+        self.assertEqual(pointed, len(pages_shown.rows_of(data['states'][1]['cells'])))
         self.assertEqual(row, expected)
         self.assertRegex(shown, r'^planes \d+ · x [-\d.]+ y [-\d.]+, [\d.]+°; the nearest picture is from x [-\d.]+ y ')
 
@@ -225,16 +268,16 @@ class LimitsMap(Tools):
         words = ['room.wad', 'MAP01', 'page.html', '--shut', '--step', '256']
         self.assertEqual(self.run_tool('limits-map', *words, doomview=TESTED)[0], 0)
         data = pages_shown.data_of(self.at('page.html'))
-        cells, names = data['states'][0]['cells'], data['counts']
+        places, names = pages_shown.rows_of(data['states'][0]['cells']), data['counts']
         rows = ['x,y,z,angle'] + [
             f'{x << 16},{(y << 16) + 32768},{floor + 41 << 16},{(way << 32) // data["directions"]}'
-            for x, y, _, floor, _, _, *counts in cells for way in counts[1::2]]
+            for x, y, _, floor, _, _, *counts in places for way in counts[1::2]]
         self.write('rows.csv', ''.join(f'{row}\n' for row in rows).encode())
         words = ['limits', 'MAP01', 'room.wad', '--path', 'rows.csv']
         lines = iter(self.run_tool(*words, doomview=TESTED)[1].decode().splitlines())
-        for cell in cells:
+        for place in places:
             for i, count in enumerate(names):
-                self.assertIn(f' {count} {cell[6 + 2 * i]} ', next(lines) + ' ')
+                self.assertIn(f' {count} {place[6 + 2 * i]} ', next(lines) + ' ')
 
 
 if __name__ == '__main__':
