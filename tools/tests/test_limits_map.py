@@ -231,35 +231,47 @@ class LimitsMap(Tools):
         for part, *words in [('has to end in .html', 'page.htm'), ('there is no folder absent', 'absent/page.html'),
                              ('multiple of 8', '--step', '60'), ('--planes: a number from 128', '--planes', '1'),
                              ('there is no folder absent', '--worst', 'absent/rows'),
-                             ('there is no folder absent', '--opened', 'absent/open.wad')]:
+                             ('there is no folder absent', '--opened', 'absent/open.wad'),
+                             ('cannot write', 'a' * 300 + '.html'), ('is named twice', '--opened', 'hall.wad'),
+                             ('is named twice', '--worst', 'new', '--opened', 'new')]:
             self.refuses(part, 'limits-map', 'hall.wad', 'MAP01', *words, doomview=self.counting)
         self.refuses('there is no WAD absent', 'limits-map', 'absent', 'MAP01', doomview=self.counting)
         lumps = dict(hall())
         for part, label, data in [('has no start of a player', 'THINGS', b''),
                                   ('a vertex of line 0 is not there', 'VERTEXES', b''),
-                                  ('is damaged', 'LINEDEFS', b'')]:
+                                  ('is damaged', 'LINEDEFS', b''), ('NODES ends within', 'NODES', bytes(99)),
+                                  ('lead to 1 of its 4 leaves', 'NODES', b''),
+                                  ('THINGS ends within', 'THINGS', lumps['THINGS'][:-1])]:
             self.write('bad.wad', wad([('MAP01', b''), *{**lumps, label: data}.items()]))
             self.refuses(part, 'limits-map', 'bad.wad', 'MAP01', 'page.html', '--opened', 'opened.wad',
                          doomview=self.counting)
             self.assertFalse({'page.html', 'opened.wad'} & {*os.listdir(self.folder)})
 
     def test_interrupt(self):
-        """An interrupt ends the runs that go on, and leaves nothing behind."""
+        """A signal ends the runs that go on, and leaves nothing behind."""
+        for number in (signal.SIGINT, signal.SIGTERM):
+            with self.subTest(signal=number):
+                self.interrupted(number)
+
+    def interrupted(self, number):
         slow = self.stand_in('slow', '#!/bin/sh\ncase "$*" in *.1.csv*) exit 0 ;; esac\n'
                              'echo $$ >>pids\nexec sleep 60\n')
-        os.symlink('/bin/sleep', self.at('bin', 'sleep'))
-        os.mkdir(self.at('tmp'))
+        if not os.path.exists(self.at('tmp')):
+            os.symlink('/bin/sleep', self.at('bin', 'sleep'))
+            os.mkdir(self.at('tmp'))
+        before = set(os.listdir(self.folder))
         run = subprocess.Popen([COMMAND, 'limits-map', 'hall.wad', 'MAP01', 'page.html'], cwd=self.folder,
-                               env=self.surroundings(slow, TMPDIR=self.at('tmp')))
+                               env=self.surroundings(slow, TMPDIR=self.at('tmp')), stderr=subprocess.DEVNULL)
         for _ in range(600):
             if os.path.exists(self.at('pids')):
                 break
             time.sleep(.1)
-        run.send_signal(signal.SIGTERM)
-        self.assertEqual(run.wait(60), 128 + signal.SIGTERM)
+        run.send_signal(number)
+        self.assertEqual(run.wait(60), 128 + number)
         for pid in self.read('pids').split():
             self.assertFalse(os.path.exists(f'/proc/{pid}'), pid)
-        self.assertEqual((os.listdir(self.at('tmp')), os.path.exists(self.at('page.html'))), ([], False))
+        os.remove(self.at('pids'))
+        self.assertEqual((os.listdir(self.at('tmp')), set(os.listdir(self.folder)) - before - {'cache'}), ([], set()))
 
     @unittest.skipUnless(TESTED, 'no program is named')
     def test_program(self):

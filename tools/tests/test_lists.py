@@ -52,9 +52,13 @@ def level_lumps():
             ('SIDEDEFS', b''.join(struct.pack('<hh8s8s8sH', 0, 0, *map(name, side[:3]), side[3]) for side in SIDES)),
             ('VERTEXES', struct.pack('<8h', 0, 0, 0, 256, 256, 256, 256, 0)),
             ('SEGS', b''.join(struct.pack('<6H', *seg) for seg in segs)),
-            ('SSECTORS', struct.pack('<6H', 3, 0, 1, 3, 1, 4)), ('NODES', b''),
+            ('SSECTORS', struct.pack('<6H', 3, 0, 1, 3, 1, 4)), ('NODES', NODES),
             ('SECTORS', b''.join(struct.pack('<hh8s8shhh', *it[:2], *map(name, it[2:4]), it[4], 0, 0)
                                  for it in sectors))]
+
+
+# Of three leaves, the first at all places west of 30000.
+NODES = b''.join(struct.pack('<12h2H', 30000, 0, 0, 1, *[0] * 8, *children) for children in [(0x8001, 0x8002), (0, 0x8000)])
 
 
 def level_wad(labels=('MAP01',)):

@@ -73,8 +73,13 @@ def check(options):
         raise Trouble(f'--step is a multiple of {LEAST_STEP}, and {options.step} is none')
     if options.page is not None and not options.page.endswith('.html'):
         raise Trouble(f'the name of the page has to end in .html, and {options.page} does not')
-    for path in filter(None, (options.page, options.worst, options.opened)):
+    written = list(filter(None, (options.page, options.worst, options.opened)))
+    for path in written:
         check_target(path)
+    used = list(map(os.path.realpath, written + options.files))
+    for path in written:
+        if used.count(os.path.realpath(path)) > 1:
+            raise Trouble(f'{path} is named twice, or is a WAD that is read; name another file')
 
 
 def numbers(plan, states, options):
@@ -133,8 +138,8 @@ def worst_path(states, options):
 
 
 def run(options):
-    check(options)
     options.files = cli.wads_of(options)
+    check(options)
     options.limits = {**LIMITS, 'planes': options.planes, 'openings': options.openings}
     progress = Progress('limits-map')
     with tempfile.TemporaryDirectory(prefix='doomview-') as folder:
@@ -149,7 +154,9 @@ def run(options):
 def looked(options, runs, folder, progress):
     """Looks at the map, prints the summary and writes the files; the status."""
     runs.check()
-    plan = ground.Plan(levels.read(options.files, options.map))
+    level = levels.read(options.files, options.map)
+    level.check_whole()
+    plan = ground.Plan(level)
     states, doors = states_of(plan, runs, options, folder, progress)
     progress.tell('drawing the worst views')
     if options.page:

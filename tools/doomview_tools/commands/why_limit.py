@@ -107,6 +107,7 @@ def counts_of(view):
 def run(options):
     files = cli.wads_of(options)
     level = levels.read(files, options.map)
+    level.check_whole()
     rows = rows_of(options, level)
     with tempfile.TemporaryDirectory(prefix='doomview-') as folder:
         found = listed(options, files, [row for _, row in rows], folder)
