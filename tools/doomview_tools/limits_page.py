@@ -136,6 +136,7 @@ def limits_page(plan, wads, states, palette, options, doors):
             'states': [state.packed(names, options.views) for state in states]}
     pictures = sorted((it for state in states for it in state.pictures(palette)), key=lambda it: it[0])
     put_in([it[1:] for it in pictures], room_in(data) - len(pictures) * WORDS)
+    room = room_in(data) // len(states)
     for state, shown in zip(states, data['states']):
-        shown['small'] = thinned(state.small(palette, SMALL_PICTURES), room_in(data) // len(states))
+        shown['small'] = thinned(state.small(palette, SMALL_PICTURES), room)
     return page(TEMPLATE, data)
