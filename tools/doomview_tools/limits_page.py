@@ -96,9 +96,9 @@ class State:
                 for row, frame in zip(rows, self.runs.drawn('render', rows, SIZE)) if frame]
 
 
-def room_in(data):
+def room_in(data, plain):
     """How many bytes a page may get more."""
-    return MOST_BYTES - len(page(TEMPLATE, data))
+    return MOST_BYTES - len(page(TEMPLATE, data, plain))
 
 
 def thinned(pictures, room):
@@ -124,8 +124,8 @@ def put_in(pictures, room):
         view.update((kind, of_sizes[its]) for kind, of_sizes in found.items())
 
 
-def limits_page(plan, wads, states, palette, options, doors):
-    """The bytes of the page."""
+def limits_page(plan, wads, states, palette, options, doors, plain):
+    """The bytes of the page; `plain` is the summary as text."""
     level, names = plan.level, traces.Names(wads)
     grid = states[0].grid
     data = {'title': f'{level.name} of {os.path.basename(level.wad)}', 'wads': list(map(os.path.basename, wads)),
@@ -135,8 +135,8 @@ def limits_page(plan, wads, states, palette, options, doors):
             'doors': sorted(doors), 'doubts': [pair for pair, _ in grid.ground.doubts.most_common(20)],
             'states': [state.packed(names, options.views) for state in states]}
     pictures = sorted((it for state in states for it in state.pictures(palette)), key=lambda it: it[0])
-    put_in([it[1:] for it in pictures], room_in(data) - len(pictures) * WORDS)
-    room = room_in(data) // len(states)
+    put_in([it[1:] for it in pictures], room_in(data, plain) - len(pictures) * WORDS)
+    room = room_in(data, plain) // len(states)
     for state, shown in zip(states, data['states']):
         shown['small'] = thinned(state.small(palette, SMALL_PICTURES), room)
-    return page(TEMPLATE, data)
+    return page(TEMPLATE, data, plain)

@@ -1,5 +1,6 @@
 """Pages of one file: a template of data/ with its data and pictures in it, which need nothing from elsewhere."""
 import base64
+import html
 import json
 
 from . import home
@@ -8,6 +9,7 @@ from .png import indexed_png
 from .trouble import Trouble
 
 PLACE = '/*DATA*/null'  # of the data in a template
+PLAIN = '<!--PLAIN-->'  # of the plain text
 DIGITS = ''.join(chr(code) for code in range(35, 127) if chr(code) not in '\\<')  # none that a text has to escape
 
 
@@ -31,8 +33,8 @@ def column(numbers):
                                   for number in numbers for place in places)]
 
 
-def page(template, data):
-    """The bytes of a page."""
+def page(template, data, plain=''):
+    """The bytes of a page; `plain` is a text that stands on it where its script cannot run."""
     path = home.data(template)
     try:
         with open(path, encoding='utf-8') as file:
@@ -41,7 +43,7 @@ def page(template, data):
         text = ''
     if PLACE not in text:
         raise Trouble(f'{path} is missing or damaged; take the whole folder of doomview anew')
-    return text.replace(PLACE, packed(data)).encode()
+    return text.replace(PLAIN, html.escape(plain)).replace(PLACE, packed(data)).encode()
 
 
 def text_of(png):

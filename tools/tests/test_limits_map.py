@@ -122,7 +122,9 @@ class LimitsMap(Tools):
         """Raised limits are those of the status; what is counted no further counts as over."""
         planes = self.looked('--planes', '512')[1]['states'][0]['counts']['planes']
         self.assertEqual((planes['limit'], planes['over']), (512, 0))
-        status, output, _ = self.run_tool('limits-map', 'hall.wad', 'MAP01', '--shut', *COARSE, doomview=self.counting)
+        words = ['hall.wad', 'MAP01', 'page.html', '--shut', *COARSE]
+        status, output, _ = self.run_tool('limits-map', *words, doomview=self.counting)
+        self.assertIn(f'<pre id="plain">{output.decode()}</pre>', self.read('page.html'))  # for an old browser
         lines = output.decode().splitlines()
         self.assertEqual((status, lines[0]), (1, 'MAP01 of hall.wad: a player reaches 3 of its 4 sectors'))
         self.assertRegex(lines[1], r'^doors shut: \d+ views from \d+ places$')
@@ -163,7 +165,8 @@ class LimitsMap(Tools):
         states = [limits_page.State(label, cells.Grid(ground.Ground(plan), Made(), {0, 1, 2}, options), Made())
                   for label in ('shut', 'open')]
         self.assertGreater(min(len(state.grid.cells) for state in states), 9000)
-        page = self.write('page.html', limits_page.limits_page(plan, [self.hall], states, bytes(768), options, {1: 124}))
+        made = limits_page.limits_page(plan, [self.hall], states, bytes(768), options, {1: 124}, '')
+        page = self.write('page.html', made)
         self.assertLessEqual(os.path.getsize(page), 3000000)
         for shown in pages_shown.data_of(page)['states']:
             for order in shown['order'].values():
@@ -201,7 +204,7 @@ class LimitsMap(Tools):
             all.push(overs.length, overs.filter(isBlack).length, now().cells.filter(cell => cell.isCut).length);
             all.push(now().cells.filter(cell => cellAt(cell[X], cell[Y] + .5) === cell).length);
             const far = now().cells.find(cell => now().views.every(it => it.row.join() !== rowOf(cell, 0).join()));
-            look(far); all.push(text('row'), rowOf(far, 0).join(), text('shown')); return all;''')
+            look(far); all.push(text('row'), rowOf(far, 0).join(), text('shown'), find('plain')); return all;''')
         data = pages_shown.data_of(self.at('page.html'))
         rows = [','.join(map(str, view['row'])) for view in data['states'][1]['views']]
         self.assertGreater(found[0], 20)
@@ -213,13 +216,13 @@ class LimitsMap(Tools):
         self.assertGreater(found[8], found[9])
         self.assertEqual(found[9], found[3])
         self.assertEqual(found[10], 320)
-        made_of, overs, black, cut, pointed, row, expected, shown = found[11:]
+        made_of, overs, black, cut, pointed, row, expected, shown, plain = found[11:]
         self.assertRegex(made_of, r'^\d+ of the \d+ planes have a pixel in this view: \w+ \d+')
         self.assertGreater(overs, 3)
         self.assertGreater(black, .8 * overs)  # but for lines, dots and the cone over them
         self.assertGreater(cut, 3)
         self.assertEqual(pointed, len(pages_shown.rows_of(data['states'][1]['cells'])))
-        self.assertEqual(row, expected)
+        self.assertEqual((row, plain), (expected, None))
         self.assertRegex(shown, r'^planes \d+ · x [-\d.]+ y [-\d.]+, [\d.]+°; the nearest picture is from x [-\d.]+ y ')
 
     def test_wrong(self):

@@ -104,7 +104,7 @@ def summary(found):
         yield f'doors {state["doors"]}: {state["views"]} views from {state["places"]} places'
         for name, it in state['counts'].items():
             most = f'{it["most"]} or more' if name in counting.CAPPED and it['most'] >= it['limit'] else it['most']
-            over = f'{it["over"]} views over' if it['over'] else 'none over'
+            over = f'{it["over"]} view{"s" * (it["over"] > 1)} over' if it['over'] else 'none over'
             row = ','.join(map(str, it['row'])) if it['row'] else '-'
             yield f'  {name:9} most {most} of {it["limit"]}, {over}, row {row}'
 
@@ -158,14 +158,16 @@ def looked(options, runs, folder, progress):
     level.check_whole()
     plan = ground.Plan(level)
     states, doors = states_of(plan, runs, options, folder, progress)
+    found = numbers(plan, states, options)
+    told = ''.join(f'{it}\n' for it in summary(found))
     progress.tell('drawing the worst views')
     if options.page:
-        write_whole(options.page, limits_page(plan, options.files, states, palette_of(options.files), options, doors))
+        write_whole(options.page, limits_page(plan, options.files, states, palette_of(options.files), options, doors,
+                                              told))
     if options.opened:
         write_whole(options.opened, ground.with_ceilings(plan.level, doors))
     if options.worst:
         write_whole(options.worst, worst_path(states, options).encode())
-    found = numbers(plan, states, options)
     progress.clear()
-    write_output(json.dumps(found, indent=1) + '\n' if options.json else ''.join(f'{it}\n' for it in summary(found)))
+    write_output(json.dumps(found, indent=1) + '\n' if options.json else told)
     return OVER if found['over'] else 0
