@@ -28,6 +28,18 @@ def check_target(path):
         raise Trouble(f'there is no folder {folder}; make it first')
     if not os.access(folder, os.W_OK):
         raise Trouble(f'you may not write in the folder {folder}')
+    try:
+        handle, part_path = part_of(os.path.realpath(path))
+        os.close(handle)
+        os.remove(part_path)
+    except OSError as error:
+        raise Trouble(f'cannot write {path}: {error.strerror}')
+
+
+def part_of(path):
+    """A new file beside another, for its bytes until they are whole: its handle and its path."""
+    folder, name = os.path.split(path)
+    return tempfile.mkstemp(prefix=f'.{name}.', dir=folder)
 
 
 class WholeFile:
@@ -41,8 +53,7 @@ class WholeFile:
         with self.troubles():
             check_target(path)
             self.path = os.path.realpath(path)
-            folder, name = os.path.split(self.path)
-            handle, self.part_path = tempfile.mkstemp(prefix=f'.{name}.', dir=folder)
+            handle, self.part_path = part_of(self.path)
             os.close(handle)
             self.part = open(self.part_path, 'wb')
 

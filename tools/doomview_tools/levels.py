@@ -17,6 +17,8 @@ LEAF = 0x8000  # the bit of a child that is a leaf
 NO_SIDE = 0xffff
 EXTENDED = [b'XNOD', b'ZNOD', b'XGLN', b'ZGLN', b'XGL2', b'ZGL2', b'XGL3', b'ZGL3', b'gNd2', b'gNd5']
 BUILT_LUMPS = ['SEGS', 'SSECTORS', 'NODES']  # what a builder of nodes makes
+LAYOUTS = {'THINGS': '<hhhHH', 'LINEDEFS': '<7H', 'SIDEDEFS': '<hh8s8s8sH', 'VERTEXES': '<hh', 'SEGS': '<6H',
+           'SSECTORS': '<HH', 'NODES': '<12h2H', 'SECTORS': '<hh8s8shhh'}  # of the records of a lump
 
 Thing = collections.namedtuple('Thing', 'x y angle type options')
 Line = collections.namedtuple('Line', 'start end flags special tag front back')  # a side, or None
@@ -40,44 +42,44 @@ class Level:
     def __init__(self, name, wad, lumps):
         self.name, self.wad, self.lumps = name, wad, lumps
 
-    def records(self, lump, layout):
-        return records(self.lumps.get(lump, b''), layout)
+    def records(self, lump):
+        return records(self.lumps.get(lump, b''), LAYOUTS[lump])
 
     @functools.cached_property
     def things(self):
-        return [Thing(*record) for record in self.records('THINGS', '<hhhHH')]
+        return [Thing(*record) for record in self.records('THINGS')]
 
     @functools.cached_property
     def lines(self):
         return [Line(*record[:5], *(None if side == NO_SIDE else side for side in record[5:]))
-                for record in self.records('LINEDEFS', '<7H')]
+                for record in self.records('LINEDEFS')]
 
     @functools.cached_property
     def sides(self):
         return [Side(x, y, clean(upper), clean(lower), clean(middle), sector)
-                for x, y, upper, lower, middle, sector in self.records('SIDEDEFS', '<hh8s8s8sH')]
+                for x, y, upper, lower, middle, sector in self.records('SIDEDEFS')]
 
     @functools.cached_property
     def vertexes(self):
-        return [Vertex(*record) for record in self.records('VERTEXES', '<hh')]
+        return [Vertex(*record) for record in self.records('VERTEXES')]
 
     @functools.cached_property
     def segs(self):
-        return [Seg(*record) for record in self.records('SEGS', '<6H')]
+        return [Seg(*record) for record in self.records('SEGS')]
 
     @functools.cached_property
     def leaves(self):
-        return [Leaf(*record) for record in self.records('SSECTORS', '<HH')]
+        return [Leaf(*record) for record in self.records('SSECTORS')]
 
     @functools.cached_property
     def nodes(self):
         return [Node(*record[:4], record[4:8], record[8:12], *record[12:])
-                for record in self.records('NODES', '<12h2H')]
+                for record in self.records('NODES')]
 
     @functools.cached_property
     def sectors(self):
         return [Sector(floor, ceiling, clean(below), clean(above), *rest)
-                for floor, ceiling, below, above, *rest in self.records('SECTORS', '<hh8s8shhh')]
+                for floor, ceiling, below, above, *rest in self.records('SECTORS')]
 
     def extended_nodes(self):
         """The lump that has extended nodes, and their letters, or None."""
@@ -95,6 +97,23 @@ class Level:
         if not self.leaves:
             return self.error('has no nodes (SSECTORS is empty); build them')
         return self.error(what)
+
+    def check_whole(self):
+        """A WadError where a lump seems to be cut short: it ends within a record, or no node leads to some leaves."""
+        for name, layout in LAYOUTS.items():
+            if len(self.lumps[name]) % struct.calcsize(layout):
+                raise self.damage(f'is damaged: {name} ends within a record; it was cut short, or is of another format')
+        found, left = set(), [len(self.nodes) - 1 if self.nodes else LEAF]
+        while left:
+            child = left.pop()
+            if child in found or child & ~LEAF >= len(self.leaves if child & LEAF else self.nodes):
+                continue
+            found.add(child)
+            left += [] if child & LEAF else self.nodes[child][-2:]
+        reached = sum(child & LEAF != 0 for child in found)
+        if reached < len(self.leaves) or not reached:
+            raise self.damage(f'is damaged: its nodes lead to {reached} of its {len(self.leaves)} leaves (SSECTORS); '
+                              'build them anew')
 
     def error(self, what):
         return WadError(f'{self.name} of {self.wad} {what}')

@@ -6,10 +6,11 @@ import sys
 from . import traces
 from .counting import CAPPED, COUNTS
 from .frames import HEIGHT, SIZE, WIDTH
-from .pages import packed, page, picture
+from .pages import columns, packed, page, picture
 
 TEMPLATE = 'limits_map.html'
 MOST_BYTES = 3000000
+WORDS = 40  # bytes of a view's words for its pictures
 SMALL_PICTURES = 60
 PLANE_KINDS = (2, 3)  # of painters: plane and sky
 NO_PLANE = 255
@@ -19,11 +20,10 @@ PLANE_COLOURS = bytes(255 if i == NO_PLANE else ((i + 1) * factor) % 200 + 40
                       for i in range(256) for factor in (83, 149, 47))
 
 
-def plane_picture(trace):
-    """The planes of a view in a colour each, the rest in white."""
+def planes_of(trace):
+    """The pixels of a view, each the number of its plane or NO_PLANE."""
     kinds, numbers = trace[::traces.RECORD.size], trace[2::traces.RECORD.size]
-    return picture(bytes(number % NO_PLANE if kind in PLANE_KINDS else NO_PLANE
-                         for kind, number in zip(kinds, numbers)), PLANE_COLOURS)
+    return bytes(number % NO_PLANE if kind in PLANE_KINDS else NO_PLANE for kind, number in zip(kinds, numbers))
 
 
 def seen(trace, names):
@@ -38,9 +38,15 @@ def seen(trace, names):
             for count, of in found.items()}
 
 
-def halved(frame):
-    """A frame of half the width and height."""
-    return b''.join(frame[WIDTH * row:WIDTH * (row + 1):2] for row in range(0, HEIGHT, 2))
+def half_picture(frame, palette):
+    """A frame as a page has it, of half the width and height."""
+    halved = b''.join(frame[WIDTH * row:WIDTH * (row + 1):2] for row in range(0, HEIGHT, 2))
+    return picture(halved, palette, WIDTH // 2, HEIGHT // 2)
+
+
+def sizes_of(frame, palette):
+    """A frame as a page may have it: whole, of half the width and height, or not at all."""
+    return (picture(frame, palette), half_picture(frame, palette), '') if frame else ('', '', '')
 
 
 def packed_cell(cell):
@@ -62,25 +68,37 @@ class State:
             order[name] = [rows.setdefault(row, len(rows)) for _, row in self.grid.worst(name, most)]
         return list(rows), order
 
-    def packed(self, names, palette, most):
-        """What the page has of it, but for the small pictures."""
-        rows, order = self.views(most)
-        frames = self.runs.drawn('render', rows, SIZE)
-        drawn = self.runs.drawn('trace', rows, traces.VIEW_SIZE)
-        views = [{'row': row[:4], 'counts': counts, 'picture': frame and picture(frame, palette),
-                  'planes': trace and plane_picture(trace), 'seen': trace and seen(trace, names)}
-                 for row, counts, frame, trace in zip(rows, self.runs.counts(rows), frames, drawn)]
+    def packed(self, names, most):
+        """What the page has of it, but for the pictures."""
+        self.rows, self.order = self.views(most)
+        self.traces = self.runs.drawn('trace', self.rows, traces.VIEW_SIZE)
+        self.shown = [{'row': row[:4], 'counts': counts, 'seen': trace and seen(trace, names)}
+                      for row, counts, trace in zip(self.rows, self.runs.counts(self.rows), self.traces)]
         cells = sorted(self.grid.cells, key=lambda it: -it.size)
-        return {'label': self.label, 'cells': list(map(packed_cell, cells)), 'views': views, 'order': order,
-                'small': [], 'looked': self.grid.views, 'over': self.grid.over, 'step': self.grid.step}
+        return {'label': self.label, 'cells': columns(map(packed_cell, cells)), 'views': self.shown,
+                'order': self.order, 'small': [], 'looked': self.grid.views, 'over': self.grid.over,
+                'step': self.grid.step}
+
+    def pictures(self, palette):
+        """Of each worst view its place in the order of its count, itself, and its pictures in all sizes."""
+        frames = self.runs.drawn('render', self.rows, SIZE)
+        for number, (view, frame, trace) in enumerate(zip(self.shown, frames, self.traces)):
+            rank = min(order.index(number) for order in self.order.values() if number in order)
+            yield rank, view, {'picture': sizes_of(frame, palette),
+                               'planes': sizes_of(trace and planes_of(trace), PLANE_COLOURS)}
 
     def small(self, palette, most):
         """Pictures of half the size, of places all over the map, where planes are most: pairs of a row and it."""
         cells = sorted(self.grid.cells, key=lambda it: (it.y, it.x))
         some = cells[::max(1, -(-len(cells) // most))]
         rows = [cell.row(cell.most.get('planes', (0, 0))[1], self.grid.directions) for cell in some]
-        return [[row[:4], picture(halved(frame), palette, WIDTH // 2, HEIGHT // 2)]
+        return [[row[:4], half_picture(frame, palette)]
                 for row, frame in zip(rows, self.runs.drawn('render', rows, SIZE)) if frame]
+
+
+def room_in(data, plain):
+    """How many bytes a page may get more."""
+    return MOST_BYTES - len(page(TEMPLATE, data, plain))
 
 
 def thinned(pictures, room):
@@ -93,17 +111,32 @@ def thinned(pictures, room):
     return pictures[::every]
 
 
-def limits_page(plan, wads, states, palette, options, doors):
-    """The bytes of the page."""
+def put_in(pictures, room):
+    """Gives views their pictures, all together no larger than there is room: the last views have them of half the size
+    where there is no room for whole ones, or go without."""
+    sizes = [[sum(map(len, of_size)) for of_size in zip(*found.values())] for _, found in pictures]
+    chosen = [0] * len(pictures)
+    for size in (1, 2):
+        for i in reversed(range(len(pictures))):
+            if sum(of[its] for of, its in zip(sizes, chosen)) > room:
+                chosen[i] = size
+    for (view, found), its in zip(pictures, chosen):
+        view.update((kind, of_sizes[its]) for kind, of_sizes in found.items())
+
+
+def limits_page(plan, wads, states, palette, options, doors, plain):
+    """The bytes of the page; `plain` is the summary as text."""
     level, names = plan.level, traces.Names(wads)
     grid = states[0].grid
     data = {'title': f'{level.name} of {os.path.basename(level.wad)}', 'wads': list(map(os.path.basename, wads)),
             'counts': COUNTS, 'limits': options.limits, 'capped': CAPPED, 'directions': grid.directions,
-            'vertexes': level.vertexes, 'sectors': len(level.sectors), 'reached': len(grid.reached),
-            'lines': [[*line[:2], int(plan.is_wall(number))] for number, line in enumerate(level.lines)],
+            'vertexes': columns(level.vertexes), 'sectors': len(level.sectors), 'reached': len(grid.reached),
+            'lines': columns([*line[:2], int(plan.is_wall(number))] for number, line in enumerate(level.lines)),
             'doors': sorted(doors), 'doubts': [pair for pair, _ in grid.ground.doubts.most_common(20)],
-            'states': [state.packed(names, palette, options.views) for state in states]}
-    room = (MOST_BYTES - len(page(TEMPLATE, data))) // len(states)
+            'states': [state.packed(names, options.views) for state in states]}
+    pictures = sorted((it for state in states for it in state.pictures(palette)), key=lambda it: it[0])
+    put_in([it[1:] for it in pictures], room_in(data, plain) - len(pictures) * WORDS)
+    room = room_in(data, plain) // len(states)
     for state, shown in zip(states, data['states']):
         shown['small'] = thinned(state.small(palette, SMALL_PICTURES), room)
-    return page(TEMPLATE, data)
+    return page(TEMPLATE, data, plain)

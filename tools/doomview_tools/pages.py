@@ -1,5 +1,6 @@
 """Pages of one file: a template of data/ with its data and pictures in it, which need nothing from elsewhere."""
 import base64
+import html
 import json
 
 from . import home
@@ -8,6 +9,8 @@ from .png import indexed_png
 from .trouble import Trouble
 
 PLACE = '/*DATA*/null'  # of the data in a template
+PLAIN = '<!--PLAIN-->'  # of the plain text
+DIGITS = ''.join(chr(code) for code in range(35, 127) if chr(code) not in '\\<')  # none that a text has to escape
 
 
 def packed(data):
@@ -15,8 +18,23 @@ def packed(data):
     return json.dumps(data, separators=(',', ':')).replace('</', '<\\/')
 
 
-def page(template, data):
-    """The bytes of a page."""
+def columns(rows):
+    """Rows of whole numbers as a page has them: of each column the least number, the digits of a number, and the
+    digits of all numbers without the least."""
+    return [column(numbers) for numbers in zip(*rows)]
+
+
+def column(numbers):
+    least, width = min(numbers), 1
+    while len(DIGITS) ** width <= max(numbers) - least:
+        width += 1
+    places = [len(DIGITS) ** place for place in reversed(range(width))]
+    return [least, width, ''.join(DIGITS[(number - least) // place % len(DIGITS)]
+                                  for number in numbers for place in places)]
+
+
+def page(template, data, plain=''):
+    """The bytes of a page; `plain` is a text that stands on it where its script cannot run."""
     path = home.data(template)
     try:
         with open(path, encoding='utf-8') as file:
@@ -25,7 +43,7 @@ def page(template, data):
         text = ''
     if PLACE not in text:
         raise Trouble(f'{path} is missing or damaged; take the whole folder of doomview anew')
-    return text.replace(PLACE, packed(data)).encode()
+    return text.replace(PLAIN, html.escape(plain)).replace(PLACE, packed(data)).encode()
 
 
 def text_of(png):

@@ -1,4 +1,5 @@
 """Pages of one file as a browser shows them: Chromium without a window, where it is installed."""
+import functools
 import json
 import os
 import re
@@ -25,6 +26,17 @@ def data_of(path):
     """The data of a page."""
     with open(path, encoding='utf-8') as file:
         return json.loads(DATA.search(file.read())[1])
+
+
+def rows_of(columns):
+    """Rows of numbers of a page, which has them as columns of digits."""
+    digits = {it: i for i, it in enumerate(it for it in map(chr, range(35, 127)) if it not in '\\<')}
+    found = []
+    for least, size, text in columns:
+        parts = [text[i:i + size] for i in range(0, len(text), size)]
+        found.append([least + functools.reduce(lambda sum, it: sum * len(digits) + digits[it], part, 0)
+                      for part in parts])
+    return list(zip(*found))
 
 
 def shown(path, script):

@@ -1,15 +1,17 @@
 """Tests the tool limits-map: with a stand-in for doomview, and with the program that DOOMVIEW_TESTED names."""
 import json
 import os
+import random
 import signal
 import struct
 import subprocess
 import time
+import types
 import unittest
 
 import pages_shown
 from made_files import COMMAND, Tools, name, wad
-from doomview_tools import ground, levels, limits_page, traces
+from doomview_tools import cells, counting, ground, levels, limits_page, traces
 
 COARSE = ['--step', '256', '--directions', '4']
 TESTED = os.environ.get('DOOMVIEW_TESTED', '')
@@ -60,6 +62,21 @@ def hall():
                                  for tag, it in enumerate(sectors)))]
 
 
+class Made:
+    """Runs that count by chance, and draw frames that no compression makes smaller."""
+
+    def __init__(self):
+        self.chance = random.Random(1)
+
+    def counts(self, rows, what=''):
+        return [{'planes': self.chance.randrange(1025), 'openings': self.chance.randrange(245761),
+                 'fragments': self.chance.randrange(257), 'sprites': self.chance.randrange(129)} for _ in rows]
+
+    def drawn(self, job, rows, size):
+        repeated = 1 if job == 'render' else 64
+        return [self.chance.randbytes(size // repeated) * repeated for _ in rows]
+
+
 class LimitsMap(Tools):
     def setUp(self):
         super().setUp()
@@ -105,7 +122,9 @@ class LimitsMap(Tools):
         """Raised limits are those of the status; what is counted no further counts as over."""
         planes = self.looked('--planes', '512')[1]['states'][0]['counts']['planes']
         self.assertEqual((planes['limit'], planes['over']), (512, 0))
-        status, output, _ = self.run_tool('limits-map', 'hall.wad', 'MAP01', '--shut', *COARSE, doomview=self.counting)
+        words = ['hall.wad', 'MAP01', 'page.html', '--shut', *COARSE]
+        status, output, _ = self.run_tool('limits-map', *words, doomview=self.counting)
+        self.assertIn(f'<pre id="plain">{output.decode()}</pre>', self.read('page.html'))  # for an old browser
         lines = output.decode().splitlines()
         self.assertEqual((status, lines[0]), (1, 'MAP01 of hall.wad: a player reaches 3 of its 4 sectors'))
         self.assertRegex(lines[1], r'^doors shut: \d+ views from \d+ places$')
@@ -119,8 +138,9 @@ class LimitsMap(Tools):
         data = pages_shown.data_of(self.at('page.html'))
         self.assertEqual((data['title'], data['reached'], data['doors']), ('MAP01 of hall.wad', 3, [1]))
         for number, state in enumerate(data['states']):
-            self.assertIn(0, {cell[5] for cell in state['cells']})
-            for x, y, size, floor, sector, _, planes, _, openings, _, fragments, _, sprites, way in state['cells']:
+            places = pages_shown.rows_of(state['cells'])
+            self.assertIn(0, {place[5] for place in places})
+            for x, y, size, floor, sector, _, planes, _, openings, _, fragments, _, sprites, way in places:
                 counts = 60 + x // 4 + number, y, min(256, abs(y)), way * 16 // data['directions']
                 self.assertEqual((planes, openings, fragments, sprites), counts)
             for view in state['views']:
@@ -137,6 +157,32 @@ class LimitsMap(Tools):
         fragments, planes = [['lump 7', 2], ['texture 3', 1]], [['lump 8', 2], ['texture 2', 1]]
         self.assertEqual(found, {'fragments': [2, 2, fragments], 'planes': [3, 2, planes],
                                  'sprites': [1, 1, [['lump 9', 1]]]})
+
+    def test_size(self):
+        """A page of as many places and views as there can be is no larger than 3 MB, and the worst have pictures."""
+        plan = ground.Plan(levels.read([self.hall], 'MAP01'))
+        options = types.SimpleNamespace(limits=counting.LIMITS, all=True, step=8, directions=8, views=20)
+        states = [limits_page.State(label, cells.Grid(ground.Ground(plan), Made(), {0, 1, 2}, options), Made())
+                  for label in ('shut', 'open')]
+        self.assertGreater(min(len(state.grid.cells) for state in states), 9000)
+        made = limits_page.limits_page(plan, [self.hall], states, bytes(768), options, {1: 124}, '')
+        page = self.write('page.html', made)
+        self.assertLessEqual(os.path.getsize(page), 3000000)
+        for shown in pages_shown.data_of(page)['states']:
+            for order in shown['order'].values():
+                found = [len(shown['views'][view]['picture']) for view in order]
+                self.assertGreater(found[0], 16000)
+                self.assertGreater(len(set(found)), 1)
+                self.assertEqual(found, sorted(found, reverse=True))
+
+    def test_pictures(self):
+        """Pictures are whole as far as there is room, then of half the size, then none."""
+        for room, sizes in [(99, [9, 9, 9]), (27, [9, 9, 9]), (26, [9, 9, 3]), (15, [9, 3, 3]), (9, [3, 3, 3]),
+                            (8, [3, 3, 0]), (0, [0, 0, 0])]:
+            views = [{}, {}, {}]
+            limits_page.put_in([(view, {'picture': ('123456', '12', ''), 'planes': ('123', '1', '')})
+                                for view in views], room)
+            self.assertEqual([len(view['picture'] + view['planes']) for view in views], sizes)
 
     @unittest.skipUnless(pages_shown.BROWSER, 'no Chromium here')
     def test_shown(self):
@@ -158,7 +204,7 @@ class LimitsMap(Tools):
             all.push(overs.length, overs.filter(isBlack).length, now().cells.filter(cell => cell.isCut).length);
             all.push(now().cells.filter(cell => cellAt(cell[X], cell[Y] + .5) === cell).length);
             const far = now().cells.find(cell => now().views.every(it => it.row.join() !== rowOf(cell, 0).join()));
-            look(far); all.push(text('row'), rowOf(far, 0).join(), text('shown')); return all;''')
+            look(far); all.push(text('row'), rowOf(far, 0).join(), text('shown'), find('plain')); return all;''')
         data = pages_shown.data_of(self.at('page.html'))
         rows = [','.join(map(str, view['row'])) for view in data['states'][1]['views']]
         self.assertGreater(found[0], 20)
@@ -170,13 +216,13 @@ class LimitsMap(Tools):
         self.assertGreater(found[8], found[9])
         self.assertEqual(found[9], found[3])
         self.assertEqual(found[10], 320)
-        made_of, overs, black, cut, pointed, row, expected, shown = found[11:]
+        made_of, overs, black, cut, pointed, row, expected, shown, plain = found[11:]
         self.assertRegex(made_of, r'^\d+ of the \d+ planes have a pixel in this view: \w+ \d+')
         self.assertGreater(overs, 3)
         self.assertGreater(black, .8 * overs)  # but for lines, dots and the cone over them
         self.assertGreater(cut, 3)
-        self.assertEqual(pointed, len(data['states'][1]['cells']))
-        self.assertEqual(row, expected)
+        self.assertEqual(pointed, len(pages_shown.rows_of(data['states'][1]['cells'])))
+        self.assertEqual((row, plain), (expected, None))
         self.assertRegex(shown, r'^planes \d+ · x [-\d.]+ y [-\d.]+, [\d.]+°; the nearest picture is from x [-\d.]+ y ')
 
     def test_wrong(self):
@@ -188,35 +234,47 @@ class LimitsMap(Tools):
         for part, *words in [('has to end in .html', 'page.htm'), ('there is no folder absent', 'absent/page.html'),
                              ('multiple of 8', '--step', '60'), ('--planes: a number from 128', '--planes', '1'),
                              ('there is no folder absent', '--worst', 'absent/rows'),
-                             ('there is no folder absent', '--opened', 'absent/open.wad')]:
+                             ('there is no folder absent', '--opened', 'absent/open.wad'),
+                             ('cannot write', 'a' * 300 + '.html'), ('is named twice', '--opened', 'hall.wad'),
+                             ('is named twice', '--worst', 'new', '--opened', 'new')]:
             self.refuses(part, 'limits-map', 'hall.wad', 'MAP01', *words, doomview=self.counting)
         self.refuses('there is no WAD absent', 'limits-map', 'absent', 'MAP01', doomview=self.counting)
         lumps = dict(hall())
         for part, label, data in [('has no start of a player', 'THINGS', b''),
                                   ('a vertex of line 0 is not there', 'VERTEXES', b''),
-                                  ('is damaged', 'LINEDEFS', b'')]:
+                                  ('is damaged', 'LINEDEFS', b''), ('NODES ends within', 'NODES', bytes(99)),
+                                  ('lead to 1 of its 4 leaves', 'NODES', b''),
+                                  ('THINGS ends within', 'THINGS', lumps['THINGS'][:-1])]:
             self.write('bad.wad', wad([('MAP01', b''), *{**lumps, label: data}.items()]))
             self.refuses(part, 'limits-map', 'bad.wad', 'MAP01', 'page.html', '--opened', 'opened.wad',
                          doomview=self.counting)
             self.assertFalse({'page.html', 'opened.wad'} & {*os.listdir(self.folder)})
 
     def test_interrupt(self):
-        """An interrupt ends the runs that go on, and leaves nothing behind."""
+        """A signal ends the runs that go on, and leaves nothing behind."""
+        for number in (signal.SIGINT, signal.SIGTERM):
+            with self.subTest(signal=number):
+                self.interrupted(number)
+
+    def interrupted(self, number):
         slow = self.stand_in('slow', '#!/bin/sh\ncase "$*" in *.1.csv*) exit 0 ;; esac\n'
                              'echo $$ >>pids\nexec sleep 60\n')
-        os.symlink('/bin/sleep', self.at('bin', 'sleep'))
-        os.mkdir(self.at('tmp'))
+        if not os.path.exists(self.at('tmp')):
+            os.symlink('/bin/sleep', self.at('bin', 'sleep'))
+            os.mkdir(self.at('tmp'))
+        before = set(os.listdir(self.folder))
         run = subprocess.Popen([COMMAND, 'limits-map', 'hall.wad', 'MAP01', 'page.html'], cwd=self.folder,
-                               env=self.surroundings(slow, TMPDIR=self.at('tmp')))
+                               env=self.surroundings(slow, TMPDIR=self.at('tmp')), stderr=subprocess.DEVNULL)
         for _ in range(600):
             if os.path.exists(self.at('pids')):
                 break
             time.sleep(.1)
-        run.send_signal(signal.SIGTERM)
-        self.assertEqual(run.wait(60), 128 + signal.SIGTERM)
+        run.send_signal(number)
+        self.assertEqual(run.wait(60), 128 + number)
         for pid in self.read('pids').split():
             self.assertFalse(os.path.exists(f'/proc/{pid}'), pid)
-        self.assertEqual((os.listdir(self.at('tmp')), os.path.exists(self.at('page.html'))), ([], False))
+        os.remove(self.at('pids'))
+        self.assertEqual((os.listdir(self.at('tmp')), set(os.listdir(self.folder)) - before - {'cache'}), ([], set()))
 
     @unittest.skipUnless(TESTED, 'no program is named')
     def test_program(self):
@@ -225,16 +283,16 @@ class LimitsMap(Tools):
         words = ['room.wad', 'MAP01', 'page.html', '--shut', '--step', '256']
         self.assertEqual(self.run_tool('limits-map', *words, doomview=TESTED)[0], 0)
         data = pages_shown.data_of(self.at('page.html'))
-        cells, names = data['states'][0]['cells'], data['counts']
+        places, names = pages_shown.rows_of(data['states'][0]['cells']), data['counts']
         rows = ['x,y,z,angle'] + [
             f'{x << 16},{(y << 16) + 32768},{floor + 41 << 16},{(way << 32) // data["directions"]}'
-            for x, y, _, floor, _, _, *counts in cells for way in counts[1::2]]
+            for x, y, _, floor, _, _, *counts in places for way in counts[1::2]]
         self.write('rows.csv', ''.join(f'{row}\n' for row in rows).encode())
         words = ['limits', 'MAP01', 'room.wad', '--path', 'rows.csv']
         lines = iter(self.run_tool(*words, doomview=TESTED)[1].decode().splitlines())
-        for cell in cells:
+        for place in places:
             for i, count in enumerate(names):
-                self.assertIn(f' {count} {cell[6 + 2 * i]} ', next(lines) + ' ')
+                self.assertIn(f' {count} {place[6 + 2 * i]} ', next(lines) + ' ')
 
 
 if __name__ == '__main__':

@@ -52,9 +52,13 @@ def level_lumps():
             ('SIDEDEFS', b''.join(struct.pack('<hh8s8s8sH', 0, 0, *map(name, side[:3]), side[3]) for side in SIDES)),
             ('VERTEXES', struct.pack('<8h', 0, 0, 0, 256, 256, 256, 256, 0)),
             ('SEGS', b''.join(struct.pack('<6H', *seg) for seg in segs)),
-            ('SSECTORS', struct.pack('<6H', 3, 0, 1, 3, 1, 4)), ('NODES', b''),
+            ('SSECTORS', struct.pack('<6H', 3, 0, 1, 3, 1, 4)), ('NODES', NODES),
             ('SECTORS', b''.join(struct.pack('<hh8s8shhh', *it[:2], *map(name, it[2:4]), it[4], 0, 0)
                                  for it in sectors))]
+
+
+# Of three leaves, the first at all places west of 30000.
+NODES = b''.join(struct.pack('<12h2H', 30000, 0, 0, 1, *[0] * 8, *children) for children in [(0x8001, 0x8002), (0, 0x8000)])
 
 
 def level_wad(labels=('MAP01',)):
@@ -242,6 +246,22 @@ view 0: x -64.5 y 32 eye 41 angle 90, row -4227072,2097152,2686976,1073741824
             self.assertEqual([head[:len(part)] for head, part in zip(heads, told)], told)
             self.assertEqual(len(heads), len(told))
         self.assertIn('angle 270, row 196608,262144,2686976,3221225472', self.runs('3,4,-90')[1].decode())
+
+    def test_open(self):
+        """--open puts a WAD with the doors open behind the others, and names planes by it."""
+        lumps = dict(level_lumps())
+        lines = bytearray(lumps['LINEDEFS'])
+        struct.pack_into('<HHHH', lines, 14 * 2 + 6, 1, 0, 3, 5)  # with a special, which makes a door of sector 2
+        self.write('door.wad', wad([('MAP01', b''), *{**lumps, 'LINEDEFS': bytes(lines)}.items()]))
+        copying = LISTING.replace('LINES', repr(LINES.splitlines()[:10])) + '''
+import shutil
+shutil.copy(next(word for word in words if word.endswith('open.wad')), 'seen.wad')
+'''
+        words = ['why-limit', '--iwad', 'level.wad', 'door.wad', 'MAP01', '0,0,0', '--open']
+        status, _, error = self.run_tool(*words, doomview=self.stand_in('copying', copying))
+        self.assertEqual((status, error), (0, ''))
+        sectors = levels.read([self.at('seen.wad')], 'MAP01').sectors
+        self.assertEqual([sector.ceiling for sector in sectors], [128, 96, 124])
 
     def test_over(self):
         """A view over a limit is status 1; what is past the 256th fragment is counted."""

@@ -2,6 +2,7 @@
 are made here; and where Freedoom and the program that DOOMVIEW_TESTED names are there, the files of the repository."""
 import os
 import shutil
+import signal
 import subprocess
 import sys
 import tempfile
@@ -113,6 +114,11 @@ class Check(Tools):
                          '  view 0 wrong at 0,0,2686976,0 size 5')
 
     def test_path(self):
+        reading, writing = os.pipe()
+        os.close(reading)
+        with open(writing, 'wb') as pipe:  # which nobody reads
+            status, _, error = self.run_command(CHECK, 'made.csv', '--path', 'MAP01', stdout=pipe)
+        self.assertEqual((status, error), (-signal.SIGPIPE, ''))
         status, output, _ = self.run_command(CHECK, 'made.csv', '--path', 'MAP01')
         self.assertEqual((status, output), (0, b'x,y,z,angle\n0,0,2686976,0\n65536,0,2686976,0\n131072,0,2686976,0\n'))
 

@@ -73,8 +73,13 @@ def check(options):
         raise Trouble(f'--step is a multiple of {LEAST_STEP}, and {options.step} is none')
     if options.page is not None and not options.page.endswith('.html'):
         raise Trouble(f'the name of the page has to end in .html, and {options.page} does not')
-    for path in filter(None, (options.page, options.worst, options.opened)):
+    written = list(filter(None, (options.page, options.worst, options.opened)))
+    for path in written:
         check_target(path)
+    used = list(map(os.path.realpath, written + options.files))
+    for path in written:
+        if used.count(os.path.realpath(path)) > 1:
+            raise Trouble(f'{path} is named twice, or is a WAD that is read; name another file')
 
 
 def numbers(plan, states, options):
@@ -99,7 +104,7 @@ def summary(found):
         yield f'doors {state["doors"]}: {state["views"]} views from {state["places"]} places'
         for name, it in state['counts'].items():
             most = f'{it["most"]} or more' if name in counting.CAPPED and it['most'] >= it['limit'] else it['most']
-            over = f'{it["over"]} views over' if it['over'] else 'none over'
+            over = f'{it["over"]} view{"s" * (it["over"] > 1)} over' if it['over'] else 'none over'
             row = ','.join(map(str, it['row'])) if it['row'] else '-'
             yield f'  {name:9} most {most} of {it["limit"]}, {over}, row {row}'
 
@@ -133,8 +138,8 @@ def worst_path(states, options):
 
 
 def run(options):
-    check(options)
     options.files = cli.wads_of(options)
+    check(options)
     options.limits = {**LIMITS, 'planes': options.planes, 'openings': options.openings}
     progress = Progress('limits-map')
     with tempfile.TemporaryDirectory(prefix='doomview-') as folder:
@@ -149,16 +154,20 @@ def run(options):
 def looked(options, runs, folder, progress):
     """Looks at the map, prints the summary and writes the files; the status."""
     runs.check()
-    plan = ground.Plan(levels.read(options.files, options.map))
+    level = levels.read(options.files, options.map)
+    level.check_whole()
+    plan = ground.Plan(level)
     states, doors = states_of(plan, runs, options, folder, progress)
+    found = numbers(plan, states, options)
+    told = ''.join(f'{it}\n' for it in summary(found))
     progress.tell('drawing the worst views')
     if options.page:
-        write_whole(options.page, limits_page(plan, options.files, states, palette_of(options.files), options, doors))
+        write_whole(options.page, limits_page(plan, options.files, states, palette_of(options.files), options, doors,
+                                              told))
     if options.opened:
         write_whole(options.opened, ground.with_ceilings(plan.level, doors))
     if options.worst:
         write_whole(options.worst, worst_path(states, options).encode())
-    found = numbers(plan, states, options)
     progress.clear()
-    write_output(json.dumps(found, indent=1) + '\n' if options.json else ''.join(f'{it}\n' for it in summary(found)))
+    write_output(json.dumps(found, indent=1) + '\n' if options.json else told)
     return OVER if found['over'] else 0

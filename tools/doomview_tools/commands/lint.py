@@ -68,8 +68,7 @@ def refusal(name, files):
 def run(options):
     files = cli.wads_of(options)
     level = levels.read(files, options.map)
-    if level.extended_nodes() or not level.leaves:
-        raise level.damage()
+    level.check_whole()
     found = list(checks.findings(level, files))
     write_output(''.join(line_of(it) + '\n' for it in found))
     status = refusal(level.name, files) if program.is_built() else 0

@@ -2,7 +2,7 @@
 import os
 import tempfile
 
-from .. import cli, levels, lists, paths, program, traces
+from .. import cli, ground, levels, lists, paths, program, traces
 from ..counting import LIMITS, RAISED
 from ..explanations import explained
 from ..files import write_whole
@@ -26,8 +26,8 @@ that made one here. The second has the lines whose fragments split them. Fragmen
 128th are counted.
 
 A view is X,Y,ANGLE: map units, and degrees from east to the left, as in a map editor; the eye is 41 over the floor. Or
-it is a row of a camera path, X,Y,Z,ANGLE, as limits-map and its page have it. With --path it is the number of a view,
-and without any all views of the path are told of.
+it is a row of a camera path, X,Y,Z,ANGLE, as limits-map and its page have it; with --open for a row of the doors open.
+With --path it is the number of a view, and without any all views of the path are told of.
 ''', '''
 $ doomview why-limit freedoom2.wad MAP12 -2104,-1431.5,45
 $ doomview why-limit freedoom2.wad MAP12 -137887744,-93814784,-3604480,536870912
@@ -46,6 +46,7 @@ def add_words(parser):
     parser.add_argument('views', metavar='VIEW', nargs='*', help='X,Y,ANGLE, or X,Y,Z,ANGLE as in a camera path; with '
                         '--path its number there, from 0')
     parser.add_argument('--path', metavar='FILE', help='a camera path')
+    parser.add_argument('--open', action='store_true', help='opens the doors, as limits-map does when it counts again')
     parser.add_argument('--all', action='store_true', help='shows all lines of a table, and not the first 20')
     cli.add_job_options(parser, 'list', WITHOUT)
 
@@ -95,6 +96,13 @@ def listed(options, files, rows, folder):
     return lists.ListFile(output)
 
 
+def opened(files, level, folder):
+    """The WADs with one more behind them, in which the doors are open, and the level of that."""
+    path = os.path.join(folder, 'open.wad')
+    write_whole(path, ground.with_ceilings(level, ground.Plan(level).doors()))
+    return files + [path], levels.read([path], level.name)
+
+
 def counts_of(view):
     """The counts of a view by name; of one over even a raised limit that count alone."""
     if view.over:
@@ -107,8 +115,11 @@ def counts_of(view):
 def run(options):
     files = cli.wads_of(options)
     level = levels.read(files, options.map)
+    level.check_whole()
     rows = rows_of(options, level)
     with tempfile.TemporaryDirectory(prefix='doomview-') as folder:
+        if options.open:
+            files, level = opened(files, level, folder)
         found = listed(options, files, [row for _, row in rows], folder)
         places = lists.Places(level, traces.Names(files), 'what doomview list wrote')
         is_bad = False
