@@ -18,17 +18,21 @@ use std::process::ExitCode;
 use std::{env, io};
 
 fn main(rt: HostRuntime) -> ExitCode {
+    match read_words(&rt, rt.alloc()) {
+        Ok(words) => run_here(&rt, &words),
+        Err(error) => end(&rt, status_of(error)),
+    }
+}
+
+// The run on the files and the streams of the system.
+fn run_here(rt: &HostRuntime, words: &[String]) -> ExitCode {
     let alloc = rt.alloc();
-    let words = match read_words(&rt, alloc) {
-        Ok(words) => words,
-        Err(error) => return end(&rt, status_of(error)),
+    let Ok(mut shelf) = HostShelf::new(rt, alloc) else {
+        return end(rt, Status::OutOfMemory);
     };
-    let Ok(mut shelf) = HostShelf::new(&rt, alloc) else {
-        return end(&rt, Status::OutOfMemory);
-    };
-    let mut out = HostSink::new_out(&rt);
-    let mut notes = HostSink::new_err(&rt);
-    let status = run(alloc, &words, &mut shelf, &mut out, &mut notes);
+    let mut out = HostSink::new_out(rt);
+    let mut notes = HostSink::new_err(rt);
+    let status = run(alloc, words, &mut shelf, &mut out, &mut notes);
     exit_of(&status)
 }
 
