@@ -56,7 +56,7 @@ lists-stopped p q list name e stop visits = record {
   takes_on = tt;
   err = record {
     count = visits.err.count;
-    given = visits.err.given;
+    some = visits.err.some;
     within = visits.err.within;
     each = λ start before stood. record { counted = visits.err.each start.counter before stood.counted; name = stood.name; listed = tt };
   };

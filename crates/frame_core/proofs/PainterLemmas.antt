@@ -115,7 +115,7 @@ pub visits-one : {A E : Type 0} (took takes : Event → Type 0) (before : A → 
     Visits {A = A} {E = E} took takes before (λ start es. after start es (Ok tt)) (λ start es stop. after start es (Err stop)) (e ∷ []) result
 visits-one took takes before after e (Ok unit) more still = record { ok = record { each = more }; takes_on = record { each = still refl }; err = tt }
 visits-one took takes before after e (Err stop) more still =
-    record { ok = tt; takes_on = tt; err = record { count = 1; given = omega arith; within = omega arith; each = more } }
+    record { ok = tt; takes_on = tt; err = record { count = 1; some = omega arith; within = omega arith; each = more } }
 
 -- the answer of a visitor that was given one event
 abbrev pub PainterVisits : (Painter → ℕ → ℕ) → PainterValue → PainterValue → List Event → Result (Unit {0}) ViewFault → Type 0
