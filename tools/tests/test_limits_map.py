@@ -264,7 +264,8 @@ class LimitsMap(Tools):
             os.mkdir(self.at('tmp'))
         before = set(os.listdir(self.folder))
         run = subprocess.Popen([COMMAND, 'limits-map', 'hall.wad', 'MAP01', 'page.html'], cwd=self.folder,
-                               env=self.surroundings(slow, TMPDIR=self.at('tmp')), stderr=subprocess.DEVNULL)
+                               env=self.surroundings(slow, TMPDIR=self.at('tmp')), stderr=subprocess.DEVNULL,
+                               preexec_fn=lambda: signal.signal(signal.SIGINT, signal.SIG_DFL))  # a script's background
         for _ in range(600):
             if os.path.exists(self.at('pids')):
                 break
