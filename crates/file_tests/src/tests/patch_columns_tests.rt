@@ -25,7 +25,11 @@ fn a_patch_of_one_column_has_one_post(rt: HostRuntime) {
         left: 2,
         top: -1,
     };
-    let post = post_of(5, 2, 15);
+    let post = Post {
+        topdelta: 5,
+        length: 2,
+        first: 15,
+    };
     // it goes on past the end of the lump
     let cut = post_of(7, 0, 23);
     let read = [
