@@ -335,7 +335,7 @@ def build_all():
     """Builds the program, or ends this process."""
     began = time.time()
     work = Build(crates_below(PROGRAM))
-    say(f'building: {len(work.crates)} crates are proved, side by side. From nothing that takes about half an hour on '
+    say(f'building: {len(work.crates)} crates are proved, side by side. From nothing that takes about 25 minutes on '
         'four processors')
     free = shutil.disk_usage(TOP).free
     if free < BUILD_DISK and not os.path.exists(COPIES):

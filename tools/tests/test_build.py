@@ -280,7 +280,7 @@ class Build(unittest.TestCase):
             told.append(run.stderr.readline())
         run.send_signal(signal.SIGTERM)
         run.communicate()
-        self.assertRegex(told[0], 'building: 5 crates .* about half an hour on four processors\n$')
+        self.assertRegex(told[0], 'building: 5 crates .* about 25 minutes on four processors\n$')
         self.assertRegex(told[-1], 'doomview: 3 of 5 crates, about (9|10|11) minutes left; now high\n$')
 
     def seconds(self):

@@ -1,8 +1,6 @@
 -- The planes of a view whose flats have other numbers are built alike, and counted alike.
 use Rattle.picture_rules.proofs.Common.{[], AllByRecursion, ap, Bool, cond, false, length-map, List, map, None, Option, option_map, refl, slice_get, slice_set, Some, suc, true, zero, ℕ, ⊤, ◌++◌, ◌+◌, ◌-◌, ◌∙◌, ◌∷◌, ◌≡◌}
-use Rattle.picture_rules.specs.declared.plane.PlaneKey.{PlaneKey}
-use Rattle.picture_rules.specs.Words.{add, after_event, after_events, ceiling_checked, ceiling_found, check, check_plane, check_some, checked_plane, column_marked, columns_marked, empty_plane, find, floor_checked, floor_found, is_free, mark, mark_some, no_planes, number_of, number_or_add, Plane, plane_counts, PlaneEvent, planes_of, PlanesNow, PlaneWall, set_run, wall_marked, with_ceiling, with_floor, with_run}
-use Rattle.picture_rules.specs.plane.Built.{Finds, Draws}
+use Rattle.alike_rules.specs.Rules.{Draws, Finds, Plane, PlaneEvent, PlaneKey, PlaneWall, PlanesNow, add, after_event, after_events, ceiling_checked, ceiling_found, check, check_plane, check_some, checked_plane, column_marked, columns_marked, empty_plane, find, floor_checked, floor_found, is_free, mark, mark_some, no_planes, number_of, number_or_add, plane_counts, planes_of, set_run, wall_marked, with_ceiling, with_floor, with_run}
 use Rattle.alike_rules.proofs.PlaneLemmas.{IsFlatOf, IsOneToOne, IsPlaneOf, check-moved, find-moved, mark-moved, moved_key, moved_plane}
 
 abbrev pub moved_now : (ℕ → ℕ) → PlanesNow → PlanesNow

@@ -1,11 +1,6 @@
 -- Sprites whose lumps have other numbers: made and put in order alike, and the same dots of sprites and weapons.
 use Rattle.picture_rules.proofs.Common.{[], Bool, cond, false, int_le, length, length-map, List, map, map-append, nat_lt, None, Option, option_map, pos, position_or_len, refl, Some, sym, true, ℕ, ℤ, ◌&&◌, ◌++◌, ◌∷◌, ◌≡◌}
-use Rattle.picture_rules.specs.Words.{add_entry, Art, Dot, draw_order, Drawseg, entry_for, entry_has, entry_of, entry_within, gives_bottom, gives_top, greater_word, insert_entry, is_behind, left_edge, lesser_word, lump_source, minus, misses_view, painter_of, picture_column, picture_first, picture_height, picture_last, right_edge, rows_between, SPRITE, sprite_bottom, sprite_column, sprite_dots, sprite_in_front, sprite_masked, sprite_top, ViewValue, WEAPON, weapon_column, weapon_dots, weapon_first, weapon_iscale, weapon_last, weapon_left, weapon_map, weapon_masked, weapon_mid, weapon_right, weapon_within, WeaponLayer, with_entry}
-use Rattle.picture_rules.specs.declared.sprite.Placed.{Placed}
-use Rattle.picture_rules.specs.declared.sprite.Seen.{Seen}
-use Rattle.picture_rules.specs.declared.sprite.Shape5.{Shape5}
-use Rattle.picture_rules.specs.declared.sprite.SpriteEntry.{SpriteEntry}
-use Rattle.picture_rules.specs.declared.sprite.TheConstants.{MAX_VISSPRITES}
+use Rattle.alike_rules.specs.Rules.{Art, Dot, Drawseg, MAX_VISSPRITES, Placed, SPRITE, Seen, Shape5, SpriteEntry, ViewValue, WEAPON, WeaponLayer, add_entry, draw_order, entry_for, entry_has, entry_of, entry_within, gives_bottom, gives_top, greater_word, insert_entry, is_behind, left_edge, lesser_word, lump_source, minus, misses_view, painter_of, picture_column, picture_first, picture_height, picture_last, right_edge, rows_between, sprite_bottom, sprite_column, sprite_dots, sprite_in_front, sprite_masked, sprite_top, weapon_column, weapon_dots, weapon_first, weapon_iscale, weapon_last, weapon_left, weapon_map, weapon_masked, weapon_mid, weapon_right, weapon_within, with_entry}
 use Rattle.alike_rules.proofs.DotLemmas.{IsMovedArt, joined-moved, lump-moved, moved_dot, painter-moved, posts_dots-moved}
 
 abbrev pub moved_shape : (ℕ → ℕ) → Shape5 → Shape5

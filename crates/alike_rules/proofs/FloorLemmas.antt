@@ -1,8 +1,6 @@
 -- Planes whose flats have other numbers: the same dots of floors, ceilings and sky.
 use Rattle.std.proofs.Common.{◌≡◌, ℕ, map, Option, Some, None, refl, ap, ◌∙◌}
-use Rattle.picture_rules.specs.Words.{Art, column, flat_colour, floor_colour, floor_dots, holds, listed, listed_from, lump_source, Painter, painter_of, PLANE, Plane, plane_dots, plane_dots_by, run_dots, SKY, sky_colour, sky_column, sky_dots, ViewValue}
-use Rattle.picture_rules.specs.declared.plane.Flat4.{Flat4}
-use Rattle.picture_rules.specs.declared.plane.Flat4.TheVariants.{Sky, Lump}
+use Rattle.alike_rules.specs.Rules.{Art, Flat4, Lump, PLANE, Painter, Plane, SKY, Sky, ViewValue, column, flat_colour, floor_colour, floor_dots, holds, listed, listed_from, lump_source, painter_of, plane_dots, plane_dots_by, run_dots, sky_colour, sky_column, sky_dots}
 use Rattle.alike_rules.proofs.DotLemmas.{IsMovedArt, column_dots-moved, joined-moved, lump-moved, moved_dot, moved_painter, painter-moved}
 use Rattle.alike_rules.proofs.PlaneLemmas.{moved_flat, moved_plane}
 

@@ -1,7 +1,6 @@
 -- Art whose lumps have other numbers: the same dots of masked middles, and of the whole masked pass.
 use Rattle.picture_rules.proofs.Common.{[], ap, Bool, cond, false, filter, length, List, map, map-append, None, Option, refl, slice_get, Some, suc, sym, true, zero, ℕ, ◌&&◌, ◌+◌, ◌==◌, ◌∙◌, ◌∷◌, ◌≡◌}
-use Rattle.picture_rules.specs.Words.{Art, columns_at, Drawseg, drawseg_scale, joined_lists, listed_from, LUMP, masked_dots, MIDDLE, middle_by, middle_column, middle_masked, middles_at, middles_of, painter_of, Post, posts_dots, same_number, scale_map, Source, sprite_dots, sprite_in_front, sprite_step, sprites_from, ViewValue}
-use Rattle.picture_rules.specs.declared.sprite.SpriteEntry.{SpriteEntry}
+use Rattle.alike_rules.specs.Rules.{Art, Drawseg, LUMP, MIDDLE, Post, Source, SpriteEntry, ViewValue, columns_at, drawseg_scale, joined_lists, listed_from, masked_dots, middle_by, middle_column, middle_masked, middles_at, middles_of, painter_of, posts_dots, same_number, scale_map, sprite_dots, sprite_in_front, sprite_step, sprites_from}
 use Rattle.alike_rules.proofs.DotLemmas.{IsMovedArt, joined-moved, moved_dot, moved_source, painter-moved, posts_dots-moved}
 use Rattle.alike_rules.proofs.EntryLemmas.{front-same, moved_entry, sprite_dots-moved}
 

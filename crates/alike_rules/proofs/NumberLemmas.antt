@@ -1,7 +1,6 @@
 -- The numbers of a fragment whose sectors' flats have other numbers are the same.
 use Rattle.picture_rules.proofs.Common.{Bool, None, Option, option_map, refl, Some, ℕ, ℤ, ◌≡◌}
-use Rattle.picture_rules.specs.Words.{bottom_by_step, bottom_is_constant, bottom_mid, bottom_part, bottom_silhouette, fragment_numbers, is_masked, middle_mid, middle_part, numbers_by, shuts_bottom, shuts_top, sky_flat, Surface, top_by_step, top_is_constant, top_mid, top_part, top_silhouette, ViewValue, world_bottom, world_high, world_low, world_top}
-use Rattle.picture_rules.specs.declared.wall.WallFacts.{WallFacts}
+use Rattle.alike_rules.specs.Rules.{Surface, ViewValue, WallFacts, bottom_by_step, bottom_is_constant, bottom_mid, bottom_part, bottom_silhouette, fragment_numbers, is_masked, middle_mid, middle_part, numbers_by, shuts_bottom, shuts_top, sky_flat, top_by_step, top_is_constant, top_mid, top_part, top_silhouette, world_bottom, world_high, world_low, world_top}
 use Rattle.alike_rules.proofs.PlaneLemmas.{IsOneToOne}
 use Rattle.alike_rules.proofs.SurfaceLemmas.{IsBackOf, IsSurfaceOf, ceiling_mark-moved, floor_mark-moved, moved_surface, top-moved}
 

@@ -1,8 +1,7 @@
 -- The picture of a view does not depend on the numbers of lumps: its dots are the same but for the source that their
 -- painters name, and its cells and its counts are the same.
 use Rattle.picture_rules.proofs.Common.{[], AllByRecursion, ap, Bool, cond, false, length-map, List, map, map-append, None, Option, option_map, refl, sym, true, ℕ, ◌%◌, ◌++◌, ◌+◌, ◌-◌, ◌/◌, ◌∙◌, ◌∷◌, ◌≡◌}
-use Rattle.picture_rules.specs.Words.{after_event, colour_of, counts_by, counts_from, Dot, draw_order, Event, FRAME_CELLS, frame_dot, frame_dots, frame_of, FRAME_WIDTH, is_in_window, joined_lists, last_dot, listed, masked_dots, no_planes, openings_of, openings_past, overlaid_paints, overlaid_picture, overlaid_trace, paints_by, paints_of, picture, Plane, plane_dots, planes_dots, planes_from, PlanesNow, Scene, sky_flat, Step, steps_of, steps_over, view_counts, view_drawsegs, view_entries, view_events, view_over, view_paints, view_planes, view_steps, ViewShape, ViewValue, Wall, wall_dots, walls_dots, walls_from, walls_of, weapon_dots, WeaponLayer}
-use Rattle.picture_rules.specs.declared.Limits.{Limits}
+use Rattle.alike_rules.specs.Rules.{Dot, Event, FRAME_CELLS, FRAME_WIDTH, Limits, Plane, PlanesNow, Scene, Step, ViewShape, ViewValue, Wall, WeaponLayer, after_event, colour_of, counts_by, counts_from, draw_order, frame_dot, frame_dots, frame_of, is_in_window, joined_lists, last_dot, listed, masked_dots, no_planes, openings_of, openings_past, overlaid_paints, overlaid_picture, overlaid_trace, paints_by, paints_of, picture, plane_dots, planes_dots, planes_from, sky_flat, steps_of, steps_over, view_counts, view_drawsegs, view_entries, view_events, view_over, view_paints, view_planes, view_steps, wall_dots, walls_dots, walls_from, walls_of, weapon_dots}
 use Rattle.alike_rules.proofs.BuiltLemmas.{AreOf, IsEventOf, counts-moved, event-moved, event-of, moved_now}
 use Rattle.alike_rules.proofs.DotLemmas.{colour-moved, joined-along, last-moved, moved_dot}
 use Rattle.alike_rules.proofs.EntryLemmas.{moved_entry, moved_layer, order-moved, weapon_dots-moved}

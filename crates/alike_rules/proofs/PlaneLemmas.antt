@@ -1,9 +1,6 @@
 -- Planes whose flats have other numbers: they are found, checked and marked alike, where the numbers are one to one.
 use Rattle.picture_rules.proofs.Common.{[], AllByRecursion, ap, Bool, cond, false, length, List, map, map-append, None, Option, option_map, position_or_len, refl, slice_get, slice_get-map, slice_set, Some, suc, true, zero, ℕ, ⊤, ◌==◌, ◌∙◌, ◌∷◌, ◌≡◌}
-use Rattle.picture_rules.specs.declared.plane.Flat4.{Flat4}
-use Rattle.picture_rules.specs.declared.plane.Flat4.TheVariants.{Sky, Lump}
-use Rattle.picture_rules.specs.declared.plane.PlaneKey.{PlaneKey}
-use Rattle.picture_rules.specs.Words.{add, check, check_plane, check_some, empty_plane, find, is_free, mark, mark_some, number_of, number_or_add, Plane, PlaneChoice, same_flat, same_key, with_run}
+use Rattle.alike_rules.specs.Rules.{Flat4, Lump, Plane, PlaneChoice, PlaneKey, Sky, add, check, check_plane, check_some, empty_plane, find, is_free, mark, mark_some, number_of, number_or_add, same_flat, same_key, with_run}
 
 abbrev pub moved_flat : (ℕ → ℕ) → Flat4 → Flat4
 moved_flat σ Sky = Sky

@@ -1,13 +1,6 @@
 -- A scene whose lumps have other numbers: the same drawn fragments, sprites and steps of planes, under the other numbers.
 use Rattle.picture_rules.proofs.Common.{[], AllByRecursion, ap, Bool, cond, false, funext, List, map, None, Option, option_map, pos, refl, slice_index_or, Some, suc, true, zero, ℕ, ℤ, ◌+◌, ◌∙◌, ◌∷◌, ◌≡◌}
-use Rattle.picture_rules.specs.Words.{back_of, bottom_clip, ceiling_key, ceiling_marks, drawseg_of, drawsegs, drawsegs_from, Event, facts_of, first_mentions, floor_key, floor_marks, fragment_facts, fragment_wall, FragmentEvent, is_sky, key_of, leaf_at, leaf_sector, leaf_step, leaf_surface, LeafEvent, LeafFragment, leaves_entered, LevelLists, masked_mid, middle_hangs, middle_stands, no_surface, own_front, own_mid, placed_of, PlacedThing, plane_wall, project, Scene, sectors_entered, seg_at, side_at, sky_flat, Step, steps_from, steps_of, Surface, surface_at, texture_column, textures_at, top_clip, view_drawsegs, view_entries, view_events, view_planes, ViewValue, Wall, wall_of, wall_step, wall_texture, walls_of, with_sectors, with_seen, with_shape, with_thing, with_things}
-use Rattle.picture_rules.specs.declared.plane.Flat4.TheVariants.{Sky, Lump}
-use Rattle.picture_rules.specs.declared.plane.PlaneKey.{PlaneKey}
-use Rattle.picture_rules.specs.declared.sprite.Placed.{Placed}
-use Rattle.picture_rules.specs.declared.sprite.Seen.{Seen}
-use Rattle.picture_rules.specs.declared.sprite.Shape5.{Shape5}
-use Rattle.picture_rules.specs.declared.sprite.SpriteEntry.{SpriteEntry}
-use Rattle.picture_rules.specs.declared.wall.WallFacts.{WallFacts}
+use Rattle.alike_rules.specs.Rules.{Event, FragmentEvent, LeafEvent, LeafFragment, LevelLists, Lump, Placed, PlacedThing, PlaneKey, Scene, Seen, Shape5, Sky, SpriteEntry, Step, Surface, ViewValue, Wall, WallFacts, back_of, bottom_clip, ceiling_key, ceiling_marks, drawseg_of, drawsegs, drawsegs_from, facts_of, first_mentions, floor_key, floor_marks, fragment_facts, fragment_wall, is_sky, key_of, leaf_at, leaf_sector, leaf_step, leaf_surface, leaves_entered, masked_mid, middle_hangs, middle_stands, no_surface, own_front, own_mid, placed_of, plane_wall, project, sectors_entered, seg_at, side_at, sky_flat, steps_from, steps_of, surface_at, texture_column, textures_at, top_clip, view_drawsegs, view_entries, view_events, view_planes, wall_of, wall_step, wall_texture, walls_of, with_sectors, with_seen, with_shape, with_thing, with_things}
 use Rattle.alike_rules.proofs.BuiltLemmas.{IsEventOf, IsKeyOf, moved_event, planes-moved}
 use Rattle.alike_rules.proofs.DotLemmas.{IsMovedArt}
 use Rattle.alike_rules.proofs.EntryLemmas.{add-moved, moved_entry, moved_shape}

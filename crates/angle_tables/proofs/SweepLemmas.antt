@@ -1,11 +1,7 @@
 -- Laws of the sweep over the columns: `fine_of_column` from one column to the next.
 use Rattle.word_rules.proofs.Common.{arith, Bool, false, int_le, ints, None, Option, pos, refl, Some, unwrap_or, ℕ, ℤ, ◌<◌, ◌≡◌, ◌≤◌}
-use Rattle.word_rules.specs.Least.{least}
+use Rattle.angle_tables.specs.Rules.{Angles, TANGENTS, ViewShape, fine_of_column, first_seen_by, focal_length, is_seen_by, least, raw_column, tangent_at}
 use Rattle.word_rules.proofs.LeastLemmas.{least-is}
-use Rattle.view_rules.specs.declared.TheConstants.{TANGENTS}
-use Rattle.view_rules.specs.declared.ViewShape.{ViewShape}
-use Rattle.view_rules.specs.Angles.{Angles, tangent_at}
-use Rattle.view_rules.specs.Tables.{raw_column, focal_length, is_seen_by, first_seen_by, fine_of_column}
 
 further_left : (column : ℤ) (left x : ℕ) → left ≤ x → int_le column (pos x) ≡ false → int_le column (pos left) ≡ false
 further_left column left x h e = grind (arith, ints)

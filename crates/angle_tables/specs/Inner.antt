@@ -1,10 +1,6 @@
 -- What the fields of `Tables` hold, and what callers see of them.
 use Rattle.std.specs.Prelude.{◌≡◌, ℕ, ◌+◌, ◌-◌, ◌*◌, ◌/◌, ◌%◌, ◌<◌, ◌≤◌, pos, List, length, slice_index, slice_index_or}
-use Rattle.view_rules.specs.declared.TheConstants.{MIN_SIZE, MAX_SIZE, TANGENTS, LIGHT_LEVELS, SCALE_STEPS, DISTANCE_STEPS}
-use Rattle.view_rules.specs.View.{TablesValue}
-use Rattle.view_rules.specs.Shape.{shape_of_size}
-use Rattle.view_rules.specs.Tables.{column_of_angle, angle_of_column, y_slope, dist_scale, scale_light, distance_light}
-use Rattle.view_rules.specs.Sound.{IsSound}
+use Rattle.angle_tables.specs.Rules.{DISTANCE_STEPS, IsSound, LIGHT_LEVELS, MAX_SIZE, MIN_SIZE, SCALE_STEPS, TANGENTS, TablesValue, angle_of_column, column_of_angle, dist_scale, distance_light, scale_light, shape_of_size, y_slope}
 use Rattle.angle_tables.specs.declared.tables.Tables.TheInside.{Inside}
 
 abbrev pub value_of : Inside → TablesValue

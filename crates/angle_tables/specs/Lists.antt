@@ -1,10 +1,6 @@
 -- What the fields of the three tables hold, and the tables one by one.
 use Rattle.std.specs.Prelude.{◌≡◌, ℕ, Bool, length}
-use Rattle.view_rules.specs.Angles.{Angles}
-use Rattle.view_rules.specs.declared.TheConstants.{SINES, TANGENTS, SLOPE_ANGLES}
-use Rattle.view_rules.specs.declared.TablesRefusal.{TablesRefusal}
-use Rattle.view_rules.specs.declared.TablesRefusal.TheVariants.{Sine, Tangent, Angle}
-use Rattle.view_rules.specs.Refusals.{is_wrong_angle, is_wrong_sine, is_wrong_tangent}
+use Rattle.angle_tables.specs.Rules.{Angle, Angles, SINES, SLOPE_ANGLES, Sine, TANGENTS, TablesRefusal, Tangent, is_wrong_angle, is_wrong_sine, is_wrong_tangent}
 use Rattle.angle_tables.specs.declared.lists.AngleList.{AngleList}
 use Rattle.angle_tables.specs.declared.lists.AngleList.TheVariants.{Sines, SlopeAngles, Tangents}
 use Rattle.angle_tables.specs.declared.lists.AngleLists.TheInside.{Inside}

@@ -2,10 +2,7 @@
 // `y_slope`, `dist_scale`. The original: `R_InitTextureMapping`, r_main.c.
 
 ghost use Rattle.std.specs.Prelude.{◌≡◌, ℕ, ◌+◌, ◌-◌, ◌*◌, ◌^◌, ◌<◌, ◌≤◌, pos, false, length, slice_index, slice_index_or, IfOk};
-ghost use Rattle.view_rules.specs.Tables.{projection, focal_length, seen_column, raw_column, within_view, column_of_angle, is_seen_by, first_seen_by, fine_of_column, angle_of_column, y_slope, angle_dist_scale, dist_scale};
-ghost use Rattle.word_rules.specs.Words.{turn_back, ang90};
-ghost use Rattle.view_rules.specs.declared.TheConstants.{TANGENTS};
-ghost use Rattle.word_rules.specs.declared.TheConstants.{FINE_SHIFT};
+ghost use Rattle.angle_tables.specs.Rules.{FINE_SHIFT, TANGENTS, ang90, angle_dist_scale, angle_of_column, column_of_angle, dist_scale, fine_of_column, first_seen_by, focal_length, is_seen_by, projection, raw_column, seen_column, turn_back, within_view, y_slope};
 
 use crate::lists::AngleLists;
 use fx_words::{

@@ -2,8 +2,7 @@
 // original: `R_InitLightTables`, r_main.c, and `R_ExecuteSetViewSize`.
 
 ghost use Rattle.std.specs.Prelude.{◌≡◌, ℕ, ◌+◌, ◌-◌, ◌*◌, ◌/◌, ◌%◌, ◌<◌, min, length, slice_index, IfOk};
-ghost use Rattle.view_rules.specs.Tables.{start_map, scale_light, near_light, distance_light};
-ghost use Rattle.view_rules.specs.declared.TheConstants.{LIGHT_LEVELS, SCALE_STEPS, DISTANCE_STEPS, COLORMAPS};
+ghost use Rattle.angle_tables.specs.Rules.{COLORMAPS, DISTANCE_STEPS, LIGHT_LEVELS, SCALE_STEPS, distance_light, near_light, scale_light, start_map};
 
 use fx_words::{div, shr_word};
 use std::alloc::{AllocError, Global};

@@ -2,10 +2,7 @@
 
 ghost use Rattle.std.specs.Prelude.{◌≡◌, ℕ, List, ◌+◌, ◌*◌, ◌<◌, ◌≤◌, length, IfOk};
 ghost use Rattle.angle_tables.specs.Lists.{angles_of, HasLengths};
-ghost use Rattle.view_rules.specs.Angles.{Angles, sine_at, cosine_at, tangent_at, angle_at};
-ghost use Rattle.view_rules.specs.Refusals.{word_in, signed_in, angles_in};
-ghost use Rattle.word_rules.specs.Listed.{listed};
-ghost use Rattle.view_rules.specs.declared.TheConstants.{SINES, TANGENTS, SLOPE_ANGLES, WORD_BYTES, TABLES_BYTES};
+ghost use Rattle.angle_tables.specs.Rules.{Angles, SINES, SLOPE_ANGLES, TABLES_BYTES, TANGENTS, WORD_BYTES, angle_at, angles_in, cosine_at, listed, signed_in, sine_at, tangent_at, word_in};
 
 use byteorder::{ByteOrder, LittleEndian};
 use std::alloc::{AllocError, Global};

@@ -2,8 +2,7 @@
 // This project's own: the original trusts the tables it is built with.
 
 ghost use Rattle.std.specs.Prelude.{◌≡◌, ◌<◌, Option, length};
-ghost use Rattle.word_rules.specs.Least.{least};
-ghost use Rattle.view_rules.specs.Refusals.{is_wrong_sine, is_wrong_tangent, is_wrong_angle, is_wrong_edge, is_wrong_left, is_wrong_view, refused_at, view_refusal, angles_refusal};
+ghost use Rattle.angle_tables.specs.Rules.{angles_refusal, is_wrong_angle, is_wrong_edge, is_wrong_left, is_wrong_sine, is_wrong_tangent, is_wrong_view, least, refused_at, view_refusal};
 ghost use Rattle.angle_tables.specs.Lists.{is_wrong_in, length_in, refusal_in};
 
 use crate::columns::first_seen_by;

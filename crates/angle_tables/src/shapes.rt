@@ -2,8 +2,7 @@
 // r_main.c, and `R_InitBuffer`, r_draw.c.
 
 ghost use Rattle.std.specs.Prelude.{◌≡◌, ◌≤◌, ◌<◌};
-ghost use Rattle.view_rules.specs.Shape.{width_of_size, height_of_size, left_of_size, top_of_size, shape_of_size};
-ghost use Rattle.view_rules.specs.declared.TheConstants.{MIN_SIZE, MAX_SIZE, FRAME_WIDTH, FRAME_HEIGHT, ROWS_ABOVE_BAR};
+ghost use Rattle.angle_tables.specs.Rules.{FRAME_HEIGHT, FRAME_WIDTH, MAX_SIZE, MIN_SIZE, ROWS_ABOVE_BAR, height_of_size, left_of_size, shape_of_size, top_of_size, width_of_size};
 
 use view_rules::{
     COLUMNS_PER_SIZE, FRAME_HEIGHT, FRAME_WIDTH, MAX_SIZE, ROWS_ABOVE_BAR, ROWS_STEP, ViewShape,

@@ -1,14 +1,7 @@
 // The tables of a view of a size: filled by `from_bytes`, read in constant time.
 
 ghost use Rattle.std.specs.Prelude.{◌≡◌, ◌+◌, ◌<◌, ◌≤◌, pos, Some, None, IfOk};
-ghost use Rattle.view_rules.specs.Angles.{sine_at, cosine_at, tangent_at, angle_at};
-ghost use Rattle.view_rules.specs.Shape.{shape_of_size};
-ghost use Rattle.view_rules.specs.Tables.{column_of_angle, angle_of_column, clip_angle, y_slope, dist_scale, scale_light, distance_light};
-ghost use Rattle.view_rules.specs.Refusals.{angles_in, angles_refusal, tables_refusal};
-ghost use Rattle.view_rules.specs.Sound.{IsSound, IsWithinFrame};
-ghost use Rattle.view_rules.specs.declared.Spans.TheVariants.{Full};
-ghost use Rattle.view_rules.specs.declared.TablesRefusal.{TablesRefusal};
-ghost use Rattle.view_rules.specs.declared.TheConstants.{MIN_SIZE, MAX_SIZE, SINES, TANGENTS, SLOPE_ANGLES, COSINE_START, LIGHT_LEVELS, SCALE_STEPS, DISTANCE_STEPS};
+ghost use Rattle.angle_tables.specs.Rules.{COSINE_START, DISTANCE_STEPS, Full, IsSound, IsWithinFrame, LIGHT_LEVELS, MAX_SIZE, MIN_SIZE, SCALE_STEPS, SINES, SLOPE_ANGLES, TANGENTS, TablesRefusal, angle_at, angle_of_column, angles_in, angles_refusal, clip_angle, column_of_angle, cosine_at, dist_scale, distance_light, scale_light, shape_of_size, sine_at, tables_refusal, tangent_at, y_slope};
 
 use crate::columns::{angles_of_columns, columns_of_angles, scales_of_columns, slopes_of_rows};
 use crate::lights::{distance_lights, scale_lights};

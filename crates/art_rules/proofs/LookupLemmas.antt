@@ -1,15 +1,13 @@
 -- Laws of what each column of a texture is read from, and of the composite.
-use Rattle.word_rules.proofs.Common.{[], and_le_r, ap, arith, bit_and, get_or-replicate, get_or_default, length, length-append, length-replicate, List, nat_lt, nat_tests, refl, replicate, replicate-append-replicate, slice_get, slice_get-get_or, slice_index_or, Some, suc, sym, take, take_all, true, ℕ, ℤ, ◌*◌, ◌++◌, ◌+◌, ◌<◌, ◌==◌, ◌^◌, ◌∙◌, ◌∷◌, ◌≡◌}
+use Rattle.word_rules.proofs.Common.{[], and_le_r, ap, arith, bit_and, get_or-replicate, get_or_default, length, length-append, length-replicate, List, nat_lt, nat_tests, refl, replicate, replicate-append-replicate, slice_index_or, suc, sym, take_all, true, ℕ, ◌*◌, ◌++◌, ◌+◌, ◌<◌, ◌==◌, ◌∙◌, ◌∷◌, ◌≡◌}
 use Rattle.word_rules.specs.Listed.{joined_lists}
-use Rattle.word_rules.specs.Words.{bits_of}
 use Rattle.word_rules.proofs.ListedLemmas.{get_or-listed, length-listed, listed-all}
 use Rattle.art_rules.specs.declared.PlacedPatch.{PlacedPatch}
 use Rattle.art_rules.specs.declared.ColumnLookup.{ColumnLookup}
 use Rattle.art_rules.specs.declared.ColumnLookup.TheVariants.{Empty, Composed}
-use Rattle.art_rules.specs.Textures.{mask_of}
 use Rattle.art_rules.specs.Columns.{patches_in, is_composed, is_single, composed_columns, composed_count, composite_size, composite_place, last_put, composed_byte, column_posts, composed_column, composite, patch_texel, texel_of, texel}
-use Rattle.art_rules.specs.Lookups.{lookup_of, column_lookup, column_lookups, AreColumnsOf, composite_of_first, masked_column, texel_by, single_place, is_single_lookup, is_composed_lookup}
-use Rattle.art_rules.proofs.MaskLemmas.{IsMask, mask_of-greatest}
+use Rattle.art_rules.specs.Lookups.{lookup_of, column_lookup, column_lookups, AreColumnsOf, composite_of_first, texel_by, single_place, is_single_lookup, is_composed_lookup}
+use Rattle.art_rules.proofs.MaskLemmas.{IsMask}
 
 texel_of-lookup_of : (bytes : ℕ → List ℕ) (standing patches : List PlacedPatch) (width height x r : ℕ) → texel_of bytes standing patches width height x r ≡ texel_by bytes (composite bytes patches width height) (lookup_of bytes (composite_place patches height x) x standing) r
 unfolding texel_of texel_by lookup_of patch_texel
@@ -32,23 +30,11 @@ pub column_lookups-read : (bytes : ℕ → List ℕ) (patches : List PlacedPatch
 unfolding column_lookups
 column_lookups-read bytes patches width height x d l = get_or-listed (column_lookup bytes patches height) width x d l
 
--- the same as an element that is there
-pub column_lookups-at : (bytes : ℕ → List ℕ) (patches : List PlacedPatch) (width height x : ℕ) → x < width → slice_get (column_lookups bytes patches width height) x ≡ Some (column_lookup bytes patches height x)
-column_lookups-at bytes patches width height x l =
-    let long = length-column_lookups bytes patches width height in
-    slice_get-get_or (column_lookups bytes patches width height) x Empty (omega (arith, long))
-    ∙ ap Some (column_lookups-read bytes patches width height x Empty l)
-
 below_mask : (width mask n : ℕ) → 0 < width → IsMask width mask → bit_and n mask < width
 below_mask width mask n some m =
     let within = m.within in
     let is = m.is in
     omega (arith, and_le_r n mask)
-
--- the column that a texture column stands for is one of the texture
-pub masked_column-within : (width : ℕ) (column : ℤ) → 0 < width → width < 2 ^ 16 → masked_column (mask_of width) column < width
-unfolding masked_column
-masked_column-within width column some l = below_mask width (mask_of width) (bits_of column) some (mask_of-greatest width some l)
 
 lookup_of-single : (bytes : ℕ → List ℕ) (start x : ℕ) (standing : List PlacedPatch) → is_single_lookup (lookup_of bytes start x standing) ≡ (length standing == 1)
 unfolding is_single_lookup single_place lookup_of
@@ -117,12 +103,6 @@ pub composite_size-length : (bytes : ℕ → List ℕ) (patches : List PlacedPat
 unfolding composite composite_size composed_count
 composite_size-length bytes patches width height =
     length-joined (composed_column bytes patches height) height (composed_columns patches width) (length-composed_column bytes patches height)
-
--- and has them from the first patch on
-pub composite_of_first-length : (bytes : ℕ → List ℕ) (patches : List PlacedPatch) (n width height : ℕ) → length (composite_of_first bytes patches n width height) ≡ composite_size patches width height
-unfolding composite_of_first composite_size composed_count
-composite_of_first-length bytes patches n width height =
-    length-joined (composed_column bytes (take n patches) height) height (composed_columns patches width) (length-composed_column bytes (take n patches) height)
 
 -- once all patches are put it is the composite
 pub composite_of_first-all : (bytes : ℕ → List ℕ) (patches : List PlacedPatch) (width height : ℕ) → composite_of_first bytes patches (length patches) width height ≡ composite bytes patches width height

@@ -26,6 +26,21 @@ pub use patch::Patch;
 pub use refusal::{SpriteRefusal, TexRefusal};
 pub use shapes::{Frame, Need, Shape};
 
+// Passed on from the crates below.
+pub use lump_rules::{
+    DirRefusal, F_END, F_START, FF_END, FF_START, HEADER_SIZE, IWAD, LumpNo, MAP_LUMP_COUNT,
+    MAP_LUMPS, MAX_LUMPS, Name8, S_END, S_START, SS_END, SS_START,
+};
+pub use outside::{
+    Failed, Fault, FileNo, HostShelf, MemoryFile, MemoryShelf, MemorySink, OutOfMemory, PutFault,
+    Shelf, Sink, TallySink,
+};
+pub use pixel_rules::{
+    COMPOSITE, FLAT_SIDE, FRAME_CELLS, LUMP, MAP_COLOURS, NO_SOURCE, Painter, Post,
+};
+pub use view_rules::{FRAME_HEIGHT, FRAME_WIDTH, MAX_SIZE, TablesRefusal};
+pub use word_rules::{ANG45, FRACTION_BITS};
+
 /// The most textures that both lists together may have.
 pub const MAX_TEXTURES: u32 = 32767;
 
@@ -119,17 +134,3 @@ pub struct Mention {
     pub rotation: u8,
     pub flip: bool,
 }
-
-pub use lump_rules::{
-    DirRefusal, F_END, F_START, FF_END, FF_START, HEADER_SIZE, IWAD, LumpNo, MAP_LUMP_COUNT,
-    MAP_LUMPS, MAX_LUMPS, Name8, S_END, S_START, SS_END, SS_START,
-};
-pub use outside::{
-    Failed, Fault, FileNo, HostShelf, MemoryFile, MemoryShelf, MemorySink, OutOfMemory, PutFault,
-    Shelf, Sink, TallySink,
-};
-pub use pixel_rules::{
-    COMPOSITE, FLAT_SIDE, FRAME_CELLS, LUMP, MAP_COLOURS, NO_SOURCE, Painter, Post,
-};
-pub use view_rules::{FRAME_HEIGHT, FRAME_WIDTH, MAX_SIZE, TablesRefusal};
-pub use word_rules::{ANG45, FRACTION_BITS};

@@ -2,12 +2,7 @@
 use Rattle.std.specs.Prelude.{ℕ, Bool, cond, not, ◌%◌, nat_le, ◌==◌, ◌&&◌, List, Option, Some, None, option_and_then, is_some, codes, bytes_eq}
 use Rattle.clap.specs.Words.{Row, Text, first_of}
 use Rattle.numerals.specs.Numerals.{numeral}
-use Rattle.view_rules.specs.declared.Spans.{Spans}
-use Rattle.view_rules.specs.declared.Spans.TheVariants.{Full, Packed}
-use Rattle.job_rules.specs.declared.command.Format.{Format}
-use Rattle.job_rules.specs.declared.command.Format.TheVariants.{Index, Ppm}
-use Rattle.job_rules.specs.declared.command.Settings.{Settings}
-use Rattle.job_rules.specs.declared.ranges.TheConstants.{MOST_OPENINGS, MAX_PLANES, MAX_SIZE, MAX_SKILL, MAX_ZONE, MIN_OPENINGS, MIN_PLANES, MIN_SIZE, MIN_SKILL, MIN_ZONE, ZONE_STEP}
+use Rattle.command_line.specs.Rules.{Format, Full, Index, MAX_PLANES, MAX_SIZE, MAX_SKILL, MAX_ZONE, MIN_OPENINGS, MIN_PLANES, MIN_SIZE, MIN_SKILL, MIN_ZONE, MOST_OPENINGS, Packed, Ppm, Settings, Spans, ZONE_STEP}
 use Rattle.command_line.specs.declared.choices.TheConstants.{DEFAULT_OPENINGS, DEFAULT_PLANES, DEFAULT_SIZE, DEFAULT_SKILL, DEFAULT_ZONE}
 
 -- the number that a word writes, from low to high

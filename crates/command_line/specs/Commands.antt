@@ -1,17 +1,10 @@
 -- Which words are a command, and which command they are.
 use Rattle.std.specs.Prelude.{◌≡◌, ℕ, cond, ◌==◌, List, [], ◌∷◌, length, Option, Some, None, option_and_then, option_map, codes, bytes_eq, Result, Err, IfOk, IfErr}
 use Rattle.clap.specs.Words.{Row, Text, all_of, fault_of, first_of, matches_of}
-use Rattle.lump_rules.specs.Names.{name_of_text}
-use Rattle.job_rules.specs.declared.command.Command.{Command}
+use Rattle.command_line.specs.Rules.{Command, CommandValue, Format, IsCounted, LevelTask, MAX_COUNT, MIN_COUNT, MakeJob, Path, Tables, Things, Wad, command_value, exercise, flat, level_job, make, name_of_text}
 use Rattle.command_line.specs.declared.fault.CommandFault.{CommandFault}
 use Rattle.command_line.specs.declared.fault.CommandFault.TheVariants.{Usage}
-use Rattle.job_rules.specs.declared.command.Format.{Format}
-use Rattle.job_rules.specs.declared.command.MakeJob.{MakeJob}
-use Rattle.job_rules.specs.declared.command.MakeJob.TheVariants.{Wad, Path, Tables, Things}
-use Rattle.job_rules.specs.declared.command.LevelTask.{LevelTask}
-use Rattle.job_rules.specs.declared.ranges.TheConstants.{MAX_COUNT, MIN_COUNT}
 use Rattle.command_line.specs.Simple.{simple_command}
-use Rattle.job_rules.specs.Commands.{CommandValue, IsCounted, command_value, exercise, flat, level_job, make}
 use Rattle.command_line.specs.Choices.{format_in, has_no_options, has_no_settings, number_within, zone_in}
 use Rattle.command_line.specs.LevelJobs.{are_wads, level_task_in, level_job_of}
 

@@ -1,11 +1,8 @@
 -- The jobs over a level: the level's name, the files, the numbers and the WADs.
 use Rattle.std.specs.Prelude.{Bool, cond, nat_lt, nat_le, ◌&&◌, List, length, Option, Some, None, option_and_then, codes, bytes_eq}
 use Rattle.clap.specs.Words.{Row, Text, first_of}
-use Rattle.lump_rules.specs.Names.{name_of_text}
-use Rattle.job_rules.specs.declared.command.LevelTask.{LevelTask}
-use Rattle.job_rules.specs.declared.command.LevelTask.TheVariants.{Render, Audit, Limits, Trim, Trace, List as Lists}
-use Rattle.job_rules.specs.declared.ranges.TheConstants.{MAX_WADS}
-use Rattle.job_rules.specs.LevelJobs.{FileNames, LevelJobValue}
+use Rattle.command_line.specs.Rules.{Audit, FileNames, LevelJobValue, LevelTask, Limits, MAX_WADS, Render, Trace, Trim, name_of_text}
+use Rattle.job_rules.specs.declared.command.LevelTask.TheVariants.{List as Lists}
 use Rattle.command_line.specs.Choices.{format_in, lacks, settings_in}
 
 unfoldable pub other_level_task : Text → Option LevelTask

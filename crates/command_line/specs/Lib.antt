@@ -3,3 +3,4 @@ pub mod Choices
 pub mod LevelJobs
 pub mod Commands
 pub mod Worked
+pub mod Rules

@@ -3,15 +3,10 @@ use Rattle.std.specs.Prelude.{◌≡◌, ℕ, List, [], ◌∷◌, Some, None, c
 use Rattle.clap.specs.Words.{Text}
 use Rattle.clap.proofs.OnLiterals.{clap_on_literals}
 use Rattle.numerals.specs.Numerals.{digits_after, is_numeral, numeral}
-use Rattle.lump_rules.specs.Names.{filled}
-use Rattle.job_rules.specs.declared.command.MakeJob.TheVariants.{Wad}
-use Rattle.job_rules.specs.declared.command.LevelTask.TheVariants.{Audit, Limits, Trim, Render, Trace}
-use Rattle.job_rules.specs.declared.command.Format.TheVariants.{Index, Ppm}
-use Rattle.view_rules.specs.declared.Spans.TheVariants.{Full, Packed}
+use Rattle.command_line.specs.Rules.{Audit, Full, Index, Limits, Packed, Ppm, Render, Trace, Trim, Wad, exercise, filled, flat, level_job, make}
 use Rattle.command_line.specs.Simple.{simple_command, with_files, with_limits, with_option, with_settings}
 use Rattle.command_line.specs.Choices.{format_in, format_named, has_no_files, has_no_options, has_no_settings, multiple_of_step, number_option, number_within, settings_in, spans_in, spans_named, zone_in}
 use Rattle.command_line.specs.LevelJobs.{are_wads, file_names_in, other_level_task, plain_level_task, level_task_in, level_job_of}
-use Rattle.job_rules.specs.Commands.{exercise, flat, make, level_job}
 use Rattle.command_line.specs.Commands.{command_in, command_of, count_of, exercise_numbers, exercise_command, flat_command, job_named, make_job_of, make_command, numbered_make, plain_make, level_command, level_with}
 
 -- what the rows below unfold

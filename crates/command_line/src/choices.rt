@@ -2,9 +2,8 @@
 
 ghost use Rattle.std.specs.Prelude.{◌≡◌, ◌%◌, IfSome, option_map};
 ghost use Rattle.clap.specs.Words.{found_of, rows_of};
-ghost use Rattle.job_rules.specs.Ranges.{AreSettings, IsWithin, IsZone};
+ghost use Rattle.command_line.specs.Rules.{AreSettings, IsWithin, IsZone, Settings};
 ghost use Rattle.command_line.specs.Choices.{format_in, has_no_files, has_no_options, has_no_settings, multiple_of_step, number_option, number_within, settings_in, spans_in, zone_in};
-ghost use Rattle.job_rules.specs.declared.command.Settings.{Settings};
 
 use crate::simple::value;
 use clap::ArgMatches;

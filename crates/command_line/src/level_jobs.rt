@@ -2,8 +2,7 @@
 
 ghost use Rattle.std.specs.Prelude.{◌≡◌, IsTrue, length, IfOk, IfSome, Some, None, map, option_map};
 ghost use Rattle.clap.specs.Words.{found_of, rows_of};
-ghost use Rattle.job_rules.specs.Ranges.{AreSettings, IsWithin};
-ghost use Rattle.job_rules.specs.LevelJobs.{file_names, level_job_value};
+ghost use Rattle.command_line.specs.Rules.{AreSettings, IsWithin, file_names, level_job_value};
 ghost use Rattle.command_line.specs.LevelJobs.{are_wads, file_names_in, other_level_task, plain_level_task, level_task_in, level_job_of};
 
 use crate::choices::{format_in, settings_in};

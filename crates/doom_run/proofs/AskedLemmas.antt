@@ -1,14 +1,12 @@
 -- The list of all that a level needs has what drawing its views may ask for.
 use Rattle.std.proofs.Common.{◌≡◌, ℕ, ℤ, true, List, Some, Ok, inl, inr}
-use Rattle.art_rules.specs.Words.{File, lump_bytes, PreparedTexture}
-use Rattle.scene_rules.specs.Words.{has_item, Owner}
+use Rattle.doom_run.specs.Rules.{File, LevelJobValue, Owner, PreparedTexture, has_item, lump_bytes}
 use Rattle.texture_build.specs.Calls.{HasAll}
 use Rattle.texture_build.specs.Asked.{IsAskedByColumn}
 use Rattle.texture_build.specs.Sources.{column_in, column_index}
 use Rattle.texture_build.specs.Views.{AreTexturesOf, IsPrepared, prepared_at, prepared_texture}
 use Rattle.texture_build.proofs.TexelLemmas.{prepared_is}
 use Rattle.texture_build.proofs.ViewLemmas.{textures_columns}
-use Rattle.job_rules.specs.LevelJobs.{LevelJobValue}
 use Rattle.sound_scene.specs.Sound.{art_with, textures_view}
 use Rattle.job_files.specs.Sizes.{wad_contents}
 use Rattle.level_audit.specs.scene_load.Loads.{load_in, loaded_pictures, loaded_value, weapon_lumps}

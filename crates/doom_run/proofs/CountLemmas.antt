@@ -1,11 +1,8 @@
 -- A scene that may be drawn may be counted.
 use Rattle.picture_rules.proofs.Common.{[], All, All-cons, All-head, All-nil, All-tail, arith, length, List, ℕ, ◌∷◌, ◌≤◌}
 use Rattle.art_rules.specs.Words.{Lump}
-use Rattle.scene_rules.specs.Words.{flat_number, Heap, SceneValue, surface_of, surfaces_of}
-use Rattle.picture_rules.specs.Words.{Sector, SKY_FLAT}
-use Rattle.scene_rules.specs.declared.Flat.{Flat}
+use Rattle.doom_run.specs.Rules.{Flat, Heap, SKY_FLAT, SceneValue, Sector, SectorFlats, flat_number, surface_of, surfaces_of}
 use Rattle.scene_rules.specs.declared.Flat.TheVariants.{Sky, Lump as LumpFlat}
-use Rattle.scene_rules.specs.declared.SectorFlats.{SectorFlats}
 use Rattle.level_scene.specs.Bounds.{AreThere, IsThere}
 use Rattle.frame_core.specs.Views.{AreFlatNumbers, CanCount, CanDrawView}
 

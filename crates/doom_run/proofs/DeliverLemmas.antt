@@ -1,19 +1,13 @@
 -- What is done with a level that is loaded, by what was written, read and painted.
-use Rattle.picture_rules.proofs.Common.{[], All, ap, arith, length, List, Ok, refl, Result, subst, sym, true, ℕ, ◌≡◌, ◌≤◌}
-use Rattle.art_rules.specs.Words.{and_then, Fault, FaultsRose, File, from_below, HasCauseAt, lump_at, lump_bytes, no_file, ShelfView, Stop}
+use Rattle.picture_rules.proofs.Common.{[], All, ap, arith, false, length, List, Ok, refl, Result, subst, sym, true, ℕ, ◌≡◌, ◌≤◌}
+use Rattle.doom_run.specs.Rules.{Fault, File, HasCauseAt, Heap, LevelJobValue, ShelfView, Stop, TrimPart, and_then, from_below, lump_at, lump_bytes, no_file, trimmed_file}
 use Rattle.art_rules.specs.Fault.TheVariants as fault
-use Rattle.scene_rules.specs.Words.{Heap, IsInOrder, Item, KeepsOrder}
-use Rattle.texture_build.specs.Draws.{HoldsArt}
-use Rattle.job_rules.specs.LevelJobs.{LevelJobValue}
 use Rattle.refusals.specs.declared.refusal.Refusal.{Refusal}
-use Rattle.sound_scene.specs.Sound.{textures_view}
-use Rattle.trim_rules.specs.declared.part.TrimPart.{TrimPart}
-use Rattle.trim_rules.specs.Files.{trimmed_file}
 use Rattle.wad_trim.specs.Writes.{IsCopied, IsPartThere, WritesLumps}
 use Rattle.wad_trim.specs.declared.fault.TrimWrite.{TrimWrite}
 use Rattle.job_files.specs.Statuses.{status_of}
 use Rattle.job_files.specs.declared.status.Status.{Status}
-use Rattle.job_files.specs.declared.status.Status.TheVariants.{ReadFault, WriteFault, ZoneFull, OutOfMemory}
+use Rattle.job_files.specs.declared.status.Status.TheVariants.{ZoneFull, OutOfMemory}
 use Rattle.level_audit.specs.declared.scene_load.load.LoadedScene.{LoadedScene}
 use Rattle.level_audit.specs.scene_load.Calls.{IsLoadedScene}
 use Rattle.level_audit.specs.scene_load.Loads.{LoadedValue, load_in, loaded_sizes, loaded_value, wad_bytes}
@@ -21,21 +15,20 @@ use Rattle.level_audit.specs.scene_load.Orders.{loaded_items}
 use Rattle.level_audit.proofs.scene_load.OrderLemmas.{items_read}
 use Rattle.doom_run.specs.declared.canvas.ViewForm.{ViewForm}
 use Rattle.doom_run.specs.declared.render.ReadyViews.{ReadyViews}
-use Rattle.doom_run.specs.Ends.{DeliversAt, EndsAt, IsEnd, RendersAt}
+use Rattle.doom_run.specs.Ends.{EndsAt, IsEnd, RendersAt, WritesDue}
 use Rattle.doom_run.specs.Jobs.{Delivery, Written, done, drawing, rendered, telling, trimming}
 use Rattle.doom_run.specs.Leasts.{delivery_least, least_over}
 use Rattle.doom_run.specs.Performs.{Delivers}
-use Rattle.doom_run.specs.Renders.{FitDue, HasReadyAsked, IsDelivered, IsFullView, IsReady, ready_views}
+use Rattle.doom_run.specs.Renders.{FitDue, HoldsReady, IsDelivered, IsDrawable, IsReady, RendersReady, ready_bytes, ready_views}
 use Rattle.doom_run.specs.Steps.{at_step}
-use Rattle.doom_run.specs.Takes.{InOrderAfter}
 use Rattle.doom_run.specs.Trims.{IsPlanFault, plan_in, status_of_written}
 use Rattle.doom_run.specs.Verdict.{Accepted, accepted_in, delivered}
-use Rattle.doom_run.specs.Views.{ViewsValue, views_of}
+use Rattle.doom_run.specs.Views.{ViewsValue, limits_of_settings, views_of}
 use Rattle.doom_run.proofs.AskedLemmas.{ready_asked}
-use Rattle.doom_run.proofs.DrawnLemmas.{view_draw}
-use Rattle.doom_run.proofs.EndLemmas.{delivers_all, delivers_more, delivers_render, fault_no_end, frames_more, loaded_named, ready_as, renders_end}
+use Rattle.doom_run.proofs.DrawnLemmas.{drawable, view_draw}
+use Rattle.doom_run.proofs.EndLemmas.{delivers_all, delivers_render, fault_no_end, frames_more, loaded_named, ready_as, renders_end}
 use Rattle.doom_run.proofs.LeastLemmas.{least_drawn, least_none}
-use Rattle.doom_run.proofs.PerformLemmas.{fault_behaves}
+use Rattle.doom_run.proofs.PerformLemmas.{due_behaves, fault_behaves}
 use Rattle.doom_run.proofs.TakeLemmas.{keeps_once}
 use Rattle.doom_run.proofs.TrimLemmas.{copied_asked, trim_draw, written_answers, written_failed, written_full, written_order, written_read, written_renders}
 
@@ -62,66 +55,71 @@ module _ (level : LevelJobValue) (delivery : Delivery) (view : ShelfView) (loade
 
 -- a job that reads no more tells what it writes
 pub telling_delivers : (level : LevelJobValue) (view : ShelfView) (loaded : LoadedScene) (tells : (ℕ → List ℕ) → LoadedValue → Written) (old new : List ℕ → Type 0) (faults later : ℕ) (status : Status) → IsLoadedScene level loaded →
-    ((bytes : ℕ → List ℕ) → DeliversAt (tells bytes (loaded_value loaded)) old new status) → (status ≡ WriteFault → FaultsRose faults later) → Delivers level (telling tells) view view loaded old new faults later status
-telling_delivers level view loaded tells old new faults later status stands writes failed =
+    ((bytes : ℕ → List ℕ) → WritesDue (tells bytes (loaded_value loaded)) old new faults later status) → Delivers level (telling tells) view view loaded old new faults later status
+telling_delivers level view loaded tells old new faults later status stands writes =
     let due : Written = tells (λ lump. []) (loaded_value loaded) in
     let one = writes (λ lump. []) in
     record {
-      behaves = record {
-        unwritten = λ is. absurd (delivers_more due old new status one is);
-        unread = λ none is. absurd (delivers_all due old new status one is);
-        not_usage = λ e. subst (λ s. DeliversAt due old new s) e one;
-        read_fault = λ e. absurd (delivers_all due old new status one (rw e tt));
-        write_fault = failed;
-      };
+      behaves = due_behaves false view view due old new faults later status one;
       tells = λ wads files of.
           let bytes = wad_bytes wads files loaded.files.dir.lumps in
           record {
-            ends = renders_end view.steady _ (loaded_sizes (loaded_value loaded)).enough (tells bytes (loaded_value loaded)) old new status refl (delivers_render view.steady _ old new status (writes bytes));
-            zone_full = λ wanted widest e. absurd (delivers_all due old new status one (rw e tt));
+            ends = renders_end view.steady _ (loaded_sizes (loaded_value loaded)).enough (tells bytes (loaded_value loaded)) old new status refl (delivers_render view.steady _ old new status (writes bytes).ends);
+            zone_full = λ wanted widest e. absurd (delivers_all due old new status one.ends (rw e tt));
             least = λ end. none_drawn level wads files (telling tells) loaded stands (λ views. refl) of.is;
             reads = λ calm order. omega (arith, items_read (loaded_value loaded) loaded.cache.blocks);
           };
     }
 
+-- a scene that was loaded is drawable once it is ready
+pub ready_drawable : (level : LevelJobValue) (loaded : LoadedScene) (ready : ReadyViews) → ready.loaded ≡ loaded → IsLoadedScene level loaded → IsDrawable ready.loaded
+ready_drawable level loaded ready is stands =
+    let here : IsLoadedScene level ready.loaded = subst (IsLoadedScene level) (sym is) stands in
+    (drawable level ready.loaded here, here.audited.layers)
+
+-- a job that tells of the views of a ready scene
+pub views_delivers : (level : LevelJobValue) (view : ShelfView) (loaded : LoadedScene) (ready : ReadyViews) (tells : ViewsValue → Written) (old new : List ℕ → Type 0) (faults later : ℕ) (status : Status) → ready.loaded ≡ loaded → ready.shop.limits ≡ limits_of_settings level.settings →
+    IsLoadedScene level loaded → ((bytes : ℕ → List ℕ) → WritesDue (tells (ready_views bytes ready)) old new faults later status) →
+    Delivers level (telling (λ bytes loaded. tells (views_of bytes level.settings loaded))) view view loaded old new faults later status
+views_delivers level view loaded ready tells old new faults later status is limits stands writes =
+    let here : IsLoadedScene level ready.loaded = subst (IsLoadedScene level) (sym is) stands in
+    subst (λ (l : LoadedScene). Delivers level (telling (λ bytes loaded. tells (views_of bytes level.settings loaded))) view view l old new faults later status) is
+    (telling_delivers level view ready.loaded (λ bytes loaded. tells (views_of bytes level.settings loaded)) old new faults later status here
+    (λ bytes. subst (λ (r : ViewsValue). WritesDue (tells r) old new faults later status) (sym (ready_as bytes level ready (record { loaded = here; limits = limits }))) (writes bytes)))
+
 -- a job that draws: by what drawing and writing the views of a ready scene came to
-module _ (level : LevelJobValue) (form : ViewForm) (ready : ReadyViews) (cache : Heap) (view after : ShelfView) (old new : List ℕ → Type 0) (faults later : ℕ) (status : Status) where
+module _ (level : LevelJobValue) (form : ViewForm) (ready left : ReadyViews) (view after : ShelfView) (old new : List ℕ → Type 0) (faults later : ℕ) (status : Status) where
   abbrev colours : ℕ
   colours = (lump_at ready.loaded.files.dir.lumps ready.loaded.scene.scene.base.colormap).size
 
-  abbrev Holds : List (List ℕ) → ℕ → Type 0
-  Holds contents count = HoldsArt view ready.loaded.files.dir (textures_view ready.loaded.scene.scene) contents ready.loaded.scene.scene.base.colormap count ready.loaded.cache
-
   pub drawing_delivers : IsReady level ready →
-      ((contents : List (List ℕ)) (count : ℕ) → Holds contents count → RendersAt view.steady (rendered form (ready_views (lump_bytes contents ready.loaded.files.dir.lumps) ready)) old new status) →
-      ((contents : List (List ℕ)) (count : ℕ) → Holds contents count → IsEnd status → FitDue (lump_bytes contents ready.loaded.files.dir.lumps) count ready) →
-      ((items : List Item) → HasReadyAsked items ready → IsInOrder items ready.loaded.cache → InOrderAfter status (KeepsOrder items ready.loaded.cache cache view.taken after.taken)) →
-      (status ≡ ReadFault → FaultsRose view.faults after.faults) → (status ≡ WriteFault → FaultsRose faults later) → ((wanted widest' : ℕ) → status ≡ ZoneFull wanted widest' → IsFullView ready wanted widest') → IsDelivered status →
+      ((contents : List (List ℕ)) (count : ℕ) → HoldsReady view ready contents count → RendersAt view.steady (rendered form (ready_views (ready_bytes contents ready) ready)) old new status) →
+      ((contents : List (List ℕ)) (count : ℕ) → HoldsReady view ready contents count → IsEnd status → FitDue (ready_bytes contents ready) count ready) → RendersReady view after ready left faults later status →
       Delivers level (drawing level (rendered form)) view after ready.loaded old new faults later status
-  drawing_delivers stands ends fits order read failed full answers = record {
+  drawing_delivers stands ends fits renders = record {
     behaves = record {
-      unwritten = λ is. absurd (frames_more status answers is);
+      unwritten = λ is. absurd (frames_more status renders.answers is);
       unread = λ none is. absurd (cc);
-      not_usage = λ e. subst IsDelivered e answers;
-      read_fault = read;
-      write_fault = failed;
+      not_usage = λ e. subst IsDelivered e renders.answers;
+      read_fault = renders.read_fault;
+      write_fault = renders.write_fault;
     };
     tells = λ wads files of.
         let value : LoadedValue = loaded_value ready.loaded in
         let named = loaded_named level wads files value of.is in
         let holds = (of.holds named.contents named.named).art in
-        let bytes = lump_bytes named.contents ready.loaded.files.dir.lumps in
+        let bytes = ready_bytes named.contents ready in
         record {
-          ends = subst (λ (contents : List (List ℕ)). EndsAt view.steady (from_below at_step (delivered (drawing level (rendered form)) (lump_bytes contents ready.loaded.files.dir.lumps) value)) old new status) (sym named.are)
+          ends = subst (λ (contents : List (List ℕ)). EndsAt view.steady (from_below at_step (delivered (drawing level (rendered form)) (ready_bytes contents ready) value)) old new status) (sym named.are)
               (renders_end view.steady _ (loaded_sizes value).enough (rendered form (ready_views bytes ready)) old new status
               (ap (λ (r : ViewsValue). Ok (accepted_in (loaded_sizes value).enough (rendered form r))) (ready_as bytes level ready stands))
               (ends named.contents colours holds));
-          zone_full = λ wanted widest' e. (refl, view_draw level wads files ready stands of.is wanted widest' (full wanted widest' e));
+          zone_full = λ wanted widest' e. (refl, view_draw level wads files ready stands of.is wanted widest' (renders.zone_full wanted widest' e));
           least = λ end. least_drawn level wads files (rendered form) ready of.is stands
-              (subst (λ (contents : List (List ℕ)). FitDue (lump_bytes contents ready.loaded.files.dir.lumps) colours ready) (sym named.are) (fits named.contents colours holds end));
+              (subst (λ (contents : List (List ℕ)). FitDue (ready_bytes contents ready) colours ready) (sym named.are) (fits named.contents colours holds end));
           reads = λ calm inside.
-              keeps_once value ready.loaded.cache cache view.taken after.taken status
-              (order (loaded_items value) (ready_asked level wads files ready of.is stands) inside) (λ e. calm (read e));
+              keeps_once value ready.loaded.cache left.loaded.cache view.taken after.taken status
+              (renders.order (loaded_items value) (ready_asked level wads files ready of.is stands) inside) (λ e. calm (renders.read_fault e));
         };
   }
 

@@ -1,11 +1,9 @@
 -- A zone that is full while a scene is drawn: for which block, and how small it is.
-use Rattle.picture_rules.proofs.Common.{arith, inl, inr, List, Ok, Some, subst, ℕ, ◌+◌, ◌<◌, ◌≡◌, ◌⊎◌}
-use Rattle.art_rules.specs.Words.{File, lump_at}
+use Rattle.picture_rules.proofs.Common.{arith, inl, inr, List, Ok, Some, subst, ℕ, ◌<◌, ◌≡◌, ◌⊎◌}
+use Rattle.doom_run.specs.Rules.{File, LevelJobValue, SceneArt, lump_at, lump_block, zone_sizes}
 use Rattle.art_rules.proofs.Laws.{and_then-ok}
 use Rattle.texture_build.specs.Sizes.{IsGapBeside}
 use Rattle.texture_build.specs.Views.{AreTexturesOf}
-use Rattle.job_rules.specs.LevelJobs.{LevelJobValue}
-use Rattle.scene_rules.specs.Words.{lump_block, SceneArt, zone_sizes}
 use Rattle.sound_scene.specs.Sound.{art_with, textures_view}
 use Rattle.frame_core.proofs.EnoughLemmas.{IsArtFull, full-small, view_full}
 use Rattle.frame_core.proofs.SceneLemmas.{drawable-whole}

@@ -1,10 +1,8 @@
 -- What a status says of a run, by what its steps gave.
 use Rattle.picture_rules.proofs.Common.{[], ap, Bool, Err, List, MatchResult, Ok, Option, refl, Result, Some, subst, sym, unwrap_or, ℕ, ◌≡◌}
-use Rattle.art_rules.specs.Words.{Fault, FaultFitsOrAbsent, File, from_below, Grew, GrewByPrefix, Stop}
+use Rattle.doom_run.specs.Rules.{Fault, FaultFitsOrAbsent, File, Grew, GrewByPrefix, LevelJobValue, LimitKind, Stop, from_below}
 use Rattle.art_rules.specs.Fault.TheVariants as fault
 use Rattle.art_rules.proofs.Laws.{and_then-ok, prefix_of_none}
-use Rattle.job_rules.specs.LevelJobs.{LevelJobValue}
-use Rattle.picture_rules.specs.declared.LimitKind.{LimitKind}
 use Rattle.refusals.specs.declared.refusal.Refusal.{Refusal}
 use Rattle.job_files.specs.Files.{files_in, files_named}
 use Rattle.job_files.specs.Sizes.{wad_contents}

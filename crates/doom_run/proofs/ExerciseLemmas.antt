@@ -1,15 +1,9 @@
 -- An exercise, by what rendering its made files into a tally came to.
-use Rattle.std.proofs.Common.{◌≡◌, ◌≤◌, ◌*◌, ◌/◌, ℕ, Bool, Some, IsTrue, List, length, Result, Ok, Err, refl, arith, ap, sym, subst, ◌∙◌}
-use Rattle.art_rules.specs.Words.{and_then, FaultsRose, File, from_below, Grew, IsTallyOf, ShelfView, Stop, Tally}
+use Rattle.std.proofs.Common.{false, ◌≡◌, ◌≤◌, ◌*◌, ◌/◌, ℕ, Bool, Some, IsTrue, List, length, Result, Ok, Err, refl, arith, ap, sym, subst, ◌∙◌}
+use Rattle.doom_run.specs.Rules.{FaultsRose, File, Format, Grew, IsTallyOf, LevelJob, LevelJobValue, LimitKind, Settings, ShelfView, Stop, Tally, and_then, exercise, from_below, level_job_value}
 use Rattle.art_rules.specs.Stops as files
 use Rattle.art_rules.proofs.Laws.{grew_none}
 use Rattle.csv_tables.specs.declared.path.TheConstants.{MAX_VIEWS}
-use Rattle.job_rules.specs.Commands.{exercise}
-use Rattle.job_rules.specs.LevelJobs.{LevelJobValue, level_job_value}
-use Rattle.job_rules.specs.declared.command.Format.{Format}
-use Rattle.job_rules.specs.declared.command.LevelJob.{LevelJob}
-use Rattle.job_rules.specs.declared.command.Settings.{Settings}
-use Rattle.picture_rules.specs.declared.LimitKind.{LimitKind}
 use Rattle.refusals.specs.declared.refusal.Refusal.{Refusal}
 use Rattle.job_files.specs.Statuses.{DeliversBytes}
 use Rattle.job_files.specs.declared.status.Status.{Status}
@@ -26,9 +20,9 @@ use Rattle.doom_run.specs.Performs.{Performs, Tells}
 use Rattle.doom_run.specs.Steps.{RunStop, absent, at_step, refused, usage}
 use Rattle.doom_run.specs.Verdict.{Accepted, accepted_in, job_verdict}
 use Rattle.doom_run.specs.Views.{ViewsValue, rendered_bytes, rendered_end, views_of}
-use Rattle.doom_run.proofs.EndLemmas.{bytes_deliver, delivers_all, delivers_more, delivers_render, none_stops, renders_end}
+use Rattle.doom_run.proofs.EndLemmas.{bytes_deliver, delivers_all, delivers_render, none_stops, renders_end}
 use Rattle.doom_run.proofs.MadeLemmas.{loaded_few, made_found}
-use Rattle.doom_run.proofs.PerformLemmas.{takes_none}
+use Rattle.doom_run.proofs.PerformLemmas.{due_behaves, takes_none}
 use Rattle.doom_run.proofs.SeenLemmas.{seen_from-length}
 use Rattle.doom_run.proofs.TallyLemmas.{over_unwritten, tallied_line, tally_of}
 
@@ -172,13 +166,7 @@ module _ (n zone : ℕ) (format : Format) where
         ap (λ (bytes : List ℕ). record { output = bytes; end = Done }) line ∙ ap (λ (e : Status). record { output = exercised_bytes n format r; end = e }) (sym end) in
         let delivers : DeliversAt (done (summary_line summary)) old new status = bytes_deliver (summary_line summary) old new status writes in
         record {
-          behaves = record {
-            unwritten = λ is. absurd (delivers_more (done (summary_line summary)) old new status delivers is);
-            unread = λ none is. absurd (delivers_all (done (summary_line summary)) old new status delivers is);
-            not_usage = λ e. subst (λ s. DeliversAt (done (summary_line summary)) old new s) e delivers;
-            read_fault = λ e. absurd (delivers_all (done (summary_line summary)) old new status delivers (rw e tt));
-            write_fault = failed;
-          };
+          behaves = due_behaves false view view (done (summary_line summary)) old new faults later status (record { ends = delivers; write_fault = failed });
           asked = λ e. absurd (delivers_all (done (summary_line summary)) old new status delivers (rw e tt));
           zoned = λ wanted widest e. refl;
           tells = λ held holds. record {

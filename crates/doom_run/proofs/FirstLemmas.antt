@@ -1,8 +1,7 @@
 -- What a function gives of the numbers below one, put one after the other.
-use Rattle.std.proofs.Common.{◌≡◌, ◌≤◌, ℕ, zero, suc, ◌+◌, ◌-◌, List, [], ◌∷◌, ◌++◌, Result, Ok, refl, subst, ap, sym, ◌∙◌, arith, append_assoc, append-nil}
-use Rattle.art_rules.specs.Words.{GrewByPrefix, Writes}
-use Rattle.art_rules.proofs.Laws.{prefix_of_more, writes_none, writes_then}
-use Rattle.picture_rules.specs.Words.{joined_lists, listed}
+use Rattle.std.proofs.Common.{◌≡◌, ◌≤◌, ℕ, zero, suc, ◌+◌, ◌-◌, List, [], ◌∷◌, ◌++◌, Ok, refl, subst, ap, sym, ◌∙◌, arith, append_assoc, append-nil}
+use Rattle.doom_run.specs.Rules.{GrewByPrefix, Writes, joined_lists, listed}
+use Rattle.art_rules.proofs.Laws.{prefix_of_more, writes_none}
 use Rattle.picture_rules.proofs.Laws.{joined_lists-append, joined_lists-cons, listed-more}
 
 -- of the first n numbers
@@ -40,16 +39,3 @@ prefix_first f n m le grew =
 -- nothing was written yet
 pub none_first : {E : Type 0} (f : ℕ → List ℕ) (a : List ℕ → Type 0) (i : ℕ) → Writes {E = E} a a i i (first_of f 0) (Ok tt)
 none_first {E} f a i = subst (λ (xs : List ℕ). Writes {E = E} a a i i xs (Ok tt)) (first-none f) (writes_none a i)
-
--- what the first numbers give was written, and then that of the next: of a function that comes from the same value
-pub more_first : {E F X : Type 0} {a b c : List ℕ → Type 0} {i j k : ℕ} {last : Result (Unit {0}) F} (f : X → ℕ → List ℕ) (r now : X) (n : ℕ) → now ≡ r →
-    Writes {E = E} a b i j (first_of (f r) n) (Ok tt) → Writes b c j k (f now n) last → Writes a c i k (first_of (f r) (n + 1)) last
-more_first {X = X} {b = b} {c = c} {j = j} {k = k} {last = last} f r now n e first next =
-    writes_then (first_of (f r) (n + 1)) first tt refl (subst (λ (v : X). Writes b c j k (f v n) last) e next) (first-more (f r) n)
-
--- and all of it was
-pub all_first : {E F X : Type 0} {a b c : List ℕ → Type 0} {i j k : ℕ} {last : Result (Unit {0}) F} (f : X → ℕ → List ℕ) (r now : X) (n : ℕ) → now ≡ r →
-    Writes {E = E} a b i j (first_of (f r) n) (Ok tt) → Writes b c j k (f now n) last → (unit : Unit {0}) → last ≡ Ok unit →
-    Writes {E = F} a c i k (first_of (f r) (n + 1)) (Ok tt)
-all_first {E = E} {F = F} {a = a} {c = c} {i = i} {k = k} f r now n e first next unit was =
-    subst (λ (v : Result (Unit {0}) F). Writes a c i k (first_of (f r) (n + 1)) v) was (more_first {E = E} {F = F} f r now n e first next)

@@ -1,8 +1,6 @@
 -- What the frames that are due are painted from stands beside COLORMAP.
-use Rattle.picture_rules.proofs.Common.{Bool, Err, IfSome, length, List, None, Option, option_map, Result, slice_get, Some, subst, sym, unwrap_or, ℕ, ◌<◌, ◌≡◌}
-use Rattle.art_rules.specs.Words.{lump_bytes, ShelfView}
-use Rattle.picture_rules.specs.Words.{Eye, overlaid_paints, view_of}
-use Rattle.picture_rules.specs.declared.OverLimit.{OverLimit}
+use Rattle.picture_rules.proofs.Common.{Bool, IfSome, length, List, None, Option, option_map, refl, slice_get, Some, subst, sym, unwrap_or, ℕ, ◌<◌, ◌≡◌}
+use Rattle.doom_run.specs.Rules.{Eye, OverLimit, ShelfView, lump_bytes, overlaid_paints, view_of}
 use Rattle.texture_build.specs.Draws.{FitBeside}
 use Rattle.sound_scene.specs.Sound.{SoundValue, textures_view}
 use Rattle.doom_run.specs.declared.canvas.ViewForm.{ViewForm}
@@ -18,8 +16,8 @@ use Rattle.doom_run.specs.Views.{ViewsValue, first_over, over_at}
 use Rattle.doom_run.specs.Layers.{SeenView, eye_of}
 use Rattle.doom_run.proofs.FrameLemmas.{Rendered, none_over, some_over, view_get}
 use Rattle.level_audit.specs.scene_load.Loads.{loaded_value}
-use Rattle.doom_run.proofs.LimitLemmas.{seen_by}
 use Rattle.doom_run.proofs.ReadyLemmas.{views-later}
+use Rattle.doom_run.proofs.SeenLemmas.{seen_by}
 
 -- what a viewpoint is painted from is that of the number's view
 pub fits_at : (bytes : ℕ → List ℕ) (count : ℕ) (ready : ReadyViews) (k : ℕ) (eye : Eye) → option_map eye_of (slice_get ready.loaded.files.path k) ≡ Some eye →
@@ -53,20 +51,14 @@ module _ (r : ViewsValue) (Fits : ℕ → Type 0) where
   due_over n over below within is fits =
       subst (λ (o : Option ℕ). (k : ℕ) → k < unwrap_or o (length r.views) → Fits k) (sym (some_over r n over below within is)) fits
 
-  due_by_status : {form : ViewForm} {n : ℕ} {old : List ℕ → Type 0} (mid new : List ℕ → Type 0) (steady : Bool) (status : Status) → Rendered form r n old mid → n < length r.views → ViewEnds steady form r n mid new (Err status) → IsEnd status →
-      ((k : ℕ) → k < n → Fits k) → (k : ℕ) → k < unwrap_or (first_over r) (length r.views) → Fits k
-  due_by_status mid new steady Done so_far below ends is fits = absurd ends
-  due_by_status mid new steady Usage so_far below ends is fits = absurd is
-  due_by_status mid new steady (Refused refusal) so_far below ends is fits = absurd is
-  due_by_status mid new steady ReadFault so_far below ends is fits = absurd is
-  due_by_status mid new steady WriteFault so_far below ends is fits = absurd is
-  due_by_status {n = n} mid new steady (Limit view kind count) so_far below ends is fits = due_over n (record { kind = kind; count = count }) below so_far.within ends.1 fits
-  due_by_status mid new steady (ZoneFull wanted widest) so_far below ends is fits = absurd is
-  due_by_status mid new steady OutOfMemory so_far below ends is fits = absurd is
-
   -- the view of that number is the first that is over
-  pub due_stops : {form : ViewForm} {n : ℕ} {old : List ℕ → Type 0} (mid new : List ℕ → Type 0) (steady : Bool) (result : Result (Unit {0}) Status) (status : Status) → Rendered form r n old mid → n < length r.views → ViewEnds steady form r n mid new result → result ≡ Err status → IsEnd status →
+  pub due_stops : {form : ViewForm} {n : ℕ} {old : List ℕ → Type 0} (mid new : List ℕ → Type 0) (steady : Bool) (status : Status) → Rendered form r n old mid → n < length r.views → ViewEnds steady form r n mid new status → (status ≡ Done → ⊥) → IsEnd status →
       ((k : ℕ) → k < n → Fits k) → (k : ℕ) → k < unwrap_or (first_over r) (length r.views) → Fits k
-  due_stops {form} {n} mid new steady result status so_far below ends was is fits =
-      let now : ViewEnds steady form r n mid new (Err status) = rw was at ends in
-      due_by_status mid new steady status so_far below now is fits
+  due_stops mid new steady Done so_far below ends other is fits = absurd (other refl)
+  due_stops mid new steady Usage so_far below ends other is fits = absurd is
+  due_stops mid new steady (Refused refusal) so_far below ends other is fits = absurd is
+  due_stops mid new steady ReadFault so_far below ends other is fits = absurd is
+  due_stops mid new steady WriteFault so_far below ends other is fits = absurd is
+  due_stops {n = n} mid new steady (Limit view kind count) so_far below ends other is fits = due_over n (record { kind = kind; count = count }) below so_far.within ends.1 fits
+  due_stops mid new steady (ZoneFull wanted widest) so_far below ends other is fits = absurd is
+  due_stops mid new steady OutOfMemory so_far below ends other is fits = absurd is

@@ -1,11 +1,10 @@
 -- One view of a path, and the views one after the other.
-use Rattle.picture_rules.proofs.Common.{[], add-one, ap, append-nil, arith, Bool, cases_lt, drop, Err, get_or, get_or_from_slice_get, IfErr, IfSome, inl, inr, is_some, IsTrue, length, List, None, Ok, OnOk, Option, option_and_then, option_map, option_map_or, refl, Result, slice_get, slice_get_within, Some, subst, suc, sym, take, take-suc, true, unwrap_or, zero, ℕ, ◌++◌, ◌+◌, ◌-◌, ◌<◌, ◌∙◌, ◌∷◌, ◌≡◌, ◌≤◌}
-use Rattle.picture_rules.specs.Words.{Eye, joined_lists, least, view_of, view_over}
+use Rattle.picture_rules.proofs.Common.{[], add-one, ap, append-nil, arith, Bool, cases_lt, drop, Err, get_or, get_or_from_slice_get, IfSome, inl, inr, is_some, IsTrue, length, List, None, Ok, Option, option_and_then, option_map, option_map_or, refl, Result, slice_get, slice_get_within, Some, subst, suc, sym, take, take-suc, true, unwrap_or, zero, ℕ, ◌++◌, ◌+◌, ◌-◌, ◌<◌, ◌∙◌, ◌∷◌, ◌≡◌, ◌≤◌}
+use Rattle.doom_run.specs.Rules.{Eye, Grew, GrewByPrefix, OverLimit, ShelfView, Writes, joined_lists, least, view_of, view_over}
 use Rattle.picture_rules.proofs.Laws.{joined_lists-append, least-is, least-none, least-some}
-use Rattle.art_rules.specs.Words.{Grew, GrewByPrefix, Writes}
 use Rattle.art_rules.proofs.Laws.{grew_more, grew_none, grew_partly, grew_whole, prefix_of_more}
-use Rattle.picture_rules.specs.declared.OverLimit.{OverLimit}
 use Rattle.texture_build.specs.Draws.{IsNoReadFault}
+use Rattle.sound_scene.specs.Sound.{SoundValue}
 use Rattle.level_audit.specs.scene_load.Loads.{loaded_value}
 use Rattle.frame_core.specs.declared.fault.ViewFault.{ViewFault}
 use Rattle.frame_core.specs.declared.fault.ViewFault.TheVariants as fault
@@ -19,11 +18,10 @@ use Rattle.doom_run.specs.declared.canvas.ViewCanvas.{ViewCanvas}
 use Rattle.doom_run.specs.declared.canvas.ViewForm.{ViewForm}
 use Rattle.doom_run.specs.Frames.{IsDrawnAt, ViewEnds, canvas_bytes, form_of, frame_at, status_of_view}
 use Rattle.doom_run.specs.Layers.{SeenView, eye_of, seen_view}
-use Rattle.doom_run.specs.Renders.{ready_views}
+use Rattle.doom_run.specs.Renders.{DrawsAt, HoldsReady, ready_bytes, ready_views}
 use Rattle.doom_run.specs.Jobs.{rendered}
 use Rattle.doom_run.specs.Views.{ViewsValue, due_views, end_at, first_over, limit_at, frames_of, over_at, rendered_bytes, view_bytes}
-use Rattle.doom_run.proofs.LimitLemmas.{seen_by}
-use Rattle.doom_run.proofs.SeenLemmas.{seen_at}
+use Rattle.doom_run.proofs.SeenLemmas.{seen_at, seen_by}
 
 none_within : {X : Type 0} (xs : List X) (n : ℕ) → n < length xs → slice_get xs n ≡ None → ⊥
 none_within [] n below e = absurd (omega (arith, below))
@@ -65,38 +63,32 @@ unfolding ready_views
 frame_of bytes form ready k palette c kept same at =
     ap (λ (p : List ℕ). canvas_bytes p c) same ∙ frame_is (ready_views bytes ready) k c at ∙ ap (λ (f : ViewForm). frame_at f (ready_views bytes ready) k) kept
 
--- the view was drawn, and its frame written
-pub view_put : {E F : Type 0} {old new : List ℕ → Type 0} {i j : ℕ} (bytes : ℕ → List ℕ) (form : ViewForm) (ready : ReadyViews) (k : ℕ) (palette : List ℕ) (c : ViewCanvas) (drawn : Result (Unit {0}) E) (put : Result (Unit {0}) F) (unit unit' : Unit {0}) →
-    drawn ≡ Ok unit → put ≡ Ok unit' → form_of c ≡ form → palette ≡ ready.loaded.scene.scene.base.palette → OnOk drawn (IsDrawnAt (ready_views bytes ready) k c) → OnOk drawn (over_at (ready_views bytes ready) k ≡ None) →
-    Writes old new i j (canvas_bytes palette c) put → (over_at (ready_views bytes ready) k ≡ None) × Grew old new (frame_at form (ready_views bytes ready) k)
-view_put {old = old} {new} bytes form ready k palette c drawn put unit unit' was done kept same at within writes =
-    let here : IsDrawnAt (ready_views bytes ready) k c = rw was at at in
-    let none : over_at (ready_views bytes ready) k ≡ None = rw was at within in
-    let grew : Grew old new (canvas_bytes palette c) = rw done at writes.ok in
-    (none, subst (Grew old new) (frame_of bytes form ready k palette c kept same here) grew)
-
--- the view was drawn, and of its frame a prefix was written
-pub view_put_failed : {E F : Type 0} {old new : List ℕ → Type 0} {i j : ℕ} (bytes : ℕ → List ℕ) (form : ViewForm) (ready : ReadyViews) (k : ℕ) (palette : List ℕ) (c : ViewCanvas) (drawn : Result (Unit {0}) E) (put : Result (Unit {0}) F) (unit : Unit {0}) (error : F) →
-    drawn ≡ Ok unit → put ≡ Err error → form_of c ≡ form → palette ≡ ready.loaded.scene.scene.base.palette → OnOk drawn (IsDrawnAt (ready_views bytes ready) k c) → OnOk drawn (over_at (ready_views bytes ready) k ≡ None) →
-    Writes old new i j (canvas_bytes palette c) put → (over_at (ready_views bytes ready) k ≡ None) × GrewByPrefix old new (frame_at form (ready_views bytes ready) k)
-view_put_failed {old = old} {new} bytes form ready k palette c drawn put unit error was done kept same at within writes =
-    let here : IsDrawnAt (ready_views bytes ready) k c = rw was at at in
-    let none : over_at (ready_views bytes ready) k ≡ None = rw was at within in
-    let grew : GrewByPrefix old new (canvas_bytes palette c) = rw done at writes.err in
-    (none, subst (GrewByPrefix old new) (frame_of bytes form ready k palette c kept same here) grew)
-
 -- a fault of drawing ends the view, and nothing was written
 fails_by : (steady : Bool) (form : ViewForm) (r : ViewsValue) (k : ℕ) (old : List ℕ → Type 0) (f : ViewFault) →
-    IfSome (limit_of_view f) (λ over. over_at r k ≡ Some over) → (IsTrue steady → IsNoReadFault (view_fault f)) → ViewEnds steady form r k old old (Err (status_of_view k f))
+    IfSome (limit_of_view f) (λ over. over_at r k ≡ Some over) → (IsTrue steady → IsNoReadFault (view_fault f)) → ViewEnds steady form r k old old (status_of_view k f)
 fails_by steady form r k old (fault.Limit kind count) over read = (refl, over, grew_none old)
 fails_by steady form r k old (fault.ZoneFull wanted widest) over read = grew_none old
 fails_by steady form r k old fault.ReadFault over read = (read, grew_none old)
 
-pub view_fails : (steady : Bool) (form : ViewForm) (r : ViewsValue) (k : ℕ) (old : List ℕ → Type 0) (drawn : Result (Unit {0}) ViewFault) (f : ViewFault) (status : Status) → drawn ≡ Err f → status ≡ status_of_view k f →
-    IfErr drawn (λ f. IfSome (limit_of_view f) (λ over. over_at r k ≡ Some over)) → (IsTrue steady → IfErr drawn (λ f. IsNoReadFault (view_fault f))) → ViewEnds steady form r k old old (Err status)
-view_fails steady form r k old drawn f status was is over read =
-    let told : IfSome (limit_of_view f) (λ over. over_at r k ≡ Some over) = rw was at over in
-    rw is (fails_by steady form r k old f told (λ t. rw was at (read t)))
+-- one view, by what drawing it answers
+module _ {k : ℕ} {view after : ShelfView} {ready left : ReadyViews} {c : ViewCanvas} {drawn : Result (Unit {0}) ViewFault} {contents : List (List ℕ)} {count : ℕ}
+    (draws : DrawsAt k view after ready left c drawn) (holds : HoldsReady view ready contents count) (form : ViewForm) where
+  abbrev first_views : ViewsValue
+  first_views = ready_views (ready_bytes contents ready) ready
+
+  pub view_fails : (old : List ℕ → Type 0) (f : ViewFault) (status : Status) → drawn ≡ Err f → status ≡ status_of_view k f → ViewEnds view.steady form first_views k old old status
+  view_fails old f status was is =
+      let told : IfSome (limit_of_view f) (λ over. over_at first_views k ≡ Some over) = rw was at (draws.over (ready_bytes contents ready)) in
+      rw is (fails_by view.steady form first_views k old f told (λ t. rw was at (draws.draws.steady contents holds.files.stand holds.files.within t)))
+
+  -- it was drawn, and what was written is of its frame
+  pub view_written : {F : Type 0} {old new : List ℕ → Type 0} {i j : ℕ} (palette : List ℕ) (put : Result (Unit {0}) F) (unit : Unit {0}) → drawn ≡ Ok unit → form_of c ≡ form → palette ≡ left.loaded.scene.scene.base.palette →
+      Writes old new i j (canvas_bytes palette c) put → (over_at first_views k ≡ None) × Writes old new i j (frame_at form first_views k) put
+  view_written {old = old} {new} {i} {j} palette put unit was kept same writes =
+      let here : IsDrawnAt first_views k c = rw was at (draws.drawn contents count holds) in
+      let none : over_at first_views k ≡ None = rw was at (draws.within (ready_bytes contents ready)) in
+      let frame = frame_of (ready_bytes contents ready) form ready k palette c kept (same ∙ ap (λ (s : SoundValue). s.scene.base.palette) draws.keeps.scene) here in
+      (none, subst (λ (bytes : List ℕ). Writes old new i j bytes put) frame writes)
 
 -- the first n views were written, and none of them is over a limit
 pub record Rendered (form : ViewForm) (r : ViewsValue) (n : ℕ) (old new : List ℕ → Type 0) : Type 0 where
@@ -128,10 +120,10 @@ within_more : (r : ViewsValue) (n k : ℕ) → ((k : ℕ) → k < n → over_at 
 within_more r n k within here below = elim (cases_lt k n) [ inl s ↦ within k s | inr s ↦ let same : k ≡ n = omega (arith, s, below) in ap (over_at r) same ∙ here ]
 
 -- one view more
-pub rendered-more : {form : ViewForm} {r : ViewsValue} {n : ℕ} {old mid new : List ℕ → Type 0} (steady : Bool) (result : Result (Unit {0}) Status) (unit : Unit {0}) →
-    Rendered form r n old mid → n < length r.views → ViewEnds steady form r n mid new result → result ≡ Ok unit → Rendered form r (n + 1) old new
-rendered-more {form} {r} {n} {old} {mid} {new} steady result unit so_far below ends was =
-    let now : ViewEnds steady form r n mid new (Ok unit) = rw was at ends in
+pub rendered-more : {form : ViewForm} {r : ViewsValue} {n : ℕ} {old mid new : List ℕ → Type 0} (steady : Bool) (status : Status) →
+    Rendered form r n old mid → n < length r.views → ViewEnds steady form r n mid new status → status ≡ Done → Rendered form r (n + 1) old new
+rendered-more {form} {r} {n} {old} {mid} {new} steady status so_far below ends is =
+    let now : ViewEnds steady form r n mid new Done = rw is at ends in
     record {
       within = λ k b. within_more r n k so_far.within now.0 b;
       written = grew_more (frames_of form r (take (n + 1) r.views)) so_far.written now.1 (frames_more form r n below);
@@ -211,20 +203,14 @@ stopped_over {form} {r} {n} {old} {mid} {new} steady view over so_far below same
       grew_more (rendered_bytes form r) so_far.written none (append-nil _ ∙ due_by form r (Some n) first),
     )
 
-ends_by : {form : ViewForm} {r : ViewsValue} {n : ℕ} {old : List ℕ → Type 0} (mid new : List ℕ → Type 0) (steady : Bool) (status : Status) → Rendered form r n old mid → n < length r.views →
-    ViewEnds steady form r n mid new (Err status) → RendersAt steady (rendered form r) old new status
-ends_by mid new steady Done so_far below ends = absurd ends
-ends_by mid new steady Usage so_far below ends = absurd ends
-ends_by mid new steady (Refused refusal) so_far below ends = absurd ends
-ends_by mid new steady ReadFault so_far below ends = (ends.0, stopped_before so_far below ends.1)
-ends_by mid new steady WriteFault so_far below ends = stopped_within so_far below ends.0 ends.1
-ends_by mid new steady (Limit view kind count) so_far below ends = stopped_over steady view (record { kind = kind; count = count }) so_far below ends.0 ends.1 ends.2
-ends_by mid new steady (ZoneFull wanted widest) so_far below ends = stopped_before so_far below ends
-ends_by mid new steady OutOfMemory so_far below ends = absurd ends
-
 -- the n-th view ends the rendering
-pub render_stops : {form : ViewForm} {r : ViewsValue} {n : ℕ} {old : List ℕ → Type 0} (mid new : List ℕ → Type 0) (steady : Bool) (result : Result (Unit {0}) Status) (status : Status) → Rendered form r n old mid → n < length r.views →
-    ViewEnds steady form r n mid new result → result ≡ Err status → RendersAt steady (rendered form r) old new status
-render_stops {form} {r} {n} {old} mid new steady result status so_far below ends was =
-    let now : ViewEnds steady form r n mid new (Err status) = rw was at ends in
-    ends_by mid new steady status so_far below now
+pub render_stops : {form : ViewForm} {r : ViewsValue} {n : ℕ} {old : List ℕ → Type 0} (mid new : List ℕ → Type 0) (steady : Bool) (status : Status) → Rendered form r n old mid → n < length r.views →
+    ViewEnds steady form r n mid new status → (status ≡ Done → ⊥) → RendersAt steady (rendered form r) old new status
+render_stops mid new steady Done so_far below ends other = absurd (other refl)
+render_stops mid new steady Usage so_far below ends other = absurd ends
+render_stops mid new steady (Refused refusal) so_far below ends other = absurd ends
+render_stops mid new steady ReadFault so_far below ends other = (ends.0, stopped_before so_far below ends.1)
+render_stops mid new steady WriteFault so_far below ends other = stopped_within so_far below ends.0 ends.1
+render_stops mid new steady (Limit view kind count) so_far below ends other = stopped_over steady view (record { kind = kind; count = count }) so_far below ends.0 ends.1 ends.2
+render_stops mid new steady (ZoneFull wanted widest) so_far below ends other = stopped_before so_far below ends
+render_stops mid new steady OutOfMemory so_far below ends other = absurd ends

@@ -1,9 +1,7 @@
 -- What a full zone leaves out.
 use Rattle.std.proofs.Common.{◌≡◌, ◌<◌, ◌≤◌, ◌⊎◌, inl, inr, ℕ, List, Option, Some, None, Result, Ok, Err, IfSome, refl, arith, ap, subst}
-use Rattle.art_rules.specs.Words.{and_then, File, from_below, no_file, Stop}
+use Rattle.doom_run.specs.Rules.{CommandValue, File, LevelJobValue, Stop, and_then, from_below, no_file}
 use Rattle.art_rules.specs.Stops as files
-use Rattle.job_rules.specs.Commands.{CommandValue}
-use Rattle.job_rules.specs.LevelJobs.{LevelJobValue}
 use Rattle.refusals.specs.declared.refusal.Refusal.{Refusal}
 use Rattle.sound_scene.proofs.SceneLemmas.{same_value}
 use Rattle.level_audit.specs.scene_load.Fulls.{IsFullLoad}

@@ -1,12 +1,7 @@
 -- A row of the weapon table as a layer, and the light of a viewpoint.
 use Rattle.picture_rules.proofs.Common.{[], ap, arith, length, List, None, Option, option_map, refl, slice_index_or, Some, suc, sym, ℕ, ℤ, ◌∙◌, ◌∷◌, ◌≡◌}
-use Rattle.picture_rules.specs.Words.{Eye, no_surface, Sector, Surface, surface_at, WeaponLayer}
+use Rattle.doom_run.specs.Rules.{Eye, Frame, SceneValue, Sector, SectorFlats, Shape, Surface, WeaponLayer, no_surface, picked, sector_at, surface_at, surfaces_of}
 use Rattle.csv_tables.specs.declared.weapons.WeaponRow.{WeaponRow}
-use Rattle.art_rules.specs.declared.shapes.Frame.{Frame}
-use Rattle.art_rules.specs.declared.shapes.Shape.{Shape}
-use Rattle.art_rules.specs.Words.{picked}
-use Rattle.scene_rules.specs.declared.SectorFlats.{SectorFlats}
-use Rattle.scene_rules.specs.Words.{SceneValue, sector_at, surfaces_of}
 use Rattle.frame_core.specs.Scenes.{drawn_shape}
 use Rattle.doom_run.specs.Layers.{layer_of, layer_with, layer_light}
 

@@ -1,15 +1,12 @@
 -- Where all of which a least zone is the greatest stands beside COLORMAP, the zone is no smaller.
 use Rattle.picture_rules.proofs.Common.{[], AllByRecursion, ap, arith, Bool, cases_lt, cond, eq-eqb, eqb-true, false, IfSome, inl, inr, length, List, nat_tests, None, Ok, Option, option_map_or, or_cases, range_with_len, refl, slice_get, Some, subst, suc, sym, take, true, unwrap_or, zero, ℕ, ◌+◌, ◌<◌, ◌==◌, ◌||◌, ◌∙◌, ◌∷◌, ◌≡◌, ◌≢◌, ◌≤◌}
-use Rattle.art_rules.specs.Words.{File, last_of, Lump, lump_at}
+use Rattle.doom_run.specs.Rules.{COMPOSITE, Dot, File, LUMP, LevelBase, LevelJobValue, PNAMES, Painter, Scene, TEXTURE1, TEXTURE2, block_size, greatest_by, is_last, is_list, is_map_lump, last_of, lump_at, lump_block, overlaid_paints}
+use Rattle.art_rules.specs.Words.{Lump}
 use Rattle.art_rules.proofs.Laws.{and_then-ok}
 use Rattle.texture_build.specs.Named.{IsLast}
-use Rattle.scene_rules.specs.Words.{block_size, greatest_by, is_last, is_list, is_map_lump, LevelBase, lump_block}
-use Rattle.art_rules.specs.declared.TheConstants.{PNAMES, TEXTURE1, TEXTURE2}
-use Rattle.picture_rules.specs.Words.{COMPOSITE, Dot, LUMP, overlaid_paints, Painter, Scene}
 use Rattle.texture_lists.specs.Asked.{IsListLump}
 use Rattle.texture_build.specs.Draws.{FitBeside, FitsBeside}
 use Rattle.texture_build.specs.Views.{TexturesView}
-use Rattle.job_rules.specs.LevelJobs.{LevelJobValue}
 use Rattle.level_audit.specs.Asked.{IsOfBase}
 use Rattle.sound_scene.specs.Sound.{textures_view}
 use Rattle.sound_scene.proofs.SceneLemmas.{IsBaseOf, base_parts, scene_parts}

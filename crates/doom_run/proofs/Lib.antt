@@ -19,6 +19,7 @@ pub mod OverlayLemmas
 pub mod PerformLemmas
 pub mod PictureLemmas
 pub mod ReadyLemmas
+pub mod RendersLemmas
 pub mod RowLemmas
 pub mod RunLemmas
 pub mod RunsLemmas

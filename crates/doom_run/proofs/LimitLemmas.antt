@@ -1,93 +1,85 @@
 -- The lines of the views of a path, one after the other.
-use Rattle.picture_rules.proofs.Common.{ap, length, List, None, Ok, refl, Result, slice_get, Some, subst, sym, ℕ, ◌+◌, ◌∙◌, ◌≡◌, ◌≤◌}
-use Rattle.art_rules.specs.Words.{Grew, GrewByPrefix, Writes}
-use Rattle.picture_rules.specs.Words.{Eye, view_counts, view_of, view_over}
+use Rattle.picture_rules.proofs.Common.{[], ap, arith, Err, length, List, None, Ok, option_map, option_map_or, Option, refl, Result, slice_get, Some, subst, sym, ℕ, ◌+◌, ◌<◌, ◌∙◌, ◌≡◌}
+use Rattle.doom_run.specs.Rules.{Eye, Failed, Grew, OverLimit, Scene, Writes, view_of, view_over}
+use Rattle.art_rules.proofs.Laws.{writes_then}
 use Rattle.picture_rules.specs.declared.Limits.{Limits}
-use Rattle.picture_rules.specs.declared.Counts.{Counts}
-use Rattle.picture_rules.specs.declared.OverLimit.{OverLimit}
 use Rattle.level_audit.specs.declared.scene_load.load.LoadedScene.{LoadedScene}
-use Rattle.level_audit.specs.scene_load.Loads.{LoadedValue, loaded_value}
+use Rattle.level_audit.specs.scene_load.Loads.{loaded_value}
 use Rattle.frame_core.specs.Scenes.{scene_of}
+use Rattle.job_files.specs.declared.status.Status.TheVariants.{Done, WriteFault}
 use Rattle.doom_run.specs.declared.render.ReadyViews.{ReadyViews}
-use Rattle.doom_run.specs.Renders.{ready_views}
-use Rattle.doom_run.specs.Layers.{SeenView, layers_of, seen_view}
-use Rattle.doom_run.specs.Views.{ViewsValue, counted_bytes, counts_line, first_lines, view_line_at, over_line, view_line}
-use Rattle.doom_run.proofs.FirstLemmas.{all_first, more_first, none_first, prefix_first}
-use Rattle.doom_run.proofs.SeenLemmas.{seen_from-length}
-
-abbrev lines : ViewsValue → ℕ → List ℕ
-lines r k = view_line_at r k (slice_get r.views k)
-
--- a prefix of the first lines is one of all lines
-pub prefix_of_lines : {a b : List ℕ → Type 0} (r : ViewsValue) (n : ℕ) → n ≤ length r.views → GrewByPrefix a b (first_lines r n) → GrewByPrefix a b (counted_bytes r)
-unfolding first_lines
-prefix_of_lines r n le grew = prefix_first (lines r) n (length r.views) le grew
+use Rattle.doom_run.specs.Ends.{WritesDue}
+use Rattle.doom_run.specs.Jobs.{done}
+use Rattle.doom_run.specs.Layers.{SeenView, eye_of}
+use Rattle.doom_run.specs.Renders.{PutsLines, ready_views}
+use Rattle.doom_run.specs.Views.{ViewsValue, lines_at, over_line, unless_over, view_lines}
+use Rattle.doom_run.proofs.FirstLemmas.{first-more, first_of, none_first, prefix_first}
+use Rattle.doom_run.proofs.FrameLemmas.{over_at-eye, view_get}
+use Rattle.doom_run.proofs.ReadyLemmas.{views_count}
+use Rattle.doom_run.proofs.SeenLemmas.{seen_by}
 
 -- the same bytes, told otherwise
 pub same_bytes : {E : Type 0} {a b : List ℕ → Type 0} {i j : ℕ} {xs ys : List ℕ} {result : Result (Unit {0}) E} → xs ≡ ys → Writes a b i j xs result → Writes a b i j ys result
 same_bytes {E} {a} {b} {i} {j} {result} e writes = subst (λ (zs : List ℕ). Writes a b i j zs result) e writes
 
-pub same_lines : {a b : List ℕ → Type 0} {n : ℕ} (r : ViewsValue) (m : ℕ) → n ≡ m → Grew a b (first_lines r n) → Grew a b (first_lines r m)
-same_lines {a} {b} r m e grew = subst (λ (k : ℕ). Grew a b (first_lines r k)) e grew
-
--- nothing was written of no line
-pub none_written : {E : Type 0} (r : ViewsValue) (a : List ℕ → Type 0) (i : ℕ) → Writes {E = E} a a i i (first_lines r 0) (Ok tt)
-unfolding first_lines
-none_written r a i = none_first (lines r) a i
-
--- the first lines were written, and then that of the next view
-pub more_written : {E F : Type 0} {a b c : List ℕ → Type 0} {i j k : ℕ} {last : Result (Unit {0}) F} (r now : ViewsValue) (n : ℕ) → now ≡ r →
-    Writes {E = E} a b i j (first_lines r n) (Ok tt) → Writes b c j k (view_line_at now n (slice_get now.views n)) last → Writes a c i k (first_lines r (n + 1)) last
-unfolding first_lines
-more_written r now n e first next = more_first lines r now n e first next
-
--- and all of it was
-pub all_written : {E F : Type 0} {a b c : List ℕ → Type 0} {i j k : ℕ} {last : Result (Unit {0}) F} (r now : ViewsValue) (n : ℕ) → now ≡ r →
-    Writes {E = E} a b i j (first_lines r n) (Ok tt) → Writes b c j k (view_line_at now n (slice_get now.views n)) last → (unit : Unit {0}) → last ≡ Ok unit →
-    Writes {E = F} a c i k (first_lines r (n + 1)) (Ok tt)
-unfolding first_lines
-all_written r now n e first next unit was = all_first lines r now n e first next unit was
-
--- a view of a number by its viewpoint
-abbrev pub seen_by : LoadedValue → ℕ → Eye → SeenView
-seen_by loaded k eye = record {
-  view = view_of loaded.files.tables eye;
-  layers = layers_of loaded k eye;
-}
-
--- there are as many views as rows of the path
-pub length_views : (bytes : ℕ → List ℕ) (ready : ReadyViews) → length (ready_views bytes ready).views ≡ length ready.loaded.files.path
-unfolding ready_views
-length_views bytes ready = seen_from-length (seen_view (loaded_value ready.loaded)) 0 ready.loaded.files.path
-
-line_counted : (r : ViewsValue) (number : ℕ) (v : SeenView) (counts : Counts) →
-    counts ≡ view_counts v.view r.scene → view_over v.view r.scene r.limits ≡ None → counts_line number counts ≡ view_line r number v
-unfolding view_line
-line_counted r number v counts e w = rw (w, e) refl
-
-line_over : (r : ViewsValue) (number : ℕ) (v : SeenView) (over : OverLimit) →
-    view_over v.view r.scene r.limits ≡ Some over → over_line number over ≡ view_line r number v
-unfolding view_line
-line_over r number v over w = rw w refl
-
--- the line of a view that is within its limits
-pub line_of_counts : (bytes : ℕ → List ℕ) (ready : ReadyViews) (number : ℕ) (v : SeenView) (counts : Counts) →
-    slice_get (ready_views bytes ready).views number ≡ Some v → counts ≡ view_counts v.view (scene_of bytes ready.loaded.scene.scene) →
-    view_over v.view (scene_of bytes ready.loaded.scene.scene) ready.shop.limits ≡ None →
-    counts_line number counts ≡ view_line_at (ready_views bytes ready) number (slice_get (ready_views bytes ready).views number)
-unfolding ready_views
-line_of_counts bytes ready number v counts s e w = line_counted (ready_views bytes ready) number v counts e w ∙ ap (view_line_at (ready_views bytes ready) number) (sym s)
-
--- the line of a view that is over one
-pub line_of_over : (bytes : ℕ → List ℕ) (ready : ReadyViews) (number : ℕ) (v : SeenView) (over : OverLimit) →
-    slice_get (ready_views bytes ready).views number ≡ Some v → view_over v.view (scene_of bytes ready.loaded.scene.scene) ready.shop.limits ≡ Some over →
-    over_line number over ≡ view_line_at (ready_views bytes ready) number (slice_get (ready_views bytes ready).views number)
-unfolding ready_views
-line_of_over bytes ready number v over s w = line_over (ready_views bytes ready) number v over w ∙ ap (view_line_at (ready_views bytes ready) number) (sym s)
-
 -- the views of a scene are those of its path, within its limits
-pub ready_same : (bytes : ℕ → List ℕ) (a b : ReadyViews) → a.loaded ≡ b.loaded → a.shop.limits ≡ b.shop.limits → ready_views bytes a ≡ ready_views bytes b
+ready_same : (bytes : ℕ → List ℕ) (a b : ReadyViews) → a.loaded ≡ b.loaded → a.shop.limits ≡ b.shop.limits → ready_views bytes a ≡ ready_views bytes b
 unfolding ready_views
 ready_same bytes a b e l =
     ap (λ (loaded : LoadedScene). ready_views bytes (record { loaded = loaded; shop = a.shop })) e
     ∙ ap (λ (limits : Limits). ready_views bytes (record { loaded = b.loaded; shop = record { limits = limits; frame = a.shop.frame } })) l
+
+-- the lines of view number k, by its viewpoint
+module _ (lines : Scene → ℕ → SeenView → List ℕ) (bytes : ℕ → List ℕ) (ready : ReadyViews) (k : ℕ) (eye : Eye) (at : option_map eye_of (slice_get ready.loaded.files.path k) ≡ Some eye) where
+  abbrev own : Option SeenView → List ℕ
+  own o = option_map_or (lines (ready_views bytes ready).scene k) o []
+
+  -- it is within its limits
+  pub lines_within : view_over (view_of ready.loaded.files.tables eye) (scene_of bytes ready.loaded.scene.scene) ready.shop.limits ≡ None →
+      lines (scene_of bytes ready.loaded.scene.scene) k (seen_by (loaded_value ready.loaded) k eye) ≡ lines_at lines (ready_views bytes ready) k
+  unfolding ready_views lines_at
+  lines_within none = sym (ap (unless_over k (own (slice_get (ready_views bytes ready).views k))) (over_at-eye bytes ready k eye at ∙ none) ∙ ap own (view_get bytes ready k eye at))
+
+  -- it is over one
+  pub lines_over : (over : OverLimit) → view_over (view_of ready.loaded.files.tables eye) (scene_of bytes ready.loaded.scene.scene) ready.shop.limits ≡ Some over →
+      over_line k over ≡ lines_at lines (ready_views bytes ready) k
+  unfolding lines_at
+  lines_over over some = sym (ap (unless_over k (own (slice_get (ready_views bytes ready).views k))) (over_at-eye bytes ready k eye at ∙ some))
+
+module _ (lines : Scene → ℕ → SeenView → List ℕ) where
+  -- the lines of the first n views
+  abbrev pub first_lines : ℕ → ViewsValue → List ℕ
+  first_lines n r = first_of (lines_at lines r) n
+
+  -- nothing was written of no view
+  pub puts-none : (ready : ReadyViews) (old : List ℕ → Type 0) (faults : ℕ) → PutsLines (first_lines 0) ready ready old old faults faults (Ok tt)
+  puts-none ready old faults = record { writes = λ bytes. none_first (lines_at lines (ready_views bytes ready)) old faults; loaded = refl; limits = refl }
+
+  -- the lines of the first views were written, and then those of the next
+  pub puts-more : {x y z : ReadyViews} {a b c : List ℕ → Type 0} {i j k : ℕ} {result : Result (Unit {0}) Failed} (n : ℕ) → PutsLines (first_lines n) x y a b i j (Ok tt) → PutsLines (λ r. lines_at lines r n) y z b c j k result →
+      PutsLines (first_lines (n + 1)) x z a c i k result
+  puts-more {x} {y} {b = b} {c} {j = j} {k} {result} n first next = record {
+    writes = λ bytes.
+        writes_then (first_lines (n + 1) (ready_views bytes x)) (first.writes bytes) tt refl
+        (subst (λ (r : ViewsValue). Writes b c j k (lines_at lines r n) result) (ready_same bytes y x first.loaded first.limits) (next.writes bytes))
+        (first-more (lines_at lines (ready_views bytes x)) n);
+    loaded = next.loaded ∙ first.loaded;
+    limits = next.limits ∙ first.limits;
+  }
+
+  -- those of a view were not written, or in part: a prefix of all lines was
+  pub puts-stopped : {x z : ReadyViews} {a c : List ℕ → Type 0} {i k : ℕ} (n : ℕ) (failed : Failed) → PutsLines (first_lines (n + 1)) x z a c i k (Err failed) → n < length x.loaded.files.path →
+      (bytes : ℕ → List ℕ) → WritesDue (done (view_lines lines (ready_views bytes x))) a c i k WriteFault
+  unfolding view_lines
+  puts-stopped {x = x} n failed puts below bytes = record {
+    ends = prefix_first (lines_at lines (ready_views bytes x)) (n + 1) (length (ready_views bytes x).views) (omega (arith, views_count bytes x, below)) (puts.writes bytes).err;
+    write_fault = λ e. (puts.writes bytes).failed;
+  }
+
+  -- the lines of all views were written
+  pub puts-all : {x z : ReadyViews} {a c : List ℕ → Type 0} {i k : ℕ} (n : ℕ) → PutsLines (first_lines n) x z a c i k (Ok tt) → n ≡ length x.loaded.files.path →
+      (bytes : ℕ → List ℕ) → WritesDue (done (view_lines lines (ready_views bytes x))) a c i k Done
+  unfolding view_lines
+  puts-all {x = x} {a = a} {c} n puts all bytes =
+      let whole : n ≡ length (ready_views bytes x).views = omega (arith, views_count bytes x, all) in
+      record { ends = (refl, subst (λ (m : ℕ). Grew a c (first_lines m (ready_views bytes x))) whole (puts.writes bytes).ok); write_fault = λ e. absurd (cc) }

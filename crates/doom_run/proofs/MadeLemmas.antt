@@ -1,6 +1,6 @@
 -- What the made files give: they are held, and their path is not long.
 use Rattle.picture_rules.proofs.Common.{[], ap, arith, codes, Err, IsTrue, length, List, nat_lt, nat_tests, None, Ok, refl, Result, Some, subst, sym, true, ℕ, ◌<◌, ◌∙◌, ◌∷◌, ◌≡◌, ◌≤◌}
-use Rattle.art_rules.specs.Words.{absent, and_then, else_absent, File, file_named, filled, from_below, Holds, memory_view, name_of, no_file, ShelfInMemory, Stop, stopped}
+use Rattle.doom_run.specs.Rules.{AreSettings, File, FileNames, Holds, IsZoneSize, LevelJobValue, Path, Settings, ShelfInMemory, Stop, Tables, Things, Wad, absent, and_then, else_absent, file_named, filled, from_below, memory_view, name_of, no_file, stopped}
 use Rattle.art_rules.proofs.Laws.{and_then-ok}
 use Rattle.csv_tables.specs.declared.fault.CsvRefusal.{CsvRefusal}
 use Rattle.csv_tables.specs.declared.fault.CsvRefusal.TheVariants.{TooMany}
@@ -9,11 +9,6 @@ use Rattle.csv_tables.specs.declared.path.TheConstants.{MAX_VIEWS}
 use Rattle.csv_tables.specs.Records.{checked_shape, table_records, then_checked}
 use Rattle.csv_tables.specs.Paths.{path_in, path_of_records, path_row, path_width}
 use Rattle.csv_tables.proofs.RowSentences.{rows_after-within}
-use Rattle.job_rules.specs.declared.command.Settings.{Settings}
-use Rattle.job_rules.specs.declared.command.MakeJob.TheVariants.{Wad, Path, Tables, Things}
-use Rattle.scene_rules.specs.Words.{IsZoneSize}
-use Rattle.job_rules.specs.LevelJobs.{FileNames, LevelJobValue}
-use Rattle.job_rules.specs.Ranges.{AreSettings}
 use Rattle.refusals.specs.declared.refusal.Refusal.{Refusal}
 use Rattle.refusals.specs.declared.refusal.Refusal.TheVariants as refusal
 use Rattle.refusals.specs.Groups.{of_audit}

@@ -1,14 +1,11 @@
 -- The layers of a view by the dots that a canvas was given, and the view with its layers.
 use Rattle.picture_rules.proofs.Common.{[], ap, arith, Contains, Err, inl, inr, IsErrAnd, List, None, Ok, Option, refl, Result, Some, subst, sym, ℕ, ℤ, ◌∙◌, ◌≡◌, ◌⊎◌}
-use Rattle.art_rules.specs.Words.{book_lumps, fault_above, ShelfView}
-use Rattle.picture_rules.specs.Words.{AreInView, Art, Dot, Eye, IsWithinFrame, joined_lists, overlaid_paints, Painter, view_of, view_paints, ViewValue, weapon_dots}
-use Rattle.scene_rules.specs.Words.{Heap}
+use Rattle.doom_run.specs.Rules.{AreInView, Art, Dot, Eye, Frame, Heap, IsWithinFrame, Painter, ShelfView, ViewValue, book_lumps, fault_above, joined_lists, overlaid_paints, view_of, view_paints, weapon_dots}
 use Rattle.texture_build.specs.CacheFault.{CacheFault}
 use Rattle.texture_build.specs.CacheFault.TheVariants as cache
 use Rattle.texture_build.specs.Caches.{cache_fault}
 use Rattle.texture_build.proofs.CallLemmas.{result_above}
 use Rattle.csv_tables.specs.declared.weapons.WeaponRow.{WeaponRow}
-use Rattle.art_rules.specs.declared.shapes.Frame.{Frame}
 use Rattle.pixel_strips.specs.Canvases.{CanvasView}
 use Rattle.pixel_strips.specs.Dotted.{HasDots}
 use Rattle.picture_rules.proofs.FrameLemmas.{in_view-append}

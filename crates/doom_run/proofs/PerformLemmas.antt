@@ -1,10 +1,8 @@
 -- A run of a job: stopped while it loads, or by what is done with what was loaded.
 use Rattle.std.proofs.Common.{◌≡◌, ◌≤◌, ◌+◌, inl, inr, ℕ, zero, Bool, true, false, IsTrue, List, Option, None, Some, Result, Ok, Err, refl, arith, ap, sym, subst}
-use Rattle.art_rules.specs.Words.{and_then, Fault, FaultFitsOrAbsent, FaultsRose, File, from_below, HasCauseAt, Holds, ShelfView, Stop}
+use Rattle.doom_run.specs.Rules.{CommandValue, Fault, FaultFitsOrAbsent, FaultsRose, File, HasCauseAt, Holds, LevelJobValue, ShelfView, Stop, and_then, from_below}
 use Rattle.art_rules.specs.Fault.TheVariants as fault
 use Rattle.art_rules.proofs.Laws.{grew_none, stops_all}
-use Rattle.job_rules.specs.Commands.{CommandValue}
-use Rattle.job_rules.specs.LevelJobs.{LevelJobValue}
 use Rattle.refusals.specs.declared.refusal.Refusal.{Refusal}
 use Rattle.sound_scene.proofs.SceneLemmas.{same_value}
 use Rattle.job_files.specs.Sizes.{files_size}
@@ -17,7 +15,7 @@ use Rattle.level_audit.specs.scene_load.Fulls.{IsFullLoad}
 use Rattle.level_audit.specs.scene_load.Loads.{LoadedValue, load_in, loaded_sizes, loaded_value, wad_bytes}
 use Rattle.level_audit.specs.scene_load.Orders.{lumps_size}
 use Rattle.level_audit.specs.declared.scene_load.load.LoadedScene.{LoadedScene}
-use Rattle.doom_run.specs.Ends.{DeliversAt, EndsAt}
+use Rattle.doom_run.specs.Ends.{DeliversAt, EndsAt, WritesDue}
 use Rattle.doom_run.specs.Jobs.{Delivery, Job, Task, Written, job_of, job_over, level_work, over, plain}
 use Rattle.doom_run.specs.Leasts.{least_loading, work_least}
 use Rattle.doom_run.specs.Performs.{Behaves, Delivers, Performs, RunsAs}
@@ -43,6 +41,16 @@ fault_behaves reads_on before after old faults (fault.ZoneFull wanted widest) ca
 fault_behaves reads_on before after old faults fault.OutOfMemory cause =
     record { unwritten = λ is. grew_none old; unread = λ none is. grew_none old; not_usage = λ e. cc; read_fault = λ e. absurd (cc); write_fault = λ e. absurd (cc) }
 
+-- a call that writes all that is due, and reads no more
+pub due_behaves : (reads_on : Bool) (before after : ShelfView) (due : Written) (old new : List ℕ → Type 0) (faults later : ℕ) (status : Status) → WritesDue due old new faults later status → Behaves reads_on before after old new faults later status
+due_behaves reads_on before after due old new faults later status writes = record {
+  unwritten = λ is. absurd (delivers_more due old new status writes.ends is);
+  unread = λ none is. absurd (delivers_all due old new status writes.ends is);
+  not_usage = λ e. subst (λ s. DeliversAt due old new s) e writes.ends;
+  read_fault = λ e. absurd (delivers_all due old new status writes.ends (rw e tt));
+  write_fault = writes.write_fault;
+}
+
 -- nothing was read
 pub takes_none : (task : Task) (held : List File) (n : ℕ) → TaskTakes task held n n
 takes_none (plain writes reads) held n = omega arith
@@ -61,6 +69,11 @@ memory_performs job view old faults = record {
     reads = λ calm. takes_none job.task held view.taken;
   };
 }
+
+-- words that are a command
+pub command_runs : {before after : ShelfView} {old new : List ℕ → Type 0} {faults later : ℕ} {status : Status} {command : Option CommandValue} (value : CommandValue) → command ≡ Some value →
+    Performs (job_of value) before after old new faults later status → RunsAs command before after old new faults later status
+command_runs value is performs = rw is (record { runs = performs })
 
 -- whether the words are a command or not
 pub memory_runs : (command : Option CommandValue) (view : ShelfView) (old : List ℕ → Type 0) (faults : ℕ) → RunsAs command view view old old faults faults OutOfMemory
@@ -91,13 +104,7 @@ module _ (writes : List File → Result Written (Stop Refusal)) (most : List Fil
   pub plain_delivers : (asks : Bool) (due : Written) (before after : ShelfView) (old new : List ℕ → Type 0) (faults later : ℕ) (status : Status) → ((held : List File) → (IsTrue asks → Holds before held) → writes held ≡ Ok due) →
       DeliversAt due old new status → (status ≡ WriteFault → FaultsRose faults later) → ((held : List File) → (IsTrue asks → Holds before held) → after.taken ≤ before.taken + most held) → Performs (plain_job asks) before after old new faults later status
   plain_delivers asks due before after old new faults later status is delivers failed few = record {
-    behaves = record {
-      unwritten = λ e. absurd (delivers_more due old new status delivers e);
-      unread = λ none e. absurd (delivers_all due old new status delivers e);
-      not_usage = λ e. subst (λ s. DeliversAt due old new s) e delivers;
-      read_fault = λ e. absurd (delivers_all due old new status delivers (rw e tt));
-      write_fault = failed;
-    };
+    behaves = due_behaves false before after due old new faults later status (record { ends = delivers; write_fault = failed });
     asked = λ e. absurd (delivers_all due old new status delivers (rw e tt));
     zoned = λ wanted widest e. absurd (delivers_all due old new status delivers (rw e tt));
     tells = λ held holds. record {
@@ -138,9 +145,9 @@ module _ (level : LevelJobValue) (wads : List (List ℕ)) (delivery : Delivery) 
   least_by held loaded is = ap (λ (loading : Result LoadedValue (Stop Refusal)). least_loading (level_work level wads delivery) held loading) is
 
   -- loading gave a scene, with which this was done
-  pub loads_performs : (mid after : ShelfView) (old new : List ℕ → Type 0) (faults later : ℕ) (loaded : LoadedScene) (status : Status) → LoadsScene level wads before mid (Ok loaded) →
+  pub loads_performs : {mid after : ShelfView} {old new : List ℕ → Type 0} {faults later : ℕ} {status : Status} (loaded : LoadedScene) → LoadsScene level wads before mid (Ok loaded) →
       Delivers level delivery mid after loaded old new faults later status → Performs (job_over level wads delivery) before after old new faults later status
-  loads_performs mid after old new faults later loaded status now delivers =
+  loads_performs {mid} {after} {old} {new} {faults} {later} {status} loaded now delivers =
       let value : LoadedValue = loaded_value loaded in
       let rose : FaultsRose mid.faults after.faults → FaultsRose before.faults after.faults = λ some. rose_later before.faults mid.faults after.faults now.follows.faults some in
       record {

@@ -1,10 +1,7 @@
 -- The pictures of weapon layers are in the directory, and are needed.
 use Rattle.picture_rules.proofs.Common.{[], All, All-head, All-tail, Contains, Contains-append_cases, eq-eqb, inl, inr, length, List, list_any, list_any-append, map, None, Option, or_right, refl, Some, subst, true, ℕ, ◌++◌, ◌<◌, ◌==◌, ◌∙◌, ◌∷◌, ◌≡◌}
-use Rattle.picture_rules.specs.Words.{joined_lists}
-use Rattle.art_rules.specs.Words.{book_lumps, Lump, shape_lumps}
-use Rattle.art_rules.specs.declared.shapes.Frame.{Frame}
-use Rattle.art_rules.specs.declared.shapes.Shape.{Shape}
-use Rattle.scene_rules.specs.Words.{is_needed, SceneValue}
+use Rattle.doom_run.specs.Rules.{Frame, SceneValue, Shape, book_lumps, is_needed, joined_lists, shape_lumps}
+use Rattle.art_rules.specs.Words.{Lump}
 use Rattle.sound_scene.specs.Sound.{art_with}
 use Rattle.sound_scene.proofs.MemberLemmas.{among_cases, among_none, any_among}
 use Rattle.level_audit.specs.Weapons.{AreThere}

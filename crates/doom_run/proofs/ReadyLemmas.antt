@@ -1,12 +1,11 @@
 -- What stays while views are drawn.
-use Rattle.picture_rules.proofs.Common.{ap, Bool, Contains, Err, IfErr, inl, inr, length, List, Option, refl, Result, subst, sym, ℕ, ◌∙◌, ◌≡◌, ◌⊎◌}
-use Rattle.art_rules.specs.Words.{Lump, lump_bytes, ShelfView}
-use Rattle.scene_rules.specs.Words.{block_size, Heap}
-use Rattle.art_rules.specs.declared.shapes.Frame.{Frame}
+use Rattle.picture_rules.proofs.Common.{ap, Bool, Contains, inl, inr, length, List, Option, refl, subst, ℕ, ◌∙◌, ◌≡◌, ◌⊎◌}
+use Rattle.doom_run.specs.Rules.{Frame, Heap, ShelfView, block_size, lump_bytes}
+use Rattle.art_rules.specs.Words.{Lump}
 use Rattle.picture_rules.specs.declared.Limits.{Limits}
 use Rattle.texture_build.specs.DirectoryView.{DirectoryView}
 use Rattle.texture_build.specs.Caches.{KeepsCounts}
-use Rattle.texture_build.specs.Calls.{IfFull, IsFullFor}
+use Rattle.texture_build.specs.Calls.{IsFullFor}
 use Rattle.texture_build.specs.Sizes.{IsGapBeside}
 use Rattle.texture_build.specs.Asked.{IsGapBesideComposite, IsPatch, size_of}
 use Rattle.texture_build.specs.Sources.{IsComposedColumn, column_in}
@@ -19,16 +18,12 @@ use Rattle.job_files.specs.Files.{value_of}
 use Rattle.level_audit.specs.Weapons.{AreThere}
 use Rattle.level_audit.specs.scene_load.Loads.{loaded_value, weapon_lumps}
 use Rattle.frame_core.specs.Scenes.{scene_of}
-use Rattle.frame_core.specs.declared.fault.ViewFault.{ViewFault}
-use Rattle.frame_core.specs.declared.fault.ViewFault.TheVariants as fault
-use Rattle.frame_core.specs.Faults.{view_fault}
 use Rattle.frame_core.specs.Views.{CanDrawView, IsViewLump, IsViewTexture}
 use Rattle.frame_core.proofs.PaintLemmas.{can_draw_view-later}
 use Rattle.job_files.specs.declared.status.Status.{Status}
-use Rattle.job_files.specs.declared.status.Status.TheVariants.{ZoneFull}
 use Rattle.doom_run.specs.declared.render.ReadyViews.{ReadyViews}
-use Rattle.doom_run.specs.Frames.{KeepsReady, ViewEnds, status_of_view}
-use Rattle.doom_run.specs.Renders.{IsFullView, IsLayerLump, ready_views}
+use Rattle.doom_run.specs.Frames.{KeepsReady, ViewEnds}
+use Rattle.doom_run.specs.Renders.{HoldsReady, IsDrawable, IsFullView, IsLayerLump, ready_bytes, ready_views}
 use Rattle.doom_run.specs.declared.canvas.ViewForm.{ViewForm}
 use Rattle.doom_run.specs.Layers.{seen_view, seen_views}
 use Rattle.doom_run.specs.Views.{ViewsValue}
@@ -60,9 +55,15 @@ keeps_ready-then {x = x} {y} one two = record {
 can_for : (files files' : SceneFiles) (scene scene' : SoundValue) (y z : Heap) → files' ≡ files → scene' ≡ scene → KeepsCounts y z → CanDrawView files.dir.lumps scene.scene y → CanDrawView files'.dir.lumps scene'.scene z
 can_for files files' scene scene' y z f s counts can = rw (f, s) (can_draw_view-later files.dir.lumps scene.scene y z counts can)
 
+layers_for : (files files' : SceneFiles) (weapons weapons' : Option (List Frame)) → files' ≡ files → weapons' ≡ weapons → AreThere files.dir.lumps weapons → AreThere files'.dir.lumps weapons'
+layers_for files files' weapons weapons' f w there = rw (f, w) there
+
 -- it may be drawn again
-pub drawable-later : {a b : ShelfView} {x y : ReadyViews} → KeepsReady a b x y → CanDrawView x.loaded.files.dir.lumps x.loaded.scene.scene x.loaded.cache → CanDrawView y.loaded.files.dir.lumps y.loaded.scene.scene y.loaded.cache
-drawable-later {x = x} {y} keeps can = can_for x.loaded.files y.loaded.files x.loaded.scene y.loaded.scene x.loaded.cache y.loaded.cache keeps.files keeps.scene keeps.art.counts can
+pub drawable-later : {a b : ShelfView} {x y : ReadyViews} → KeepsReady a b x y → IsDrawable x.loaded → IsDrawable y.loaded
+drawable-later {x = x} {y} keeps can = (
+  can_for x.loaded.files y.loaded.files x.loaded.scene y.loaded.scene x.loaded.cache y.loaded.cache keeps.files keeps.scene keeps.art.counts can.0,
+  layers_for x.loaded.files y.loaded.files x.loaded.weapons y.loaded.weapons keeps.files keeps.weapons can.1,
+)
 
 abbrev views_with : (ℕ → List ℕ) → SceneFiles → SoundValue → Option (List Frame) → Limits → ViewsValue
 views_with bytes files scene weapons limits = record {
@@ -87,9 +88,7 @@ holds_for : {b : ShelfView} {contents : List (List ℕ)} {count : ℕ} {z : Heap
 holds_for files files' scene scene' f s holds = rw (f, s) holds
 
 -- the art that is there stays
-pub holds-later : {a b : ShelfView} {x y : ReadyViews} {contents : List (List ℕ)} {count : ℕ} → KeepsReady a b x y →
-    HoldsArt a x.loaded.files.dir (textures_view x.loaded.scene.scene) contents x.loaded.scene.scene.base.colormap count x.loaded.cache →
-    HoldsArt b y.loaded.files.dir (textures_view y.loaded.scene.scene) contents y.loaded.scene.scene.base.colormap count y.loaded.cache
+pub holds-later : {a b : ShelfView} {x y : ReadyViews} {contents : List (List ℕ)} {count : ℕ} → KeepsReady a b x y → HoldsReady a x contents count → HoldsReady b y contents count
 holds-later {x = x} {y} keeps holds = holds_for x.loaded.files y.loaded.files x.loaded.scene y.loaded.scene keeps.files keeps.scene (holds_art-later keeps.art holds)
 
 full_texture-first : {a b : ShelfView} {dir : DirectoryView} {textures : TexturesView} {y z : Heap} {among : ℕ → Type 0} (wanted widest : ℕ) → KeepsArt a b dir textures y z →
@@ -135,58 +134,36 @@ pub full-first : {a b : ShelfView} {x y : ReadyViews} (wanted widest : ℕ) → 
 full-first {x = x} {y} wanted widest keeps full =
     full_view-first x.loaded.files y.loaded.files x.loaded.scene y.loaded.scene x.loaded.weapons y.loaded.weapons wanted widest keeps.files keeps.scene keeps.weapons keeps.art full
 
--- the pictures of layers are there again
-layers_for : (files files' : SceneFiles) (weapons weapons' : Option (List Frame)) → files' ≡ files → weapons' ≡ weapons → AreThere files.dir.lumps weapons → AreThere files'.dir.lumps weapons'
-layers_for files files' weapons weapons' f w there = rw (f, w) there
-
-pub layers-later : {a b : ShelfView} {x y : ReadyViews} → KeepsReady a b x y → AreThere x.loaded.files.dir.lumps x.loaded.weapons → AreThere y.loaded.files.dir.lumps y.loaded.weapons
-layers-later {x = x} {y} keeps there = layers_for x.loaded.files y.loaded.files x.loaded.weapons y.loaded.weapons keeps.files keeps.weapons there
-
 -- a zone that was full for a lump of either kind
 full_by : {dir : DirectoryView} {z : Heap} {wanted widest' : ℕ} (P Q : ℕ → Type 0) (full : IsFullFor (λ lump. P lump ⊎ Q lump) dir z wanted widest') → P full.lump ⊎ Q full.lump → IsFullFor P dir z wanted widest' ⊎ IsFullFor Q dir z wanted widest'
 full_by P Q full (inl asked) = inl (record { lump = full.lump; asked = asked; wanted_is = full.wanted_is; narrow = full.narrow; gap = full.gap })
 full_by P Q full (inr asked) = inr (record { lump = full.lump; asked = asked; wanted_is = full.wanted_is; narrow = full.narrow; gap = full.gap })
 
 -- the zone in which a view found no gap, or one of its layers
-abbrev FullEither : ReadyViews → ℕ → ℕ → Type 0
+abbrev pub FullEither : ReadyViews → ℕ → ℕ → Type 0
 FullEither ready wanted widest' =
     IsFullForTexture (IsViewTexture ready.loaded.scene.scene) ready.loaded.files.dir.lumps (textures_view ready.loaded.scene.scene) ready.loaded.cache wanted widest'
     ⊎ IsFullFor (λ lump. IsViewLump ready.loaded.files.dir.lumps ready.loaded.scene.scene lump ⊎ IsLayerLump ready.loaded lump) ready.loaded.files.dir ready.loaded.cache wanted widest'
 
-full_view : (ready : ReadyViews) (wanted widest' : ℕ) → FullEither ready wanted widest' → IsFullView ready wanted widest'
+pub full_view : (ready : ReadyViews) (wanted widest' : ℕ) → FullEither ready wanted widest' → IsFullView ready wanted widest'
 full_view ready wanted widest' (inl texture) = inl texture
 full_view ready wanted widest' (inr lump) = inr (full_by (IsViewLump ready.loaded.files.dir.lumps ready.loaded.scene.scene) (IsLayerLump ready.loaded) lump lump.asked)
-
-full_fault : (P : ℕ → ℕ → Type 0) (k : ℕ) (f : ViewFault) (wanted widest' : ℕ) → status_of_view k f ≡ ZoneFull wanted widest' → IfFull (view_fault f) P → P wanted widest'
-full_fault P k (fault.Limit kind count) wanted widest' e h = absurd (cc)
-full_fault P k (fault.ZoneFull asked gap) wanted widest' e h =
-    let first : asked ≡ wanted = cc in
-    let second : gap ≡ widest' = cc in
-    subst (λ (n : ℕ). P n widest') first (subst (λ (n : ℕ). P asked n) second h)
-full_fault P k fault.ReadFault wanted widest' e h = absurd (cc)
-
--- a view that ended with a full zone
-pub view_full : (ready : ReadyViews) (k : ℕ) (drawn : Result (Unit {0}) ViewFault) (f : ViewFault) (status : Status) (wanted widest' : ℕ) → drawn ≡ Err f → status ≡ status_of_view k f → status ≡ ZoneFull wanted widest' →
-    IfErr drawn (λ f. IfFull (view_fault f) (FullEither ready)) → IsFullView ready wanted widest'
-view_full ready k drawn f status wanted widest' was is zone full =
-    let told : IfFull (view_fault f) (FullEither ready) = rw was at full in
-    full_view ready wanted widest' (full_fault (FullEither ready) k f wanted widest' (sym is ∙ zone) told)
 
 -- there are as many views as rows of the path
 pub views_count : (bytes : ℕ → List ℕ) (ready : ReadyViews) → length (ready_views bytes ready).views ≡ length ready.loaded.files.path
 unfolding ready_views
 views_count bytes ready = seen_from-length (seen_view (loaded_value ready.loaded)) 0 ready.loaded.files.path
 
-ends_for : (form : ViewForm) (n : ℕ) (old new : List ℕ → Type 0) (result : Result (Unit {0}) Status) (steady steady' : Bool) (lumps lumps' : List Lump) (contents : List (List ℕ)) (r r' : (ℕ → List ℕ) → ViewsValue) →
+ends_for : (form : ViewForm) (n : ℕ) (old new : List ℕ → Type 0) (status : Status) (steady steady' : Bool) (lumps lumps' : List Lump) (contents : List (List ℕ)) (r r' : (ℕ → List ℕ) → ViewsValue) →
     steady' ≡ steady → lumps' ≡ lumps → ((bytes : ℕ → List ℕ) → r' bytes ≡ r bytes) →
-    ViewEnds steady' form (r' (lump_bytes contents lumps')) n old new result → ViewEnds steady form (r (lump_bytes contents lumps)) n old new result
-ends_for form n old new result steady steady' lumps lumps' contents r r' s l e ends =
+    ViewEnds steady' form (r' (lump_bytes contents lumps')) n old new status → ViewEnds steady form (r (lump_bytes contents lumps)) n old new status
+ends_for form n old new status steady steady' lumps lumps' contents r r' s l e ends =
     rw (← s, ← e (lump_bytes contents lumps), ← l) ends
 
 -- how a view ends is told of the views as they were first, and of the form that the canvas had then
-pub view_ends-later : {a b : ShelfView} {x y : ReadyViews} (form form' : ViewForm) (n : ℕ) (old new : List ℕ → Type 0) (result : Result (Unit {0}) Status) (contents : List (List ℕ)) → KeepsReady a b x y → form' ≡ form →
-    ViewEnds b.steady form' (ready_views (lump_bytes contents y.loaded.files.dir.lumps) y) n old new result → ViewEnds a.steady form (ready_views (lump_bytes contents x.loaded.files.dir.lumps) x) n old new result
-view_ends-later {a} {b} {x} {y} form form' n old new result contents keeps same ends =
-    ends_for form n old new result a.steady b.steady x.loaded.files.dir.lumps y.loaded.files.dir.lumps contents (λ bytes. ready_views bytes x) (λ bytes. ready_views bytes y) keeps.art.follows.steady
+pub view_ends-later : {a b : ShelfView} {x y : ReadyViews} (form form' : ViewForm) (n : ℕ) (old new : List ℕ → Type 0) (status : Status) (contents : List (List ℕ)) → KeepsReady a b x y → form' ≡ form →
+    ViewEnds b.steady form' (ready_views (ready_bytes contents y) y) n old new status → ViewEnds a.steady form (ready_views (ready_bytes contents x) x) n old new status
+view_ends-later {a} {b} {x} {y} form form' n old new status contents keeps same ends =
+    ends_for form n old new status a.steady b.steady x.loaded.files.dir.lumps y.loaded.files.dir.lumps contents (λ bytes. ready_views bytes x) (λ bytes. ready_views bytes y) keeps.art.follows.steady
     (ap (λ (files : SceneFiles). files.dir.lumps) keeps.files) (λ bytes. views-later bytes keeps)
-    (subst (λ (f : ViewForm). ViewEnds b.steady f (ready_views (lump_bytes contents y.loaded.files.dir.lumps) y) n old new result) same ends)
+    (subst (λ (f : ViewForm). ViewEnds b.steady f (ready_views (ready_bytes contents y) y) n old new status) same ends)

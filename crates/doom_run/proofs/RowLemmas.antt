@@ -1,11 +1,8 @@
 -- The layers of the rows of a weapon table, one row after the other, and their pictures.
 use Rattle.picture_rules.proofs.Common.{[], ap, append-nil, append_assoc, arith, Bool, cond, Contains, Contains-append_left, Contains-append_right, eq-eqb, false, find, get_or, length, length-take, List, map, ne_eqb, None, Option, option_and_then, option_map, option_to_list, refl, slice_get, Some, subst, suc, sym, take, take-length, take_more, true, zero, ℕ, ℤ, ◌++◌, ◌+◌, ◌<◌, ◌==◌, ◌∙◌, ◌∷◌, ◌≡◌, ◌≢◌}
-use Rattle.picture_rules.specs.Words.{Art, Dot, joined_lists, ViewValue, weapon_dots, WeaponLayer}
+use Rattle.doom_run.specs.Rules.{Art, Dot, Frame, Shape, ViewValue, WeaponLayer, book_lumps, is_frame, joined_lists, picked, shape_lumps, weapon_dots}
 use Rattle.picture_rules.proofs.Laws.{joined_lists-append, joined_lists-cons}
 use Rattle.csv_tables.specs.declared.weapons.WeaponRow.{WeaponRow}
-use Rattle.art_rules.specs.declared.shapes.Frame.{Frame}
-use Rattle.art_rules.specs.declared.shapes.Shape.{Shape}
-use Rattle.art_rules.specs.Words.{book_lumps, is_frame, picked, shape_lumps}
 use Rattle.sound_scene.proofs.MemberLemmas.{among_first, among_later}
 use Rattle.doom_run.specs.Layers.{layer_of, layer_with, layers_from}
 

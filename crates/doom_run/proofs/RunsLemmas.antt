@@ -1,7 +1,6 @@
 -- What the run of words says, whether they are a command or not.
 use Rattle.picture_rules.proofs.Common.{[], Bool, Err, false, IfSome, inl, inr, IsTrue, List, None, Ok, Option, option_map_or, refl, Result, Some, ℕ, ◌≡◌, ◌≤◌, ◌⊎◌}
-use Rattle.art_rules.specs.Words.{and_then, FaultsRose, File, from_below, Grew, Holds, ShelfView, Stop}
-use Rattle.job_rules.specs.Commands.{CommandValue}
+use Rattle.doom_run.specs.Rules.{CommandValue, FaultsRose, File, Grew, Holds, ShelfView, Stop, and_then, from_below}
 use Rattle.refusals.specs.declared.refusal.Refusal.{Refusal}
 use Rattle.job_files.specs.declared.status.Status.{Status}
 use Rattle.job_files.specs.declared.status.Status.TheVariants.{Usage, ReadFault, WriteFault, ZoneFull, OutOfMemory}

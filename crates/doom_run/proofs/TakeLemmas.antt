@@ -1,8 +1,7 @@
 -- How many bytes are read while a zone stays in order.
-use Rattle.picture_rules.proofs.Common.{arith, Contains, Err, inl, inr, List, MatchResult, Option, refl, Result, ℕ, ◌+◌, ◌≡◌, ◌≤◌, ◌⊎◌}
-use Rattle.art_rules.specs.Words.{Fault, FaultsRose, HasCauseAt, ShelfView}
+use Rattle.picture_rules.proofs.Common.{arith, Contains, inl, inr, List, Option, refl, ℕ, ◌+◌, ◌≡◌, ◌≤◌, ◌⊎◌}
+use Rattle.doom_run.specs.Rules.{Fault, FaultsRose, Frame, HasCauseAt, Heap, Item, KeepsOrder, ShelfView, live_sum, lump_size}
 use Rattle.art_rules.specs.Fault.TheVariants as fault
-use Rattle.scene_rules.specs.Words.{Heap, Item, KeepsOrder, live_sum, lump_size}
 use Rattle.texture_build.specs.Calls.{HasAll, InOrderAt}
 use Rattle.texture_build.specs.Draws.{HasTexturesAsked}
 use Rattle.sound_scene.specs.Sound.{SoundValue, textures_view}
@@ -10,16 +9,12 @@ use Rattle.refusals.specs.declared.refusal.Refusal.{Refusal}
 use Rattle.job_files.specs.declared.read.SceneFiles.{SceneFiles}
 use Rattle.level_audit.specs.scene_load.Loads.{LoadedValue, weapon_lumps}
 use Rattle.level_audit.specs.scene_load.Orders.{loaded_items, lumps_size}
-use Rattle.art_rules.specs.declared.shapes.Frame.{Frame}
 use Rattle.level_audit.proofs.scene_load.OrderLemmas.{items_read}
-use Rattle.frame_core.specs.declared.fault.ViewFault.{ViewFault}
-use Rattle.frame_core.specs.declared.fault.ViewFault.TheVariants as view
-use Rattle.frame_core.specs.Faults.{view_fault}
 use Rattle.frame_core.specs.Views.{IsViewLump, IsViewTexture}
 use Rattle.job_files.specs.declared.status.Status.{Status}
 use Rattle.job_files.specs.declared.status.Status.TheVariants.{Done, Usage, Refused, ReadFault, WriteFault, Limit, ZoneFull, OutOfMemory}
 use Rattle.doom_run.specs.declared.render.ReadyViews.{ReadyViews}
-use Rattle.doom_run.specs.Frames.{KeepsReady, status_of_view}
+use Rattle.doom_run.specs.Frames.{KeepsReady}
 use Rattle.doom_run.specs.Renders.{HasReadyAsked, IsLayerLump}
 use Rattle.doom_run.specs.Takes.{InOrderAfter}
 
@@ -33,18 +28,6 @@ after_all WriteFault f p = f p
 after_all (Limit view kind count) f p = f p
 after_all (ZoneFull wanted widest) f p = p
 after_all OutOfMemory f p = f p
-
--- a fault of drawing that ends a view
-fault_after : (P : Type 0) (k : ℕ) (f : ViewFault) → InOrderAt (view_fault f) P → InOrderAfter (status_of_view k f) P
-fault_after P k (view.Limit kind count) p = p
-fault_after P k (view.ZoneFull wanted widest) p = p
-fault_after P k view.ReadFault p = tt
-
-pub drawn_after : (P : Type 0) (k : ℕ) (drawn : Result (Unit {0}) ViewFault) (f : ViewFault) (status : Status) → drawn ≡ Err f → status ≡ status_of_view k f →
-    MatchResult drawn (λ _. P) (λ fault. InOrderAt (view_fault fault) P) → InOrderAfter status P
-drawn_after P k drawn f status was is order =
-    let now : InOrderAt (view_fault f) P = rw was at order in
-    rw is (fault_after P k f now)
 
 layers_for : (items : List Item) (files files' : SceneFiles) (weapons weapons' : Option (List Frame)) → files' ≡ files → weapons' ≡ weapons →
     HasAll items files.dir (λ lump. Contains (weapon_lumps weapons) lump) → HasAll items files'.dir (λ lump. Contains (weapon_lumps weapons') lump)

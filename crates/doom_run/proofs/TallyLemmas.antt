@@ -1,16 +1,12 @@
 -- The bytes of frames, counted.
 use Rattle.picture_rules.proofs.Common.{[], ap, arith, codes, flat_map, is_some, length, length-append, length-map, List, None, Option, refl, Some, sym, take-length, true, ℕ, ◌%◌, ◌*◌, ◌++◌, ◌+◌, ◌/◌, ◌^◌, ◌∙◌, ◌∷◌, ◌≡◌, ◌≤◌}
-use Rattle.art_rules.specs.Words.{Grew, IsTallyOf, Tally}
-use Rattle.picture_rules.specs.Words.{FRAME_CELLS, frame_dots, frame_of, joined_lists, overlaid_picture, Scene}
+use Rattle.doom_run.specs.Rules.{FRAME_CELLS, Format, Grew, Index, IsTallyOf, LimitKind, OverLimit, Ppm, Scene, Tally, frame_dots, joined_lists, overlaid_picture}
+use Rattle.picture_rules.specs.Words.{frame_of}
 use Rattle.picture_rules.proofs.Laws.{least-is, length-listed}
 use Rattle.doom_run.specs.declared.canvas.ViewForm.TheVariants.{Frame}
 use Rattle.doom_run.specs.Layers.{SeenView}
 use Rattle.csv_tables.specs.declared.path.TheConstants.{MAX_VIEWS}
 use Rattle.frame_writer.specs.Ppm.{colour, ppm, ppm_header}
-use Rattle.picture_rules.specs.declared.LimitKind.{LimitKind}
-use Rattle.picture_rules.specs.declared.OverLimit.{OverLimit}
-use Rattle.job_rules.specs.declared.command.Format.{Format}
-use Rattle.job_rules.specs.declared.command.Format.TheVariants.{Index, Ppm}
 use Rattle.refusals.specs.Lines.{labelled}
 use Rattle.job_files.specs.declared.status.Status.TheVariants.{Done, Limit}
 use Rattle.doom_run.specs.Exercises.{exercise_line, exercised_bytes, frame_size, line_unless, summary_line}

@@ -1,17 +1,12 @@
 -- What a trimmed file that is written says of a run.
 use Rattle.picture_rules.proofs.Common.{All, All-contains, ap, Bool, Err, inl, IsTrue, length, List, None, Ok, OnErr, OnOk, Option, refl, Result, Some, subst, sym, true, ℕ, ◌<◌, ◌∙◌, ◌≡◌}
-use Rattle.art_rules.specs.Words.{File, from_below, Grew, GrewByPrefix, Lump, lump_at}
+use Rattle.doom_run.specs.Rules.{File, Frame, Grew, GrewByPrefix, LevelJobValue, TrimPart, TrimRefusal, copy_part, from_below, is_needed, lump_at, lump_block, trim_plan}
+use Rattle.art_rules.specs.Words.{Lump}
 use Rattle.art_rules.proofs.Laws.{and_then-ok}
 use Rattle.texture_build.specs.Calls.{HasAll, IsFullFor}
-use Rattle.art_rules.specs.declared.shapes.Frame.{Frame}
-use Rattle.job_rules.specs.LevelJobs.{LevelJobValue}
-use Rattle.job_rules.specs.declared.trim.TrimRefusal.{TrimRefusal}
 use Rattle.refusals.specs.declared.refusal.Refusal.TheVariants.{Trim}
-use Rattle.scene_rules.specs.Words.{is_needed, lump_block}
 use Rattle.sound_scene.specs.Sound.{art_with}
 use Rattle.sound_scene.proofs.SceneLemmas.{scene_parts}
-use Rattle.trim_rules.specs.declared.part.TrimPart.{TrimPart}
-use Rattle.trim_rules.specs.Parts.{copy_part, trim_plan}
 use Rattle.wad_trim.specs.Plans as plans
 use Rattle.wad_trim.specs.Writes.{InOrderWhere, IsCopied, IsPartThere}
 use Rattle.wad_trim.specs.declared.fault.TrimWrite.{TrimWrite}

@@ -1,10 +1,6 @@
 -- What a trimmed file is for: rendering it comes to the same as rendering the WADs that it was made of.
 use Rattle.std.specs.Prelude.{◌≡◌, ℕ, List, [], ◌∷◌, Some, Result, Ok}
-use Rattle.art_rules.specs.Words.{File, file_named}
-use Rattle.job_rules.specs.Commands.{level_job}
-use Rattle.job_rules.specs.LevelJobs.{FileNames, LevelJobValue}
-use Rattle.job_rules.specs.declared.command.Format.{Format}
-use Rattle.job_rules.specs.declared.command.LevelTask.TheVariants.{Render}
+use Rattle.doom_run.specs.Rules.{File, FileNames, Format, LevelJobValue, Render, file_named, level_job}
 use Rattle.doom_run.specs.Steps.{RunStop}
 use Rattle.doom_run.specs.Jobs.{job_of}
 use Rattle.doom_run.specs.Verdict.{Accepted, job_verdict}

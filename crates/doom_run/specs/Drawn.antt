@@ -1,7 +1,6 @@
 -- A view of a path drawn with its weapon layers: what a canvas is given, what is painted from, and what stays.
 use Rattle.std.specs.Prelude.{◌≡◌, ◌⊎◌, ℕ, List, OnOk, Result}
-use Rattle.art_rules.specs.Words.{lump_bytes, ShelfView}
-use Rattle.picture_rules.specs.Words.{AreInView, Dot, Eye, IsWithinFrame, joined_lists, overlaid_paints, Painter, Scene, view_of, weapon_dots}
+use Rattle.doom_run.specs.Rules.{AreInView, Dot, Eye, IsWithinFrame, Painter, Scene, ShelfView, joined_lists, lump_bytes, overlaid_paints, view_of, weapon_dots}
 use Rattle.texture_build.specs.CacheFault.{CacheFault}
 use Rattle.texture_build.specs.Caches.{cache_fault}
 use Rattle.pixel_strips.specs.Canvases.{CanvasView}

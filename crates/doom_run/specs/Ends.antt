@@ -1,6 +1,6 @@
 -- What a status says of a run.
 use Rattle.std.specs.Prelude.{◌≡◌, ℕ, Bool, IsTrue, List, [], MatchResult, Result, Ok, Err}
-use Rattle.art_rules.specs.Words.{Grew, GrewByPrefix}
+use Rattle.art_rules.specs.Words.{FaultsRose, Grew, GrewByPrefix}
 use Rattle.job_files.specs.declared.status.Status.{Status}
 use Rattle.job_files.specs.declared.status.Status.TheVariants.{Done, Usage, Refused, ReadFault, WriteFault, Limit, ZoneFull, OutOfMemory}
 use Rattle.doom_run.specs.Steps.{RunStop, usage, absent, refused}
@@ -46,7 +46,12 @@ DeliversAt due old new (Limit view kind count) = (due.end ≡ Limit view kind co
 DeliversAt due old new (ZoneFull wanted widest) = ⊥
 DeliversAt due old new OutOfMemory = ⊥
 
--- the same of a job that reads on while it writes: over a steady shelf no read fails
+-- the same of a call that writes: a write fault comes only from the object that counted it
+pub record WritesDue (due : Written) (old new : List ℕ → Type 0) (faults later : ℕ) (status : Status) : Type 0 where
+  pub ends : DeliversAt due old new status
+  pub write_fault : status ≡ WriteFault → FaultsRose faults later
+
+-- what was written by the status of a job that reads on while it writes: over a steady shelf no read fails
 abbrev pub RendersAt : Bool → Written → (List ℕ → Type 0) → (List ℕ → Type 0) → Status → Type 0
 RendersAt steady due old new Done = (due.end ≡ Done) × Grew old new due.output
 RendersAt steady due old new Usage = ⊥

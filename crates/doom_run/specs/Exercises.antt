@@ -1,13 +1,8 @@
 -- The made files of a number, rendered and counted.
 use Rattle.std.specs.Prelude.{ℕ, ◌++◌, ◌∷◌, ◌*◌, ◌%◌, ◌^◌, List, [], length, sum, codes, Option, Some, None}
-use Rattle.art_rules.specs.Words.{File}
+use Rattle.doom_run.specs.Rules.{File, Format, Full, Index, LevelJobValue, Path, Ppm, Tables, Things, Wad}
 use Rattle.command_line.specs.declared.choices.TheConstants.{DEFAULT_OPENINGS, DEFAULT_PLANES, DEFAULT_SIZE, DEFAULT_SKILL}
 use Rattle.frame_writer.specs.declared.TheConstants.{FRAME_BYTES, PPM_BYTES}
-use Rattle.picture_rules.specs.Words.{Full}
-use Rattle.job_rules.specs.declared.command.Format.{Format}
-use Rattle.job_rules.specs.declared.command.Format.TheVariants.{Index, Ppm}
-use Rattle.job_rules.specs.declared.command.MakeJob.TheVariants.{Wad, Path, Tables, Things}
-use Rattle.job_rules.specs.LevelJobs.{LevelJobValue}
 use Rattle.refusals.specs.Lines.{labelled}
 use Rattle.job_files.specs.Made.{made_file}
 use Rattle.doom_run.specs.declared.canvas.ViewForm.TheVariants.{Frame}

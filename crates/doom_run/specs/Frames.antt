@@ -1,16 +1,11 @@
 -- One view of a path, drawn and written.
-use Rattle.std.specs.Prelude.{◌≡◌, ℕ, Bool, IsTrue, List, [], Some, None, option_map, slice_get, Result, Ok, Err}
+use Rattle.std.specs.Prelude.{◌≡◌, ℕ, Bool, IsTrue, List, [], Some, None, option_map, slice_get}
 use Rattle.std.specs.Option.{option_map_or}
-use Rattle.art_rules.specs.Words.{Grew, GrewByPrefix, ShelfView}
-use Rattle.picture_rules.specs.Words.{AreInView, IsWithinFrame, overlaid_paints, Painter}
-use Rattle.pixel_strips.specs.Canvases.{CanvasView}
-use Rattle.pixel_strips.specs.Dotted.{HasDots}
+use Rattle.doom_run.specs.Rules.{Grew, GrewByPrefix, Index, Ppm, ShelfView}
 use Rattle.texture_build.specs.Draws.{KeepsArt}
 use Rattle.sound_scene.specs.Sound.{textures_view}
 use Rattle.frame_writer.specs.Ppm.{ppm}
 use Rattle.pixel_trace.specs.Traces.{cells_bytes}
-use Rattle.job_rules.specs.declared.command.Format.TheVariants.{Index, Ppm}
-use Rattle.frame_core.specs.Views.{placed_for}
 use Rattle.frame_core.specs.declared.fault.ViewFault.{ViewFault}
 use Rattle.frame_core.specs.declared.fault.ViewFault.TheVariants as fault
 use Rattle.job_files.specs.declared.status.Status.{Status}
@@ -20,7 +15,6 @@ use Rattle.doom_run.specs.declared.canvas.ViewCanvas.{ViewCanvas}
 use Rattle.doom_run.specs.declared.canvas.ViewCanvas.TheVariants as canvas
 use Rattle.doom_run.specs.declared.canvas.ViewForm.{ViewForm}
 use Rattle.doom_run.specs.declared.canvas.ViewForm.TheVariants as form
-use Rattle.doom_run.specs.Layers.{SeenView}
 use Rattle.doom_run.specs.Views.{ViewsValue, over_at, view_bytes}
 
 -- what is written of a canvas
@@ -39,15 +33,6 @@ form_of (canvas.Trace frame) = form.Trace
 abbrev pub IsDrawnAt : ViewsValue → ℕ → ViewCanvas → Type 0
 IsDrawnAt r k c = option_map (view_bytes (form_of c) r.palette r.scene) (slice_get r.views k) ≡ Some (canvas_bytes r.palette c)
 
--- View number k is there, it lies in the frame, and all that it shows in it; a canvas that is placed where it
--- lies was given that, and then its layers.
-pub record HasView (mark : Painter → ℕ → ℕ) (r : ViewsValue) (k : ℕ) (before now : CanvasView) : Type 0 where
-  pub seen : SeenView
-  pub is : slice_get r.views k ≡ Some seen
-  pub window : IsWithinFrame seen.view.shape
-  pub in_view : AreInView seen.view.shape (overlaid_paints seen.view r.scene seen.layers)
-  pub painted : HasDots mark (overlaid_paints seen.view r.scene seen.layers) (placed_for seen.view before) now
-
 -- what is written of view number k, nothing where there is no such view
 unfoldable pub frame_at : ViewForm → ViewsValue → ℕ → List ℕ
 frame_at f r k = option_map_or (view_bytes f r.palette r.scene) (slice_get r.views k) []
@@ -58,19 +43,18 @@ status_of_view view (fault.Limit kind count) = Limit view kind count
 status_of_view view (fault.ZoneFull wanted widest) = ZoneFull wanted widest
 status_of_view view fault.ReadFault = ReadFault
 
--- View number k of these, by what drawing and writing it answers: its frame was written, and it is not over a
+-- View number k of these, by the status of drawing and writing it: its frame was written, and it is not over a
 -- limit; or it is, or a fault came, and nothing was written, or of its frame only a prefix.
-abbrev pub ViewEnds : Bool → ViewForm → ViewsValue → ℕ → (List ℕ → Type 0) → (List ℕ → Type 0) → Result (Unit {0}) Status → Type 0
-ViewEnds steady format r k old new (Ok unit) = (over_at r k ≡ None) × Grew old new (frame_at format r k)
-ViewEnds steady format r k old new (Err Done) = ⊥
-ViewEnds steady format r k old new (Err Usage) = ⊥
-ViewEnds steady format r k old new (Err (Refused refusal)) = ⊥
-ViewEnds steady format r k old new (Err ReadFault) = (IsTrue steady → ⊥) × Grew old new []
-ViewEnds steady format r k old new (Err WriteFault) = (over_at r k ≡ None) × GrewByPrefix old new (frame_at format r k)
-ViewEnds steady format r k old new (Err (Limit view kind count)) =
+abbrev pub ViewEnds : Bool → ViewForm → ViewsValue → ℕ → (List ℕ → Type 0) → (List ℕ → Type 0) → Status → Type 0
+ViewEnds steady format r k old new Done = (over_at r k ≡ None) × Grew old new (frame_at format r k)
+ViewEnds steady format r k old new Usage = ⊥
+ViewEnds steady format r k old new (Refused refusal) = ⊥
+ViewEnds steady format r k old new ReadFault = (IsTrue steady → ⊥) × Grew old new []
+ViewEnds steady format r k old new WriteFault = (over_at r k ≡ None) × GrewByPrefix old new (frame_at format r k)
+ViewEnds steady format r k old new (Limit view kind count) =
     (view ≡ k) × (over_at r k ≡ Some (record { kind = kind; count = count })) × Grew old new []
-ViewEnds steady format r k old new (Err (ZoneFull wanted widest)) = Grew old new []
-ViewEnds steady format r k old new (Err OutOfMemory) = ⊥
+ViewEnds steady format r k old new (ZoneFull wanted widest) = Grew old new []
+ViewEnds steady format r k old new OutOfMemory = ⊥
 
 -- all that stays while views are drawn: what was loaded and the limits; and of the cache its art
 pub record KeepsReady (view after : ShelfView) (old new : ReadyViews) : Type 0 where

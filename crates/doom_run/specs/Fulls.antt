@@ -1,11 +1,7 @@
 -- When a run ends with a full zone.
 use Rattle.std.specs.Prelude.{◌≡◌, ◌≢◌, ◌≤◌, ◌<◌, ◌+◌, ◌*◌, ◌⊎◌, ℕ, true, IsTrue, IfSome, List, length, Option, Some, Ok, Contains}
-use Rattle.art_rules.specs.Words.{File, PreparedTexture}
-use Rattle.scene_rules.specs.Words.{composite_block, is_needed, lump_block, MIN_FRAGMENT}
+use Rattle.doom_run.specs.Rules.{CommandValue, File, LevelJobValue, MIN_FRAGMENT, PlacedPatch, PreparedTexture, composite_block, is_needed, lump_block}
 use Rattle.texture_build.specs.Sizes.{IsGapBeside, IsGapBesideTwo}
-use Rattle.art_rules.specs.declared.PlacedPatch.{PlacedPatch}
-use Rattle.job_rules.specs.Commands.{CommandValue}
-use Rattle.job_rules.specs.LevelJobs.{LevelJobValue}
 use Rattle.command_line.specs.Commands.{command_of}
 use Rattle.sound_scene.specs.Sound.{art_with}
 use Rattle.level_audit.specs.scene_load.Fulls.{IsFullLoad}

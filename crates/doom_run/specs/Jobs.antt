@@ -1,16 +1,10 @@
 -- What each command determines: whether it asks the shelf for files, and what it makes of them. Nothing else
 -- in this crate has a case a job.
 use Rattle.std.specs.Prelude.{ℕ, Bool, true, false, List, [], Result, Ok, codes}
-use Rattle.art_rules.specs.Words.{and_then, File, Stop}
+use Rattle.doom_run.specs.Rules.{CommandValue, File, Format, LevelJobValue, LevelTask, Stop, ZoneSizes, and_then, exercise, flat, level_job, make, trimmed_file}
 use Rattle.frame_writer.specs.Ppm.{ppm}
-use Rattle.job_rules.specs.Commands.{CommandValue, flat, level_job, make, exercise}
-use Rattle.job_rules.specs.LevelJobs.{LevelJobValue}
-use Rattle.job_rules.specs.declared.command.Format.{Format}
-use Rattle.job_rules.specs.declared.command.LevelTask.{LevelTask}
 use Rattle.job_rules.specs.declared.command.LevelTask.TheVariants as task
 use Rattle.refusals.specs.declared.refusal.Refusal.{Refusal}
-use Rattle.scene_rules.specs.declared.ZoneSizes.{ZoneSizes}
-use Rattle.trim_rules.specs.Files.{trimmed_file}
 use Rattle.job_files.specs.Flats.{flat_verdict}
 use Rattle.job_files.specs.Lines.{pair_line}
 use Rattle.job_files.specs.Made.{made_file}

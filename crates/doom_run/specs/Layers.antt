@@ -1,13 +1,9 @@
 -- The weapon layers of the views of a path (R_DrawPlayerSprites, r_things.c).
 use Rattle.std.specs.Prelude.{ℕ, ◌+◌, ◌==◌, cond, ℤ, List, [], ◌∷◌, ◌++◌, option_map, Option, Some, None}
 use Rattle.std.specs.Option.{option_to_list}
-use Rattle.picture_rules.specs.Words.{Eye, surface_at, view_of, ViewValue, WeaponLayer}
+use Rattle.doom_run.specs.Rules.{Eye, Frame, SceneValue, Shape, ViewValue, WeaponLayer, picked, sector_at, surface_at, view_of}
 use Rattle.csv_tables.specs.declared.path.PathRow.{PathRow}
 use Rattle.csv_tables.specs.declared.weapons.WeaponRow.{WeaponRow}
-use Rattle.art_rules.specs.declared.shapes.Frame.{Frame}
-use Rattle.art_rules.specs.declared.shapes.Shape.{Shape}
-use Rattle.art_rules.specs.Words.{picked}
-use Rattle.scene_rules.specs.Words.{SceneValue, sector_at}
 use Rattle.level_audit.specs.scene_load.Loads.{LoadedValue}
 use Rattle.frame_core.specs.Scenes.{drawn_shape, lists_of}
 

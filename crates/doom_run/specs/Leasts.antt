@@ -2,13 +2,10 @@
 -- beside COLORMAP, each lump that is read and each that is painted from.
 use Rattle.std.specs.Prelude.{ℕ, ◌+◌, ◌==◌, ◌||◌, Bool, cond, max, List, length, Result, Ok, Err}
 use Rattle.std.specs.List.{range_with_len}
-use Rattle.art_rules.specs.Words.{File, Lump, Stop}
-use Rattle.scene_rules.specs.Words.{block_size, greatest_by, is_list, is_map_lump, LevelBase, lump_block}
-use Rattle.picture_rules.specs.Words.{COMPOSITE, Dot, LUMP, overlaid_paints, Painter, Scene}
+use Rattle.doom_run.specs.Rules.{COMPOSITE, CommandValue, Dot, File, LUMP, LevelBase, LevelJobValue, Painter, Scene, Stop, block_size, greatest_by, is_list, is_map_lump, lump_block, overlaid_paints}
+use Rattle.art_rules.specs.Words.{Lump}
 use Rattle.texture_build.specs.Asked.{size_of}
 use Rattle.texture_build.specs.Views.{TexturesView, prepared_texture}
-use Rattle.job_rules.specs.Commands.{CommandValue}
-use Rattle.job_rules.specs.LevelJobs.{LevelJobValue}
 use Rattle.refusals.specs.declared.refusal.Refusal.{Refusal}
 use Rattle.sound_scene.specs.Sound.{textures_view}
 use Rattle.level_audit.specs.scene_load.Loads.{LoadedValue, load_in, wad_bytes}

@@ -16,3 +16,4 @@ pub mod Lists
 pub mod Views
 pub mod Words
 pub mod Drawn
+pub mod Rules

@@ -1,18 +1,11 @@
 -- The job `list`: for each view of a path a line an item, and a line of sums; a view that is over a limit has its line alone.
-use Rattle.std.specs.Prelude.{ℕ, ◌+◌, ◌++◌, List, [], ◌∷◌, length, codes, Option, Some, None, slice_get}
-use Rattle.picture_rules.specs.Words.{joined_lists, listed, view_counts, view_list, view_over, ViewListValue}
+use Rattle.std.specs.Prelude.{ℕ, ◌+◌, ◌++◌, List, [], ◌∷◌, codes}
+use Rattle.doom_run.specs.Rules.{Counts, Flat4, Fragment, ListedFragment, ListedPlane, ListedSprite, PlaneMaker, Scene, ViewListValue, view_counts, view_list}
 use Rattle.refusals.specs.Lines.{labelled, labelled_signed}
-use Rattle.picture_rules.specs.declared.Counts.{Counts}
-use Rattle.picture_rules.specs.declared.OverLimit.{OverLimit}
-use Rattle.picture_rules.specs.declared.plane.Flat4.{Flat4}
 use Rattle.picture_rules.specs.declared.plane.Flat4.TheVariants.{Sky, Lump}
-use Rattle.picture_rules.specs.declared.list.ListedFragment.{ListedFragment}
-use Rattle.picture_rules.specs.declared.list.ListedPlane.{ListedPlane}
-use Rattle.picture_rules.specs.declared.list.ListedSprite.{ListedSprite}
-use Rattle.picture_rules.specs.declared.list.PlaneMaker.{PlaneMaker}
-use Rattle.picture_rules.specs.declared.list.PlaneMaker.TheVariants.{Leaf, Fragment}
+use Rattle.picture_rules.specs.declared.list.PlaneMaker.TheVariants.{Leaf}
 use Rattle.doom_run.specs.Layers.{SeenView}
-use Rattle.doom_run.specs.Views.{ViewsValue, over_line}
+use Rattle.doom_run.specs.Views.{ViewsValue, view_lines}
 
 -- a line of item number k of a view begins so
 abbrev pub item_start : List ℕ → ℕ → ℕ → List ℕ
@@ -70,21 +63,8 @@ items_lines view counts list =
     ++ (lines_from (plane_line view) 0 list.planes
     ++ (lines_from (sprite_line view) 0 list.sprites ++ sums_line view counts list))
 
-abbrev pub list_lines_by : ℕ → Counts → ViewListValue → Option OverLimit → List ℕ
-list_lines_by view counts list None = items_lines view counts list
-list_lines_by view counts list (Some over) = over_line view over
-
-unfoldable pub list_lines : ViewsValue → ℕ → SeenView → List ℕ
-list_lines r view s = list_lines_by view (view_counts s.view r.scene) (view_list s.view r.scene) (view_over s.view r.scene r.limits)
-
--- the lines of view number k
-abbrev pub list_lines_at : ViewsValue → ℕ → Option SeenView → List ℕ
-list_lines_at r view None = []
-list_lines_at r view (Some s) = list_lines r view s
-
--- the lines of the first n views
-unfoldable pub first_lists : ViewsValue → ℕ → List ℕ
-first_lists r n = joined_lists (λ k. list_lines_at r k (slice_get r.views k)) (listed (λ k. k) n)
+abbrev pub list_lines : Scene → ℕ → SeenView → List ℕ
+list_lines scene view s = items_lines view (view_counts s.view scene) (view_list s.view scene)
 
 abbrev pub listed_bytes : ViewsValue → List ℕ
-listed_bytes r = first_lists r (length r.views)
+listed_bytes r = view_lines list_lines r

@@ -1,9 +1,6 @@
 -- What a run of a job says: by its status, by what was written, and by what was read.
 use Rattle.std.specs.Prelude.{◌≡◌, ◌≤◌, ◌+◌, ◌⊎◌, ℕ, Bool, false, IsTrue, List, [], Option, None, Some, Ok}
-use Rattle.art_rules.specs.Words.{FaultsRose, File, from_below, Grew, Holds, ShelfView}
-use Rattle.scene_rules.specs.Words.{IsInOrder, live_sum, lump_size}
-use Rattle.job_rules.specs.Commands.{CommandValue}
-use Rattle.job_rules.specs.LevelJobs.{LevelJobValue}
+use Rattle.doom_run.specs.Rules.{CommandValue, FaultsRose, File, Grew, Holds, IsInOrder, LevelJobValue, ShelfView, from_below, live_sum, lump_size}
 use Rattle.job_files.specs.Files.{files_named}
 use Rattle.job_files.specs.declared.status.Status.{Status}
 use Rattle.job_files.specs.declared.status.Status.TheVariants.{Usage, ReadFault, WriteFault, ZoneFull, OutOfMemory}

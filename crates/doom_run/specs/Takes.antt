@@ -1,9 +1,7 @@
 -- How many bytes of files a job reads at most, one over a level where its zone has room for all that the level
 -- needs: each needed lump counts once.
 use Rattle.std.specs.Prelude.{◌≡◌, ◌≤◌, ◌+◌, ℕ, List, Ok, ⊤}
-use Rattle.art_rules.specs.Words.{File}
-use Rattle.job_rules.specs.Commands.{CommandValue}
-use Rattle.job_rules.specs.LevelJobs.{LevelJobValue}
+use Rattle.doom_run.specs.Rules.{CommandValue, File, LevelJobValue}
 use Rattle.level_audit.specs.scene_load.Loads.{LoadedValue, load_in, loaded_sizes}
 use Rattle.job_files.specs.Sizes.{files_size}
 use Rattle.level_audit.specs.scene_load.Orders.{lumps_size}

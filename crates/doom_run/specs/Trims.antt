@@ -1,13 +1,9 @@
 -- The parts of the trimmed file of a level, and what writing them comes to.
 use Rattle.std.specs.Prelude.{◌≡◌, List, Result, Ok, Err}
-use Rattle.art_rules.specs.Words.{Fault, from_below, OutOfMemory, ReadFault, Refused, ZoneFull}
-use Rattle.job_rules.specs.LevelJobs.{LevelJobValue}
+use Rattle.doom_run.specs.Rules.{Fault, LevelJobValue, OutOfMemory, ReadFault, Refused, SceneArt, TrimPart, ZoneFull, from_below, trim_plan}
 use Rattle.refusals.specs.declared.refusal.Refusal.{Refusal}
 use Rattle.refusals.specs.declared.refusal.Refusal.TheVariants.{Trim}
-use Rattle.scene_rules.specs.Words.{SceneArt}
 use Rattle.sound_scene.specs.Sound.{art_with}
-use Rattle.trim_rules.specs.declared.part.TrimPart.{TrimPart}
-use Rattle.trim_rules.specs.Parts.{trim_plan}
 use Rattle.wad_trim.specs.declared.fault.TrimWrite.{TrimWrite}
 use Rattle.wad_trim.specs.declared.fault.TrimWrite.TheVariants as write
 use Rattle.job_files.specs.declared.status.Status.{Status}

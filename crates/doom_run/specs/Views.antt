@@ -1,14 +1,10 @@
 -- The views of a path over a level: their frames and counts, and the first that is over a limit.
 use Rattle.std.specs.Prelude.{ℕ, ◌++◌, List, [], length, take, codes, Option, Some, None, is_some, unwrap_or, slice_get, option_and_then}
-use Rattle.picture_rules.specs.Words.{joined_lists, least, listed, overlaid_picture, overlaid_trace, Scene, view_counts, view_over}
+use Rattle.std.specs.Option.{option_map_or}
+use Rattle.doom_run.specs.Rules.{Counts, Format, Index, OverLimit, Ppm, Scene, Settings, joined_lists, least, listed, overlaid_picture, overlaid_trace, view_counts, view_over}
 use Rattle.frame_writer.specs.Ppm.{ppm}
-use Rattle.job_rules.specs.declared.command.Format.{Format}
-use Rattle.job_rules.specs.declared.command.Format.TheVariants.{Index, Ppm}
-use Rattle.job_rules.specs.declared.command.Settings.{Settings}
 use Rattle.refusals.specs.Lines.{labelled}
 use Rattle.picture_rules.specs.declared.Limits.{Limits}
-use Rattle.picture_rules.specs.declared.Counts.{Counts}
-use Rattle.picture_rules.specs.declared.OverLimit.{OverLimit}
 use Rattle.level_audit.specs.scene_load.Loads.{LoadedValue}
 use Rattle.frame_core.specs.Scenes.{scene_of}
 use Rattle.pixel_trace.specs.Traces.{trace_bytes}
@@ -79,7 +75,7 @@ end_at r (Some view) = limit_at view (over_at r view)
 abbrev pub rendered_end : ViewsValue → Status
 rendered_end r = end_at r (first_over r)
 
--- the line of a view's counts, or of its first count past a limit
+-- the line of a view's counts
 abbrev pub counts_line : ℕ → Counts → List ℕ
 counts_line view counts =
     labelled (codes "view ") view
@@ -88,25 +84,26 @@ counts_line view counts =
     ++ (labelled (codes " fragments ") counts.fragments
     ++ (labelled (codes " sprites ") counts.sprites ++ codes "\n"))))
 
+abbrev pub view_line : Scene → ℕ → SeenView → List ℕ
+view_line scene view s = counts_line view (view_counts s.view scene)
+
+-- the line of its first count past a limit
 abbrev pub over_line : ℕ → OverLimit → List ℕ
 over_line view over =
     labelled (codes "view ") view ++ (codes " over" ++ (labelled (limit_label over.kind) over.count ++ codes "\n"))
 
-abbrev pub view_line_by : ℕ → Counts → Option OverLimit → List ℕ
-view_line_by view counts None = counts_line view counts
-view_line_by view counts (Some over) = over_line view over
+-- these lines, or of a view that is over a limit the line of that
+abbrev pub unless_over : ℕ → List ℕ → Option OverLimit → List ℕ
+unless_over view lines None = lines
+unless_over view lines (Some over) = over_line view over
 
-unfoldable pub view_line : ViewsValue → ℕ → SeenView → List ℕ
-view_line r view s = view_line_by view (view_counts s.view r.scene) (view_over s.view r.scene r.limits)
+-- the lines of view number k, by those of a view that is within its limits
+unfoldable pub lines_at : (Scene → ℕ → SeenView → List ℕ) → ViewsValue → ℕ → List ℕ
+lines_at lines r k = unless_over k (option_map_or (lines r.scene k) (slice_get r.views k) []) (over_at r k)
 
--- the line of view number k
-abbrev pub view_line_at : ViewsValue → ℕ → Option SeenView → List ℕ
-view_line_at r view None = []
-view_line_at r view (Some s) = view_line r view s
-
--- the lines of the first n views
-unfoldable pub first_lines : ViewsValue → ℕ → List ℕ
-first_lines r n = joined_lists (λ k. view_line_at r k (slice_get r.views k)) (listed (λ k. k) n)
+-- those of all views
+unfoldable pub view_lines : (Scene → ℕ → SeenView → List ℕ) → ViewsValue → List ℕ
+view_lines lines r = joined_lists (lines_at lines r) (listed (λ k. k) (length r.views))
 
 abbrev pub counted_bytes : ViewsValue → List ℕ
-counted_bytes r = first_lines r (length r.views)
+counted_bytes r = view_lines view_line r

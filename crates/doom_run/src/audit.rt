@@ -1,11 +1,9 @@
 // The job `audit`: how large a zone has to be for a level that is accepted.
-ghost use Rattle.job_rules.specs.LevelJobs.{LevelJobValue};
-ghost use Rattle.job_rules.specs.declared.command.LevelTask.TheVariants.{Audit};
+ghost use Rattle.doom_run.specs.Rules.{Audit, LevelJobValue, ShelfView, Writes};
 ghost use Rattle.level_audit.specs.scene_load.Calls.{IsLoadedScene};
-ghost use Rattle.art_rules.specs.Words.{FaultsRose, ShelfView, Writes};
 ghost use Rattle.job_files.specs.Lines.{pair_line};
-ghost use Rattle.std.specs.Prelude.{◌≡◌, codes};
-ghost use Rattle.doom_run.specs.Ends.{DeliversAt};
+ghost use Rattle.std.specs.Prelude.{codes};
+ghost use Rattle.doom_run.specs.Ends.{WritesDue};
 ghost use Rattle.doom_run.specs.Jobs.{audited, delivery_of};
 ghost use Rattle.doom_run.specs.Performs.{Delivers};
 
@@ -30,9 +28,8 @@ fn put_sizes<K: Sink>(out: &mut K, sizes: ZoneSizes) -> Result<(), Failed>
 
 // Writes the line of an accepted level. Takes no memory.
 fn deliver_audit<K: Sink>(sizes: ZoneSizes, out: &mut K) -> Status
-    ensures ends { DeliversAt (audited sizes) (K.written out.old) (K.written out.new) result }
-    ensures write_fault { result ≡ Status.WriteFault →
-        FaultsRose (K.faults out.old) (K.faults out.new) }
+    ensures { WritesDue (audited sizes) (K.written out.old) (K.written out.new)
+        (K.faults out.old) (K.faults out.new) result }
 {
     match put_sizes(out, sizes) {
         Ok(()) => Status::Done,

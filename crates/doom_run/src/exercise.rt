@@ -1,9 +1,6 @@
 // The job `exercise`: the made files of a number, rendered in memory and counted.
 ghost use Rattle.std.specs.Prelude.{◌≡◌, ◌*◌, ◌/◌, [], ◌∷◌, IfOk};
-ghost use Rattle.art_rules.specs.Words.{FaultsRose, ShelfView, Writes};
-ghost use Rattle.scene_rules.specs.Words.{IsZoneSize};
-ghost use Rattle.job_rules.specs.Commands.{IsCount, exercise};
-ghost use Rattle.job_rules.specs.LevelJobs.{level_job_value};
+ghost use Rattle.doom_run.specs.Rules.{FaultsRose, IsCount, IsZoneSize, ShelfView, Writes, exercise, level_job_value};
 ghost use Rattle.job_files.specs.Statuses.{DeliversBytes};
 ghost use Rattle.doom_run.specs.Exercises.{frame_size, made_files, made_level, summary_line};
 ghost use Rattle.doom_run.specs.Jobs.{job_of};

@@ -2,14 +2,13 @@
 //
 // Rules: `specs/Layers`; `picture_rules`, Paints (`overlaid_paints`). The original:
 // `R_DrawPlayerSprites`, r_things.c.
-ghost use Rattle.art_rules.specs.Words.{book_lumps};
+ghost use Rattle.doom_run.specs.Rules.{book_lumps, joined_lists, view_of, weapon_dots};
 ghost use Rattle.csv_tables.specs.declared.weapons.TheConstants.{MAX_WEAPONS};
 ghost use Rattle.doom_run.specs.Drawn.{DrawsLayered, DrawsLayers};
 ghost use Rattle.doom_run.specs.Layers.{layer_of, layers_from, layer_light};
+ghost use Rattle.doom_run.specs.Renders.{IsDrawable};
 ghost use Rattle.frame_core.specs.Ends.{EndsOver, EndsWithin};
-ghost use Rattle.frame_core.specs.Views.{CanDrawView};
 ghost use Rattle.level_audit.specs.Weapons.{AreThere};
-ghost use Rattle.picture_rules.specs.Words.{joined_lists, view_of, weapon_dots};
 ghost use Rattle.pixel_strips.specs.Standing.{StandsInFrame};
 ghost use Rattle.std.specs.Prelude.{◌≡◌, ◌<◌, ◌≤◌, ◌∷◌, [], Contains, Some, length, option_map};
 ghost use Rattle.texture_build.specs.Paints.{paint_state};
@@ -45,9 +44,7 @@ pub fn draw_layered<S: Shelf, C: Canvas>(
     shelf: &mut S,
     canvas: &mut C,
 ) -> Result<(), ViewFault>
-    requires drawable { CanDrawView loaded.old.files.dir.lumps loaded.old.scene.scene
-        loaded.old.cache }
-    requires layers { AreThere loaded.old.files.dir.lumps loaded.old.weapons }
+    requires { IsDrawable loaded.old }
     ensures within { EndsWithin (view_of loaded.old.files.tables eye) loaded.old.scene.scene
         shop.old.limits result }
     ensures over { EndsOver (view_of loaded.old.files.tables eye) loaded.old.scene.scene
@@ -102,9 +99,7 @@ fn draw_layers<S: Shelf, C: Canvas>(
     shelf: &mut S,
     canvas: &mut C,
 ) -> Result<(), CacheFault>
-    requires drawable { CanDrawView loaded.old.files.dir.lumps loaded.old.scene.scene
-        loaded.old.cache }
-    requires layers { AreThere loaded.old.files.dir.lumps loaded.old.weapons }
+    requires drawable { IsDrawable loaded.old }
     requires placed { StandsInFrame (view_of loaded.old.files.tables eye).shape
         (C.view canvas.old) }
     ensures paints { DrawsLayers C.mark number eye (S.view shelf.old) (S.view shelf.new)

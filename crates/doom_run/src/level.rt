@@ -2,11 +2,9 @@
 //
 // Rules: `specs/Jobs` (the table), `specs/Performs`.
 ghost use Rattle.std.specs.Prelude.{map};
-ghost use Rattle.job_rules.specs.LevelJobs.{level_job_value};
-ghost use Rattle.job_rules.specs.Ranges.{AreSettings};
-ghost use Rattle.level_audit.specs.scene_load.Calls.{IsLoadedScene};
+ghost use Rattle.doom_run.specs.Rules.{AreSettings, level_job_value};
 ghost use Rattle.doom_run.specs.Jobs.{delivery_of, job_over};
-ghost use Rattle.doom_run.specs.Performs.{Delivers, Performs};
+ghost use Rattle.doom_run.specs.Performs.{Performs};
 
 use crate::audit::perform_audit;
 use crate::canvas::ViewForm;
@@ -17,7 +15,7 @@ use crate::trim::perform_trim;
 use art_rules::{Shelf, Sink};
 use job_files::Status;
 use job_rules::{LevelJob, LevelTask};
-use level_audit::{LoadedScene, load_scene};
+use level_audit::load_scene;
 use std::alloc::Global;
 
 // A job over a level in these WADs.
@@ -35,34 +33,16 @@ pub fn perform_level<S: Shelf, K: Sink>(
         (K.written out.old) (K.written out.new) (K.faults out.old) (K.faults out.new) result }
 {
     match load_scene(alloc, level, wads, shelf) {
-        Ok(loaded) => perform_task(alloc, task, level, loaded, shelf, out),
+        Ok(loaded) => match task {
+            LevelTask::Render(format) => {
+                perform_views(alloc, ViewForm::Frame(format), level, loaded, shelf, out)
+            }
+            LevelTask::Trace => perform_views(alloc, ViewForm::Trace, level, loaded, shelf, out),
+            LevelTask::Audit => perform_audit(&loaded, out),
+            LevelTask::Limits => perform_limits(alloc, level, loaded, out),
+            LevelTask::List => perform_list(alloc, level, loaded, out),
+            LevelTask::Trim => perform_trim(alloc, level, loaded, shelf, out),
+        },
         Err(fault) => Status::of(fault),
-    }
-}
-
-// What the task says is done with a level that is loaded.
-fn perform_task<S: Shelf, K: Sink>(
-    alloc: Global,
-    task: LevelTask,
-    level: &LevelJob<'_>,
-    loaded: LoadedScene,
-    shelf: &mut S,
-    out: &mut K,
-) -> Status
-    requires settings { AreSettings level.now.settings }
-    requires loaded { IsLoadedScene (level_job_value level.now) loaded }
-    ensures { Delivers (level_job_value level.now) (delivery_of task (level_job_value level.now))
-        (S.view shelf.old) (S.view shelf.new) loaded
-        (K.written out.old) (K.written out.new) (K.faults out.old) (K.faults out.new) result }
-{
-    match task {
-        LevelTask::Render(format) => {
-            perform_views(alloc, ViewForm::Frame(format), level, loaded, shelf, out)
-        }
-        LevelTask::Trace => perform_views(alloc, ViewForm::Trace, level, loaded, shelf, out),
-        LevelTask::Audit => perform_audit(&loaded, out),
-        LevelTask::Limits => perform_limits(alloc, level, loaded, out),
-        LevelTask::List => perform_list(alloc, level, loaded, out),
-        LevelTask::Trim => perform_trim(alloc, level, loaded, shelf, out),
     }
 }

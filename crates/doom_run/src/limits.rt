@@ -1,16 +1,14 @@
 // The job `limits`: the counts of the views of a path.
-ghost use Rattle.std.specs.Prelude.{◌≡◌, ◌<◌, ℕ, List, length, slice_get};
-ghost use Rattle.art_rules.specs.Words.{FaultsRose, ShelfView, Writes};
+ghost use Rattle.std.specs.Prelude.{◌<◌, ℕ, List, length};
+ghost use Rattle.doom_run.specs.Rules.{AreSettings, ShelfView, Writes, level_job_value};
 ghost use Rattle.frame_core.specs.Views.{CanCount};
-ghost use Rattle.job_rules.specs.LevelJobs.{level_job_value};
-ghost use Rattle.job_rules.specs.Ranges.{AreSettings};
 ghost use Rattle.job_rules.specs.declared.command.LevelTask.TheVariants.{Limits};
 ghost use Rattle.level_audit.specs.scene_load.Calls.{IsLoadedScene};
-ghost use Rattle.doom_run.specs.Ends.{DeliversAt};
+ghost use Rattle.doom_run.specs.Ends.{WritesDue};
 ghost use Rattle.doom_run.specs.Jobs.{counted_views, delivery_of};
 ghost use Rattle.doom_run.specs.Performs.{Delivers};
-ghost use Rattle.doom_run.specs.Renders.{ready_views};
-ghost use Rattle.doom_run.specs.Views.{counts_line, view_line_at, over_line};
+ghost use Rattle.doom_run.specs.Renders.{PutsLines, ready_views};
+ghost use Rattle.doom_run.specs.Views.{counts_line, lines_at, over_line, view_line};
 
 use crate::render::{ReadyViews, eye_at, prepare_views, view_count};
 use art_rules::{Failed, Sink};
@@ -53,11 +51,8 @@ pub(crate) fn put_over<K: Sink>(out: &mut K, view: u64, over: &OverLimit) -> Res
 fn put_view<K: Sink>(ready: &mut ReadyViews, number: u32, out: &mut K) -> Result<(), Failed>
     requires number { number < length ready.old.loaded.files.path }
     requires scene { CanCount ready.old.loaded.scene.scene }
-    ensures writes { (bytes : ℕ → List ℕ) → Writes (K.written out.old) (K.written out.new)
-        (K.faults out.old) (K.faults out.new) (view_line_at (ready_views bytes ready.old) number
-        (slice_get (ready_views bytes ready.old).views number)) result }
-    ensures loaded { ready.new.loaded ≡ ready.old.loaded }
-    ensures limits { ready.new.shop.limits ≡ ready.old.shop.limits }
+    ensures { PutsLines (λ r. lines_at view_line r number) ready.old ready.new (K.written out.old)
+        (K.written out.new) (K.faults out.old) (K.faults out.new) result }
 {
     let loaded = &ready.loaded;
     let eye = eye_at(&loaded.files.path, number);
@@ -71,10 +66,8 @@ fn put_view<K: Sink>(ready: &mut ReadyViews, number: u32, out: &mut K) -> Result
 // no memory.
 fn put_views<K: Sink>(ready: &mut ReadyViews, out: &mut K) -> Status
     requires { CanCount ready.old.loaded.scene.scene }
-    ensures ends { (bytes : ℕ → List ℕ) → DeliversAt (counted_views (ready_views bytes ready.old))
-        (K.written out.old) (K.written out.new) result }
-    ensures write_fault { result ≡ Status.WriteFault →
-        FaultsRose (K.faults out.old) (K.faults out.new) }
+    ensures { (bytes : ℕ → List ℕ) → WritesDue (counted_views (ready_views bytes ready.old))
+        (K.written out.old) (K.written out.new) (K.faults out.old) (K.faults out.new) result }
 {
     let count = view_count(&ready.loaded.files.path);
     for number in 0..count {

@@ -1,19 +1,18 @@
 // The job `list`: what each view of a path is made of, item by item.
 //
 // Rules: `specs/Lists`. This project's own.
-ghost use Rattle.std.specs.Prelude.{◌≡◌, ◌+◌, ◌++◌, ◌<◌, ◌≤◌, ℕ, List, length, slice_get};
-ghost use Rattle.art_rules.specs.Words.{FaultsRose, ShelfView, Writes};
+ghost use Rattle.std.specs.Prelude.{◌≡◌, ◌+◌, ◌++◌, ◌<◌, ◌≤◌, ℕ, List, length};
+ghost use Rattle.doom_run.specs.Rules.{AreSettings, ShelfView, Writes, level_job_value};
 ghost use Rattle.frame_core.specs.Views.{CanCount};
-ghost use Rattle.job_rules.specs.LevelJobs.{level_job_value};
-ghost use Rattle.job_rules.specs.Ranges.{AreSettings};
 ghost use Rattle.job_rules.specs.declared.command.LevelTask.TheVariants.{List as Lists};
 ghost use Rattle.level_audit.specs.scene_load.Calls.{IsLoadedScene};
 ghost use Rattle.refusals.specs.declared.line.TheConstants.{LINE_ROOM};
-ghost use Rattle.doom_run.specs.Ends.{DeliversAt};
+ghost use Rattle.doom_run.specs.Ends.{WritesDue};
 ghost use Rattle.doom_run.specs.Jobs.{delivery_of, listed_views};
-ghost use Rattle.doom_run.specs.Lists.{flat_part, fragment_line, item_start, items_lines, lines_from, list_lines_at, maker_part, plane_line, sprite_line, sums_line};
+ghost use Rattle.doom_run.specs.Lists.{flat_part, fragment_line, item_start, items_lines, lines_from, list_lines, maker_part, plane_line, sprite_line, sums_line};
 ghost use Rattle.doom_run.specs.Performs.{Delivers};
-ghost use Rattle.doom_run.specs.Renders.{ready_views};
+ghost use Rattle.doom_run.specs.Renders.{PutsLines, ready_views};
+ghost use Rattle.doom_run.specs.Views.{lines_at};
 
 use crate::limits::put_over;
 use crate::render::{ReadyViews, eye_at, prepare_views, view_count};
@@ -36,24 +35,6 @@ fn start_item(view: u64, label: &[u8], number: u64) -> Line
     line.add_number(b"view ", view);
     line.add_number(label, number);
     line
-}
-
-// Appends the line of a drawn fragment.
-fn put_fragment<K: Sink>(
-    out: &mut K,
-    view: u64,
-    number: u64,
-    fragment: &ListedFragment,
-) -> Result<(), Failed>
-    ensures { Writes (K.written out.old) (K.written out.new) (K.faults out.old)
-        (K.faults out.new) (fragment_line view number fragment.now) result }
-{
-    let mut line = start_item(view, b" fragment ", number);
-    line.add_number(b" seg ", fragment.seg as u64);
-    line.add_number(b" first ", fragment.first as u64);
-    line.add_number(b" last ", fragment.last as u64);
-    line.add(b"\n");
-    line.put(out)
 }
 
 // Appends the flat of a plane.
@@ -80,43 +61,59 @@ fn add_maker(line: &mut Line, maker: PlaneMaker)
     }
 }
 
-// Appends the line of a plane.
-fn put_plane<K: Sink>(
-    out: &mut K,
-    view: u64,
-    number: u64,
-    plane: &ListedPlane,
-) -> Result<(), Failed>
-    ensures { Writes (K.written out.old) (K.written out.new) (K.faults out.old)
-        (K.faults out.new) (plane_line view number plane.now) result }
-{
-    let mut line = start_item(view, b" plane ", number);
-    line.add_signed(b" height ", plane.key.height);
-    add_flat(&mut line, plane.key.flat);
-    line.add_signed(b" light ", plane.key.light as i32);
-    add_maker(&mut line, plane.maker);
-    line.add_number(b" columns ", plane.columns as u64);
-    line.add(b"\n");
-    line.put(out)
+// An item of a view, which has a line.
+trait Listed {
+    ghost line_of: { ℕ → ℕ → Self → List ℕ };
+
+    // Appends the line of item number `number` of its kind.
+    fn put<K: Sink>(&self, out: &mut K, view: u64, number: u64) -> Result<(), Failed>
+        ensures { Writes (K.written out.old) (K.written out.new) (K.faults out.old)
+            (K.faults out.new) (line_of view number self.now) result };
 }
 
-// Appends the line of a vissprite.
-fn put_sprite<K: Sink>(
-    out: &mut K,
-    view: u64,
-    number: u64,
-    sprite: &ListedSprite,
-) -> Result<(), Failed>
-    ensures { Writes (K.written out.old) (K.written out.new) (K.faults out.old)
-        (K.faults out.new) (sprite_line view number sprite.now) result }
-{
-    let mut line = start_item(view, b" sprite ", number);
-    line.add_number(b" thing ", sprite.thing as u64);
-    line.add_number(b" lump ", sprite.lump as u64);
-    line.add_number(b" first ", sprite.first as u64);
-    line.add_number(b" last ", sprite.last as u64);
-    line.add(b"\n");
-    line.put(out)
+// A drawn fragment.
+impl Listed for ListedFragment {
+    ghost line_of = { fragment_line };
+
+    fn put<K: Sink>(&self, out: &mut K, view: u64, number: u64) -> Result<(), Failed> {
+        let mut line = start_item(view, b" fragment ", number);
+        line.add_number(b" seg ", self.seg as u64);
+        line.add_number(b" first ", self.first as u64);
+        line.add_number(b" last ", self.last as u64);
+        line.add(b"\n");
+        line.put(out)
+    }
+}
+
+// A plane.
+impl Listed for ListedPlane {
+    ghost line_of = { plane_line };
+
+    fn put<K: Sink>(&self, out: &mut K, view: u64, number: u64) -> Result<(), Failed> {
+        let mut line = start_item(view, b" plane ", number);
+        line.add_signed(b" height ", self.key.height);
+        add_flat(&mut line, self.key.flat);
+        line.add_signed(b" light ", self.key.light as i32);
+        add_maker(&mut line, self.maker);
+        line.add_number(b" columns ", self.columns as u64);
+        line.add(b"\n");
+        line.put(out)
+    }
+}
+
+// A vissprite.
+impl Listed for ListedSprite {
+    ghost line_of = { sprite_line };
+
+    fn put<K: Sink>(&self, out: &mut K, view: u64, number: u64) -> Result<(), Failed> {
+        let mut line = start_item(view, b" sprite ", number);
+        line.add_number(b" thing ", self.thing as u64);
+        line.add_number(b" lump ", self.lump as u64);
+        line.add_number(b" first ", self.first as u64);
+        line.add_number(b" last ", self.last as u64);
+        line.add(b"\n");
+        line.put(out)
+    }
 }
 
 // Appends the line of a view's sums.
@@ -136,39 +133,13 @@ fn put_sums<K: Sink>(out: &mut K, view: u64, counts: &Counts, list: &ViewList) -
     line.put(out)
 }
 
-// Appends the lines of the drawn fragments of a view.
-fn put_fragments<K: Sink>(
-    out: &mut K,
-    view: u64,
-    fragments: &[ListedFragment],
-) -> Result<(), Failed>
+// Appends the lines of the items of one kind of a view.
+fn put_each<K: Sink, T: Listed>(out: &mut K, view: u64, items: &[T]) -> Result<(), Failed>
     ensures { Writes (K.written out.old) (K.written out.new) (K.faults out.old)
-        (K.faults out.new) (lines_from (fragment_line view) 0 fragments.now) result }
+        (K.faults out.new) (lines_from (T.line_of view) 0 items.now) result }
 {
-    for number in 0..fragments.len() {
-        put_fragment(out, view, number as u64, &fragments[number])?;
-    }
-    Ok(())
-}
-
-// Appends the lines of the planes of a view.
-fn put_planes<K: Sink>(out: &mut K, view: u64, planes: &[ListedPlane]) -> Result<(), Failed>
-    ensures { Writes (K.written out.old) (K.written out.new) (K.faults out.old)
-        (K.faults out.new) (lines_from (plane_line view) 0 planes.now) result }
-{
-    for number in 0..planes.len() {
-        put_plane(out, view, number as u64, &planes[number])?;
-    }
-    Ok(())
-}
-
-// Appends the lines of the vissprites of a view.
-fn put_sprites<K: Sink>(out: &mut K, view: u64, sprites: &[ListedSprite]) -> Result<(), Failed>
-    ensures { Writes (K.written out.old) (K.written out.new) (K.faults out.old)
-        (K.faults out.new) (lines_from (sprite_line view) 0 sprites.now) result }
-{
-    for number in 0..sprites.len() {
-        put_sprite(out, view, number as u64, &sprites[number])?;
+    for number in 0..items.len() {
+        items[number].put(out, view, number as u64)?;
     }
     Ok(())
 }
@@ -183,9 +154,9 @@ fn put_items<K: Sink>(
     ensures { Writes (K.written out.old) (K.written out.new) (K.faults out.old)
         (K.faults out.new) (items_lines view counts.now list.now) result }
 {
-    put_fragments(out, view, list.fragments())?;
-    put_planes(out, view, list.planes())?;
-    put_sprites(out, view, list.sprites())?;
+    put_each(out, view, list.fragments())?;
+    put_each(out, view, list.planes())?;
+    put_each(out, view, list.sprites())?;
     put_sums(out, view, counts, list)
 }
 
@@ -198,11 +169,8 @@ fn put_list<K: Sink>(
 ) -> Result<(), Failed>
     requires number { number < length ready.old.loaded.files.path }
     requires scene { CanCount ready.old.loaded.scene.scene }
-    ensures writes { (bytes : ℕ → List ℕ) → Writes (K.written out.old) (K.written out.new)
-        (K.faults out.old) (K.faults out.new) (list_lines_at (ready_views bytes ready.old) number
-        (slice_get (ready_views bytes ready.old).views number)) result }
-    ensures loaded { ready.new.loaded ≡ ready.old.loaded }
-    ensures limits { ready.new.shop.limits ≡ ready.old.shop.limits }
+    ensures { PutsLines (λ r. lines_at list_lines r number) ready.old ready.new (K.written out.old)
+        (K.written out.new) (K.faults out.old) (K.faults out.new) result }
 {
     let loaded = &ready.loaded;
     let eye = eye_at(&loaded.files.path, number);
@@ -222,10 +190,8 @@ fn put_list<K: Sink>(
 // no memory.
 fn put_lists<K: Sink>(ready: &mut ReadyViews, list: &mut ViewList, out: &mut K) -> Status
     requires { CanCount ready.old.loaded.scene.scene }
-    ensures ends { (bytes : ℕ → List ℕ) → DeliversAt (listed_views (ready_views bytes ready.old))
-        (K.written out.old) (K.written out.new) result }
-    ensures write_fault { result ≡ Status.WriteFault →
-        FaultsRose (K.faults out.old) (K.faults out.new) }
+    ensures { (bytes : ℕ → List ℕ) → WritesDue (listed_views (ready_views bytes ready.old))
+        (K.written out.old) (K.written out.new) (K.faults out.old) (K.faults out.new) result }
 {
     let count = view_count(&ready.loaded.files.path);
     for number in 0..count {

@@ -1,18 +1,14 @@
 // The job `render`: the frames of the views of a path, each written as it is drawn.
 ghost use Rattle.doom_run.specs.Ends.{IsEnd, RendersAt};
-ghost use Rattle.doom_run.specs.Frames.{HasView, IsDrawnAt, KeepsReady, ViewEnds, form_of, status_of_view};
+ghost use Rattle.doom_run.specs.Frames.{ViewEnds, form_of, status_of_view};
 ghost use Rattle.doom_run.specs.Jobs.{drawing, rendered};
 ghost use Rattle.doom_run.specs.Performs.{Delivers};
-ghost use Rattle.doom_run.specs.Renders.{DrawsReady, FitDue, FitsAt, HasLayers, HasReadyAsked, HoldsReady, IsDelivered, IsDrawable, IsFullView, TellsLimit, ready_bytes, ready_views};
-ghost use Rattle.doom_run.specs.Takes.{InOrderAfter};
+ghost use Rattle.doom_run.specs.Renders.{DrawsAt, FitDue, FitsAt, HoldsReady, IsDrawable, RendersReady, ready_bytes, ready_views};
 ghost use Rattle.doom_run.specs.Layers.{eye_of};
-ghost use Rattle.doom_run.specs.Views.{limits_of_settings, over_at};
-ghost use Rattle.job_rules.specs.LevelJobs.{level_job_value};
-ghost use Rattle.job_rules.specs.Ranges.{AreSettings};
+ghost use Rattle.doom_run.specs.Views.{limits_of_settings};
+ghost use Rattle.doom_run.specs.Rules.{AreSettings, level_job_value};
 ghost use Rattle.level_audit.specs.scene_load.Calls.{IsLoadedScene};
-ghost use Rattle.art_rules.specs.Words.{FaultsRose, IsLaterShelf};
-ghost use Rattle.std.specs.Prelude.{◌≡◌, ◌<◌, ◌≤◌, ℕ, List, length, option_map, slice_get, None, Some, IfOk, IfErr, MatchResult, OnOk};
-ghost use Rattle.scene_rules.specs.Words.{IsInOrder, Item, KeepsOrder};
+ghost use Rattle.std.specs.Prelude.{◌≡◌, ◌<◌, ℕ, List, length, option_map, slice_get, Some, IfOk};
 
 use crate::canvas::{ViewCanvas, ViewForm};
 use crate::layers::draw_layered;
@@ -23,7 +19,6 @@ use job_files::Status;
 use job_rules::{LevelJob, Settings};
 use level_audit::LoadedScene;
 use picture_rules::Eye;
-use pixel_strips::Canvas;
 use std::alloc::{AllocError, Global};
 
 // A scene that is ready to be drawn, with all the memory of drawing.
@@ -93,66 +88,34 @@ fn status_of_view(view: u32, fault: ViewFault) -> Status
     }
 }
 
-// Draws view number `number` and its layers on a canvas.
-fn draw_on<S: Shelf, C: Canvas>(
-    ready: &mut ReadyViews,
-    number: u32,
-    shelf: &mut S,
-    canvas: &mut C,
-) -> Result<(), ViewFault>
-    requires drawable { IsDrawable ready.old }
-    requires layers { HasLayers ready.old }
-    requires there { number < length ready.old.loaded.files.path }
-    ensures seen { (contents : List (List ℕ)) (count : ℕ) → HoldsReady (S.view shelf.old) ready.old
-        contents count → OnOk result (HasView C.mark (ready_views (ready_bytes contents ready.old)
-        ready.old) number (C.view canvas.old) (C.view canvas.new)) }
-    ensures within { (bytes : ℕ → List ℕ) → OnOk result (over_at (ready_views bytes ready.old)
-        number ≡ None) }
-    ensures over { (bytes : ℕ → List ℕ) → TellsLimit (ready_views bytes ready.old) number result }
-    ensures fits { (contents : List (List ℕ)) (count : ℕ) → HoldsReady (S.view shelf.old) ready.old
-        contents count → OnOk result (FitsAt (ready_bytes contents ready.old) count ready.old number) }
-    ensures draws { DrawsReady (S.view shelf.old) (S.view shelf.new) ready.old ready.new result }
-    ensures keeps { KeepsReady (S.view shelf.old) (S.view shelf.new) ready.old ready.new }
-{
-    let loaded = &mut ready.loaded;
-    let eye = eye_at(&loaded.files.path, number);
-    draw_layered(loaded, &mut ready.shop, number, eye, shelf, canvas)
-}
-
-// Draws view number `number` on a canvas that is cleared.
+// Draws view number `number` and its layers on a canvas, which is cleared before.
 fn draw_at<S: Shelf>(
     ready: &mut ReadyViews,
     number: u32,
     shelf: &mut S,
     canvas: &mut ViewCanvas,
 ) -> Result<(), ViewFault>
-    requires drawable { IsDrawable ready.old }
-    requires layers { HasLayers ready.old }
+    requires drawable { IsDrawable ready.old.loaded }
     requires there { number < length ready.old.loaded.files.path }
-    ensures drawn { (contents : List (List ℕ)) (count : ℕ) → HoldsReady (S.view shelf.old) ready.old
-        contents count → OnOk result (IsDrawnAt (ready_views (ready_bytes contents ready.old)
-        ready.old) number canvas.new) }
-    ensures within { (bytes : ℕ → List ℕ) → OnOk result (over_at (ready_views bytes ready.old)
-        number ≡ None) }
-    ensures over { (bytes : ℕ → List ℕ) → TellsLimit (ready_views bytes ready.old) number result }
-    ensures fits { (contents : List (List ℕ)) (count : ℕ) → HoldsReady (S.view shelf.old) ready.old
-        contents count → OnOk result (FitsAt (ready_bytes contents ready.old) count ready.old number) }
-    ensures draws { DrawsReady (S.view shelf.old) (S.view shelf.new) ready.old ready.new result }
-    ensures keeps { KeepsReady (S.view shelf.old) (S.view shelf.new) ready.old ready.new }
+    ensures draws { DrawsAt number (S.view shelf.old) (S.view shelf.new) ready.old ready.new
+        canvas.new result }
     ensures form { form_of canvas.new ≡ form_of canvas.old }
 {
+    let eye = eye_at(&ready.loaded.files.path, number);
+    let loaded = &mut ready.loaded;
+    let shop = &mut ready.shop;
     match canvas {
         ViewCanvas::Index(frame) => {
             frame.clear();
-            draw_on(ready, number, shelf, frame)
+            draw_layered(loaded, shop, number, eye, shelf, frame)
         }
         ViewCanvas::Ppm(frame) => {
             frame.clear();
-            draw_on(ready, number, shelf, frame)
+            draw_layered(loaded, shop, number, eye, shelf, frame)
         }
         ViewCanvas::Trace(frame) => {
             frame.clear();
-            draw_on(ready, number, shelf, frame)
+            draw_layered(loaded, shop, number, eye, shelf, frame)
         }
     }
 }
@@ -164,39 +127,27 @@ fn render_view<S: Shelf, K: Sink>(
     canvas: &mut ViewCanvas,
     shelf: &mut S,
     out: &mut K,
-) -> Result<(), Status>
-    requires drawable { IsDrawable ready.old }
-    requires layers { HasLayers ready.old }
+) -> Status
+    requires drawable { IsDrawable ready.old.loaded }
     requires there { number < length ready.old.loaded.files.path }
     ensures ends { (contents : List (List ℕ)) (count : ℕ) → HoldsReady (S.view shelf.old) ready.old
         contents count → ViewEnds (S.view shelf.old).steady (form_of canvas.old) (ready_views
         (ready_bytes contents ready.old) ready.old) number (K.written out.old) (K.written out.new)
         result }
     ensures fits { (contents : List (List ℕ)) (count : ℕ) → HoldsReady (S.view shelf.old) ready.old
-        contents count → OnOk result (FitsAt (ready_bytes contents ready.old) count ready.old number) }
-    ensures order { (items : List Item) → HasReadyAsked items ready.old → IsInOrder items
-        ready.old.loaded.cache → MatchResult result (λ _. KeepsOrder items ready.old.loaded.cache
-        ready.new.loaded.cache (S.view shelf.old).taken (S.view shelf.new).taken) (λ status.
-        InOrderAfter status (KeepsOrder items ready.old.loaded.cache ready.new.loaded.cache (S.view
-        shelf.old).taken (S.view shelf.new).taken)) }
-    ensures read_fault { IfErr result (λ status. status ≡ Status.ReadFault → FaultsRose (S.view
-        shelf.old).faults (S.view shelf.new).faults) }
-    ensures write_fault { IfErr result (λ status. status ≡ Status.WriteFault → FaultsRose (K.faults
-        out.old) (K.faults out.new)) }
-    ensures zone_full { IfErr result (λ status. (wanted widest : ℕ) → status ≡ Status.ZoneFull
-        wanted widest → IsFullView ready.old wanted widest) }
-    ensures answers { IfErr result IsDelivered }
-    ensures keeps { KeepsReady (S.view shelf.old) (S.view shelf.new) ready.old ready.new }
-    ensures later { K.faults out.old ≤ K.faults out.new }
+        contents count → result ≡ Status.Done →
+        FitsAt (ready_bytes contents ready.old) count ready.old number }
+    ensures renders { RendersReady (S.view shelf.old) (S.view shelf.new) ready.old ready.new
+        (K.faults out.old) (K.faults out.new) result }
     ensures form { form_of canvas.new ≡ form_of canvas.old }
 {
     match draw_at(ready, number, shelf, canvas) {
         Ok(()) => {}
-        Err(fault) => return Err(status_of_view(number, fault)),
+        Err(fault) => return status_of_view(number, fault),
     }
     match canvas.put(out, ready.loaded.scene.palette()) {
-        Ok(()) => Ok(()),
-        Err(_) => Err(Status::WriteFault),
+        Ok(()) => Status::Done,
+        Err(_) => Status::WriteFault,
     }
 }
 
@@ -208,33 +159,21 @@ pub fn deliver_render<S: Shelf, K: Sink>(
     shelf: &mut S,
     out: &mut K,
 ) -> Status
-    requires drawable { IsDrawable ready.old }
-    requires layers { HasLayers ready.old }
+    requires { IsDrawable ready.old.loaded }
     ensures ends { (contents : List (List ℕ)) (count : ℕ) → HoldsReady (S.view shelf.old) ready.old
         contents count → RendersAt (S.view shelf.old).steady (rendered (form_of canvas.old)
         (ready_views (ready_bytes contents ready.old) ready.old)) (K.written out.old) (K.written
         out.new) result }
     ensures fits { (contents : List (List ℕ)) (count : ℕ) → HoldsReady (S.view shelf.old) ready.old
         contents count → IsEnd result → FitDue (ready_bytes contents ready.old) count ready.old }
-    ensures order { (items : List Item) → HasReadyAsked items ready.old → IsInOrder items
-        ready.old.loaded.cache → InOrderAfter result (KeepsOrder items ready.old.loaded.cache
-        ready.new.loaded.cache (S.view shelf.old).taken (S.view shelf.new).taken) }
-    ensures read_fault { result ≡ Status.ReadFault → FaultsRose (S.view shelf.old).faults (S.view
-        shelf.new).faults }
-    ensures write_fault { result ≡ Status.WriteFault → FaultsRose (K.faults out.old) (K.faults
-        out.new) }
-    ensures zone_full { (wanted widest : ℕ) → result ≡ Status.ZoneFull wanted widest → IsFullView
-        ready.old wanted widest }
-    ensures answers { IsDelivered result }
-    ensures loaded { ready.new.loaded.files ≡ ready.old.loaded.files }
-    ensures scene { ready.new.loaded.scene ≡ ready.old.loaded.scene }
-    ensures follows { IsLaterShelf (S.view shelf.old) (S.view shelf.new) }
+    ensures renders { RendersReady (S.view shelf.old) (S.view shelf.new) ready.old ready.new
+        (K.faults out.old) (K.faults out.new) result }
 {
     let count = view_count(&ready.loaded.files.path);
     for number in 0..count {
         match render_view(ready, number, canvas, shelf, out) {
-            Ok(()) => {}
-            Err(status) => return status,
+            Status::Done => {}
+            status => return status,
         }
     }
     Status::Done

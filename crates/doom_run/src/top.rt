@@ -1,10 +1,7 @@
 // A run, from its words to its status.
 ghost use Rattle.std.specs.Prelude.{◌≡◌, ◌≤◌, ◌⊎◌, ℕ, false, List, [], Some, Ok, Err, IsTrue, IfSome};
-ghost use Rattle.art_rules.specs.Words.{FaultsRose, File, Grew, GrewByPrefix, Holds, ShelfView};
+ghost use Rattle.doom_run.specs.Rules.{FaultsRose, File, Grew, GrewByPrefix, Holds, IsCountedMake, LevelJobValue, ShelfView, Trim, flat, level_job, make};
 ghost use Rattle.command_line.specs.Commands.{command_of};
-ghost use Rattle.job_rules.specs.Commands.{IsCounted, IsCountedMake, command_value, flat, level_job, make};
-ghost use Rattle.job_rules.specs.LevelJobs.{LevelJobValue};
-ghost use Rattle.job_rules.specs.declared.command.LevelTask.TheVariants.{Trim};
 ghost use Rattle.job_files.specs.Lines.{line_of};
 ghost use Rattle.doom_run.specs.Alike.{RendersAlike};
 ghost use Rattle.doom_run.specs.Ends.{EndsWith, IsEnd, IsReadOrFull, IsUnwritten};
@@ -164,36 +161,20 @@ fn perform<S: Shelf, K: Sink>(alloc: Global, words: &[String], shelf: &mut S, ou
     ensures untouched { ask_for_files (texts words.now) ≡ false → shelf.new ≡ shelf.old }
 {
     match command_of(alloc, words) {
-        Ok(command) => perform_job(alloc, &command, shelf, out),
+        Ok(command) => match &command {
+            Command::Flat { name, file } => perform_flat(alloc, name, file, shelf, out),
+            Command::Make(job) => perform_make(alloc, *job, out),
+            Command::Level { task, level, wads } => {
+                perform_level(alloc, *task, level, wads, shelf, out)
+            }
+            Command::Exercise {
+                count,
+                zone,
+                format,
+            } => perform_exercise(alloc, *count, *zone, *format, out),
+        },
         Err(CommandFault::Usage) => Status::Usage,
         Err(CommandFault::OutOfMemory) => Status::OutOfMemory,
-    }
-}
-
-fn perform_job<S: Shelf, K: Sink>(
-    alloc: Global,
-    command: &Command<'_>,
-    shelf: &mut S,
-    out: &mut K,
-) -> Status
-    requires { IsCounted (command_value command.now) }
-    ensures performs { Performs (job_of (command_value command.now))
-        (S.view shelf.old) (S.view shelf.new)
-        (K.written out.old) (K.written out.new) (K.faults out.old) (K.faults out.new) result }
-    ensures untouched { (job_of (command_value command.now)).asks ≡ false →
-        shelf.new ≡ shelf.old }
-{
-    match command {
-        Command::Flat { name, file } => perform_flat(alloc, name, file, shelf, out),
-        Command::Make(job) => perform_make(alloc, *job, out),
-        Command::Level { task, level, wads } => perform_level(
-            alloc, *task, level, wads, shelf, out,
-        ),
-        Command::Exercise {
-            count,
-            zone,
-            format,
-        } => perform_exercise(alloc, *count, *zone, *format, out),
     }
 }
 

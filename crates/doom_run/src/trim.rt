@@ -1,8 +1,7 @@
 // The job `trim`: one WAD that holds only what the frames of a level need.
 //
 // Rules: `specs/Trims`; `trim_rules`, Parts and Files.
-ghost use Rattle.job_rules.specs.LevelJobs.{level_job_value};
-ghost use Rattle.job_rules.specs.declared.command.LevelTask.TheVariants.{Trim};
+ghost use Rattle.doom_run.specs.Rules.{Trim, level_job_value};
 ghost use Rattle.doom_run.specs.Jobs.{delivery_of};
 ghost use Rattle.doom_run.specs.Performs.{Delivers};
 ghost use Rattle.doom_run.specs.Trims.{IsPlanFault, plan_in, status_of_written};

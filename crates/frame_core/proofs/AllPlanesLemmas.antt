@@ -1,8 +1,6 @@
 -- Laws of a property of all planes after a leaf and after a fragment, and of the rows that a plane holds after one run more.
 use Rattle.picture_rules.proofs.Common.{[], All, All-push, All-set, ap, arith, Bool, cond, false, get_or, IfSome, inl, inr, int_lt, ints, length, List, nat_le, nat_tests, negsuc, None, Option, pos, refl, slice_get, slice_index_or, slice_set, Some, subst, suc, sym, true, zero, ℕ, ℤ, ◌&&◌, ◌+◌, ◌-◌, ◌<ℤ◌, ◌<◌, ◌∙◌, ◌∷◌, ◌≡◌, ◌≤ℤ◌, ◌≤◌, ◌⊎◌}
-use Rattle.picture_rules.specs.Words.{add, after_event, ceiling_checked, ceiling_found, check, check_plane, check_some, checked_plane, column, column_marked, columns_marked, Draws, empty_plane, find, Finds, floor_checked, floor_found, holds, holds_row, is_free, mark, mark_some, marked_rows, natural, number_of, number_or_add, Plane, PlanesNow, PlaneWall, set_run, wall_marked, with_ceiling, with_floor, with_run}
-use Rattle.picture_rules.specs.declared.wall.RowRange.{RowRange}
-use Rattle.picture_rules.specs.declared.plane.PlaneKey.{PlaneKey}
+use Rattle.frame_core.specs.Rules.{Draws, Finds, Plane, PlaneKey, PlaneWall, PlanesNow, RowRange, add, after_event, ceiling_checked, ceiling_found, check, check_plane, check_some, checked_plane, column, column_marked, columns_marked, empty_plane, find, floor_checked, floor_found, holds, holds_row, is_free, mark, mark_some, marked_rows, natural, number_of, number_or_add, set_run, wall_marked, with_ceiling, with_floor, with_run}
 use Rattle.picture_rules.proofs.plane.PlaneLemmas.{column-empty_plane}
 
 -- a plane that is there is one of the planes

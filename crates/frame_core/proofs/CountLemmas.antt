@@ -1,13 +1,11 @@
 -- Laws of counts: what a bench that the whole walk of a view is in counts is what the view counts.
-use Rattle.picture_rules.proofs.Common.{[], ap, arith, length, length-append, length-map, length-take, List, map, None, refl, suc, sum, sum_by-cons, sym, ℕ, ◌+◌, ◌∙◌, ◌∷◌, ◌≡◌, ◌≤◌}
-use Rattle.picture_rules.specs.Words.{counts_by, drawsegs, Event, fragment_wall, leaf_fragments, MAX_DRAWSEGS, notes_from, openings_list, openings_of, Plane, planes_of, saved_by, saved_from, Scene, view_counts, view_entries, view_events, view_notes, view_over, view_planes, view_steps, ViewValue, Wall, walls_of}
+use Rattle.picture_rules.proofs.Common.{[], ap, arith, length, length-append, length-map, length-take, List, map, None, refl, subst, suc, sum, sum_by-cons, sym, ℕ, ◌+◌, ◌∙◌, ◌∷◌, ◌≡◌, ◌≤◌}
+use Rattle.frame_core.specs.Rules.{Counts, Event, Limits, MAX_DRAWSEGS, Plane, Scene, SceneValue, ViewValue, Wall, counts_by, drawsegs, fragment_wall, leaf_fragments, notes_from, openings_list, openings_of, planes_of, saved_by, saved_from, view_counts, view_entries, view_events, view_notes, view_over, view_planes, view_steps, walls_of}
 use Rattle.picture_rules.proofs.wall.NoteLemmas.{length-saved_openings}
-use Rattle.scene_rules.specs.Words.{SceneValue}
-use Rattle.picture_rules.specs.declared.Counts.{Counts}
 use Rattle.frame_core.specs.declared.bench.Bench.{Bench}
 use Rattle.frame_core.specs.Scenes.{lists_of, scene_of}
 use Rattle.frame_core.specs.Walked.{planes_after}
-use Rattle.frame_core.specs.Painters.{HasWalkedView, limits_in}
+use Rattle.frame_core.specs.Painters.{HasWalkedView, counts_in, limits_in}
 
 -- the fragments save as many openings as are counted of them
 saved_sum : (v : ViewValue) (walls : List Wall) (k : ℕ) (ws : List Wall) → length (saved_from v walls k ws) ≡ sum (map openings_of ws)
@@ -55,17 +53,20 @@ unfolding view_counts counts_by scene_of planes_after view_planes view_steps pla
 counts_parts v bytes s counts planes openings fragments sprites = counts_of counts _ _ _ _ planes openings fragments sprites
 
 -- a bench that the walk of a view is in counts what the view counts
-pub counts-walked : (v : ViewValue) (bytes : ℕ → List ℕ) (s : SceneValue) (b : Bench) (counts : Counts) → HasWalkedView v s b →
-    counts.planes ≡ length b.planes.planes → counts.openings ≡ length b.walls.openings → counts.fragments ≡ length b.walls.notes → counts.sprites ≡ length b.sprites →
-    counts ≡ view_counts v (scene_of bytes s)
-counts-walked v bytes s b counts walked planes openings fragments sprites =
+counts-walked : (v : ViewValue) (bytes : ℕ → List ℕ) (s : SceneValue) (b : Bench) → HasWalkedView v s b → counts_in b ≡ view_counts v (scene_of bytes s)
+counts-walked v bytes s b walked =
     let has = walked bytes in
     let walls = walls_of v (scene_of bytes s) (view_events v (lists_of s)) in
-    counts_parts v bytes s counts
-    (planes ∙ ap (λ (ps : List Plane). length ps) has.built.planes)
-    (openings ∙ ap length has.built.openings ∙ length-openings_list v walls)
-    (fragments ∙ ap length has.built.notes ∙ length-view_notes v walls)
-    (sprites ∙ ap length has.sprites)
+    counts_parts v bytes s (counts_in b)
+    (ap (λ (ps : List Plane). length ps) has.built.planes)
+    (ap length has.built.openings ∙ length-openings_list v walls)
+    (ap length has.built.notes ∙ length-view_notes v walls)
+    (ap length has.sprites)
+
+-- of the same view by another word
+pub counts-view : (v w : ViewValue) (s : SceneValue) (b : Bench) (counts : Counts) → v ≡ w → counts ≡ counts_in b → HasWalkedView v s b →
+    (bytes : ℕ → List ℕ) → counts ≡ view_counts w (scene_of bytes s)
+counts-view v w s b counts same is walked bytes = is ∙ counts-walked v bytes s b walked ∙ ap (λ (x : ViewValue). view_counts x (scene_of bytes s)) same
 
 few_walls : (v : ViewValue) (scene : Scene) (events : List Event) → length (walls_of v scene events) ≤ MAX_DRAWSEGS
 unfolding walls_of drawsegs
@@ -82,3 +83,9 @@ few-notes v s b walked =
 pub within-walked : (v : ViewValue) (bytes : ℕ → List ℕ) (s : SceneValue) (b : Bench) → HasWalkedView v s b → view_over v (scene_of bytes s) (limits_in b) ≡ None
 unfolding view_over scene_of
 within-walked v bytes s b walked = (walked bytes).within
+
+pub within-view : (v w : ViewValue) (s : SceneValue) (b : Bench) (limits : Limits) → v ≡ w → limits_in b ≡ limits → HasWalkedView v s b →
+    (bytes : ℕ → List ℕ) → view_over w (scene_of bytes s) limits ≡ None
+within-view v w s b limits same room walked bytes =
+    subst (λ (x : ViewValue). view_over x (scene_of bytes s) limits ≡ None) same
+    (subst (λ (l : Limits). view_over v (scene_of bytes s) l ≡ None) room (within-walked v bytes s b walked))

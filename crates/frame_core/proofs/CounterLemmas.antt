@@ -1,9 +1,6 @@
 -- Laws of a counter: an event that it was given after others, and a whole walk.
-use Rattle.picture_rules.proofs.Common.{[], Err, IfErr, IfErr-weaker, List, Ok, on_ok_weaker, OnOk, refl, Result, Some, subst, sym, take, ℕ, ◌++◌, ◌∙◌, ◌∷◌, ◌≡◌}
-use Rattle.picture_rules.specs.Words.{Event, LevelLists, steps_over, view_events, view_over, view_steps, ViewValue}
-use Rattle.scene_rules.specs.Words.{SceneValue}
-use Rattle.picture_rules.specs.declared.Limits.{Limits}
-use Rattle.picture_rules.specs.declared.OverLimit.{OverLimit}
+use Rattle.picture_rules.proofs.Common.{[], Err, IfErr, IfErr-weaker, List, Ok, OnOk, refl, Result, Some, subst, sym, take, ℕ, ◌++◌, ◌∙◌, ◌∷◌, ◌≡◌}
+use Rattle.frame_core.specs.Rules.{Event, LevelLists, Limits, OverLimit, SceneValue, ViewValue, steps_over, view_events, view_over, view_steps}
 use Rattle.node_walk.specs.Visits.{Visits}
 use Rattle.wall_columns.specs.declared.fault.DrawFault.{DrawFault}
 use Rattle.wall_columns.specs.Faults.{limit_of_fault}
@@ -11,7 +8,7 @@ use Rattle.frame_core.specs.declared.bench.Bench.{Bench}
 use Rattle.frame_core.specs.Scenes.{lists_of, scene_of}
 use Rattle.frame_core.specs.Views.{CanCount}
 use Rattle.frame_core.specs.Walked.{CanTake, HasWalked, IsEventIn}
-use Rattle.frame_core.specs.Painters.{CanCountNext, CounterValue, HasCounted, HasWalkedView, counter_value, limits_in}
+use Rattle.frame_core.specs.Painters.{CanCountNext, CounterValue, HasCounted, counter_value, limits_in}
 use Rattle.frame_core.proofs.PainterLemmas.{all-ok, longer, view-over, visits-one}
 
 all_over : {A E X : Type 0} (P : X → E → Type 0) (result : Result A E) → ((x : X) → IfErr result (P x)) → IfErr result (λ e. (x : X) → P x e)
@@ -136,13 +133,7 @@ pub counter-viewed : (p q : CounterValue) (lists : LevelLists) {result : Result 
 counter-viewed p q lists {result} e walked visits =
     subst (λ (l : LevelLists). HasCounted p q (view_events p.view l) result) e (counter-walked p q (view_events p.view lists) result walked visits)
 
--- its bench has the whole walk
-pub counted-bench : (v : ViewValue) (scene : SceneValue) (limits : Limits) (b : Bench) (result : Result (Unit {0}) OverLimit) → limits_in b ≡ limits →
-    OnOk result ((bytes : ℕ → List ℕ) → HasWalked v bytes scene limits (view_events v (lists_of scene)) b) → OnOk result (HasWalkedView v scene b)
-counted-bench v scene limits b result e walked =
-    on_ok_weaker result (λ h bytes. subst (λ (l : Limits). HasWalked v bytes scene l (view_events v (lists_of scene)) b) (sym e) (h bytes)) walked
-
--- and the first limit that it passes is the view's
+-- the first limit that it passes is the view's
 pub counted-over : (v : ViewValue) (scene : SceneValue) (limits : Limits) (result : Result (Unit {0}) OverLimit) →
     IfErr result (λ over. (bytes : ℕ → List ℕ) → steps_over limits (view_steps v (scene_of bytes scene) (view_events v (lists_of scene))) ≡ Some over) →
     (bytes : ℕ → List ℕ) → IfErr result (λ over. view_over v (scene_of bytes scene) limits ≡ Some over)

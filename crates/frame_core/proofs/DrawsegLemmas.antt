@@ -1,17 +1,8 @@
 -- The fragments that the notes of a view stand for are those of its picture, as far as the masked pass reads them.
 use Rattle.picture_rules.proofs.Common.{[], AllByRecursion, AllZip, ap, append_assoc, arith, bit_and, Bool, cond, false, from_bool, get_or, is_some, length, length-append, List, map, None, not, Option, option_map, pos, refl, slice_index_or, Some, subst, suc, sym, true, zero, ℕ, ℤ, ◌&&◌, ◌*◌, ◌++◌, ◌+◌, ◌-◌, ◌==◌, ◌||◌, ◌∙◌, ◌∷◌, ◌≡◌}
 use Rattle.std.proofs.Math.ListN.{get_or-map}
-use Rattle.picture_rules.specs.Words.{Art, back_of, DrawAlike, drawseg_of, drawsegs, drawsegs_from, Event, facts_of, fragment_facts, fragment_wall, LeafFragment, masked_dots, masked_mid, middle_hangs, middle_stands, no_surface, no_textures, note_at, notes_from, openings_list, own_front, own_mid, place_if, room_if, saved_by, saved_from, saves_bottom, saves_top, Sector, Seg, seg_at, seg_light, side_at, SideTextures, silhouette_of, Surface, surface_at, textures_at, view_drawsegs, view_notes, ViewValue, Wall, wall_of, wall_texture, walls_of}
-use Rattle.picture_rules.specs.declared.wall.FragmentNote.{FragmentNote}
-use Rattle.picture_rules.specs.declared.wall.FragmentNumbers.{FragmentNumbers}
-use Rattle.picture_rules.specs.declared.wall.TheConstants.{SIL_BOTTOM, SIL_TOP}
-use Rattle.picture_rules.specs.declared.wall.WallFacts.{WallFacts}
-use Rattle.picture_rules.specs.declared.wall.WallTexture.{WallTexture}
+use Rattle.frame_core.specs.Rules.{Art, DrawAlike, Event, FragmentNote, FragmentNumbers, LeafFragment, SIL_BOTTOM, SIL_TOP, SceneValue, Sector, SectorFlats, Seg, SideTextures, SpriteEntry, Surface, ViewValue, Wall, WallFacts, WallTexture, back_of, drawseg_of, drawsegs, drawsegs_from, facts_of, fragment_facts, fragment_wall, masked_dots, masked_mid, middle_hangs, middle_stands, no_surface, no_textures, note_at, notes_from, openings_list, own_front, own_mid, place_if, room_if, saved_by, saved_from, saves_bottom, saves_top, seg_at, seg_light, side_at, silhouette_of, surface_at, surface_of, surfaces_of, texture_at, textures_at, view_drawsegs, view_notes, wall_of, wall_texture, walls_of}
 use Rattle.picture_rules.proofs.wall.NoteLemmas.{length-saved_by, note-bottom_clip, note-middle_column, note-top_clip}
-use Rattle.art_rules.specs.Words.{texture_at}
-use Rattle.picture_rules.specs.declared.sprite.SpriteEntry.{SpriteEntry}
-use Rattle.scene_rules.specs.declared.SectorFlats.{SectorFlats}
-use Rattle.scene_rules.specs.Words.{SceneValue, surface_of, surfaces_of}
 use Rattle.sound_scene.specs.Sound.{middles_of, textures_view}
 use Rattle.masked_draw.specs.Lists.{MaskedLists, heights_of, lists_of as lists_by, middle_by, no_sector, note_mid, note_seg, noted_drawseg, noted_drawsegs, saved_column, sector_by, side_by}
 use Rattle.frame_core.specs.Scenes.{scene_of}

@@ -1,15 +1,12 @@
 -- For which block a zone is full while a scene is drawn, and that such a zone is smaller than enough.
 use Rattle.picture_rules.proofs.Common.{[], All, All-contains, All-contains_itself, All-filter, All-head, ap, append-nil, arith, Bool, cases_lt, cond, Contains, Contains-get_or, eq-eqb, eq-false_positive, Err, false, false≢true, filter, get_or_past, IfErr, IfSome, inl, inr, IsSome, length, List, list_any, list_any-append, nat_lt, nat_tests, None, Ok, Option, range_with_len, refl, Result, slice_index_or, Some, subst, suc, sym, true, unwrap_or, zero, ℕ, ◌*◌, ◌++◌, ◌+◌, ◌<◌, ◌==◌, ◌||◌, ◌∙◌, ◌∷◌, ◌≡◌, ◌≢◌, ◌≤◌, ◌⊎◌}
-use Rattle.art_rules.specs.Words.{book_lumps, column_lookup, composed_columns, composed_count, composite_place, composite_size, FaultsRose, HasCauseAt, is_composed, is_patch_of, is_patch_of_any, lookup_of, Lump, lump_at, lump_bytes, patches_in, PreparedTexture, ShelfView, stands_in}
-use Rattle.scene_rules.specs.Words.{art_of, block_or_none, block_size, composite_block, enough, greatest_by, has_flat, Heap, is_needed, lump_block, Owner, SceneArt, SceneValue}
+use Rattle.frame_core.specs.Rules.{ColumnLookup, Empty, FaultsRose, HasCauseAt, Heap, Owner, PlacedPatch, PreparedTexture, SceneArt, SceneValue, ShelfView, art_of, block_or_none, block_size, book_lumps, column_lookup, composed_columns, composed_count, composite_block, composite_place, composite_size, enough, greatest_by, has_flat, is_composed, is_needed, is_patch_of, is_patch_of_any, lookup_of, lump_at, lump_block, lump_bytes, patches_in, stands_in}
+use Rattle.art_rules.specs.Words.{Lump}
 use Rattle.texture_build.specs.DirectoryView.{DirectoryView}
 use Rattle.texture_build.specs.Caches.{IsAtRest, composite_owner, lump_owner}
 use Rattle.texture_build.specs.Calls.{IfFull, IsFullFor}
 use Rattle.texture_build.specs.Sizes.{IsGapBeside, IsGapBesideTwo}
 use Rattle.texture_build.proofs.CallLemmas.{full_at}
-use Rattle.art_rules.specs.declared.ColumnLookup.{ColumnLookup}
-use Rattle.art_rules.specs.declared.ColumnLookup.TheVariants.{Empty}
-use Rattle.art_rules.specs.declared.PlacedPatch.{PlacedPatch}
 use Rattle.art_rules.proofs.LookupLemmas.{column_lookups-read}
 use Rattle.texture_build.specs.Asked.{IsAskedByColumn, IsGapBesideComposite, IsPatch, size_of}
 use Rattle.texture_build.specs.Draws.{DrawsWith, HoldsArt, IsFullForTexture}

@@ -1,16 +1,7 @@
 -- The pictures of the vissprites of a view are those of its scene's book.
 use Rattle.picture_rules.proofs.Common.{[], All-from_recursion, AllByRecursion, Bool, cond, eq-eqb, false, find, get_or, length, List, list_any, list_any_at, map, nat_lt, None, Option, option_and_then, option_map, recursion_from_All, refl, slice_get, Some, subst, suc, sym, true, zero, ℕ, ◌++◌, ◌<◌, ◌==◌, ◌∷◌, ◌≡◌}
-use Rattle.picture_rules.specs.Words.{add_entry, entry_for, entry_of, entry_within, Event, joined_lists, placed_of, PlacedThing, project, sectors_entered, view_entries, ViewValue, with_entry, with_sectors, with_seen, with_shape, with_thing, with_things}
+use Rattle.frame_core.specs.Rules.{Event, Frame, MAX_VISSPRITES, Placed, PlacedThing, SceneValue, Seen, Shape, Shape5, SpriteEntry, ViewValue, add_entry, book_lumps, entry_for, entry_of, entry_within, is_frame, joined_lists, picked, placed_of, project, sectors_entered, shape_lumps, view_entries, with_entry, with_sectors, with_seen, with_shape, with_thing, with_things}
 use Rattle.picture_rules.proofs.Laws.{joined_lists-cons}
-use Rattle.art_rules.specs.declared.shapes.Frame.{Frame}
-use Rattle.art_rules.specs.declared.shapes.Shape.{Shape}
-use Rattle.art_rules.specs.Words.{book_lumps, is_frame, picked, shape_lumps}
-use Rattle.picture_rules.specs.declared.sprite.TheConstants.{MAX_VISSPRITES}
-use Rattle.picture_rules.specs.declared.sprite.Placed.{Placed}
-use Rattle.picture_rules.specs.declared.sprite.Seen.{Seen}
-use Rattle.picture_rules.specs.declared.sprite.Shape5.{Shape5}
-use Rattle.picture_rules.specs.declared.sprite.SpriteEntry.{SpriteEntry}
-use Rattle.scene_rules.specs.Words.{SceneValue}
 use Rattle.frame_core.specs.Scenes.{drawn_shape, scene_of}
 
 -- each number of a list is found in it

@@ -1,22 +1,18 @@
 -- Laws of the planes of a view: what drawing them asks is there, and what it paints is the view's.
 use Rattle.picture_rules.proofs.Common.{[], All, All-contains, ap, arith, eq-eqb, false, get_or, IfSome, inl, inr, IsSome, length, List, list_any, list_any_at, None, Option, option_map, or_left, or_right, refl, Result, Some, subst, sym, true, unwrap_or, ℕ, ⊤, ◌<◌, ◌==◌, ◌∙◌, ◌≡◌}
-use Rattle.art_rules.specs.Words.{book_lumps, Lump, lump_bytes}
-use Rattle.scene_rules.specs.Words.{flat_number, has_flat, Heap, SceneValue, surface_of}
+use Rattle.frame_core.specs.Rules.{Dot, Event, Flat4, Heap, Limits, Painter, Plane, Scene, SceneValue, Sector, SectorFlats, Surface, ViewShape, ViewValue, book_lumps, flat_number, has_flat, lump_bytes, no_surface, planes_dots, planes_of, surface_at, surface_of, view_events, view_planes, view_steps}
+use Rattle.art_rules.specs.Words.{Lump}
 use Rattle.texture_build.specs.Caches.{cache_fault}
 use Rattle.texture_build.specs.CacheFault.{CacheFault}
-use Rattle.picture_rules.specs.Words.{Dot, Event, no_surface, Painter, Plane, planes_dots, planes_of, Scene, Sector, Surface, surface_at, view_events, view_planes, view_steps, ViewShape, ViewValue}
 use Rattle.pixel_strips.specs.Canvases.{CanvasView}
-use Rattle.picture_rules.specs.declared.plane.Flat4.{Flat4}
 use Rattle.picture_rules.specs.declared.plane.Flat4.TheVariants as flat
-use Rattle.scene_rules.specs.declared.SectorFlats.{SectorFlats}
-use Rattle.picture_rules.specs.declared.Limits.{Limits}
 use Rattle.texture_build.specs.TexNo.{TexNo}
 use Rattle.texture_build.specs.Arts.{view_art}
 use Rattle.texture_build.specs.Draws.{CanDraw}
 use Rattle.texture_build.specs.Paints.{PaintState, Paints, paint_tools}
 use Rattle.texture_build.specs.Views.{IsPrepared, TexturesView}
 use Rattle.texture_build.proofs.DrawLemmas.{IsMapped}
-use Rattle.texture_build.proofs.PaintLemmas.{paints-mapped, paints-same, paints-wider}
+use Rattle.texture_build.proofs.PaintLemmas.{paints-asked, paints-mapped, paints-same, paints-wider}
 use Rattle.plane_draw.specs.Planes.{CanDrawPlane, HasFlat, IsFlatOf, IsSky}
 use Rattle.sound_scene.specs.Sound.{textures_view}
 use Rattle.frame_core.specs.declared.bench.Bench.{Bench}
@@ -87,16 +83,15 @@ pub planes_are : (v : ViewValue) (bytes : ℕ → List ℕ) (scene : SceneValue)
 unfolding planes_after view_planes planes_of
 planes_are v bytes scene limits events b walked = walked.built.planes
 
--- the art and the sky of the picture's scene
-pub held_art : (bytes : ℕ → List ℕ) (scene : SceneValue) (textures : TexturesView) (colormap : ℕ) → textures ≡ textures_view scene → colormap ≡ scene.base.colormap →
-    (scene_of bytes scene).art ≡ view_art bytes textures colormap
-unfolding scene_of
-held_art bytes scene textures colormap e f = sym (λ i. view_art bytes (e i) (f i))
-
-pub held_sky : (bytes : ℕ → List ℕ) (scene : SceneValue) (sky : Option TexNo) → IsSkyOf scene sky → IfSome sky (λ (tex : TexNo). (scene_of bytes scene).sky ≡ tex.0)
+-- the sky of the picture's scene, and its art over other bytes
+held_sky : (bytes : ℕ → List ℕ) (scene : SceneValue) (sky : Option TexNo) → IsSkyOf scene sky → IfSome sky (λ (tex : TexNo). (scene_of bytes scene).sky ≡ tex.0)
 unfolding scene_of
 held_sky bytes scene None is = tt
 held_sky bytes scene (Some tex) is = ap (λ (o : Option ℕ). unwrap_or o 0) (sym is)
+
+scene_art : (other bytes : ℕ → List ℕ) (scene : SceneValue) → record (scene_of other scene) { art = view_art bytes (textures_view scene) scene.base.colormap } ≡ scene_of bytes scene
+unfolding scene_of
+scene_art other bytes scene = refl
 
 -- the sky's texture is one that a view draws with
 sky_prepared : (scene : SceneValue) (sky : Option TexNo) (number : ℕ) → IfSome scene.faces.sky (IsPrepared (textures_view scene)) → IsSkyOf scene sky → IsSky sky number → IsViewTexture scene number
@@ -132,7 +127,8 @@ flat_lump lumps scene z sky shape planes lump can is all asked =
 -- what the call that draws planes paints, with these textures and this colormap
 abbrev pub PaintsFloors : (Painter → ℕ → ℕ) → ViewScene → TexturesView → ℕ → List Plane → Option TexNo → PaintState → PaintState → Result (Unit {0}) CacheFault → Type 0
 PaintsFloors mark s textures colormap planes sky old new part =
-    Paints {Q = Unit {0}} cache_fault mark (paint_tools s.dir textures colormap) (IsSky sky) (IsFlatOf planes) (λ q. ⊤) (λ contents q. planes_dots s.view (held_scene contents s) planes) old new part
+    Paints cache_fault mark (paint_tools s.dir textures colormap) (IsSky sky) (IsFlatOf planes) (λ (picture : Scene). IfSome sky (λ (tex : TexNo). picture.sky ≡ tex.0))
+    (λ contents picture. planes_dots s.view (record picture { art = view_art (lump_bytes contents s.dir.lumps) textures colormap }) planes) old new part
 
 -- the dots of the planes of a view
 abbrev pub floors_of : ViewValue → SceneValue → Scene → List Dot
@@ -148,7 +144,10 @@ floors-drawn {mark} {s} {old} {new} b sky textures colormap part whole can walke
     let one : PaintsFloors mark s (textures_view s.scene) s.scene.base.colormap b.planes.planes sky old new part =
     subst (λ (n : ℕ). PaintsFloors mark s (textures_view s.scene) n b.planes.planes sky old new part) f
     (subst (λ (t : TexturesView). PaintsFloors mark s t colormap b.planes.planes sky old new part) e drawn) in
+    let some : Scene = scene_of (λ lump. []) s.scene in
     paints-mapped (λ (never : ⊥). absurd never) from_cache cache_above part whole mapped
     (paints-wider (λ number asked. sky_prepared s.scene sky number can.drawable.sky is asked) (λ lump asked. flat_lump s.dir.lumps s.scene old.cache sky s.view.shape b.planes.planes lump can is all asked)
     (paints-same (λ contents q. floors_of s.view s.scene (held_scene contents s))
-    (λ contents q asked. ap (planes_dots s.view (held_scene contents s)) (planes_are s.view (lump_bytes contents s.dir.lumps) s.scene (limits_in b) events b (walked (lump_bytes contents s.dir.lumps)))) one))
+    (λ contents q asked. ap (λ (picture : Scene). planes_dots s.view picture b.planes.planes) (scene_art (λ lump. []) (lump_bytes contents s.dir.lumps) s.scene)
+    ∙ ap (planes_dots s.view (held_scene contents s)) (planes_are s.view (lump_bytes contents s.dir.lumps) s.scene (limits_in b) events b (walked (lump_bytes contents s.dir.lumps))))
+    (paints-asked (λ (q : Unit {0}). ⊤) (λ q. some) (λ q asked. held_sky (λ lump. []) s.scene sky is) one)))

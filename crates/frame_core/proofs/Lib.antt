@@ -23,7 +23,6 @@ pub mod ViewLemmas
 pub mod DotLemmas
 pub mod PainterLemmas
 pub mod CounterLemmas
-pub mod WalkListLemmas
 pub mod ViewListLemmas
 pub mod ShownLemmas
 pub mod ListerLemmas

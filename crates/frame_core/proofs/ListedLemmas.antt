@@ -2,10 +2,7 @@
 use Rattle.picture_rules.proofs.Common.{[], All, All-from_recursion, AllByRecursion, arith, false, ForSome, get_or, IfSome, inl, inr, IsSome, length, length-map, List, map, None, not, Option, option_map, recursion_from_All, refl, Some, subst, suc, sym, take, true, zero, ℕ, ◌+◌, ◌<◌, ◌==◌, ◌∷◌, ◌≡◌, ◌≤◌, ◌⊎◌}
 use Rattle.std.proofs.Math.ListN.{get_or-map}
 use Rattle.art_rules.specs.Words.{Lump}
-use Rattle.scene_rules.specs.Words.{Heap, SceneValue, three_textures}
-use Rattle.picture_rules.specs.Words.{back_of, drawsegs, Event, facts_of, fragment_facts, fragment_numbers, fragment_wall, FragmentEvent, is_masked, IsSound, leaf_fragments, LeafEvent, LeafFragment, MAX_DRAWSEGS, no_seg, no_textures, note_at, notes_from, numbers_by, place_if, room_if, saves_bottom, saves_top, seg_at, SideTextures, Surface, surface_at, textures_at, view_notes, ViewValue, Wall, wall_of, wall_texture, walls_of}
-use Rattle.picture_rules.specs.declared.wall.FragmentNote.{FragmentNote}
-use Rattle.picture_rules.specs.declared.wall.WallFacts.{WallFacts}
+use Rattle.frame_core.specs.Rules.{Event, FragmentEvent, FragmentNote, Heap, IsSound, LeafEvent, LeafFragment, MAX_DRAWSEGS, SceneValue, SideTextures, Surface, ViewValue, Wall, WallFacts, back_of, drawsegs, facts_of, fragment_facts, fragment_numbers, fragment_wall, is_masked, leaf_fragments, no_seg, no_textures, note_at, notes_from, numbers_by, place_if, room_if, saves_bottom, saves_top, seg_at, surface_at, textures_at, three_textures, view_notes, wall_of, wall_texture, walls_of}
 use Rattle.texture_build.specs.Draws.{CanDraw}
 use Rattle.texture_build.specs.Views.{IsPrepared, prepared_texture}
 use Rattle.sound_scene.specs.Sound.{middles_of, textures_view}

@@ -1,12 +1,6 @@
 -- Laws of a lister: an event that it was given after others, and a whole walk.
-use Rattle.std.proofs.Common.{◌≡◌, ℕ, List, [], ◌∷◌, ◌++◌, length, Result, Ok, Err, refl, sym, ap, subst, ◌∙◌}
-use Rattle.picture_rules.specs.Words.{Event, event_list, event_planes, LevelLists, Plane, plane_makers, Scene, view_events, view_list, ViewListValue, ViewValue}
-use Rattle.scene_rules.specs.Words.{SceneValue}
-use Rattle.picture_rules.specs.declared.Limits.{Limits}
-use Rattle.picture_rules.specs.declared.OverLimit.{OverLimit}
-use Rattle.picture_rules.specs.declared.list.ListedFragment.{ListedFragment}
-use Rattle.picture_rules.specs.declared.list.ListedPlane.{ListedPlane}
-use Rattle.picture_rules.specs.declared.list.ListedSprite.{ListedSprite}
+use Rattle.std.proofs.Common.{◌≡◌, ℕ, List, [], ◌∷◌, ◌++◌, length, OnOk, Result, Ok, Err, refl, sym, ap, subst, ◌∙◌}
+use Rattle.frame_core.specs.Rules.{Event, LevelLists, Limits, ListedFragment, ListedPlane, ListedSprite, OverLimit, Plane, Scene, SceneValue, ViewListValue, ViewValue, event_list, event_planes, plane_makers, view_events, view_list}
 use Rattle.picture_rules.proofs.ListLemmas.{plane_makers-count}
 use Rattle.node_walk.specs.Visits.{Visits}
 use Rattle.frame_core.specs.declared.bench.Bench.{Bench}
@@ -82,6 +76,10 @@ pub lister-viewed : (p q : ListerValue) (lists : LevelLists) {result : Result (U
     HasGathered p q (view_events p.counter.view (lists_of p.counter.scene)) result
 lister-viewed p q lists {result} e walked empty visits =
     subst (λ (l : LevelLists). HasGathered p q (view_events p.counter.view l) result) e (lister_walked p q (view_events p.counter.view lists) result walked empty visits)
+
+-- a list that was lent for it is the view's
+pub listed-back : (v : ViewValue) (scene : SceneValue) (list now : WalkListValue) (result : Result (Unit {0}) OverLimit) → list ≡ now → OnOk result (IsListedView v scene now) → OnOk result (IsListedView v scene list)
+listed-back v scene list now result is h = subst (λ (l : WalkListValue). OnOk result (IsListedView v scene l)) (sym is) h
 
 abbrev made_list : List ListedFragment → List ListedPlane → List ListedSprite → ℕ → ℕ → ViewListValue
 made_list fragments planes sprites all_fragments all_sprites =

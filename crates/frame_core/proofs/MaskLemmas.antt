@@ -1,13 +1,9 @@
 -- Laws of the masked pass of a view: what it asks is there where the walk is in the bench, and what it paints is what the picture has.
 use Rattle.picture_rules.proofs.Common.{[], All, All-contains, AllPass, ap, arith, get_or, length, List, list_any, nat_tests, or_right, Result, subst, sym, true, ℕ, ℤ, ⊤, ◌<◌, ◌==◌, ◌∙◌, ◌≡◌}
-use Rattle.art_rules.specs.Words.{book_lumps, lump_bytes}
-use Rattle.scene_rules.specs.Words.{has_flat, Heap, SceneValue}
+use Rattle.frame_core.specs.Rules.{AreNoted, Dot, FragmentNote, Heap, IsSound, LevelValue, Painter, Plane, Scene, SceneValue, Sector, Seg, Side, SpriteEntry, ViewValue, book_lumps, draw_order, has_flat, lump_bytes, masked_dots, view_drawsegs, view_entries, view_events, walls_of}
 use Rattle.texture_build.specs.CacheFault.{CacheFault}
 use Rattle.texture_build.specs.Caches.{cache_fault}
 use Rattle.texture_build.specs.DirectoryView.{DirectoryView}
-use Rattle.picture_rules.specs.Words.{AreNoted, Dot, draw_order, IsSound, LevelValue, masked_dots, Painter, Plane, Scene, Sector, Seg, Side, view_drawsegs, view_entries, view_events, ViewValue, walls_of}
-use Rattle.picture_rules.specs.declared.wall.FragmentNote.{FragmentNote}
-use Rattle.picture_rules.specs.declared.sprite.SpriteEntry.{SpriteEntry}
 use Rattle.texture_build.specs.Arts.{view_art}
 use Rattle.texture_build.specs.Paints.{PaintState, Paints, paint_tools}
 use Rattle.texture_build.specs.Views.{TexturesView}

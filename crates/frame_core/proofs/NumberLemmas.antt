@@ -1,7 +1,6 @@
 -- What is there of a scene that may be counted: the numbers of the flats of its sectors.
 use Rattle.std.proofs.Common.{ℕ, ◌<◌, length, arith}
-use Rattle.picture_rules.specs.Words.{no_surface, surface_at}
-use Rattle.scene_rules.specs.Words.{SceneValue}
+use Rattle.frame_core.specs.Rules.{SceneValue, no_surface, surface_at}
 use Rattle.frame_core.specs.Scenes.{lists_of}
 use Rattle.frame_core.specs.Views.{AreFlatNumbers, CanCount}
 use Rattle.frame_core.proofs.SceneLemmas.{surface_counts}

@@ -1,11 +1,10 @@
 -- Laws of a call that paints a part of a view: it may be asked again, and its fault may be that of a call below.
 use Rattle.std.proofs.Common.{◌≡◌, List, Result, Ok, Err, IsErrAnd, refl, sym, subst}
-use Rattle.art_rules.specs.Words.{fault_above, Lump}
-use Rattle.scene_rules.specs.Words.{Heap, SceneValue}
+use Rattle.frame_core.specs.Rules.{Heap, SceneValue, ViewValue, fault_above}
+use Rattle.art_rules.specs.Words.{Lump}
 use Rattle.texture_build.specs.Caches.{KeepsCounts, cache_fault}
 use Rattle.texture_build.specs.CacheFault.{CacheFault}
 use Rattle.texture_build.specs.CacheFault.TheVariants as cache
-use Rattle.picture_rules.specs.Words.{ViewValue}
 use Rattle.pixel_strips.specs.Canvases.{CanvasView}
 use Rattle.pixel_strips.specs.Dotted.{PlacedAlike}
 use Rattle.texture_build.proofs.DrawLemmas.{IsMapped}

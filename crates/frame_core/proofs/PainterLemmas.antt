@@ -1,7 +1,6 @@
 -- Laws of a painter: an event that it was given after others, and a whole walk.
 use Rattle.picture_rules.proofs.Common.{[], ap, arith, drop, Err, err_from_is_err_and, IfErr, IfErr-weaker, IfSome, IfSome_then, IsErrAnd, List, None, Ok, on_ok_weaker, OnOk, Option, refl, Result, Some, subst, sym, take, take-append-drop, ℕ, ◌++◌, ◌∙◌, ◌∷◌, ◌≡◌}
-use Rattle.art_rules.specs.Words.{ShelfView}
-use Rattle.scene_rules.specs.Words.{Heap, SceneValue, surfaces_of}
+use Rattle.frame_core.specs.Rules.{Dot, Event, FragmentEvent, Heap, LeafEvent, LevelLists, LimitKind, Limits, OverLimit, Painter, Scene, SceneValue, ShelfView, ViewValue, openings_count, planes_count, steps_over, view_events, view_over, view_steps}
 use Rattle.scene_rules.proofs.Laws.{order_none}
 use Rattle.texture_build.specs.DirectoryView.{DirectoryView}
 use Rattle.texture_build.specs.Caches.{KeepsCounts}
@@ -10,15 +9,10 @@ use Rattle.texture_build.specs.Paints.{PaintState}
 use Rattle.texture_build.specs.Views.{TexturesView}
 use Rattle.texture_build.proofs.DrawLemmas.{keeps_art-none}
 use Rattle.texture_build.proofs.PaintLemmas.{paints-missed, paints-none, paints-same, paints-stop, paints-then}
-use Rattle.picture_rules.specs.Words.{Dot, Event, FragmentEvent, LeafEvent, LevelLists, LevelValue, openings_count, Painter, planes_count, Scene, steps_over, Surface, view_events, view_over, view_steps, ViewValue}
 use Rattle.pixel_strips.specs.Dotted.{PlacedAlike}
 use Rattle.pixel_strips.proofs.DottedLemmas.{placed-none}
-use Rattle.sound_scene.specs.Sound.{middles_of, textures_view}
-use Rattle.picture_rules.specs.declared.Limits.{Limits}
-use Rattle.picture_rules.specs.declared.OverLimit.{OverLimit}
-use Rattle.picture_rules.specs.declared.LimitKind.{LimitKind}
+use Rattle.sound_scene.specs.Sound.{textures_view}
 use Rattle.picture_rules.specs.declared.LimitKind.TheVariants as kind
-use Rattle.node_walk.specs.Lists.{walk_lists}
 use Rattle.node_walk.specs.Visits.{Visits}
 use Rattle.wall_columns.specs.declared.fault.DrawFault.{DrawFault}
 use Rattle.wall_columns.specs.declared.fault.DrawFault.TheVariants.{Planes, Openings, ZoneFull, ReadFault}
@@ -164,14 +158,6 @@ painter-walked mark p q events (Ok unit) walked visits = visits.ok.each p [] (pa
 painter-walked mark p q events (Err stop) walked visits =
     stopped_all mark p q visits.err.count events stop (visits.err.each p [] (painted_none mark p walked))
 
--- the lists that are walked are those of the scene
-pub lists-walked : (scene : SceneValue) (level : LevelValue) (surfaces : List Surface) (middles : List ℕ) → level ≡ scene.base.level →
-    surfaces ≡ surfaces_of scene.base.level.sectors scene.faces.flats → middles ≡ middles_of scene.faces.sides → walk_lists level surfaces middles ≡ lists_of scene
-lists-walked scene level surfaces middles e f g =
-    ap (λ (l : LevelValue). walk_lists l surfaces middles) e
-    ∙ ap (λ (s : List Surface). walk_lists scene.base.level s middles) f
-    ∙ ap (λ (m : List ℕ). walk_lists scene.base.level (surfaces_of scene.base.level.sectors scene.faces.flats) m) g
-
 -- the whole walk of a view, of the lists of its scene
 pub painter-viewed : {mark : Painter → ℕ → ℕ} (p q : PainterValue) (lists : LevelLists) {result : Result (Unit {0}) ViewFault} → lists ≡ lists_of p.scene.scene →
     ((bytes : ℕ → List ℕ) → HasWalked p.scene.view bytes p.scene.scene (limits_in p.bench) [] p.bench) → PainterVisits mark p q (view_events p.scene.view lists) result →
@@ -179,11 +165,12 @@ pub painter-viewed : {mark : Painter → ℕ → ℕ} (p q : PainterValue) (list
 painter-viewed {mark} p q lists {result} e walked visits =
     subst (λ (l : LevelLists). HasPainted mark p q (view_events p.scene.view l) result) e (painter-walked mark p q (view_events p.scene.view lists) result walked visits)
 
--- its bench has the whole walk
-pub bench-walked : (v : ViewValue) (scene : SceneValue) (limits : Limits) (b : Bench) (result : Result (Unit {0}) ViewFault) → limits_in b ≡ limits →
-    OnOk result ((bytes : ℕ → List ℕ) → HasWalked v bytes scene limits (view_events v (lists_of scene)) b) → OnOk result (HasWalkedView v scene b)
-bench-walked v scene limits b result e walked =
-    on_ok_weaker result (λ h bytes. subst (λ (l : Limits). HasWalked v bytes scene l (view_events v (lists_of scene)) b) (sym e) (h bytes)) walked
+-- a bench that was lent for it has the whole walk
+pub bench-walked : {E : Type 0} (v : ViewValue) (scene : SceneValue) (limits : Limits) (b now : Bench) (result : Result (Unit {0}) E) → b ≡ now → limits_in now ≡ limits →
+    OnOk result ((bytes : ℕ → List ℕ) → HasWalked v bytes scene limits (view_events v (lists_of scene)) now) → OnOk result (HasWalkedView v scene b)
+bench-walked v scene limits b now result is same walked =
+    on_ok_weaker result (λ h bytes. subst (λ (c : Bench). HasWalked v bytes scene (limits_in c) (view_events v (lists_of scene)) c) (sym is)
+    (subst (λ (l : Limits). HasWalked v bytes scene l (view_events v (lists_of scene)) now) (sym same) (h bytes))) walked
 
 -- the first limit that a view passes is that of its steps
 pub view-over : (v : ViewValue) (scene : SceneValue) (limits : Limits) (bytes : ℕ → List ℕ) (over : OverLimit) →

@@ -1,14 +1,9 @@
 -- Laws of where the dots of walls and planes are: in the view.
 use Rattle.picture_rules.proofs.Common.{[], All, AllByRecursion, and_from, arith, Bool, cond, false, int_lt, ints, le-leb, List, map, nat_le, negsuc, None, Option, pos, range_with_len, recursion_from_All, refl, Some, suc, true, zero, ℕ, ℤ, ◌++◌, ◌+◌, ◌-◌, ◌<ℤ◌, ◌<◌, ◌∷◌, ◌≡◌, ◌≤ℤ◌, ◌≤◌}
-use Rattle.picture_rules.specs.Words.{AreInView, Art, bottom_rows, clip_before, column, column_dots, Dot, Event, floor_dots, FRAME_HEIGHT, has_texture, holds, holds_row, joined_lists, listed, listed_from, middle_rows, natural, Painter, Plane, plane_dots, plane_dots_by, planes_dots, planes_from, rows_between, run_dots, Scene, sky_dots, strip_dots, strip_of, top_rows, ViewShape, ViewValue, Wall, wall_column, wall_column_by, wall_dots, wall_edges, wall_strips, walls_dots, walls_from, walls_of, WallStrip}
-use Rattle.picture_rules.specs.declared.plane.Flat4.{Flat4}
+use Rattle.frame_core.specs.Rules.{AreInView, Art, ColumnClip, Dot, Edges, Event, FRAME_HEIGHT, Flat4, FragmentNumbers, Painter, Part, Plane, RowRange, Scene, ViewShape, ViewValue, Wall, WallStrip, bottom_rows, clip_before, column, column_dots, floor_dots, has_texture, holds, holds_row, joined_lists, listed, listed_from, middle_rows, natural, plane_dots, plane_dots_by, planes_dots, planes_from, rows_between, run_dots, sky_dots, strip_dots, strip_of, top_rows, wall_column, wall_column_by, wall_dots, wall_edges, wall_strips, walls_dots, walls_from, walls_of}
 use Rattle.picture_rules.specs.declared.plane.Flat4.TheVariants.{Sky, Lump}
-use Rattle.picture_rules.specs.declared.wall.ColumnClip.{ColumnClip}
-use Rattle.picture_rules.specs.declared.wall.Edges.{Edges}
-use Rattle.picture_rules.specs.declared.wall.FragmentNumbers.{FragmentNumbers}
-use Rattle.picture_rules.specs.declared.wall.Part.{Part}
-use Rattle.picture_rules.specs.declared.wall.RowRange.{RowRange}
 use Rattle.picture_rules.proofs.FrameLemmas.{in_view-append}
+use Rattle.picture_rules.proofs.InViewLemmas.{in_view-column, in_view-joined, numbers_below, numbers_between, rows_between-in}
 use Rattle.wall_columns.specs.Built.{IsDrawn}
 use Rattle.wall_columns.specs.Plans.{AreEdgeWords, AreRowsIn}
 use Rattle.wall_columns.specs.Windows.{IsClipIn}
@@ -17,49 +12,6 @@ use Rattle.wall_columns.proofs.ClipLemmas.{clip_before-in, middle_rows-in, top_r
 -- a plane with no row and no column outside the view
 abbrev pub LiesInView : ViewShape → Plane → Type 0
 LiesInView shape p = (x y : ℕ) → holds p y x ≡ true → (x < shape.width) × (y < shape.height)
-
--- what holds of numbers from first on, n of them
-numbers_from : (P : ℕ → Type 0) (first n : ℕ) → ((k : ℕ) → first ≤ k → k < first + n → P k) → AllByRecursion P (map (λ k. k) (range_with_len first n))
-numbers_from P first zero h = tt
-numbers_from P first (suc n) h = (h first (omega arith) (omega arith), numbers_from P (first + 1) n (λ k l m. h k (omega arith) (omega arith)))
-
-pub numbers_between : (P : ℕ → Type 0) (first last : ℕ) → ((k : ℕ) → first ≤ k → k ≤ last → P k) → AllByRecursion P (listed_from (λ k. k) first last)
-unfolding listed_from
-numbers_between P first last h = numbers_from P first (last + 1 - first) (λ k l m. h k l (omega arith))
-
-numbers_below : (P : ℕ → Type 0) (n : ℕ) → ((k : ℕ) → k < n → P k) → AllByRecursion P (listed (λ k. k) n)
-unfolding listed
-numbers_below P n h = numbers_from P 0 n (λ k l m. h k (omega arith))
-
--- lists that are joined lie in the view when each does
-pub in_view-joined : {X : Type 0} (shape : ViewShape) (f : X → List Dot) (P : X → Type 0) (xs : List X) → ((x : X) → P x → AreInView shape (f x)) → AllByRecursion P xs → AreInView shape (joined_lists f xs)
-unfolding joined_lists
-in_view-joined shape f P [] h a = tt
-in_view-joined shape f P (x ∷ xs) h a = in_view-append shape (f x) (joined_lists f xs) (h x a.0) (in_view-joined shape f P xs h a.1)
-
--- rows of a column
-pub in_view-column : (shape : ViewShape) (painter : Painter) (x : ℕ) (colour : ℕ → ℕ) (rows : List ℕ) → x < shape.width → AllByRecursion (λ y. y < shape.height) rows → AreInView shape (column_dots painter x colour rows)
-unfolding column_dots
-in_view-column shape painter x colour [] l a = tt
-in_view-column shape painter x colour (y ∷ ys) l a = ((l, a.0), in_view-column shape painter x colour ys l a.1)
-
-natural-below : (first last : ℤ) (height y : ℕ) → first ≤ℤ last → pos 0 ≤ℤ first → last <ℤ pos height → y ≤ natural last → y < height
-unfolding natural
-natural-below first (pos n) height y o l h m = let k : n < height = omega (arith, ints) in omega arith
-natural-below first (negsuc n) height y o l h m = absurd (omega (arith, ints))
-
-rows_by : (height : ℕ) (first last : ℤ) (t : Bool) → int_lt last first ≡ t → (first ≤ℤ last → (pos 0 ≤ℤ first) × (last <ℤ pos height)) →
-    AllByRecursion (λ y. y < height) (cond t [] (listed_from (λ y. y) (natural first) (natural last)))
-rows_by height first last true e h = tt
-rows_by height first last false e h =
-    let o : first ≤ℤ last = grind (arith, ints) in
-    let p = h o in
-    numbers_between (λ y. y < height) (natural first) (natural last) (λ y l m. natural-below first last height y o p.0 p.1 m)
-
--- rows between two that are rows of the view, where there are some
-pub rows_between-in : (height : ℕ) (first last : ℤ) → (first ≤ℤ last → (pos 0 ≤ℤ first) × (last <ℤ pos height)) → AllByRecursion (λ y. y < height) (rows_between first last)
-unfolding rows_between
-rows_between-in height first last h = rows_by height first last (int_lt last first) refl h
 
 -- the strips of a fragment have rows of the view
 abbrev IsStripIn : ℕ → WallStrip → Type 0

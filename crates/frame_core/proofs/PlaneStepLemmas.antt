@@ -1,9 +1,7 @@
 -- Laws of the planes of a scene that lie in the view: they do so after a leaf of it, and after a fragment of its columns.
 use Rattle.picture_rules.proofs.Common.{All, ap, arith, Bool, cond, false, IfSome, inl, inr, int_lt, length, List, None, Option, or-true_right, pos, refl, Some, true, ℕ, ℤ, ◌-◌, ◌<◌, ◌||◌, ◌≡◌, ◌≤◌}
-use Rattle.picture_rules.specs.Words.{after_event, ceiling_key, ceiling_marks, ceiling_rows, clip_before, empty_plane, floor_key, floor_marks, floor_rows, FRAME_HEIGHT, is_sky, key_of, leaf_step, Plane, plane_wall, PlanesNow, Surface, surface_at, ViewShape, ViewValue, Wall, wall_edges, wall_step, with_run}
+use Rattle.frame_core.specs.Rules.{FRAME_HEIGHT, Plane, PlaneKey, PlanesNow, SceneValue, Surface, ViewShape, ViewValue, Wall, after_event, ceiling_key, ceiling_marks, ceiling_rows, clip_before, empty_plane, floor_key, floor_marks, floor_rows, is_sky, key_of, leaf_step, plane_wall, surface_at, wall_edges, wall_step, with_run}
 use Rattle.picture_rules.specs.declared.plane.Flat4.TheVariants.{Sky, Lump}
-use Rattle.picture_rules.specs.declared.plane.PlaneKey.{PlaneKey}
-use Rattle.scene_rules.specs.Words.{SceneValue}
 use Rattle.wall_columns.proofs.ClipLemmas.{ceiling_rows-in, clip_before-in, edges_at-words, floor_rows-in}
 use Rattle.frame_core.specs.Scenes.{lists_of}
 use Rattle.frame_core.specs.Walked.{IsFlatOf, IsFlatShown, IsPlaneIn}

@@ -1,8 +1,6 @@
 -- Laws of the vissprites after a sector's things: where it was entered before, and where it was not.
 use Rattle.std.proofs.Common.{◌≡◌, ℕ, Bool, true, false, not, List, refl}
-use Rattle.picture_rules.specs.Words.{ViewValue, with_things}
-use Rattle.picture_rules.specs.declared.sprite.SpriteEntry.{SpriteEntry}
-use Rattle.scene_rules.specs.Words.{SceneValue, things_of}
+use Rattle.frame_core.specs.Rules.{SceneValue, SpriteEntry, ViewValue, things_of, with_things}
 use Rattle.frame_core.specs.Scenes.{scene_of}
 use Rattle.frame_core.specs.Walked.{with_sector}
 

@@ -1,16 +1,6 @@
 -- Laws of the things of a sector as their vissprites are listed, and of the planes of a view with their makers.
 use Rattle.picture_rules.proofs.Common.{[], and_parts, ap, arith, at_drop_all, at_drop_more, Bool, clamps, cond, count_by, count_by_more_no, count_by_more_yes, drop, false, get_or, int_le, int_lt, ints, is_negative, is_some, length, List, map, map-append, None, not, Option, option_map, pos, refl, Some, subst, suc, sym, take, take_all, true, zero, zip, ℕ, ℤ, ◌++◌, ◌+◌, ◌<◌, ◌||◌, ◌∙◌, ◌∷◌, ◌≡◌, ◌≤ℤ◌, ◌≤◌}
-use Rattle.picture_rules.specs.Words.{AreWide, column, entry_for, entry_of, entry_within, FRAME_WIDTH, greater_word, listed_plane, listed_sprite, marked_columns, misses_view, picture_first, picture_last, placed_of, PlacedThing, Plane, project, Scene, ViewValue}
-use Rattle.art_rules.specs.declared.shapes.Shape.{Shape}
-use Rattle.art_rules.specs.Words.{picked}
-use Rattle.scene_rules.specs.Words.{SceneValue, things_of}
-use Rattle.picture_rules.specs.declared.list.ListedPlane.{ListedPlane}
-use Rattle.picture_rules.specs.declared.list.ListedSprite.{ListedSprite}
-use Rattle.picture_rules.specs.declared.list.PlaneMaker.{PlaneMaker}
-use Rattle.picture_rules.specs.declared.sprite.Placed.{Placed}
-use Rattle.picture_rules.specs.declared.sprite.Seen.{Seen}
-use Rattle.picture_rules.specs.declared.sprite.Shape5.{Shape5}
-use Rattle.picture_rules.specs.declared.sprite.SpriteEntry.{SpriteEntry}
+use Rattle.frame_core.specs.Rules.{AreWide, FRAME_WIDTH, ListedPlane, ListedSprite, Placed, PlacedThing, Plane, PlaneMaker, Scene, SceneValue, Seen, Shape, Shape5, SpriteEntry, ViewValue, column, entry_for, entry_of, entry_within, greater_word, listed_plane, listed_sprite, marked_columns, misses_view, picked, picture_first, picture_last, placed_of, project, things_of}
 use Rattle.visplanes.specs.Planes.{no_plane, plane_at}
 use Rattle.vissprites.specs.Bounds.{lies_within}
 use Rattle.vissprites.proofs.BoundLemmas.{entry_for-lies_within}
@@ -140,21 +130,23 @@ planes-none planes makers i e =
 pub planes-end : (planes : List Plane) (makers : List PlaneMaker) (i : ℕ) → length makers ≤ i → listed_planes planes (take i makers) ≡ listed_planes planes makers
 planes-end planes makers i l = ap (listed_planes planes) (take_all i makers l)
 
--- a column more, without a run and with one
-pub columns-without : (p : Plane) (x columns : ℕ) (o : Option (ℕ × ℕ)) (b : Bool) → x < length p.runs → o ≡ column p x → is_some o ≡ not b → b ≡ true → columns ≡ count_by is_some (take x p.runs) → columns ≡ count_by is_some (take (x + 1) p.runs)
-unfolding column
-columns-without p x columns o b l e t is count =
-    count ∙ sym (count_by_more_no is_some p.runs x None l (ap is_some (sym e) ∙ t ∙ ap not is))
-
-pub columns-with : (p : Plane) (x columns : ℕ) (o : Option (ℕ × ℕ)) (b : Bool) → x < length p.runs → o ≡ column p x → is_some o ≡ not b → b ≡ false → columns ≡ count_by is_some (take x p.runs) → columns + 1 ≡ count_by is_some (take (x + 1) p.runs)
-unfolding column
-columns-with p x columns o b l e t is count =
-    ap (λ (n : ℕ). n + 1) count ∙ sym (count_by_more_yes is_some p.runs x None l (ap is_some (sym e) ∙ t ∙ ap not is))
-
-pub columns-all : (p : Plane) (x columns : ℕ) → length p.runs ≤ x → columns ≡ count_by is_some (take x p.runs) → columns ≡ marked_columns p
-unfolding marked_columns
-columns-all p x columns l count = count ∙ ap (count_by is_some) (take_all x p.runs l)
-
 -- a plane of a view is as wide as a frame
-pub wide-at : (planes : List Plane) (n : ℕ) → AreWide planes → n < length planes → length (plane_at planes n).runs ≡ FRAME_WIDTH
-wide-at planes n wide l = wide n no_plane l
+wide_at : (planes : List Plane) (n : ℕ) → AreWide planes → n < length planes → length (plane_at planes n).runs ≡ FRAME_WIDTH
+wide_at planes n wide l = wide n no_plane l
+
+-- a column more, without a run and with one
+module _ (planes : List Plane) (n x columns : ℕ) (o : Option (ℕ × ℕ)) (b : Bool) (wide : AreWide planes) (l : n < length planes) (inside : x < FRAME_WIDTH) where
+  pub columns-without : o ≡ column (plane_at planes n) x → is_some o ≡ not b → b ≡ true → columns ≡ count_by is_some (take x (plane_at planes n).runs) → columns ≡ count_by is_some (take (x + 1) (plane_at planes n).runs)
+  unfolding column
+  columns-without e t is count =
+      count ∙ sym (count_by_more_no is_some (plane_at planes n).runs x None (omega (arith, inside, wide_at planes n wide l)) (ap is_some (sym e) ∙ t ∙ ap not is))
+
+  pub columns-with : o ≡ column (plane_at planes n) x → is_some o ≡ not b → b ≡ false → columns ≡ count_by is_some (take x (plane_at planes n).runs) → columns + 1 ≡ count_by is_some (take (x + 1) (plane_at planes n).runs)
+  unfolding column
+  columns-with e t is count =
+      ap (λ (k : ℕ). k + 1) count ∙ sym (count_by_more_yes is_some (plane_at planes n).runs x None (omega (arith, inside, wide_at planes n wide l)) (ap is_some (sym e) ∙ t ∙ ap not is))
+
+pub columns-all : (planes : List Plane) (n x columns : ℕ) → AreWide planes → n < length planes → FRAME_WIDTH ≤ x → columns ≡ count_by is_some (take x (plane_at planes n).runs) → columns ≡ marked_columns (plane_at planes n)
+unfolding marked_columns
+columns-all planes n x columns wide l end count =
+    count ∙ ap (count_by is_some) (take_all x (plane_at planes n).runs (omega (arith, end, wide_at planes n wide l)))

@@ -1,10 +1,9 @@
 -- Laws of the steps of a view's events to which one more is added, of the planes and openings after them, and of the first limit that they pass.
 use Rattle.picture_rules.proofs.Common.{[], ap, append-nil, append_assoc, arith, cases_lt, find, find-append, inl, inr, length, length-map, length-take, List, map, map-append, None, Option, option_or, refl, Some, sym, ℕ, ◌++◌, ◌<◌, ◌∙◌, ◌∷◌, ◌≡◌, ◌≤◌}
-use Rattle.picture_rules.specs.Words.{after_event, after_events, counts_from, drawsegs, Event, fragment_facts, fragment_wall, FragmentEvent, last_leaf, leaf_fragments, leaf_step, leaf_surface, LeafEvent, MAX_DRAWSEGS, no_planes, openings_after, openings_counts, openings_past, passes_limit, plane_counts, planes_count, Scene, Step, steps_from, steps_of, steps_over, view_steps, ViewValue, Wall, walls_of}
+use Rattle.frame_core.specs.Rules.{Event, FragmentEvent, LeafEvent, Limits, MAX_DRAWSEGS, OverLimit, Scene, Step, ViewValue, Wall, after_event, after_events, counts_from, drawsegs, fragment_facts, fragment_wall, last_leaf, leaf_fragments, leaf_step, leaf_surface, no_planes, openings_after, openings_counts, openings_past, passes_limit, plane_counts, planes_count, steps_from, steps_of, steps_over, view_steps, walls_of}
 use Rattle.picture_rules.proofs.plane.BuiltLemmas.{after_events-more}
-use Rattle.picture_rules.specs.declared.Limits.{Limits}
-use Rattle.picture_rules.specs.declared.OverLimit.{OverLimit}
 use Rattle.picture_rules.proofs.CountLemmas.{counts_from-more, openings_after-more}
+use Rattle.picture_rules.proofs.ListLemmas.{all_counted, drawn_counted, walls_counted}
 use Rattle.picture_rules.proofs.EventLemmas.{steps_of-full, steps_of-leaf, steps_of-room, walls_of-full, walls_of-leaf, walls_of-room}
 use Rattle.wall_columns.specs.Built.{step_of_wall, step_over, with_wall}
 use Rattle.frame_core.specs.Walked.{next_wall, planes_after}
@@ -51,18 +50,6 @@ walls-room v scene es seg first last h =
 pub walls-full : (v : ViewValue) (scene : Scene) (es : List Event) (seg first last : ℕ) → MAX_DRAWSEGS ≤ length (walls_of v scene es) →
     walls_of v scene (es ++ FragmentEvent seg first last ∷ []) ≡ walls_of v scene es
 walls-full v scene es seg first last h = walls_of-full v scene es seg first last h
-
-walls_counted : (v : ViewValue) (scene : Scene) (es : List Event) → length (walls_of v scene es) ≡ length (drawsegs es)
-unfolding walls_of
-walls_counted v scene es = length-map (drawsegs es) (fragment_wall v scene)
-
-drawn_counted : (es : List Event) → length (drawsegs es) ≤ length (leaf_fragments 0 es)
-unfolding drawsegs
-drawn_counted es = omega (arith, length-take MAX_DRAWSEGS (leaf_fragments 0 es))
-
-all_counted : (es : List Event) → length (drawsegs es) < MAX_DRAWSEGS → length (drawsegs es) ≡ length (leaf_fragments 0 es)
-unfolding drawsegs
-all_counted es h = omega (arith, length-take MAX_DRAWSEGS (leaf_fragments 0 es))
 
 -- one leaf more is one step more
 pub steps-leaf : (v : ViewValue) (scene : Scene) (es : List Event) (n : ℕ) →

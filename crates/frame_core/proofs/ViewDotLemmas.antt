@@ -1,8 +1,6 @@
 -- Laws of where the dots of a view are: those of its masked pass lie in it, and with its walls and planes all.
 use Rattle.picture_rules.proofs.Common.{[], All, All-from_recursion, AllByRecursion, AllPass, arith, Bool, cond, false, filter, get_or_from_slice_get, int_le, int_lt, ints, length, List, None, Option, pos, recursion_from_All, refl, slice_get, slice_get_within, Some, subst, suc, true, zero, ℕ, ℤ, ◌&&◌, ◌++◌, ◌+◌, ◌<ℤ◌, ◌<◌, ◌∷◌, ◌≡◌, ◌≤ℤ◌, ◌≤◌}
-use Rattle.picture_rules.specs.Words.{AreInView, Art, bottom_clip, clip_of_number, clip_of_some, clip_past, columns_at, draw_order, Drawseg, drawseg_of, drawsegs_from, Event, FRAME_HEIGHT, gives_bottom, gives_top, greatest_clip, greatest_that, least_clip, listed_from, masked_dots, MaskedColumn, middle_by, middle_column, middle_masked, middles_at, middles_of, minus_one, Painter, paints_by, paints_of, picture_top, planes_dots, Post, post_bottom, post_colour, post_dots, post_first, post_last, post_rows, post_top, posts_dots, rows_between, Scene, sprite_bottom, sprite_column, sprite_dots, sprite_masked, sprite_step, sprite_top, sprites_from, steps_of, top_clip, view_drawsegs, view_entries, view_events, view_paints, view_planes, view_steps, ViewShape, ViewValue, Wall, walls_dots, walls_of}
-use Rattle.picture_rules.specs.declared.wall.ColumnClip.{ColumnClip}
-use Rattle.picture_rules.specs.declared.sprite.SpriteEntry.{SpriteEntry}
+use Rattle.frame_core.specs.Rules.{AreInView, Art, ColumnClip, Drawseg, Event, FRAME_HEIGHT, MaskedColumn, Painter, Post, Scene, SpriteEntry, ViewShape, ViewValue, Wall, bottom_clip, clip_of_number, clip_of_some, clip_past, columns_at, draw_order, drawseg_of, drawsegs_from, gives_bottom, gives_top, greatest_clip, greatest_that, least_clip, listed_from, masked_dots, middle_by, middle_column, middle_masked, middles_at, middles_of, minus_one, paints_by, paints_of, picture_top, planes_dots, post_bottom, post_colour, post_dots, post_first, post_last, post_rows, post_top, posts_dots, rows_between, sprite_bottom, sprite_column, sprite_dots, sprite_masked, sprite_step, sprite_top, sprites_from, steps_of, top_clip, view_drawsegs, view_entries, view_events, view_paints, view_planes, view_steps, walls_dots, walls_of}
 use Rattle.picture_rules.proofs.FrameLemmas.{in_view-append}
 use Rattle.vissprites.specs.Bounds.{lies_within}
 use Rattle.vissprites.proofs.BoundLemmas.{draw_order-all}
@@ -10,7 +8,8 @@ use Rattle.wall_columns.specs.Built.{IsDrawn}
 use Rattle.wall_columns.specs.Windows.{IsClipIn}
 use Rattle.wall_columns.proofs.ClipLemmas.{clip_before-in}
 use Rattle.masked_draw.proofs.PostLemmas.{post_first-low, post_last-high}
-use Rattle.frame_core.proofs.PartDotLemmas.{LiesInView, drawn_walls-in_view, in_view-column, in_view-joined, numbers_between, planes-in_view, rows_between-in}
+use Rattle.picture_rules.proofs.InViewLemmas.{in_view-column, in_view-joined, numbers_between, rows_between-in}
+use Rattle.frame_core.proofs.PartDotLemmas.{LiesInView, drawn_walls-in_view, planes-in_view}
 
 -- a fragment of the view's columns, whose clips leave no row outside the view
 pub record IsDrawsegIn (shape : ViewShape) (d : Drawseg) : Type 0 where
@@ -177,21 +176,3 @@ drawsegs_from-in v scene walls k (w ∷ ws) s a = (drawseg-in v scene walls k w 
 pub drawsegs-in_view : (v : ViewValue) (scene : Scene) (walls : List Wall) → v.shape.height ≤ FRAME_HEIGHT → All (IsDrawn v) walls → All (IsDrawsegIn v.shape) (view_drawsegs v scene walls)
 unfolding view_drawsegs
 drawsegs-in_view v scene walls s d = All-from_recursion (IsDrawsegIn v.shape) (view_drawsegs v scene walls) (drawsegs_from-in v scene walls 0 walls s (recursion_from_All (IsDrawn v) walls d))
-
--- all that a view draws lies in it
-paints_of-in : (v : ViewValue) (scene : Scene) (events : List Event) → v.shape.height ≤ FRAME_HEIGHT → All (IsDrawn v) (walls_of v scene events) → All (LiesInView v.shape) (view_planes (view_steps v scene events)) →
-    AllPass (lies_within v.shape.width) (view_entries v scene events) → AreInView v.shape (paints_of v scene events)
-unfolding paints_of paints_by view_steps
-paints_of-in v scene events s drawn planes sprites =
-    let walls = walls_of v scene events in
-    let ds = view_drawsegs v scene walls in
-    let order = draw_order (view_entries v scene events) in
-    in_view-append v.shape (walls_dots v scene walls) (planes_dots v scene (view_planes (steps_of v scene walls events)) ++ masked_dots v scene.art ds order)
-    (drawn_walls-in_view v scene walls s drawn)
-    (in_view-append v.shape (planes_dots v scene (view_planes (steps_of v scene walls events))) (masked_dots v scene.art ds order) (planes-in_view v scene (view_planes (steps_of v scene walls events)) planes)
-    (masked-in_view v scene.art ds order s (drawsegs-in_view v scene walls s drawn) (draw_order-all (lies_within v.shape.width) (view_entries v scene events) sprites)))
-
-pub paints-in_view : (v : ViewValue) (scene : Scene) → v.shape.height ≤ FRAME_HEIGHT → All (IsDrawn v) (walls_of v scene (view_events v scene.level)) →
-    All (LiesInView v.shape) (view_planes (view_steps v scene (view_events v scene.level))) → AllPass (lies_within v.shape.width) (view_entries v scene (view_events v scene.level)) → AreInView v.shape (view_paints v scene)
-unfolding view_paints
-paints-in_view v scene s drawn planes sprites = paints_of-in v scene (view_events v scene.level) s drawn planes sprites

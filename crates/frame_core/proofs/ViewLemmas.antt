@@ -1,19 +1,16 @@
 -- Laws of a whole view: its three parts in order, where its dots lie, what ends it, and the frame that it leaves.
-use Rattle.picture_rules.proofs.Common.{[], All, AllPass, ap, arith, Bor, Err, get_or, IfErr, IfSome, IsErrAnd, length, length-replicate, List, None, Ok, on_ok-always, OnOk, Option, refl, replicate, Result, Some, subst, suc, sym, zero, ℕ, ◌++◌, ◌∙◌, ◌≡◌, ◌≤◌}
-use Rattle.art_rules.specs.Words.{Fault, lump_bytes, ShelfView}
-use Rattle.scene_rules.specs.Words.{Heap, SceneValue}
-use Rattle.picture_rules.specs.Words.{AreInView, Dot, draw_order, FitsFrame, FRAME_CELLS, FRAME_HEIGHT, IsWithinFrame, masked_dots, Painter, paints_by, paints_of, picture, Plane, planes_dots, planes_of, Scene, view_drawsegs, view_entries, view_events, view_over, view_paints, view_planes, view_steps, ViewShape, ViewValue, walls_dots, walls_of}
+use Rattle.picture_rules.proofs.Common.{[], All, AllPass, ap, arith, Bor, Err, get_or, IfErr, IfSome, IsErrAnd, length, length-replicate, List, None, Ok, OnOk, Option, refl, replicate, Result, Some, subst, suc, sym, zero, ℕ, ◌++◌, ◌∙◌, ◌≡◌, ◌≤◌}
+use Rattle.frame_core.specs.Rules.{AreInView, Dot, FRAME_CELLS, FRAME_HEIGHT, Fault, FaultsRose, FitsFrame, Heap, IsWithinFrame, Limits, OverLimit, Painter, Plane, Scene, SceneValue, ShelfView, SpriteEntry, ViewShape, ViewValue, draw_order, lump_bytes, masked_dots, paints_by, paints_of, picture, planes_dots, planes_of, view_drawsegs, view_entries, view_events, view_over, view_paints, view_planes, view_steps, walls_dots, walls_of}
 use Rattle.pixel_strips.specs.Canvases.{CanvasView, marked_by_colour, placed_at}
 use Rattle.pixel_strips.specs.Dotted.{HasDots}
 use Rattle.texture_build.specs.DirectoryView.{DirectoryView}
-use Rattle.picture_rules.specs.declared.sprite.SpriteEntry.{SpriteEntry}
 use Rattle.vissprites.specs.Bounds.{lies_within}
 use Rattle.vissprites.proofs.BoundLemmas.{draw_order-all}
+use Rattle.texture_build.specs.Draws.{HoldsArt}
+use Rattle.texture_build.specs.Views.{TexturesView}
 use Rattle.texture_build.specs.Paints.{PaintState, PaintTools, Paints, paint_state}
 use Rattle.texture_build.proofs.PaintLemmas.{paints-same, paints-then}
 use Rattle.sound_scene.specs.Sound.{SoundValue}
-use Rattle.picture_rules.specs.declared.Limits.{Limits}
-use Rattle.picture_rules.specs.declared.OverLimit.{OverLimit}
 use Rattle.picture_rules.proofs.FrameLemmas.{frame_of-put_dots, in_view-append}
 use Rattle.frame_core.specs.declared.bench.Bench.{Bench}
 use Rattle.frame_core.specs.declared.fault.ViewFault.{ViewFault}
@@ -155,3 +152,20 @@ unfolding picture
 pictured v scene old now (Ok x) frame cleared inside dots =
     dots.cells ∙ frame_of-put_dots v.shape (view_paints v scene) old.cells (fits_frame v.shape frame) inside (as_long FRAME_CELLS old.cells cleared) (λ cell. zero_cell FRAME_CELLS old.cells cell cleared)
 pictured v scene old now (Err e) frame cleared inside dots = tt
+
+-- what is told of a shelf and a cache that were lent is told of what came back
+pub holds-back : {S : Type 0} {t : TexturesView} {dir : DirectoryView} {contents : List (List ℕ)} {colormap count : ℕ} (view : S → ShelfView) (back shelf : S) (z cache : Heap) → back ≡ shelf → z ≡ cache → HoldsArt (view shelf) dir t contents colormap count cache → HoldsArt (view back) dir t contents colormap count z
+holds-back {t = t} {dir} {contents} {colormap} {count} view back shelf z cache e f h =
+    subst (λ (x : Heap). HoldsArt (view back) dir t contents colormap count x) (sym f) (subst (λ s. HoldsArt (view s) dir t contents colormap count cache) (sym e) h)
+
+pub steady-back : {S : Type 0} (view : S → ShelfView) (old back shelf : S) → back ≡ shelf → (FaultsRose (view old).faults (view back).faults → ⊥) → FaultsRose (view old).faults (view shelf).faults → ⊥
+steady-back view old back shelf e none = subst (λ s. FaultsRose (view old).faults (view s).faults → ⊥) e none
+
+-- and of a canvas, of the same view by another word
+pub paints-back : {S C A : Type 0} {mark : Painter → ℕ → ℕ} {first : ShelfView} {heap : Heap} {result : Result A ViewFault} (shelf : S → ShelfView) (canvas : C → CanvasView) (old : CanvasView) (v w : ViewValue) (s : SceneValue) (dir : DirectoryView)
+    (a b : S) (y z : Heap) (d e : C) → v ≡ w → a ≡ b → y ≡ z → d ≡ e → PaintsView mark (view_scene v s dir) (view_paints v) (paint_state first heap (placed_at v.shape.left v.shape.top old)) (paint_state (shelf b) z (canvas e)) result →
+    PaintsView mark (view_scene w s dir) (view_paints w) (paint_state first heap (placed_at w.shape.left w.shape.top old)) (paint_state (shelf a) y (canvas d)) result
+paints-back {mark = mark} {first} {heap} {result} shelf canvas old v w s dir a b y z d e same p q r paints =
+    let state : paint_state (shelf b) z (canvas e) ≡ paint_state (shelf a) y (canvas d) = λ i. paint_state (shelf (sym p i)) (sym q i) (canvas (sym r i)) in
+    subst (λ (x : ViewValue). PaintsView mark (view_scene x s dir) (view_paints x) (paint_state first heap (placed_at x.shape.left x.shape.top old)) (paint_state (shelf a) y (canvas d)) result) same
+    (subst (λ (t : PaintState). PaintsView mark (view_scene v s dir) (view_paints v) (paint_state first heap (placed_at v.shape.left v.shape.top old)) t result) state paints)

@@ -1,18 +1,6 @@
 -- Laws of the list of a view: it is that of the events after one leaf more, and after one fragment more.
 use Rattle.picture_rules.proofs.Common.{[], ap, append-nil, append_assoc, arith, Bool, cases_lt, cond, false, filter, inl, inr, length, length-map, length-zip, length_push, List, map, map-append, min, nat_lt, nat_tests, None, Option, refl, replicate, Some, subst, sym, true, zip, ℕ, ℤ, ◌++◌, ◌+◌, ◌-◌, ◌<◌, ◌∙◌, ◌∷◌, ◌≡◌, ◌≤◌}
-use Rattle.picture_rules.specs.Words.{add_entry, count_shown, drawsegs, entry_for, entry_of, entry_within, Event, event_planes, first_mentions, FragmentEvent, is_entered, is_seen, is_shown, leaf_at, leaf_fragments, leaf_sector, LeafEvent, leaves_entered, listed_fragment, listed_sprite, maker_of, makes_entry, MAX_DRAWSEGS, misses_view, picture_first, picture_last, placed_of, PlacedThing, Plane, plane_makers, planes_made, planes_of, project, Scene, sectors_entered, shown_things, view_entries, view_planes, ViewValue, with_entry, with_sectors, with_seen, with_shape, with_thing, with_things}
-use Rattle.scene_rules.specs.Words.{SceneValue}
-use Rattle.picture_rules.specs.declared.Limits.{Limits}
-use Rattle.picture_rules.specs.declared.list.TheConstants.{MOST_TOLD}
-use Rattle.picture_rules.specs.declared.list.ListedFragment.{ListedFragment}
-use Rattle.picture_rules.specs.declared.list.ListedSprite.{ListedSprite}
-use Rattle.picture_rules.specs.declared.list.PlaneMaker.{PlaneMaker}
-use Rattle.picture_rules.specs.declared.list.PlaneMaker.TheVariants.{Leaf, Fragment}
-use Rattle.picture_rules.specs.declared.sprite.TheConstants.{MAX_VISSPRITES}
-use Rattle.picture_rules.specs.declared.sprite.Placed.{Placed}
-use Rattle.picture_rules.specs.declared.sprite.Seen.{Seen}
-use Rattle.picture_rules.specs.declared.sprite.Shape5.{Shape5}
-use Rattle.picture_rules.specs.declared.sprite.SpriteEntry.{SpriteEntry}
+use Rattle.frame_core.specs.Rules.{Event, Fragment, FragmentEvent, Leaf, LeafEvent, Limits, ListedFragment, ListedSprite, MAX_DRAWSEGS, MAX_VISSPRITES, MOST_TOLD, Placed, PlacedThing, Plane, PlaneMaker, Scene, SceneValue, Seen, Shape5, SpriteEntry, ViewValue, add_entry, count_shown, drawsegs, entry_for, entry_of, entry_within, event_planes, first_mentions, is_entered, is_seen, is_shown, leaf_at, leaf_fragments, leaf_sector, leaves_entered, listed_fragment, listed_sprite, maker_of, makes_entry, misses_view, picture_first, picture_last, placed_of, plane_makers, planes_made, planes_of, project, sectors_entered, shown_things, view_entries, view_planes, with_entry, with_sectors, with_seen, with_shape, with_thing, with_things}
 use Rattle.picture_rules.proofs.ListLemmas.{all_fragments-fragment, all_fragments-leaf, fragments-full, fragments-leaf, fragments-room, plane_makers-count, plane_makers-more, plane_makers-none, shown_things-again, shown_things-fragment, shown_things-new, shown_things-none, told-more}
 use Rattle.picture_rules.proofs.ThingLemmas.{view_entries-again, view_entries-fragment, view_entries-new}
 use Rattle.frame_core.specs.declared.bench.Bench.{Bench}
@@ -171,10 +159,6 @@ entered_same v scene false sector list = sprites_same v scene sector list (scene
 makers_sprites : (entries : List SpriteEntry) (things : List PlacedThing) (list : WalkListValue) (maker : PlaneMaker) (planes : ℕ) → HasSprites entries things list → HasSprites entries things (with_makers list maker planes)
 unfolding with_makers
 makers_sprites entries things list maker planes h = record { count = h.count; sprites = h.sprites; all = h.all }
-
-fragment_sprites : (entries : List SpriteEntry) (things : List PlacedThing) (list : WalkListValue) (f : ListedFragment) → HasSprites entries things list → HasSprites entries things (with_fragment list f)
-unfolding with_fragment
-fragment_sprites entries things list f h = record { count = h.count; sprites = h.sprites; all = h.all }
 
 -- the makers with those of one event more
 makers_more : (v : ViewValue) (scene : Scene) (es : List Event) (e : Event) (list : WalkListValue) (maker : PlaneMaker) (planes : ℕ) → list.makers ≡ plane_makers v scene es → maker ≡ maker_of (length (drawsegs es)) e →

@@ -1,12 +1,8 @@
 -- Laws of a bench as a list of events makes it: a fragment more.
 use Rattle.picture_rules.proofs.Common.{[], All, All-push, ap, append-nil, arith, cases_lt, Err, inl, inr, length, length-append, length-map, List, list_any, map, None, Ok, OnOk, Option, refl, Result, subst, suc, sym, ℕ, ◌++◌, ◌+◌, ◌<◌, ◌==◌, ◌∙◌, ◌∷◌, ◌≡◌, ◌≤◌}
-use Rattle.picture_rules.specs.Words.{after_event, drawsegs, Event, facts_of, fragment_wall, FragmentEvent, FRAME_HEIGHT, is_entered, last_leaf, leaf_sector, leaf_surface, leaves_entered, MAX_DRAWSEGS, notes_from, openings_after, openings_list, openings_of, openings_past, Plane, PlanesNow, saved_by, Scene, seg_at, Step, steps_over, surface_at, view_notes, view_steps, ViewValue, Wall, wall_of, wall_step, walls_of}
+use Rattle.frame_core.specs.Rules.{Event, FRAME_HEIGHT, FragmentEvent, Limits, MAX_DRAWSEGS, OverLimit, Plane, PlanesNow, Scene, SceneValue, Step, ViewValue, Wall, WallFacts, after_event, drawsegs, facts_of, fragment_wall, is_entered, last_leaf, leaf_sector, leaf_surface, leaves_entered, notes_from, openings_after, openings_list, openings_of, openings_past, saved_by, seg_at, steps_over, surface_at, view_notes, view_steps, wall_of, wall_step, walls_of}
 use Rattle.picture_rules.proofs.Laws.{drawsegs-within, last_leaf-append, leaves_entered-append}
-use Rattle.picture_rules.specs.declared.wall.WallFacts.{WallFacts}
 use Rattle.picture_rules.proofs.wall.NoteLemmas.{length-saved_openings, openings_list-more}
-use Rattle.scene_rules.specs.Words.{SceneValue}
-use Rattle.picture_rules.specs.declared.Limits.{Limits}
-use Rattle.picture_rules.specs.declared.OverLimit.{OverLimit}
 use Rattle.picture_rules.proofs.ThingLemmas.{view_entries-fragment}
 use Rattle.visplanes.specs.Planes.{PlanesView}
 use Rattle.wall_columns.specs.Built.{IsBuilt, limits_of, step_of_wall, step_over, with_wall}

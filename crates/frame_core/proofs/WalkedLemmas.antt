@@ -1,12 +1,7 @@
 -- Laws of a bench as a list of events makes it: no event, and a leaf more.
 use Rattle.picture_rules.proofs.Common.{[], All, All-nil, All-push, AllPass, ap, Bool, eqb-true, Err, false, IsErrAnd, length, List, list_any, list_any-append, map, map-append, None, Ok, Option, or-false, refl, Result, subst, sym, true, ℕ, ◌++◌, ◌<◌, ◌==◌, ◌||◌, ◌∙◌, ◌∷◌, ◌≡◌}
-use Rattle.picture_rules.specs.Words.{after_event, ceiling_key, Event, first_mentions, floor_key, is_entered, last_leaf, leaf_at, leaf_sector, leaf_step, leaf_surface, LeafEvent, leaves_entered, no_planes, openings_list, openings_past, Plane, PlanesNow, saved_from, Scene, sectors_entered, Step, steps_over, surface_at, view_entries, view_steps, ViewValue, Wall, walls_of, with_sectors}
-use Rattle.art_rules.specs.Words.{book_lumps}
+use Rattle.frame_core.specs.Rules.{Event, LeafEvent, Limits, Plane, PlaneKey, PlanesNow, Scene, SceneValue, SpriteEntry, Step, ViewValue, Wall, after_event, book_lumps, ceiling_key, first_mentions, floor_key, is_entered, last_leaf, leaf_at, leaf_sector, leaf_step, leaf_surface, leaves_entered, no_planes, openings_list, openings_past, saved_from, sectors_entered, steps_over, surface_at, view_entries, view_steps, walls_of, with_sectors}
 use Rattle.picture_rules.proofs.Laws.{last_leaf-append, leaves_entered-append}
-use Rattle.picture_rules.specs.declared.plane.PlaneKey.{PlaneKey}
-use Rattle.picture_rules.specs.declared.sprite.SpriteEntry.{SpriteEntry}
-use Rattle.scene_rules.specs.Words.{SceneValue}
-use Rattle.picture_rules.specs.declared.Limits.{Limits}
 use Rattle.picture_rules.proofs.ThingLemmas.{view_entries-again, view_entries-new}
 use Rattle.visplanes.specs.Planes.{PlanesView}
 use Rattle.vissprites.specs.Bounds.{has_lump_below, lies_within}

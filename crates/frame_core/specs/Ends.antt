@@ -1,11 +1,8 @@
 -- How a call that draws a view ends: within the limits or past one, and in a zone that is large enough for the scene.
 use Rattle.std.specs.Prelude.{◌≡◌, ◌≤◌, ℕ, List, None, Some, IfErr, IfSome, IsSome, OnOk, Result}
-use Rattle.art_rules.specs.Words.{FaultsRose, lump_at, ShelfView}
+use Rattle.frame_core.specs.Rules.{FaultsRose, Heap, Limits, SceneValue, ShelfView, ViewValue, art_of, enough, lump_at, view_over}
 use Rattle.texture_build.specs.Calls.{IfFull}
-use Rattle.scene_rules.specs.Words.{art_of, enough, Heap, SceneValue}
-use Rattle.picture_rules.specs.Words.{view_over, ViewValue}
 use Rattle.texture_build.specs.DirectoryView.{DirectoryView}
-use Rattle.picture_rules.specs.declared.Limits.{Limits}
 use Rattle.texture_build.specs.Draws.{HoldsArt}
 use Rattle.sound_scene.specs.Sound.{textures_view}
 use Rattle.frame_core.specs.declared.fault.ViewFault.{ViewFault}

@@ -8,3 +8,4 @@ pub mod Painters
 pub mod ViewLists
 pub mod Listers
 pub mod Workshops
+pub mod Rules

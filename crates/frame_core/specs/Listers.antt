@@ -1,8 +1,6 @@
 -- Who lists a view while it is walked: the lister by its values, and what it has made of the events.
 use Rattle.std.specs.Prelude.{◌≡◌, ℕ, List, OnOk, Result}
-use Rattle.picture_rules.specs.Words.{Event, view_events, ViewValue}
-use Rattle.scene_rules.specs.Words.{SceneValue}
-use Rattle.picture_rules.specs.declared.OverLimit.{OverLimit}
+use Rattle.frame_core.specs.Rules.{Event, OverLimit, SceneValue, ViewValue, view_events}
 use Rattle.frame_core.specs.Painters.{CounterValue, HasCounted}
 use Rattle.frame_core.specs.Scenes.{lists_of, scene_of}
 use Rattle.frame_core.specs.ViewLists.{HasListed, WalkListValue}

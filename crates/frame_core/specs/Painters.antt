@@ -1,9 +1,6 @@
 -- Who is given the walk of a view: the painter and the counter by their values, and what they have made of the events.
-use Rattle.std.specs.Prelude.{◌≡◌, ℕ, List, [], Some, IfSome, IfErr, OnOk, Result}
-use Rattle.picture_rules.specs.Words.{Dot, Event, Painter, Scene, steps_over, view_events, view_steps, ViewValue, walls_dots, walls_of}
-use Rattle.scene_rules.specs.Words.{SceneValue}
-use Rattle.picture_rules.specs.declared.Limits.{Limits}
-use Rattle.picture_rules.specs.declared.OverLimit.{OverLimit}
+use Rattle.std.specs.Prelude.{◌≡◌, ℕ, List, [], Some, IfSome, IfErr, length, OnOk, Result}
+use Rattle.frame_core.specs.Rules.{Counts, Dot, Event, Limits, OverLimit, Painter, Scene, SceneValue, ViewValue, steps_over, view_events, view_steps, walls_dots, walls_of}
 use Rattle.pixel_strips.specs.Canvases.{CanvasView}
 use Rattle.pixel_strips.specs.Standing.{StandsInFrame}
 use Rattle.texture_build.specs.Paints.{PaintState}
@@ -18,6 +15,15 @@ use Rattle.frame_core.specs.Walked.{CanTake, HasWalked, IsEventIn}
 -- how much a bench has room for
 abbrev pub limits_in : Bench → Limits
 limits_in b = limits_of b.walls b.planes
+
+-- what a bench counts
+abbrev pub counts_in : Bench → Counts
+counts_in b = record {
+  planes = length b.planes.planes;
+  openings = length b.walls.openings;
+  fragments = length b.walls.notes;
+  sprites = length b.sprites;
+}
 
 -- a painter: what stays, what is built, what is written, and the names of its references
 pub record PainterNames : Type 0 where

@@ -1,10 +1,6 @@
 -- What a picture is made from: of a scene that passed its audit, and of the bytes of lumps.
 use Rattle.std.specs.Prelude.{ℕ, List, option_map, unwrap_or}
-use Rattle.picture_rules.specs.Words.{LevelLists, Scene}
-use Rattle.art_rules.specs.declared.shapes.Shape.{Shape}
-use Rattle.art_rules.specs.Words.{picked, texture_at}
-use Rattle.picture_rules.specs.declared.sprite.Shape5.{Shape5}
-use Rattle.scene_rules.specs.Words.{SceneValue, surfaces_of, things_of}
+use Rattle.frame_core.specs.Rules.{LevelLists, Scene, SceneValue, Shape, Shape5, picked, surfaces_of, texture_at, things_of}
 use Rattle.texture_build.specs.Arts.{view_art}
 use Rattle.sound_scene.specs.Sound.{middles_of, textures_view}
 

@@ -1,18 +1,7 @@
 -- The list of a view as a walk makes it: what is listed with each event, and what a list is that the events of a view are in.
 use Rattle.std.specs.Prelude.{◌≡◌, ℕ, ◌+◌, ◌-◌, min, nat_lt, Bool, true, false, cond, List, [], ◌∷◌, ◌++◌, length, map, replicate, Option, Some, None, option_map}
 use Rattle.std.specs.List.{zip}
-use Rattle.picture_rules.specs.Words.{count_shown, drawsegs, entry_for, Event, leaf_fragments, listed_fragment, listed_plane, listed_sprite, MAX_DRAWSEGS, placed_of, PlacedThing, Plane, plane_makers, project, Scene, shown_things, view_entries, ViewListValue, ViewValue}
-use Rattle.picture_rules.specs.declared.list.TheConstants.{MOST_TOLD}
-use Rattle.picture_rules.specs.declared.list.ListedFragment.{ListedFragment}
-use Rattle.picture_rules.specs.declared.list.ListedPlane.{ListedPlane}
-use Rattle.picture_rules.specs.declared.list.ListedSprite.{ListedSprite}
-use Rattle.picture_rules.specs.declared.list.PlaneMaker.{PlaneMaker}
-use Rattle.picture_rules.specs.declared.list.PlaneMaker.TheVariants.{Leaf, Fragment}
-use Rattle.picture_rules.specs.declared.sprite.TheConstants.{MAX_VISSPRITES}
-use Rattle.picture_rules.specs.declared.sprite.Placed.{Placed}
-use Rattle.picture_rules.specs.declared.sprite.Seen.{Seen}
-use Rattle.picture_rules.specs.declared.sprite.Shape5.{Shape5}
-use Rattle.picture_rules.specs.declared.sprite.SpriteEntry.{SpriteEntry}
+use Rattle.frame_core.specs.Rules.{Event, Fragment, Leaf, ListedFragment, ListedPlane, ListedSprite, MAX_DRAWSEGS, MAX_VISSPRITES, MOST_TOLD, Placed, PlacedThing, Plane, PlaneMaker, Scene, Seen, Shape5, SpriteEntry, ViewListValue, ViewValue, count_shown, drawsegs, entry_for, leaf_fragments, listed_fragment, listed_plane, listed_sprite, placed_of, plane_makers, project, shown_things, view_entries}
 
 -- what is listed while a view is walked: its planes are known only when the walk has ended
 pub record WalkListValue : Type 0 where

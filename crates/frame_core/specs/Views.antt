@@ -1,12 +1,10 @@
 -- What is drawn in a view, what it is drawn with, and what a part of it paints.
 use Rattle.std.specs.Prelude.{◌≡◌, ◌≤◌, ◌<◌, ◌||◌, ◌==◌, ◌⊎◌, ℕ, true, List, All, IfSome, IsSome, Result, length, ⊤}
 use Rattle.std.specs.List.{list_any}
-use Rattle.art_rules.specs.Words.{book_lumps, Lump, lump_bytes, ShelfView}
-use Rattle.scene_rules.specs.Words.{has_flat, Heap, SceneValue, surfaces_of}
-use Rattle.picture_rules.specs.Words.{Dot, Painter, Scene, SKY_FLAT, Surface, ViewValue}
+use Rattle.frame_core.specs.Rules.{Dot, Heap, Painter, SKY_FLAT, Scene, SceneValue, SectorFlats, ShelfView, Surface, ViewValue, book_lumps, has_flat, lump_bytes, surfaces_of}
+use Rattle.art_rules.specs.Words.{Lump}
 use Rattle.texture_build.specs.DirectoryView.{DirectoryView}
 use Rattle.scene_rules.specs.declared.Flat.TheVariants.{Sky}
-use Rattle.scene_rules.specs.declared.SectorFlats.{SectorFlats}
 use Rattle.pixel_strips.specs.Canvases.{CanvasView, placed_at}
 use Rattle.texture_build.specs.Views.{AllThere, IsPrepared}
 use Rattle.texture_build.specs.Paints.{PaintState, PaintTools, Paints, paint_state, paint_tools}

@@ -1,13 +1,8 @@
 -- The walls, planes and vissprites of a view as a list of events makes them.
 use Rattle.std.specs.Prelude.{◌≡◌, ◌≤◌, ◌<◌, ◌⊎◌, ◌||◌, ℕ, Bool, true, false, nat_lt, cond, List, [], All, None, length, map}
 use Rattle.std.specs.List.{AllPass}
-use Rattle.picture_rules.specs.Words.{after_events, Dot, Event, facts_of, FragmentEvent, holds, is_entered, is_sky, IsAmongPlanes, last_leaf, leaf_sector, leaf_surface, LeafEvent, MAX_DRAWSEGS, no_planes, openings_after, Plane, PlanesNow, Scene, seg_at, Step, steps_over, Surface, surface_at, view_entries, view_steps, ViewShape, ViewValue, Wall, wall_dots, wall_of, walls_of, with_things}
-use Rattle.art_rules.specs.Words.{book_lumps}
-use Rattle.picture_rules.specs.declared.plane.Flat4.{Flat4}
+use Rattle.frame_core.specs.Rules.{Dot, Event, Flat4, FragmentEvent, IsAmongPlanes, LeafEvent, Limits, MAX_DRAWSEGS, Plane, PlanesNow, Scene, SceneValue, SpriteEntry, Step, Surface, ViewShape, ViewValue, Wall, after_events, book_lumps, facts_of, holds, is_entered, is_sky, last_leaf, leaf_sector, leaf_surface, no_planes, openings_after, seg_at, steps_over, surface_at, view_entries, view_steps, wall_dots, wall_of, walls_of, with_things}
 use Rattle.picture_rules.specs.declared.plane.Flat4.TheVariants.{Sky, Lump}
-use Rattle.picture_rules.specs.declared.sprite.SpriteEntry.{SpriteEntry}
-use Rattle.scene_rules.specs.Words.{SceneValue}
-use Rattle.picture_rules.specs.declared.Limits.{Limits}
 use Rattle.vissprites.specs.Bounds.{lies_within, has_lump_below}
 use Rattle.wall_columns.specs.Built.{IsBuilt, limits_of, with_wall}
 use Rattle.frame_core.specs.declared.bench.Bench.{Bench}

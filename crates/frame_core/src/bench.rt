@@ -5,12 +5,8 @@
 // `R_Subsector`, r_bsp.c.
 ghost use Rattle.std.specs.Prelude.{◌≡◌, ◌≤◌, ◌<◌, ◌+◌, ◌++◌, ◌∷◌, ◌==◌, ℕ, true, false, List, [], All, IfOk, IfErr, IfSome, OnOk, length, Some};
 ghost use Rattle.std.specs.List.{AllPass};
-ghost use Rattle.picture_rules.specs.Words.{ceiling_key, Event, floor_key, FragmentEvent, FRAME_HEIGHT, leaf_at, LeafEvent, steps_over, surface_at, view_steps};
-ghost use Rattle.art_rules.specs.Words.{book_lumps};
-ghost use Rattle.picture_rules.specs.declared.plane.TheConstants.{MOST_VISPLANES};
-ghost use Rattle.picture_rules.specs.declared.Limits.{Limits};
+ghost use Rattle.frame_core.specs.Rules.{Event, FRAME_HEIGHT, FragmentEvent, LeafEvent, Limits, MAX_DRAWSEGS, MOST_OPENINGS, MOST_VISPLANES, book_lumps, ceiling_key, floor_key, leaf_at, steps_over, surface_at, view_steps};
 ghost use Rattle.vissprites.specs.Bounds.{lies_within, has_lump_below};
-ghost use Rattle.picture_rules.specs.declared.wall.TheConstants.{MOST_OPENINGS};
 ghost use Rattle.wall_columns.specs.Built.{limits_of};
 ghost use Rattle.wall_columns.specs.Faults.{limit_of_result, IsLimitFault};
 ghost use Rattle.texture_build.specs.Caches.{KeepsCounts};
@@ -19,7 +15,7 @@ ghost use Rattle.frame_core.specs.Entered.{has_entered};
 ghost use Rattle.frame_core.specs.Scenes.{lists_of, scene_of};
 ghost use Rattle.frame_core.specs.Faults.{limit_of_view};
 ghost use Rattle.frame_core.specs.Views.{AreSameViewTools, CanCount, CanDrawTools, PaintsView, tools_scene, tools_state};
-ghost use Rattle.frame_core.specs.Painters.{IsPlacedIn};
+ghost use Rattle.frame_core.specs.Painters.{IsPlacedIn, counts_in};
 ghost use Rattle.frame_core.specs.Walked.{CanTake, HasWalked, IsEventIn, next_dots, with_sector};
 
 use crate::entered::Entered;
@@ -29,7 +25,7 @@ use crate::keys::{ceiling_key, floor_key};
 use crate::things::add_things;
 use crate::tools::ViewTools;
 use art_rules::Shelf;
-use picture_rules::{FRAME_HEIGHT, Limits};
+use picture_rules::{Counts, FRAME_HEIGHT, Limits};
 use pixel_strips::Canvas;
 use sound_scene::SoundScene;
 use std::alloc::{AllocError, Global};
@@ -62,6 +58,20 @@ impl Bench {
             entered: Entered::new(alloc)?,
             sector: 0,
         })
+    }
+
+    /// What it counts.
+    pub fn counts(&self) -> Counts
+        requires { length self.now.walls.notes ≤ MAX_DRAWSEGS }
+        ensures value { result ≡ counts_in self.now }
+        ensures most { length self.now.planes.planes ≤ MOST_VISPLANES }
+    {
+        Counts {
+            planes: self.planes.count(),
+            openings: self.walls.openings().len() as u32,
+            fragments: self.walls.notes().len() as u32,
+            sprites: self.sprites.count(),
+        }
     }
 
     /// Leaves nothing of the last view: no event has come.

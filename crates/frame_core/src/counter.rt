@@ -10,7 +10,8 @@ ghost use Rattle.std.specs.Prelude.{◌≡◌, ℕ, List, IfErr, OnOk, Some};
 
 use crate::bench::Bench;
 use crate::fault::over_limit;
-use node_walk::{Cover, Visitor, WalkScene, walk};
+use crate::walked::walked_scene;
+use node_walk::{Cover, Visitor, walk};
 use picture_rules::OverLimit;
 use sound_scene::SoundScene;
 use view_frame::View;
@@ -60,31 +61,6 @@ impl<'a> Visitor for ViewCounter<'a> {
     }
 }
 
-// Walks the level of the scene for a counter that no event was given.
-fn walk_counter(counter: &mut ViewCounter<'_>) -> Result<(), OverLimit>
-    requires scene { CanCount counter.old.scene.now.scene }
-    requires takes { CanTake counter.old.view.now counter.old.scene.now.scene
-        counter.old.bench.now }
-    requires walked { HasWalkedNothing counter.old.view.now counter.old.scene.now.scene
-        counter.old.bench.now }
-    ensures same_bench { counter.new.bench.ghost_name ≡ counter.old.bench.ghost_name }
-    ensures walked { OnOk result (HasWalkedView counter.old.view.now
-        counter.old.scene.now.scene counter.new.bench.now) }
-    ensures over { (bytes : ℕ → List ℕ) → IfErr result (λ over.
-        view_over counter.old.view.now (scene_of bytes counter.old.scene.now.scene)
-        (limits_in counter.old.bench.now) ≡ Some over) }
-    ensures limits { limits_in counter.new.bench.now ≡ limits_in counter.old.bench.now }
-{
-    let walked = WalkScene {
-        level: counter.scene.level(),
-        surfaces: counter.scene.surfaces(),
-        middles: counter.scene.middles(),
-    };
-    let view = counter.view;
-    let mut cover = Cover::new(view.shape().width);
-    walk(&walked, view, &mut cover, counter)
-}
-
 /// Counts the walls of a view, in a bench that was started for it.
 ///
 /// Errors: the first count of the view that passes its limit.
@@ -101,6 +77,8 @@ pub(crate) fn count_walls(
         view_over view.now (scene_of bytes scene.now.scene) (limits_in bench.old) ≡ Some over) }
     ensures limits { limits_in bench.new ≡ limits_in bench.old }
 {
+    let walked = walked_scene(scene);
+    let mut cover = Cover::new(view.shape().width);
     let mut counter = ViewCounter { bench, scene, view };
-    walk_counter(&mut counter)
+    walk(&walked, view, &mut cover, &mut counter)
 }

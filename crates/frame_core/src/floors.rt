@@ -13,7 +13,8 @@ use crate::fault::ViewFault;
 use crate::tools::ViewTools;
 use art_rules::Shelf;
 use pixel_strips::Canvas;
-use plane_draw::{PlaneTools, draw_planes};
+use plane_draw::{PlaneScene, draw_planes};
+use texture_build::Hands;
 
 /// Draws the planes of a view, in order of making, where the walk is in the bench.
 ///
@@ -32,16 +33,19 @@ pub(crate) fn draw_floors<S: Shelf, C: Canvas>(
         (view_steps v scene (view_events v (lists_of tools.old.scene.now.scene)))))
         (tools_state S.view C.view tools.old) (tools_state S.view C.view tools.new) result }
 {
-    let mut planes = PlaneTools {
+    let scene = PlaneScene {
         view: tools.view,
         textures: tools.scene.textures(),
         sky: tools.scene.sky(),
-        cache: &mut *tools.cache,
         dir: tools.dir,
-        shelf: &mut *tools.shelf,
-        canvas: &mut *tools.canvas,
+        planes: &bench.planes,
         colormap: tools.scene.colormap(),
     };
-    draw_planes(&mut planes, &bench.planes)?;
+    let mut hands = Hands {
+        cache: &mut *tools.cache,
+        shelf: &mut *tools.shelf,
+        canvas: &mut *tools.canvas,
+    };
+    draw_planes(&scene, &mut hands)?;
     Ok(())
 }

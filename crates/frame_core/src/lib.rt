@@ -24,6 +24,7 @@ mod things;
 mod tools;
 mod view;
 mod walk_list;
+mod walked;
 mod workshop;
 
 pub use fault::ViewFault;

@@ -5,13 +5,12 @@ ghost use Rattle.frame_core.specs.Ends.{EndsWithin};
 ghost use Rattle.frame_core.specs.Scenes.{scene_of};
 ghost use Rattle.frame_core.specs.ViewLists.{empty_list, listed_planes};
 ghost use Rattle.frame_core.specs.Views.{CanCount};
-ghost use Rattle.picture_rules.specs.Words.{listed_plane, marked_columns, view_counts, view_list, view_of, view_over};
-ghost use Rattle.picture_rules.specs.declared.plane.TheConstants.{MOST_VISPLANES};
-ghost use Rattle.std.specs.Prelude.{◌≡◌, ◌≤◌, ◌<◌, ◌+◌, ◌++◌, ◌∷◌, [], ℕ, List, Some, IfErr, IfOk, OnOk, length, vec_len, vec_capacity};
+ghost use Rattle.frame_core.specs.Rules.{MOST_VISPLANES, listed_plane, marked_columns, view_counts, view_list, view_of, view_over};
+ghost use Rattle.std.specs.Prelude.{◌≡◌, ◌≤◌, ◌<◌, ℕ, List, Some, IfErr, IfOk, OnOk, length, vec_capacity};
 ghost use Rattle.visplanes.specs.Planes.{plane_at};
 
 use crate::lister::list_walls;
-use crate::walk_list::WalkList;
+use crate::walk_list::{WalkList, push_within};
 use crate::workshop::Workshop;
 use picture_rules::{
     Counts, Eye, FRAME_WIDTH, ListedFragment, ListedPlane, ListedSprite, MOST_VISPLANES, OverLimit,
@@ -36,8 +35,7 @@ pub struct ViewList {
 
 impl Model for ViewList {
     ghost use Rattle.std.specs.Prelude.{◌≤◌, vec_capacity};
-    ghost use Rattle.picture_rules.specs.declared.plane.TheConstants.{MOST_VISPLANES};
-    ghost use Rattle.picture_rules.specs.Words.{ViewListValue};
+    ghost use Rattle.frame_core.specs.Rules.{MOST_VISPLANES, ViewListValue};
 
     ghost Value = { ViewListValue };
 
@@ -139,14 +137,9 @@ pub fn list_view(
     bench.start(scene, &view);
     list.walk.clear();
     list_walls(scene, &view, bench, &mut list.walk)?;
-    let planes = bench.planes.count();
+    let counts = bench.counts();
     list_planes(&bench.planes, list.walk.makers(), &mut list.planes);
-    Ok(Counts {
-        planes,
-        openings: bench.walls.openings().len() as u32,
-        fragments: bench.walls.notes().len() as u32,
-        sprites: bench.sprites.count(),
-    })
+    Ok(counts)
 }
 
 // Lists the planes with their makers, in order of making.
@@ -160,7 +153,7 @@ fn list_planes(planes: &Planes, makers: &[PlaneMaker], listed: &mut Vec<ListedPl
     listed.clear();
     for (index, maker) in makers.iter().enumerate() {
         let plane = listed_plane(planes, PlaneNo(index as u16), *maker);
-        push_plane(listed, plane);
+        push_within(listed, plane);
     }
 }
 
@@ -192,17 +185,4 @@ fn marked_columns(planes: &Planes, plane: PlaneNo) -> u16
         columns += 1;
     }
     columns
-}
-
-// One plane more, within the capacity.
-fn push_plane(listed: &mut Vec<ListedPlane>, plane: ListedPlane)
-    requires { vec_len listed.old < vec_capacity listed.old }
-    ensures items { listed.new.items ≡ listed.old.items ++ plane ∷ [] }
-    ensures count { vec_len listed.new ≡ vec_len listed.old + 1 }
-    ensures capacity { vec_capacity listed.old ≤ vec_capacity listed.new }
-{
-    match listed.push(plane) {
-        Ok(()) => {}
-        Err(_) => unreachable!(),
-    }
 }

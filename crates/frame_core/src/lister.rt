@@ -1,21 +1,21 @@
 // A view, listed as it is walked.
 //
 // Rules: `picture_rules`, Lists; `specs/Listers`. This project's own.
-ghost use Rattle.frame_core.specs.Listers.{IsListed, IsListedView};
+ghost use Rattle.frame_core.specs.Listers.{IsListedView};
 ghost use Rattle.frame_core.specs.Painters.{HasWalkedNothing, HasWalkedView, limits_in};
 ghost use Rattle.frame_core.specs.Scenes.{scene_of};
-ghost use Rattle.frame_core.specs.ViewLists.{list_leaf, nothing_listed};
+ghost use Rattle.frame_core.specs.ViewLists.{nothing_listed};
 ghost use Rattle.frame_core.specs.Views.{CanCount};
 ghost use Rattle.frame_core.specs.Walked.{CanTake};
 ghost use Rattle.picture_rules.specs.Words.{view_over};
-ghost use Rattle.picture_rules.specs.declared.plane.TheConstants.{MOST_VISPLANES};
-ghost use Rattle.std.specs.Prelude.{◌≡◌, ◌≤◌, ◌<◌, ℕ, List, IfErr, OnOk, Some, length};
+ghost use Rattle.std.specs.Prelude.{◌≡◌, ℕ, List, IfErr, OnOk, Some};
 
 use crate::bench::{Bench, sector_of};
 use crate::fault::over_limit;
 use crate::shown::list_entered;
 use crate::walk_list::WalkList;
-use node_walk::{Cover, Visitor, WalkScene, walk};
+use crate::walked::walked_scene;
+use node_walk::{Cover, Visitor, walk};
 use picture_rules::{ListedFragment, OverLimit, PlaneMaker};
 use sound_scene::SoundScene;
 use view_frame::View;
@@ -79,35 +79,6 @@ impl<'a> Visitor for ViewLister<'a> {
     }
 }
 
-// Walks the level of the scene for a lister that no event was given.
-fn walk_lister(lister: &mut ViewLister<'_>) -> Result<(), OverLimit>
-    requires scene { CanCount lister.old.scene.now.scene }
-    requires takes { CanTake lister.old.view.now lister.old.scene.now.scene
-        lister.old.bench.now }
-    requires walked { HasWalkedNothing lister.old.view.now lister.old.scene.now.scene
-        lister.old.bench.now }
-    requires empty { lister.old.list.now ≡ nothing_listed }
-    ensures same_bench { lister.new.bench.ghost_name ≡ lister.old.bench.ghost_name }
-    ensures same_list { lister.new.list.ghost_name ≡ lister.old.list.ghost_name }
-    ensures walked { OnOk result (HasWalkedView lister.old.view.now
-        lister.old.scene.now.scene lister.new.bench.now) }
-    ensures listed { OnOk result (IsListedView lister.old.view.now
-        lister.old.scene.now.scene lister.new.list.now) }
-    ensures over { (bytes : ℕ → List ℕ) → IfErr result (λ over.
-        view_over lister.old.view.now (scene_of bytes lister.old.scene.now.scene)
-        (limits_in lister.old.bench.now) ≡ Some over) }
-    ensures limits { limits_in lister.new.bench.now ≡ limits_in lister.old.bench.now }
-{
-    let walked = WalkScene {
-        level: lister.scene.level(),
-        surfaces: lister.scene.surfaces(),
-        middles: lister.scene.middles(),
-    };
-    let view = lister.view;
-    let mut cover = Cover::new(view.shape().width);
-    walk(&walked, view, &mut cover, lister)
-}
-
 /// Lists the walls, planes and vissprites of a view, in a bench that was started for it.
 ///
 /// Errors: the first count of the view that passes its limit. The list is not told then.
@@ -127,11 +98,13 @@ pub(crate) fn list_walls(
         view_over view.now (scene_of bytes scene.now.scene) (limits_in bench.old) ≡ Some over) }
     ensures limits { limits_in bench.new ≡ limits_in bench.old }
 {
+    let walked = walked_scene(scene);
+    let mut cover = Cover::new(view.shape().width);
     let mut lister = ViewLister {
         bench,
         list,
         scene,
         view,
     };
-    walk_lister(&mut lister)
+    walk(&walked, view, &mut cover, &mut lister)
 }

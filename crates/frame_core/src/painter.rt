@@ -3,18 +3,18 @@
 // Rules: `picture_rules`, Walls; `specs/Painters`. The original: `R_RenderBSPNode`, r_bsp.c.
 ghost use Rattle.std.specs.Prelude.{◌≡◌, OnOk};
 ghost use Rattle.picture_rules.specs.Words.{view_events};
-ghost use Rattle.texture_build.specs.Paints.{paint_state};
 ghost use Rattle.frame_core.specs.Ends.{EndsOver};
 ghost use Rattle.frame_core.specs.Scenes.{lists_of};
-ghost use Rattle.frame_core.specs.Views.{AreSameViewTools, CanDrawTools, CanDrawView, PaintsView, tools_scene, tools_state, view_scene};
+ghost use Rattle.frame_core.specs.Views.{AreSameViewTools, CanDrawTools, PaintsView, tools_scene, tools_state};
 ghost use Rattle.frame_core.specs.Walked.{CanTake};
 ghost use Rattle.frame_core.specs.Painters.{HasWalkedNothing, HasWalkedView, IsPlacedIn, drawn_walls, limits_in};
 
 use crate::bench::Bench;
 use crate::fault::ViewFault;
 use crate::tools::ViewTools;
+use crate::walked::walked_scene;
 use art_rules::Shelf;
-use node_walk::{Cover, Visitor, WalkScene, walk};
+use node_walk::{Cover, Visitor, walk};
 use pixel_strips::Canvas;
 use sound_scene::SoundScene;
 use texture_build::{Directory, LumpCache};
@@ -78,49 +78,6 @@ impl<'b, 'a, S: Shelf, C: Canvas> Visitor for ViewPainter<'b, 'a, S, C> {
     }
 }
 
-// Walks the level of the scene for a painter that no event was given.
-fn walk_painter<S: Shelf, C: Canvas>(
-    painter: &mut ViewPainter<'_, '_, S, C>,
-) -> Result<(), ViewFault>
-    requires drawable { CanDrawView painter.old.dir.now.lumps
-        painter.old.scene.now.scene painter.old.cache.now }
-    requires placed { IsPlacedIn painter.old.view.now
-        (C.view painter.old.canvas.now) }
-    requires takes { CanTake painter.old.view.now painter.old.scene.now.scene
-        painter.old.bench.now }
-    requires walked { HasWalkedNothing painter.old.view.now painter.old.scene.now.scene
-        painter.old.bench.now }
-    ensures same_bench { painter.new.bench.ghost_name ≡ painter.old.bench.ghost_name }
-    ensures same_cache { painter.new.cache.ghost_name ≡ painter.old.cache.ghost_name }
-    ensures same_shelf { painter.new.shelf.ghost_name ≡ painter.old.shelf.ghost_name }
-    ensures same_canvas { painter.new.canvas.ghost_name
-        ≡ painter.old.canvas.ghost_name }
-    ensures walked { OnOk result (HasWalkedView painter.old.view.now
-        painter.old.scene.now.scene painter.new.bench.now) }
-    ensures over { EndsOver painter.old.view.now painter.old.scene.now.scene
-        (limits_in painter.old.bench.now) result }
-    ensures paints { PaintsView C.mark
-        (view_scene painter.old.view.now painter.old.scene.now.scene
-        painter.old.dir.now)
-        (drawn_walls painter.old.view.now (view_events painter.old.view.now
-        (lists_of painter.old.scene.now.scene)))
-        (paint_state (S.view painter.old.shelf.now) painter.old.cache.now
-        (C.view painter.old.canvas.now))
-        (paint_state (S.view painter.new.shelf.now) painter.new.cache.now
-        (C.view painter.new.canvas.now)) result }
-    ensures limits { limits_in painter.new.bench.now ≡ limits_in painter.old.bench.now }
-{
-    let scene = painter.scene;
-    let view = painter.view;
-    let walked = WalkScene {
-        level: scene.level(),
-        surfaces: scene.surfaces(),
-        middles: scene.middles(),
-    };
-    let mut cover = Cover::new(view.shape().width);
-    walk(&walked, view, &mut cover, painter)
-}
-
 /// Draws the walls of a view, in a bench that was started for it.
 ///
 /// Errors: `Limit` exactly where a count of the view passes its limit before another fault comes;
@@ -145,14 +102,17 @@ pub(crate) fn draw_walls<S: Shelf, C: Canvas>(
         (tools_state S.view C.view tools.old) (tools_state S.view C.view tools.new) result }
     ensures limits { limits_in bench.new ≡ limits_in bench.old }
 {
+    let view = tools.view;
+    let walked = walked_scene(tools.scene);
+    let mut cover = Cover::new(view.shape().width);
     let mut painter = ViewPainter {
         bench,
         scene: tools.scene,
-        view: tools.view,
+        view,
         dir: tools.dir,
         cache: &mut *tools.cache,
         shelf: &mut *tools.shelf,
         canvas: &mut *tools.canvas,
     };
-    walk_painter(&mut painter)
+    walk(&walked, view, &mut cover, &mut painter)
 }

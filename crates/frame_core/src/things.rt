@@ -1,8 +1,6 @@
 // The things of a sector as vissprites: rules `picture_rules`, Things.
-ghost use Rattle.art_rules.specs.Words.{book_lumps};
+ghost use Rattle.frame_core.specs.Rules.{LIGHT_LEVELS, book_lumps, light_number, project, surface_at, things_of, with_seen, with_thing, with_things};
 ghost use Rattle.frame_core.specs.Scenes.{drawn_shape, lists_of, scene_of};
-ghost use Rattle.picture_rules.specs.Words.{LIGHT_LEVELS, light_number, project, surface_at, with_seen, with_thing, with_things};
-ghost use Rattle.scene_rules.specs.Words.{things_of};
 ghost use Rattle.std.specs.List.{AllPass};
 ghost use Rattle.std.specs.Prelude.{◌≡◌, ◌<◌, ℕ, List, All, Some, length, pos};
 ghost use Rattle.vissprites.specs.Bounds.{lies_within, has_lump_below};

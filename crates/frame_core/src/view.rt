@@ -6,8 +6,7 @@ ghost use Rattle.frame_core.specs.Faults.{view_fault};
 ghost use Rattle.frame_core.specs.Painters.{limits_in};
 ghost use Rattle.frame_core.specs.Scenes.{scene_of};
 ghost use Rattle.frame_core.specs.Views.{AreSameViewTools, CanCount, CanDrawTools, CanDrawView, IsViewLump, IsViewTexture, PaintsView, placed_for, tools_scene, tools_state, view_scene};
-ghost use Rattle.art_rules.specs.Words.{lump_bytes};
-ghost use Rattle.picture_rules.specs.Words.{AreInView, IsWithinFrame, picture, view_counts, view_of, view_over, view_paints};
+ghost use Rattle.frame_core.specs.Rules.{AreInView, IsWithinFrame, lump_bytes, picture, view_counts, view_of, view_over, view_paints};
 ghost use Rattle.sound_scene.specs.Sound.{textures_view};
 ghost use Rattle.std.specs.Prelude.{◌≡◌, ◌≤◌, ℕ, List, Some, IfErr, IfOk, OnOk, length};
 ghost use Rattle.texture_build.specs.Draws.{DrawsWith, FitBeside};
@@ -82,16 +81,15 @@ pub fn draw_view<S: Shelf>(
 {
     shop.frame.clear();
     let view = View::new(tables, eye);
-    draw_with(
-        scene,
-        &view,
-        cache,
-        dir,
-        shelf,
-        &mut shop.frame,
-        &mut shop.bench,
-        &mut shop.marks,
-    )
+    let mut tools = ViewTools {
+        scene: &*scene,
+        view: &view,
+        dir: &*dir,
+        cache: &mut *cache,
+        shelf: &mut *shelf,
+        canvas: &mut shop.frame,
+    };
+    draw_parts(&mut tools, &mut shop.bench, &mut shop.marks)
 }
 
 /// Draws the view of `eye` on a canvas, which is placed where the view lies in the frame: after Ok
@@ -101,15 +99,15 @@ pub fn draw_view<S: Shelf>(
 /// frame stays as it is. The dots lie in the view, which lies in the frame.
 ///
 /// The original: `R_RenderPlayerView`, r_main.c, and `R_ExecuteSetViewSize` for the place.
-pub fn draw_view_on<S: Shelf, C: Canvas>(
-    scene: &SoundScene,
+pub fn draw_view_on<'a, S: Shelf, C: Canvas>(
+    scene: &'a SoundScene,
     tables: &Tables,
     shop: &mut Workshop,
-    cache: &mut LumpCache,
-    dir: &Directory,
-    shelf: &mut S,
+    cache: &'a mut LumpCache,
+    dir: &'a Directory,
+    shelf: &'a mut S,
     eye: Eye,
-    canvas: &mut C,
+    canvas: &'a mut C,
 ) -> Result<(), ViewFault>
     requires { CanDrawView dir.now.lumps scene.now.scene cache.old }
     ensures within { EndsWithin (view_of tables.now eye) scene.now.scene shop.old.limits result }
@@ -131,16 +129,15 @@ pub fn draw_view_on<S: Shelf, C: Canvas>(
     ensures frame { shop.new.frame ≡ shop.old.frame }
 {
     let view = View::new(tables, eye);
-    draw_with(
+    let mut tools = ViewTools {
         scene,
-        &view,
-        cache,
+        view: &view,
         dir,
+        cache,
         shelf,
         canvas,
-        &mut shop.bench,
-        &mut shop.marks,
-    )
+    };
+    draw_parts(&mut tools, &mut shop.bench, &mut shop.marks)
 }
 
 /// What the view of `eye` counts: its planes, its openings, its drawn fragments (at most 256) and
@@ -169,49 +166,7 @@ pub fn count_view(
     let bench = &mut shop.bench;
     bench.start(scene, &view);
     count_walls(scene, &view, bench)?;
-    Ok(Counts {
-        planes: bench.planes.count(),
-        openings: bench.walls.openings().len() as u32,
-        fragments: bench.walls.notes().len() as u32,
-        sprites: bench.sprites.count(),
-    })
-}
-
-// Draws a view with what is lent for it, in a bench.
-fn draw_with<'a, S: Shelf, C: Canvas>(
-    scene: &'a SoundScene,
-    view: &'a View<'_>,
-    cache: &'a mut LumpCache,
-    dir: &'a Directory,
-    shelf: &'a mut S,
-    canvas: &'a mut C,
-    bench: &mut Bench,
-    marks: &mut [bool],
-) -> Result<(), ViewFault>
-    requires drawable { CanDrawView dir.now.lumps scene.now.scene cache.old }
-    requires marks { bench.old.walls.room ≤ length marks.old }
-    ensures marks { length marks.new ≡ length marks.old }
-    ensures within { EndsWithin view.now scene.now.scene (limits_in bench.old) result }
-    ensures over { EndsOver view.now scene.now.scene (limits_in bench.old) result }
-    ensures paints { let v = view.now in
-        PaintsView C.mark (view_scene v scene.now.scene dir.now) (view_paints v)
-        (paint_state (S.view shelf.old) cache.old
-        (placed_for v (C.view canvas.old)))
-        (paint_state (S.view shelf.new) cache.new (C.view canvas.new)) result }
-    ensures in_view { (bytes : ℕ → List ℕ) → OnOk result
-        (AreInView view.now.shape (view_paints view.now (scene_of bytes scene.now.scene))) }
-    ensures frame { IsWithinFrame view.now.shape }
-    ensures limits { limits_in bench.new ≡ limits_in bench.old }
-{
-    let mut tools = ViewTools {
-        scene,
-        view,
-        dir,
-        cache,
-        shelf,
-        canvas,
-    };
-    draw_parts(&mut tools, bench, marks)
+    Ok(bench.counts())
 }
 
 // The three parts of a view: walls as they are walked, planes, the masked pass.

@@ -1,9 +1,8 @@
 // What is listed of a view while it is walked.
 //
 // Rules: `specs/ViewLists`; `picture_rules`, Lists. This project's own.
-ghost use Rattle.std.specs.Prelude.{◌≡◌, ◌≤◌, ◌<◌, ◌++◌, ◌-◌, ◌∷◌, [], ℕ, IfOk, length, replicate, vec_len, vec_capacity};
-ghost use Rattle.picture_rules.specs.Words.{MAX_DRAWSEGS};
-ghost use Rattle.picture_rules.specs.declared.plane.TheConstants.{MOST_VISPLANES};
+ghost use Rattle.std.specs.Prelude.{◌≡◌, ◌≤◌, ◌<◌, ◌+◌, ◌++◌, ◌-◌, ◌∷◌, [], ℕ, IfOk, cond, length, nat_lt, replicate, vec_len, vec_capacity};
+ghost use Rattle.frame_core.specs.Rules.{MAX_DRAWSEGS, MOST_VISPLANES};
 ghost use Rattle.frame_core.specs.ViewLists.{list_fragment, nothing_listed, with_fragment, with_makers, with_sprite};
 
 use picture_rules::{
@@ -25,9 +24,7 @@ pub(crate) struct WalkList {
 
 impl Model for WalkList {
     ghost use Rattle.std.specs.Prelude.{◌≤◌, length, vec_capacity};
-    ghost use Rattle.picture_rules.specs.Words.{MAX_DRAWSEGS};
-    ghost use Rattle.picture_rules.specs.declared.plane.TheConstants.{MOST_VISPLANES};
-    ghost use Rattle.picture_rules.specs.declared.sprite.TheConstants.{MAX_VISSPRITES};
+    ghost use Rattle.frame_core.specs.Rules.{MAX_DRAWSEGS, MAX_VISSPRITES, MOST_VISPLANES};
     ghost use Rattle.frame_core.specs.ViewLists.{WalkListValue};
 
     ghost Value = { WalkListValue };
@@ -109,6 +106,7 @@ impl WalkList {
     }
 
     /// There are so many planes now: those that are new were made by `maker`. Takes no memory.
+    #[tactic(auto, unfolding(crate::specs::ViewLists::with_makers))]
     pub fn add_makers(&mut self, maker: PlaneMaker, planes: u32)
         requires { planes ≤ MOST_VISPLANES }
         ensures { self.new ≡ with_makers self.old maker planes }
@@ -117,6 +115,7 @@ impl WalkList {
     }
 
     /// A fragment, after which there are so many planes. Past 256 it only counts. Takes no memory.
+    #[tactic(auto, unfolding(crate::specs::ViewLists::list_fragment))]
     pub fn add_fragment(&mut self, fragment: ListedFragment, planes: u32)
         requires { planes ≤ MOST_VISPLANES }
         ensures { self.new ≡ list_fragment fragment planes self.old }
@@ -127,16 +126,16 @@ impl WalkList {
     }
 
     // Counts a fragment, and lists it while there is room.
+    #[tactic(auto, unfolding(crate::specs::ViewLists::with_fragment))]
     fn keep_fragment(&mut self, fragment: ListedFragment)
         ensures { self.new ≡ with_fragment self.old fragment }
     {
         self.all_fragments = self.all_fragments.saturating_add(1);
-        if self.fragments.len() < MAX_DRAWSEGS as usize {
-            push_fragment(&mut self.fragments, fragment);
-        }
+        push_below(&mut self.fragments, fragment, MAX_DRAWSEGS as usize);
     }
 
     /// The vissprite of a thing, if it makes one. Past 128 it only counts. Takes no memory.
+    #[tactic(auto, unfolding(crate::specs::ViewLists::with_sprite))]
     pub fn add_sprite(&mut self, sprite: Option<ListedSprite>)
         ensures { self.new ≡ with_sprite self.old sprite }
     {
@@ -147,13 +146,12 @@ impl WalkList {
     }
 
     // Counts a vissprite, and lists it while there is room.
+    #[tactic(auto, unfolding(crate::specs::ViewLists::with_sprite))]
     fn keep_sprite(&mut self, sprite: ListedSprite)
         ensures { self.new ≡ with_sprite self.old (Some sprite) }
     {
         self.all_sprites = self.all_sprites.saturating_add(1);
-        if self.sprites.len() < MAX_VISSPRITES as usize {
-            push_sprite(&mut self.sprites, sprite);
-        }
+        push_below(&mut self.sprites, sprite, MAX_VISSPRITES as usize);
     }
 }
 
@@ -172,25 +170,26 @@ fn push_makers(makers: &mut Vec<PlaneMaker>, maker: PlaneMaker, planes: usize)
     }
 }
 
-// One fragment more, within the capacity.
-fn push_fragment(fragments: &mut Vec<ListedFragment>, fragment: ListedFragment)
-    requires { vec_len fragments.old < vec_capacity fragments.old }
-    ensures items { fragments.new.items ≡ fragments.old.items ++ fragment ∷ [] }
-    ensures capacity { vec_capacity fragments.old ≤ vec_capacity fragments.new }
+// One item more, while there are fewer than `most`.
+fn push_below<T: Copy>(items: &mut Vec<T>, item: T, most: usize)
+    requires { most ≤ vec_capacity items.old }
+    ensures items { items.new.items ≡ cond (nat_lt (length items.old.items) most)
+        (items.old.items ++ item ∷ []) items.old.items }
+    ensures capacity { vec_capacity items.old ≤ vec_capacity items.new }
 {
-    match fragments.push(fragment) {
-        Ok(()) => {}
-        Err(_) => unreachable!(),
+    if items.len() < most {
+        push_within(items, item);
     }
 }
 
-// One vissprite more, within the capacity.
-fn push_sprite(sprites: &mut Vec<ListedSprite>, sprite: ListedSprite)
-    requires { vec_len sprites.old < vec_capacity sprites.old }
-    ensures items { sprites.new.items ≡ sprites.old.items ++ sprite ∷ [] }
-    ensures capacity { vec_capacity sprites.old ≤ vec_capacity sprites.new }
+/// One item more, within the capacity.
+pub(crate) fn push_within<T: Copy>(items: &mut Vec<T>, item: T)
+    requires { vec_len items.old < vec_capacity items.old }
+    ensures items { items.new.items ≡ items.old.items ++ item ∷ [] }
+    ensures count { vec_len items.new ≡ vec_len items.old + 1 }
+    ensures capacity { vec_capacity items.old ≤ vec_capacity items.new }
 {
-    match sprites.push(sprite) {
+    match items.push(item) {
         Ok(()) => {}
         Err(_) => unreachable!(),
     }

@@ -2,9 +2,7 @@
 ghost use Rattle.std.specs.Borrow.{Lends, sem};
 ghost use Rattle.std.specs.Prelude.{◌≡◌, ◌≤◌, length, IfOk};
 ghost use Rattle.frame_core.specs.contracts.workshop.Workshop.{the_row};
-ghost use Rattle.picture_rules.specs.declared.plane.TheConstants.{MOST_VISPLANES};
-ghost use Rattle.picture_rules.specs.declared.wall.TheConstants.{MOST_OPENINGS};
-ghost use Rattle.picture_rules.specs.Words.{FRAME_CELLS};
+ghost use Rattle.frame_core.specs.Rules.{FRAME_CELLS, MOST_OPENINGS, MOST_VISPLANES};
 ghost use Rattle.pixel_strips.specs.Canvases.{blank};
 ghost use Rattle.pixel_strips.specs.contracts.frame.Frame.{the_row as frame_row};
 

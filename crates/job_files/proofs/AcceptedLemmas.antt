@@ -1,8 +1,6 @@
 -- What is known of the WADs where all files are accepted.
 use Rattle.std.proofs.Common.{◌≡◌, ℕ, List, Option, Some, None, Result, Ok, Err, refl, ap, ◌∙◌}
-use Rattle.art_rules.specs.Words.{and_then, directory, DirRefusal, else_absent, File, from_below, Lump, no_file}
-use Rattle.job_rules.specs.declared.command.Settings.{Settings}
-use Rattle.job_rules.specs.LevelJobs.{FileNames}
+use Rattle.job_files.specs.Rules.{DirRefusal, File, FileNames, Lump, Settings, and_then, directory, else_absent, from_below, no_file}
 use Rattle.refusals.specs.declared.refusal.Refusal.{Refusal}
 use Rattle.refusals.specs.declared.refusal.Refusal.TheVariants.{Wad}
 use Rattle.job_files.specs.Files.{FilesValue, tables_file, in_file, texts_in, files_named, lumps_in, files_in}

@@ -1,7 +1,6 @@
 -- A file's length is looked at first, and then its bytes are checked.
 use Rattle.picture_rules.proofs.Common.{Bool, cond, Err, false, IsErrAnd, length, List, nat_lt, None, Ok, Option, option_map, refl, Result, Some, true, ℕ, ◌==◌, ◌≡◌}
-use Rattle.art_rules.specs.Words.{and_then, else_absent, Fault, File, file_named, from_below, itself, no_file, ResultIs, ResultIsOrAbsent}
-use Rattle.picture_rules.specs.Words.{angles_in, angles_refusal, Length, shape_of_size, TABLES_BYTES, tables_refusal, TablesRefusal, TablesValue}
+use Rattle.job_files.specs.Rules.{Fault, File, Length, ResultIs, ResultIsOrAbsent, Settings, TABLES_BYTES, TablesRefusal, TablesValue, and_then, angles_in, angles_refusal, else_absent, file_named, from_below, itself, no_file, shape_of_size, tables_refusal}
 use Rattle.csv_tables.specs.declared.records.TheConstants.{MAX_TABLE_BYTES}
 use Rattle.csv_tables.specs.declared.fault.CsvRefusal.{CsvRefusal}
 use Rattle.csv_tables.specs.declared.fault.CsvRefusal.TheVariants.{TooLong}
@@ -11,7 +10,6 @@ use Rattle.csv_tables.specs.Things.{lines_of_records, things_in_table}
 use Rattle.csv_tables.specs.Paths.{path_of_records, path_in}
 use Rattle.csv_tables.specs.Weapons.{weapons_of_records, weapons_in}
 use Rattle.job_files.specs.declared.whole_files.FileKind.TheVariants as kind
-use Rattle.job_rules.specs.declared.command.Settings.{Settings}
 use Rattle.refusals.specs.declared.refusal.Refusal.{Refusal}
 use Rattle.refusals.specs.declared.refusal.Refusal.TheVariants.{Tables, Things, Path, Weapons}
 use Rattle.job_files.specs.Files.{value_unless, in_file, tables_in, tables_file, things_file, path_file, weapons_file}

@@ -1,8 +1,6 @@
 -- The lumps of colours by name.
 use Rattle.picture_rules.proofs.Common.{Err, MatchResult, None, Ok, ok_or, Option, option_map, refl, Result, Some, ℕ, ◌≡◌}
-use Rattle.art_rules.specs.Words.{filled, LumpNo, name_of}
-use Rattle.scene_rules.specs.declared.TheConstants.{COLORMAP, PLAYPAL}
-use Rattle.scene_rules.specs.declared.refusal.ArtRefusal.{ArtRefusal}
+use Rattle.job_files.specs.Rules.{ArtRefusal, COLORMAP, LumpNo, PLAYPAL, filled, name_of}
 
 -- the names are in capitals
 pub colour_names : (name_of COLORMAP ≡ COLORMAP) × (name_of PLAYPAL ≡ PLAYPAL)

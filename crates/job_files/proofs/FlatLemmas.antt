@@ -1,7 +1,6 @@
 -- The picture of a flat from its parts.
 use Rattle.std.proofs.Common.{◌≡◌, ℕ, Bool, List, Ok, refl}
-use Rattle.picture_rules.specs.Words.{listed}
-use Rattle.art_rules.specs.Words.{itself, Lump, ResultIs}
+use Rattle.job_files.specs.Rules.{Lump, ResultIs, itself, listed}
 use Rattle.frame_writer.specs.declared.TheConstants.{FRAME_BYTES}
 use Rattle.job_files.specs.Flats.{PictureValue, tiled_index, palette_in, flat_in, picture_in}
 

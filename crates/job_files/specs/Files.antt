@@ -1,16 +1,13 @@
 -- What the files of a job over a level give: tables of angles, things, a path, weapons where a file
 -- of them is named, and the lumps of the WADs; or the first step that stops.
 use Rattle.std.specs.Prelude.{◌≡◌, ℕ, List, [], ◌∷◌, Option, Some, None, option_and_then, option_map, Result, Ok, Err, IfErr, codes, refl}
-use Rattle.art_rules.specs.Words.{absent, and_then, directory, else_absent, Fault, File, file_named, from_below, Lump, no_file, Stop}
+use Rattle.job_files.specs.Rules.{Fault, File, FileNames, Lump, Settings, Stop, TablesRefusal, TablesValue, ThingLine, absent, and_then, angles_in, directory, else_absent, file_named, from_below, no_file, tables_refusal}
 use Rattle.lump_cache.specs.Calls.{IfFull}
-use Rattle.picture_rules.specs.Words.{angles_in, tables_refusal, TablesRefusal, TablesValue, ThingLine}
 use Rattle.csv_tables.specs.declared.path.PathRow.{PathRow}
 use Rattle.csv_tables.specs.declared.weapons.WeaponRow.{WeaponRow}
 use Rattle.csv_tables.specs.Things.{things_in_table}
 use Rattle.csv_tables.specs.Paths.{path_in}
 use Rattle.csv_tables.specs.Weapons.{weapons_in}
-use Rattle.job_rules.specs.LevelJobs.{FileNames}
-use Rattle.job_rules.specs.declared.command.Settings.{Settings}
 use Rattle.refusals.specs.declared.refusal.Refusal.{Refusal}
 use Rattle.refusals.specs.declared.refusal.Refusal.TheVariants.{Tables, Things, Path, Weapons, Wad}
 use Rattle.job_files.specs.declared.read.SceneFiles.{SceneFiles}

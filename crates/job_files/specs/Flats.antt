@@ -1,12 +1,9 @@
 -- The picture of a flat, which is laid over the frame again and again.
 use Rattle.std.specs.Prelude.{ℕ, ◌/◌, ◌%◌, List, [], ◌∷◌, take, Option, Some, None, Result, Ok, Err}
-use Rattle.picture_rules.specs.Words.{FLAT_SIDE, FRAME_WIDTH, listed}
-use Rattle.art_rules.specs.Words.{and_then, directory, else_absent, File, file_named, flat_byte, flat_of, from_below, Lump, lump_bytes, no_file, Stop}
+use Rattle.job_files.specs.Rules.{FLAT_SIDE, FRAME_WIDTH, File, FlatName, Lump, Stop, and_then, directory, else_absent, file_named, flat_byte, flat_of, from_below, listed, lump_bytes, no_file, playpal_of}
 use Rattle.frame_writer.specs.declared.TheConstants.{FRAME_BYTES, PALETTE_BYTES}
 use Rattle.refusals.specs.declared.refusal.Refusal.{Refusal}
 use Rattle.refusals.specs.declared.refusal.Refusal.TheVariants.{Wad, Art, Scene}
-use Rattle.scene_rules.specs.declared.refusal.SceneRefusal.TheVariants.{FlatName}
-use Rattle.scene_rules.specs.Words.{playpal_of}
 
 -- a frame, and the palette for its indices
 pub record PictureValue : Type 0 where

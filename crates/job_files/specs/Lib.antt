@@ -6,3 +6,4 @@ pub mod Lines
 pub mod Made
 pub mod Sizes
 pub mod Statuses
+pub mod Rules

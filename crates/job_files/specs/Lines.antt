@@ -3,8 +3,7 @@ use Rattle.std.specs.Prelude.{ℕ, List, [], ◌++◌, codes}
 use Rattle.std.specs.List.{flat_map}
 use Rattle.refusals.specs.declared.refusal.Refusal.{Refusal}
 use Rattle.refusals.specs.Lines.{labelled, numbers_of, spaced}
-use Rattle.picture_rules.specs.declared.LimitKind.{LimitKind}
-use Rattle.picture_rules.specs.declared.LimitKind.TheVariants.{Planes, Openings}
+use Rattle.job_files.specs.Rules.{LimitKind, Openings, Planes}
 use Rattle.job_files.specs.declared.status.Status.{Status}
 use Rattle.job_files.specs.declared.status.Status.TheVariants.{Done, Usage, Refused, ReadFault, WriteFault, Limit, ZoneFull, OutOfMemory}
 

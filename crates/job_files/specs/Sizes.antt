@@ -1,9 +1,8 @@
 -- How many bytes of the files of a job are read, but for those of lumps.
 use Rattle.std.specs.Prelude.{ℕ, ◌+◌, List, [], ◌∷◌, length, unwrap_or, Option, Some, None, Result, Ok, Err}
 use Rattle.std.specs.Option.{option_map_or}
-use Rattle.art_rules.specs.Words.{directory, DirRefusal, File, file_named, flat_of, listing_sizes, Lump, lump_at}
+use Rattle.job_files.specs.Rules.{DirRefusal, File, FileNames, Lump, directory, file_named, flat_of, listing_sizes, lump_at}
 use Rattle.frame_writer.specs.declared.TheConstants.{PALETTE_BYTES}
-use Rattle.job_rules.specs.LevelJobs.{FileNames}
 use Rattle.job_files.specs.Files.{files_named}
 
 -- the bytes of the WADs of these names

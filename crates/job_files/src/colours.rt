@@ -2,9 +2,7 @@
 //
 // Rules: `scene_rules`, Scenes. The original: `R_InitColormaps`, r_data.c.
 ghost use Rattle.std.specs.Prelude.{◌≡◌, ◌<◌, ◌≤◌, length, Ok, Err, IfOk, IfSome, MatchResult, option_map};
-ghost use Rattle.art_rules.specs.Words.{lump_at};
-ghost use Rattle.scene_rules.specs.declared.TheConstants.{PALETTE_SIZE};
-ghost use Rattle.scene_rules.specs.Words.{colormap_of, long_lump, playpal_of};
+ghost use Rattle.job_files.specs.Rules.{PALETTE_SIZE, colormap_of, long_lump, lump_at, playpal_of};
 
 use art_rules::Name8;
 use lump_cache::{Directory, LumpNo};

@@ -1,7 +1,6 @@
 // The job `make`: the bytes of a made file, told by a number alone.
 ghost use Rattle.std.specs.Prelude.{◌≡◌, IfOk};
-ghost use Rattle.art_rules.specs.Words.{FaultsRose};
-ghost use Rattle.job_rules.specs.Commands.{IsCountedMake};
+ghost use Rattle.job_files.specs.Rules.{FaultsRose, IsCountedMake};
 ghost use Rattle.job_files.specs.Made.{made_file};
 ghost use Rattle.job_files.specs.Statuses.{DeliversBytes};
 

@@ -1,8 +1,6 @@
 // All files of a job over a level, in their order.
 ghost use Rattle.std.specs.Prelude.{◌≡◌, ◌<◌, ◌≤◌, ◌+◌, ◌*◌, ◌^◌, ℕ, List, length, map, Some, IfOk};
-ghost use Rattle.art_rules.specs.Words.{AllWithin, File, HasCauses, Holds, IsLaterShelf, itself, listing_sizes, NameFiles, ResultIsOrAbsent};
-ghost use Rattle.picture_rules.specs.Words.{MAX_SIZE, MIN_SIZE};
-ghost use Rattle.job_rules.specs.LevelJobs.{file_names};
+ghost use Rattle.job_files.specs.Rules.{AllWithin, File, HasCauses, Holds, IsLaterShelf, MAX_SIZE, MIN_SIZE, NameFiles, ResultIsOrAbsent, file_names, itself, listing_sizes};
 ghost use Rattle.job_files.specs.Files.{IsNeverFull, files_in, files_named, value_of};
 ghost use Rattle.job_files.specs.Sizes.{files_size};
 

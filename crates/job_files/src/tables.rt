@@ -1,7 +1,6 @@
 // The tables of angles: their file is asked for by name, read whole and then checked.
 ghost use Rattle.std.specs.Prelude.{◌≡◌, ◌≤◌, ◌+◌, ℕ, List, true, IfOk};
-ghost use Rattle.art_rules.specs.Words.{File, HasCauses, Holds, IsLaterShelf, itself, ResultIs, ResultIsOrAbsent};
-ghost use Rattle.picture_rules.specs.Words.{MAX_SIZE, MIN_SIZE};
+ghost use Rattle.job_files.specs.Rules.{File, HasCauses, Holds, IsLaterShelf, MAX_SIZE, MIN_SIZE, ResultIs, ResultIsOrAbsent, itself};
 ghost use Rattle.job_files.specs.Files.{IsNeverFull, in_file, tables_file, tables_in};
 ghost use Rattle.job_files.specs.Sizes.{named_size};
 

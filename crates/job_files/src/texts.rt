@@ -1,8 +1,7 @@
 // The tables of text: how things look, the views of the path, the weapon layers. Each file is asked
 // for by name, read whole and then checked.
 ghost use Rattle.std.specs.Prelude.{◌≤◌, ◌+◌, ◌*◌, ℕ, List, true, option_map};
-ghost use Rattle.art_rules.specs.Words.{File, HasCauses, Holds, IsLaterShelf, itself, ResultIs, ResultIsOrAbsent};
-ghost use Rattle.job_rules.specs.LevelJobs.{file_names};
+ghost use Rattle.job_files.specs.Rules.{File, HasCauses, Holds, IsLaterShelf, ResultIs, ResultIsOrAbsent, file_names, itself};
 ghost use Rattle.job_files.specs.Files.{IsNeverFull, in_file, in_optional_file, things_file, path_file, weapons_file, texts_in};
 ghost use Rattle.job_files.specs.Sizes.{named_size, optional_size, texts_size};
 

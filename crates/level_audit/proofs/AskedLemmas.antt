@@ -1,16 +1,13 @@
 -- Each lump that an audit reads is needed by its scene, and a zone that was full for one is smaller
 -- than `enough`.
-use Rattle.art_rules.specs.Words.{Fault, itself, Lump, lump_at, lump_bytes, ShelfView}
+use Rattle.level_audit.specs.Rules.{AuditRefusal, Faces, Fault, Heap, LevelBase, Lump, MIN_FRAGMENT, PNAMES, SceneValue, ShelfView, TEXTURE1, TEXTURE2, ThingLine, art_of, block_size, book_in, colormap_of, enough, greatest_by, is_last, is_list, is_map_lump, is_needed, is_wanted_texture, itself, lump_at, lump_block, lump_bytes, needed_lumps, scene_in, sizes_of, zone_sizes}
 use Rattle.art_rules.proofs.Common.{ap, arith, cases_lt, eq-eqb, Err, false, IfErr, inl, inr, length, List, Ok, Option, option_map_or, or-true, refl, Result, subst, true, ℕ, ◌+◌, ◌<◌, ◌==◌, ◌∙◌, ◌≡◌, ◌≤◌}
-use Rattle.scene_rules.specs.Words.{art_of, block_size, book_in, colormap_of, enough, Faces, greatest_by, Heap, is_last, is_list, is_map_lump, is_needed, is_wanted_texture, LevelBase, lump_block, MIN_FRAGMENT, needed_lumps, scene_in, SceneValue, sizes_of, ThingLine, zone_sizes}
 use Rattle.texture_build.specs.DirectoryView.{DirectoryView}
 use Rattle.texture_build.specs.Caches.{IsAtRest}
 use Rattle.texture_build.specs.Calls.{IfFull, IsFullFor, HoldContents}
 use Rattle.texture_build.specs.Named.{IsLast}
 use Rattle.texture_build.proofs.CallLemmas.{full_at, full_room}
-use Rattle.art_rules.specs.declared.TheConstants.{PNAMES, TEXTURE1, TEXTURE2}
 use Rattle.texture_lists.specs.Asked.{IsListLump}
-use Rattle.scene_rules.specs.declared.refusal.AuditRefusal.{AuditRefusal}
 use Rattle.level_scene.specs.Asked.{IsLumpOfMap}
 use Rattle.level_audit.specs.Asked.{IsOfBase}
 use Rattle.level_audit.specs.Asked.{IsOfArt, IsOfScene}

@@ -1,11 +1,9 @@
 -- What is told of the steps after COLORMAP, one after the other.
-use Rattle.art_rules.specs.Words.{Fault, itself, OutOfMemory, ShelfView}
+use Rattle.level_audit.specs.Rules.{AuditRefusal, Fault, Heap, OutOfMemory, ShelfView, ThingLine, base_in, itself, scene_in, scene_on}
 use Rattle.std.proofs.Common.{◌≡◌, ℕ, List, Result, Ok, Err, refl, sym, ap, ◌∙◌, inl, inr, IsErrAnd}
-use Rattle.scene_rules.specs.Words.{base_in, Heap, scene_in, scene_on, ThingLine}
 use Rattle.texture_build.specs.DirectoryView.{DirectoryView}
 use Rattle.texture_build.specs.Calls.{ReadsLumps}
 use Rattle.texture_build.proofs.CallLemmas.{reads_as, reads_more, reads_same, reads_short, reads_stop, reads_stop_first}
-use Rattle.scene_rules.specs.declared.refusal.AuditRefusal.{AuditRefusal}
 use Rattle.sound_scene.specs.declared.parts.ReadBase.{ReadBase}
 use Rattle.level_audit.specs.Asked.{IsOfBase}
 use Rattle.sound_scene.specs.Bases.{base_of}

@@ -1,8 +1,7 @@
 -- What is told of an audit after its first fetch, that of COLORMAP, by what is told of the rest.
 use Rattle.art_rules.proofs.Common.{ap, arith, Bool, Err, err_from_is_err_and, IfErr, IfOk, inl, inr, IsErrAnd, List, MatchResult, None, Ok, OnOk, Option, option_and_then, option_map, Result, Some, subst, sym, true, ℕ, ◌+◌, ◌<◌, ◌∙◌, ◌≡◌, ◌≢◌, ◌≤◌}
-use Rattle.art_rules.specs.Words.{Fault, IsLaterShelf, itself, lump_at, lump_bytes, NameFiles, Refused, ResultIs, ShelfView}
+use Rattle.level_audit.specs.Rules.{AuditRefusal, Block, Fault, Heap, Holding, IsLaterShelf, Item, KeepsOrder, MIN_FRAGMENT, NameFiles, Owner, Refused, ResultIs, SceneValue, ShelfView, Static, ThingLine, block_size, colormap_of, gaps, holding_of, itself, lump_at, lump_bytes, owned_block}
 use Rattle.art_rules.proofs.Laws.{all_stand_later}
-use Rattle.scene_rules.specs.Words.{Block, block_size, colormap_of, gaps, Heap, Holding, holding_of, Item, KeepsOrder, MIN_FRAGMENT, owned_block, Owner, SceneValue, Static, ThingLine}
 use Rattle.scene_rules.proofs.Laws.{order_then, small_all}
 use Rattle.texture_build.specs.DirectoryView.{DirectoryView}
 use Rattle.texture_build.specs.CacheFault.{CacheFault}
@@ -11,7 +10,6 @@ use Rattle.texture_build.specs.Caches.{HasStatic, IsAtRest, IsFaithful, NoRoom, 
 use Rattle.texture_build.specs.Calls.{IfFull, InOrderAt, IsFullFor, HoldContents}
 use Rattle.texture_build.specs.Sizes.{HasSizes, IsGapAround, IsGapBeside, StandsBeside}
 use Rattle.texture_build.proofs.CallLemmas.{full_at, full_room, order_at}
-use Rattle.scene_rules.specs.declared.refusal.AuditRefusal.{AuditRefusal}
 use Rattle.level_audit.specs.Asked.{IsOfBase}
 use Rattle.level_audit.specs.Reads.{IsFullAudit, IsReadLater}
 use Rattle.sound_scene.specs.Sound.{SoundValue}

@@ -1,11 +1,7 @@
 -- A patch of a wanted texture is a patch of a prepared one.
 use Rattle.art_rules.proofs.Common.{[], ap, arith, Bool, cond, Contains, eq-eqb, Err, false, inl, inr, List, list_any, nat_lt, None, Ok, Option, option_and_then, option_map, or_left, or_right, refl, Result, slice_get, Some, suc, sym, true, zero, ℕ, ◌+◌, ◌==◌, ◌∙◌, ◌∷◌, ◌≡◌}
-use Rattle.art_rules.specs.Words.{composite_size, is_patch_of, is_patch_of_any, last_of, Lump, place_lump, placed_patch, placed_patches, prepared, prepared_from, prepared_if, prepared_textures, PreparedTexture, Texture, texture_of, TextureLists, unless_missing, unless_too_big}
-use Rattle.art_rules.specs.declared.PlacedPatch.{PlacedPatch}
-use Rattle.art_rules.specs.declared.TextureEntry.{TextureEntry}
-use Rattle.art_rules.specs.declared.TheConstants.{MAX_COMPOSITE}
-use Rattle.art_rules.specs.declared.refusal.TexRefusal.{TexRefusal}
-use Rattle.art_rules.specs.declared.refusal.TexRefusal.TheVariants.{TooBig}
+use Rattle.level_audit.specs.Rules.{Lump, MAX_COMPOSITE, PlacedPatch, PreparedTexture, TexRefusal, TextureEntry, TextureLists, TooBig, composite_size, is_patch_of, is_patch_of_any, last_of, place_lump, placed_patch, placed_patches, prepared, prepared_from, prepared_if, prepared_textures, texture_of, unless_missing, unless_too_big}
+use Rattle.art_rules.specs.Words.{Texture}
 use Rattle.texture_build.specs.Asked.{IsWantedPatch}
 use Rattle.texture_build.proofs.PlaceLemmas.{lump_placed}
 use Rattle.sound_scene.proofs.MemberLemmas.{among_cases, among_none}

@@ -1,13 +1,8 @@
 -- A picture of a needed frame is in the book.
 use Rattle.art_rules.proofs.Common.{[], and_parts, ap, Bool, bytes_eq, bytes_eq-Decides, Contains, eq-eqb, eqb-true, false, inl, inr, List, list_any, None, not, Ok, ok_or, Option, range_with_len, refl, Some, subst, suc, sym, true, ℕ, ◌==◌, ◌∙◌, ◌∷◌, ◌≡◌}
-use Rattle.art_rules.specs.Words.{and_then, book_lumps, each_of, first_needs, frame_in, frame_of, frame_picture, is_of_frame, last_mention, last_that, Lump, mentions, patch_or_bad, picture_or_missing, pictures_of, same_frame, shape_in, shape_lumps, shape_of}
+use Rattle.level_audit.specs.Rules.{Frame, Lump, Mention, Need, ROTATIONS, Shape, and_then, book_lumps, each_of, first_needs, frame_in, frame_of, frame_picture, is_of_frame, last_mention, last_that, mentions, patch_or_bad, picture_or_missing, pictures_of, same_frame, shape_in, shape_lumps, shape_of}
 use Rattle.art_rules.proofs.Laws.{and_then-ok}
-use Rattle.art_rules.specs.declared.Mention.{Mention}
-use Rattle.art_rules.specs.declared.TheConstants.{ROTATIONS}
 use Rattle.art_rules.specs.declared.refusal.SpriteRefusal.TheVariants.{MissingRotation, NoFrame}
-use Rattle.art_rules.specs.declared.shapes.Frame.{Frame}
-use Rattle.art_rules.specs.declared.shapes.Need.{Need}
-use Rattle.art_rules.specs.declared.shapes.Shape.{Shape}
 use Rattle.sprite_book.specs.Calls.{IsWanted}
 use Rattle.sound_scene.proofs.MemberLemmas.{among_cases, among_first, among_kept, among_later, among_none, any_joined, any_mapped, each_made, each_same}
 use Rattle.sound_scene.proofs.SceneLemmas.{same_value}

@@ -1,16 +1,12 @@
 -- What is told of a part that reads no lump.
 use Rattle.art_rules.proofs.Common.{ap, Err, err_from_is_err_and, List, Ok, Option, refl, Result, subst, sym, true, ℕ, ◌∙◌, ◌≡◌}
-use Rattle.art_rules.specs.Words.{Fault, fault_above, from_below, itself, PreparedTexture, ResultIs, ShelfView, TextureLists}
-use Rattle.scene_rules.specs.Words.{bad_middle, checked, faces_in, Heap, LevelValue, Seg, SideTextures, texture_by}
+use Rattle.level_audit.specs.Rules.{Fault, Heap, LevelValue, Placed, PreparedTexture, ResultIs, Scene, SceneRefusal, Seg, ShelfView, SideTextures, TextureLists, bad_middle, checked, faces_in, fault_above, from_below, itself, texture_by}
 use Rattle.texture_build.specs.DirectoryView.{DirectoryView}
 use Rattle.texture_build.specs.Calls.{ReadsLumps}
 use Rattle.texture_build.proofs.CallLemmas.{result_above, reads_above, reads_known, reads_memory, reads_refused}
 use Rattle.level_scene.specs.declared.fault.SceneFault.{SceneFault}
 use Rattle.level_scene.specs.declared.fault.SceneFault.TheVariants.{Refused, OutOfMemory}
 use Rattle.level_scene.specs.Faults.{scene_fault}
-use Rattle.scene_rules.specs.declared.Placed.{Placed}
-use Rattle.scene_rules.specs.declared.refusal.AuditRefusal.TheVariants.{Scene}
-use Rattle.scene_rules.specs.declared.refusal.SceneRefusal.{SceneRefusal}
 use Rattle.level_audit.specs.Faults.{above_scene}
 use Rattle.art_rules.proofs.Laws.{IsThrough}
 use Rattle.sound_scene.specs.declared.parts.ReadFaces.{ReadFaces}

@@ -1,11 +1,7 @@
 -- A scene over its base, a step at a time.
 use Rattle.std.proofs.Common.{◌≡◌, ℕ, List, Option, Ok, Err, refl, sym, ap, ◌∙◌}
-use Rattle.art_rules.specs.Words.{and_then, from_below, last_of, Lump, prepared_textures, PreparedTexture, TextureLists}
-use Rattle.scene_rules.specs.Words.{bad_middle, book_in, checked, Faces, faces_in, is_wanted_texture, LevelBase, placed_things, scene_on, scene_over, scene_with, texture_by, ThingLine}
-use Rattle.art_rules.specs.declared.shapes.Frame.{Frame}
-use Rattle.scene_rules.specs.declared.Placed.{Placed}
-use Rattle.scene_rules.specs.declared.refusal.AuditRefusal.{AuditRefusal}
-use Rattle.scene_rules.specs.declared.refusal.AuditRefusal.TheVariants.{Scene, Sprite, Texture}
+use Rattle.level_audit.specs.Rules.{AuditRefusal, Faces, Frame, LevelBase, Lump, Placed, PreparedTexture, Scene, Sprite, TextureLists, ThingLine, and_then, bad_middle, book_in, checked, faces_in, from_below, is_wanted_texture, last_of, placed_things, prepared_textures, scene_on, scene_over, scene_with, texture_by}
+use Rattle.scene_rules.specs.declared.refusal.AuditRefusal.TheVariants.{Texture}
 
 module _ (bytes : ℕ → List ℕ) (lumps : List Lump) (g : LevelBase) (faces : Faces) where
   module _ (placed : List Placed) (prepared : List (Option PreparedTexture)) where

@@ -1,16 +1,11 @@
 -- What rows of weapon layers need, one row at a time, and faults of their book in the words of an audit.
 use Rattle.std.proofs.Common.{◌≡◌, ℕ, zero, suc, ◌+◌, ◌<◌, List, [], ◌∷◌, ◌++◌, length, get_or, take, Result, Ok, Err, refl, sym, subst, ap, ◌∙◌, arith}
-use Rattle.art_rules.specs.Words.{each_of, Fault, first_needs, frame_of, from_below, itself, Lump, ShelfView}
-use Rattle.scene_rules.specs.Words.{Heap}
+use Rattle.level_audit.specs.Rules.{Fault, Frame, Heap, Lump, Need, ShelfView, SpriteRefusal, WeaponArt, each_of, first_needs, frame_of, from_below, itself}
 use Rattle.texture_build.specs.DirectoryView.{DirectoryView}
 use Rattle.texture_build.specs.Calls.{ReadsLumps}
 use Rattle.texture_build.proofs.CallLemmas.{result_above, reads_above, reads_wider}
 use Rattle.csv_tables.specs.declared.weapons.WeaponRow.{WeaponRow}
-use Rattle.art_rules.specs.declared.refusal.SpriteRefusal.{SpriteRefusal}
-use Rattle.art_rules.specs.declared.shapes.Frame.{Frame}
-use Rattle.art_rules.specs.declared.shapes.Need.{Need}
 use Rattle.sprite_book.specs.Calls.{IsWanted}
-use Rattle.scene_rules.specs.declared.refusal.AuditRefusal.TheVariants.{WeaponArt}
 use Rattle.level_audit.specs.Weapons.{need_of_row, needs_from, weapon_art, weapon_book, weapon_fault, weapon_needs, weapon_refusal}
 
 -- the needs of one row more

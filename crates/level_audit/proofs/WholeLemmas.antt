@@ -1,13 +1,9 @@
 -- What drawing asks of a scene, a step of its reading at a time.
 use Rattle.art_rules.proofs.Common.{All, ap, Err, IfOk, IfSome, length, List, Ok, OnOk, option_map, Result, rules, subst, sym, ℕ, ◌<◌, ◌∙◌, ◌≡◌, ◌≤◌, ◌⊎◌}
-use Rattle.art_rules.specs.Words.{book_lumps, Fault, Lump, TextureLists}
-use Rattle.scene_rules.specs.Words.{Faces, faces_in, LevelBase, placed_things, Seg, SideTextures, ThingLine}
-use Rattle.art_rules.specs.declared.TheConstants.{MAX_TEXTURES}
+use Rattle.level_audit.specs.Rules.{AuditRefusal, Faces, Fault, LevelBase, Lump, MAX_TEXTURES, Placed, Seg, SideTextures, TextureLists, ThingLine, book_lumps, faces_in, placed_things}
 use Rattle.texture_build.specs.TexNo.{TexNo}
 use Rattle.texture_build.specs.Views.{TexturesView, AllTexturesListed, AllThere, IsPrepared}
 use Rattle.level_scene.specs.Bounds.{AreBelow, AreThere}
-use Rattle.scene_rules.specs.declared.Placed.{Placed}
-use Rattle.scene_rules.specs.declared.refusal.AuditRefusal.{AuditRefusal}
 use Rattle.sound_scene.specs.declared.parts.ReadBase.{ReadBase}
 use Rattle.sound_scene.specs.declared.parts.ReadFaces.{ReadFaces}
 use Rattle.sound_scene.specs.declared.parts.ReadScene.{ReadScene}

@@ -1,9 +1,8 @@
 -- The lumps of a scene that are asked for, COLORMAP aside: those of its base, and those of its art.
 use Rattle.std.specs.Prelude.{◌≡◌, ◌⊎◌, List, Ok, map, ℕ}
-use Rattle.art_rules.specs.Words.{Lump}
+use Rattle.level_audit.specs.Rules.{Faces, LevelBase, Lump, ThingLine, faces_in, is_wanted_texture, need_of, placed_things, playpal_of}
 use Rattle.level_scene.specs.Asked.{IsLumpOfMap}
 use Rattle.texture_lists.specs.Asked.{IsListLump}
-use Rattle.scene_rules.specs.Words.{Faces, faces_in, is_wanted_texture, LevelBase, need_of, placed_things, playpal_of, ThingLine}
 use Rattle.texture_build.specs.Asked.{IsWantedPatch}
 use Rattle.sprite_book.specs.Calls.{IsWanted}
 

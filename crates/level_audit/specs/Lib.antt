@@ -3,3 +3,4 @@ pub mod Faults
 pub mod Reads
 pub mod Weapons
 pub mod scene_load
+pub mod Rules

@@ -1,7 +1,6 @@
 -- The lumps that an audit reads. Which patches and pictures there are depends on the bytes of others.
 use Rattle.std.specs.Prelude.{◌≡◌, ◌<◌, ℕ, List, Ok, ◌⊎◌}
-use Rattle.art_rules.specs.Words.{Lump, lump_at, lump_bytes, ShelfView}
-use Rattle.scene_rules.specs.Words.{base_in, block_size, colormap_of, Heap, LevelBase, ThingLine}
+use Rattle.level_audit.specs.Rules.{Heap, LevelBase, Lump, ShelfView, ThingLine, base_in, block_size, colormap_of, lump_at, lump_bytes}
 use Rattle.texture_build.specs.DirectoryView.{DirectoryView}
 use Rattle.texture_build.specs.Calls.{HoldContents}
 use Rattle.level_audit.specs.Asked.{IsOfBase}

@@ -1,15 +1,9 @@
 -- What the rows of a weapon table need, and the book of it.
 use Rattle.std.specs.Prelude.{ℕ, ◌<◌, suc, List, [], ◌∷◌, length, All, Option, Some, None, Result, ⊤}
-use Rattle.art_rules.specs.Words.{each_of, Fault, fault_above, first_needs, frame_of, from_below, Lump}
+use Rattle.level_audit.specs.Rules.{AuditRefusal, BadPatch, Fault, Frame, Lump, Need, SpriteRefusal, WeaponArt, WeaponRefusal, each_of, fault_above, first_needs, frame_of, from_below}
 use Rattle.csv_tables.specs.declared.weapons.WeaponRow.{WeaponRow}
-use Rattle.art_rules.specs.declared.refusal.SpriteRefusal.{SpriteRefusal}
 use Rattle.art_rules.specs.declared.refusal.SpriteRefusal.TheVariants as sprite
-use Rattle.art_rules.specs.declared.shapes.Frame.{Frame}
-use Rattle.art_rules.specs.declared.shapes.Need.{Need}
-use Rattle.scene_rules.specs.declared.refusal.AuditRefusal.{AuditRefusal}
-use Rattle.scene_rules.specs.declared.refusal.AuditRefusal.TheVariants.{WeaponArt}
-use Rattle.scene_rules.specs.declared.refusal.WeaponRefusal.{WeaponRefusal}
-use Rattle.scene_rules.specs.declared.refusal.WeaponRefusal.TheVariants.{NoFrame, MissingRotation, BadPatch}
+use Rattle.scene_rules.specs.declared.refusal.WeaponRefusal.TheVariants.{NoFrame, MissingRotation}
 
 -- the frame of a row, which is told by its number
 unfoldable pub need_of_row : ℕ → WeaponRow → Need

@@ -2,11 +2,10 @@
 //
 // Rules: `art_rules`, Wanted; `sprite_book`, Books; `scene_rules`, Scenes. The original:
 // `R_PrecacheLevel`, r_data.c.
-ghost use Rattle.art_rules.specs.Words.{book_lumps, from_below, itself, last_of, prepared_textures};
+ghost use Rattle.level_audit.specs.Rules.{Sprite, book_in, book_lumps, from_below, is_wanted_texture, itself, last_of, need_of, prepared_textures};
 ghost use Rattle.level_scene.specs.Bounds.{AreBelow};
 ghost use Rattle.texture_build.specs.Calls.{ReadsLumps};
-ghost use Rattle.scene_rules.specs.Words.{book_in, is_wanted_texture, need_of};
-ghost use Rattle.scene_rules.specs.declared.refusal.AuditRefusal.TheVariants.{Sprite, Texture};
+ghost use Rattle.scene_rules.specs.declared.refusal.AuditRefusal.TheVariants.{Texture};
 ghost use Rattle.sound_scene.specs.Whole.{AreSidePrepared};
 ghost use Rattle.sprite_book.specs.Calls.{IsWanted};
 ghost use Rattle.std.specs.Prelude.{◌≡◌, ◌<◌, ◌≤◌, All, length, map, option_map, IfOk, IfSome, OnOk};

@@ -2,10 +2,8 @@
 //
 // Rules: `scene_rules`, Scenes; `specs/Reads`. The original: `P_SetupLevel`, p_setup.c,
 // `R_InitData`, r_data.c.
-ghost use Rattle.job_rules.specs.Ranges.{IsSkill};
+ghost use Rattle.level_audit.specs.Rules.{HasCauses, IsInOrder, IsLaterShelf, IsSkill, Item, MIN_FRAGMENT, NameFiles, ResultIs, SceneValue, art_of, block_size, bytes_of, colormap_of, has_item, holding_of, itself, lump_at, lump_bytes, needed_lumps, scene_in, sizes_of};
 ghost use Rattle.std.specs.Prelude.{◌≡◌, ◌≢◌, ◌<◌, ◌≤◌, ◌+◌, ℕ, List, length, true, Some, Ok, IfOk, IfErr, IfSome, IsOk};
-ghost use Rattle.art_rules.specs.Words.{HasCauses, IsLaterShelf, itself, lump_at, lump_bytes, NameFiles, ResultIs};
-ghost use Rattle.scene_rules.specs.Words.{art_of, block_size, bytes_of, colormap_of, has_item, holding_of, IsInOrder, Item, MIN_FRAGMENT, needed_lumps, scene_in, SceneValue, sizes_of};
 ghost use Rattle.texture_build.specs.Caches.{IsAtRest, IsEmpty, IsFaithful, KeepsCounts, composite_owner, holds_static, lump_owner};
 ghost use Rattle.texture_build.specs.Calls.{IfFull, LeavesInOrder, HoldContents, ReadsLumps};
 ghost use Rattle.texture_build.specs.Sizes.{HasSizes, IsGapAround, StandsBeside};

@@ -2,16 +2,13 @@
 //
 // Rules: `scene_rules`, Scenes; `specs/Bases`. The original: `P_SetupLevel`, p_setup.c,
 // `R_InitTextures`, r_data.c.
-ghost use Rattle.art_rules.specs.Words.{from_below, itself, MAP_LUMPS};
+ghost use Rattle.level_audit.specs.Rules.{MAP_LUMPS, MAX_TEXTURES, Map, PALETTE_SIZE, base_in, base_over, colormap_of, from_below, is_map_lump, itself, label_of, level_in, lists_in};
 ghost use Rattle.std.specs.Prelude.{◌≡◌, ◌<◌, ◌≤◌, ◌+◌, ℕ, [], length, true, Ok, IfOk, OnOk};
 ghost use Rattle.texture_build.specs.Calls.{ReadsLumps};
 ghost use Rattle.texture_build.specs.Sizes.{StandsBeside};
-ghost use Rattle.art_rules.specs.declared.TheConstants.{MAX_TEXTURES};
 ghost use Rattle.level_scene.specs.Asked.{IsLumpOfMap};
 ghost use Rattle.texture_lists.specs.Asked.{IsListLump};
-ghost use Rattle.scene_rules.specs.declared.TheConstants.{PALETTE_SIZE};
-ghost use Rattle.scene_rules.specs.declared.refusal.AuditRefusal.TheVariants.{Map, Texture};
-ghost use Rattle.scene_rules.specs.Words.{base_in, base_over, colormap_of, is_map_lump, label_of, level_in, lists_in};
+ghost use Rattle.scene_rules.specs.declared.refusal.AuditRefusal.TheVariants.{Texture};
 ghost use Rattle.level_audit.specs.Asked.{IsOfBase, IsOfMap};
 ghost use Rattle.sound_scene.specs.Bases.{base_of};
 

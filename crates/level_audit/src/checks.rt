@@ -4,8 +4,7 @@
 // Rules: `scene_rules`, Scenes (`checked`), Middles. The original: `MF_SHADOW`, p_mobj.h;
 // `R_RenderMaskedSegRange`, r_segs.c. This project's own: such a level is refused.
 ghost use Rattle.level_scene.specs.Faults.{scene_fault};
-ghost use Rattle.art_rules.specs.Words.{ResultIs};
-ghost use Rattle.scene_rules.specs.Words.{bad_middle, checked, texture_by};
+ghost use Rattle.level_audit.specs.Rules.{ResultIs, bad_middle, checked, texture_by};
 ghost use Rattle.sound_scene.specs.Whole.{IsMiddleSingle};
 ghost use Rattle.std.specs.Prelude.{◌≡◌, ◌<◌, ◌^◌, ◌⊎◌, true, All, length, OnOk};
 ghost use Rattle.texture_build.specs.Views.{IsPrepared};

@@ -1,11 +1,10 @@
 // The first palette.
 //
 // Rules: `scene_rules`, Scenes. The original: `R_InitColormaps`, r_data.c.
-ghost use Rattle.art_rules.specs.Words.{itself, lump_at};
+ghost use Rattle.level_audit.specs.Rules.{PALETTE_SIZE, itself, lump_at};
 ghost use Rattle.std.specs.Prelude.{◌≡◌, ◌<◌, ◌≤◌, length, take, Ok, IfOk, OnOk};
 ghost use Rattle.texture_build.specs.Calls.{ReadsLumps};
 ghost use Rattle.texture_build.specs.Sizes.{StandsBeside};
-ghost use Rattle.scene_rules.specs.declared.TheConstants.{PALETTE_SIZE};
 
 use crate::{AuditFault, AuditRefusal};
 use art_rules::{OutOfMemory, Shelf};

@@ -1,7 +1,7 @@
 // Why a level is not accepted.
 ghost use Rattle.std.specs.Prelude.{◌≡◌};
-ghost use Rattle.art_rules.specs.Words.{fault_above};
-ghost use Rattle.scene_rules.specs.declared.refusal.AuditRefusal.TheVariants.{Map, Sprite, Texture};
+ghost use Rattle.level_audit.specs.Rules.{Map, Sprite, fault_above};
+ghost use Rattle.scene_rules.specs.declared.refusal.AuditRefusal.TheVariants.{Texture};
 ghost use Rattle.level_audit.specs.Faults.{above_scene};
 
 use art_rules::Fault;

@@ -3,9 +3,8 @@
 // Rules: `scene_rules`, Middles. The original: `R_RenderMaskedSegRange`, r_segs.c.
 ghost use Rattle.std.specs.Prelude.{◌≡◌, ◌<◌, ◌^◌, ◌&&◌, ◌⊎◌, ℕ, true, false, All, length, IfOk};
 ghost use Rattle.std.specs.List.{list_any};
-ghost use Rattle.art_rules.specs.Words.{least};
+ghost use Rattle.level_audit.specs.Rules.{bad_middle, is_all_single, is_bad_middle, is_seen_through, least, middle_of, texture_by};
 ghost use Rattle.texture_build.specs.Views.{IsPrepared, is_marked, prepared_texture};
-ghost use Rattle.scene_rules.specs.Words.{bad_middle, is_all_single, is_bad_middle, is_seen_through, middle_of, texture_by};
 ghost use Rattle.sound_scene.specs.Views.{AddsMarks};
 ghost use Rattle.sound_scene.specs.Whole.{AllColumnsSingle, IsMiddleSingle, IsNoneOrSingle};
 

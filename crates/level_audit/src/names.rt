@@ -3,10 +3,9 @@
 // Rules: `scene_rules`, Scenes (`faces_in`). The original: `P_LoadSideDefs` and `P_LoadSectors`,
 // p_setup.c.
 ghost use Rattle.std.specs.Prelude.{◌≡◌, ◌<◌, true, All, length, IfOk, IfSome};
-ghost use Rattle.art_rules.specs.Words.{ResultIs};
+ghost use Rattle.level_audit.specs.Rules.{ResultIs, faces_in};
 ghost use Rattle.level_scene.specs.Bounds.{AreBelow, AreThere};
 ghost use Rattle.level_scene.specs.Faults.{scene_fault};
-ghost use Rattle.scene_rules.specs.Words.{faces_in};
 ghost use Rattle.sound_scene.specs.Scenes.{faces_of};
 
 use art_rules::Name8;

@@ -2,15 +2,12 @@
 //
 // Rules: `scene_rules`, Scenes (`scene_on`); `specs/Scenes`. The original: `P_SetupLevel`,
 // p_setup.c, `R_PrecacheLevel`, r_data.c.
-ghost use Rattle.job_rules.specs.Ranges.{IsSkill};
-ghost use Rattle.art_rules.specs.Words.{book_lumps, itself};
+ghost use Rattle.level_audit.specs.Rules.{IsSkill, MAX_TEXTURES, book_lumps, itself, need_of, scene_on, scene_over, scene_with};
 ghost use Rattle.std.specs.Prelude.{◌≡◌, ◌<◌, ◌≤◌, ◌⊎◌, All, length, map, IfOk, IfSome, OnOk};
 ghost use Rattle.texture_build.specs.Calls.{ReadsLumps};
 ghost use Rattle.texture_build.specs.Views.{IsPrepared};
-ghost use Rattle.art_rules.specs.declared.TheConstants.{MAX_TEXTURES};
 ghost use Rattle.sprite_book.specs.Calls.{IsWanted};
 ghost use Rattle.level_scene.specs.Bounds.{AreBelow};
-ghost use Rattle.scene_rules.specs.Words.{need_of, scene_on, scene_over, scene_with};
 ghost use Rattle.sound_scene.specs.Bases.{base_of};
 ghost use Rattle.level_audit.specs.Asked.{IsOfArt, IsOfScene};
 ghost use Rattle.sound_scene.specs.Scenes.{faces_of, scene_value};

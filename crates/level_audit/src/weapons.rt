@@ -2,10 +2,9 @@
 //
 // Rules: `specs/Weapons`. The original: `R_InitSpriteDefs`, r_things.c.
 ghost use Rattle.std.specs.Prelude.{◌≡◌, ◌<◌, ◌≤◌, ◌+◌, ◌++◌, ◌^◌, length, IfOk, OnErr, Some};
-ghost use Rattle.art_rules.specs.Words.{from_below, itself};
+ghost use Rattle.level_audit.specs.Rules.{WeaponArt, from_below, itself};
 ghost use Rattle.texture_build.specs.Calls.{ReadsLumps};
 ghost use Rattle.sprite_book.specs.Calls.{IsWanted};
-ghost use Rattle.scene_rules.specs.declared.refusal.AuditRefusal.TheVariants.{WeaponArt};
 ghost use Rattle.sound_scene.specs.Sound.{with_book};
 ghost use Rattle.level_audit.specs.Weapons.{AreThere, need_of_row, weapon_art, weapon_book, weapon_fault, weapon_needs, weapon_refusal};
 

@@ -1,7 +1,6 @@
 -- The two parts of a part.
 use Rattle.std.proofs.Common.{◌≡◌, ◌+◌, ◌<◌, false}
-use Rattle.made_rules.specs.declared.map.Part.{Part}
-use Rattle.made_rules.specs.Nodes.{IsPart, width, height, is_one_cell, front_part, back_part}
+use Rattle.level_maker.specs.Rules.{IsPart, Part, back_part, front_part, height, is_one_cell, width}
 use Rattle.made_rules.proofs.NodeLemmas.{front-is_part, front-smaller, back-is_part, back-smaller}
 
 -- both are parts and smaller

@@ -1,7 +1,6 @@
 -- The tables of angles that have a formula for each entry.
 use Rattle.std.specs.Prelude.{ℕ, List}
-use Rattle.made_rules.specs.declared.tables.TheConstants.{SINES, TANGENTS}
-use Rattle.made_rules.specs.Tables.{sine_bytes, tangent_bytes}
+use Rattle.level_maker.specs.Rules.{SINES, TANGENTS, sine_bytes, tangent_bytes}
 use Rattle.level_maker.specs.declared.tables.Curve.{Curve}
 use Rattle.level_maker.specs.declared.tables.Curve.TheVariants.{Sine, Tangent}
 

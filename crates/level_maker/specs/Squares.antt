@@ -1,7 +1,6 @@
 -- The records of a made level by lump, and the squares of cells that have them.
 use Rattle.std.specs.Prelude.{ℕ, ◌<◌, ◌^◌, List}
-use Rattle.made_rules.specs.declared.map.TheConstants.{EDGES}
-use Rattle.made_rules.specs.Maps.{leaf_bytes, line_bytes, sector_bytes, seg_bytes, side_bytes, thing_bytes, vertex_bytes}
+use Rattle.level_maker.specs.Rules.{EDGES, leaf_bytes, line_bytes, sector_bytes, seg_bytes, side_bytes, thing_bytes, vertex_bytes}
 use Rattle.level_maker.specs.declared.map.MadeLump.{MadeLump}
 use Rattle.level_maker.specs.declared.map.MadeLump.TheVariants.{Leaves, Lines, Sectors, Segs, Sides, Things, Vertices}
 

@@ -1,8 +1,6 @@
 // The records of a made level.
 ghost use Rattle.std.specs.Prelude.{◌≡◌, ◌<◌, ◌++◌, ◌*◌, ◌+◌, ◌^◌, IfOk, OnOk};
-ghost use Rattle.made_rules.specs.Bytes.{records};
-ghost use Rattle.made_rules.specs.Cells.{corner, next_edge};
-ghost use Rattle.made_rules.specs.Maps.{thing_bytes, line_flags, line_bytes, side_bytes, middle_name, inner_name, has_grate, wall_name, vertex_bytes, seg_bytes, leaf_bytes};
+ghost use Rattle.level_maker.specs.Rules.{corner, has_grate, inner_name, leaf_bytes, line_bytes, line_flags, middle_name, next_edge, records, seg_bytes, side_bytes, thing_bytes, vertex_bytes, wall_name};
 ghost use Rattle.level_maker.specs.Squares.{IsEdge, IsRecord, IsSquare, record_bytes};
 
 use crate::bytes::{put_half, put_halves};

@@ -1,9 +1,7 @@
 // Patches: pictures in columns.
 ghost use Rattle.std.specs.Prelude.{◌≡◌, ◌<◌, ◌++◌, ◌*◌, ◌+◌, ◌^◌, [], ◌∷◌, IfOk, OnOk};
 ghost use Rattle.std.specs.List.{flat_map};
-ghost use Rattle.word_rules.specs.Listed.{listed};
-ghost use Rattle.made_rules.specs.Bytes.{halves, records};
-ghost use Rattle.made_rules.specs.Pictures.{made_texel, post_bytes, column_bytes, column_size, made_column_place, made_patch};
+ghost use Rattle.level_maker.specs.Rules.{column_bytes, column_size, halves, listed, made_column_place, made_patch, made_texel, post_bytes, records};
 
 use crate::bytes::{put_halves, put_word};
 use made_rules::{Picture, Post};

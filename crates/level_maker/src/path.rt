@@ -1,7 +1,6 @@
 // Paths through the made levels.
 ghost use Rattle.std.specs.Prelude.{◌≡◌, ◌<◌, ◌≤◌, ◌++◌, ◌*◌, ◌^◌, IfOk, OnOk, decimal};
-ghost use Rattle.made_rules.specs.Bytes.{records};
-ghost use Rattle.made_rules.specs.Texts.{path_place, path_angle, made_path_row, made_path};
+ghost use Rattle.level_maker.specs.Rules.{made_path, made_path_row, path_angle, path_place, records};
 
 use itoa::Buffer;
 use made_rules::{

@@ -1,9 +1,6 @@
 // The angle tables by formula.
 ghost use Rattle.std.specs.Prelude.{◌≡◌, ◌<◌, ◌≤◌, ◌++◌, ◌*◌, ◌+◌, ◌^◌, IfOk, OnOk, count_by, nat_lt, length};
-ghost use Rattle.word_rules.specs.Listed.{listed};
-ghost use Rattle.made_rules.specs.Bytes.{records};
-ghost use Rattle.view_rules.specs.Formulas.{sine_product, half_sine, made_sine, upper_tangent, made_tangent};
-ghost use Rattle.made_rules.specs.Tables.{made_angle, angle_bytes, made_tables};
+ghost use Rattle.level_maker.specs.Rules.{angle_bytes, half_sine, listed, made_angle, made_sine, made_tables, made_tangent, records, sine_product, upper_tangent};
 ghost use Rattle.level_maker.specs.Curves.{curve_bytes, curve_length};
 
 use crate::bytes::put_word;

@@ -1,8 +1,7 @@
 // The names of patches, and the wall textures.
 ghost use Rattle.std.specs.Prelude.{◌≡◌, ◌<◌, ◌++◌, ◌*◌, ◌+◌, ◌^◌, [], ◌∷◌, length, IfOk, OnOk};
 ghost use Rattle.std.specs.List.{flat_map};
-ghost use Rattle.made_rules.specs.Bytes.{words};
-ghost use Rattle.made_rules.specs.Textures.{made_patch_names, made_textures, texture, wall_textures, other_textures, texture_bytes, patch_place_bytes};
+ghost use Rattle.level_maker.specs.Rules.{made_patch_names, made_textures, other_textures, patch_place_bytes, texture, texture_bytes, wall_textures, words};
 
 use crate::bytes::put_halves;
 use made_rules::PatchPlace;

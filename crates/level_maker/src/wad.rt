@@ -1,7 +1,6 @@
 // The made WAD file.
 ghost use Rattle.std.specs.Prelude.{◌≡◌, ◌<◌, ◌≤◌, ◌*◌, ◌+◌, [], ◌∷◌, IfOk, OnOk};
-ghost use Rattle.word_rules.specs.Listed.{listed};
-ghost use Rattle.made_rules.specs.Wads.{WadParts, parts_of, no_lumps, lump_of, with_lumps, table_lumps, patch_lumps, made_flat_lump, flat_lumps, sprite_lumps, thing_lumps, wall_lumps, tree_lumps, art_lumps, level_lumps, file_of, made_wad};
+ghost use Rattle.level_maker.specs.Rules.{WadParts, art_lumps, file_of, flat_lumps, level_lumps, listed, lump_of, made_flat_lump, made_wad, no_lumps, parts_of, patch_lumps, sprite_lumps, table_lumps, thing_lumps, tree_lumps, wall_lumps, with_lumps};
 
 use crate::bytes::{put_size, put_word};
 use crate::map::{MadeLump, made_lump};

@@ -4,4 +4,3 @@ pub mod Segs
 pub mod Events
 pub mod Walk
 pub mod Drawsegs
-pub mod Rows

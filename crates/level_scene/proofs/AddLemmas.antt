@@ -1,7 +1,6 @@
 -- A lump of a map that was fetched, and what adding it to a builder comes to.
-use Rattle.art_rules.specs.Words.{Fault, itself, lump_bytes, ShelfView}
+use Rattle.level_scene.specs.Rules.{Fault, Heap, MapLump, MapRefusal, ShelfView, itself, lump_bytes, size_refusal, unless}
 use Rattle.art_rules.proofs.Common.{ap, Err, err_from_is_err_and, IsErrAnd, List, MatchResult, None, Ok, OnOk, Option, refl, Result, Some, sym, ℕ, ◌↔◌, ◌∙◌, ◌≡◌}
-use Rattle.scene_rules.specs.Words.{Heap, MapLump, MapRefusal, size_refusal, unless}
 use Rattle.lump_cache.specs.DirectoryView.{DirectoryView}
 use Rattle.map_lumps.specs.declared.fault.MapFault.{MapFault}
 use Rattle.map_lumps.specs.declared.fault.MapFault.TheVariants.{Refused, OutOfMemory}

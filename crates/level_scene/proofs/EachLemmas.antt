@@ -1,8 +1,6 @@
 -- A loop that finds something for each of a list, and the first for which there is nothing.
 use Rattle.art_rules.proofs.Common.{[], All, All-push, ap, drop, Err, get_or, length, length-append, List, None, Option, Some, subst, sym, true, ℕ, ◌++◌, ◌+◌, ◌<◌, ◌∙◌, ◌∷◌, ◌≡◌}
-use Rattle.art_rules.specs.Words.{ResultIs}
-use Rattle.scene_rules.specs.declared.refusal.SceneRefusal.{SceneRefusal}
-use Rattle.scene_rules.specs.Words.{each_or}
+use Rattle.level_scene.specs.Rules.{ResultIs, SceneRefusal, each_or}
 use Rattle.scene_rules.proofs.NumberedLemmas.{each_after, each_after-found, each_after-next}
 use Rattle.level_scene.specs.declared.fault.SceneFault.TheVariants.{Refused}
 use Rattle.level_scene.specs.Faults.{scene_fault}

@@ -2,8 +2,7 @@
 use Rattle.art_rules.proofs.Common.{[], All, ap, arith, Bool, cases_eq, cases_lt, cond, drop, drop_more, eq-eqb, false, filter, get_or, get_or-replicate, get_or-reverse, get_or-set_other, get_or-set_same, get_or_past, Global, inl, inr, length, length-map, length-replicate, List, map, map-set, ne_eqb, refl, replicate, reverse, reverse-append, subst, sym, true, ℕ, ◌++◌, ◌+◌, ◌-◌, ◌<◌, ◌∙◌, ◌∷◌, ◌≡◌}
 use Rattle.std.proofs.Common.{set, Vec}
 use Rattle.std.proofs.lemmas.List.{get_or-map}
-use Rattle.scene_rules.specs.Words.{is_in_sector, PlacedThing, things_of}
-use Rattle.scene_rules.specs.declared.Placed.{Placed}
+use Rattle.level_scene.specs.Rules.{Placed, PlacedThing, is_in_sector, things_of}
 use Rattle.level_scene.specs.Groups.{AreGroupsOf, IsIn, group_at}
 
 things_by : (b : Bool) (placed : Placed) (rest : List Placed) → reverse (map (λ (p : Placed). p.thing) (cond b (placed ∷ rest) rest)) ≡ cond b (reverse (map (λ (p : Placed). p.thing) rest) ++ placed.thing ∷ []) (reverse (map (λ (p : Placed). p.thing) rest))

@@ -1,9 +1,8 @@
 -- Laws of `leaf_from` and `is_within`, at a leaf and at a node.
 use Rattle.art_rules.proofs.Common.{arith, List, ltb-true, refl, slice_get, Some, suc, true, zero, ℕ, ℤ, ◌-◌, ◌<◌, ◌≡◌, ◌≤◌}
-use Rattle.scene_rules.specs.Node.{Node}
-use Rattle.scene_rules.specs.Words.{child_on, is_there, is_within, Leaf as LeafChild, leaf_below, leaf_from, Node as NodeChild, partition_of}
+use Rattle.level_scene.specs.Rules.{Node, child_on, is_there, is_within, leaf_below, leaf_from, partition_of, side_of}
+use Rattle.scene_rules.specs.Words.{Leaf as LeafChild, Node as NodeChild}
 use Rattle.scene_rules.proofs.Laws.{child_passes}
-use Rattle.art_rules.specs.Words.{side_of}
 
 -- a leaf is the leaf itself
 pub leaf_from-leaf : (nodes : List Node) (x y : ℤ) (levels leaf : ℕ) → leaf_from nodes x y levels (LeafChild leaf) ≡ leaf

@@ -1,7 +1,7 @@
 -- All eight lumps and then the level of their records, and a map that is found by its name.
 use Rattle.art_rules.proofs.Common.{[], ap, Err, IfOk, IsErrAnd, List, MatchResult, None, Ok, ok_or, Option, option_map, refl, Result, Some, sym, true, ℕ, ◌+◌, ◌∙◌, ◌∷◌, ◌≡◌}
-use Rattle.art_rules.specs.Words.{and_then, Fault, itself, Lump, LumpNo, map_of, or_else, OutOfMemory as LevelShort, Refused as LevelRefused, ShelfView}
-use Rattle.scene_rules.specs.Words.{Heap, is_map_lump, label_of, level_from, level_in, level_of, LevelValue, Linedefs, map_bytes, map_refusal, MapLump, MapRefusal, Nodes, NoMap, records_of, Sectors, Segs, Sidedefs, size_refusal, sizes_refusal, Ssectors, Things, unless, Vertexes}
+use Rattle.level_scene.specs.Rules.{Fault, Heap, LevelValue, Linedefs, Lump, LumpNo, MapLump, MapRefusal, NoMap, Nodes, Sectors, Segs, ShelfView, Sidedefs, Ssectors, Things, Vertexes, and_then, is_map_lump, itself, label_of, level_from, level_in, level_of, map_bytes, map_of, map_refusal, or_else, records_of, size_refusal, sizes_refusal, unless}
+use Rattle.art_rules.specs.Words.{OutOfMemory as LevelShort, Refused as LevelRefused}
 use Rattle.lump_cache.specs.DirectoryView.{DirectoryView}
 use Rattle.map_lumps.specs.declared.fault.MapFault.{MapFault}
 use Rattle.map_lumps.specs.declared.fault.MapFault.TheVariants.{Refused, OutOfMemory}

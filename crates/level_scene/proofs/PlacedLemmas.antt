@@ -1,7 +1,6 @@
 -- Laws of `placed_from`.
 use Rattle.art_rules.proofs.Common.{add-one, ap, append-nil, append_assoc, at_drop_all, at_drop_more, drop, get_or, length, List, refl, sym, ℕ, ◌++◌, ◌+◌, ◌<◌, ◌∙◌, ◌≡◌, ◌≤◌}
-use Rattle.scene_rules.specs.Words.{LevelValue, placed_from, placed_if, placed_row, Thing, ThingLine}
-use Rattle.scene_rules.specs.declared.Placed.{Placed}
+use Rattle.level_scene.specs.Rules.{LevelValue, Placed, Thing, ThingLine, placed_from, placed_if, placed_row}
 
 module _ (level : LevelValue) (lines : List ThingLine) (skill : ℕ) where
   -- one thing more

@@ -1,7 +1,6 @@
 -- Laws of `first_shadow`.
 use Rattle.art_rules.proofs.Common.{at_drop_all, at_drop_more, drop, false, get_or, length, List, None, refl, Some, true, ℕ, ◌+◌, ◌<◌, ◌∙◌, ◌≡◌, ◌≤◌}
-use Rattle.scene_rules.specs.declared.Placed.{Placed}
-use Rattle.scene_rules.specs.Words.{first_shadow, is_shadow}
+use Rattle.level_scene.specs.Rules.{Placed, first_shadow, is_shadow}
 
 -- one that is a shadow
 pub first_shadow-found : (all : List Placed) (i : ℕ) (placed d : Placed) → i < length all → get_or all i d ≡ placed → is_shadow placed ≡ true → first_shadow (drop i all) ≡ Some placed.thing.thing

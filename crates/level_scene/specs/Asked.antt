@@ -1,7 +1,6 @@
 -- The lumps of a map that are asked for.
 use Rattle.std.specs.Prelude.{◌≡◌, ℕ, true, List, Ok}
-use Rattle.art_rules.specs.Words.{Lump}
-use Rattle.scene_rules.specs.Words.{is_map_lump, label_of}
+use Rattle.level_scene.specs.Rules.{Lump, is_map_lump, label_of}
 
 -- one of the eight lumps behind the label of the map of that name
 pub record IsLumpOfMap (lumps : List Lump) (name : List ℕ) (lump : ℕ) : Type 0 where

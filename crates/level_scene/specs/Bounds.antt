@@ -1,9 +1,7 @@
 -- Numbers of textures and of flats that are there.
 use Rattle.std.specs.Prelude.{ℕ, ◌<◌, ⊤}
-use Rattle.scene_rules.specs.Words.{SideTextures}
-use Rattle.scene_rules.specs.declared.Flat.{Flat}
-use Rattle.scene_rules.specs.declared.Flat.TheVariants.{Sky, Lump as LumpFlat}
-use Rattle.scene_rules.specs.declared.SectorFlats.{SectorFlats}
+use Rattle.level_scene.specs.Rules.{Flat, SectorFlats, SideTextures, Sky}
+use Rattle.scene_rules.specs.declared.Flat.TheVariants.{Lump as LumpFlat}
 
 -- the number 0, which is none, or one below the count of textures
 abbrev pub IsNoneOrBelow : ℕ → ℕ → Type 0

@@ -1,10 +1,8 @@
 -- Faults of scenes and of maps as those of any layer.
-use Rattle.art_rules.specs.Words.{Fault}
+use Rattle.level_scene.specs.Rules.{Fault, MapRefusal, SceneRefusal}
 use Rattle.art_rules.specs.Fault.TheVariants as above
-use Rattle.scene_rules.specs.Words.{MapRefusal}
 use Rattle.map_lumps.specs.declared.fault.MapFault.{MapFault}
 use Rattle.map_lumps.specs.declared.fault.MapFault.TheVariants as map
-use Rattle.scene_rules.specs.declared.refusal.SceneRefusal.{SceneRefusal}
 use Rattle.level_scene.specs.declared.fault.SceneFault.{SceneFault}
 use Rattle.level_scene.specs.declared.fault.SceneFault.TheVariants.{Refused, OutOfMemory}
 

@@ -1,8 +1,7 @@
 -- What a contract sees of the private lists of things by sector.
 use Rattle.std.specs.Prelude.{◌≡◌, ◌<◌, ℕ, List, [], map, Vec, slice_index_or}
 use Rattle.std.specs.declared.alloc.Global.{Global}
-use Rattle.scene_rules.specs.Words.{PlacedThing, things_of}
-use Rattle.scene_rules.specs.declared.Placed.{Placed}
+use Rattle.level_scene.specs.Rules.{Placed, PlacedThing, things_of}
 
 -- the thing stands in one of so many sectors
 abbrev pub IsIn : ℕ → Placed → Type 0

@@ -3,3 +3,4 @@ pub mod Bounds
 pub mod Faults
 pub mod Groups
 pub mod Lumps
+pub mod Rules

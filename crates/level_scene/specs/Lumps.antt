@@ -1,7 +1,6 @@
 -- A builder with some lumps of a map, or the first of them that is too large.
 use Rattle.std.specs.Prelude.{ℕ, suc, ◌+◌, List, [], ◌∷◌, Result, Ok}
-use Rattle.art_rules.specs.Words.{and_then}
-use Rattle.scene_rules.specs.Words.{MapLump, MapRefusal, size_refusal, unless}
+use Rattle.level_scene.specs.Rules.{MapLump, MapRefusal, and_then, size_refusal, unless}
 use Rattle.map_lumps.specs.Builders.{BuilderValue, with_lump}
 
 -- the builder with one lump more, refused where that is too large

@@ -2,8 +2,7 @@
 //
 // Rules: `scene_rules`, SectorFlats. The original: `P_LoadSectors`, p_setup.c.
 ghost use Rattle.std.specs.Prelude.{◌≡◌, true, length, All, IfOk, IfSome};
-ghost use Rattle.art_rules.specs.Words.{ResultIs};
-ghost use Rattle.scene_rules.specs.Words.{flat_named, flat_number, flats_of, sector_flats, surface_of, surfaces_of};
+ghost use Rattle.level_scene.specs.Rules.{ResultIs, flat_named, flat_number, flats_of, sector_flats, surface_of, surfaces_of};
 ghost use Rattle.level_scene.specs.Bounds.{AreThere, IsThere};
 ghost use Rattle.level_scene.specs.Faults.{scene_fault};
 

@@ -1,11 +1,10 @@
 // A level from the lumps of its map.
 //
 // Rules: `level_rules/maps`, Levels; `scene_rules`, Scenes. The original: `P_SetupLevel`, p_setup.c.
-ghost use Rattle.art_rules.specs.Words.{itself};
+ghost use Rattle.level_scene.specs.Rules.{is_map_lump, itself, label_of, level_in, level_of, map_bytes};
 ghost use Rattle.std.specs.Prelude.{◌≡◌, ◌<◌, ◌≤◌, ◌+◌, ◌^◌, ℕ, length, true, Ok, Err, IfOk, MatchResult};
 ghost use Rattle.lump_cache.specs.Calls.{ReadsLumps};
 ghost use Rattle.lump_cache.specs.Sizes.{StandsBeside};
-ghost use Rattle.scene_rules.specs.Words.{is_map_lump, label_of, level_in, level_of, map_bytes};
 ghost use Rattle.level_scene.specs.Asked.{IsLumpOfMap};
 
 use crate::LevelFault;

@@ -2,10 +2,9 @@
 //
 // Rules: `specs/Lumps`; what a call over a cache answers stands in `lump_cache`. The original:
 // `P_SetupLevel`, p_setup.c.
-ghost use Rattle.art_rules.specs.Words.{itself};
+ghost use Rattle.level_scene.specs.Rules.{is_map_lump, itself, lump_no};
 ghost use Rattle.std.specs.Prelude.{◌≡◌, ◌<◌, ◌≤◌, ◌+◌, ◌^◌, ℕ, length, map, true, false, Ok, IfOk, OnOk, slice_set};
 ghost use Rattle.std.specs.List.{range_with_len};
-ghost use Rattle.scene_rules.specs.Words.{is_map_lump, lump_no};
 ghost use Rattle.map_lumps.specs.Builders.{all_added, empty_builder, is_added};
 ghost use Rattle.lump_cache.specs.Calls.{ReadsLumps};
 ghost use Rattle.lump_cache.specs.Sizes.{StandsBeside};

@@ -3,8 +3,8 @@
 // Rules: `scene_rules`, Places. The original: `P_SpawnMapThing`, p_mobj.c; `P_SetThingPosition`,
 // p_maputl.c; `R_PointInSubsector`, r_main.c.
 ghost use Rattle.std.specs.Prelude.{◌≡◌, ◌<◌, ◌≤◌, ◌+◌, ◌-◌, ◌++◌, ℕ, true, [], length, map, replicate, slice_get, Some, All, IfOk, OnOk};
-ghost use Rattle.scene_rules.specs.Words.{child_on, first_shadow, is_in_skill, is_shadow, is_within, IsChildIn, IsNodeIn, leaf_from, MAX_DEPTH, need_of, Node as NodeChild, placed_if, placed_in, placed_row, placed_thing, placed_things, sector_at, skill_option, thing_angle, thing_height, things_of};
-ghost use Rattle.scene_rules.specs.declared.Placed.{Placed};
+ghost use Rattle.level_scene.specs.Rules.{IsChildIn, IsNodeIn, MAX_DEPTH, Placed, child_on, first_shadow, is_in_skill, is_shadow, is_within, leaf_from, need_of, placed_if, placed_in, placed_row, placed_thing, placed_things, sector_at, skill_option, thing_angle, thing_height, things_of};
+ghost use Rattle.scene_rules.specs.Words.{Node as NodeChild};
 ghost use Rattle.level_scene.specs.Groups.{AreGroupsOf, IsIn};
 
 use art_rules::{ANG45, FRACTION_BITS, Need, OutOfMemory};

@@ -4,8 +4,7 @@
 // `G_DoLoadLevel`, g_game.c.
 ghost use Rattle.std.specs.Prelude.{◌≡◌, ◌<◌, ◌==◌, ◌&&◌, ◌||◌, ℕ, true, not, length, option_map, All, IfOk, IfSome, OnOk};
 ghost use Rattle.std.specs.List.{list_any};
-ghost use Rattle.art_rules.specs.Words.{Refused, ResultIs};
-ghost use Rattle.scene_rules.specs.Words.{episode_sky, has_sky, is_digit, is_episode_map, is_numbered_map, is_sky_name, is_sky_texture, is_wanted_texture, map_number, numbered_sky, shows_sky, shows_texture, side_textures, sky_name, sky_texture, textures_of};
+ghost use Rattle.level_scene.specs.Rules.{Refused, ResultIs, episode_sky, has_sky, is_digit, is_episode_map, is_numbered_map, is_sky_name, is_sky_texture, is_wanted_texture, map_number, numbered_sky, shows_sky, shows_texture, side_textures, sky_name, sky_texture, textures_of};
 ghost use Rattle.level_scene.specs.Bounds.{AreBelow, IsNoneOrBelow};
 ghost use Rattle.level_scene.specs.Faults.{scene_fault};
 

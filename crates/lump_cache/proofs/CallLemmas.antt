@@ -2,17 +2,9 @@
 use Rattle.std.proofs.Common.{◌≡◌, ℕ, ◌+◌, ◌<◌, ◌≤◌, Bool, true, List, Option, Some, None, Result, Ok, Err, refl, sym, subst, ap, ◌∙◌, arith, IsErrAnd, MatchResult}
 use Rattle.std.specs.Prelude.{IfErr, IfOk, IfSome}
 use Rattle.std.proofs.lemmas.Result.{err_from_is_err_and}
-use Rattle.outside.specs.Causes.{FaultsRose}
-use Rattle.outside.specs.Shelf.{ShelfView}
-use Rattle.outside.specs.declared.fault.Fault.{Fault}
-use Rattle.outside.specs.declared.fault.Fault.TheVariants.{Refused, ReadFault, ZoneFull, OutOfMemory}
-use Rattle.outside.specs.Faults.{fault_above, from_below, FaultFits, ResultIs, HasCauseAt}
+use Rattle.lump_cache.specs.Rules.{Fault, FaultFits, FaultsRose, HasCauseAt, Heap, KeepsOrder, MIN_FRAGMENT, OutOfMemory, Owner, ReadFault, Refused, ResultIs, ShelfView, ZoneFull, block_size, bytes_of, fault_above, from_below, holding_of, lump_bytes, owned_block}
 use Rattle.outside.proofs.ShelfLemmas.{follows_none, follows_then, all_stand_later}
-use Rattle.zone_rules.specs.declared.TheConstants.{MIN_FRAGMENT}
-use Rattle.zone_rules.specs.Zones.{Owner, Heap, block_size, bytes_of, holding_of, owned_block}
-use Rattle.zone_rules.specs.Orders.{KeepsOrder}
 use Rattle.zone_rules.proofs.OrderLemmas.{order_none, order_then}
-use Rattle.lump_rules.specs.Contents.{lump_bytes}
 use Rattle.wad_dir.specs.DirectoryView.{DirectoryView}
 use Rattle.lump_cache.specs.Caches.{IsAtRest, HasStatic, composite_owner, holds_static}
 use Rattle.lump_cache.specs.Calls.{ReadsLumps, PreservesCache, HoldContents, IsFullFor, IfFull, InOrderAt}
@@ -57,10 +49,6 @@ told_later {a} {b} {dir} {contents} keeps hold = record {
   within = hold.within;
   faithful = keeps.faithful contents hold.stand hold.faithful;
 }
-
--- a block that is pinned for the whole run is so later too
-pub static_later : {a b : ShelfView} {dir : DirectoryView} {x y : Heap} (o : Owner) (size : ℕ) → PreservesCache a b dir x y → HasStatic size (owned_block o x.blocks) → HasStatic size (owned_block o y.blocks)
-static_later {x} o size keeps has = subst (HasStatic size) (sym (keeps.static o (has_static_held size (owned_block o x.blocks) has))) has
 
 -- a zone at rest that was full does not hold the block beside the colormap
 pub full_room : {wants : ℕ → Type 0} {dir : DirectoryView} {z : Heap} {wanted widest' : ℕ} → IsFullFor wants dir z wanted widest' → (colormap count : ℕ) → IsAtRest colormap count z → z.size < block_size count + wanted + MIN_FRAGMENT

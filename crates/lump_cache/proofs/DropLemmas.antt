@@ -1,8 +1,6 @@
 -- What follows where the block of an owner that is no lump was freed.
 use Rattle.std.proofs.Common.{◌≡◌, ℕ, false, List, ◌∷◌, None, refl, sym, subst, ap, ◌∙◌, inl}
-use Rattle.lump_rules.specs.declared.wad.Lump.{Lump}
-use Rattle.zone_rules.specs.Zones.{Owner, Heap, owned_block, same_owner}
-use Rattle.zone_rules.specs.Frees.{without_block}
+use Rattle.lump_cache.specs.Rules.{Heap, Lump, Owner, owned_block, same_owner, without_block}
 use Rattle.zone_rules.proofs.OwnerLemmas.{owned_freed, owned_freed_others}
 use Rattle.lump_cache.specs.Caches.{IsFaithful, IsAtRest, IsAtRestExcept, IsUnpinned, KeepsCounts, KeptOrPurged, lump_owner}
 use Rattle.lump_cache.proofs.RestButLemmas.{rest_but_fewer, rest_but_none, rest_but_same, rest_of_none}

@@ -2,18 +2,10 @@
 use Rattle.std.proofs.Common.{◌≡◌, ℕ, ◌+◌, ◌<◌, ◌≤◌, Bool, true, false, List, [], ◌∷◌, length, Option, Some, None, Result, Ok, Err, refl, sym, subst, ap, ◌∙◌, arith, inl, inr, ◌⊎◌, option_map, MatchResult}
 use Rattle.std.specs.Prelude.{IfErr, IfSome, IsSome, IsNone, OnOk, ⊤}
 use Rattle.std.proofs.lemmas.Bool.{cases_lt, cond-true, false≢true}
-use Rattle.outside.specs.Shelf.{ShelfView, NameFiles, counted}
-use Rattle.zone_rules.specs.declared.Tag.{Tag}
-use Rattle.zone_rules.specs.declared.Tag.TheVariants.{Static, Cache}
-use Rattle.zone_rules.specs.Zones.{Owner, Holding, Block, Heap, IsLive, holding_of, owned_block, bytes_of, block_size, same_owner}
-use Rattle.zone_rules.specs.Requests.{TakesBlock, without_room}
-use Rattle.zone_rules.specs.Frees.{without_block}
-use Rattle.zone_rules.specs.Orders.{Item, has_item, IsInOrder, KeepsOrder}
+use Rattle.lump_cache.specs.Rules.{Block, Cache, Heap, Holding, IsInOrder, IsLive, Item, KeepsOrder, NameFiles, Owner, ShelfView, Static, Tag, TakesBlock, block_size, bytes_of, counted, has_item, holding_of, lump_at, lump_bytes, owned_block, same_owner, without_block, without_room}
 use Rattle.zone_rules.proofs.GapLemmas.{small_all}
 use Rattle.zone_rules.proofs.OrderLemmas.{order_has_room, order_taken}
 use Rattle.zone_rules.proofs.OwnerLemmas.{owner_eq}
-use Rattle.lump_rules.specs.Lookups.{lump_at}
-use Rattle.lump_rules.specs.Contents.{lump_bytes}
 use Rattle.wad_dir.specs.DirectoryView.{DirectoryView}
 use Rattle.lump_cache.specs.declared.fault.CacheFault.{CacheFault}
 use Rattle.lump_cache.specs.declared.fault.CacheFault.TheVariants.{ZoneFull, ReadFault}

@@ -1,9 +1,6 @@
 -- The first lump of an empty cache, pinned for the whole run, leaves it at rest.
 use Rattle.std.proofs.Common.{◌≡◌, ℕ, false, Some, ◌∙◌, arith}
-use Rattle.zone_rules.specs.declared.Tag.{Tag}
-use Rattle.zone_rules.specs.declared.Tag.TheVariants.{Static}
-use Rattle.zone_rules.specs.Zones.{Owner, Block, Heap, IsSound, owned_block, same_owner, block_size}
-use Rattle.zone_rules.specs.Requests.{TakesBlock}
+use Rattle.lump_cache.specs.Rules.{Block, Heap, IsSound, Owner, Static, Tag, TakesBlock, block_size, owned_block, same_owner}
 use Rattle.zone_rules.proofs.EmptyLemmas.{empty_place}
 use Rattle.zone_rules.proofs.OrderSumLemmas.{block_least}
 use Rattle.lump_cache.specs.Caches.{IsAtRest, IsStatic, IsUnpinned, IsEmpty, lump_owner}

@@ -3,8 +3,7 @@
 use Rattle.std.proofs.Common.{◌≡◌, ℕ, ◌+◌, ◌≤◌, Bool, true, false, List, [], ◌∷◌, length, Option, Some, None, refl, sym, subst, ap, ◌∙◌, arith, option_map}
 use Rattle.std.specs.Prelude.{IfSome}
 use Rattle.std.proofs.lemmas.Bool.{cond-true, cond-false}
-use Rattle.zone_rules.specs.Zones.{Owner, Holding, Block, Heap, IsSound, FitsHolding, is_held_by, same_owner, owned_block, bytes_of, block_size}
-use Rattle.zone_rules.specs.Requests.{total}
+use Rattle.lump_cache.specs.Rules.{Block, FitsHolding, Heap, Holding, IsSound, Owner, block_size, bytes_of, is_held_by, owned_block, same_owner, total}
 use Rattle.zone_rules.proofs.GapLemmas.{total-cons}
 use Rattle.zone_rules.proofs.PurgeLemmas.{tiles_end}
 use Rattle.lump_cache.specs.Caches.{HasStatic, IsStatic, lump_owner}

@@ -2,10 +2,7 @@
 use Rattle.std.proofs.Common.{◌≡◌, ℕ, Result, Ok, Err, refl, sym, subst, ap, ◌∙◌, IsErrAnd, MatchResult}
 use Rattle.std.specs.Prelude.{IfOk, OnOk}
 use Rattle.std.proofs.lemmas.Result.{err_from_is_err_and}
-use Rattle.outside.specs.Shelf.{ShelfView}
-use Rattle.outside.specs.declared.fault.Fault.{Fault}
-use Rattle.outside.specs.Faults.{fault_above, itself}
-use Rattle.zone_rules.specs.Zones.{Heap}
+use Rattle.lump_cache.specs.Rules.{Fault, Heap, ShelfView, fault_above, itself}
 use Rattle.wad_dir.specs.DirectoryView.{DirectoryView}
 use Rattle.lump_cache.specs.declared.fault.CacheFault.{CacheFault}
 use Rattle.lump_cache.specs.declared.fault.CacheFault.TheVariants.{ZoneFull, ReadFault}

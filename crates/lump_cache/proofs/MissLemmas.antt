@@ -2,15 +2,8 @@
 use Rattle.std.proofs.Common.{◌≡◌, ℕ, ◌<◌, false, List, None, Result, Ok, Err, refl, sym, ap, ◌∙◌, inl}
 use Rattle.std.specs.Prelude.{All, IfSome, IsNone, IsTrue, OnOk, OnErr, ⊤}
 use Rattle.std.proofs.lemmas.Bool.{false≢true}
-use Rattle.outside.specs.Causes.{FaultsRose}
-use Rattle.outside.specs.Faults.{ResultIs, HasCauses}
-use Rattle.outside.specs.Shelf.{ShelfView, IsLaterShelf, NameFiles, counted}
+use Rattle.lump_cache.specs.Rules.{AllWithin, FaultsRose, HasCauses, Heap, IsLaterShelf, IsLive, IsSound, NameFiles, Owner, ResultIs, ShelfView, Tag, TakesBlock, block_size, bytes_of, counted, gaps, holding_of, lump_at, lump_bytes, owned_block, same_owner, total, without_room}
 use Rattle.outside.proofs.ShelfLemmas.{follows_none}
-use Rattle.lump_rules.specs.Lookups.{lump_at}
-use Rattle.lump_rules.specs.Contents.{lump_bytes, AllWithin}
-use Rattle.zone_rules.specs.declared.Tag.{Tag}
-use Rattle.zone_rules.specs.Zones.{Owner, Heap, IsLive, IsSound, owned_block, holding_of, bytes_of, block_size, same_owner}
-use Rattle.zone_rules.specs.Requests.{gaps, total, without_room, TakesBlock}
 use Rattle.wad_dir.specs.DirectoryView.{DirectoryView}
 use Rattle.lump_cache.specs.declared.fault.CacheFault.{CacheFault}
 use Rattle.lump_cache.specs.declared.fault.CacheFault.TheVariants.{ZoneFull, ReadFault}

@@ -1,16 +1,10 @@
 -- A cache in order, through requests, releases and new tags.
 use Rattle.std.proofs.Common.{◌≡◌, ℕ, ◌+◌, ◌≤◌, ◌<◌, Bool, true, false, cond, List, Option, Some, None, refl, ◌∙◌, arith, Result, Ok, Err}
 use Rattle.std.specs.Prelude.{All, IsOk, IsErr, OnOk}
-use Rattle.zone_rules.specs.declared.Tag.{Tag}
-use Rattle.zone_rules.specs.declared.Tag.TheVariants.{Cache}
-use Rattle.zone_rules.specs.Zones.{Owner, Holding, Heap, IsSound, holding_of, block_size}
-use Rattle.zone_rules.specs.Requests.{TakesBlock, gaps, total}
-use Rattle.zone_rules.specs.Frees.{with_tag}
-use Rattle.zone_rules.specs.Orders.{Item, IsInOrder, KeepsOrder, has_item, is_live, lump_size}
+use Rattle.lump_cache.specs.Rules.{Cache, Heap, Holding, IsInOrder, IsSound, Item, KeepsOrder, Owner, Tag, TakesBlock, block_size, counted, gaps, has_item, holding_of, is_live, lump_size, total, with_tag}
 use Rattle.zone_rules.proofs.OrderSumLemmas.{item}
 use Rattle.zone_rules.proofs.OrderLemmas.{order_none, order_has_room, order_taken}
 use Rattle.zone_rules.proofs.OrderChangeLemmas.{order_retagged, live_retagged}
-use Rattle.outside.specs.Shelf.{counted}
 use Rattle.lump_cache.specs.Caches.{with_tag_unless_static, holds_static, release_heap, released_heap}
 
 pub order_unless_static : (o : Owner) (tag : Tag) (items : List Item) (z : Heap) (taken : ℕ) → IsInOrder items z → KeepsOrder items z (with_tag_unless_static o tag z) taken taken

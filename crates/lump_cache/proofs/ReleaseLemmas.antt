@@ -1,9 +1,6 @@
 -- What follows of a release, of a lump or of a composite.
 use Rattle.std.proofs.Common.{◌≡◌, ℕ, false, List, ◌∷◌, Option, Some, None, refl, sym, subst, ap, ◌∙◌}
-use Rattle.lump_rules.specs.declared.wad.Lump.{Lump}
-use Rattle.zone_rules.specs.declared.Tag.TheVariants.{Cache}
-use Rattle.zone_rules.specs.Zones.{Owner, Holding, Heap, holding_of, owned_block, same_owner}
-use Rattle.zone_rules.specs.Orders.{Item, IsInOrder, KeepsOrder}
+use Rattle.lump_cache.specs.Rules.{Cache, Heap, Holding, IsInOrder, Item, KeepsOrder, Lump, Owner, holding_of, owned_block, same_owner}
 use Rattle.lump_cache.specs.Caches.{IsFaithful, IsAtRest, IsAtRestExcept, KeepsCounts, release_heap, released_heap}
 use Rattle.lump_cache.proofs.FaithLemmas.{faithful_release}
 use Rattle.lump_cache.proofs.FillLemmas.{released_others}

@@ -2,10 +2,7 @@
 use Rattle.std.proofs.Common.{◌≡◌, ℕ, Bool, true, false, cond, not, Option, Some, None, refl, sym, subst, ap, ◌∙◌, option_map, inl, inr, Result, Ok, Err}
 use Rattle.std.specs.Prelude.{option_and_then, OnOk, OnErr}
 use Rattle.std.proofs.lemmas.Bool.{false≢true}
-use Rattle.zone_rules.specs.declared.Tag.{Tag}
-use Rattle.zone_rules.specs.declared.Tag.TheVariants.{Cache}
-use Rattle.zone_rules.specs.Zones.{Owner, Holding, Block, Heap, owned_block, holding_of, same_owner, is_held_by, is_pinned, is_purgeable, pins, may_purge, is_purgeable_tag}
-use Rattle.zone_rules.specs.Frees.{with_tag, retag_block, set_tag}
+use Rattle.lump_cache.specs.Rules.{Block, Cache, Heap, Holding, Owner, Tag, holding_of, is_held_by, is_pinned, is_purgeable, is_purgeable_tag, may_purge, owned_block, pins, retag_block, same_owner, set_tag, with_tag}
 use Rattle.zone_rules.proofs.PurgeLemmas.{pinned_stays}
 use Rattle.zone_rules.proofs.OwnerLemmas.{owner_eq, owned_block-map, owned_retagged_others, retag_held}
 use Rattle.lump_cache.specs.Caches.{KeptOrPurged, MayPurge, IsAtRest, IsStatic, IsUnpinned, IsPinned, HasBlock, HasUse, lump_owner, with_tag_unless_static, holds_static, is_static_tag, release_heap, released_heap}

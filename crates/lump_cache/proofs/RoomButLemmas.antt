@@ -3,8 +3,7 @@
 use Rattle.std.proofs.Common.{◌≡◌, ℕ, ◌+◌, ◌*◌, ◌<◌, ◌≤◌, Bool, true, false, not, List, [], ◌∷◌, ◌++◌, Option, Some, None, refl, sym, subst, ap, ◌∙◌, arith}
 use Rattle.std.proofs.lemmas.Bool.{cond-true, cond-false, or_from}
 use Rattle.std.proofs.lemmas.List.Sums.{sum_by-append}
-use Rattle.zone_rules.specs.Zones.{Owner, Block, Heap, IsSound, Unique, OwnsOnce, Lacks, AllFit, FitsHolding, is_pinned, is_held_by, same_owner, owned_block, block_size}
-use Rattle.zone_rules.specs.Requests.{gaps, total, widest}
+use Rattle.lump_cache.specs.Rules.{AllFit, Block, FitsHolding, Heap, IsSound, Lacks, Owner, OwnsOnce, Unique, block_size, gaps, is_held_by, is_pinned, owned_block, same_owner, total, widest}
 use Rattle.zone_rules.proofs.GapLemmas.{all_small, total-cons}
 use Rattle.zone_rules.proofs.OwnerLemmas.{owner_eq, none_owned, lacks_held}
 use Rattle.lump_cache.specs.Caches.{IsAtRestExcept, HasAsked, IsPinned, IsUnpinned, NoRoom, lump_owner}

@@ -3,8 +3,7 @@ use Rattle.std.proofs.Common.{◌≡◌, ℕ, ◌+◌, ◌<◌, ◌≤◌, Bool,
 use Rattle.std.specs.Prelude.{All, ⊤}
 use Rattle.std.proofs.lemmas.Bool.{cond-true, cond-false, and_from, eq-eqb, false≢true}
 use Rattle.std.proofs.lemmas.List.Elements.{All-head, All-tail}
-use Rattle.zone_rules.specs.Zones.{Owner, Holding, Block, Heap, IsSound, Tiles, Unique, OwnsOnce, Lacks, AllFit, FitsHolding, free_block, is_pinned, pins, is_held_by, holds_for, same_owner, owned_block, block_size}
-use Rattle.zone_rules.specs.Requests.{gaps, total, in_front, opens, widest}
+use Rattle.lump_cache.specs.Rules.{AllFit, Block, FitsHolding, Heap, Holding, IsSound, Lacks, Owner, OwnsOnce, Tiles, Unique, block_size, free_block, gaps, holds_for, in_front, is_held_by, is_pinned, opens, owned_block, pins, same_owner, total, widest}
 use Rattle.zone_rules.proofs.EmptyLemmas.{empty_is, sound_size}
 use Rattle.zone_rules.proofs.GapLemmas.{all_small, total-cons}
 use Rattle.zone_rules.proofs.PurgeLemmas.{tiles_end, tiles_within, Within}

@@ -3,15 +3,9 @@ use Rattle.std.proofs.Common.{◌≡◌, ◌<◌, ◌≤◌, ◌+◌, ℕ, false
 use Rattle.std.specs.Prelude.{IfSome, IsNone, IsSome, OnOk, OnErr}
 use Rattle.std.proofs.lemmas.Bool.{cases_eq, ne_eqb}
 use Rattle.std.proofs.lemmas.List.Elements.{All-get_or}
-use Rattle.outside.specs.Shelf.{ShelfView}
-use Rattle.lump_rules.specs.declared.wad.Lump.{Lump}
-use Rattle.lump_rules.specs.Lookups.{last_of, lump_at, no_lump}
-use Rattle.lump_rules.specs.Contents.{LiesWithin}
+use Rattle.lump_cache.specs.Rules.{Block, Heap, Holding, IsLive, LiesWithin, Lump, LumpNo, Owner, ShelfView, Tag, block_size, bytes_of, holding_of, last_of, lump_at, no_lump, owned_block, same_owner}
 use Rattle.lump_rules.proofs.ContentLemmas.{lump_bytes-length}
-use Rattle.zone_rules.specs.declared.Tag.{Tag}
-use Rattle.zone_rules.specs.Zones.{Owner, Holding, Block, Heap, IsLive, owned_block, holding_of, bytes_of, block_size, same_owner}
 use Rattle.wad_dir.specs.DirectoryView.{DirectoryView}
-use Rattle.lump_rules.specs.declared.wad.LumpNo.{LumpNo}
 use Rattle.lump_cache.specs.declared.fault.CacheFault.{CacheFault}
 use Rattle.lump_cache.specs.Caches.{HasStatic, IsEmpty, HasBlock, HasUse, KeptOrPurged, lump_owner, with_tag_unless_static}
 use Rattle.lump_cache.proofs.FaithLemmas.{bytes_in, kept_bytes, none_bytes, unless_static_bytes}

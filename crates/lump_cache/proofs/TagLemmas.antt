@@ -2,10 +2,7 @@
 use Rattle.std.proofs.Common.{◌≡◌, Bool, true, false, cond, List, [], ◌∷◌, map, Option, Some, None, refl, sym, ap, ap₂, ◌∙◌, option_map}
 use Rattle.std.specs.Prelude.{IsSome, option_and_then}
 use Rattle.std.proofs.lemmas.Bool.{cond-true, cond-false, false≢true}
-use Rattle.zone_rules.specs.declared.Tag.{Tag}
-use Rattle.zone_rules.specs.declared.Tag.TheVariants.{Static, Level, Cache}
-use Rattle.zone_rules.specs.Zones.{Owner, Holding, Block, Heap, IsLive, IsSound, Lacks, Unique, holding_of, is_held_by, owned_block}
-use Rattle.zone_rules.specs.Frees.{with_tag, retag_block, set_tag}
+use Rattle.lump_cache.specs.Rules.{Block, Cache, Heap, Holding, IsLive, IsSound, Lacks, Level, Owner, Static, Tag, Unique, holding_of, is_held_by, owned_block, retag_block, set_tag, with_tag}
 use Rattle.zone_rules.proofs.OwnerLemmas.{owned_block-map, retag_held, lacks_held}
 use Rattle.lump_cache.specs.Caches.{KeepsCounts, holds_static, is_static_tag, with_tag_unless_static}
 use Rattle.lump_cache.proofs.RestButLemmas.{owned_held}

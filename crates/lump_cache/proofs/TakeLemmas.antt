@@ -1,11 +1,7 @@
 -- What follows of a request for a block.
 use Rattle.std.proofs.Common.{◌≡◌, ℕ, ◌<◌, false, true, List, [], ◌∷◌, Result, Ok, Err, refl, sym, subst, arith}
 use Rattle.std.specs.Prelude.{IfErr, IsOk, OnOk, OnErr}
-use Rattle.lump_rules.specs.declared.wad.Lump.{Lump}
-use Rattle.zone_rules.specs.declared.Tag.{Tag}
-use Rattle.zone_rules.specs.Zones.{Owner, Heap, IsLive, owned_block, block_size, same_owner}
-use Rattle.zone_rules.specs.Requests.{TakesBlock, without_room, block_left, passed_blocks, stretches}
-use Rattle.zone_rules.specs.Orders.{Item, has_item, IsInOrder, KeepsOrder}
+use Rattle.lump_cache.specs.Rules.{Heap, IsInOrder, IsLive, Item, KeepsOrder, Lump, Owner, Tag, TakesBlock, block_left, block_size, has_item, owned_block, passed_blocks, same_owner, stretches, without_room}
 use Rattle.zone_heap.specs.declared.zone.ZoneFull.{ZoneFull}
 use Rattle.lump_cache.specs.Caches.{IsFaithful, IsAtRest, IsAtRestExcept, IsPinned, IsUnpinned, KeepsCounts, KeptOrPurged, HasBlock, is_static_tag, lump_owner}
 use Rattle.lump_cache.specs.Fetches.{RequestsBlock}

@@ -1,10 +1,6 @@
 -- What follows of a call that writes bytes of a block.
 use Rattle.std.proofs.Common.{◌≡◌, ℕ, false, List, refl, sym, subst, ap, ap₂, ◌∙◌, inl}
-use Rattle.lump_rules.specs.declared.wad.Lump.{Lump}
-use Rattle.lump_rules.specs.Contents.{lump_bytes}
-use Rattle.zone_rules.specs.Zones.{Owner, Heap, IsLive, owner_at, owned_block, same_owner}
-use Rattle.zone_rules.specs.Frees.{with_bytes}
-use Rattle.zone_rules.specs.Orders.{Item, IsInOrder, KeepsOrder, is_live}
+use Rattle.lump_cache.specs.Rules.{Heap, IsInOrder, IsLive, Item, KeepsOrder, Lump, Owner, is_live, lump_bytes, owned_block, owner_at, same_owner, with_bytes}
 use Rattle.zone_rules.proofs.OrderChangeLemmas.{live_written, order_written}
 use Rattle.zone_rules.proofs.OwnerLemmas.{owned_written_others}
 use Rattle.lump_cache.specs.Caches.{KeptOrPurged, IsFaithful, IsAtRest, IsAtRestExcept, IsPinned, KeepsCounts, lump_owner, composite_owner}

@@ -2,17 +2,10 @@
 use Rattle.std.specs.Prelude.{◌≡◌, ℕ, ◌<◌, Bool, true, false, List, length, Option, Some, None, IfSome, ⊤, ◌⊎◌, if◌then◌else◌, Result, Ok, Err, All}
 use Rattle.std.specs.List.{list_any}
 use Rattle.std.specs.Option.{option_map_or}
-use Rattle.lump_rules.specs.declared.wad.Lump.{Lump}
-use Rattle.lump_rules.specs.Contents.{lump_bytes}
-use Rattle.zone_rules.specs.declared.Tag.{Tag}
-use Rattle.zone_rules.specs.declared.Tag.TheVariants.{Static, Level, Cache}
-use Rattle.zone_rules.specs.Zones.{Owner, Holding, Block, Heap, owner_at, owned_block, bytes_of, same_owner, is_pinned, is_purgeable, holding_of, block_size}
-use Rattle.zone_rules.specs.Requests.{gaps, widest, total, TakesBlock}
-use Rattle.outside.specs.declared.fault.Fault.{Fault}
+use Rattle.lump_cache.specs.Rules.{Block, Cache, Fault, Heap, Holding, Level, Lump, Owner, Static, Tag, TakesBlock, block_size, bytes_of, gaps, holding_of, is_pinned, is_purgeable, lump_bytes, owned_block, owner_at, same_owner, total, widest, with_bytes, with_tag, without_block}
 use Rattle.outside.specs.declared.fault.Fault.TheVariants as fault
 use Rattle.lump_cache.specs.declared.fault.CacheFault.{CacheFault}
 use Rattle.lump_cache.specs.declared.fault.CacheFault.TheVariants.{ZoneFull, ReadFault}
-use Rattle.zone_rules.specs.Frees.{with_bytes, with_tag, without_block}
 
 -- who holds the blocks of lumps and of composites
 abbrev pub lump_owner : ℕ → Owner

@@ -1,14 +1,7 @@
 -- A call that reads lumps through the cache: what it answers by the bytes of lumps, and what it
 -- keeps of the cache and of the shelf.
 use Rattle.std.specs.Prelude.{◌≡◌, ℕ, ◌<◌, true, List, Some, IfSome, IfErr, MatchResult, Result, ⊤}
-use Rattle.outside.specs.Shelf.{ShelfView, IsLaterShelf, NameFiles}
-use Rattle.outside.specs.declared.fault.Fault.{Fault}
-use Rattle.outside.specs.declared.fault.Fault.TheVariants.{Refused, ReadFault, ZoneFull, OutOfMemory}
-use Rattle.outside.specs.Faults.{ResultIs, HasCauses}
-use Rattle.lump_rules.specs.Lookups.{lump_at}
-use Rattle.lump_rules.specs.Contents.{lump_bytes, AllWithin}
-use Rattle.zone_rules.specs.Zones.{Owner, Heap, block_size, bytes_of, holding_of, owned_block}
-use Rattle.zone_rules.specs.Orders.{Item, has_item, IsInOrder, KeepsOrder}
+use Rattle.lump_cache.specs.Rules.{AllWithin, Fault, HasCauses, Heap, IsInOrder, IsLaterShelf, Item, KeepsOrder, NameFiles, OutOfMemory, Owner, ReadFault, Refused, ResultIs, ShelfView, ZoneFull, block_size, bytes_of, has_item, holding_of, lump_at, lump_bytes, owned_block}
 use Rattle.wad_dir.specs.DirectoryView.{DirectoryView}
 use Rattle.lump_cache.specs.Caches.{IsFaithful, IsAtRest, KeepsCounts, lump_owner, composite_owner, holds_static}
 use Rattle.lump_cache.specs.Sizes.{HasSizes, IsGapBeside}

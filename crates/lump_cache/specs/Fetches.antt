@@ -1,13 +1,7 @@
 -- What a request for a block and the fetch of a lump do to a cache, and the fetch to the shelf.
 -- What follows of either is in `proofs/TakeLemmas` and `proofs/FetchLemmas`.
 use Rattle.std.specs.Prelude.{◌≡◌, ℕ, ◌<◌, ◌↔◌, false, List, None, IfSome, IfErr, IsNone, IsErr, OnOk, OnErr, Result, Ok, All, ⊤}
-use Rattle.outside.specs.Shelf.{ShelfView, IsLaterShelf, NameFiles, counted}
-use Rattle.outside.specs.Faults.{ResultIs, HasCauses}
-use Rattle.lump_rules.specs.Lookups.{lump_at}
-use Rattle.lump_rules.specs.Contents.{lump_bytes, AllWithin}
-use Rattle.zone_rules.specs.declared.Tag.{Tag}
-use Rattle.zone_rules.specs.Zones.{Owner, Heap, IsLive, IsSound, owned_block, holding_of, bytes_of, same_owner, block_size}
-use Rattle.zone_rules.specs.Requests.{gaps, total, without_room, TakesBlock, block_left, passed_blocks, stretches}
+use Rattle.lump_cache.specs.Rules.{AllWithin, HasCauses, Heap, IsLaterShelf, IsLive, IsSound, NameFiles, Owner, ResultIs, ShelfView, Tag, TakesBlock, block_left, block_size, bytes_of, counted, gaps, holding_of, lump_at, lump_bytes, owned_block, passed_blocks, same_owner, stretches, total, without_room}
 use Rattle.zone_heap.specs.declared.zone.ZoneFull.{ZoneFull}
 use Rattle.wad_dir.specs.DirectoryView.{DirectoryView}
 use Rattle.lump_cache.specs.declared.fault.CacheFault.{CacheFault}

@@ -11,3 +11,4 @@ pub use Rattle.zone_rules.specs.Frees
 pub use Rattle.zone_rules.specs.Orders
 pub use Rattle.zone_rules.specs.declared.Tag
 pub use Rattle.zone_rules.specs.Zones
+pub mod Rules

@@ -1,8 +1,6 @@
 -- What a lump that was made live has.
 use Rattle.std.specs.Prelude.{◌≡◌, ℕ, List, Some, OnOk, Result}
-use Rattle.outside.specs.Shelf.{ShelfView}
-use Rattle.lump_rules.specs.Contents.{lump_bytes}
-use Rattle.zone_rules.specs.Zones.{Heap, bytes_of}
+use Rattle.lump_cache.specs.Rules.{Heap, ShelfView, bytes_of, lump_bytes}
 use Rattle.wad_dir.specs.DirectoryView.{DirectoryView}
 use Rattle.lump_cache.specs.Caches.{lump_owner}
 use Rattle.lump_cache.specs.Calls.{HoldContents}

@@ -1,9 +1,6 @@
 -- Lumps that are asked for by name.
 use Rattle.std.specs.Prelude.{◌≡◌, ℕ, List, Option, Some, option_and_then}
-use Rattle.lump_rules.specs.declared.wad.Lump.{Lump}
-use Rattle.lump_rules.specs.Lookups.{last_of}
-use Rattle.zone_rules.specs.Zones.{Heap, bytes_of}
-use Rattle.lump_rules.specs.declared.wad.LumpNo.{LumpNo}
+use Rattle.lump_cache.specs.Rules.{Heap, Lump, LumpNo, bytes_of, last_of}
 use Rattle.lump_cache.specs.Caches.{lump_owner}
 
 -- the lump is the last of a name

@@ -1,9 +1,6 @@
 -- Sizes of live lumps, and what stands beside the colormap.
 use Rattle.std.specs.Prelude.{◌≡◌, ◌≢◌, ◌<◌, ◌≤◌, ◌+◌, ◌*◌, ◌⊎◌, ℕ, List, length, IfSome}
-use Rattle.lump_rules.specs.declared.wad.Lump.{Lump}
-use Rattle.lump_rules.specs.Lookups.{lump_at}
-use Rattle.zone_rules.specs.declared.TheConstants.{MIN_FRAGMENT}
-use Rattle.zone_rules.specs.Zones.{Heap, block_size, bytes_of, owned_block}
+use Rattle.lump_cache.specs.Rules.{Heap, Lump, MIN_FRAGMENT, block_size, bytes_of, lump_at, owned_block}
 use Rattle.lump_cache.specs.Caches.{HasStatic, lump_owner}
 
 -- each live lump has as many bytes as the directory says

@@ -6,14 +6,7 @@
 ghost use Rattle.std.specs.Prelude.{◌≡◌, ◌<◌, ◌≤◌, ◌+◌, ◌↔◌, ℕ, List, length, true, false, Err, None, All, IfOk, IfSome, IsErr, OnOk, IsNone, ⊤};
 ghost use Rattle.std.specs.Option.{option_copied};
 ghost use Rattle.zone_heap.specs.Calls.{BytesChanged, PairCalled};
-ghost use Rattle.zone_rules.specs.declared.Tag.TheVariants.{Level, Cache};
-ghost use Rattle.outside.specs.Shelf.{NameFiles};
-ghost use Rattle.lump_rules.specs.Lookups.{lump_at};
-ghost use Rattle.lump_rules.specs.declared.wad.Lump.{Lump};
-ghost use Rattle.zone_rules.specs.Zones.{Owner, Heap, IsLive, IsSound, IsZoneSize, fresh_heap, bytes_of, block_size, holding_of, owned_block, same_owner};
-ghost use Rattle.zone_rules.specs.Requests.{gaps, total};
-ghost use Rattle.zone_rules.specs.Frees.{without_block};
-ghost use Rattle.zone_rules.specs.Orders.{Item, has_item, AreRoomy, IsInOrder, KeepsOrder};
+ghost use Rattle.lump_cache.specs.Rules.{AreRoomy, Cache, Heap, IsInOrder, IsLive, IsSound, IsZoneSize, Item, KeepsOrder, Level, Lump, NameFiles, Owner, block_size, bytes_of, fresh_heap, gaps, has_item, holding_of, lump_at, owned_block, same_owner, total, without_block};
 ghost use Rattle.lump_cache.specs.Caches.{lump_owner, composite_owner, release_heap, MatchAnswer, IsFaithful, IsAtRest, IsEmpty, IsPinned, KeepsCounts, HasStatic};
 ghost use Rattle.lump_cache.specs.Fetches.{FetchesLump, RequestsBlock};
 

@@ -3,11 +3,7 @@
 // Rules: `specs/Calls` and `specs/Named`. The original: w_wad.c.
 ghost use Rattle.std.specs.Prelude.{◌≡◌, ◌≢◌, ◌<◌, ◌≤◌, ◌+◌, ℕ, List, length, false, Ok, Some, IfErr, IfOk, IfSome, OnOk, option_map};
 ghost use Rattle.std.specs.Option.{option_copied};
-ghost use Rattle.outside.specs.Faults.{itself};
-ghost use Rattle.outside.specs.declared.fault.Fault.TheVariants.{OutOfMemory};
-ghost use Rattle.lump_rules.specs.Contents.{lump_bytes, named_bytes};
-ghost use Rattle.lump_rules.specs.Lookups.{last_of};
-ghost use Rattle.zone_rules.specs.Zones.{IsLive, bytes_of, block_size, owned_block, same_owner};
+ghost use Rattle.lump_cache.specs.Rules.{IsLive, OutOfMemory, block_size, bytes_of, itself, last_of, lump_bytes, named_bytes, owned_block, same_owner};
 ghost use Rattle.lump_cache.specs.Caches.{HasStatic, cache_fault, lump_owner};
 ghost use Rattle.lump_cache.specs.Calls.{HoldContents, ReadsLumps};
 ghost use Rattle.lump_cache.specs.Lives.{GivesBytes};

@@ -2,8 +2,7 @@
 //
 // Rules: `specs/Fetches`. The original: `W_CacheLumpNum`, w_wad.c.
 ghost use Rattle.std.specs.Prelude.{◌≡◌, ◌<◌, length, IsNone};
-ghost use Rattle.lump_rules.specs.Lookups.{lump_at};
-ghost use Rattle.zone_rules.specs.Zones.{IsLive, IsSound, holding_of};
+ghost use Rattle.lump_cache.specs.Rules.{IsLive, IsSound, holding_of, lump_at};
 ghost use Rattle.lump_cache.specs.Caches.{lump_owner};
 ghost use Rattle.lump_cache.specs.Fetches.{FetchesLump};
 

@@ -1,8 +1,6 @@
 // Bytes of a file, read into the block of a lump.
 ghost use Rattle.std.specs.Prelude.{◌≡◌, ◌<◌, ◌≤◌, ◌+◌, length, IfSome, OnOk, OnErr, IsTrue, IsOk};
-ghost use Rattle.outside.specs.Causes.{FaultsRose};
-ghost use Rattle.outside.specs.Shelf.{IsLaterShelf, IsPieceAt, counted};
-ghost use Rattle.zone_rules.specs.Zones.{IsLive, bytes_of};
+ghost use Rattle.lump_cache.specs.Rules.{FaultsRose, IsLaterShelf, IsLive, IsPieceAt, bytes_of, counted};
 ghost use Rattle.lump_cache.specs.Caches.{lump_owner, IsFilled};
 
 use outside::{Failed, FileNo, Shelf};

@@ -2,8 +2,7 @@
 //
 // Rules: `specs/Caches`. The original: z_zone.c.
 ghost use Rattle.std.specs.Prelude.{◌≡◌, ◌<◌, Some, option_map};
-ghost use Rattle.zone_rules.specs.declared.Tag.TheVariants.{Static, Level, Cache};
-ghost use Rattle.zone_rules.specs.Zones.{owner_at, slot_count, IsSound, holding_of};
+ghost use Rattle.lump_cache.specs.Rules.{Cache, IsSound, Level, Static, holding_of, owner_at, slot_count};
 ghost use Rattle.lump_cache.specs.Caches.{with_tag_unless_static, release_heap, is_static_tag};
 
 use zone_heap::{Slot, SlotKind, Tag, Zone};

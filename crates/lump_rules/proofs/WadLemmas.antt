@@ -1,6 +1,5 @@
 -- Laws of a directory.
-use Rattle.word_rules.proofs.Common.{All, ap, arith, Bool, cond, Decides, Decides-ltb, fails_before_first, false, length, List, ltb-false, nat_lt, None, Ok, Option, option_map, or_else-none, position_or_len, refl, Some, true, ℕ, ◌<◌, ◌≡◌, ◌≤◌}
-use Rattle.word_rules.specs.Least.{or_else}
+use Rattle.word_rules.proofs.Common.{All, ap, arith, Bool, cond, Decides, Decides-ltb, fails_before_first, false, length, List, ltb-false, nat_lt, None, Ok, Option, option_map, position_or_len, refl, Some, true, ℕ, ◌<◌, ◌≡◌, ◌≤◌}
 use Rattle.word_rules.proofs.ListedLemmas.{length-listed, get_or-listed}
 use Rattle.lump_rules.specs.declared.wad.DirRefusal.{DirRefusal}
 use Rattle.lump_rules.specs.declared.wad.DirRefusal.TheVariants.{Entry}

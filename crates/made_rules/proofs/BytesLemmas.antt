@@ -4,11 +4,6 @@ use Rattle.word_rules.specs.Listed.{listed}
 use Rattle.word_rules.proofs.ListedLemmas.{listing}
 use Rattle.made_rules.specs.Bytes.{half, word_bytes, halves, words, records}
 
--- the first two bytes of a word are its half
-pub half-of_word : (n : ℕ) → take 2 (to_le_bytes w32 n) ≡ half n
-unfolding half
-half-of_word n = refl
-
 -- none put behind the bytes that are there
 pub halves-none : (bytes : List ℕ) → bytes ≡ bytes ++ halves []
 unfolding halves

@@ -1,8 +1,6 @@
 -- What eight lumps give that are added one after the other.
 use Rattle.std.proofs.Common.{◌≡◌, refl}
-use Rattle.level_rules.specs.declared.maps.lumps.MapLump.TheVariants.{Things, Linedefs, Sidedefs, Vertexes, Segs, Ssectors, Nodes, Sectors}
-use Rattle.level_rules.specs.maps.Levels.{MapBytes, records_of}
-use Rattle.level_rules.specs.maps.Lumps.{lump_no}
+use Rattle.map_lumps.specs.Rules.{Linedefs, MapBytes, Nodes, Sectors, Segs, Sidedefs, Ssectors, Things, Vertexes, lump_no, records_of}
 use Rattle.map_lumps.specs.Builders.{BuilderValue, all_added, empty_builder, with_lump, with_records}
 
 -- a builder to which the lumps are added in their order

@@ -1,11 +1,6 @@
 -- The level of the lists of all eight lumps.
 use Rattle.std.proofs.Common.{◌≡◌, ◌∙◌, List, None, subst, sym, ap}
-use Rattle.level_rules.specs.declared.Child.{Child}
-use Rattle.level_rules.specs.declared.Leaf.{Leaf}
-use Rattle.level_rules.specs.declared.Seg.{Seg}
-use Rattle.level_rules.specs.maps.Levels.{LevelValue, MapRecords, joined_leaves, joined_level, joined_segs, records_refusal}
-use Rattle.level_rules.specs.maps.Sound.{HasFewRecords, IsSound}
-use Rattle.level_rules.specs.maps.Trees.{root_of}
+use Rattle.map_lumps.specs.Rules.{Child, HasFewRecords, IsSound, Leaf, LevelValue, MapRecords, Seg, joined_leaves, joined_level, joined_segs, records_refusal, root_of}
 use Rattle.level_rules.proofs.maps.JoinLemmas.{joined_level-lists}
 use Rattle.level_rules.proofs.maps.SoundLemmas.{joined_level-sound}
 use Rattle.map_lumps.specs.declared.lists.MapLists.TheInside.{Inside}

@@ -1,10 +1,6 @@
 -- What a contract sees of a `LevelBuilder`: the records of the lumps that it has, and which lumps these are.
 use Rattle.std.specs.Prelude.{ℕ, Bool, true, false, List, [], replicate, slice_index_or, slice_set}
-use Rattle.level_rules.specs.declared.maps.lumps.MapLump.{MapLump}
-use Rattle.level_rules.specs.declared.maps.lumps.MapLump.TheVariants.{Things, Linedefs, Sidedefs, Vertexes, Segs, Ssectors, Nodes, Sectors}
-use Rattle.level_rules.specs.maps.Levels.{MapRecords}
-use Rattle.level_rules.specs.maps.Lumps.{lump_no}
-use Rattle.level_rules.specs.maps.Records.{things_in, lines_in, sides_in, vertexes_in, segs_in, leaves_in, nodes_in, sectors_in}
+use Rattle.map_lumps.specs.Rules.{Linedefs, MapLump, MapRecords, Nodes, Sectors, Segs, Sidedefs, Ssectors, Things, Vertexes, leaves_in, lines_in, lump_no, nodes_in, sectors_in, segs_in, sides_in, things_in, vertexes_in}
 
 -- the records, none of a lump that was not added, and of each lump whether it was, by its number
 pub record BuilderValue : Type 0 where

@@ -1,9 +1,6 @@
 // A level built from its lumps, one after the other. Rules: `level_rules/maps`, Lumps and Levels.
 ghost use Rattle.std.specs.Prelude.{◌≡◌, ◌↔◌, false, OnOk, OnErr, IfOk, Option, Some, None, Ok, Err};
-ghost use Rattle.level_rules.specs.declared.maps.refusal.MapRefusal.{MapRefusal};
-ghost use Rattle.level_rules.specs.maps.Levels.{level_from};
-ghost use Rattle.level_rules.specs.maps.Lumps.{size_refusal};
-ghost use Rattle.level_rules.specs.maps.Sound.{IsSound};
+ghost use Rattle.map_lumps.specs.Rules.{IsSound, MapRefusal, level_from, size_refusal};
 ghost use Rattle.map_lumps.specs.Builders.{all_added, empty_builder, is_added, with_lump};
 
 use crate::fault::MapFault;

@@ -1,8 +1,6 @@
 // Entries by number. Rules: `level_rules/maps`, Lumps and Ranges; `level_rules`, Levels.
 ghost use Rattle.std.specs.Prelude.{◌≡◌, ◌<◌, length};
-ghost use Rattle.level_rules.specs.Levels.{child_on};
-ghost use Rattle.level_rules.specs.maps.Lumps.{lump_no};
-ghost use Rattle.level_rules.specs.maps.Ranges.{line_by, side_on};
+ghost use Rattle.map_lumps.specs.Rules.{child_on, line_by, lump_no, side_on};
 
 use level_rules::{Child, MapLine, MapLump, Node};
 

@@ -1,7 +1,6 @@
 // The fields of a record, read from its bytes. Rules: `level_rules/maps`, Fields.
 ghost use Rattle.std.specs.Prelude.{◌≡◌, ◌≤◌, ◌+◌, length};
-ghost use Rattle.word_rules.specs.Words.{fixed};
-ghost use Rattle.level_rules.specs.maps.Fields.{angle_field, fixed_at, name_field, signed_half_at, half_at};
+ghost use Rattle.map_lumps.specs.Rules.{angle_field, fixed, fixed_at, half_at, name_field, signed_half_at};
 
 use byteorder::{ByteOrder, LittleEndian};
 use level_rules::maps::layout::{NAME_SIZE, WORD_SIZE};

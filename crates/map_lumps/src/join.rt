@@ -1,9 +1,7 @@
 // The segs and leaves of a level, with what they name by number joined to them. Rules:
 // `level_rules/maps`, Levels.
 ghost use Rattle.std.specs.Prelude.{◌≡◌, ◌<◌, true, length, map, IfOk, Option, None};
-ghost use Rattle.level_rules.specs.maps.Firsts.{first_refusal};
-ghost use Rattle.level_rules.specs.maps.Levels.{back_sector, has_back, leaf_of, sector_of, seg_between, seg_of, vertex_by};
-ghost use Rattle.level_rules.specs.maps.Ranges.{has_side, leaf_refusal, line_by, line_field, line_refusal, seg_field, seg_refusal};
+ghost use Rattle.map_lumps.specs.Rules.{back_sector, first_refusal, has_back, has_side, leaf_of, leaf_refusal, line_by, line_field, line_refusal, sector_of, seg_between, seg_field, seg_of, seg_refusal, vertex_by};
 
 use crate::entries::{line_by, side_on};
 use level_rules::{Leaf, MapLeaf, MapLine, MapSeg, MapVertex, NO_SIDE, Seg, Side, TWO_SIDED};

@@ -1,8 +1,7 @@
 // A level: its lists, with everything that they name by number in range. Rules: `level_rules/maps`,
 // Levels and Sound.
 ghost use Rattle.std.specs.Prelude.{◌≡◌};
-ghost use Rattle.level_rules.specs.maps.Levels.{LevelValue};
-ghost use Rattle.level_rules.specs.maps.Sound.{IsSound};
+ghost use Rattle.map_lumps.specs.Rules.{IsSound, LevelValue};
 ghost use Rattle.map_lumps.specs.Views.{level_value};
 
 use level_rules::{Child, Leaf, Node, Sector, Seg, Side, Thing};

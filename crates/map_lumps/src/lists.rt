@@ -1,9 +1,6 @@
 // The records of all eight lumps, and the level that they give. Rules: `level_rules/maps`, Levels.
 ghost use Rattle.std.specs.Prelude.{◌≡◌, OnOk, IfOk, Option, Some, None, Ok, Err};
-ghost use Rattle.level_rules.specs.declared.maps.refusal.MapRefusal.{MapRefusal};
-ghost use Rattle.level_rules.specs.maps.Levels.{joined_leaves, joined_level, joined_segs, level_from, no_leaf_refusal, range_refusal, records_refusal};
-ghost use Rattle.level_rules.specs.maps.Sound.{IsSound};
-ghost use Rattle.level_rules.specs.maps.Trees.{root_of};
+ghost use Rattle.map_lumps.specs.Rules.{IsSound, MapRefusal, joined_leaves, joined_level, joined_segs, level_from, no_leaf_refusal, range_refusal, records_refusal, root_of};
 
 use crate::fault::MapFault;
 use crate::join::{join_leaves, join_segs};

@@ -1,9 +1,6 @@
 // The first number of a map that names nothing that is there. Rules: `level_rules/maps`, Ranges.
 ghost use Rattle.std.specs.Prelude.{◌≡◌, ◌+◌, ◌<◌, ℕ, List, Option, Some, None};
-ghost use Rattle.level_rules.specs.declared.maps.records.MapLine.{MapLine};
-ghost use Rattle.level_rules.specs.declared.maps.refusal.MapRefusal.{MapRefusal};
-ghost use Rattle.level_rules.specs.maps.Firsts.{first_refusal};
-ghost use Rattle.level_rules.specs.maps.Ranges.{has_side, index_refusal, is_side, is_there, leaf_field, leaf_refusal, line_field, line_refusal, node_field, node_refusal, seg_field, seg_refusal, side_field, side_refusal};
+ghost use Rattle.map_lumps.specs.Rules.{MapLine, MapRefusal, first_refusal, has_side, index_refusal, is_side, is_there, leaf_field, leaf_refusal, line_field, line_refusal, node_field, node_refusal, seg_field, seg_refusal, side_field, side_refusal};
 ghost use Rattle.map_lumps.specs.declared.ranges.Counts.{Counts};
 
 use crate::entries::{child_on, line_by, lump_no, side_on};

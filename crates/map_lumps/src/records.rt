@@ -1,7 +1,6 @@
 // The records of a map lump. Rules: `level_rules/maps`, Records.
 ghost use Rattle.std.specs.Prelude.{◌≡◌, ◌<◌, ◌≤◌, ◌+◌, ◌*◌, ◌/◌, ℕ, List, length, IfOk};
-ghost use Rattle.level_rules.specs.maps.Fields.{record_at, records_in};
-ghost use Rattle.level_rules.specs.maps.Records.{box_at, child_at, child_of, leaf_in, line_at, line_in, node_in, sector_in, seg_in, side_in, thing_in, vertex_in};
+ghost use Rattle.map_lumps.specs.Rules.{box_at, child_at, child_of, leaf_in, line_at, line_in, node_in, record_at, records_in, sector_in, seg_in, side_in, thing_in, vertex_in};
 
 use crate::fields::{angle_field, fixed_at, half_at, name_field, signed_half_at};
 use level_rules::maps::layout::*;
@@ -54,8 +53,7 @@ fn entry_at(bytes: &[u8], size: usize, n: usize) -> &[u8]
 impl MapRecord for Thing {
     ghost use Rattle.std.specs.Prelude.{ℕ};
     ghost use Rattle.std.proofs.Common.{rules};
-    ghost use Rattle.level_rules.specs.declared.maps.layout.TheConstants.{THING_SIZE};
-    ghost use Rattle.level_rules.specs.maps.Records.{thing_in};
+    ghost use Rattle.map_lumps.specs.Rules.{THING_SIZE, thing_in};
 
     ghost SIZE = { THING_SIZE };
 
@@ -80,8 +78,7 @@ impl MapRecord for Thing {
 impl MapRecord for MapLine {
     ghost use Rattle.std.specs.Prelude.{ℕ};
     ghost use Rattle.std.proofs.Common.{rules};
-    ghost use Rattle.level_rules.specs.declared.maps.layout.TheConstants.{LINE_SIZE};
-    ghost use Rattle.level_rules.specs.maps.Records.{line_in};
+    ghost use Rattle.map_lumps.specs.Rules.{LINE_SIZE, line_in};
 
     ghost SIZE = { LINE_SIZE };
 
@@ -104,8 +101,7 @@ impl MapRecord for MapLine {
 impl MapRecord for Side {
     ghost use Rattle.std.specs.Prelude.{ℕ};
     ghost use Rattle.std.proofs.Common.{rules};
-    ghost use Rattle.level_rules.specs.declared.maps.layout.TheConstants.{SIDE_SIZE};
-    ghost use Rattle.level_rules.specs.maps.Records.{side_in};
+    ghost use Rattle.map_lumps.specs.Rules.{SIDE_SIZE, side_in};
 
     ghost SIZE = { SIDE_SIZE };
 
@@ -131,8 +127,7 @@ impl MapRecord for Side {
 impl MapRecord for MapVertex {
     ghost use Rattle.std.specs.Prelude.{ℕ};
     ghost use Rattle.std.proofs.Common.{rules};
-    ghost use Rattle.level_rules.specs.declared.maps.layout.TheConstants.{VERTEX_SIZE};
-    ghost use Rattle.level_rules.specs.maps.Records.{vertex_in};
+    ghost use Rattle.map_lumps.specs.Rules.{VERTEX_SIZE, vertex_in};
 
     ghost SIZE = { VERTEX_SIZE };
 
@@ -154,8 +149,7 @@ impl MapRecord for MapVertex {
 impl MapRecord for MapSeg {
     ghost use Rattle.std.specs.Prelude.{ℕ};
     ghost use Rattle.std.proofs.Common.{rules};
-    ghost use Rattle.level_rules.specs.declared.maps.layout.TheConstants.{SEG_SIZE};
-    ghost use Rattle.level_rules.specs.maps.Records.{seg_in};
+    ghost use Rattle.map_lumps.specs.Rules.{SEG_SIZE, seg_in};
 
     ghost SIZE = { SEG_SIZE };
 
@@ -181,8 +175,7 @@ impl MapRecord for MapSeg {
 impl MapRecord for MapLeaf {
     ghost use Rattle.std.specs.Prelude.{ℕ};
     ghost use Rattle.std.proofs.Common.{rules};
-    ghost use Rattle.level_rules.specs.declared.maps.layout.TheConstants.{LEAF_SIZE};
-    ghost use Rattle.level_rules.specs.maps.Records.{leaf_in};
+    ghost use Rattle.map_lumps.specs.Rules.{LEAF_SIZE, leaf_in};
 
     ghost SIZE = { LEAF_SIZE };
 
@@ -204,8 +197,7 @@ impl MapRecord for MapLeaf {
 impl MapRecord for Node {
     ghost use Rattle.std.specs.Prelude.{ℕ};
     ghost use Rattle.std.proofs.Common.{rules};
-    ghost use Rattle.level_rules.specs.declared.maps.layout.TheConstants.{NODE_SIZE};
-    ghost use Rattle.level_rules.specs.maps.Records.{node_in};
+    ghost use Rattle.map_lumps.specs.Rules.{NODE_SIZE, node_in};
 
     ghost SIZE = { NODE_SIZE };
 
@@ -228,8 +220,7 @@ impl MapRecord for Node {
 impl MapRecord for Sector {
     ghost use Rattle.std.specs.Prelude.{ℕ};
     ghost use Rattle.std.proofs.Common.{rules};
-    ghost use Rattle.level_rules.specs.declared.maps.layout.TheConstants.{SECTOR_SIZE};
-    ghost use Rattle.level_rules.specs.maps.Records.{sector_in};
+    ghost use Rattle.map_lumps.specs.Rules.{SECTOR_SIZE, sector_in};
 
     ghost SIZE = { SECTOR_SIZE };
 

@@ -1,7 +1,6 @@
 // The tree of the nodes under the root. Rules: `level_rules/maps`, Trees.
 ghost use Rattle.std.specs.Prelude.{◌≡◌, ◌<◌, ◌≤◌, ◌+◌, ◌-◌, true, false, length, slice_get, slice_set, slice_index_or, OnOk, IfNone, Option, Some, None, Ok, Err};
-ghost use Rattle.level_rules.specs.declared.maps.refusal.MapRefusal.{MapRefusal};
-ghost use Rattle.level_rules.specs.maps.Trees.{preorder, reached_after, root_of, tree_refusal, visit_refusal, visits_refusal};
+ghost use Rattle.map_lumps.specs.Rules.{MapRefusal, preorder, reached_after, root_of, tree_refusal, visit_refusal, visits_refusal};
 
 use crate::entries::child_on;
 use crate::fault::MapFault;

@@ -1,9 +1,6 @@
 -- Laws of a sprite's columns, and of what a fragment that it comes to marks, paints and clips.
 use Rattle.picture_rules.proofs.Common.{[], and-false_left, and-false_right, and_parts, ap, arith, bit_and, Bool, false, inl, inr, int_le, int_lt, ints, List, max, min, nat_le, nat_lt, nat_tests, None, not, Option, pos, refl, Some, subst, sym, true, ℕ, ℤ, ◌&&◌, ◌+◌, ◌<ℤ◌, ◌<◌, ◌==◌, ◌^◌, ◌∙◌, ◌≡◌, ◌≤ℤ◌, ◌≤◌, ◌⊎◌}
-use Rattle.picture_rules.specs.Words.{Art, Drawseg, drawseg_has, entry_has, gives_bottom, gives_top, is_behind, ViewValue}
-use Rattle.picture_rules.specs.declared.wall.TheConstants.{SIL_BOTTOM, SIL_TOP}
-use Rattle.picture_rules.specs.declared.wall.FragmentNote.{FragmentNote}
-use Rattle.picture_rules.specs.declared.sprite.SpriteEntry.{SpriteEntry}
+use Rattle.masked_draw.specs.Rules.{Art, Drawseg, FragmentNote, SIL_BOTTOM, SIL_TOP, SpriteEntry, ViewValue, drawseg_has, entry_has, gives_bottom, gives_top, is_behind}
 use Rattle.vissprites.specs.Bounds.{lies_within}
 use Rattle.masked_draw.specs.Clipped.{clips_bottom, clips_top, row_after}
 use Rattle.masked_draw.specs.Marks.{AreOwnMarked, MarksBy, MissesColumns, is_between, is_passed, unmarked_dots}

@@ -1,11 +1,9 @@
 -- What the loops of the masked pass keep of their hands: the references, the count of the marks, and what each call asks.
 use Rattle.std.proofs.Common.{◌≡◌, ℕ, List, length, Result, refl, ◌∙◌}
-use Rattle.art_rules.specs.Words.{ShelfView}
+use Rattle.masked_draw.specs.Rules.{Dot, FragmentNote, Painter, ShelfView}
 use Rattle.texture_build.specs.CacheFault.{CacheFault}
 use Rattle.texture_build.specs.Caches.{cache_fault}
-use Rattle.picture_rules.specs.Words.{Dot, Painter}
 use Rattle.pixel_strips.specs.Canvases.{CanvasView}
-use Rattle.picture_rules.specs.declared.wall.FragmentNote.{FragmentNote}
 use Rattle.texture_build.specs.Paints.{Paints}
 use Rattle.masked_draw.specs.declared.scene.MaskHands.{MaskHands}
 use Rattle.masked_draw.specs.declared.scene.MaskScene.{MaskScene}

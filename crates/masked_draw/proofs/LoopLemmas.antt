@@ -1,10 +1,8 @@
 -- What the loops of the masked pass have painted and marked, and how one fragment more changes it.
 use Rattle.picture_rules.proofs.Common.{ap, arith, Bool, Err, get_or, gets, ints, IsErrAnd, length, List, None, Ok, Option, pos, refl, Result, slice_get, Some, subst, sym, true, ℕ, ℤ, ⊤, ◌++◌, ◌+◌, ◌-◌, ◌<◌, ◌∙◌, ◌≡◌, ◌≤ℤ◌}
-use Rattle.picture_rules.specs.Words.{Art, Dot, entry_has, gives_bottom, gives_top, greatest_clip, IsWholeNote, least_clip, middles_at, middles_of, minus_one, Painter, ViewValue}
+use Rattle.masked_draw.specs.Rules.{Art, Dot, FragmentNote, IsWholeNote, Painter, SpriteEntry, ViewValue, entry_has, gives_bottom, gives_top, greatest_clip, least_clip, middles_at, middles_of, minus_one}
 use Rattle.texture_build.specs.CacheFault.{CacheFault}
 use Rattle.texture_build.specs.Caches.{cache_fault}
-use Rattle.picture_rules.specs.declared.wall.FragmentNote.{FragmentNote}
-use Rattle.picture_rules.specs.declared.sprite.SpriteEntry.{SpriteEntry}
 use Rattle.texture_build.specs.Paints.{PaintState, Paints}
 use Rattle.texture_build.proofs.PaintLemmas.{on_ok_err, paints-none, paints-same, paints-then, paints-then_stop, paints-value, paints-wider}
 use Rattle.masked_draw.specs.declared.clips.SpriteClips.{SpriteClips}

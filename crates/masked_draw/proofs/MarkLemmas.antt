@@ -1,8 +1,7 @@
 -- Laws of the marks of masked columns, and of the columns that are not marked.
 use Rattle.picture_rules.proofs.Common.{[], and-false, ap, append-nil, arith, Bool, cases_lt, cond, false, filter, inl, inr, List, map, nat_le, nat_lt, nat_tests, None, not, Option, range_with_len, refl, Some, subst, suc, sym, true, zero, ℕ, ◌&&◌, ◌++◌, ◌+◌, ◌-◌, ◌<◌, ◌||◌, ◌∙◌, ◌∷◌, ◌≡◌, ◌≢◌, ◌≤◌, ◌⊎◌}
-use Rattle.picture_rules.specs.Words.{Art, Dot, Drawseg, joined_lists, listed_from, middle_column, ViewValue}
+use Rattle.masked_draw.specs.Rules.{Art, Dot, Drawseg, FragmentNote, ViewValue, joined_lists, listed_from, middle_column}
 use Rattle.picture_rules.proofs.Laws.{joined_lists-append}
-use Rattle.picture_rules.specs.declared.wall.FragmentNote.{FragmentNote}
 use Rattle.masked_draw.specs.Marks.{mark_in, mark_of, unmarked_by, unmarked_dots, IsOutside, AreOwnMarked, MarksBy}
 
 -- filters over a range

@@ -1,14 +1,11 @@
 -- Laws of the masked column of a fragment: whose bytes it has, and its dots by them.
 use Rattle.picture_rules.proofs.Common.{[], and_le_r, ap, arith, IfSome, ints, IsSome, length, List, negsuc, None, Option, option_map, pos, refl, Some, subst, sym, unsigned_abs, unwrap_or, ℕ, ℤ, ◌<◌, ◌∙◌, ◌∷◌, ◌≡◌, ◌≤ℤ◌, ◌≤◌}
-use Rattle.art_rules.specs.Words.{byte_at, Lump, lump_bytes, mask_of, masked_column, posts, PreparedTexture, ShelfView, single_place}
-use Rattle.picture_rules.specs.Words.{bits_of, Drawseg, drawseg_scale, joined_lists, LIGHT_LEVELS, light_number, LUMP, MaskedColumn, MIDDLE, middle_by as dots_by, middle_column, middle_masked, Painter, painter_of, Post, post_colour, post_dots, post_rows, posts_dots, scale_map, seg_light, shade, ViewShape, ViewValue}
+use Rattle.masked_draw.specs.Rules.{ColumnLookup, Composed, Drawseg, Empty, FragmentNote, LIGHT_LEVELS, LUMP, Lump, MIDDLE, MaskedColumn, Painter, Post, PreparedTexture, ShelfView, Single, ViewShape, ViewValue, bits_of, byte_at, drawseg_scale, joined_lists, light_number, lump_bytes, mask_of, masked_column, middle_column, middle_masked, painter_of, post_colour, post_dots, post_rows, posts, posts_dots, scale_map, seg_light, shade, single_place}
+use Rattle.picture_rules.specs.Words.{middle_by as dots_by}
 use Rattle.picture_rules.proofs.Laws.{clamp_word-high, clamp_word-low}
 use Rattle.texture_build.specs.Zones.{Heap, Holding, IsLive, Owner, bytes_of, holding_of}
 use Rattle.texture_build.specs.DirectoryView.{DirectoryView}
 use Rattle.texture_build.specs.Caches.{IsFaithful, lump_owner}
-use Rattle.art_rules.specs.declared.ColumnLookup.{ColumnLookup}
-use Rattle.art_rules.specs.declared.ColumnLookup.TheVariants.{Empty, Single, Composed}
-use Rattle.picture_rules.specs.declared.wall.FragmentNote.{FragmentNote}
 use Rattle.texture_build.specs.Arts.{view_art}
 use Rattle.texture_build.specs.Sources.{IsColumnLive, IsColumnThere, column_in, column_index}
 use Rattle.texture_build.specs.Views.{TexturesView, prepared_texture}

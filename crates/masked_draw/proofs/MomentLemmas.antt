@@ -1,8 +1,7 @@
 -- Laws of the moments of masked columns: which sprite is the first in front of a column, asked sprite by sprite.
-use Rattle.picture_rules.proofs.Common.{ap, arith, Bool, cond, false, is_some, length, List, lt-ltb, lt-true, nat_lt, nat_tests, None, not, Option, refl, slice_get, Some, suc, sym, true, zero, ℕ, ◌&&◌, ◌+◌, ◌-◌, ◌<◌, ◌||◌, ◌∙◌, ◌≡◌, ◌≤◌}
-use Rattle.picture_rules.specs.Words.{Drawseg, least, or_else, same_number, sprite_in_front, stands_in_front}
+use Rattle.picture_rules.proofs.Common.{ap, arith, Bool, cond, false, is_some, length, List, lt-true, nat_tests, None, not, Option, refl, slice_get, Some, suc, sym, true, zero, ℕ, ◌&&◌, ◌+◌, ◌-◌, ◌<◌, ◌||◌, ◌∙◌, ◌≡◌, ◌≤◌}
+use Rattle.masked_draw.specs.Rules.{Drawseg, SpriteEntry, least, or_else, same_number, sprite_in_front, stands_in_front}
 use Rattle.picture_rules.proofs.Laws.{least-is, least-more}
-use Rattle.picture_rules.specs.declared.sprite.SpriteEntry.{SpriteEntry}
 use Rattle.picture_rules.proofs.sprite.ClipLemmas.{sprite_in_front-least}
 use Rattle.masked_draw.specs.Marks.{is_passed, is_before}
 

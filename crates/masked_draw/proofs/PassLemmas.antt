@@ -1,9 +1,7 @@
 -- Laws of the sprites of a pass, one after the other in drawing order.
 use Rattle.picture_rules.proofs.Common.{[], All, All-contains_itself, All-permutation, AllPass, ap, arith, Bool, Contains, false, get_or, gets, IfSome, length, List, ltb-true, None, Ok, Option, refl, Result, slice_get, Some, subst, sym, true, ℕ, ◌++◌, ◌+◌, ◌-◌, ◌<◌, ◌∙◌, ◌∷◌, ◌≡◌}
 use Rattle.texture_build.specs.CacheFault.{CacheFault}
-use Rattle.picture_rules.specs.Words.{Art, draw_order, Drawseg, masked_dots, middles_at, Painter, sprites_from}
-use Rattle.picture_rules.specs.declared.wall.FragmentNote.{FragmentNote}
-use Rattle.picture_rules.specs.declared.sprite.SpriteEntry.{SpriteEntry}
+use Rattle.masked_draw.specs.Rules.{Art, Drawseg, FragmentNote, Painter, SpriteEntry, draw_order, masked_dots, middles_at, sprites_from}
 use Rattle.picture_rules.proofs.sprite.MaskedLemmas.{sprites_from-more}
 use Rattle.picture_rules.proofs.sprite.OrderLemmas.{draw_order-permutation}
 use Rattle.texture_build.specs.Paints.{PaintState}

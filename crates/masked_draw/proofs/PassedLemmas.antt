@@ -1,8 +1,6 @@
 -- Laws of a fragment that a sprite, or the end of the pass, comes to: the unmarked columns are those of the moment, and what is marked after it.
 use Rattle.picture_rules.proofs.Common.{and-false_left, ap, arith, Bool, cases_lt, cond, false, filter, IfSome, inl, inr, is_some, length, List, nat_lt, nat_tests, None, not, Option, refl, slice_get, Some, subst, sym, true, ℕ, ◌&&◌, ◌+◌, ◌-◌, ◌<◌, ◌||◌, ◌∙◌, ◌≡◌, ◌≢◌, ◌≤◌, ◌⊎◌}
-use Rattle.picture_rules.specs.Words.{Art, columns_at, Drawseg, joined_lists, listed_from, ListsApart, middle_column, middles_of, same_number, sprite_in_front, ViewValue}
-use Rattle.picture_rules.specs.declared.wall.FragmentNote.{FragmentNote}
-use Rattle.picture_rules.specs.declared.sprite.SpriteEntry.{SpriteEntry}
+use Rattle.masked_draw.specs.Rules.{Art, Drawseg, FragmentNote, ListsApart, SpriteEntry, ViewValue, columns_at, joined_lists, listed_from, middle_column, middles_of, same_number, sprite_in_front}
 use Rattle.masked_draw.specs.Marks.{mark_of, unmarked_by, unmarked_dots, is_between, is_passed, is_before, IsOutside, MarksBy, AreBefore, MarkedTo}
 use Rattle.masked_draw.proofs.MomentLemmas.{front-now, front-more, front-left}
 use Rattle.masked_draw.proofs.MarkLemmas.{range_agree, range_none, own_at}

@@ -1,34 +1,29 @@
 -- Laws of the columns of a picture, by its bytes and those of the colormap.
-use Rattle.picture_rules.proofs.Common.{[], ap, append-nil, arith, Bool, cond, false, int_le, int_lt, ints, List, map, map-range_with_len_more, Option, pos, range_with_len, refl, Some, some-same, sym, true, ℕ, ℤ, ◌&&◌, ◌++◌, ◌+◌, ◌-◌, ◌∙◌, ◌∷◌, ◌≡◌, ◌≤◌}
-use Rattle.picture_rules.specs.Words.{Dot, joined_lists, listed_from, LUMP, lump_source, MaskedColumn, natural, Painter, painter_of, picture_column, Post, posts_dots, rows_between, shade, SPRITE, ViewShape, ViewValue}
-use Rattle.picture_rules.proofs.Laws.{joined_lists-append, put_dots-append}
-use Rattle.art_rules.specs.Words.{byte_at, column_place, half_at, Lump, posts}
+use Rattle.picture_rules.proofs.Common.{[], ap, append-nil, arith, Bool, cond, false, int_le, int_lt, ints, List, map, map-range_with_len_more, pos, range_with_len, refl, sym, true, ℕ, ℤ, ◌&&◌, ◌++◌, ◌+◌, ◌-◌, ◌∙◌, ◌∷◌, ◌≡◌, ◌≤◌}
+use Rattle.masked_draw.specs.Rules.{Dot, LUMP, Lump, MaskedColumn, Painter, Post, SPRITE, SpriteEntry, ViewShape, ViewValue, byte_at, column_place, half_at, joined_lists, listed_from, lump_source, natural, painter_of, picture_column, posts, posts_dots, rows_between, shade}
+use Rattle.picture_rules.proofs.Laws.{joined_lists-next}
 use Rattle.pixel_strips.specs.Canvases.{CanvasView, with_dots, with_painter}
 use Rattle.pixel_strips.specs.Dotted.{HasDots}
-use Rattle.pixel_strips.proofs.CanvasLemmas.{dots_none}
+use Rattle.pixel_strips.proofs.CanvasLemmas.{dots_none, with_dots-append}
 use Rattle.pixel_strips.proofs.DottedLemmas.{has_dots-as, has_dots-painted}
-use Rattle.picture_rules.specs.declared.sprite.SpriteEntry.{SpriteEntry}
 use Rattle.texture_build.specs.Arts.{own_posts, view_art}
 use Rattle.texture_build.specs.Draws.{FitBeside, FitsBeside}
 use Rattle.texture_build.specs.Views.{TexturesView}
 use Rattle.texture_build.proofs.BesideLemmas.{fit_beside-append, fit_beside-as}
 use Rattle.masked_draw.specs.declared.clips.SpriteClips.{SpriteClips}
 use Rattle.masked_draw.proofs.MiddleLemmas.{fit_beside-posts}
+use Rattle.masked_draw.proofs.PostLemmas.{posts-nil}
 use Rattle.masked_draw.specs.Clipped.{clipped_column, clipped_dots, clipped_masked, read_column, read_columns}
 
 -- a column that the picture does not have
-no_posts : (shape : ViewShape) (painter : Painter) (x : ℕ) (c : MaskedColumn) (byte shade_of : ℕ → ℕ) → posts_dots shape painter x c byte shade_of [] ≡ []
-unfolding posts_dots joined_lists
-no_posts shape painter x c byte shade_of = refl
-
 pub own-outside : (mark : Painter → ℕ → ℕ) (shape : ViewShape) (x : ℕ) (column : MaskedColumn) (bytes : List ℕ) (shade_of : ℕ → ℕ) (own : ℤ) (canvas : CanvasView) →
     (int_le (pos 0) own && int_lt own (pos (half_at bytes 0))) ≡ false → canvas ≡ with_dots mark (posts_dots shape canvas.painter x column (byte_at bytes) shade_of (own_posts bytes own)) canvas
 own-outside mark shape x column bytes shade_of own canvas out =
     let none : own_posts bytes own ≡ [] = ap (λ (b : Bool). cond b (posts bytes (column_place bytes (natural own))) []) out in
     dots_none mark canvas
-    ∙ ap (λ (dots : List Dot). with_dots mark dots canvas) (sym (ap (posts_dots shape canvas.painter x column (byte_at bytes) shade_of) none ∙ no_posts shape canvas.painter x column (byte_at bytes) shade_of))
+    ∙ ap (λ (dots : List Dot). with_dots mark dots canvas) (sym (ap (posts_dots shape canvas.painter x column (byte_at bytes) shade_of) none ∙ posts-nil shape canvas.painter x column (byte_at bytes) shade_of))
 
-natural_of : (z : ℤ) (n : ℕ) → z ≡ pos n → natural z ≡ n
+pub natural_of : (z : ℤ) (n : ℕ) → z ≡ pos n → natural z ≡ n
 unfolding natural
 natural_of z n e = ap natural e
 
@@ -65,24 +60,10 @@ columns-none mark shape bytes colormap clips e first canvas =
     dots_none mark canvas
     ∙ ap (λ (n : ℕ). with_dots mark (joined_lists (read_column shape canvas.painter bytes colormap clips e) (map (λ x. x) (range_with_len first n))) canvas) (sym z)
 
-joined_one : (f : ℕ → List Dot) (x : ℕ) → joined_lists f (x ∷ []) ≡ f x
-unfolding joined_lists
-joined_one f x = append-nil (f x)
-
 columns_more : (shape : ViewShape) (painter : Painter) (bytes colormap : List ℕ) (clips : SpriteClips) (e : SpriteEntry) (first x : ℕ) → first ≤ x →
     read_columns shape painter bytes colormap clips e first (x + 1) ≡ read_columns shape painter bytes colormap clips e first x ++ read_column shape painter bytes colormap clips e x
 unfolding read_columns
-columns_more shape painter bytes colormap clips e first x l =
-    let f = read_column shape painter bytes colormap clips e in
-    let n : x + 1 - first ≡ x - first + 1 = omega arith in
-    let m : first + (x - first) ≡ x = omega arith in
-    ap (λ (k : ℕ). joined_lists f (map (λ x. x) (range_with_len first k))) n
-    ∙ ap (joined_lists f) (map-range_with_len_more (λ x. x) first (x - first) x m)
-    ∙ joined_lists-append f (map (λ x. x) (range_with_len first (x - first))) (x ∷ [])
-    ∙ ap (λ (ys : List Dot). joined_lists f (map (λ x. x) (range_with_len first (x - first))) ++ ys) (joined_one f x)
-
-dots_append : (mark : Painter → ℕ → ℕ) (xs ys : List Dot) (canvas : CanvasView) → with_dots mark ys (with_dots mark xs canvas) ≡ with_dots mark (xs ++ ys) canvas
-dots_append mark xs ys canvas = ap (λ (cells : List ℕ). record canvas { cells = cells }) (sym (put_dots-append mark canvas.left canvas.top xs ys canvas.cells))
+columns_more shape painter bytes colormap clips e first x l = joined_lists-next (read_column shape painter bytes colormap clips e) first x l
 
 pub columns-more : (mark : Painter → ℕ → ℕ) (shape : ViewShape) (bytes colormap : List ℕ) (clips : SpriteClips) (e : SpriteEntry) (first x : ℕ) (start now new : CanvasView) → first ≤ x →
     now ≡ with_dots mark (read_columns shape start.painter bytes colormap clips e first x) start → new ≡ with_dots mark (read_column shape now.painter bytes colormap clips e x) now →
@@ -90,7 +71,7 @@ pub columns-more : (mark : Painter → ℕ → ℕ) (shape : ViewShape) (bytes c
 columns-more mark shape bytes colormap clips e first x start now new l before one =
     one
     ∙ ap (λ (c : CanvasView). with_dots mark (read_column shape c.painter bytes colormap clips e x) c) before
-    ∙ dots_append mark (read_columns shape start.painter bytes colormap clips e first x) (read_column shape start.painter bytes colormap clips e x) start
+    ∙ with_dots-append mark (read_columns shape start.painter bytes colormap clips e first x) (read_column shape start.painter bytes colormap clips e x) start
     ∙ ap (λ (dots : List Dot). with_dots mark dots start) (sym (columns_more shape start.painter bytes colormap clips e first x l))
 
 -- the columns of a sprite by its picture's bytes

@@ -1,12 +1,11 @@
 -- Laws of the posts of a masked column: which rows they have, and their dots one post after the other.
 use Rattle.picture_rules.proofs.Common.{[], ap, arith, Bool, cases_lt, clamps, false, FitsSigned, get_or_past, if◌then◌else◌, inl, inr, int_lt, int_wrap_fits, ints, length, List, min, negsuc, None, pos, refl, slice_index, Some, subst, sym, true, w32, ℕ, ℤ, ◌++◌, ◌+ℤ◌, ◌+◌, ◌-ℤ◌, ◌<ℤ◌, ◌<◌, ◌^◌, ◌∙◌, ◌∷◌, ◌≡◌, ◌≤ℤ◌, ◌≤◌, ◌⊎◌}
-use Rattle.picture_rules.specs.Words.{column_dots, Dot, fixed, FRACTION_BITS, greater_word, greatest_clip, joined_lists, least_clip, lesser_word, listed_from, MaskedColumn, MAX_FRACTION, minus, minus_one, Painter, picture_top, plus, Post, post_bottom, post_colour, post_dots, post_first, post_last, post_rows, post_texel, post_top, posts_dots, row_fraction, rows_between, shade, shr_word, texel_row, ViewShape}
-use Rattle.picture_rules.proofs.Laws.{joined_lists-cons, put_dots-append}
-use Rattle.art_rules.specs.Words.{byte_at, is_post, next_place, post_at, post_in, posts}
+use Rattle.masked_draw.specs.Rules.{Dot, FRACTION_BITS, MAX_FRACTION, MaskedColumn, Painter, Post, ViewShape, byte_at, column_dots, fixed, greater_word, greatest_clip, is_post, joined_lists, least_clip, lesser_word, listed_from, minus, minus_one, next_place, picture_top, plus, post_at, post_bottom, post_colour, post_dots, post_first, post_in, post_last, post_rows, post_texel, post_top, posts, posts_dots, row_fraction, rows_between, shade, shr_word, texel_row}
+use Rattle.picture_rules.proofs.Laws.{greater_word-first, joined_lists-cons, lesser_word-first}
 use Rattle.art_rules.proofs.PostLemmas.{is_post-within, posts-none, posts-some}
 use Rattle.pixel_strips.specs.Canvases.{CanvasView, with_dots}
 use Rattle.pixel_strips.specs.Strips.{column_strip_dots, strip_colour}
-use Rattle.pixel_strips.proofs.CanvasLemmas.{dots_none}
+use Rattle.pixel_strips.proofs.CanvasLemmas.{dots_none, with_dots-append}
 use Rattle.pixel_strips.proofs.RowLemmas.{row_shade, rows-between, strip-rows}
 use Rattle.masked_draw.specs.Clipped.{HasClipsIn}
 
@@ -14,14 +13,6 @@ use Rattle.masked_draw.specs.Clipped.{HasClipsIn}
 fits_between : (z : ℤ) → negsuc 2147483647 ≤ℤ z → z ≤ℤ pos 2147483647 → FitsSigned w32 z
 fits_between (pos n) l h = record { sfits = omega (arith, ints) }
 fits_between (negsuc n) l h = record { sfits = omega (arith, ints) }
-
-greater-first : (a b : ℤ) → a ≤ℤ greater_word a b
-unfolding greater_word
-greater-first a b = omega (arith, ints, clamps)
-
-lesser-first : (a b : ℤ) → lesser_word a b ≤ℤ a
-unfolding lesser_word
-lesser-first a b = omega (arith, ints, clamps)
 
 -- the rows of a post are in the view
 pub post_first-low : (clip begin : ℤ) → minus_one ≤ℤ clip → clip ≤ℤ greatest_clip →
@@ -33,7 +24,7 @@ post_first-low clip begin l h =
     let least : pos 0 ≤ℤ (clip +ℤ pos 1) = omega (arith, ints) in
     above (plus clip (pos 1)) _ (subst (λ (z : ℤ). pos 0 ≤ℤ z) (sym e) least) where
       above : (a b : ℤ) → pos 0 ≤ℤ a → pos 0 ≤ℤ greater_word a b
-      above a b k = let g = greater-first a b in omega (arith, ints)
+      above a b k = let g = greater_word-first a b in omega (arith, ints)
 
 pub post_last-high : (clip end : ℤ) (height : ℕ) → height < 2 ^ 16 → least_clip ≤ℤ clip →
     clip ≤ℤ pos height → post_last clip end <ℤ pos height
@@ -44,7 +35,7 @@ post_last-high clip end height few l h =
     let most : (clip -ℤ pos 1) <ℤ pos height = omega (arith, ints) in
     below (minus clip (pos 1)) _ (subst (λ (z : ℤ). z <ℤ pos height) (sym e) most) where
       below : (a b : ℤ) → a <ℤ pos height → lesser_word a b <ℤ pos height
-      below a b k = let g = lesser-first a b in omega (arith, ints)
+      below a b k = let g = lesser_word-first a b in omega (arith, ints)
 
 -- no row, no dot
 pub post-none : (shape : ViewShape) (painter : Painter) (x : ℕ) (c : MaskedColumn)
@@ -72,8 +63,8 @@ shut-post : (shape : ViewShape) (painter : Painter) (x : ℕ) (c : MaskedColumn)
 unfolding post_first post_last
 shut-post shape painter x c byte shade_of post is shut =
     let top : ℤ = post_top (picture_top shape c.mid c.scale) c.scale post.topdelta in
-    let from = greater-first (plus c.top_clip (pos 1)) (shr_word (plus top MAX_FRACTION) FRACTION_BITS) in
-    let to = lesser-first (minus c.bottom_clip (pos 1))
+    let from = greater_word-first (plus c.top_clip (pos 1)) (shr_word (plus top MAX_FRACTION) FRACTION_BITS) in
+    let to = lesser_word-first (minus c.bottom_clip (pos 1))
     (shr_word (minus (post_bottom top c.scale post.length) (pos 1)) FRACTION_BITS) in
     let before : (c.bottom_clip -ℤ pos 1) <ℤ c.bottom_clip = omega (arith, ints) in
     sym (post-none shape painter x c byte shade_of post top refl
@@ -131,12 +122,6 @@ post-strip shape painter x c source colormap m post top first last base fraction
     (rows_between (post_first c.top_clip z)
     (post_last c.bottom_clip (post_bottom z c.scale post.length)))) is_top
 
--- first the one list, then the other
-with_dots-append : (mark : Painter → ℕ → ℕ) (xs ys : List Dot) (canvas : CanvasView) →
-    with_dots mark (xs ++ ys) canvas ≡ with_dots mark ys (with_dots mark xs canvas)
-with_dots-append mark xs ys canvas = ap (λ (cells : List ℕ). record canvas { cells = cells })
-    (put_dots-append mark canvas.left canvas.top xs ys canvas.cells)
-
 posts-cons : (shape : ViewShape) (painter : Painter) (x : ℕ) (c : MaskedColumn)
     (byte shade_of : ℕ → ℕ) (p : Post) (ps : List Post) →
     posts_dots shape painter x c byte shade_of (p ∷ ps)
@@ -145,7 +130,7 @@ unfolding posts_dots
 posts-cons shape painter x c byte shade_of p ps =
     joined_lists-cons (post_dots shape painter x c byte shade_of) p ps
 
-posts-nil : (shape : ViewShape) (painter : Painter) (x : ℕ) (c : MaskedColumn)
+pub posts-nil : (shape : ViewShape) (painter : Painter) (x : ℕ) (c : MaskedColumn)
     (byte shade_of : ℕ → ℕ) → posts_dots shape painter x c byte shade_of [] ≡ []
 unfolding posts_dots joined_lists
 posts-nil shape painter x c byte shade_of = refl
@@ -240,7 +225,7 @@ module _ {mark : Painter → ℕ → ℕ} {shape : ViewShape} {x : ℕ} {c : Mas
       ∙ ap (λ (n : ℕ). post ∷ posts bytes n) (sym is_next) in
       record {
         same = ap (λ (canvas : CanvasView). with_dots mark (rest canvas.painter) canvas) painted
-            ∙ sym (with_dots-append mark one (rest now.painter) now)
+            ∙ with_dots-append mark one (rest now.painter) now
             ∙ ap (λ (dots : List Dot). with_dots mark dots now)
             (sym (ap (posts_dots shape now.painter x c (byte_at bytes) (shade colormap m)) all
             ∙ posts-cons shape now.painter x c (byte_at bytes) (shade colormap m) post

@@ -1,8 +1,7 @@
 -- Laws of the clips that a sprite takes from the fragments, the last first: the first that is taken stays.
 use Rattle.picture_rules.proofs.Common.{ap, Bool, cond, false, IfSome, length, List, None, Option, option_map, pos, refl, slice_get, Some, subst, sym, true, unwrap_or, ℕ, ℤ, ◌+◌, ◌∙◌, ◌≡◌, ◌≤ℤ◌}
-use Rattle.picture_rules.specs.Words.{clip_of_number, clip_of_some, Drawseg, gives_bottom, gives_top, greatest, greatest_that, minus_one, or_else, passes_at, sprite_bottom, sprite_top}
+use Rattle.masked_draw.specs.Rules.{Drawseg, SpriteEntry, clip_of_number, clip_of_some, gives_bottom, gives_top, greatest, greatest_that, minus_one, or_else, passes_at, sprite_bottom, sprite_top}
 use Rattle.picture_rules.proofs.Laws.{greatest-more}
-use Rattle.picture_rules.specs.declared.sprite.SpriteEntry.{SpriteEntry}
 use Rattle.masked_draw.specs.Clipped.{row_in, row_after}
 
 -- the clip of the greatest fragment below m that passes

@@ -1,12 +1,9 @@
 -- Laws of the notes of a scene as drawn fragments, and of what the calls ask of them.
 use Rattle.picture_rules.proofs.Common.{All-get_or, and_parts, ap, arith, Bool, get_or, gets, IfSome, int_lt, leb-true, length, length-map, List, nat_le, nat_tests, not, Option, option_map, pos, refl, Result, slice_get, slice_get-map, slice_get_within, Some, subst, true, ℕ, ℤ, ◌&&◌, ◌<◌, ◌==◌, ◌∙◌, ◌≡◌, ◌≢◌, ◌≤ℤ◌, ◌≤◌}
-use Rattle.picture_rules.specs.Words.{AreNoted, Dot, Drawseg, drawseg_has, gives_bottom, gives_top, greatest_clip, is_behind, IsWholeNote, least_clip, minus_one, Painter, ViewShape}
-use Rattle.art_rules.specs.Words.{Lump}
+use Rattle.masked_draw.specs.Rules.{AreNoted, Dot, Drawseg, FragmentNote, IsWholeNote, Lump, Painter, SpriteEntry, ViewShape, drawseg_has, gives_bottom, gives_top, greatest_clip, is_behind, least_clip, minus_one}
 use Rattle.texture_build.specs.Zones.{Heap}
 use Rattle.texture_build.specs.CacheFault.{CacheFault}
 use Rattle.texture_build.specs.Caches.{KeepsCounts, cache_fault}
-use Rattle.picture_rules.specs.declared.wall.FragmentNote.{FragmentNote}
-use Rattle.picture_rules.specs.declared.sprite.SpriteEntry.{SpriteEntry}
 use Rattle.texture_build.specs.Paints.{PaintState, Paints}
 use Rattle.texture_build.specs.Views.{TexturesView}
 use Rattle.texture_build.proofs.PaintLemmas.{slots-later}
@@ -86,8 +83,7 @@ module _ {A Q : Type 0} {mark : Painter → ℕ → ℕ} {s : MaskScene} {among 
   can_paint-later one can = record {
     slots = slots-later one can.slots;
     colormap = can.colormap;
-    left = rw one.place.left can.left;
-    top = rw one.place.top can.top;
+    placed = record { columns = rw one.place.left can.placed.columns; rows = rw one.place.top can.placed.rows };
   }
 
   pub can_pass-later : {notes : List FragmentNote} (old new : List Bool) →

@@ -1,9 +1,7 @@
 -- Laws of a sprite that is painted by the clips that were taken.
 use Rattle.picture_rules.proofs.Common.{[], ap, arith, Bool, cond, false, int_lt, length, List, map, nat_le, nat_lt, nat_tests, Ok, pos, range_with_len, refl, Result, slice_get, Some, subst, suc, sym, true, zero, ℕ, ℤ, ◌&&◌, ◌++◌, ◌+◌, ◌-◌, ◌<◌, ◌∙◌, ◌≡◌, ◌≤◌}
-use Rattle.picture_rules.specs.Words.{Art, Dot, entry_has, joined_lists, listed_from, middles_at, natural, Painter, rows_between, sprite_column, sprite_dots, sprite_masked, sprite_step}
+use Rattle.masked_draw.specs.Rules.{Art, Dot, FragmentNote, Painter, SpriteEntry, entry_has, joined_lists, listed_from, middles_at, natural, rows_between, sprite_column, sprite_dots, sprite_masked, sprite_step}
 use Rattle.texture_build.specs.CacheFault.{CacheFault}
-use Rattle.picture_rules.specs.declared.wall.FragmentNote.{FragmentNote}
-use Rattle.picture_rules.specs.declared.sprite.SpriteEntry.{SpriteEntry}
 use Rattle.texture_lists.proofs.BesideLemmas.{on_ok}
 use Rattle.texture_build.specs.Paints.{PaintState}
 use Rattle.texture_build.proofs.PaintLemmas.{paints-none, paints-same, paints-then, paints-wider}
@@ -15,6 +13,7 @@ use Rattle.masked_draw.specs.Passes.{DrawsSprite, PassesSprite}
 use Rattle.masked_draw.specs.Scenes.{PaintsDots, scene_art, scene_drawseg, scene_drawsegs}
 use Rattle.masked_draw.proofs.DownLemmas.{marked-skip, step-none}
 use Rattle.masked_draw.proofs.EntryLemmas.{entry-between}
+use Rattle.masked_draw.proofs.PictureLemmas.{natural_of}
 use Rattle.masked_draw.proofs.SceneLemmas.{scene-length}
 
 -- lists that agree over a range
@@ -24,10 +23,6 @@ joined_range f g a zero h = refl
 joined_range f g a (suc n) h =
     ap (λ (xs : List Dot). xs ++ joined_lists f (map (λ y. y) (range_with_len (a + 1) n))) (h a (omega arith) (omega arith))
     ∙ ap (λ (xs : List Dot). g a ++ xs) (joined_range f g (a + 1) n (λ x l m. h x (omega arith) (omega arith)))
-
-natural_of : (z : ℤ) (n : ℕ) → z ≡ pos n → natural z ≡ n
-unfolding natural
-natural_of z n e = ap natural e
 
 upper : (first last a b x : ℕ) → a ≡ first → b ≡ last → a ≤ x → x < a + (b + 1 - a) → x ≤ last
 upper first last a b x p q l m = omega arith

@@ -5,3 +5,4 @@ pub mod Clipped
 pub mod Marks
 pub mod Passes
 pub mod Tools
+pub mod Rules

@@ -1,9 +1,6 @@
 -- The drawn fragments as the masked pass sees them: by their notes, the openings, and the lists of the level (R_RenderMaskedSegRange, r_segs.c).
 use Rattle.std.specs.Prelude.{ℕ, ◌+◌, ◌-◌, ◌==◌, bit_and, ℤ, pos, not, List, [], map, Option, Some, None, is_some, slice_index_or}
-use Rattle.picture_rules.specs.Words.{clip_row_at, Drawseg, masked_mid, no_seg, no_side, Sector, Seg, seg_light, Side, Surface, ViewValue}
-use Rattle.art_rules.specs.Words.{texture_at}
-use Rattle.picture_rules.specs.declared.wall.TheConstants.{SIL_BOTTOM, SIL_TOP}
-use Rattle.picture_rules.specs.declared.wall.FragmentNote.{FragmentNote}
+use Rattle.masked_draw.specs.Rules.{Drawseg, FragmentNote, SIL_BOTTOM, SIL_TOP, Sector, Seg, Side, Surface, ViewValue, clip_row_at, masked_mid, no_seg, no_side, seg_light, texture_at}
 use Rattle.texture_build.specs.Views.{TexturesView}
 
 -- the lists of a level, with the number of each side's middle texture

@@ -1,8 +1,6 @@
 -- The marks of masked columns that are painted: one for each opening, at the place of its texture column.
 use Rattle.std.specs.Prelude.{◌≡◌, ◌≤◌, ◌<◌, ◌+◌, ◌-◌, ◌⊎◌, ◌&&◌, ◌||◌, ℕ, Bool, false, cond, not, nat_le, nat_lt, List, [], Option, Some, None, slice_get, slice_index_or, filter, IfSome, ⊤}
-use Rattle.picture_rules.specs.Words.{Art, Dot, Drawseg, entry_has, is_behind, joined_lists, listed_from, middle_column, sprite_in_front, ViewValue}
-use Rattle.picture_rules.specs.declared.wall.FragmentNote.{FragmentNote}
-use Rattle.picture_rules.specs.declared.sprite.SpriteEntry.{SpriteEntry}
+use Rattle.masked_draw.specs.Rules.{Art, Dot, Drawseg, FragmentNote, SpriteEntry, ViewValue, entry_has, is_behind, joined_lists, listed_from, middle_column, sprite_in_front}
 
 -- the mark at a place, not set past the end
 abbrev pub mark_in : List Bool → ℕ → Bool

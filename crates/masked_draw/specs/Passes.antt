@@ -1,9 +1,7 @@
 -- What is painted for one sprite, and which columns are marked after it.
 use Rattle.std.specs.Prelude.{◌≡◌, ◌+◌, ℕ, List, Bool, Some, Result, OnOk, length}
 use Rattle.texture_build.specs.CacheFault.{CacheFault}
-use Rattle.picture_rules.specs.Words.{middles_at, Painter, sprite_step}
-use Rattle.picture_rules.specs.declared.wall.FragmentNote.{FragmentNote}
-use Rattle.picture_rules.specs.declared.sprite.SpriteEntry.{SpriteEntry}
+use Rattle.masked_draw.specs.Rules.{FragmentNote, Painter, SpriteEntry, middles_at, sprite_step}
 use Rattle.texture_build.specs.Paints.{PaintState}
 use Rattle.masked_draw.specs.declared.scene.MaskScene.{MaskScene}
 use Rattle.masked_draw.specs.Marks.{MarkedTo}

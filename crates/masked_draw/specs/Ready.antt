@@ -1,9 +1,7 @@
 -- What the masked pass asks of the lists, the textures and the sprites, and which bytes it paints with.
 use Rattle.std.specs.Prelude.{◌≡◌, ◌<◌, ◌≤◌, ℕ, List, Contains, length, IfSome, IsSome}
-use Rattle.art_rules.specs.Words.{Lump, mask_of, PreparedTexture, single_place}
+use Rattle.masked_draw.specs.Rules.{FragmentNote, Lump, PreparedTexture, SpriteEntry, mask_of, single_place}
 use Rattle.texture_build.specs.Zones.{Heap}
-use Rattle.picture_rules.specs.declared.wall.FragmentNote.{FragmentNote}
-use Rattle.picture_rules.specs.declared.sprite.SpriteEntry.{SpriteEntry}
 use Rattle.texture_build.specs.Views.{TexturesView, prepared_texture}
 use Rattle.texture_build.specs.Sources.{own_lookup}
 use Rattle.texture_build.specs.Draws.{CanDraw}

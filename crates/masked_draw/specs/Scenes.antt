@@ -1,12 +1,11 @@
 -- What stays while the masked pass runs, what a call of it paints, and what each of its calls asks.
-use Rattle.std.specs.Prelude.{◌≡◌, ◌≤◌, ◌<◌, ◌+◌, ℕ, Bool, List, All, length, Result, ⊤}
-use Rattle.picture_rules.specs.Words.{AreNoted, Art, Dot, Drawseg, FRAME_HEIGHT, FRAME_WIDTH, IsWholeNote, Painter}
-use Rattle.art_rules.specs.Words.{ShelfView}
+use Rattle.std.specs.Prelude.{◌≡◌, ◌≤◌, ◌<◌, ℕ, Bool, List, All, length, Result, ⊤}
+use Rattle.masked_draw.specs.Rules.{AreNoted, Art, Dot, Drawseg, FragmentNote, IsWholeNote, Painter, ShelfView}
 use Rattle.texture_build.specs.CacheFault.{CacheFault}
 use Rattle.texture_build.specs.Caches.{cache_fault}
 use Rattle.pixel_strips.specs.Canvases.{CanvasView}
 use Rattle.pixel_strips.specs.Dotted.{HasDots}
-use Rattle.picture_rules.specs.declared.wall.FragmentNote.{FragmentNote}
+use Rattle.pixel_strips.specs.Standing.{StandsInFrame}
 use Rattle.texture_build.specs.Paints.{FitIn, Holds, PaintState, PaintTools, Paints, paint_state, paint_tools, painted_art}
 use Rattle.masked_draw.specs.declared.scene.MaskHands.{MaskHands}
 use Rattle.masked_draw.specs.declared.scene.MaskScene.{MaskScene}
@@ -46,8 +45,7 @@ AreSameMaskHands old new = (new.cache.ghost_name ≡ old.cache.ghost_name)
 pub record CanPaint (s : MaskScene) (st : PaintState) : Type 0 where
   pub slots : length s.dir.now.lumps ≤ st.cache.lumps
   pub colormap : s.colormap.0 < length s.dir.now.lumps
-  pub left : st.canvas.left + s.view.now.shape.width ≤ FRAME_WIDTH
-  pub top : st.canvas.top + s.view.now.shape.height ≤ FRAME_HEIGHT
+  pub placed : StandsInFrame s.view.now.shape st.canvas
 
 -- what each call asks that paints masked columns of a note
 pub record CanPaintNote (s : MaskScene) (d : FragmentNote) (st : PaintState) : Type 0 where

@@ -1,11 +1,9 @@
 -- What the masked pass is drawn with, by the values of its tools.
 use Rattle.std.specs.Prelude.{◌≡◌, ℕ, List}
-use Rattle.art_rules.specs.Words.{lump_bytes, ShelfView}
-use Rattle.picture_rules.specs.Words.{Dot, draw_order, masked_dots}
-use Rattle.picture_rules.specs.declared.wall.FragmentNote.{FragmentNote}
-use Rattle.picture_rules.specs.declared.sprite.SpriteEntry.{SpriteEntry}
+use Rattle.masked_draw.specs.Rules.{Dot, FragmentNote, ShelfView, SpriteEntry, draw_order, lump_bytes, masked_dots}
+use Rattle.pixel_strips.specs.Canvases.{CanvasView}
 use Rattle.texture_build.specs.Arts.{view_art}
-use Rattle.texture_build.specs.Draws.{HoldsArt}
+use Rattle.texture_build.specs.Paints.{PaintState, PaintTools, paint_state, paint_tools}
 use Rattle.masked_draw.specs.declared.tools.MaskedTools.{MaskedTools}
 use Rattle.masked_draw.specs.Lists.{MaskedLists, lists_of, noted_drawsegs}
 
@@ -20,10 +18,12 @@ tools_dots t notes sprites contents =
     masked_dots t.view.now (view_art (lump_bytes contents t.dir.now.lumps) t.textures.now t.colormap.0)
     (noted_drawsegs t.view.now t.textures.now (tools_lists t) t.openings.now notes) (draw_order sprites)
 
--- the cache holds what the files of these contents give, and a colormap of `count` bytes
-abbrev pub HoldsMaskTools : {S C : Type 0} → (S → ShelfView) → MaskedTools S C → List (List ℕ) → ℕ → Type 0
-HoldsMaskTools shelf t contents count =
-    HoldsArt (shelf t.shelf.now) t.dir.now t.textures.now contents t.colormap.0 count t.cache.now
+-- what the pass paints with, and what it writes
+abbrev pub masked_tools : {S C : Type 0} → MaskedTools S C → PaintTools
+masked_tools t = paint_tools t.dir.now t.textures.now t.colormap.0
+
+abbrev pub masked_state : {S C : Type 0} → (S → ShelfView) → (C → CanvasView) → MaskedTools S C → PaintState
+masked_state shelf canvas t = paint_state (shelf t.shelf.now) t.cache.now (canvas t.canvas.now)
 
 -- tools hold the references that others held, to the same view, textures, directory, colormap, openings and lists
 abbrev pub AreSameMaskTools : {S C : Type 0} → MaskedTools S C → MaskedTools S C → Type 0

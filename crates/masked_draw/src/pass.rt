@@ -2,21 +2,19 @@
 //
 // Rules: `picture_rules/sprite`, Clips and Middles; `specs/Lists`, `specs/Ready`. The original:
 // `R_DrawMasked` and `R_DrawSprite`, r_things.c.
-ghost use Rattle.std.specs.Prelude.{◌≡◌, ◌<◌, ◌≤◌, ◌≤ℤ◌, ℕ, true, false, List, All, OnOk, Some, None, length, slice_get};
+ghost use Rattle.std.specs.Prelude.{◌≡◌, ◌<◌, ◌≤◌, ◌≤ℤ◌, ℕ, ⊤, true, false, List, All, OnOk, Some, None, length, slice_get};
 ghost use Rattle.std.specs.List.{AllPass};
 ghost use Rattle.texture_build.specs.Caches.{cache_fault};
-ghost use Rattle.picture_rules.specs.declared.sprite.SpriteEntry.{SpriteEntry};
-ghost use Rattle.picture_rules.specs.Words.{AreNoted, draw_order, entry_has, middles_at, sprites_from};
+ghost use Rattle.masked_draw.specs.Rules.{AreNoted, SpriteEntry, draw_order, entry_has, middles_at, sprites_from};
 ghost use Rattle.vissprites.specs.Bounds.{lies_within, has_lump_below};
-ghost use Rattle.pixel_strips.specs.Dotted.{HasDots, PlacedAlike};
 ghost use Rattle.pixel_strips.specs.Standing.{StandsInFrame};
-ghost use Rattle.texture_build.specs.Draws.{FitBeside, DrawsWith};
+ghost use Rattle.texture_build.specs.Paints.{Paints};
 ghost use Rattle.masked_draw.specs.Clipped.{AreSpriteRows, TakesRows, row_in};
 ghost use Rattle.masked_draw.specs.Marks.{MarkedTo, MarksBy, MissesColumns, is_passed, mark_in, unmarked_dots};
 ghost use Rattle.masked_draw.specs.Passes.{DrawsSprite, PassesSprite};
 ghost use Rattle.masked_draw.specs.Ready.{IsListed, IsMiddleNumber, IsNotedMiddle, IsSpriteLump};
 ghost use Rattle.masked_draw.specs.Scenes.{AreSameMaskHands, CanPaintNote, CanPass, PaintsDots, mask_hands, scene_drawseg, scene_drawsegs, scene_lists};
-ghost use Rattle.masked_draw.specs.Tools.{AreSameMaskTools, HoldsMaskTools, tools_dots, tools_lists};
+ghost use Rattle.masked_draw.specs.Tools.{AreSameMaskTools, masked_state, masked_tools, tools_dots, tools_lists};
 
 use crate::clips::{SpriteClips, is_behind};
 use crate::middles::paint_middle;
@@ -60,19 +58,10 @@ pub fn draw_masked<S: Shelf, C: Canvas>(
     requires placed { StandsInFrame tools.old.view.now.shape (C.view tools.old.canvas.now) }
     ensures same { AreSameMaskTools tools.old tools.new }
     ensures marks { length tools.new.marks.now ≡ length tools.old.marks.now }
-    ensures painted { (contents : List (List ℕ)) (count : ℕ) →
-        HoldsMaskTools S.view tools.old contents count → OnOk result (HasDots C.mark
-        (tools_dots tools.old notes.now sprites.now contents)
-        (C.view tools.old.canvas.now) (C.view tools.new.canvas.now)) }
-    ensures fits { (contents : List (List ℕ)) (count : ℕ) →
-        HoldsMaskTools S.view tools.old contents count → OnOk result (FitBeside
-        tools.old.dir.now.lumps tools.old.textures.now tools.old.colormap.0 count
-        tools.old.cache.now.size (tools_dots tools.old notes.now sprites.now contents)) }
-    ensures draws { DrawsWith cache_fault
-        (IsNotedMiddle (tools_lists tools.old) notes.now) (IsSpriteLump sprites.now)
-        (S.view tools.old.shelf.now) (S.view tools.new.shelf.now) tools.old.dir.now
-        tools.old.textures.now tools.old.cache.now tools.new.cache.now result }
-    ensures place { PlacedAlike (C.view tools.old.canvas.now) (C.view tools.new.canvas.now) }
+    ensures paints { Paints cache_fault C.mark (masked_tools tools.old)
+        (IsNotedMiddle (tools_lists tools.old) notes.now) (IsSpriteLump sprites.now) (λ (q : ⊤). ⊤)
+        (λ contents q. tools_dots tools.old notes.now sprites.now contents)
+        (masked_state S.view C.view tools.old) (masked_state S.view C.view tools.new) result }
 {
     tools.marks.fill(false);
     let scene = MaskScene {
@@ -110,6 +99,8 @@ fn draw_sprites<S: Shelf, C: Canvas>(
     requires lumps { AllPass (has_lump_below (length scene.now.dir.now.lumps)) sprites.now }
     ensures same { AreSameMaskHands hands.old hands.new }
     ensures marks { length hands.new.marks.now ≡ length hands.old.marks.now }
+    ensures ready { OnOk result (CanPass scene.now notes.now (mask_hands S.view C.view
+        hands.new) hands.new.marks.now) }
     ensures marked { OnOk result (MarkedTo (scene_drawseg scene.now) notes.now
         (draw_order sprites.now) (length notes.now) (λ k. length (draw_order sprites.now))
         hands.new.marks.now) }

@@ -1,9 +1,7 @@
 // The columns of a picture: rules `picture_rules/sprite`, Sprites; `texture_build`, Arts.
-ghost use Rattle.art_rules.specs.Words.{byte_at, half_at};
-ghost use Rattle.masked_draw.specs.Clipped.{HasClipsIn};
-ghost use Rattle.picture_rules.specs.Words.{FRAME_HEIGHT, FRAME_WIDTH, picture_column, posts_dots, shade};
-ghost use Rattle.pixel_strips.specs.Canvases.{with_dots};
-ghost use Rattle.std.specs.Prelude.{◌≡◌, ◌<◌, ◌≤◌, ◌+◌, ◌^◌, ◌≤ℤ◌, ◌<ℤ◌, ◌&&◌, pos, true, int_le, int_lt};
+ghost use Rattle.masked_draw.specs.Rules.{half_at, picture_column};
+ghost use Rattle.masked_draw.specs.Clipped.{HasClipsIn, IsColumnInFrame, PaintsPosts};
+ghost use Rattle.std.specs.Prelude.{◌≡◌, ◌^◌, ◌≤ℤ◌, ◌<ℤ◌, ◌&&◌, pos, true, int_le, int_lt};
 ghost use Rattle.texture_build.specs.Arts.{own_posts};
 
 use crate::posts::{ColumnArt, paint_posts};
@@ -25,12 +23,10 @@ pub fn paint_own<C: Canvas>(
     art: &ColumnArt<'_>,
     own: i32,
 )
-    requires column { x + (C.view canvas.old).left < FRAME_WIDTH }
-    requires rows { (C.view canvas.old).top + shape.height ≤ FRAME_HEIGHT }
+    requires column { IsColumnInFrame (C.view canvas.old) shape x }
     requires clips { HasClipsIn shape.height column.now }
-    ensures { C.view canvas.new ≡ with_dots C.mark (posts_dots shape (C.view canvas.old).painter x
-        column.now (byte_at art.now.bytes.now) (shade art.now.colormap.now art.now.map)
-        (own_posts art.now.bytes.now own)) (C.view canvas.old) }
+    ensures { PaintsPosts C.mark shape x column.now art.now (own_posts art.now.bytes.now own)
+        (C.view canvas.old) (C.view canvas.new) }
 {
     if is_in_picture(art.bytes, own) {
         let place = column_place(art.bytes, column_of(own));

@@ -1,17 +1,7 @@
 -- Where no way to a leaf has more nodes than the depth, more depth gives the same walk.
 use Rattle.word_rules.proofs.Common.{ap, arith, Bool, cond, false, from_bool, int_le, None, Option, option_map_or, refl, slice_get, Some, suc, sym, true, zero, ℕ, ◌&&◌, ◌+◌, ◌-◌, ◌∙◌, ◌≡◌, ◌≤◌}
-use Rattle.word_rules.specs.Words.{is_zero, differ, signs_differ, minus}
-use Rattle.view_rules.specs.View.{ViewValue}
-use Rattle.view_rules.specs.declared.Partition.{Partition}
-use Rattle.view_rules.specs.Sides.{side_of, side_by_slope, side_by_product}
-use Rattle.level_rules.specs.declared.Node.{Node}
-use Rattle.level_rules.specs.declared.Child.{Child}
+use Rattle.node_walk.specs.Rules.{Child, LevelLists, Node, Partition, ViewValue, WalkState, at_far, at_node, box_passes, child_on, differ, eye_side, far_box, far_child, is_within, is_zero, minus, near_child, node_at, partition_of, side_by_product, side_by_slope, side_of, signs_differ, walk_child}
 use Rattle.level_rules.specs.declared.Child.TheVariants.{Node as NodeChild, Leaf as LeafChild}
-use Rattle.level_rules.specs.Levels.{LevelLists, node_at, child_on}
-use Rattle.level_rules.specs.maps.Trees.{is_within}
-use Rattle.level_rules.specs.walk.Boxes.{partition_of, eye_side, near_child, far_child, far_box, box_passes}
-use Rattle.level_rules.specs.walk.Events.{WalkState}
-use Rattle.level_rules.specs.walk.Walk.{at_far, at_node, walk_child}
 use Rattle.level_rules.proofs.maps.TreeLemmas.{child_passes}
 use Rattle.level_rules.proofs.walk.WalkLemmas.{walk-leaf, walk-node}
 

@@ -1,7 +1,6 @@
 -- A fragment among those that are listed.
 use Rattle.word_rules.proofs.Common.{[], All-contains, ap, arith, Bool, Contains, Contains-append_right, List, map, map-append, refl, subst, sym, ℕ, ◌++◌, ◌∙◌, ◌∷◌, ◌≡◌}
-use Rattle.level_rules.specs.walk.Covered.{fragments, IsFragment}
-use Rattle.level_rules.specs.walk.Events.Event.{FragmentEvent}
+use Rattle.node_walk.specs.Rules.{FragmentEvent, IsFragment, fragments}
 use Rattle.level_rules.proofs.walk.RunLemmas.{fragments-are}
 
 -- the one that comes next is within first to last

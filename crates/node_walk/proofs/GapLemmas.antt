@@ -1,10 +1,10 @@
 -- The range_gaps between ranges are the runs of uncovered columns, and there is none where the columns are hidden.
-use Rattle.word_rules.proofs.Common.{[], ap, append-nil, arith, Bool, cases_lt, cond, drop, drop-cons, false, get_or, get_or-drop, get_or-take, inl, inr, length, List, max, min, nat_le, nat_lt, nat_tests, refl, replicate, suc, sym, take, true, zero, ℕ, ◌&&◌, ◌++◌, ◌+◌, ◌-◌, ◌<◌, ◌||◌, ◌∙◌, ◌∷◌, ◌≡◌, ◌≤◌}
+use Rattle.word_rules.proofs.Common.{[], ap, arith, Bool, cases_lt, cond, drop, drop-cons, false, get_or, inl, inr, length, List, max, min, nat_le, nat_lt, nat_tests, refl, replicate, suc, sym, take, true, zero, ℕ, ◌&&◌, ◌++◌, ◌+◌, ◌-◌, ◌<◌, ◌∙◌, ◌∷◌, ◌≡◌, ◌≤◌}
 use Rattle.level_rules.specs.walk.Covered.{runs, fragments, hides, is_covered}
 use Rattle.level_rules.proofs.walk.CoverLemmas.{runs-covered, runs-open, fragments-hides, hides-fragments}
 use Rattle.node_walk.specs.declared.ranges.Range.{Range}
 use Rattle.node_walk.specs.Ranges.{is_in_range, is_within_range, columns_of, range_gaps, hides_in}
-use Rattle.node_walk.proofs.RangeLemmas.{AreApart, apart_from, columns_of-covered, length-columns_of}
+use Rattle.node_walk.proofs.RangeLemmas.{AreApart, columns_of-covered, length-columns_of}
 
 -- the columns from at to last
 abbrev slice : List Bool → ℕ → ℕ → List Bool

@@ -1,15 +1,7 @@
 -- The lists of a sound level are whole.
 use Rattle.word_rules.proofs.Common.{All-weaker, arith, cases_eq, ForSome, inl, inr, length, List, ltb-true, subst, sym, true, ℕ, ◌<◌, ◌≡◌, ◌≤◌}
-use Rattle.level_rules.specs.declared.Seg.{Seg}
-use Rattle.level_rules.specs.declared.Leaf.{Leaf}
-use Rattle.level_rules.specs.declared.Node.{Node}
-use Rattle.level_rules.specs.declared.Surface.{Surface}
-use Rattle.level_rules.specs.declared.Child.{Child}
+use Rattle.node_walk.specs.Rules.{Child, IsLeafIn, IsNodeIn, IsSegIn, IsSound, Leaf, LevelLists, LevelValue, Node, Seg, Surface, child_on, is_there}
 use Rattle.level_rules.specs.declared.Child.TheVariants.{Node as NodeChild, Leaf as LeafChild}
-use Rattle.level_rules.specs.Levels.{LevelLists, child_on}
-use Rattle.level_rules.specs.maps.Levels.{LevelValue}
-use Rattle.level_rules.specs.maps.Ranges.{is_there}
-use Rattle.level_rules.specs.maps.Sound.{IsSegIn, IsLeafIn, IsNodeIn, IsSound}
 use Rattle.node_walk.specs.Lists.{walk_lists, IsThere, IsSegOf, IsLeafOf, IsNodeOf, AreWhole}
 
 there_child : (l : LevelLists) (child : Child) → is_there (length l.nodes) (length l.leaves) child ≡ true → IsThere l child

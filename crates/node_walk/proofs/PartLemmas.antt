@@ -1,21 +1,7 @@
 -- A part of a walk adds its events behind those that are there, and covers the same columns whatever they are.
 use Rattle.word_rules.proofs.Common.{[], ap, append-nil, append_assoc, arith, Bool, cases_eq, cond, false, inl, inr, List, map, None, Option, refl, replicate, Some, suc, sym, true, zero, ℕ, ◌++◌, ◌+◌, ◌-◌, ◌<◌, ◌==◌, ◌∙◌, ◌∷◌, ◌≡◌, ◌≤◌}
-use Rattle.view_rules.specs.View.{ViewValue}
-use Rattle.view_rules.specs.declared.ColumnRange.{ColumnRange}
-use Rattle.view_rules.specs.declared.ColumnRange.TheVariants.{Behind, Outside, Columns}
-use Rattle.level_rules.specs.declared.Box4.{Box4}
-use Rattle.level_rules.specs.declared.Leaf.{Leaf}
-use Rattle.level_rules.specs.declared.Node.{Node}
-use Rattle.level_rules.specs.declared.Surface.{Surface}
-use Rattle.level_rules.specs.declared.Child.{Child}
+use Rattle.node_walk.specs.Rules.{Behind, Box4, Child, ColumnRange, Columns, Event, FragmentEvent, Leaf, LeafEvent, LevelLists, Node, Outside, Surface, ViewValue, WalkState, at_columns, at_far, at_leaf, at_leaf_of, at_node, at_range, at_seg, at_seg_of, at_segs, back_of, box_on, box_passes, child_on, cover, covers, enters, eye_side, far_box, far_child, fragments, is_pass, is_solid, leaf_at, middle_of, near_child, node_at, seg_at, seg_range, shows, surface_at, walk_child, walk_start}
 use Rattle.level_rules.specs.declared.Child.TheVariants.{Node as NodeChild, Leaf as LeafChild}
-use Rattle.level_rules.specs.Levels.{LevelLists, seg_at, leaf_at, node_at, surface_at, child_on}
-use Rattle.level_rules.specs.walk.Covered.{fragments, cover}
-use Rattle.level_rules.specs.walk.Boxes.{eye_side, box_on, near_child, far_child, far_box, box_passes}
-use Rattle.level_rules.specs.walk.Segs.{seg_range, back_of, middle_of, is_solid, is_pass}
-use Rattle.level_rules.specs.walk.Events.{Event, WalkState}
-use Rattle.level_rules.specs.walk.Events.Event.{LeafEvent, FragmentEvent}
-use Rattle.level_rules.specs.walk.Walk.{walk_start, shows, covers, at_columns, at_range, at_seg_of, at_seg, at_segs, enters, at_leaf_of, at_leaf, at_far, at_node, walk_child}
 use Rattle.level_rules.proofs.walk.WalkLemmas.{walk-node, at_segs-more}
 use Rattle.node_walk.specs.Lists.{part_start}
 

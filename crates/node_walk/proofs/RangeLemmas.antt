@@ -1,6 +1,5 @@
 -- Laws of ranges that are apart and in order.
-use Rattle.word_rules.proofs.Common.{[], ap, arith, Bool, cases_lt, cond, drop, false, get_or, get_or-replicate, inl, inr, IsTrue, length, length-replicate, List, max, min, nat_le, nat_lt, nat_tests, refl, replicate, suc, sym, take, true, zero, ℕ, ◌&&◌, ◌*◌, ◌++◌, ◌+◌, ◌-◌, ◌<◌, ◌||◌, ◌∙◌, ◌∷◌, ◌≡◌, ◌≤◌}
-use Rattle.word_rules.specs.Listed.{listed}
+use Rattle.word_rules.proofs.Common.{[], ap, arith, Bool, cases_lt, cond, drop, false, get_or, get_or-replicate, inl, inr, length, length-replicate, List, nat_le, nat_lt, nat_tests, refl, replicate, suc, sym, take, true, ℕ, ◌&&◌, ◌*◌, ◌++◌, ◌+◌, ◌<◌, ◌||◌, ◌∙◌, ◌∷◌, ◌≡◌, ◌≤◌}
 use Rattle.word_rules.proofs.ListedLemmas.{length-listed, get_or-listed, listed-all}
 use Rattle.level_rules.specs.walk.Covered.{cover, is_covered}
 use Rattle.level_rules.proofs.walk.CoverLemmas.{length-cover, covered-before, covered-between, covered-after}

@@ -2,18 +2,8 @@
 use Rattle.std.specs.Prelude.{◌≡◌, ℕ, ◌+◌, ◌<◌, ◌≤◌, Bool, true, List, [], length}
 use Rattle.std.specs.List.{All}
 use Rattle.std.specs.Option.{ForSome}
-use Rattle.level_rules.specs.declared.Seg.{Seg}
-use Rattle.level_rules.specs.declared.Leaf.{Leaf}
-use Rattle.level_rules.specs.declared.Node.{Node}
-use Rattle.level_rules.specs.declared.Surface.{Surface}
-use Rattle.level_rules.specs.declared.Child.{Child}
+use Rattle.node_walk.specs.Rules.{Child, Leaf, LevelLists, LevelValue, MAX_DEPTH, MAX_RECORDS, Node, Seg, Surface, WalkState, child_on, is_within}
 use Rattle.level_rules.specs.declared.Child.TheVariants.{Node as NodeChild, Leaf as LeafChild}
-use Rattle.level_rules.specs.Levels.{LevelLists, child_on}
-use Rattle.level_rules.specs.declared.TheConstants.{MAX_DEPTH}
-use Rattle.level_rules.specs.declared.maps.lumps.TheConstants.{MAX_RECORDS}
-use Rattle.level_rules.specs.maps.Levels.{LevelValue}
-use Rattle.level_rules.specs.maps.Trees.{is_within}
-use Rattle.level_rules.specs.walk.Events.{WalkState}
 use Rattle.node_walk.specs.declared.scene.Lists.TheInside.{Inside}
 
 -- the part of a level that the walk reads, with its surfaces and middle textures

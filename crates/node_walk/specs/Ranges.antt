@@ -1,5 +1,5 @@
 -- How a cover keeps the covered columns: as ranges, apart and in order.
-use Rattle.std.specs.Prelude.{ℕ, suc, zero, ◌+◌, ◌-◌, ◌&&◌, ◌||◌, ◌≤◌, min, max, nat_lt, nat_le, Bool, true, false, cond, List, [], ◌∷◌}
+use Rattle.std.specs.Prelude.{ℕ, suc, ◌+◌, ◌-◌, ◌&&◌, ◌||◌, min, max, nat_lt, nat_le, Bool, true, false, cond, List, [], ◌∷◌}
 use Rattle.std.specs.List.{list_any}
 use Rattle.word_rules.specs.Listed.{listed}
 use Rattle.node_walk.specs.declared.ranges.Range.{Range}

@@ -1,7 +1,6 @@
 -- What a visitor is given, one event after the other, and what its answers say of the lists of events for which it stands.
 use Rattle.std.specs.Prelude.{◌≡◌, ℕ, ◌<◌, ◌≤◌, Bool, List, ◌++◌, length, take, Result, OnOk, IfErr}
-use Rattle.level_rules.specs.walk.Events.{Event, WalkState}
-use Rattle.level_rules.specs.walk.Events.Event.{LeafEvent, FragmentEvent}
+use Rattle.node_walk.specs.Rules.{Event, FragmentEvent, LeafEvent, WalkState}
 
 -- Where the visitor stood for a start and a list, it now stands for that start and the list with these events appended.
 pub record Grew {A : Type 0} (old_stands stands : A → List Event → Type 0) (events : List Event) : Type 0 where

@@ -1,9 +1,7 @@
 // Near and far children of a node, and whether a far box is to be entered. Rules: `level_rules/walk`,
 // Boxes.
 ghost use Rattle.std.specs.Prelude.{◌≡◌, ℕ, ◌≤◌, length};
-ghost use Rattle.view_rules.specs.declared.ColumnRange.{ColumnRange};
-ghost use Rattle.level_rules.specs.Levels.{child_on};
-ghost use Rattle.level_rules.specs.walk.Boxes.{eye_side, box_on, box_column, box_row, box_corners, corners_range, range_is_open, is_within_box, box_passes};
+ghost use Rattle.node_walk.specs.Rules.{ColumnRange, box_column, box_corners, box_on, box_passes, box_row, child_on, corners_range, eye_side, is_within_box, range_is_open};
 
 use crate::cover::Cover;
 use level_rules::{Box4, Child, Corners, Node, partition_of};

@@ -1,7 +1,6 @@
 // The walk of the nodes under the root. Rules: `level_rules/walk`, Walk.
-ghost use Rattle.std.specs.Prelude.{◌≡◌, ℕ, ◌≤◌, ◌<◌, ◌+◌, false, length, replicate, OnOk};
-ghost use Rattle.level_rules.specs.declared.maps.lumps.TheConstants.{MAX_RECORDS};
-ghost use Rattle.level_rules.specs.walk.Walk.{walk_start, at_segs, at_leaf, walk_child, view_events};
+ghost use Rattle.std.specs.Prelude.{◌≡◌, ℕ, ◌<◌, ◌+◌, false, length, replicate, OnOk};
+ghost use Rattle.level_rules.specs.walk.Walk.{walk_start, at_leaf, walk_child, view_events};
 ghost use Rattle.node_walk.specs.Lists.{walk_lists, part_start, IsThere};
 ghost use Rattle.node_walk.specs.Visits.{Visits, TakesAll, Walks};
 
@@ -10,7 +9,7 @@ use crate::cover::Cover;
 use crate::scene::{Lists, WalkScene};
 use crate::segs::visit_seg;
 use crate::visitor::Visitor;
-use level_rules::{Child, Leaf, MAX_DEPTH, Surface};
+use level_rules::{Child, MAX_DEPTH};
 use view_frame::View;
 
 /// Gives the visitor the leaves and fragments of a view, in order.
@@ -109,29 +108,6 @@ fn visit_leaf<V: Visitor>(
     visitor.leaf(n)?;
     let leaf = lists.leaf(n);
     let front = lists.surface(leaf.sector);
-    visit_segs(lists, view, front, leaf, cover, visitor)
-}
-
-// Takes the segs of a leaf whose sector is `front`.
-fn visit_segs<V: Visitor>(
-    lists: &Lists<'_>,
-    view: &View<'_>,
-    front: &Surface,
-    leaf: &Leaf,
-    cover: &mut Cover,
-    visitor: &mut V,
-) -> Result<(), V::Stop>
-    requires count { length lists.now.segs ≤ MAX_RECORDS }
-    requires segs { leaf.now.first + leaf.now.count ≤ length lists.now.segs }
-    requires width { length cover.old ≡ view.now.shape.width }
-    requires takes { TakesAll (V.takes visitor.old) (length lists.now.leaves)
-        (length lists.now.segs) view.now.shape.width }
-    ensures walks { Walks (V.takes visitor.old) (V.takes visitor.new) (V.stands visitor.old)
-        (V.stands visitor.new) (V.stopped visitor.new)
-        (at_segs view.now lists.now front.now leaf.now.first leaf.now.count (part_start cover.old))
-        cover.new result }
-    ensures width { length cover.new ≡ length cover.old }
-{
     for k in 0..leaf.count {
         visit_seg(lists, view, front, leaf.first + k, cover, visitor)?;
     }

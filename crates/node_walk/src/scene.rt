@@ -1,8 +1,6 @@
 // What is walked: a level, with the surfaces and middle textures that tell what its segs hide.
 ghost use Rattle.std.specs.Prelude.{◌≡◌, ℕ, ◌+◌, ◌<◌, ◌≤◌, true, length, slice_index, Some};
-ghost use Rattle.level_rules.specs.Levels.{seg_at, leaf_at, node_at, surface_at, child_on};
-ghost use Rattle.level_rules.specs.declared.maps.lumps.TheConstants.{MAX_RECORDS};
-ghost use Rattle.level_rules.specs.maps.Trees.{is_within};
+ghost use Rattle.node_walk.specs.Rules.{MAX_RECORDS, child_on, is_within, leaf_at, node_at, seg_at, surface_at};
 ghost use Rattle.node_walk.specs.Lists.{walk_lists, IsThere, IsSegOf};
 
 use level_rules::{Child, Leaf, MAX_DEPTH, Node, Seg, Surface};

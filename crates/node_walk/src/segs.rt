@@ -1,11 +1,6 @@
 // What a seg hides and what of it is seen. Rules: `level_rules/walk`, Segs and Walk.
 ghost use Rattle.std.specs.Prelude.{◌≡◌, ℕ, ◌≤◌, ◌<◌, ◌-◌, length, map};
-ghost use Rattle.view_rules.specs.declared.ColumnRange.{ColumnRange};
-ghost use Rattle.level_rules.specs.Levels.{seg_at};
-ghost use Rattle.level_rules.specs.walk.Covered.{fragments};
-ghost use Rattle.level_rules.specs.walk.Events.Event.{FragmentEvent};
-ghost use Rattle.level_rules.specs.walk.Segs.{seg_range, back_of, middle_of, is_closed, is_solid, heights_differ, faces_differ, is_pass};
-ghost use Rattle.level_rules.specs.walk.Walk.{at_seg, at_columns};
+ghost use Rattle.node_walk.specs.Rules.{ColumnRange, FragmentEvent, at_columns, at_seg, back_of, faces_differ, fragments, heights_differ, is_closed, is_pass, is_solid, middle_of, seg_at, seg_range};
 ghost use Rattle.node_walk.specs.Lists.{IsSegOf, part_start};
 ghost use Rattle.node_walk.specs.Visits.{Visits, TakesAll, Walks};
 
@@ -101,42 +96,7 @@ fn show<V: Visitor>(
     Ok(())
 }
 
-// A seg that is seen in columns `first` to `last`: a solid one is shown and covers, a pass is shown.
-fn visit_columns<V: Visitor>(
-    lists: &Lists<'_>,
-    front: &Surface,
-    n: u16,
-    first: u16,
-    last: u16,
-    cover: &mut Cover,
-    visitor: &mut V,
-) -> Result<(), V::Stop>
-    requires seg { n < length lists.now.segs }
-    requires ordered { first ≤ last }
-    requires within { last < length cover.old }
-    requires takes { (p q : ℕ) → first ≤ p → p ≤ q → q ≤ last →
-        V.takes visitor.old (FragmentEvent n p q) }
-    ensures walks { let seg = seg_at lists.now n in
-        let solid = is_solid front.now (back_of lists.now seg) in
-        let pass = is_pass front.now (back_of lists.now seg) (middle_of lists.now seg) in
-        Walks (V.takes visitor.old) (V.takes visitor.new) (V.stands visitor.old)
-        (V.stands visitor.new) (V.stopped visitor.new)
-        (at_columns solid pass n first last (part_start cover.old)) cover.new result }
-    ensures width { length cover.new ≡ length cover.old }
-{
-    let seg = lists.seg(n);
-    if is_solid(lists, front, seg) {
-        show(cover, n, first, last, visitor)?;
-        cover.cover(first, last);
-        Ok(())
-    } else if is_pass(lists, front, seg) {
-        show(cover, n, first, last, visitor)
-    } else {
-        Ok(())
-    }
-}
-
-/// Takes a seg of a leaf whose sector is `front`.
+/// Takes a seg of a leaf whose sector is `front`: a solid one is shown and covers, a pass is shown.
 ///
 /// The original: `R_AddLine`, r_bsp.c.
 pub(crate) fn visit_seg<V: Visitor>(
@@ -156,14 +116,24 @@ pub(crate) fn visit_seg<V: Visitor>(
         (at_seg view.now lists.now front.now n (part_start cover.old)) cover.new result }
     ensures width { length cover.new ≡ length cover.old }
 {
-    match seg_range(view, lists.seg(n)) {
+    let seg = lists.seg(n);
+    match seg_range(view, seg) {
         ColumnRange::Behind => Ok(()),
         ColumnRange::Outside => Ok(()),
         ColumnRange::Columns { x1, x2 } => {
             if x1 == x2 {
                 return Ok(());
             }
-            visit_columns(lists, front, n, x1, x2 - 1, cover, visitor)
+            let last = x2 - 1;
+            if is_solid(lists, front, seg) {
+                show(cover, n, x1, last, visitor)?;
+                cover.cover(x1, last);
+                Ok(())
+            } else if is_pass(lists, front, seg) {
+                show(cover, n, x1, last, visitor)
+            } else {
+                Ok(())
+            }
         }
     }
 }

@@ -2,8 +2,7 @@
 //!
 //! Rules: `specs/Visits`.
 ghost use Rattle.std.specs.Prelude.{List, [], ◌∷◌};
-ghost use Rattle.level_rules.specs.walk.Events.{Event};
-ghost use Rattle.level_rules.specs.walk.Events.Event.{LeafEvent, FragmentEvent};
+ghost use Rattle.node_walk.specs.Rules.{Event, FragmentEvent, LeafEvent};
 ghost use Rattle.node_walk.specs.Visits.{Visits};
 
 /// Takes the leaves that are entered and the fragments that are seen, one after the other.

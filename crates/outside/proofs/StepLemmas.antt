@@ -3,7 +3,7 @@ use Rattle.std.proofs.Common.{◌≡◌, Bool, Result, Ok, Err, IsErrAnd, refl}
 use Rattle.std.proofs.lemmas.Result.{err_from_is_err_and}
 use Rattle.outside.specs.declared.fault.Fault.{Fault}
 use Rattle.outside.specs.declared.fault.Fault.TheVariants.{Refused, ReadFault, ZoneFull, OutOfMemory}
-use Rattle.outside.specs.Faults.{fault_above, from_below, and_then, IsAboveBy, FaultFits, ResultIs}
+use Rattle.outside.specs.Faults.{fault_above, from_below, and_then, FaultFits, ResultIs}
 
 -- a step was passed
 pub step : {A B C R E : Type 0} {fault_of : E → Fault R} {steady later : Bool} {value : B → A} {result : Result B E} (first : Result C R) (next : C → Result A R) (found : C) →

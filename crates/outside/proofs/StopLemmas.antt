@@ -88,16 +88,3 @@ stops_above f steady expected (Refused reason) h = rw h refl
 stops_above f steady expected ReadFault h = λ holds. rw (h holds) refl
 stops_above f steady expected (ZoneFull wanted widest) h = tt
 stops_above f steady expected OutOfMemory h = tt
-
--- a step of a layer below has stopped the call
-pub step_stops_above : {A B C D R Q E F : Type 0} {fault_of : E → Fault R} {above : F → Fault Q} {steady later : Bool} {v : D → C} {value : B → A} {first : Result C (Stop R)} {r : Result D E}
-    (f : R → Q) (convert : E → F) → ((x : E) → above (convert x) ≡ fault_above f (fault_of x)) → (next : C → Result A (Stop Q)) (fault : E) (result : Result B F) →
-    ResultIsOrAbsent fault_of later v first r → r ≡ Err fault → later ≡ steady → IsErrAnd result (λ e. e ≡ convert fault) →
-    ResultIsOrAbsent above steady value (and_then (from_below (stop_above f) first) next) result
-step_stops_above {A} {B} {C} {D} {R} {Q} {E} {F} {fault_of} {above} {steady} {later} {v} {value} {first} {r} f convert tells next fault result agrees was s is =
-    let p : (y : F) × (result ≡ Err y) × (y ≡ convert fault) = err_from_is_err_and result is in
-    let h : FaultFitsOrAbsent later first (fault_of fault) = rw was at agrees.err in
-    let below : FaultFitsOrAbsent later (from_below (stop_above f) first) (fault_above f (fault_of fault)) = stops_above f later first (fault_of fault) h in
-    let k : FaultFitsOrAbsent steady (and_then (from_below (stop_above f) first) next) (above p.0) =
-    rw (p.2, tells fault, ← s) (stops_all later (from_below (stop_above f) first) next (fault_above f (fault_of fault)) below) in
-    rw p.1 (record { ok = tt; err = k })

@@ -1,10 +1,7 @@
 -- What is known of a call whose fault is turned into that of a layer above (`map_err`).
-use Rattle.std.proofs.Common.{◌≡◌, Result, Ok, Err, refl, sym, ap, ◌∙◌, IsErrAnd, MatchResult}
+use Rattle.std.proofs.Common.{◌≡◌, Result, Ok, Err, IsErrAnd, MatchResult}
 use Rattle.std.specs.Prelude.{IfOk, OnOk}
 use Rattle.std.proofs.lemmas.Result.{err_from_is_err_and}
-use Rattle.outside.specs.declared.fault.Fault.{Fault}
-use Rattle.outside.specs.declared.fault.Fault.TheVariants.{Refused, ReadFault, ZoneFull, OutOfMemory}
-use Rattle.outside.specs.Faults.{fault_above, IsAboveBy}
 
 -- the value is the same, and each fault is turned as W says
 abbrev pub IsThrough : {A E F : Type 0} → (E → F → Type 0) → Result A E → Result A F → Type 0
@@ -19,25 +16,6 @@ module _ {A E F : Type 0} (W : E → F → Type 0) where
   pub done_through : (P : Type 0) (one : Result A E) (result : Result A F) → IsThrough W one result → OnOk one P → OnOk result P
   done_through P (Ok x) result is p = rw is p
   done_through P (Err e) result is p = let s = err_from_is_err_and result is in rw s.1 tt
-
--- a refusal that is named by a function
-pub above_is : {R Q : Type 0} (lift : R → Q) (below : Fault R) (above : Fault Q) → IsAboveBy (λ refusal named. named ≡ lift refusal) below above → above ≡ fault_above lift below
-above_is lift (Refused refusal) (Refused named) is = ap Refused is
-above_is lift (Refused refusal) ReadFault is = absurd is
-above_is lift (Refused refusal) (ZoneFull wanted widest) is = absurd is
-above_is lift (Refused refusal) OutOfMemory is = absurd is
-above_is lift ReadFault (Refused named) is = absurd is
-above_is lift ReadFault ReadFault is = refl
-above_is lift ReadFault (ZoneFull wanted widest) is = absurd is
-above_is lift ReadFault OutOfMemory is = absurd is
-above_is lift (ZoneFull wanted widest) (Refused named) is = absurd is
-above_is lift (ZoneFull wanted widest) ReadFault is = absurd is
-above_is lift (ZoneFull wanted widest) (ZoneFull wanted' widest') is = rw (is.0, is.1) refl
-above_is lift (ZoneFull wanted widest) OutOfMemory is = absurd is
-above_is lift OutOfMemory (Refused named) is = absurd is
-above_is lift OutOfMemory ReadFault is = absurd is
-above_is lift OutOfMemory (ZoneFull wanted widest) is = absurd is
-above_is lift OutOfMemory OutOfMemory is = refl
 
 -- what holds of every value
 pub if_ok : {A E : Type 0} (P : A → Type 0) (result : Result A E) → ((x : A) → P x) → IfOk result P

@@ -13,11 +13,6 @@ abbrev pub else_absent : {A R : Type 0} → Option A → Result A (Stop R)
 else_absent None = Err absent
 else_absent (Some value) = Ok value
 
--- the value, or else a refusal
-abbrev pub else_refused : {A R : Type 0} → R → Option A → Result A (Stop R)
-else_refused refusal None = Err (stopped refusal)
-else_refused refusal (Some value) = Ok value
-
 -- steps that ask for no file
 abbrev pub no_file : {A R : Type 0} → Result A R → Result A (Stop R)
 no_file (Ok value) = Ok value

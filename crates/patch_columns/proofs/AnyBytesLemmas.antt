@@ -1,10 +1,7 @@
 -- Laws of the columns of a texture where the bytes of a lump may be others each time.
 use Rattle.std.proofs.Common.{◌≡◌, ℕ, zero, suc, ◌+◌, ◌<◌, ◌≤◌, cond, List, [], ◌∷◌, ◌++◌, length, get_or, refl, ap, sym, subst, ◌∙◌, arith}
-use Rattle.art_rules.specs.Words.{AreColumnsOf, column_lookup, composed_columns, composed_count, composite_place, composite_size, listed, lookup_of, patches_in, stands_in}
+use Rattle.patch_columns.specs.Rules.{AreColumnsOf, ColumnLookup, Empty, PlacedPatch, column_lookup, composed_columns, composed_count, composite_place, composite_size, listed, lookup_of, patches_in, stands_in}
 use Rattle.art_rules.proofs.Laws.{get_or-listed, length-listed}
-use Rattle.art_rules.specs.declared.PlacedPatch.{PlacedPatch}
-use Rattle.art_rules.specs.declared.ColumnLookup.{ColumnLookup}
-use Rattle.art_rules.specs.declared.ColumnLookup.TheVariants.{Empty}
 use Rattle.patch_columns.specs.Seen.{AreSeen, IsSeen, columns_with, composed_bytes, lookup_behind, lookup_with, placed_lookup, seen_lookup, seen_lookups}
 use Rattle.patch_columns.proofs.SeenLemmas.{IsChangedBelow, seen_lookup-added}
 use Rattle.patch_columns.proofs.PlaceLemmas.{composed_before, composed_before-more, place-more, placed, placed_in}

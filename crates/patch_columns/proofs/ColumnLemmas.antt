@@ -28,10 +28,6 @@ listed-same : {X : Type 0} (f g : ℕ → X) (m n : ℕ) (d : X) → m ≡ n →
 listed-same f g m n d e h =
     ap (listed f) e ∙ listed-all g (listed f n) n d (length-listed f n) (λ k l. get_or-listed f n k d l ∙ h k l)
 
-pub length-with_posts : (column : List ℕ) (placed : List PlacedPost) → length (with_posts column placed) ≡ length column
-unfolding with_posts
-length-with_posts column placed = length-listed (row_with column placed) (length column)
-
 pub with_posts-none : (column : List ℕ) → column ≡ with_posts column []
 unfolding with_posts row_with last_put
 with_posts-none column = listed-all (row_with column []) column (length column) 0 refl (λ k l. refl)

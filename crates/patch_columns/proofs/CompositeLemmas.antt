@@ -1,10 +1,7 @@
 -- Laws of the composite while a patch is put into it column by column.
 use Rattle.art_rules.proofs.Common.{[], ap, append-nil, Bool, both_ways, cond, false, filter, filter-append, get_or, get_or_from_slice_get, length, List, refl, slice_get, slice_get_within, Some, sym, take, take_more, true, ℕ, ◌++◌, ◌+◌, ◌<◌, ◌∙◌, ◌∷◌, ◌≡◌}
-use Rattle.art_rules.specs.Words.{AreColumnsOf, column_place, column_posts, composed_byte, composed_column, composed_columns, composed_count, composite_of_first, composite_place, is_composed, is_composed_lookup, joined_lists, listed, own_column, patches_in, placed_posts, PlacedPost, stands_in}
+use Rattle.patch_columns.specs.Rules.{AreColumnsOf, ColumnLookup, Composed, PlacedPatch, PlacedPost, column_place, column_posts, composed_byte, composed_column, composed_columns, composed_count, composite_of_first, composite_place, is_composed, is_composed_lookup, joined_lists, listed, own_column, patches_in, placed_posts, stands_in}
 use Rattle.art_rules.proofs.Laws.{joined_lists-append, length-listed}
-use Rattle.art_rules.specs.declared.PlacedPatch.{PlacedPatch}
-use Rattle.art_rules.specs.declared.ColumnLookup.{ColumnLookup}
-use Rattle.art_rules.specs.declared.ColumnLookup.TheVariants.{Composed}
 use Rattle.art_rules.proofs.LookupLemmas.{columns_of-composed, columns_of-place}
 use Rattle.patch_columns.specs.Composites.{placed_post, posts_at, posts_in, with_posts}
 use Rattle.patch_columns.proofs.ColumnLemmas.{with_posts-composed}

@@ -1,10 +1,7 @@
 -- Laws of the places that composed columns have in the composite.
 use Rattle.art_rules.proofs.Common.{[], ap, arith, Bool, cond, false, filter, filter_of_map_range_with_len_more, get_or, length, length-append, List, map-id, nat_lt, nat_tests, range_with_len, refl, suc, sum_by, sum_by_more, sym, take, true, zero, ℕ, ◌*◌, ◌++◌, ◌+◌, ◌<◌, ◌∙◌, ◌∷◌, ◌≡◌, ◌≤◌}
-use Rattle.art_rules.specs.Words.{column_lookup, column_lookups, composed_columns, composed_count, composite_place, is_composed, listed, lookup_of, patches_in}
+use Rattle.patch_columns.specs.Rules.{ColumnLookup, Empty, PlacedPatch, column_lookup, column_lookups, composed_columns, composed_count, composite_place, is_composed, listed, lookup_of, patches_in}
 use Rattle.art_rules.proofs.Laws.{get_or-listed, length-listed}
-use Rattle.art_rules.specs.declared.PlacedPatch.{PlacedPatch}
-use Rattle.art_rules.specs.declared.ColumnLookup.{ColumnLookup}
-use Rattle.art_rules.specs.declared.ColumnLookup.TheVariants.{Empty}
 use Rattle.patch_columns.specs.Seen.{composed_bytes, placed_lookup, seen_lookup, seen_lookups}
 use Rattle.patch_columns.proofs.SeenLemmas.{IsChangedBelow, changed_all}
 

@@ -1,8 +1,7 @@
 -- Columns of a composite while the posts of a patch are put into them (R_GenerateComposite,
 -- R_DrawColumnInCache, r_data.c).
 use Rattle.std.specs.Prelude.{◌≡◌, ℕ, cond, ℤ, pos, negsuc, ◌+ℤ◌, List, [], ◌∷◌, length, map, unwrap_or, slice_index, refl}
-use Rattle.art_rules.specs.Words.{byte_at, column_place, first_row, is_put_at, last_put, listed, natural, own_column, PlacedPost, Post, posts, put_byte, put_count, rows_above, stands_in}
-use Rattle.art_rules.specs.declared.PlacedPatch.{PlacedPatch}
+use Rattle.patch_columns.specs.Rules.{PlacedPatch, PlacedPost, Post, byte_at, column_place, first_row, is_put_at, last_put, listed, natural, own_column, posts, put_byte, put_count, rows_above, stands_in}
 
 -- a post whose first byte has that row in its texture
 unfoldable pub placed_post : ℤ → Post → List ℕ → PlacedPost

@@ -1,2 +1,3 @@
 pub mod Composites
 pub mod Seen
+pub mod Rules

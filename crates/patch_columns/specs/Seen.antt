@@ -1,9 +1,6 @@
 -- What each column of a texture is read from while its patches come one after the other.
 use Rattle.std.specs.Prelude.{◌≡◌, ℕ, ◌<◌, pos, List, [], length, cond, slice_index_or, refl}
-use Rattle.art_rules.specs.Words.{column_place, listed, lookup_of, own_column, patches_in, stands_in}
-use Rattle.art_rules.specs.declared.PlacedPatch.{PlacedPatch}
-use Rattle.art_rules.specs.declared.ColumnLookup.{ColumnLookup}
-use Rattle.art_rules.specs.declared.ColumnLookup.TheVariants.{Empty, Single, Composed}
+use Rattle.patch_columns.specs.Rules.{ColumnLookup, Composed, Empty, PlacedPatch, Single, column_place, listed, lookup_of, own_column, patches_in, stands_in}
 
 -- column x by the patches so far; where in the composite it begins is not known yet, and stands as
 -- 0

@@ -3,8 +3,7 @@
 // Rules: `art_rules`, Columns and Lookups, and `specs/Composites`. The original:
 // `R_GenerateComposite`, `R_DrawColumnInCache`, r_data.c.
 ghost use Rattle.std.specs.Prelude.{◌≡◌, ◌<◌, ◌+◌, ◌^◌, ◌+ℤ◌, pos, ◌++◌, ◌∷◌, [], ℕ, List, length, Some, slice_get};
-ghost use Rattle.art_rules.specs.declared.ColumnLookup.TheVariants.{Composed};
-ghost use Rattle.art_rules.specs.Words.{AreColumnsOf, composite_of_first, first_row, next_place, post_at, put_count, rows_above};
+ghost use Rattle.patch_columns.specs.Rules.{AreColumnsOf, Composed, composite_of_first, first_row, next_place, post_at, put_count, rows_above};
 ghost use Rattle.patch_columns.specs.Composites.{placed_post, posts_at, posts_in, with_posts};
 
 use crate::lookups::{own_column, stands_in};

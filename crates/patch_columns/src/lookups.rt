@@ -2,8 +2,7 @@
 //
 // Rules: `art_rules`, Lookups, and `specs/Seen`. The original: `R_GenerateLookup`, r_data.c.
 ghost use Rattle.std.specs.Prelude.{◌≡◌, ◌<◌, ◌^◌, ◌++◌, ◌∷◌, [], ℕ, List, length, true};
-ghost use Rattle.art_rules.specs.declared.PlacedPatch.{PlacedPatch};
-ghost use Rattle.art_rules.specs.Words.{AreColumnsOf, column_lookups, composite_size, own_column, stands_in};
+ghost use Rattle.patch_columns.specs.Rules.{AreColumnsOf, PlacedPatch, column_lookups, composite_size, own_column, stands_in};
 ghost use Rattle.patch_columns.specs.Seen.{AreSeen, columns_with, composed_bytes, lookup_behind, lookup_with, placed_lookup, seen_lookups};
 
 use crate::column_place;

@@ -1,10 +1,6 @@
 -- Laws of one event more: the drawn fragments, the steps with planes and openings, and the vissprites' sectors; and an empty list.
 use Rattle.word_rules.proofs.Common.{[], ap, append-nil, append_assoc, arith, funext, length, length-map, List, map, map-append, refl, Some, sym, ℕ, ◌++◌, ◌+◌, ◌<◌, ◌∙◌, ◌∷◌, ◌≡◌, ◌≤◌}
-use Rattle.view_rules.specs.View.{ViewValue}
-use Rattle.level_rules.specs.declared.walk.TheConstants.{MAX_DRAWSEGS}
-use Rattle.level_rules.specs.walk.Events.{Event}
-use Rattle.level_rules.specs.walk.Events.Event.{LeafEvent, FragmentEvent}
-use Rattle.level_rules.specs.walk.Drawsegs.{last_leaf, leaf_fragments, drawsegs, leaves_entered}
+use Rattle.picture_rules.specs.Rules.{Dot, Event, FragmentEvent, LeafEvent, MAX_DRAWSEGS, ViewValue, drawsegs, last_leaf, leaf_fragments, leaves_entered}
 use Rattle.level_rules.proofs.walk.DrawsegLemmas.{drawsegs-leaf, drawsegs-room, drawsegs-full, room-drawsegs, full-drawsegs}
 use Rattle.picture_rules.specs.wall.Walls.{Wall}
 use Rattle.picture_rules.specs.wall.Strips.{wall_dots, ceiling_marks, floor_marks}
@@ -14,7 +10,6 @@ use Rattle.picture_rules.specs.plane.Built.{PlaneWall, after_events, planes_of}
 use Rattle.picture_rules.specs.plane.Built.PlaneEvent.{Draws}
 use Rattle.picture_rules.specs.sprite.Order.{draw_order}
 use Rattle.picture_rules.specs.sprite.Middles.{middles_at, sprites_from, masked_dots}
-use Rattle.pixel_rules.specs.Dots.{Dot}
 use Rattle.picture_rules.specs.Scene.{Scene, leaf_surface}
 use Rattle.picture_rules.specs.Walls.{fragment_wall, walls_of, walls_from, walls_dots}
 use Rattle.picture_rules.specs.Planes.{Step, plane_wall, leaf_step, wall_step, steps_from, steps_of, view_planes, planes_from, planes_dots}

@@ -1,13 +1,7 @@
 -- Laws of frames: the cells of a canvas that was given the dots of a view are its picture, or its trace.
 use Rattle.word_rules.proofs.Common.{[], and_from, and_left, and_right, ap, append-nil, arith, Bool, cases_lt, cond, false, get_or, inl, inr, le-leb, length, List, lt-leb, lt-ltb, map, nat_le, nat_lt, ne_eqb, None, Option, range_with_len, refl, Some, subst, sym, true, ℕ, ◌%◌, ◌&&◌, ◌++◌, ◌+◌, ◌-◌, ◌/◌, ◌<◌, ◌==◌, ◌∙◌, ◌∷◌, ◌≡◌, ◌≤◌, ◌⊎◌}
-use Rattle.word_rules.specs.Listed.{listed, joined_lists}
+use Rattle.picture_rules.specs.Rules.{AreInFrame, Dot, FRAME_CELLS, FRAME_WIDTH, Painter, ViewShape, ViewValue, colour_of, is_at, joined_lists, last_dot, last_dot_from, listed, mark_or, put_dots}
 use Rattle.word_rules.proofs.ListedLemmas.{listed-all}
-use Rattle.view_rules.specs.View.{ViewValue}
-use Rattle.view_rules.specs.declared.ViewShape.{ViewShape}
-use Rattle.view_rules.specs.declared.TheConstants.{FRAME_WIDTH}
-use Rattle.pixel_rules.specs.declared.Painter.{Painter}
-use Rattle.pixel_rules.specs.declared.TheConstants.{FRAME_CELLS}
-use Rattle.pixel_rules.specs.Dots.{Dot, put_dots, is_at, last_dot_from, last_dot, colour_of, mark_or, AreInFrame}
 use Rattle.pixel_rules.proofs.DotLemmas.{length-put_dots, cell_beside-put_dots, cell_any-put_dots}
 use Rattle.picture_rules.specs.sprite.Weapons.{WeaponLayer}
 use Rattle.picture_rules.specs.Scene.{Scene}

@@ -1,7 +1,7 @@
 -- The laws of the crates below this one that others cite, each with the page that proves it.
 pub use Rattle.word_rules.proofs.LeastLemmas.{greatest-is, greatest-more, least-is, least-more, least-none, least-some, none-below}
-pub use Rattle.word_rules.proofs.ListedLemmas.{get_or-listed, get_or-listed_from, joined_lists-append, joined_lists-cons, length-listed, length-listed_from, listed-all, listed-more, listed_from-length, listed_from-none}
-pub use Rattle.word_rules.proofs.WordLemmas.{clamp_word-high, clamp_word-low}
+pub use Rattle.word_rules.proofs.ListedLemmas.{get_or-listed, get_or-listed_from, joined_lists-append, joined_lists-cons, joined_lists-next, joined_lists-one, length-listed, length-listed_from, listed-all, listed-more, listed_from-length, listed_from-none}
+pub use Rattle.word_rules.proofs.WordLemmas.{clamp_word-high, clamp_word-low, greater_word-first, lesser_word-first}
 pub use Rattle.view_rules.proofs.ColumnLemmas.{projection_is}
 pub use Rattle.level_rules.proofs.maps.LevelLemmas.{level_of-sound}
 pub use Rattle.level_rules.proofs.walk.CoverLemmas.{runs-open}

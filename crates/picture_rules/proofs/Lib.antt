@@ -1,4 +1,5 @@
 pub mod FrameLemmas
+pub mod InViewLemmas
 pub mod EventLemmas
 pub mod ThingLemmas
 pub mod CountLemmas

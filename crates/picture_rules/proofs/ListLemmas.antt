@@ -1,13 +1,7 @@
 -- Laws of the list of a view: what one event more adds to each of its parts, and of which things its vissprites are.
 use Rattle.word_rules.proofs.Common.{[], ap, append-nil, append_assoc, arith, Bool, cases_lt, cond, false, filter, inl, inr, length, length-append, length-map, length-replicate, length-take, length_push, List, map, map-append, min, nat_lt, nat_tests, None, Option, refl, replicate, slice_get, slice_get_within, Some, subst, suc, sym, true, zero, ℕ, ◌++◌, ◌+◌, ◌<◌, ◌∙◌, ◌∷◌, ◌≡◌, ◌≤◌, ◌⊎◌}
-use Rattle.word_rules.specs.Listed.{joined_lists}
+use Rattle.picture_rules.specs.Rules.{Event, FragmentEvent, LeafEvent, MAX_DRAWSEGS, PlacedThing, ViewValue, drawsegs, joined_lists, last_leaf, leaf_fragments, leaves_entered}
 use Rattle.word_rules.proofs.ListedLemmas.{joined_lists-append}
-use Rattle.view_rules.specs.View.{ViewValue}
-use Rattle.level_rules.specs.declared.PlacedThing.{PlacedThing}
-use Rattle.level_rules.specs.declared.walk.TheConstants.{MAX_DRAWSEGS}
-use Rattle.level_rules.specs.walk.Events.{Event}
-use Rattle.level_rules.specs.walk.Events.Event.{LeafEvent, FragmentEvent}
-use Rattle.level_rules.specs.walk.Drawsegs.{drawsegs, last_leaf, leaf_fragments, leaves_entered}
 use Rattle.level_rules.proofs.walk.DrawsegLemmas.{drawsegs-full, drawsegs-leaf, drawsegs-room, full-drawsegs, leaf_fragments-append, room-drawsegs}
 use Rattle.picture_rules.specs.declared.list.TheConstants.{MOST_TOLD}
 use Rattle.picture_rules.specs.declared.list.PlaneMaker.{PlaneMaker}
@@ -72,15 +66,15 @@ longer_step steps s =
     let l = after_event-longer (after_events no_planes (map (λ (t : Step). t.event) steps)) s.event in
     subst (λ (now : PlanesNow). length (after_events no_planes (map (λ (t : Step). t.event) steps)).planes ≤ length now.planes) (sym e) l
 
-walls_counted : (v : ViewValue) (scene : Scene) (es : List Event) → length (walls_of v scene es) ≡ length (drawsegs es)
+pub walls_counted : (v : ViewValue) (scene : Scene) (es : List Event) → length (walls_of v scene es) ≡ length (drawsegs es)
 unfolding walls_of
 walls_counted v scene es = length-map (drawsegs es) (fragment_wall v scene)
 
-drawn_counted : (es : List Event) → length (drawsegs es) ≤ length (leaf_fragments 0 es)
+pub drawn_counted : (es : List Event) → length (drawsegs es) ≤ length (leaf_fragments 0 es)
 unfolding drawsegs
 drawn_counted es = omega (arith, length-take MAX_DRAWSEGS (leaf_fragments 0 es))
 
-all_counted : (es : List Event) → length (drawsegs es) < MAX_DRAWSEGS → length (drawsegs es) ≡ length (leaf_fragments 0 es)
+pub all_counted : (es : List Event) → length (drawsegs es) < MAX_DRAWSEGS → length (drawsegs es) ≡ length (leaf_fragments 0 es)
 unfolding drawsegs
 all_counted es h = omega (arith, length-take MAX_DRAWSEGS (leaf_fragments 0 es))
 

@@ -1,21 +1,6 @@
 -- Laws of what a trace names: each dot of a view's paints is of an item of the view's list, in its columns.
 use Rattle.word_rules.proofs.Common.{[], All, All-from_recursion, All-weaker, AllByRecursion, ap, arith, Bool, cond, false, inl, inr, int_lt, length, List, map, None, Option, option_map, refl, same_Some, slice_get, slice_get-map, Some, subst, suc, sym, true, zero, zip, ℕ, ℤ, ◌++◌, ◌+◌, ◌∙◌, ◌∷◌, ◌≡◌, ◌≢◌, ◌≤◌, ◌⊎◌}
-use Rattle.word_rules.specs.Listed.{joined_lists, listed, listed_from}
-use Rattle.word_rules.specs.Words.{natural}
-use Rattle.view_rules.specs.View.{ViewValue}
-use Rattle.view_rules.specs.declared.ViewShape.{ViewShape}
-use Rattle.level_rules.specs.walk.Drawsegs.{LeafFragment, drawsegs}
-use Rattle.level_rules.specs.walk.Events.{Event}
-use Rattle.level_rules.specs.walk.Walk.{view_events}
-use Rattle.pixel_rules.specs.declared.MaskedColumn.{MaskedColumn}
-use Rattle.pixel_rules.specs.declared.Painter.{Painter}
-use Rattle.pixel_rules.specs.declared.Post.{Post}
-use Rattle.pixel_rules.specs.declared.Source.{Source}
-use Rattle.pixel_rules.specs.declared.TheConstants.{WALL, PLANE, SKY, MIDDLE, SPRITE}
-use Rattle.pixel_rules.specs.Art.{Art, lump_source, painter_of}
-use Rattle.pixel_rules.specs.Dots.{Dot}
-use Rattle.pixel_rules.specs.Posts.{post_colour, post_dots, post_rows, posts_dots}
-use Rattle.pixel_rules.specs.Strips.{column_dots, rows_between}
+use Rattle.picture_rules.specs.Rules.{Art, Dot, Event, LeafFragment, MIDDLE, MaskedColumn, PLANE, Painter, Post, SKY, SPRITE, Source, ViewShape, ViewValue, WALL, column_dots, drawsegs, joined_lists, listed, listed_from, lump_source, natural, painter_of, post_colour, post_dots, post_rows, posts_dots, rows_between, view_events}
 use Rattle.picture_rules.specs.declared.list.ListedFragment.{ListedFragment}
 use Rattle.picture_rules.specs.declared.list.ListedPlane.{ListedPlane}
 use Rattle.picture_rules.specs.declared.list.ListedSprite.{ListedSprite}

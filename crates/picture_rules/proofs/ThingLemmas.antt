@@ -1,9 +1,6 @@
 -- Laws of the vissprites of a list of events to which one more is added.
 use Rattle.word_rules.proofs.Common.{[], ap, append-nil, Bool, cond, eqb-true, false, List, list_any, map, map-append, or-false, refl, sym, true, ℕ, ◌++◌, ◌==◌, ◌||◌, ◌∙◌, ◌∷◌, ◌≡◌}
-use Rattle.view_rules.specs.View.{ViewValue}
-use Rattle.level_rules.specs.walk.Events.{Event}
-use Rattle.level_rules.specs.walk.Events.Event.{LeafEvent, FragmentEvent}
-use Rattle.level_rules.specs.walk.Drawsegs.{leaves_entered}
+use Rattle.picture_rules.specs.Rules.{Event, FragmentEvent, LeafEvent, ViewValue, leaves_entered}
 use Rattle.level_rules.proofs.walk.DrawsegLemmas.{leaves_entered-append}
 use Rattle.picture_rules.specs.declared.sprite.SpriteEntry.{SpriteEntry}
 use Rattle.picture_rules.specs.Scene.{Scene, leaf_sector}

@@ -1,14 +1,7 @@
 -- What a view is made of, item by item: its drawn fragments, its planes with what made each, its vissprites with their things.
 use Rattle.std.specs.Prelude.{◌≡◌, ℕ, ◌-◌, min, Bool, false, List, [], ◌∷◌, ◌++◌, count_by, filter, map, is_some, length, replicate, slice_get, Option, Some, None}
 use Rattle.std.specs.List.{zip}
-use Rattle.word_rules.specs.Listed.{joined_lists}
-use Rattle.word_rules.specs.Words.{natural}
-use Rattle.view_rules.specs.View.{ViewValue}
-use Rattle.level_rules.specs.declared.PlacedThing.{PlacedThing}
-use Rattle.level_rules.specs.walk.Events.{Event}
-use Rattle.level_rules.specs.walk.Events.Event.{LeafEvent, FragmentEvent}
-use Rattle.level_rules.specs.walk.Drawsegs.{LeafFragment, drawsegs, leaf_fragments}
-use Rattle.level_rules.specs.walk.Walk.{view_events}
+use Rattle.picture_rules.specs.Rules.{Event, FragmentEvent, LeafEvent, LeafFragment, PlacedThing, ViewValue, drawsegs, joined_lists, leaf_fragments, natural, view_events}
 use Rattle.picture_rules.specs.declared.list.TheConstants.{MOST_TOLD}
 use Rattle.picture_rules.specs.declared.list.ListedFragment.{ListedFragment}
 use Rattle.picture_rules.specs.declared.list.ListedPlane.{ListedPlane}

@@ -1,7 +1,6 @@
 -- What a trace names by a painter's kind and number: an item of the view's list.
 use Rattle.std.specs.Prelude.{◌≡◌, ◌≤◌, ◌⊎◌, Some, slice_get}
-use Rattle.pixel_rules.specs.declared.TheConstants.{WALL, PLANE, SKY, MIDDLE, SPRITE}
-use Rattle.pixel_rules.specs.Dots.{Dot}
+use Rattle.picture_rules.specs.Rules.{Dot, MIDDLE, PLANE, SKY, SPRITE, WALL}
 use Rattle.picture_rules.specs.declared.list.ListedFragment.{ListedFragment}
 use Rattle.picture_rules.specs.declared.list.ListedPlane.{ListedPlane}
 use Rattle.picture_rules.specs.declared.list.ListedSprite.{ListedSprite}

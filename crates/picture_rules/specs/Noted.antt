@@ -1,9 +1,6 @@
 -- What the masked pass asks of the notes of a view and of the openings that they name (drawseg_t, r_defs.h).
-use Rattle.std.specs.Prelude.{◌≡◌, ◌≢◌, ◌≤◌, ◌<◌, ◌+◌, ◌-◌, ◌*◌, ◌^◌, ◌≤ℤ◌, ◌<ℤ◌, ℕ, ℤ, pos, negsuc, bit_and, List, length, Option, Some, None, IfSome, IsSome, ⊤, slice_get}
-use Rattle.word_rules.specs.Words.{minus_one}
-use Rattle.word_rules.specs.Steps.{step_at}
-use Rattle.view_rules.specs.declared.ViewShape.{ViewShape}
-use Rattle.level_rules.specs.declared.walk.TheConstants.{MAX_DRAWSEGS}
+use Rattle.std.specs.Prelude.{◌≢◌, ◌≤◌, ◌<◌, ◌+◌, ◌-◌, ◌^◌, ◌≤ℤ◌, ◌<ℤ◌, ℕ, ℤ, pos, negsuc, bit_and, List, length, Option, Some, None, IfSome, IsSome, ⊤, slice_get}
+use Rattle.picture_rules.specs.Rules.{MAX_DRAWSEGS, ViewShape, minus_one, step_at}
 use Rattle.picture_rules.specs.declared.wall.TheConstants.{SIL_BOTTOM, SIL_TOP}
 use Rattle.picture_rules.specs.declared.wall.Clip.{Clip}
 use Rattle.picture_rules.specs.declared.wall.Clip.TheVariants.{Absent, Constant, Saved}

@@ -1,14 +1,10 @@
 -- All that a view draws, in order: walls, planes, sprites with the masked mid textures (R_RenderPlayerView, r_main.c).
 use Rattle.std.specs.Prelude.{List, ◌++◌}
-use Rattle.word_rules.specs.Listed.{joined_lists}
+use Rattle.picture_rules.specs.Rules.{Dot, Event, ViewValue, joined_lists, view_events}
 use Rattle.picture_rules.specs.sprite.Weapons.{WeaponLayer, weapon_dots}
-use Rattle.view_rules.specs.View.{ViewValue}
-use Rattle.level_rules.specs.walk.Events.{Event}
-use Rattle.level_rules.specs.walk.Walk.{view_events}
 use Rattle.picture_rules.specs.wall.Walls.{Wall}
 use Rattle.picture_rules.specs.sprite.Order.{draw_order}
 use Rattle.picture_rules.specs.sprite.Middles.{masked_dots}
-use Rattle.pixel_rules.specs.Dots.{Dot}
 use Rattle.picture_rules.specs.Scene.{Scene}
 use Rattle.picture_rules.specs.Walls.{walls_of, walls_dots}
 use Rattle.picture_rules.specs.Planes.{steps_of, view_planes, planes_dots}

@@ -1,12 +1,7 @@
 -- The frame of a view: each pixel has the colour of the last dot there; and its trace, which names the dot.
 use Rattle.std.specs.Prelude.{ℕ, ◌<◌, ◌≤◌, ◌+◌, ◌-◌, ◌/◌, ◌%◌, ◌&&◌, nat_le, nat_lt, Bool, cond, List, map, Option, None}
 use Rattle.std.specs.List.{AllByRecursion}
-use Rattle.word_rules.specs.Listed.{listed}
-use Rattle.view_rules.specs.View.{ViewValue}
-use Rattle.view_rules.specs.declared.ViewShape.{ViewShape}
-use Rattle.view_rules.specs.declared.TheConstants.{FRAME_WIDTH, FRAME_HEIGHT}
-use Rattle.pixel_rules.specs.declared.TheConstants.{FRAME_CELLS}
-use Rattle.pixel_rules.specs.Dots.{Dot, last_dot, colour_of}
+use Rattle.picture_rules.specs.Rules.{Dot, FRAME_CELLS, FRAME_HEIGHT, FRAME_WIDTH, ViewShape, ViewValue, colour_of, last_dot, listed}
 use Rattle.picture_rules.specs.sprite.Weapons.{WeaponLayer}
 use Rattle.picture_rules.specs.Scene.{Scene}
 use Rattle.picture_rules.specs.Paints.{view_paints, overlaid_paints}

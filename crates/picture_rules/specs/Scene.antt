@@ -1,17 +1,9 @@
 -- What a picture is made from: the lists of a level, its textures and things, and the art.
 use Rattle.std.specs.Prelude.{ℕ, pos, List, [], Option, slice_index_or}
-use Rattle.level_rules.specs.declared.Seg.{Seg}
-use Rattle.level_rules.specs.declared.Side.{Side}
-use Rattle.level_rules.specs.declared.SideTextures.{SideTextures}
-use Rattle.level_rules.specs.declared.PlacedThing.{PlacedThing}
-use Rattle.level_rules.specs.declared.Surface.{Surface}
-use Rattle.level_rules.specs.Levels.{LevelLists, seg_at, leaf_at, surface_at}
-use Rattle.pixel_rules.specs.Art.{Art}
+use Rattle.picture_rules.specs.Rules.{Art, LeafFragment, LevelLists, PlacedThing, Seg, Side, SideTextures, Surface, back_of, leaf_at, seg_at, surface_at}
 use Rattle.picture_rules.specs.declared.sprite.Shape5.{Shape5}
 use Rattle.picture_rules.specs.declared.wall.WallFacts.{WallFacts}
 use Rattle.picture_rules.specs.declared.wall.WallTexture.{WallTexture}
-use Rattle.level_rules.specs.walk.Drawsegs.{LeafFragment}
-use Rattle.level_rules.specs.walk.Segs.{back_of}
 
 pub record Scene : Type 0 where
   pub level : LevelLists

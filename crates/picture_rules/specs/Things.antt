@@ -1,12 +1,7 @@
 -- The vissprites of a view: the things of each sector that is entered, once (R_AddSprites, r_things.c).
 use Rattle.std.specs.Prelude.{ℕ, ◌==◌, pos, cond, Bool, List, [], ◌∷◌, map, Option, Some, None}
 use Rattle.std.specs.List.{list_any}
-use Rattle.view_rules.specs.View.{ViewValue}
-use Rattle.view_rules.specs.Lights.{light_number}
-use Rattle.level_rules.specs.declared.PlacedThing.{PlacedThing}
-use Rattle.level_rules.specs.Levels.{surface_at}
-use Rattle.level_rules.specs.walk.Events.{Event}
-use Rattle.level_rules.specs.walk.Drawsegs.{leaves_entered}
+use Rattle.picture_rules.specs.Rules.{Event, PlacedThing, ViewValue, leaves_entered, light_number, surface_at}
 use Rattle.picture_rules.specs.declared.sprite.Placed.{Placed}
 use Rattle.picture_rules.specs.declared.sprite.Seen.{Seen}
 use Rattle.picture_rules.specs.declared.sprite.Shape5.{Shape5}

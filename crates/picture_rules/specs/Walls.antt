@@ -1,11 +1,8 @@
 -- The drawn fragments of a view and the dots of its walls.
 use Rattle.std.specs.Prelude.{ℕ, ◌+◌, List, [], ◌∷◌, ◌++◌, map}
-use Rattle.view_rules.specs.View.{ViewValue}
-use Rattle.level_rules.specs.walk.Events.{Event}
-use Rattle.level_rules.specs.walk.Drawsegs.{LeafFragment, drawsegs}
+use Rattle.picture_rules.specs.Rules.{Dot, Event, LeafFragment, ViewValue, drawsegs}
 use Rattle.picture_rules.specs.wall.Walls.{Wall, wall_of}
 use Rattle.picture_rules.specs.wall.Strips.{wall_dots}
-use Rattle.pixel_rules.specs.Dots.{Dot}
 use Rattle.picture_rules.specs.Scene.{Scene, fragment_facts}
 
 unfoldable pub fragment_wall : ViewValue → Scene → LeafFragment → Wall

@@ -11,4 +11,3 @@ pub mod Walls
 pub mod Openings
 pub mod Notes
 pub mod Strips
-pub mod Rows

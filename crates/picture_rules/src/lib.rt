@@ -26,6 +26,21 @@ pub use wall::{
     WallTexture,
 };
 
+// Passed on from the crates below.
+pub use level_rules::{
+    BOTTOM_UNPEGGED, MAX_DRAWSEGS, PlacedThing, SKY_FLAT, Sector, Seg, Side, SideTextures, Surface,
+    TOP_UNPEGGED,
+};
+pub use pixel_rules::{
+    FLAT_SIDE, FRAME_CELLS, LUMP, MIDDLE, MaskedColumn, PLANE, Painter, Post, SKY, SPRITE, WALL,
+    WEAPON,
+};
+pub use view_rules::{
+    Eye, FRAME_HEIGHT, FRAME_WIDTH, HALF_UNIT, MAX_FRACTION, MAX_SCALE, MAX_SIZE, Partition, Spans,
+    TABLES_BYTES, TANGENTS, TablesRefusal, ViewShape,
+};
+pub use word_rules::{ANG90, ANG180, FRACTION_BITS, FRACTION_UNIT};
+
 /// How many planes and openings a view may have.
 ///
 /// The original: `MAXVISPLANES` and `MAXOPENINGS`, r_plane.c.
@@ -62,17 +77,3 @@ pub struct OverLimit {
     pub kind: LimitKind,
     pub count: u32,
 }
-
-pub use level_rules::{
-    BOTTOM_UNPEGGED, MAX_DRAWSEGS, PlacedThing, SKY_FLAT, Sector, Seg, Side, SideTextures, Surface,
-    TOP_UNPEGGED,
-};
-pub use pixel_rules::{
-    FLAT_SIDE, FRAME_CELLS, LUMP, MIDDLE, MaskedColumn, PLANE, Painter, Post, SKY, SPRITE, WALL,
-    WEAPON,
-};
-pub use view_rules::{
-    Eye, FRAME_HEIGHT, FRAME_WIDTH, HALF_UNIT, MAX_FRACTION, MAX_SCALE, MAX_SIZE, Partition, Spans,
-    TABLES_BYTES, TANGENTS, TablesRefusal, ViewShape,
-};
-pub use word_rules::{ANG90, ANG180, FRACTION_BITS, FRACTION_UNIT};

@@ -57,10 +57,6 @@ pub last_dot-none : (x y : ℕ) → last_dot x y [] ≡ None
 unfolding last_dot last_dot_from
 last_dot-none x y = refl
 
-pub last_dot-one : (x y : ℕ) (d : Dot) → last_dot x y (d ∷ []) ≡ cond (is_at x y d) (Some d) None
-unfolding last_dot last_dot_from
-last_dot-one x y d = refl
-
 -- two pixels of a view have one cell only where they are one
 same_cell : (left top x y p q : ℕ) → x + left < FRAME_WIDTH → p + left < FRAME_WIDTH → cell_of left top x y ≡ cell_of left top p q → (x ≡ p) × (y ≡ q)
 unfolding cell_of

@@ -5,7 +5,7 @@ use Rattle.word_rules.specs.Words.{plus, minus, times, natural}
 use Rattle.word_rules.specs.Steps.{step_at}
 use Rattle.word_rules.proofs.StepLemmas.{step_at-zero, step_at-more}
 use Rattle.word_rules.specs.Listed.{listed_from}
-use Rattle.word_rules.proofs.ListedLemmas.{listed_from-none, listed_from-more}
+use Rattle.word_rules.proofs.ListedLemmas.{listed_from-more}
 use Rattle.pixel_rules.specs.declared.Painter.{Painter}
 use Rattle.view_rules.specs.declared.TheConstants.{FRAME_WIDTH, FRAME_HEIGHT}
 use Rattle.pixel_rules.specs.Dots.{AreInFrame, AreInColumn, AreInRow}
@@ -28,10 +28,6 @@ column_dots-more painter x colour first last next l e =
     ap (column_dots painter x colour) (listed_from-more (λ y. y) first last next l e) ∙ column_dots-append painter x colour (listed_from (λ y. y) first last) (next ∷ [])
 
 -- one column more
-pub span_dots-none : (painter : Painter) (y : ℕ) (colour : ℕ → ℕ) (first last : ℕ) → last < first → span_dots painter y colour first last ≡ []
-unfolding span_dots
-span_dots-none painter y colour first last l = listed_from-none (λ x. record { x = x; y = y; colour = colour x; painter = painter }) first last l
-
 pub span_dots-more : (painter : Painter) (y : ℕ) (colour : ℕ → ℕ) (first last next : ℕ) → first ≤ next → last + 1 ≡ next →
     span_dots painter y colour first next ≡ span_dots painter y colour first last ++ record { x = next; y = y; colour = colour next; painter = painter } ∷ []
 unfolding span_dots

@@ -1,18 +1,20 @@
 -- A canvas after one dot more.
 use Rattle.word_rules.proofs.Common.{[], ap, List, map, map-range_with_len_more, range_with_len, sym, ℕ, ◌++◌, ◌+◌, ◌∙◌, ◌∷◌, ◌≡◌}
 use Rattle.std.proofs.Common.{set}
-use Rattle.word_rules.specs.Listed.{listed_from}
+use Rattle.pixel_strips.specs.Rules.{Dot, Painter, cell_of, column_dots, listed_from, put_dots, span_dots}
 use Rattle.word_rules.proofs.ListedLemmas.{listed_from-length}
-use Rattle.pixel_rules.specs.declared.Painter.{Painter}
-use Rattle.pixel_rules.specs.Dots.{Dot, cell_of, put_dots}
-use Rattle.pixel_rules.specs.Strips.{column_dots, span_dots}
-use Rattle.pixel_rules.proofs.DotLemmas.{put_dots-more, put_dots-none}
+use Rattle.pixel_rules.proofs.DotLemmas.{put_dots-append, put_dots-more, put_dots-none}
 use Rattle.pixel_rules.proofs.StripLemmas.{column_dots-append}
 use Rattle.pixel_strips.specs.Canvases.{CanvasView, with_dot, with_dots}
 
 -- no dot yet
 pub dots_none : (mark : Painter → ℕ → ℕ) (canvas : CanvasView) → canvas ≡ with_dots mark [] canvas
 dots_none mark canvas = ap (λ (cells : List ℕ). record canvas { cells = cells }) (sym (put_dots-none mark canvas.left canvas.top canvas.cells))
+
+-- first the one list of dots, then the other
+pub with_dots-append : (mark : Painter → ℕ → ℕ) (xs ys : List Dot) (canvas : CanvasView) → with_dots mark ys (with_dots mark xs canvas) ≡ with_dots mark (xs ++ ys) canvas
+with_dots-append mark xs ys canvas =
+    ap (λ (cells : List ℕ). record canvas { cells = cells }) (sym (put_dots-append mark canvas.left canvas.top xs ys canvas.cells))
 
 -- the dots of a strip, where its colours have another name
 pub recoloured : (mark : Painter → ℕ → ℕ) (canvas view : CanvasView) (dots : (ℕ → ℕ) → List Dot) (f g : ℕ → ℕ) →

@@ -1,11 +1,7 @@
 -- Colours of texels and shades that are cut out.
 use Rattle.word_rules.proofs.Common.{ap, ap₂, arith, FitsSigned, List, of_z, slice_index, to_z, w32, ℕ, ℤ, ◌%◌, ◌*◌, ◌+◌, ◌-◌, ◌/◌, ◌<◌, ◌^◌, ◌∙◌, ◌≡◌}
 use Rattle.std.proofs.lemmas.Int.{to_z-of_z}
-use Rattle.pixel_rules.specs.declared.TheConstants.{TEXEL_ROWS, FLAT_SIDE, MAP_COLOURS}
-use Rattle.view_rules.specs.declared.Spans.{Spans}
-use Rattle.view_rules.specs.declared.Spans.TheVariants.{Full, Packed}
-use Rattle.pixel_rules.specs.Strips.{texel_row, flat_place, pack, packed_at, packed_place, span_place, shade, column_colour, span_colour}
-use Rattle.word_rules.specs.Steps.{step_at}
+use Rattle.pixel_strips.specs.Rules.{FLAT_SIDE, Full, MAP_COLOURS, Packed, Spans, TEXEL_ROWS, column_colour, flat_place, pack, packed_at, packed_place, shade, span_colour, span_place, step_at, texel_row}
 use Rattle.pixel_strips.specs.Strips.{IsWindow, cut_colour, cut_span_colour, strip_colour, row_colour, cut_strip_colour, cut_row_colour}
 
 pub row_within : (fraction : ℤ) → texel_row fraction < TEXEL_ROWS

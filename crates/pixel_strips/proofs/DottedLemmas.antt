@@ -1,7 +1,6 @@
 -- Laws of a canvas that was given dots: none, one list after the other, and dots by one painter.
 use Rattle.std.proofs.Common.{◌≡◌, ℕ, List, [], ◌++◌, refl, sym, ap, ◌∙◌}
-use Rattle.pixel_rules.specs.declared.Painter.{Painter}
-use Rattle.pixel_rules.specs.Dots.{Dot, put_dots}
+use Rattle.pixel_strips.specs.Rules.{Dot, Painter, put_dots}
 use Rattle.pixel_rules.proofs.DotLemmas.{put_dots-append, put_dots-none}
 use Rattle.pixel_strips.specs.Canvases.{CanvasView, with_painter, with_dots}
 use Rattle.pixel_strips.specs.Dotted.{HasDots, PlacedAlike}
@@ -34,25 +33,6 @@ has_dots-as {mark} {a} e one = record {
   cells = one.cells ∙ ap (λ dots. put_dots mark a.left a.top dots a.cells) e;
   left = one.left;
   top = one.top;
-}
-
--- the painter that was there painted them
-pub has_dots-with_dots : {mark : Painter → ℕ → ℕ} {dots : List Dot} {a b : CanvasView} →
-    b ≡ with_dots mark dots a → HasDots mark dots a b
-has_dots-with_dots e = record {
-  cells = ap (λ (canvas : CanvasView). canvas.cells) e;
-  left = ap (λ (canvas : CanvasView). canvas.left) e;
-  top = ap (λ (canvas : CanvasView). canvas.top) e;
-}
-
--- another painter began
-pub has_dots-with_painter : {mark : Painter → ℕ → ℕ} {painter : Painter} {a b : CanvasView} →
-    b ≡ with_painter painter a → HasDots mark [] a b
-has_dots-with_painter {mark} {a = a} e = record {
-  cells = ap (λ (canvas : CanvasView). canvas.cells) e
-      ∙ sym (put_dots-none mark a.left a.top a.cells);
-  left = ap (λ (canvas : CanvasView). canvas.left) e;
-  top = ap (λ (canvas : CanvasView). canvas.top) e;
 }
 
 -- a painter began and painted them

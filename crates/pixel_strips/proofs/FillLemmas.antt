@@ -1,13 +1,8 @@
 -- Laws of `fill_cells`: one cell more, and that the cells of a strip of a frame are those of its dots.
 use Rattle.word_rules.proofs.Common.{[], ap, arith, cases_lt, inl, inr, List, max, refl, set-set, set_comm, subst, suc, sym, zero, ℕ, ℤ, ◌*◌, ◌++◌, ◌+◌, ◌-◌, ◌<◌, ◌∙◌, ◌∷◌, ◌≡◌, ◌≢◌, ◌≤◌}
 use Rattle.std.proofs.Common.{set}
-use Rattle.view_rules.specs.declared.TheConstants.{FRAME_WIDTH}
-use Rattle.view_rules.specs.declared.Spans.{Spans}
-use Rattle.pixel_rules.specs.declared.Painter.{Painter}
-use Rattle.pixel_rules.specs.Dots.{Dot, cell_of, put_dots}
-use Rattle.pixel_rules.specs.Strips.{column_dots, span_dots}
+use Rattle.pixel_strips.specs.Rules.{Dot, FRAME_WIDTH, Painter, Spans, cell_of, column_dots, listed_from, put_dots, span_dots}
 use Rattle.pixel_rules.proofs.DotLemmas.{put_dots-more, put_dots-none}
-use Rattle.word_rules.specs.Listed.{listed_from}
 use Rattle.pixel_strips.specs.Canvases.{marked_by_colour, fill_cells}
 use Rattle.pixel_strips.specs.Fills.{ColumnFilled, SpanFilled}
 use Rattle.pixel_strips.proofs.CanvasLemmas.{rows_dots, rows_none, rows_more, rows_all, span_dot, columns_dots, columns_none, columns_more, columns_all}

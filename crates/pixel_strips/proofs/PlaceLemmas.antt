@@ -4,14 +4,8 @@ use Rattle.std.proofs.Common.{add-mul, mod-lt}
 use native.Mathlib.Nat.{add-mod}
 use Rattle.std.proofs.lemmas.Int.{to_z-of_z}
 use lib.IntN.{◌+ℤ◌}
-use Rattle.word_rules.specs.Steps.{step_at}
+use Rattle.pixel_strips.specs.Rules.{FLAT_SIDE, FRACTION_BITS, Full, Packed, Spans, bits_of, flat_place, pack, packed_at, packed_place, plus, shr_word, span_place, step_at, texel_row, times}
 use Rattle.word_rules.proofs.StepLemmas.{step_at-zero, step_at-more}
-use Rattle.word_rules.specs.Words.{bits_of, plus, times, shr_word}
-use Rattle.word_rules.specs.declared.TheConstants.{FRACTION_BITS}
-use Rattle.pixel_rules.specs.declared.TheConstants.{FLAT_SIDE}
-use Rattle.view_rules.specs.declared.Spans.{Spans}
-use Rattle.view_rules.specs.declared.Spans.TheVariants.{Full, Packed}
-use Rattle.pixel_rules.specs.Strips.{texel_row, flat_place, pack, packed_at, packed_place, span_place}
 use Rattle.pixel_strips.specs.declared.places.TheConstants.{ROW_LIFT, ROW_SHIFT, FLAT_LIFT, CARRIES}
 use Rattle.pixel_strips.specs.Places.{lifted, IsTexelPlace, IsFlatPlace, IsPackedPlace, IsFirstPlace, IsSpanPlace}
 

@@ -1,11 +1,6 @@
 -- Strips as the rules of pixels have them: at each row the fraction of that row.
 use Rattle.word_rules.proofs.Common.{ap, arith, false, int_lt, List, map, pos, range_with_len, refl, slice_index, suc, sym, zero, ℕ, ℤ, ◌+◌, ◌-◌, ◌∙◌, ◌∷◌, ◌≡◌}
-use Rattle.word_rules.specs.Words.{natural}
-use Rattle.word_rules.specs.Steps.{step_at}
-use Rattle.word_rules.specs.Listed.{listed_from}
-use Rattle.pixel_rules.specs.declared.Painter.{Painter}
-use Rattle.pixel_rules.specs.Dots.{Dot}
-use Rattle.pixel_rules.specs.Strips.{texel_row, row_fraction, rows_between, shade, column_colour, column_dots}
+use Rattle.pixel_strips.specs.Rules.{Dot, Painter, column_colour, column_dots, listed_from, natural, row_fraction, rows_between, shade, step_at, texel_row}
 use Rattle.pixel_rules.proofs.StripLemmas.{row_fraction-steps, rows_between-some}
 use Rattle.pixel_strips.specs.Strips.{strip_colour, column_strip_dots}
 

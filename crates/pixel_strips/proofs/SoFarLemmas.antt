@@ -1,13 +1,8 @@
 -- A strip that is painted dot by dot: what stands so far, at its begin, one dot more, and at its end.
-use Rattle.word_rules.proofs.Common.{[], ap, ap₂, arith, FitsSigned, List, of_z, refl, subst, sym, to_z, w32, ℕ, ℤ, ◌+◌, ◌-◌, ◌∙◌, ◌≡◌, ◌≤◌}
+use Rattle.word_rules.proofs.Common.{[], ap, arith, FitsSigned, List, of_z, refl, subst, sym, to_z, w32, ℕ, ℤ, ◌+◌, ◌-◌, ◌∙◌, ◌≡◌, ◌≤◌}
 use Rattle.std.proofs.lemmas.Int.{to_z-of_z}
-use Rattle.word_rules.specs.Words.{plus}
-use Rattle.word_rules.specs.Steps.{step_at}
+use Rattle.pixel_strips.specs.Rules.{Dot, Painter, Spans, plus, span_dots, span_place, step_at}
 use Rattle.word_rules.proofs.StepLemmas.{step_at-zero, step_at-more}
-use Rattle.pixel_rules.specs.declared.Painter.{Painter}
-use Rattle.pixel_rules.specs.Dots.{Dot}
-use Rattle.view_rules.specs.declared.Spans.{Spans}
-use Rattle.pixel_rules.specs.Strips.{span_dots, span_place}
 use Rattle.pixel_strips.specs.Canvases.{CanvasView, with_dot, with_dots}
 use Rattle.pixel_strips.specs.Strips.{column_strip_dots}
 use Rattle.pixel_strips.specs.Places.{IsSpanPlace}

@@ -1,8 +1,6 @@
 -- A canvas, and what dots make of it.
 use Rattle.std.specs.Prelude.{◌≡◌, ℕ, zero, suc, ◌+◌, ◌*◌, List, [], ◌∷◌, set, replicate, refl}
-use Rattle.pixel_rules.specs.declared.Painter.{Painter}
-use Rattle.pixel_rules.specs.declared.TheConstants.{FRAME_CELLS}
-use Rattle.pixel_rules.specs.Dots.{Dot, cell_of, put_dots}
+use Rattle.pixel_strips.specs.Rules.{Dot, FRAME_CELLS, Painter, cell_of, put_dots}
 
 -- the cells of a frame, row by row, who paints, and where the view stands in the frame
 pub record CanvasView : Type 0 where

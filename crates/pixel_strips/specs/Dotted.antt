@@ -1,7 +1,6 @@
 -- A canvas that was given dots, by whatever painters.
 use Rattle.std.specs.Prelude.{◌≡◌, ℕ, List}
-use Rattle.pixel_rules.specs.declared.Painter.{Painter}
-use Rattle.pixel_rules.specs.Dots.{Dot, put_dots}
+use Rattle.pixel_strips.specs.Rules.{Dot, Painter, put_dots}
 use Rattle.pixel_strips.specs.Canvases.{CanvasView}
 
 -- it has these dots in order, and stands where it stood; the painter is not told

@@ -1,9 +1,6 @@
 -- Strips of a frame that are being filled, one cell after the other.
 use Rattle.std.specs.Prelude.{◌≡◌, ℕ, ◌+◌, ◌*◌, ℤ, List}
-use Rattle.view_rules.specs.declared.TheConstants.{FRAME_WIDTH}
-use Rattle.view_rules.specs.declared.Spans.{Spans}
-use Rattle.word_rules.specs.Steps.{step_at}
-use Rattle.pixel_rules.specs.Strips.{span_place}
+use Rattle.pixel_strips.specs.Rules.{FRAME_WIDTH, Spans, span_place, step_at}
 use Rattle.pixel_strips.specs.Canvases.{fill_cells}
 use Rattle.pixel_strips.specs.Strips.{cut_colour, cut_span_colour}
 

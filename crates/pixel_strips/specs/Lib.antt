@@ -5,3 +5,4 @@ pub mod Places
 pub mod Fills
 pub mod Standing
 pub mod Lying
+pub mod Rules

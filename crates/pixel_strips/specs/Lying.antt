@@ -1,9 +1,6 @@
 -- Where a strip lies in the frame, and what it leaves of a canvas.
 use Rattle.std.specs.Prelude.{◌+◌, ◌<◌, ◌≤◌, ℕ}
-use Rattle.view_rules.specs.declared.TheConstants.{FRAME_WIDTH, FRAME_HEIGHT}
-use Rattle.view_rules.specs.declared.Spans.{Spans}
-use Rattle.pixel_rules.specs.declared.Painter.{Painter}
-use Rattle.pixel_rules.specs.Strips.{span_dots}
+use Rattle.pixel_strips.specs.Rules.{FRAME_HEIGHT, FRAME_WIDTH, Painter, Spans, span_dots}
 use Rattle.pixel_strips.specs.declared.column.ColumnStrip.{ColumnStrip}
 use Rattle.pixel_strips.specs.declared.span.SpanStrip.{SpanStrip}
 use Rattle.pixel_strips.specs.Canvases.{CanvasView, with_dots}

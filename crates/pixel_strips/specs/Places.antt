@@ -2,11 +2,7 @@
 -- highest bits of a word: the sum of two wraps where the texels begin again.
 use Rattle.std.specs.Prelude.{◌≡◌, ℕ, ◌+◌, ◌*◌, ◌%◌, ◌^◌, ◌<◌, ◌≤◌, ℤ, negsuc, FitsSigned, refl}
 use Rattle.std.specs.Int.{w32}
-use Rattle.word_rules.specs.Steps.{step_at}
-use Rattle.word_rules.specs.Words.{bits_of}
-use Rattle.view_rules.specs.declared.Spans.{Spans}
-use Rattle.view_rules.specs.declared.Spans.TheVariants.{Full, Packed}
-use Rattle.pixel_rules.specs.Strips.{pack, packed_at}
+use Rattle.pixel_strips.specs.Rules.{Full, Packed, Spans, bits_of, pack, packed_at, step_at}
 use Rattle.pixel_strips.specs.declared.places.TheConstants.{ROW_LIFT, FLAT_LIFT}
 
 -- the bits of a word, shifted left by so many

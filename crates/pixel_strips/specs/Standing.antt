@@ -1,7 +1,6 @@
 -- Where a view stands in a frame.
 use Rattle.std.specs.Prelude.{◌+◌, ◌≤◌}
-use Rattle.view_rules.specs.declared.TheConstants.{FRAME_WIDTH, FRAME_HEIGHT}
-use Rattle.view_rules.specs.declared.ViewShape.{ViewShape}
+use Rattle.pixel_strips.specs.Rules.{FRAME_HEIGHT, FRAME_WIDTH, ViewShape}
 use Rattle.pixel_strips.specs.Canvases.{CanvasView}
 
 -- a view of that shape lies in the frame where the canvas has it

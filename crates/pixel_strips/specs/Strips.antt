@@ -1,11 +1,6 @@
 -- The dots of the strips that a canvas is painted with.
 use Rattle.std.specs.Prelude.{◌≡◌, ℕ, ◌+◌, ◌-◌, ◌<◌, ℤ, List, length, slice_index}
-use Rattle.word_rules.specs.Listed.{listed_from}
-use Rattle.word_rules.specs.Steps.{step_at}
-use Rattle.view_rules.specs.declared.Spans.{Spans}
-use Rattle.pixel_rules.specs.declared.Painter.{Painter}
-use Rattle.pixel_rules.specs.Dots.{Dot}
-use Rattle.pixel_rules.specs.Strips.{texel_row, span_place, column_colour, span_colour, column_dots}
+use Rattle.pixel_strips.specs.Rules.{Dot, Painter, Spans, column_colour, column_dots, listed_from, span_colour, span_place, step_at, texel_row}
 
 -- a column strip: at row y its fraction has been stepped y - first times
 unfoldable pub strip_colour : List ℕ → ℕ → List ℕ → ℕ → ℤ → ℤ → ℕ → ℕ → ℕ

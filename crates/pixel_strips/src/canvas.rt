@@ -1,9 +1,6 @@
 // What takes pixels, and what it paints a column and a span with.
 ghost use Rattle.std.specs.Prelude.{◌≡◌, ◌+◌, ◌<◌, ◌≤◌, ℕ, length};
-ghost use Rattle.view_rules.specs.declared.TheConstants.{FRAME_WIDTH, FRAME_HEIGHT};
-ghost use Rattle.pixel_rules.specs.declared.Painter.{Painter};
-ghost use Rattle.pixel_rules.specs.declared.TheConstants.{TEXEL_ROWS, MAP_COLOURS};
-ghost use Rattle.pixel_rules.specs.Strips.{span_dots};
+ghost use Rattle.pixel_strips.specs.Rules.{FRAME_HEIGHT, FRAME_WIDTH, MAP_COLOURS, Painter, TEXEL_ROWS, span_dots};
 ghost use Rattle.pixel_strips.specs.declared.texels.TheConstants.{FLAT_BYTES};
 ghost use Rattle.pixel_strips.specs.Canvases.{CanvasView, with_painter, placed_at, with_dot, with_dots};
 ghost use Rattle.pixel_strips.specs.Strips.{column_strip_dots, cut_strip_colour, cut_row_colour};

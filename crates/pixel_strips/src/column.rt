@@ -1,8 +1,6 @@
 // Columns of pixels.
-ghost use Rattle.std.specs.Prelude.{◌≡◌, ◌*◌, ◌^◌, ◌<◌};
-ghost use Rattle.pixel_rules.specs.declared.TheConstants.{TEXEL_ROWS, MAP_COLOURS};
+ghost use Rattle.std.specs.Prelude.{◌≡◌, ◌^◌, ◌<◌};
 ghost use Rattle.pixel_strips.specs.Lying.{IsColumnIn, with_column_cut};
-ghost use Rattle.pixel_strips.specs.Strips.{IsWindow};
 
 use crate::canvas::{Canvas, CutColumn};
 use crate::texels::{column_colour, window};
@@ -45,7 +43,13 @@ pub fn paint_column<C: Canvas>(canvas: &mut C, strip: &ColumnStrip<'_>)
             MAP_COLOURS as usize,
         )
     {
-        paint_cut_column(canvas, strip, texels, shades);
+        let cut = CutColumn {
+            texels,
+            shades,
+            fraction: strip.fraction,
+            step: strip.step,
+        };
+        canvas.column(strip.x, strip.first, strip.last, &cut);
     } else {
         paint_any_column(canvas, strip);
     }
@@ -80,27 +84,4 @@ fn paint_any_column<C: Canvas>(canvas: &mut C, strip: &ColumnStrip<'_>)
         canvas.dot(strip.x, y, colour);
         fraction = plus(fraction, strip.step);
     }
-}
-
-// Paints the strip from the texels and the shades that are cut out.
-#[inline(always)]
-fn paint_cut_column<C: Canvas>(
-    canvas: &mut C,
-    strip: &ColumnStrip<'_>,
-    texels: &[u8],
-    shades: &[u8],
-)
-    requires within { IsColumnIn strip.now (C.view canvas.old) }
-    requires texels { IsWindow strip.now.source.now strip.now.base TEXEL_ROWS texels.now }
-    requires shades { IsWindow strip.now.colormap.now (MAP_COLOURS * strip.now.map) MAP_COLOURS
-        shades.now }
-    ensures { C.view canvas.new ≡ with_column_cut C.mark strip.now (C.view canvas.old) }
-{
-    let cut = CutColumn {
-        texels,
-        shades,
-        fraction: strip.fraction,
-        step: strip.step,
-    };
-    canvas.column(strip.x, strip.first, strip.last, &cut);
 }

@@ -1,8 +1,6 @@
 // A frame of palette indices.
 ghost use Rattle.std.specs.Prelude.{◌≡◌, ◌+◌, ◌<◌, ◌≤◌, ◌*◌, ℕ, ℤ, List, length, max, replicate, IfOk};
-ghost use Rattle.word_rules.specs.Steps.{step_at};
-ghost use Rattle.view_rules.specs.declared.TheConstants.{FRAME_WIDTH};
-ghost use Rattle.pixel_rules.specs.declared.TheConstants.{FRAME_CELLS, TEXEL_ROWS, MAP_COLOURS};
+ghost use Rattle.pixel_strips.specs.Rules.{FRAME_CELLS, FRAME_WIDTH, MAP_COLOURS, TEXEL_ROWS, step_at};
 ghost use Rattle.pixel_strips.specs.declared.texels.TheConstants.{FLAT_BYTES};
 ghost use Rattle.pixel_strips.specs.Canvases.{CanvasView, blank, marked_by_colour};
 ghost use Rattle.pixel_strips.specs.Fills.{ColumnFilled, SpanFilled};

@@ -1,10 +1,7 @@
 // Fractions as the loops of a frame step them: in the highest bits of a word, so that the texel is
 // one shift away, and a step is one sum.
 ghost use Rattle.std.specs.Prelude.{◌≡◌, ◌+◌, ◌<◌, ℕ, ℤ};
-ghost use Rattle.view_rules.specs.declared.Spans.{Spans};
-ghost use Rattle.pixel_rules.specs.declared.TheConstants.{TEXEL_ROWS};
-ghost use Rattle.pixel_rules.specs.Strips.{texel_row, packed_half, pack, span_place};
-ghost use Rattle.word_rules.specs.Steps.{step_at};
+ghost use Rattle.pixel_strips.specs.Rules.{Spans, TEXEL_ROWS, pack, packed_half, span_place, step_at, texel_row};
 ghost use Rattle.pixel_strips.specs.declared.texels.TheConstants.{FLAT_BYTES};
 ghost use Rattle.pixel_strips.specs.Places.{IsTexelPlace, IsFlatPlace, IsPackedPlace, IsFirstPlace, IsSpanPlace};
 

@@ -1,9 +1,7 @@
 // Spans of pixels.
-ghost use Rattle.std.specs.Prelude.{◌≡◌, ◌*◌};
+ghost use Rattle.std.specs.Prelude.{◌≡◌};
 ghost use Rattle.view_rules.specs.declared.Spans.TheVariants.{Full};
-ghost use Rattle.pixel_rules.specs.declared.TheConstants.{MAP_COLOURS};
 ghost use Rattle.pixel_strips.specs.Lying.{IsSpanIn, with_span};
-ghost use Rattle.pixel_strips.specs.Strips.{IsWindow};
 
 use crate::canvas::{Canvas, CutSpan};
 use crate::places::{first_place, flat_place_at, place_after};
@@ -57,7 +55,16 @@ pub fn paint_span_as<C: Canvas>(canvas: &mut C, strip: &SpanStrip<'_>, spans: Sp
             MAP_COLOURS as usize,
         )
     {
-        paint_cut_span(canvas, strip, spans, texels, shades);
+        let cut = CutSpan {
+            texels,
+            shades,
+            spans,
+            x_fraction: strip.x_fraction,
+            y_fraction: strip.y_fraction,
+            x_step: strip.x_step,
+            y_step: strip.y_step,
+        };
+        canvas.span(strip.y, strip.first, strip.last, &cut);
     } else {
         paint_any_span(canvas, strip, spans);
     }
@@ -76,30 +83,4 @@ fn paint_any_span<C: Canvas>(canvas: &mut C, strip: &SpanStrip<'_>, spans: Spans
         canvas.dot(x, strip.y, colour);
         place = place_after(place, step, 1);
     }
-}
-
-// Paints the strip from the texels and the shades that are cut out.
-fn paint_cut_span<C: Canvas>(
-    canvas: &mut C,
-    strip: &SpanStrip<'_>,
-    spans: Spans,
-    texels: &[u8],
-    shades: &[u8],
-)
-    requires within { IsSpanIn strip.now (C.view canvas.old) }
-    requires texels { IsWindow strip.now.flat.now 0 FLAT_BYTES texels.now }
-    requires shades { IsWindow strip.now.colormap.now (MAP_COLOURS * strip.now.map) MAP_COLOURS
-        shades.now }
-    ensures { C.view canvas.new ≡ with_span C.mark spans strip.now (C.view canvas.old) }
-{
-    let cut = CutSpan {
-        texels,
-        shades,
-        spans,
-        x_fraction: strip.x_fraction,
-        y_fraction: strip.y_fraction,
-        x_step: strip.x_step,
-        y_step: strip.y_step,
-    };
-    canvas.span(strip.y, strip.first, strip.last, &cut);
 }

@@ -1,7 +1,6 @@
 // Texels by their fractions, and colours through a colormap.
-ghost use Rattle.std.specs.Prelude.{◌≡◌, ◌+◌, ◌*◌, ◌<◌, ◌≤◌, ◌^◌, length, slice_index, IfSome, IfNone};
-ghost use Rattle.pixel_rules.specs.declared.TheConstants.{TEXEL_ROWS, MAP_COLOURS};
-ghost use Rattle.pixel_rules.specs.Strips.{texel_row, shade, column_colour, span_colour};
+ghost use Rattle.std.specs.Prelude.{◌≡◌, ◌+◌, ◌*◌, ◌<◌, ◌≤◌, ◌^◌, ℕ, length, slice_index, IfSome, IfNone};
+ghost use Rattle.pixel_strips.specs.Rules.{MAP_COLOURS, TEXEL_ROWS, column_colour, shade, span_colour, texel_row};
 ghost use Rattle.pixel_strips.specs.Strips.{IsWindow, cut_colour, cut_span_colour};
 
 use pixel_rules::{FLAT_SIDE, MAP_COLOURS, TEXEL_ROWS};
@@ -15,6 +14,7 @@ pub fn window(bytes: &[u8], offset: u64, count: usize) -> Option<&[u8]>
     requires offset { offset < 2 ^ 63 }
     requires count { count ≤ FLAT_BYTES }
     ensures some { IfSome result (λ part. IsWindow bytes.now offset count part.now) }
+    ensures within { IfSome result (λ part. (k : ℕ) → slice_index part.now k < MAP_COLOURS) }
     ensures none { IfNone result (length bytes.now < offset + count) }
 {
     let start = offset as usize;

@@ -1,7 +1,6 @@
 -- What each call that draws planes may take from what it asks.
 use Rattle.picture_rules.proofs.Common.{[], All, All-get_or, and_from, ap, arith, Bool, Contains-get_or, false, false≢true, IfSome, inl, inr, IsSome, le-leb, length, List, nat_le, None, Option, refl, Result, slice_index_or, Some, subst, suc, sym, true, zero, ℕ, ◌<◌, ◌↔◌, ◌∙◌, ◌∷◌, ◌≡◌, ◌≤◌, ◌⊎◌}
-use Rattle.picture_rules.specs.Words.{column, Dot, holds, holds_row, is_sky_key, Painter, Plane, same_flat, ViewShape}
-use Rattle.picture_rules.specs.declared.plane.Flat4.{Flat4}
+use Rattle.plane_draw.specs.Rules.{Dot, Flat4, Painter, Plane, ViewShape, column, holds, holds_row, is_sky_key, same_flat}
 use Rattle.picture_rules.specs.declared.plane.Flat4.TheVariants as flat
 use Rattle.visplanes.specs.Planes.{no_plane, plane_at}
 use Rattle.visplanes.specs.Spans.{IsSeen}
@@ -96,8 +95,7 @@ pub can_draw_planes-later : {A : Type 0} {mark : Painter → ℕ → ℕ} {s : P
 can_draw_planes-later {s = s} {a = a} {b} one can = record {
   slots = slots-later one can.slots;
   colormap = can.colormap;
-  left = rw one.place.left can.left;
-  top = rw one.place.top can.top;
+  placed = record { columns = rw one.place.left can.placed.columns; rows = rw one.place.top can.placed.rows };
   sky = sky_later s.sky can.sky;
   planes = subst (λ (n : ℕ). All (CanDrawPlane s.view.now.shape n b.canvas.top (length s.dir.now.lumps) s.sky) s.planes.now.planes) (sym one.place.left)
       (subst (λ (n : ℕ). All (CanDrawPlane s.view.now.shape a.canvas.left n (length s.dir.now.lumps) s.sky) s.planes.now.planes) (sym one.place.top) can.planes);

@@ -1,13 +1,12 @@
 -- Laws of a floor that was painted by its flat and the colormap.
 use Rattle.picture_rules.proofs.Common.{[], ap, List, refl, slice_index, subst, sym, ℕ, ◌≡◌}
-use Rattle.picture_rules.specs.Words.{Art, Painter, Plane, plane_dots, shade, ViewValue}
+use Rattle.plane_draw.specs.Rules.{Art, Painter, Plane, ViewValue, byte_at, plane_dots, shade}
 use Rattle.pixel_strips.specs.Canvases.{CanvasView, with_dots, with_painter}
 use Rattle.pixel_strips.specs.Dotted.{HasDots, PlacedAlike}
 use Rattle.pixel_strips.proofs.DottedLemmas.{has_dots-painted, placed-has_dots}
 use Rattle.picture_rules.specs.declared.plane.Flat4.TheVariants as flat
 use Rattle.visplanes.specs.Planes.{flat_lump}
 use Rattle.visplanes.specs.Spans.{GivesFlat}
-use Rattle.art_rules.specs.Words.{byte_at}
 use Rattle.texture_build.specs.Arts.{view_art}
 use Rattle.texture_build.specs.Views.{TexturesView}
 

@@ -1,14 +1,18 @@
 -- What the loops over planes and columns keep: the references, what each call asks, and the dots that are painted.
-use Rattle.std.proofs.Common.{◌≡◌, ℕ, List, ◌++◌, [], Ok, refl, ◌∙◌}
-use Rattle.art_rules.specs.Words.{ShelfView}
-use Rattle.picture_rules.specs.Words.{Dot, Painter}
+use Rattle.std.proofs.Common.{◌≡◌, ℕ, List, ◌++◌, [], length, Ok, refl, Result, ◌∙◌}
+use Rattle.plane_draw.specs.Rules.{Dot, Painter, ShelfView, planes_dots}
 use Rattle.pixel_strips.specs.Canvases.{CanvasView}
 use Rattle.texture_build.specs.declared.hands.Hands.{Hands}
 use Rattle.texture_build.specs.Hands.{AreSameHands, hands_state}
 use Rattle.plane_draw.specs.declared.scene.PlaneScene.{PlaneScene}
-use Rattle.plane_draw.specs.Scenes.{CanDrawPlanes, PaintsPlanes}
-use Rattle.texture_build.proofs.PaintLemmas.{paints-none, paints-same, paints-then}
+use Rattle.texture_build.specs.CacheFault.{CacheFault}
+use Rattle.texture_build.specs.Caches.{cache_fault}
+use Rattle.texture_build.specs.Paints.{PaintState, Paints}
+use Rattle.plane_draw.specs.Planes.{IsFlatOf, IsSky}
+use Rattle.plane_draw.specs.Scenes.{CanDrawPlanes, HasSky, PaintsPlanes, first_planes, plane_art, plane_tools, with_art}
+use Rattle.texture_build.proofs.PaintLemmas.{paints-asked, paints-none, paints-same, paints-then}
 use Rattle.plane_draw.proofs.CanLemmas.{can_draw_planes-later}
+use Rattle.plane_draw.proofs.PlaneLemmas.{planes-end}
 
 pub record KeepsPlanes {S C : Type 0} (shelf : S → ShelfView) (canvas : C → CanvasView) (mark : Painter → ℕ → ℕ) (s : PlaneScene) (dots : List (List ℕ) → ℕ → List Dot) (old new : Hands S C) : Type 0 where
   pub same : AreSameHands old new
@@ -32,3 +36,9 @@ module _ {S C : Type 0} {shelf : S → ShelfView} {canvas : C → CanvasView} {m
     ready = can_draw_planes-later paints one.ready;
     paints = paints-same _ (λ contents sky is. more contents sky) (paints-then one.paints paints);
   }
+
+-- the dots of all planes are those of a picture with the sky's texture
+pub planes-painted : {A : Type 0} {mark : Painter → ℕ → ℕ} (s : PlaneScene) {a b : PaintState} {result : Result A CacheFault} →
+    PaintsPlanes mark s (λ contents sky. first_planes s.view.now (plane_art contents s) sky s.planes.now.planes (length s.planes.now.planes)) a b result →
+    Paints cache_fault mark (plane_tools s) (IsSky s.sky) (IsFlatOf s.planes.now.planes) (HasSky s) (λ contents picture. planes_dots s.view.now (with_art contents s picture) s.planes.now.planes) a b result
+planes-painted s one = paints-same _ (λ contents picture is. planes-end s.view.now (with_art contents s picture) s.planes.now.planes) (paints-asked (HasSky s) (λ picture. picture.sky) (λ picture is. is) one)

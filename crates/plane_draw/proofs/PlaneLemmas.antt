@@ -1,9 +1,8 @@
 -- Laws of the dots of planes: one by one, by their flats, and by the art of a scene.
 use Rattle.picture_rules.proofs.Common.{[], ap, append-nil, arith, cases_lt, inl, inr, length, List, map, None, Option, range_with_len, refl, Some, suc, sym, zero, ℕ, ◌++◌, ◌+◌, ◌-◌, ◌<◌, ◌∙◌, ◌∷◌, ◌≡◌, ◌≤◌}
-use Rattle.picture_rules.specs.Words.{Art, column, column_dots, Dot, floor_colour, floor_dots, joined_lists, listed, lump_source, Painter, painter_of, PLANE, Plane, plane_dots, plane_dots_by, planes_dots, planes_from, run_dots, Scene, SKY, sky_colour, sky_column, sky_dots, ViewValue}
-use Rattle.picture_rules.proofs.Laws.{column_dots-none, joined_lists-append, listed-more, listed_from-none}
+use Rattle.plane_draw.specs.Rules.{Art, Dot, Flat4, PLANE, Painter, Plane, SKY, Scene, ViewValue, column, column_dots, floor_colour, floor_dots, joined_lists, listed, lump_source, painter_of, plane_dots, plane_dots_by, planes_dots, planes_from, run_dots, sky_colour, sky_column, sky_dots}
+use Rattle.picture_rules.proofs.Laws.{column_dots-none, joined_lists-append, joined_lists-one, listed-more, listed_from-none}
 use Rattle.art_rules.specs.Words.{Lump}
-use Rattle.picture_rules.specs.declared.plane.Flat4.{Flat4}
 use Rattle.picture_rules.specs.declared.plane.Flat4.TheVariants as flat
 use Rattle.visplanes.specs.Planes.{plane_at}
 use Rattle.texture_build.specs.Draws.{FitBeside, FitsBeside}
@@ -16,13 +15,9 @@ joined-start : (f : ℕ → List Dot) → [] ≡ joined_lists f (listed (λ k. k
 unfolding joined_lists listed
 joined-start f = refl
 
-joined_one : (f : ℕ → List Dot) (x : ℕ) → joined_lists f (x ∷ []) ≡ f x
-unfolding joined_lists
-joined_one f x = append-nil (f x)
-
 joined-more : (f : ℕ → List Dot) (n : ℕ) → joined_lists f (listed (λ k. k) n) ++ f n ≡ joined_lists f (listed (λ k. k) (n + 1))
 joined-more f n =
-    ap (λ (xs : List Dot). joined_lists f (listed (λ k. k) n) ++ xs) (sym (joined_one f n))
+    ap (λ (xs : List Dot). joined_lists f (listed (λ k. k) n) ++ xs) (sym (joined_lists-one f n))
     ∙ sym (joined_lists-append f (listed (λ k. k) n) (n ∷ []))
     ∙ ap (joined_lists f) (sym (listed-more (λ k. k) n))
 
@@ -94,19 +89,13 @@ from_listed v scene f n (p ∷ ps) same =
     ∙ ap (λ (m : ℕ). plane_dots v scene.art scene.sky (n + (k + 1)) (plane_at (p ∷ ps) m)) up
     ∙ ap (λ (m : ℕ). plane_dots v scene.art scene.sky m (plane_at ps k)) (sym (next k))))
 
-planes_end : (v : ViewValue) (scene : Scene) (planes : List Plane) →
+pub planes-end : (v : ViewValue) (scene : Scene) (planes : List Plane) →
     first_planes v scene.art scene.sky planes (length planes) ≡ planes_dots v scene planes
 unfolding first_planes planes_dots listed
-planes_end v scene planes =
+planes-end v scene planes =
     let none : (k : ℕ) → 0 + k ≡ k = λ k. omega arith in
     from_listed v scene (λ k. plane_dots v scene.art scene.sky k (plane_at planes k)) 0 planes
     (λ k inside. ap (λ (m : ℕ). plane_dots v scene.art scene.sky (0 + k) (plane_at planes m)) (none k))
-
--- by the art that the scene has
-pub planes-end : (v : ViewValue) (scene : Scene) (art : Art) (planes : List Plane) → scene.art ≡ art →
-    first_planes v art scene.sky planes (length planes) ≡ planes_dots v scene planes
-planes-end v scene art planes is =
-    ap (λ (art : Art). first_planes v art scene.sky planes (length planes)) (sym is) ∙ planes_end v scene planes
 
 -- a floor by its flat
 floor_by : (v : ViewValue) (art : Art) (sky n lump : ℕ) (p : Plane) → p.key.flat ≡ flat.Lump lump → plane_dots v art sky n p ≡ floor_dots v art n lump p

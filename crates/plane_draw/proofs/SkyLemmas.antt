@@ -1,14 +1,12 @@
 -- Laws of a sky's column that was painted.
 use Rattle.std.proofs.Common.{◌≡◌, ◌+◌, ℕ, ℤ, List, Some, ap, subst, ◌∙◌}
-use Rattle.art_rules.specs.Words.{byte_at, Lump}
-use Rattle.picture_rules.specs.Words.{column_dots, listed_from, Painter, painter_of, row_fraction, run_dots, shade, SKY, sky_colour, sky_column, texel_row, ViewValue}
-use Rattle.art_rules.specs.declared.ColumnLookup.{ColumnLookup}
+use Rattle.plane_draw.specs.Rules.{ColumnLookup, Painter, SKY, SKY_MAP, SKY_MID, ViewValue, byte_at, column_dots, listed_from, painter_of, row_fraction, run_dots, shade, sky_colour, sky_column, texel_row}
+use Rattle.art_rules.specs.Words.{Lump}
 use Rattle.pixel_strips.specs.Canvases.{CanvasView, with_dots, with_painter}
 use Rattle.pixel_strips.specs.Dotted.{HasDots}
 use Rattle.pixel_strips.specs.Strips.{column_strip_dots, strip_colour}
 use Rattle.pixel_strips.proofs.DottedLemmas.{has_dots-as, has_dots-painted}
 use Rattle.pixel_strips.proofs.RowLemmas.{row_shade, strip-rows}
-use Rattle.picture_rules.specs.declared.plane.TheConstants.{SKY_MAP, SKY_MID}
 use Rattle.texture_build.specs.Arts.{column_texel, lookup_source, view_art}
 use Rattle.texture_build.specs.Draws.{FitsBeside}
 use Rattle.texture_build.specs.Sources.{column_in}

@@ -1,7 +1,6 @@
 -- What drawing planes asks of them, and with whose bytes it draws.
 use Rattle.std.specs.Prelude.{◌≡◌, ◌<◌, ℕ, List, Contains, Option, IfSome, IsSome}
-use Rattle.picture_rules.specs.Words.{column, Plane, ViewShape}
-use Rattle.picture_rules.specs.declared.plane.Flat4.{Flat4}
+use Rattle.plane_draw.specs.Rules.{Flat4, Plane, ViewShape, column}
 use Rattle.picture_rules.specs.declared.plane.Flat4.TheVariants as flat
 use Rattle.visplanes.specs.Spans.{IsSeen}
 use Rattle.texture_build.specs.TexNo.{TexNo}

@@ -1,9 +1,9 @@
 -- What stays while planes are drawn, what each call asks, and what it paints.
 use Rattle.std.specs.Prelude.{◌≡◌, ◌≤◌, ◌<◌, ◌+◌, ℕ, List, All, IfSome, Option, Result, length}
-use Rattle.picture_rules.specs.Words.{Art, column, Dot, FRAME_HEIGHT, FRAME_WIDTH, joined_lists, listed, Painter, painter_of, Plane, plane_dots, run_dots, SKY, sky_colour, sky_column, ViewValue}
-use Rattle.art_rules.specs.Words.{lump_bytes}
+use Rattle.plane_draw.specs.Rules.{Art, Dot, Painter, Plane, SKY, Scene, ViewValue, column, joined_lists, listed, lump_bytes, painter_of, plane_dots, run_dots, sky_colour, sky_column}
 use Rattle.texture_build.specs.CacheFault.{CacheFault}
 use Rattle.texture_build.specs.Caches.{cache_fault}
+use Rattle.pixel_strips.specs.Standing.{StandsInFrame}
 use Rattle.visplanes.specs.Planes.{plane_at}
 use Rattle.texture_build.specs.Arts.{view_art}
 use Rattle.texture_build.specs.Draws.{CanDraw}
@@ -15,6 +15,14 @@ use Rattle.plane_draw.specs.Planes.{CanDrawPlane, IsSky, IsFlatOf}
 abbrev pub plane_art : List (List ℕ) → PlaneScene → Art
 plane_art contents s = view_art (lump_bytes contents s.dir.now.lumps) s.textures.now s.colormap.0
 
+-- a picture's scene, with the art of these contents
+abbrev pub with_art : List (List ℕ) → PlaneScene → Scene → Scene
+with_art contents s picture = record picture { art = plane_art contents s }
+
+-- a picture's scene has the sky's texture, where there is one
+abbrev pub HasSky : PlaneScene → Scene → Type 0
+HasSky s picture = IfSome s.sky (λ tex. picture.sky ≡ tex.0)
+
 -- what it paints with
 abbrev pub plane_tools : PlaneScene → PaintTools
 plane_tools s = paint_tools s.dir.now s.textures.now s.colormap.0
@@ -23,8 +31,7 @@ plane_tools s = paint_tools s.dir.now s.textures.now s.colormap.0
 pub record CanDrawPlanes (s : PlaneScene) (st : PaintState) : Type 0 where
   pub slots : length s.dir.now.lumps ≤ st.cache.lumps
   pub colormap : s.colormap.0 < length s.dir.now.lumps
-  pub left : st.canvas.left + s.view.now.shape.width ≤ FRAME_WIDTH
-  pub top : st.canvas.top + s.view.now.shape.height ≤ FRAME_HEIGHT
+  pub placed : StandsInFrame s.view.now.shape st.canvas
   pub sky : IfSome s.sky (λ tex. CanDraw s.dir.now.lumps s.textures.now st.cache tex.0)
   pub planes : All (CanDrawPlane s.view.now.shape st.canvas.left st.canvas.top
       (length s.dir.now.lumps) s.sky) s.planes.now.planes

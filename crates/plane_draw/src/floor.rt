@@ -2,12 +2,11 @@
 //
 // Rules: `picture_rules/plane`, Floors. The original: `R_DrawPlanes`, r_plane.c.
 ghost use Rattle.std.specs.Prelude.{◌≡◌, ◌<◌, ℕ, List, length};
-ghost use Rattle.art_rules.specs.Words.{ShelfView};
+ghost use Rattle.plane_draw.specs.Rules.{ShelfView, plane_dots};
 ghost use Rattle.texture_build.specs.Zones.{IsLive};
 ghost use Rattle.texture_build.specs.Caches.{lump_owner};
 ghost use Rattle.pixel_strips.specs.Dotted.{HasDots, PlacedAlike};
 ghost use Rattle.picture_rules.specs.declared.plane.Flat4.TheVariants.{Lump};
-ghost use Rattle.picture_rules.specs.Words.{plane_dots};
 ghost use Rattle.visplanes.specs.Planes.{plane_at};
 ghost use Rattle.texture_build.specs.Draws.{HoldsArt, FitBeside};
 ghost use Rattle.texture_build.specs.Hands.{AreSameHands, hands_state};

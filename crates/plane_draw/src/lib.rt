@@ -9,7 +9,6 @@ mod draw;
 mod floor;
 mod scene;
 mod sky;
-mod tools;
 
 pub use draw::draw_planes;
-pub use tools::PlaneTools;
+pub use scene::PlaneScene;

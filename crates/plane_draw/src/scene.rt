@@ -1,10 +1,12 @@
-// The tools of planes that stay as they are.
+// What planes are drawn with that stays as it is.
 
 use texture_build::{Directory, LumpNo, TexNo, Textures};
 use view_frame::View;
 use visplanes::Planes;
 
-/// What stays as it is while planes are drawn.
+/// What stays as it is while planes are drawn: the view, its planes, the textures with the number of
+/// the sky's, if it has one, and the directory. `colormap` is the number of the lump COLORMAP, which is
+/// live with the tag `Static`.
 #[derive(Clone, Copy)]
 pub struct PlaneScene<'a> {
     pub view: &'a View<'a>,

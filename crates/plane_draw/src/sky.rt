@@ -2,12 +2,8 @@
 //
 // Rules: `picture_rules/plane`, Skies. The original: `R_DrawPlanes`, r_plane.c.
 ghost use Rattle.std.specs.Prelude.{◌≡◌, ◌<◌, ◌≤◌, ℕ, List, Some};
-ghost use Rattle.art_rules.specs.Words.{ShelfView};
-ghost use Rattle.art_rules.specs.declared.ColumnLookup.{ColumnLookup};
-ghost use Rattle.picture_rules.specs.Words.{column, plane_dots, row_fraction, SKY, sky_column};
+ghost use Rattle.plane_draw.specs.Rules.{ColumnLookup, SKY, SKY_MAP, SKY_MID, ShelfView, Sky, column, plane_dots, row_fraction, sky_column};
 ghost use Rattle.pixel_strips.specs.Dotted.{HasDots, PlacedAlike};
-ghost use Rattle.picture_rules.specs.declared.plane.Flat4.TheVariants.{Sky};
-ghost use Rattle.picture_rules.specs.declared.plane.TheConstants.{SKY_MAP, SKY_MID};
 ghost use Rattle.visplanes.specs.Planes.{plane_at};
 ghost use Rattle.texture_build.specs.Sources.{IsColumnLive, IsColumnThere, column_in};
 ghost use Rattle.texture_build.specs.Views.{prepared_texture};

@@ -149,16 +149,20 @@ scene_on bytes lumps lines skill name base =
 unfoldable pub scene_in : (ℕ → List ℕ) → List Lump → List ThingLine → List ℕ → ℕ → Result SceneValue AuditRefusal
 scene_in bytes lumps lines name skill = and_then (base_in bytes lumps name) (scene_on bytes lumps lines skill name)
 
--- what it takes from the directory
-unfoldable pub art_of : SceneValue → SceneArt
-art_of scene = record {
+-- what a scene takes from the directory, with the pictures of these lumps
+abbrev pub art_with : SceneValue → List ℕ → SceneArt
+art_with scene pictures = record {
   colormap = scene.base.colormap;
   playpal = scene.base.playpal;
   label = scene.base.label;
   prepared = scene.prepared;
   flats = scene.faces.flats;
-  pictures = book_lumps scene.book;
+  pictures = pictures;
 }
+
+-- what it takes from the directory
+unfoldable pub art_of : SceneValue → SceneArt
+art_of scene = art_with scene (book_lumps scene.book)
 
 -- how large a zone has to be for it
 unfoldable pub sizes_of : List Lump → SceneValue → ZoneSizes

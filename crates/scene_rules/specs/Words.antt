@@ -24,12 +24,12 @@ pub use Rattle.zone_rules.specs.Orders.{AreDistinct, AreRoomy, IsInOrder, Item, 
 pub use Rattle.zone_rules.specs.Requests.{gaps}
 pub use Rattle.zone_rules.specs.Zones.{Block, Heap, Holding, IsLive, IsZoneSize, Owner, block_size, bytes_of, holding_of, owned_block, same_owner}
 pub use Rattle.zone_rules.specs.declared.Tag.TheVariants.{Static}
-pub use Rattle.zone_rules.specs.declared.TheConstants.{HEADER_SIZE, MIN_FRAGMENT, WORD_SIZE}
+pub use Rattle.zone_rules.specs.declared.TheConstants.{MIN_FRAGMENT, WORD_SIZE}
 pub use Rattle.scene_rules.specs.Middles.{middle_of}
 unfoldable pub use Rattle.scene_rules.specs.Middles.{bad_middle, is_all_single, is_bad_middle, is_bad_side, is_seen_through}
 unfoldable pub use Rattle.scene_rules.specs.Numbered.{each_from, each_or}
 unfoldable pub use Rattle.scene_rules.specs.Places.{first_shadow, is_in_sector, is_in_skill, is_shadow, leaf_below, leaf_from, need_of, placed_from, placed_if, placed_in, placed_row, placed_thing, placed_things, sector_at, skill_option, thing_angle, thing_height, things_of}
-pub use Rattle.scene_rules.specs.Scenes.{Faces, LevelBase, SceneValue, if_long, long_lump, texture_by}
+pub use Rattle.scene_rules.specs.Scenes.{Faces, LevelBase, SceneValue, art_with, if_long, long_lump, texture_by}
 unfoldable pub use Rattle.scene_rules.specs.Scenes.{art_of, base_in, base_over, book_in, checked, colormap_of, faces_in, label_of, level_in, lists_in, map_bytes, playpal_of, scene_in, scene_on, scene_over, scene_with, sizes_of}
 unfoldable pub use Rattle.scene_rules.specs.SectorFlats.{both_flats, flat_named, flat_number, flats_of, lump_flat, sector_flats, surface_of, surfaces_of}
 unfoldable pub use Rattle.scene_rules.specs.Sides.{found_sky, is_sky_texture, is_wanted_texture, shows_texture, side_textures, sky_texture, textures_of, three_textures}

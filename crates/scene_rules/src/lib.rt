@@ -14,6 +14,16 @@ use level_rules::ThingRow;
 use lump_rules::LumpNo;
 pub use refusal::{ArtRefusal, AuditRefusal, SceneRefusal, WeaponRefusal};
 
+// Passed on from the crates below.
+pub use level_rules::{
+    Child, MAX_DEPTH, MapRefusal, Node, PlacedThing, SKY_FLAT, Sector, Seg, Side, SideTextures,
+    Surface, Thing, partition_of,
+};
+pub use lump_rules::{DirRefusal, Name8};
+pub use outside::{Failed, Fault, MemorySink, PutFault, Sink};
+pub use view_rules::{Spans, TablesRefusal};
+pub use zone_rules::{MIN_FRAGMENT, WORD_SIZE};
+
 /// The bytes of a name of a lump or a texture.
 pub const NAME_SIZE: usize = lump_rules::NAME_SIZE;
 
@@ -100,12 +110,3 @@ pub struct ZoneSizes {
     pub enough: u64,
     pub roomy: u64,
 }
-
-pub use level_rules::{
-    Child, MAX_DEPTH, MapRefusal, Node, PlacedThing, SKY_FLAT, Sector, Seg, Side, SideTextures,
-    Surface, Thing, partition_of,
-};
-pub use lump_rules::{DirRefusal, Name8};
-pub use outside::{Failed, Fault, MemorySink, PutFault, Sink};
-pub use view_rules::{Spans, TablesRefusal};
-pub use zone_rules::{HEADER_SIZE, MIN_FRAGMENT, WORD_SIZE};

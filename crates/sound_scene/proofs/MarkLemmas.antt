@@ -1,9 +1,8 @@
 -- Marks by number, one set after the other.
 use Rattle.art_rules.proofs.Common.{[], All, All-filter, ap, arith, Bool, cases_lt, cond, eq-false_above, eq-same, false, filter, get_or, get_or-range_with_len, inl, inr, length, length-range_with_len, List, list_any, list_any_none, nat_le, nat_lt, nat_tests, Option, or_assoc, range_with_len, refl, suc, take, take_all, true, zero, ℕ, ◌&&◌, ◌+◌, ◌<◌, ◌==◌, ◌||◌, ◌∙◌, ◌∷◌, ◌≡◌, ◌≤◌}
-use Rattle.art_rules.specs.Words.{is_patch_of_any, Lump, LumpNo, MAP_LUMPS, patch_lumps, PreparedTexture}
+use Rattle.sound_scene.specs.Rules.{Lump, LumpNo, MAP_LUMPS, PreparedTexture, SceneArt, is_map_lump, is_needed, is_patch_of_any, needed_lumps, patch_lumps}
 use Rattle.texture_build.specs.Views.{is_marked}
 use Rattle.texture_build.proofs.MarkLemmas.{filter_same}
-use Rattle.scene_rules.specs.Words.{is_map_lump, is_needed, needed_lumps, SceneArt}
 use Rattle.sound_scene.specs.Views.{AddsMarks, lump_numbers}
 
 -- marks set by two calls

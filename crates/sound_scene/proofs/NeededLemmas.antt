@@ -1,7 +1,6 @@
 -- Why a scene needs a lump, and how large the block of a needed lump is.
 use Rattle.art_rules.proofs.Common.{[], ap, arith, eqb-true, get_or_past, inl, inr, length, List, list_any, or-true, or_cases, refl, true, ℕ, ◌<◌, ◌==◌, ◌∙◌, ◌∷◌, ◌≡◌, ◌≤◌}
-use Rattle.art_rules.specs.Words.{is_patch_of_any, Lump, lump_at, no_lump}
-use Rattle.scene_rules.specs.Words.{block_size, greatest_by, HEADER_SIZE, is_list, is_map_lump, is_needed, lump_block, needed_lumps, SceneArt}
+use Rattle.sound_scene.specs.Rules.{HEADER_SIZE, Lump, SceneArt, block_size, greatest_by, is_list, is_map_lump, is_needed, is_patch_of_any, lump_at, lump_block, needed_lumps, no_lump}
 use Rattle.scene_rules.proofs.Laws.{block_least}
 use Rattle.sound_scene.proofs.MarkLemmas.{any_passed}
 

@@ -1,34 +1,19 @@
 -- Lists of pictures with the same members: a scene needs the same lumps with each of them.
-use Rattle.art_rules.proofs.Common.{Any-from_list_any, ap, arith, Contains, Contains-append_cases, Contains-append_left, Contains-append_right, Decides, eq-from_true, eq-true, get_or, inl, inr, length, List, list_any, list_any_at, map-append, nat_tests, refl, same_from_decides, subst, sym, true, ℕ, ◌++◌, ◌==◌, ◌||◌, ◌↔◌, ◌∙◌, ◌≡◌, ◌⊎◌}
+use Rattle.art_rules.proofs.Common.{any-contains, ap, arith, Contains, Contains-append_cases, Contains-append_left, Contains-append_right, inl, inr, length, List, list_any, map-append, nat_tests, refl, same_from_decides, subst, sym, true, ℕ, ◌++◌, ◌==◌, ◌||◌, ◌↔◌, ◌∙◌, ◌≡◌, ◌⊎◌}
 use Rattle.texture_build.proofs.MarkLemmas.{filter_same}
-use Rattle.art_rules.specs.Words.{book_lumps, is_patch_of_any, Lump, LumpNo}
-use Rattle.art_rules.specs.declared.shapes.Frame.{Frame}
-use Rattle.scene_rules.specs.declared.ZoneSizes.{ZoneSizes}
-use Rattle.scene_rules.specs.Words.{art_of, enough, has_flat, is_list, is_map_lump, is_needed, needed_lumps, roomy, SceneValue, sizes_of, zone_sizes}
+use Rattle.sound_scene.specs.Rules.{Frame, Lump, LumpNo, SceneValue, ZoneSizes, art_of, book_lumps, enough, has_flat, is_list, is_map_lump, is_needed, is_patch_of_any, needed_lumps, roomy, sizes_of, zone_sizes}
 use Rattle.sound_scene.specs.Views.{lump_numbers}
 use Rattle.sound_scene.specs.Sound.{SoundValue, art_with, with_book}
-
--- a test for a number passes exactly where the number is in the list
-any_number : (xs : List ℕ) (k : ℕ) → Decides (list_any (λ n. n == k) xs) (Contains xs k)
-any_number xs k = (found, passes) where
-  found : list_any (λ n. n == k) xs ≡ true → Contains xs k
-  found e =
-      let any = Any-from_list_any (λ (n : ℕ). n == k) xs e in
-      let same : any.1 ≡ k = eq-from_true any.1 k any.4 in
-      (any.0, any.2, subst (λ (n : ℕ). get_or xs any.0 n ≡ n) same any.3)
-
-  passes : Contains xs k → list_any (λ n. n == k) xs ≡ true
-  passes there = list_any_at (λ (n : ℕ). n == k) xs there.0 k there.1 (eq-true (get_or xs there.0 k) k there.2)
 
 -- lists with the same members
 abbrev pub HaveSame : List ℕ → List ℕ → Type 0
 HaveSame xs ys = (n : ℕ) → Contains xs n ↔ Contains ys n
 
 -- a test for a number tells the same of both
-any_same : (xs ys : List ℕ) (k : ℕ) → HaveSame xs ys → list_any (λ n. n == k) xs ≡ list_any (λ n. n == k) ys
+pub any_same : (xs ys : List ℕ) (k : ℕ) → HaveSame xs ys → list_any (λ n. n == k) xs ≡ list_any (λ n. n == k) ys
 any_same xs ys k same =
-    let there = any_number xs k in
-    same_from_decides (list_any (λ n. n == k) xs) (list_any (λ n. n == k) ys) (λ e. (same k).0 (there.0 e), λ c. there.1 ((same k).1 c)) (any_number ys k)
+    let there = any-contains xs k in
+    same_from_decides (list_any (λ n. n == k) xs) (list_any (λ n. n == k) ys) (λ e. (same k).0 (there.0 e), λ c. there.1 ((same k).1 c)) (any-contains ys k)
 
 -- a lump is needed with both or with none
 needed_number : (lumps : List Lump) (scene : SceneValue) (xs ys : List ℕ) (k : ℕ) → HaveSame xs ys → is_needed lumps (art_with scene xs) k ≡ is_needed lumps (art_with scene ys) k

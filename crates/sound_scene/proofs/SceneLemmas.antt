@@ -2,15 +2,7 @@
 -- scene is made of.
 use Rattle.art_rules.proofs.Common.{ap, Bool, cond, Err, false, length, List, nat_le, None, Ok, ok_or, Option, option_and_then, refl, Result, Some, subst, sym, take, true, ℕ, ◌<◌, ◌∙◌, ◌≡◌}
 use Rattle.art_rules.proofs.Laws.{and_then-ok, greatest-is}
-use Rattle.art_rules.specs.Words.{and_then, from_below, has_name, last_of, Lump, lump_at, prepared_textures, PreparedTexture}
-use Rattle.scene_rules.specs.Words.{bad_middle, base_in, base_over, book_in, checked, colormap_of, Faces, faces_in, if_long, is_wanted_texture, label_of, level_in, level_of, LevelBase, lists_in, long_lump, placed_things, playpal_of, scene_in, scene_on, scene_over, scene_with, SceneValue, texture_by, ThingLine}
-use Rattle.art_rules.specs.declared.shapes.Frame.{Frame}
-use Rattle.scene_rules.specs.declared.Placed.{Placed}
-use Rattle.scene_rules.specs.declared.TheConstants.{COLORMAP, COLORMAP_SIZE, PALETTE_SIZE}
-use Rattle.scene_rules.specs.declared.refusal.ArtRefusal.{ArtRefusal}
-use Rattle.scene_rules.specs.declared.refusal.ArtRefusal.TheVariants.{Colormap}
-use Rattle.scene_rules.specs.declared.refusal.AuditRefusal.{AuditRefusal}
-use Rattle.scene_rules.specs.declared.refusal.AuditRefusal.TheVariants.{Art, Map, Texture, Sprite, Scene}
+use Rattle.sound_scene.specs.Rules.{Art, ArtRefusal, AuditRefusal, COLORMAP, COLORMAP_SIZE, Colormap, Faces, Frame, LevelBase, Lump, Map, PALETTE_SIZE, Placed, PreparedTexture, Scene, SceneValue, Sprite, Texture, ThingLine, and_then, bad_middle, base_in, base_over, book_in, checked, colormap_of, faces_in, from_below, has_name, if_long, is_wanted_texture, label_of, last_of, level_in, level_of, lists_in, long_lump, lump_at, placed_things, playpal_of, prepared_textures, scene_in, scene_on, scene_over, scene_with, texture_by}
 
 -- a step of the layer below, likewise
 pub from_below-ok : {A R Q : Type 0} (f : R → Q) (r : Result A R) (x : A) → from_below f r ≡ Ok x → r ≡ Ok x

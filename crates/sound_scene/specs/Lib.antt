@@ -3,3 +3,4 @@ pub mod Scenes
 pub mod Sound
 pub mod Views
 pub mod Whole
+pub mod Rules

@@ -1,8 +1,6 @@
 -- What drawing asks of a scene that passed its audit, whatever the bytes of its lumps were.
 use Rattle.std.specs.Prelude.{◌≡◌, ◌<◌, ◌≤◌, ◌⊎◌, ℕ, List, length, All, IfSome, IsSome, Ok}
-use Rattle.art_rules.specs.Words.{book_lumps, Lump, mask_of, PreparedTexture, single_place}
-use Rattle.scene_rules.specs.Words.{faces_in, middle_of, placed_things, SceneValue, Seg, SideTextures, ThingLine}
-use Rattle.art_rules.specs.declared.TheConstants.{MAX_TEXTURES}
+use Rattle.sound_scene.specs.Rules.{Lump, MAX_TEXTURES, PreparedTexture, SceneValue, Seg, SideTextures, ThingLine, book_lumps, faces_in, mask_of, middle_of, placed_things, single_place}
 use Rattle.texture_build.specs.Sources.{own_lookup}
 use Rattle.texture_build.specs.Views.{TexturesView, AllTexturesListed, AllThere, IsPrepared, prepared_texture}
 use Rattle.level_scene.specs.Bounds.{AreBelow, AreThere}

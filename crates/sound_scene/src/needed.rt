@@ -3,8 +3,7 @@
 // Rules: `scene_rules`, Sizes. The original: `R_PrecacheLevel`, r_data.c.
 ghost use Rattle.std.specs.Prelude.{◌≡◌, ◌≤◌, ◌==◌, length, IfOk};
 ghost use Rattle.std.specs.List.{list_any};
-ghost use Rattle.art_rules.specs.Words.{is_patch_of_any, MAX_LUMPS};
-ghost use Rattle.scene_rules.specs.Words.{flat_number, has_flat, is_last, is_list, is_map_lump, is_needed, needed_lumps, SKY_FLAT};
+ghost use Rattle.sound_scene.specs.Rules.{MAX_LUMPS, SKY_FLAT, flat_number, has_flat, is_last, is_list, is_map_lump, is_needed, is_patch_of_any, needed_lumps};
 ghost use Rattle.sound_scene.specs.Views.{AddsMarks, lump_numbers};
 
 use crate::marks::Marks;

@@ -3,13 +3,14 @@
 // Rules: `scene_rules`, Sizes. The original: `Z_Init`, z_zone.c, which takes what it gets.
 ghost use Rattle.std.specs.Prelude.{◌≡◌, ◌+◌, ◌<◌, ◌≤◌, ◌^◌, All, length, max, sum_by};
 ghost use Rattle.std.specs.List.Sorted.{IsStrictlyIncreasing};
-ghost use Rattle.scene_rules.specs.Words.{block_or_none, block_size, composite_block, greatest_by, HEADER_SIZE, lump_block, needed_lumps, WORD_SIZE, zone_sizes};
+ghost use Rattle.sound_scene.specs.Rules.{HEADER_SIZE, WORD_SIZE, block_or_none, block_size, composite_block, greatest_by, lump_block, needed_lumps, zone_sizes};
 ghost use Rattle.texture_build.specs.Views.{prepared_at};
 ghost use Rattle.sound_scene.specs.Views.{lump_numbers};
 
 use crate::needed::NeededArt;
-use scene_rules::{HEADER_SIZE, MIN_FRAGMENT, WORD_SIZE, ZoneSizes};
+use scene_rules::{MIN_FRAGMENT, WORD_SIZE, ZoneSizes};
 use texture_build::{Directory, LumpNo, TexNo, Textures};
+use zone_rules::HEADER_SIZE;
 
 /// How large a zone has to be, in bytes, for a scene that needs these lumps: with `enough` COLORMAP
 /// stands beside the greatest composite and two further lumps, each block with up to the 64 bytes that

@@ -3,8 +3,7 @@
 // Rules: `specs/Sound`; `scene_rules`, Sizes and SectorFlats. The original: the globals of p_setup.c
 // and r_data.c.
 ghost use Rattle.std.specs.Prelude.{◌≡◌, ◌<◌, length, map, option_map, IfOk};
-ghost use Rattle.scene_rules.specs.declared.TheConstants.{PALETTE_SIZE};
-ghost use Rattle.scene_rules.specs.Words.{art_of, needed_lumps, sector_at, sizes_of, surfaces_of, things_of};
+ghost use Rattle.sound_scene.specs.Rules.{PALETTE_SIZE, art_of, needed_lumps, sector_at, sizes_of, surfaces_of, things_of};
 ghost use Rattle.sound_scene.specs.Views.{lump_numbers};
 ghost use Rattle.sound_scene.specs.Scenes.{scene_value};
 ghost use Rattle.sound_scene.specs.Sound.{middles_of, textures_view};
@@ -33,8 +32,7 @@ pub struct SoundScene {
 
 impl Model for SoundScene {
     ghost use Rattle.std.specs.Prelude.{◌≡◌, length};
-    ghost use Rattle.scene_rules.specs.declared.TheConstants.{PALETTE_SIZE};
-    ghost use Rattle.scene_rules.specs.Words.{surfaces_of};
+    ghost use Rattle.sound_scene.specs.Rules.{PALETTE_SIZE, surfaces_of};
     ghost use Rattle.sound_scene.specs.Scenes.{scene_value};
     ghost use Rattle.sound_scene.specs.Views.{lump_numbers};
     ghost use Rattle.sound_scene.specs.Sound.{SoundValue, middles_of};

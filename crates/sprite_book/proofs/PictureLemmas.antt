@@ -1,11 +1,6 @@
 -- How the pictures of a frame are found.
 use Rattle.art_rules.proofs.Common.{ap, Err, err_from_is_err_and, IsErrAnd, List, MatchResult, None, Ok, ok_or, Option, range_with_len, refl, Result, Some, sym, ◌∙◌, ◌≡◌}
-use Rattle.art_rules.specs.Words.{each_of, Fault, is_of_frame, last_mention, last_that, picture_or_missing, pictures_of, Refused}
-use Rattle.art_rules.specs.declared.Mention.{Mention}
-use Rattle.art_rules.specs.declared.TheConstants.{ROTATIONS}
-use Rattle.art_rules.specs.declared.refusal.SpriteRefusal.{SpriteRefusal}
-use Rattle.art_rules.specs.declared.refusal.SpriteRefusal.TheVariants.{NoFrame}
-use Rattle.art_rules.specs.declared.shapes.Need.{Need}
+use Rattle.sprite_book.specs.Rules.{Fault, Mention, Need, NoFrame, ROTATIONS, Refused, SpriteRefusal, each_of, is_of_frame, last_mention, last_that, picture_or_missing, pictures_of}
 
 found_in : {X E : Type 0} (o : Option X) (e : E) (v : X) → ok_or o e ≡ Ok v → o ≡ Some v
 found_in None e v h = cc

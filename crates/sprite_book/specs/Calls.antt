@@ -1,14 +1,10 @@
 -- Calls that read sprite lumps: which they may ask for, and which patches were read so far.
 use Rattle.std.specs.Prelude.{◌≡◌, ◌≤◌, ℕ, List, length, Option, Some, None, IfSome, IfErr, MatchResult, Result, Ok, Contains, slice_index_or}
-use Rattle.art_rules.specs.Words.{Fault, HasCauses, itself, Lump, lump_bytes, mentions, patch_of, pictures_of, ResultIs, ShelfView}
+use Rattle.sprite_book.specs.Rules.{Fault, HasCauses, Lump, Mention, Need, Patch, ResultIs, ShelfView, SpriteRefusal, itself, lump_bytes, mentions, patch_of, pictures_of}
 use Rattle.lump_cache.specs.Zones.{Heap}
 use Rattle.lump_cache.specs.Orders.{Item, IsInOrder, KeepsOrder}
 use Rattle.lump_cache.specs.DirectoryView.{DirectoryView}
-use Rattle.art_rules.specs.declared.Mention.{Mention}
-use Rattle.art_rules.specs.declared.patch.Patch.{Patch}
-use Rattle.art_rules.specs.declared.refusal.SpriteRefusal.{SpriteRefusal}
 use Rattle.lump_cache.specs.Calls.{PreservesCache, HoldContents, IsFullFor, IfFull, LeavesInOrder, HasAll}
-use Rattle.art_rules.specs.declared.shapes.Need.{Need}
 
 -- for each of so many lumps there is a slot of the cache, and a place for its patch
 abbrev pub HavePlaces : ℕ → ℕ → ℕ → Type 0

@@ -6,10 +6,8 @@ use Rattle.std.specs.Ordering.{nat_cmp, ordering_then}
 use Rattle.std.specs.declared.cmp.Ordering.{Ordering}
 use Rattle.std.specs.Cmp.Lexicographic.{slice_cmp}
 use Rattle.std.specs.BTreeMap.{BTreeMap, get}
-use Rattle.art_rules.specs.declared.Mention.{Mention}
-use Rattle.art_rules.specs.Words.{book_lumps, is_frame, is_of_frame, is_of_rotation, last_that}
+use Rattle.sprite_book.specs.Rules.{Frame, Mention, book_lumps, is_frame, is_of_frame, is_of_rotation, last_that}
 use Rattle.sprite_book.specs.declared.mentions.Mentions.{Mentions}
-use Rattle.art_rules.specs.declared.shapes.Frame.{Frame}
 
 -- how keys are ordered: by letters, then by frame, then by rotation
 abbrev pub frame_cmp : (List ℕ × ℕ) → (List ℕ × ℕ) → Ordering

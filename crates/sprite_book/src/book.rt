@@ -1,6 +1,5 @@
 // A book of frames.
-ghost use Rattle.art_rules.specs.Words.{AllWithin, book_lumps, book_of, each_of, first_needs, frame_of, HasCauses, IsLaterShelf, itself, lump_at, mentions, NameFiles, outline, outline_of, outlines_of, picked, ResultIs};
-ghost use Rattle.art_rules.specs.declared.shapes.Frame.{Frame};
+ghost use Rattle.sprite_book.specs.Rules.{AllWithin, Frame, HasCauses, IsLaterShelf, MIN_FRAGMENT, NameFiles, ResultIs, book_lumps, book_of, each_of, first_needs, frame_of, itself, lump_at, mentions, outline, outline_of, outlines_of, picked};
 ghost use Rattle.lump_cache.specs.Caches.{IsFaithful, IsAtRest, KeepsCounts, lump_owner, composite_owner};
 ghost use Rattle.lump_cache.specs.Calls.{ReadsLumps, IfFull, LeavesInOrder};
 ghost use Rattle.sprite_book.specs.Calls.{IsWanted};
@@ -9,7 +8,6 @@ ghost use Rattle.std.specs.List.Sorted.{IsStrictlyIncreasing};
 ghost use Rattle.std.specs.Prelude.{◌≡◌, ◌<◌, ◌≤◌, ◌+◌, ◌↔◌, true, ℕ, List, length, map, All, Contains, Option, Some, Ok, IfOk, IfErr, IfSome};
 ghost use Rattle.lump_cache.specs.Orders.{Item, has_item, IsInOrder};
 ghost use Rattle.lump_cache.specs.Zones.{block_size, bytes_of};
-ghost use Rattle.zone_rules.specs.declared.TheConstants.{MIN_FRAGMENT};
 
 use crate::fault::SpriteFault;
 use crate::list::{FrameList, list_pictures};

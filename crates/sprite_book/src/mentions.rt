@@ -2,8 +2,7 @@
 ghost use Rattle.std.specs.Prelude.{◌≡◌, ◌==◌, ◌+◌, ◌<◌, ◌++◌, [], true, cond, List, ℕ, take, slice_index, IfOk, OnOk};
 ghost use Rattle.std.specs.Option.{option_to_list};
 ghost use Rattle.std.specs.Str.{bytes_eq};
-ghost use Rattle.art_rules.specs.declared.Mention.{Mention};
-ghost use Rattle.art_rules.specs.Words.{is_of_sprite, is_pair, mention_at, mentions, name_mentions};
+ghost use Rattle.sprite_book.specs.Rules.{Mention, is_of_sprite, is_pair, mention_at, mentions, name_mentions};
 ghost use Rattle.sprite_book.specs.Indexes.{IsIndexOf};
 
 use art_rules::{

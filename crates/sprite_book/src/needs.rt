@@ -1,7 +1,6 @@
 // The frames that are needed, one after another.
-ghost use Rattle.art_rules.specs.Words.{each_of, first_needs, frame_of, itself, mentions, outline, outline_of};
+ghost use Rattle.sprite_book.specs.Rules.{Patch, each_of, first_needs, frame_of, itself, mentions, outline, outline_of};
 ghost use Rattle.std.specs.Prelude.{◌≡◌, ◌≤◌, [], length, map, replicate, Option, None, Ok, IfOk, OnOk};
-ghost use Rattle.art_rules.specs.declared.patch.Patch.{Patch};
 ghost use Rattle.lump_cache.specs.Calls.{ReadsLumps};
 ghost use Rattle.sprite_book.specs.Calls.{HavePlaces, Reads, IsWanted};
 ghost use Rattle.sprite_book.specs.Indexes.{IsIndexOf, IsPlaceOf};

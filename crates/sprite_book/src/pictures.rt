@@ -1,8 +1,7 @@
 // The pictures of a needed frame.
 ghost use Rattle.std.specs.Prelude.{◌≡◌, ◌<◌, ◌+◌, ◌*◌, ◌^◌, ◌-◌, List, ℕ, length, Some, MatchResult, Ok, Err};
 ghost use Rattle.std.specs.List.{range_with_len};
-ghost use Rattle.art_rules.specs.declared.Mention.{Mention};
-ghost use Rattle.art_rules.specs.Words.{each_of, frame_picture, is_of_frame, last_mention, last_that, picture_or_missing, pictures_of};
+ghost use Rattle.sprite_book.specs.Rules.{Mention, each_of, frame_picture, is_of_frame, last_mention, last_that, picture_or_missing, pictures_of};
 ghost use Rattle.sprite_book.specs.Indexes.{IsIndexOf};
 
 use crate::Need;

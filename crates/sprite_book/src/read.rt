@@ -1,9 +1,8 @@
 // The shapes of a frame, read from its lumps.
-ghost use Rattle.art_rules.specs.Words.{each_of, frame_of, itself, mention_outline, mentions, outline, outline_of, patch_of, patch_or_bad, shape_in, shape_of, shape_outline};
+ghost use Rattle.sprite_book.specs.Rules.{Patch, each_of, frame_of, itself, mention_outline, mentions, outline, outline_of, patch_of, patch_or_bad, shape_in, shape_of, shape_outline};
 ghost use Rattle.std.specs.Prelude.{◌≡◌, ◌<◌, ◌≤◌, length, map, All, Option, Some, Ok, IfOk, OnOk};
 ghost use Rattle.std.specs.Option.{option_and_then};
 ghost use Rattle.lump_cache.specs.Zones.{bytes_of};
-ghost use Rattle.art_rules.specs.declared.patch.Patch.{Patch};
 ghost use Rattle.lump_cache.specs.Caches.{lump_owner};
 ghost use Rattle.lump_cache.specs.Calls.{ReadsLumps};
 ghost use Rattle.sprite_book.specs.Calls.{HavePlaces, Reads, IsLumpOf, IsWantedBy};

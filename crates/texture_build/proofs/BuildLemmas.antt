@@ -1,6 +1,6 @@
 -- The steps by which a composite is built, one after another.
 use Rattle.art_rules.proofs.Common.{[], ap, arith, Contains, Err, err_from_is_err_and, false, IfErr, IsErrAnd, List, MatchResult, Ok, refl, Result, subst, sym, ℕ, ◌+◌, ◌<◌, ◌∙◌, ◌∷◌, ◌≡◌, ◌≤◌}
-use Rattle.art_rules.specs.Words.{FaultsRose, HasCauses, Lump, lump_at, PreparedTexture, ResultIs, ShelfView}
+use Rattle.texture_build.specs.Rules.{FaultsRose, HasCauses, Lump, PlacedPatch, PreparedTexture, ResultIs, ShelfView, lump_at}
 use Rattle.art_rules.proofs.Laws.{all_stand_later, follows_none, follows_then}
 use Rattle.lump_cache.specs.Zones.{Owner, Heap, owned_block, block_size, same_owner}
 use Rattle.lump_cache.specs.Orders.{Item, KeepsOrder}
@@ -12,7 +12,6 @@ use Rattle.lump_cache.specs.declared.fault.CacheFault.TheVariants.{ZoneFull, Rea
 use Rattle.lump_cache.specs.Caches.{HasAsked, IsAtRestExcept, IsPinned, KeepsCounts, NoRoom, WhereFull, cache_fault, composite_owner, lump_owner}
 use Rattle.lump_cache.specs.Calls.{IfFull, InOrderAt, HoldContents}
 use Rattle.lump_cache.specs.Sizes.{IsGapBesideTwo}
-use Rattle.art_rules.specs.declared.PlacedPatch.{PlacedPatch}
 use Rattle.texture_build.specs.Asked.{IsGapBesideComposite, size_of}
 use Rattle.texture_build.specs.Builds.{KeepsBuild, IsFullForPatch, PutsPatches}
 use Rattle.texture_build.proofs.FillLemmas.{others_none, others_then}
@@ -101,17 +100,6 @@ patch_full lumps number t patch z (Err (ZoneFull wanted widest')) among full gap
   wanted_is = full.wanted_is;
   narrow = narrow_where (lump_at lumps patch.lump).size z wanted widest' full;
   gap = λ colormap count rest building. gap colormap count (composite_owner number) (size_of t) rest refl building.asked building.pinned;
-}
-
--- no patch is put, and some after others
-pub puts_none : (number : ℕ) (t : PreparedTexture) (n : ℕ) (view : ShelfView) (dir : DirectoryView) (z : Heap) → PutsPatches number t n n view view dir z z (Ok tt)
-puts_none number t n view dir z = record {
-  keeps = keeps_build_none number view dir z;
-  answers = λ contents stand within. record { ok = refl; err = tt };
-  causes = record { err = tt };
-  full = tt;
-  order = λ items all k. order_none items z view.taken k;
-  put = λ contents told k. k;
 }
 
 module _ {number : ℕ} {t : PreparedTexture} {i j k : ℕ} {u v w : ShelfView} {dir : DirectoryView} {x y z : Heap} where

@@ -1,9 +1,6 @@
 -- What a column is read from, by its texture's patches, and the mask of columns.
 use Rattle.art_rules.proofs.Common.{[], All, All-filter, All-head, arith, cases_lt, get_or_past, IfSome, inl, inr, length, List, slice_index_or, subst, sym, ℕ, ◌<◌, ◌^◌, ◌∷◌, ◌≤◌, ◌⊎◌}
-use Rattle.art_rules.specs.Words.{AreColumnsOf, column_lookup, composite_place, lookup_of, Lump, mask_of, patches_in, single_place, stands_in}
-use Rattle.art_rules.specs.declared.PlacedPatch.{PlacedPatch}
-use Rattle.art_rules.specs.declared.ColumnLookup.{ColumnLookup}
-use Rattle.art_rules.specs.declared.ColumnLookup.TheVariants.{Empty, Single, Composed}
+use Rattle.texture_build.specs.Rules.{AreColumnsOf, ColumnLookup, Composed, Empty, Lump, PlacedPatch, Single, column_lookup, composite_place, lookup_of, mask_of, patches_in, single_place, stands_in}
 use Rattle.art_rules.proofs.MaskLemmas.{IsMask, mask_of-greatest}
 use Rattle.texture_build.specs.Sources.{IsColumnThere}
 

@@ -1,6 +1,6 @@
 -- How the building of a composite ends.
 use Rattle.art_rules.proofs.Common.{ap, Err, IfErr, inl, inr, length, List, MatchResult, None, Ok, OnOk, Option, refl, replicate, Result, Some, subst, sym, true, ℕ, ◌∙◌, ◌≡◌}
-use Rattle.art_rules.specs.Words.{Lump, PreparedTexture}
+use Rattle.texture_build.specs.Rules.{Composed, Lump, PreparedTexture}
 use Rattle.lump_cache.specs.Zones.{Owner, Holding, Heap, IsLive, bytes_of, holding_of}
 use Rattle.lump_cache.specs.Orders.{Item, IsInOrder, KeepsOrder, is_live}
 use Rattle.zone_rules.proofs.OrderLemmas.{order_then}
@@ -11,7 +11,6 @@ use Rattle.lump_cache.specs.Tag.TheVariants.{Cache}
 use Rattle.lump_cache.proofs.FaithLemmas.{unless_static_bytes}
 use Rattle.lump_cache.proofs.OrderLemmas.{live_unless_static}
 use Rattle.lump_cache.specs.Calls.{IfFull, InOrderAt}
-use Rattle.art_rules.specs.declared.ColumnLookup.TheVariants.{Composed}
 use Rattle.art_rules.proofs.LookupLemmas.{composite_of_first-none, composite_of_first-all}
 use Rattle.texture_build.specs.Asked.{IsGapBesideComposite, IsFullForColumn, size_of}
 use Rattle.texture_build.specs.Builds.{StartsComposite, FailsToBegin, IsFullForPatch, HasBuilt}

@@ -1,15 +1,12 @@
 -- What a cache that has the art lends: the colormap, texture columns, and what fits beside them.
 use Rattle.art_rules.proofs.Common.{ap, false, IfSome, IsSome, length, List, ne_eqb, None, Option, option_map, refl, Some, subst, sym, ℕ, ◌+◌, ◌<◌, ◌∙◌, ◌≡◌, ◌≢◌, ◌≤◌}
-use Rattle.art_rules.specs.Words.{LUMP, lump_at, lump_bytes, painter_of, PreparedTexture, ShelfView}
+use Rattle.texture_build.specs.Rules.{ColumnLookup, Composed, Empty, LUMP, POST_BYTES_AT, PreparedTexture, ShelfView, Single, lump_at, lump_bytes, painter_of}
 use Rattle.lump_cache.specs.Zones.{Owner, Holding, Block, Heap, IsLive, bytes_of, block_size, holding_of, owned_block, same_owner}
 use Rattle.lump_cache.specs.DirectoryView.{DirectoryView}
 use Rattle.lump_cache.specs.Caches.{IsStatic, composite_owner, lump_owner}
 use Rattle.lump_cache.specs.Calls.{HoldContents}
 use Rattle.lump_cache.proofs.FetchLemmas.{live_faithful}
 use Rattle.lump_cache.proofs.SizeLemmas.{sizes_told}
-use Rattle.art_rules.specs.declared.ColumnLookup.{ColumnLookup}
-use Rattle.art_rules.specs.declared.ColumnLookup.TheVariants.{Empty, Single, Composed}
-use Rattle.art_rules.specs.declared.layout.TheConstants.{POST_BYTES_AT}
 use Rattle.art_rules.proofs.LookupLemmas.{composite_size-length}
 use Rattle.texture_build.specs.Arts.{lookup_source}
 use Rattle.texture_build.specs.Composites.{composite_of}
@@ -129,20 +126,3 @@ module _ {view : ShelfView} {dir : DirectoryView} {textures : TexturesView}
               composite = λ source. subst (λ (n : ℕ). block_size count + block_size n ≤ z.size)
                   (ap length (sym is_bytes) ∙ composite_size number bytes prepared e) fits;
             }
-
--- a column that is live is lent
-pub column-lent : (number : ℕ) (z : Heap) (lookup : ColumnLookup) → IsColumnLive number z lookup →
-    IsSome (column_view number z lookup)
-column-lent number z Empty live = refl
-column-lent number z (Single lump place) live =
-    lent_of (holding_of (lump_owner lump) z.blocks) (place + POST_BYTES_AT) live where
-      lent_of : (h : Option Holding) (first : ℕ) → IsSome h →
-          IsSome (option_map (column_from first) (option_map (λ (x : Holding). x.bytes) h))
-      lent_of None first k = cc
-      lent_of (Some h) first k = refl
-column-lent number z (Composed place) live =
-    lent_of (holding_of (composite_owner number) z.blocks) place live where
-      lent_of : (h : Option Holding) (first : ℕ) → IsSome h →
-          IsSome (option_map (column_from first) (option_map (λ (x : Holding). x.bytes) h))
-      lent_of None first k = cc
-      lent_of (Some h) first k = refl

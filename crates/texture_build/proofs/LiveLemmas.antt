@@ -1,6 +1,6 @@
 -- A texture column or a lump that was made live, as a call that draws.
 use Rattle.art_rules.proofs.Common.{Bool, Err, IfErr, inl, inr, IsTrue, length, List, Ok, refl, Result, subst, sym, ℕ, ℤ, ◌<◌, ◌≡◌, ◌⊎◌}
-use Rattle.art_rules.specs.Words.{Fault, FaultFits, Lump, lump_bytes, OutOfMemory, ReadFault, Refused, ResultIs, ShelfView, ZoneFull}
+use Rattle.texture_build.specs.Rules.{ColumnLookup, Fault, FaultFits, Lump, OutOfMemory, ReadFault, Refused, ResultIs, ShelfView, ZoneFull, lump_bytes}
 use Rattle.lump_cache.specs.Tag.TheVariants.{Cache}
 use Rattle.lump_cache.specs.Zones.{Heap}
 use Rattle.lump_cache.specs.DirectoryView.{DirectoryView}
@@ -10,7 +10,6 @@ use Rattle.lump_cache.specs.Calls.{IfFull, IsFullFor}
 use Rattle.lump_cache.specs.Fetches.{FetchesLump}
 use Rattle.lump_cache.proofs.CallLemmas.{full_at}
 use Rattle.lump_cache.proofs.FetchLemmas.{fetch_reads}
-use Rattle.art_rules.specs.declared.ColumnLookup.{ColumnLookup}
 use Rattle.texture_build.specs.Asked.{HasColumnAsked, IsFullForColumn}
 use Rattle.texture_build.specs.Sources.{column_in}
 use Rattle.texture_build.specs.Views.{TexturesView, prepared_texture}

@@ -1,12 +1,6 @@
 -- A patch that is fetched and placed, and the patches of a texture one after the other.
 use Rattle.art_rules.proofs.Common.{[], ap, drop, Err, get_or, IfSome, length, List, None, Ok, Option, option_and_then, option_map, refl, Some, split_at, subst, suc, sym, take, take_more, ℕ, ◌++◌, ◌+◌, ◌<◌, ◌∙◌, ◌∷◌, ◌≡◌}
-use Rattle.art_rules.specs.Words.{last_of, Lump, LumpNo, patch_of, place_lump, place_patch, placed_patch, placed_patches}
-use Rattle.art_rules.specs.declared.patch.Patch.{Patch}
-use Rattle.art_rules.specs.declared.PlacedPatch.{PlacedPatch}
-use Rattle.art_rules.specs.declared.ColumnLookup.{ColumnLookup}
-use Rattle.art_rules.specs.declared.TextureEntry.{TextureEntry}
-use Rattle.art_rules.specs.declared.refusal.TexRefusal.{TexRefusal}
-use Rattle.art_rules.specs.declared.refusal.TexRefusal.TheVariants.{MissingPatch}
+use Rattle.texture_build.specs.Rules.{ColumnLookup, Lump, LumpNo, MissingPatch, Patch, PlacedPatch, TexRefusal, TextureEntry, last_of, patch_of, place_lump, place_patch, placed_patch, placed_patches}
 use Rattle.patch_columns.specs.Seen.{columns_with, seen_lookups}
 use Rattle.patch_columns.proofs.SeenLemmas.{columns_with-seen}
 use Rattle.texture_build.specs.Asked.{patch_lump}

@@ -1,6 +1,6 @@
 -- What a column is read from, made live: by each kind of column.
 use Rattle.art_rules.proofs.Common.{Bool, eqb-true, Err, false, IfErr, IfSome, inl, length, List, None, Ok, OnErr, OnOk, Option, refl, Result, Some, subst, sym, true, ℕ, ◌+◌, ◌<◌, ◌==◌, ◌≡◌}
-use Rattle.art_rules.specs.Words.{Lump, lump_at, lump_bytes, PreparedTexture, ShelfView}
+use Rattle.texture_build.specs.Rules.{ColumnLookup, Lump, PreparedTexture, ShelfView, Single, lump_at, lump_bytes}
 use Rattle.art_rules.proofs.Laws.{follows_none}
 use Rattle.lump_cache.specs.Zones.{Block, Heap, IsLive, block_size, bytes_of, owned_block}
 use Rattle.zone_rules.proofs.OrderLemmas.{order_none}
@@ -15,8 +15,6 @@ use Rattle.lump_cache.specs.Sizes.{IsGapBeside}
 use Rattle.lump_cache.proofs.FetchLemmas.{fetch_gap, fetch_no_room, fetch_reads}
 use Rattle.lump_cache.specs.Tag.TheVariants.{Cache}
 use Rattle.lump_cache.specs.Orders.{has_item}
-use Rattle.art_rules.specs.declared.ColumnLookup.{ColumnLookup}
-use Rattle.art_rules.specs.declared.ColumnLookup.TheVariants.{Single}
 use Rattle.texture_build.specs.Asked.{IsFullForColumn}
 use Rattle.texture_build.specs.Builds.{OthersKeep}
 use Rattle.texture_build.specs.Composites.{AreComposites, composite_of}
@@ -25,22 +23,6 @@ use Rattle.texture_build.specs.Ready.{MakesColumnLive}
 use Rattle.texture_build.specs.Sources.{IsColumnLive}
 use Rattle.texture_build.specs.Views.{TexturesView, prepared_at}
 use Rattle.texture_build.proofs.BuildLemmas.{narrow_where}
-
--- nothing was asked for
-pub readies_nothing : (number : ℕ) (t : PreparedTexture) (lookup : ColumnLookup) (view : ShelfView) (dir : DirectoryView) (z : Heap) → IsColumnLive number z lookup → MakesColumnLive number t lookup view view dir z z (Ok tt)
-readies_nothing number t lookup view dir z live = record {
-  answers = λ contents stand within. record { ok = refl; err = tt };
-  live = live;
-  follows = follows_none view;
-  causes = record { err = tt };
-  counts = (refl, refl, refl);
-  rest = λ colormap count k. k;
-  faithful = λ contents stand k. k;
-  composites = λ contents textures is told k. k;
-  empty = tt;
-  full = tt;
-  order = λ items all k. order_none items z view.taken k;
-}
 
 -- the zone was full for the lump of a column
 pub single_full : (lumps : List Lump) (number : ℕ) (t : PreparedTexture) (lump place : ℕ) (z : Heap) (r : Result (Unit {0}) CacheFault) → WhereFull r (NoRoom (lump_at lumps lump).size z) →
@@ -102,17 +84,6 @@ readies_single {dir} {view} {after} {old} {new} {result} number t lump place the
       not_composed : (r : Result (Unit {0}) CacheFault) (P : Type 0) → OnErr r (⊥ → P)
       not_composed (Ok done) P = tt
       not_composed (Err fault) P = λ none. absurd none
-
--- what is kept of the composites of these textures
-pub readies_keeps : {number : ℕ} {t : PreparedTexture} {lookup : ColumnLookup} {dir : DirectoryView} {view after : ShelfView} {old new : Heap} {result : Result (Unit {0}) CacheFault} (textures : TexturesView) →
-    prepared_at textures.prepared number ≡ Some t → MakesColumnLive number t lookup view after dir old new result → KeepsArt view after dir textures old new
-readies_keeps textures is r = record {
-  follows = r.follows;
-  counts = r.counts;
-  rest = r.rest;
-  faithful = r.faithful;
-  composites = λ contents. r.composites contents textures is;
-}
 
 -- what stands in the slot of a composite that was built, or was not
 pub built_here : {A E : Type 0} (r : Result A E) (b : Option Block) (ys : List ℕ) → OnOk r (bytes_in b ≡ Some ys) → OnErr r (b ≡ None) → IfSome (bytes_in b) (λ xs. xs ≡ ys)

@@ -1,11 +1,8 @@
 -- The texels of a column, by the bytes that a cache has.
 use Rattle.art_rules.proofs.Common.{and_le_r, ap, arith, Bool, cond, false, IfSome, IsSome, length, List, nat_lt, nat_tests, None, Option, option_map, refl, slice_index_or, Some, subst, suc, sym, true, unwrap_or, zero, ℕ, ℤ, ◌+◌, ◌-◌, ◌<◌, ◌^◌, ◌∙◌, ◌≡◌}
-use Rattle.art_rules.specs.Words.{bits_of, byte_at, column_lookup, Lump, lump_bytes, mask_from, mask_of, masked_column, PreparedTexture, texel, texel_by}
+use Rattle.texture_build.specs.Rules.{ColumnLookup, Composed, Empty, Lump, POST_BYTES_AT, PreparedTexture, Single, bits_of, byte_at, column_lookup, lump_bytes, mask_from, mask_of, masked_column, texel, texel_by}
 use Rattle.lump_cache.specs.Zones.{Heap, bytes_of}
 use Rattle.lump_cache.specs.Caches.{IsFaithful, composite_owner, lump_owner}
-use Rattle.art_rules.specs.declared.ColumnLookup.{ColumnLookup}
-use Rattle.art_rules.specs.declared.ColumnLookup.TheVariants.{Empty, Single, Composed}
-use Rattle.art_rules.specs.declared.layout.TheConstants.{POST_BYTES_AT}
 use Rattle.art_rules.proofs.LookupLemmas.{texel_by-texel, column_lookups-read}
 use Rattle.texture_build.specs.Composites.{AreComposites, composite_of}
 use Rattle.texture_build.specs.Sources.{ColumnView, IsColumnThere, column_from, column_in, column_view, column_index}

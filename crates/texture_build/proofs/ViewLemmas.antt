@@ -1,8 +1,7 @@
 -- Laws of `AreTexturesOf`: what is prepared of such textures has a column, and its columns are
 -- those of its patches.
 use Rattle.std.proofs.Common.{◌≡◌, ℕ, ◌<◌, List, length, Some, None, sym, ap, arith}
-use Rattle.art_rules.specs.Words.{column_lookups, list_count, Lump, lump_bytes, PreparedTexture, Texture, texture_in, texture_of, texture_place, wrong_record}
-use Rattle.art_rules.specs.declared.PlacedPatch.{PlacedPatch}
+use Rattle.texture_build.specs.Rules.{Lump, PlacedPatch, PreparedTexture, Texture, column_lookups, list_count, lump_bytes, texture_in, texture_of, texture_place, wrong_record}
 use Rattle.art_rules.proofs.LookupLemmas.{length-column_lookups}
 use Rattle.texture_lists.proofs.PartLemmas.{width_within}
 use Rattle.texture_build.specs.Views.{AreTexturesOf, TexturesView, prepared_at}

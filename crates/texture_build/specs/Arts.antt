@@ -1,8 +1,6 @@
 -- The art of a view: what prepared textures and the bytes of lumps give (R_GetColumn, r_data.c).
 use Rattle.std.specs.Prelude.{ℕ, ◌&&◌, ℤ, pos, int_le, int_lt, cond, List, [], length}
-use Rattle.art_rules.specs.Words.{Art, byte_at, column_place, COMPOSITE, half_at, LUMP, natural, NO_SOURCE, Post, posts, PreparedTexture, shade, Source, texel}
-use Rattle.art_rules.specs.declared.ColumnLookup.{ColumnLookup}
-use Rattle.art_rules.specs.declared.ColumnLookup.TheVariants.{Empty, Single, Composed}
+use Rattle.texture_build.specs.Rules.{Art, COMPOSITE, ColumnLookup, Composed, Empty, LUMP, NO_SOURCE, Post, PreparedTexture, Single, Source, byte_at, column_place, half_at, natural, posts, shade, texel}
 use Rattle.texture_build.specs.Views.{TexturesView, prepared_texture}
 use Rattle.texture_build.specs.Sources.{column_in, column_index}
 

@@ -1,14 +1,10 @@
 -- What may be asked of the zone, and how small a zone is that had no room.
 use Rattle.std.specs.Prelude.{◌≡◌, ℕ, ◌+◌, ◌<◌, Bool, true, List, Contains, Option, Some, length, option_and_then, slice_get, ◌⊎◌}
-use Rattle.art_rules.specs.Words.{composite_size, last_of, Lump, lump_at, PreparedTexture, Texture, TextureLists}
+use Rattle.texture_build.specs.Rules.{ColumnLookup, Composed, Empty, Lump, PlacedPatch, PreparedTexture, Single, Texture, TextureEntry, TextureLists, composite_size, last_of, lump_at}
 use Rattle.lump_cache.specs.Zones.{Owner, Heap, block_size}
 use Rattle.lump_cache.specs.Orders.{Item, has_item}
 use Rattle.lump_cache.specs.Caches.{IsAtRest, lump_owner, composite_owner}
 use Rattle.lump_cache.specs.Sizes.{IsGapBeside, IsGapBesideTwo}
-use Rattle.art_rules.specs.declared.PlacedPatch.{PlacedPatch}
-use Rattle.art_rules.specs.declared.TextureEntry.{TextureEntry}
-use Rattle.art_rules.specs.declared.ColumnLookup.{ColumnLookup}
-use Rattle.art_rules.specs.declared.ColumnLookup.TheVariants.{Empty, Single, Composed}
 use Rattle.texture_build.specs.Sources.{IsComposedColumn}
 
 -- the lump of a patch's name

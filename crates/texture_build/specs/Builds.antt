@@ -1,6 +1,6 @@
 -- The steps by which a composite is built, while its block is pinned.
 use Rattle.std.specs.Prelude.{◌≡◌, ℕ, ◌+◌, ◌<◌, ◌==◌, false, true, List, [], ◌∷◌, length, replicate, Some, None, IfSome, IfErr, OnOk, OnErr, MatchResult, Result, Ok, slice_get}
-use Rattle.art_rules.specs.Words.{AllWithin, composite_of_first, HasCauses, IsLaterShelf, Lump, lump_bytes, NameFiles, PreparedTexture, ResultIs, ShelfView}
+use Rattle.texture_build.specs.Rules.{AllWithin, HasCauses, IsLaterShelf, Lump, NameFiles, PlacedPatch, PreparedTexture, ResultIs, ShelfView, composite_of_first, lump_bytes}
 use Rattle.lump_cache.specs.Zones.{Owner, Heap, owned_block, bytes_of, block_size, same_owner}
 use Rattle.lump_cache.specs.Orders.{Item, IsInOrder, KeepsOrder, has_item}
 use Rattle.lump_cache.specs.DirectoryView.{DirectoryView}
@@ -8,7 +8,6 @@ use Rattle.lump_cache.specs.declared.fault.CacheFault.{CacheFault}
 use Rattle.lump_cache.specs.Caches.{HasAsked, IsAtRest, IsAtRestExcept, IsFaithful, IsPinned, KeepsCounts, cache_fault, composite_owner, lump_owner, release_heap}
 use Rattle.lump_cache.specs.Calls.{IfFull, LeavesInOrder, HoldContents}
 use Rattle.lump_cache.specs.Sizes.{IsGapBeside}
-use Rattle.art_rules.specs.declared.PlacedPatch.{PlacedPatch}
 use Rattle.texture_build.specs.Asked.{IsPatch, IsGapBesideComposite, size_of}
 
 -- the composite's block is pinned, and has `size` bytes

@@ -17,3 +17,4 @@ pub use Rattle.lump_cache.specs.Sizes
 pub use Rattle.texture_lists.specs.declared.number.TexNo
 pub use Rattle.lump_cache.specs.DirectoryView
 pub use Rattle.zone_rules.specs.Zones
+pub mod Rules

@@ -1,11 +1,6 @@
 -- A texture while its patches come one after the other.
 use Rattle.std.specs.Prelude.{◌≡◌, ℕ, List, Contains, Option, None, Some, Result, Ok, Err}
-use Rattle.art_rules.specs.Words.{Lump}
-use Rattle.art_rules.specs.declared.PlacedPatch.{PlacedPatch}
-use Rattle.art_rules.specs.declared.ColumnLookup.{ColumnLookup}
-use Rattle.art_rules.specs.declared.TextureEntry.{TextureEntry}
-use Rattle.art_rules.specs.declared.refusal.TexRefusal.{TexRefusal}
-use Rattle.art_rules.specs.declared.refusal.TexRefusal.TheVariants.{MissingPatch}
+use Rattle.texture_build.specs.Rules.{ColumnLookup, Lump, MissingPatch, PlacedPatch, TexRefusal, TextureEntry}
 use Rattle.patch_columns.specs.Seen.{columns_with, seen_lookups}
 use Rattle.texture_build.specs.Asked.{patch_lump}
 

@@ -1,13 +1,12 @@
 -- A call that makes live what a texture column is read from.
 use Rattle.std.specs.Prelude.{◌≡◌, ℕ, List, None, Some, IfErr, OnOk, OnErr, MatchResult, Result, Ok}
-use Rattle.art_rules.specs.Words.{AllWithin, HasCauses, IsLaterShelf, lump_bytes, NameFiles, PreparedTexture, ResultIs, ShelfView}
+use Rattle.texture_build.specs.Rules.{AllWithin, ColumnLookup, HasCauses, IsLaterShelf, NameFiles, PreparedTexture, ResultIs, ShelfView, lump_bytes}
 use Rattle.lump_cache.specs.Zones.{Heap, owned_block}
 use Rattle.lump_cache.specs.Orders.{Item, IsInOrder, KeepsOrder}
 use Rattle.lump_cache.specs.DirectoryView.{DirectoryView}
 use Rattle.lump_cache.specs.declared.fault.CacheFault.{CacheFault}
 use Rattle.lump_cache.specs.Caches.{IsAtRest, IsFaithful, KeepsCounts, cache_fault, composite_owner}
 use Rattle.lump_cache.specs.Calls.{IfFull, LeavesInOrder, HoldContents}
-use Rattle.art_rules.specs.declared.ColumnLookup.{ColumnLookup}
 use Rattle.texture_build.specs.Asked.{HasColumnAsked, IsFullForColumn}
 use Rattle.texture_build.specs.Composites.{AreComposites}
 use Rattle.texture_build.specs.Sources.{IsColumnLive, IsComposedColumn}

@@ -1,11 +1,8 @@
 -- What a texture column is read from.
 use Rattle.std.specs.Prelude.{◌≡◌, ℕ, ◌+◌, ◌<◌, ◌≤◌, false, ℤ, List, [], Option, Some, length, option_map, slice_index_or}
-use Rattle.art_rules.specs.Words.{Lump, mask_of, masked_column, PreparedTexture}
+use Rattle.texture_build.specs.Rules.{ColumnLookup, Composed, Empty, Lump, POST_BYTES_AT, PreparedTexture, Single, mask_of, masked_column}
 use Rattle.lump_cache.specs.Zones.{Heap, IsLive, bytes_of, block_size, same_owner}
 use Rattle.lump_cache.specs.Caches.{lump_owner, composite_owner}
-use Rattle.art_rules.specs.declared.ColumnLookup.{ColumnLookup}
-use Rattle.art_rules.specs.declared.ColumnLookup.TheVariants.{Empty, Single, Composed}
-use Rattle.art_rules.specs.declared.layout.TheConstants.{POST_BYTES_AT}
 use Rattle.texture_build.specs.declared.source.ColumnSource.{ColumnSource}
 use Rattle.texture_build.specs.declared.source.ColumnSource.TheVariants as source
 

@@ -1,9 +1,7 @@
 -- What a contract sees of textures: the lists, and by number those that are prepared.
 use Rattle.std.specs.Prelude.{◌≡◌, ℕ, ◌<◌, ◌==◌, Bool, false, List, [], length, All, Option, None, IsSome, IfSome, unwrap_or, slice_index_or, Ok}
 use Rattle.std.specs.List.{list_any}
-use Rattle.art_rules.specs.Words.{last_of, Lump, lump_bytes, named_bytes, prepared_textures, PreparedTexture, Texture, texture_at, texture_lists, TextureLists}
-use Rattle.art_rules.specs.declared.PlacedPatch.{PlacedPatch}
-use Rattle.art_rules.specs.declared.TheConstants.{PNAMES, TEXTURE1, TEXTURE2}
+use Rattle.texture_build.specs.Rules.{Lump, PNAMES, PlacedPatch, PreparedTexture, TEXTURE1, TEXTURE2, Texture, TextureLists, last_of, lump_bytes, named_bytes, prepared_textures, texture_at, texture_lists}
 use Rattle.texture_lists.specs.declared.number.TexNo.{TexNo}
 
 pub record TexturesView : Type 0 where

@@ -2,13 +2,11 @@
 //
 // Rules: `art_rules`, Wanted, and `specs/Parts`. The original: `R_InitTextures`,
 // `R_GenerateLookup`, r_data.c.
-ghost use Rattle.art_rules.specs.Words.{itself, last_of, patch_of, place_lump, place_patch, placed_patch, placed_patches, Refused};
+ghost use Rattle.texture_build.specs.Rules.{MissingPatch, PlacedPatch, Refused, itself, last_of, patch_of, place_lump, place_patch, placed_patch, placed_patches};
 ghost use Rattle.std.specs.Prelude.{◌≡◌, ◌<◌, ◌≤◌, ◌^◌, ◌++◌, ◌∷◌, ℕ, [], List, All, length, option_map, option_and_then, Some, Ok, IfOk, IfSome, OnOk};
 ghost use Rattle.lump_cache.specs.Zones.{bytes_of};
 ghost use Rattle.lump_cache.specs.Caches.{lump_owner};
 ghost use Rattle.lump_cache.specs.Calls.{ReadsLumps};
-ghost use Rattle.art_rules.specs.declared.PlacedPatch.{PlacedPatch};
-ghost use Rattle.art_rules.specs.declared.refusal.TexRefusal.TheVariants.{MissingPatch};
 ghost use Rattle.patch_columns.specs.Seen.{AreSeen, columns_with, seen_lookups};
 ghost use Rattle.texture_build.specs.Asked.{patch_lump};
 ghost use Rattle.texture_build.specs.Parts.{IsEntryPatch, or_missing, patches_part, step_of};

@@ -1,11 +1,9 @@
 // What stands behind `Textures::prepare`: the wanted textures, one after the other.
 //
 // Rules: `art_rules`, Wanted. The original: `R_PrecacheLevel`, `R_GenerateLookup`, r_data.c.
-ghost use Rattle.art_rules.specs.Words.{itself, last_of, prepared, prepared_if, prepared_textures, Refused, texture_at, unless_too_big};
+ghost use Rattle.texture_build.specs.Rules.{Empty, Refused, TooBig, itself, last_of, prepared, prepared_if, prepared_textures, texture_at, unless_too_big};
 ghost use Rattle.std.specs.Prelude.{◌≡◌, ◌<◌, ◌≤◌, ◌^◌, ◌||◌, false, true, ℕ, List, All, length, is_some, map, replicate, slice_index_or, Ok, Err, IfErr, IfOk, IfSome, IsSome};
 ghost use Rattle.lump_cache.specs.Calls.{ReadsLumps};
-ghost use Rattle.art_rules.specs.declared.ColumnLookup.TheVariants.{Empty};
-ghost use Rattle.art_rules.specs.declared.refusal.TexRefusal.TheVariants.{TooBig};
 ghost use Rattle.patch_columns.specs.Seen.{AreSeen, seen_lookups};
 ghost use Rattle.texture_build.specs.Asked.{IsWantedPatch};
 ghost use Rattle.texture_build.specs.Parts.{IsEntryPatch};

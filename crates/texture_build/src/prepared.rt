@@ -2,8 +2,7 @@
 //
 // Rules: `art_rules`, Lookups and Wanted. The original: `R_GenerateLookup`, r_data.c.
 ghost use Rattle.std.specs.Prelude.{◌≡◌, ◌<◌, ◌≤◌, ◌^◌, ◌↔◌, ℕ, List, length, IfSome, IsNone, is_some, slice_index_or};
-ghost use Rattle.art_rules.specs.Words.{AreColumnsOf, column_lookups, composite_size, is_single, is_single_lookup, Lump, mask_of, masked_column, single_place};
-ghost use Rattle.art_rules.specs.declared.ColumnLookup.TheVariants.{Empty};
+ghost use Rattle.texture_build.specs.Rules.{AreColumnsOf, Empty, Lump, column_lookups, composite_size, is_single, is_single_lookup, mask_of, masked_column, single_place};
 ghost use Rattle.patch_columns.specs.Seen.{AreSeen, seen_lookups};
 ghost use Rattle.texture_build.specs.Asked.{size_of};
 ghost use Rattle.texture_build.specs.Sources.{IsColumnThere, column_in, own_lookup};
@@ -26,8 +25,7 @@ pub(crate) struct PreparedTexture {
 
 impl Model for PreparedTexture {
     ghost use Rattle.std.specs.Prelude.{◌≡◌, ◌<◌, ◌≤◌, ◌^◌, ℕ, List, length};
-    ghost use Rattle.art_rules.specs.declared.TheConstants.{MAX_COMPOSITE};
-    ghost use Rattle.art_rules.specs.Words.{AreColumnsOf, composite_size, mask_of, PreparedTexture};
+    ghost use Rattle.texture_build.specs.Rules.{AreColumnsOf, MAX_COMPOSITE, PreparedTexture, composite_size, mask_of};
 
     ghost Value = { PreparedTexture };
 

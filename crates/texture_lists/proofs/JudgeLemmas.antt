@@ -1,13 +1,11 @@
 -- Lumps that are fetched by name and then judged by their bytes.
 use Rattle.std.proofs.Common.{◌≡◌, ℕ, true, List, Option, Result, Ok, Err, refl, sym, ap, ◌∙◌, IsErrAnd}
-use Rattle.art_rules.specs.Words.{Fault, filled, itself, last_of, lump_bytes, LumpNo, name_of, named_bytes, OutOfMemory, ReadFault, Refused, ResultIs, ShelfView, ZoneFull}
+use Rattle.texture_lists.specs.Rules.{Fault, LumpNo, OutOfMemory, PNAMES, ReadFault, Refused, ResultIs, ShelfView, TEXTURE1, TEXTURE2, TexRefusal, ZoneFull, filled, itself, last_of, lump_bytes, name_of, named_bytes}
 use Rattle.lump_cache.specs.Zones.{Heap}
 use Rattle.lump_cache.specs.DirectoryView.{DirectoryView}
 use Rattle.lump_cache.specs.Calls.{ReadsLumps, HoldContents}
 use Rattle.lump_cache.specs.Named.{IsLast}
 use Rattle.lump_cache.proofs.CallLemmas.{reads_stop_first, reads_short, reads_then_refused, reads_then_found}
-use Rattle.art_rules.specs.declared.TheConstants.{PNAMES, TEXTURE1, TEXTURE2}
-use Rattle.art_rules.specs.declared.refusal.TexRefusal.{TexRefusal}
 use Rattle.texture_lists.specs.Asked.{lump_number}
 use Rattle.texture_lists.specs.Parts.{IsOfBytes}
 

@@ -1,4 +1,3 @@
-pub mod MaskLemmas
 pub mod PartLemmas
 pub mod IndexLemmas
 pub mod JudgeLemmas

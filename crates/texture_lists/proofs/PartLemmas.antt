@@ -1,9 +1,7 @@
 -- Two lists of textures, by what is kept of each.
 use Rattle.art_rules.proofs.Common.{[], ap, arith, Bool, cast_signed, Err, false, false≢true, int_lt, length, List, nat_tests, None, Ok, Option, option_map, pos, refl, Result, Some, suc, sym, true, w16, zero, ℕ, ◌++◌, ◌+◌, ◌<◌, ◌||◌, ◌∙◌, ◌≡◌, ◌≤◌}
-use Rattle.art_rules.specs.Words.{and_then, both_lists, first_list, first_wrong, half_at, is_wrong, joined_textures, later_textures, later_wrong, list_count, or_else, patch_names, second_list, signed_half_at, Texture, texture_lists, texture_place, TextureLists, textures_in, unless_wrong, wrong_record}
+use Rattle.texture_lists.specs.Rules.{TEXTURE_HEAD_SIZE, TEXTURE_WIDTH_AT, TexRefusal, Texture, TextureLists, and_then, both_lists, first_list, first_wrong, half_at, is_wrong, joined_textures, later_textures, later_wrong, list_count, or_else, patch_names, second_list, signed_half_at, texture_lists, texture_place, textures_in, unless_wrong, wrong_record}
 use Rattle.art_rules.proofs.Laws.{least-some, none-below}
-use Rattle.art_rules.specs.declared.refusal.TexRefusal.{TexRefusal}
-use Rattle.art_rules.specs.declared.layout.TheConstants.{TEXTURE_HEAD_SIZE, TEXTURE_WIDTH_AT}
 use Rattle.texture_lists.specs.Parts.{ListPart, list_part, second_list_part, if_sound, first_part, second_part, joined_parts}
 
 -- the parts give the textures of the lists

@@ -1,8 +1,7 @@
 -- The lumps that are asked for by name.
 use Rattle.std.specs.Prelude.{ℕ, List, ◌⊎◌, Option, option_map}
-use Rattle.art_rules.specs.Words.{Lump, LumpNo}
+use Rattle.texture_lists.specs.Rules.{Lump, LumpNo, PNAMES, TEXTURE1, TEXTURE2}
 use Rattle.lump_cache.specs.Named.{IsLast}
-use Rattle.art_rules.specs.declared.TheConstants.{PNAMES, TEXTURE1, TEXTURE2}
 
 -- a list of textures
 abbrev pub IsTextureLump : List Lump → ℕ → Type 0

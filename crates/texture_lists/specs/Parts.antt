@@ -1,8 +1,7 @@
 -- What is kept of each list of textures while both are read, and how reading may end. No byte of a
 -- list is kept.
 use Rattle.std.specs.Prelude.{ℕ, ◌+◌, List, [], ◌++◌, Option, None, Some, Result, Ok, Err, option_map, ⊤}
-use Rattle.art_rules.specs.Words.{and_then, Fault, first_list, list_count, or_else, OutOfMemory, ReadFault, Refused, second_list, Texture, textures_in, unless_wrong, wrong_record, ZoneFull}
-use Rattle.art_rules.specs.declared.refusal.TexRefusal.{TexRefusal}
+use Rattle.texture_lists.specs.Rules.{Fault, OutOfMemory, ReadFault, Refused, TexRefusal, Texture, ZoneFull, and_then, first_list, list_count, or_else, second_list, textures_in, unless_wrong, wrong_record}
 
 -- how many textures a list counts, its first wrong record, and its textures where none is wrong
 pub record ListPart : Type 0 where

@@ -32,8 +32,7 @@ pub struct ListedTextures {
 
 impl Model for ListedTextures {
     ghost use Rattle.std.specs.Prelude.{◌≡◌, ◌≤◌, ℕ, List, length};
-    ghost use Rattle.art_rules.specs.declared.TheConstants.{MAX_TEXTURES};
-    ghost use Rattle.art_rules.specs.Words.{least_named, TextureLists};
+    ghost use Rattle.texture_lists.specs.Rules.{MAX_TEXTURES, TextureLists, least_named};
     ghost use Rattle.lump_cache.specs.Indexes.{indexed};
 
     ghost Value = { TextureLists };

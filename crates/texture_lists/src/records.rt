@@ -1,7 +1,6 @@
 // The records of textures in TEXTURE1 and TEXTURE2. Rules: `art_rules`, Textures.
 ghost use Rattle.std.specs.Prelude.{◌≡◌, ◌<◌, ◌≤◌, ◌+◌, ◌*◌, ◌^◌, length, IfOk};
-ghost use Rattle.art_rules.specs.Words.{half_at, is_wrong, listed, mask_of, name_at, patch_count, texture_in};
-ghost use Rattle.art_rules.specs.Textures.{entry_at};
+ghost use Rattle.texture_lists.specs.Rules.{entry_at, half_at, is_wrong, listed, mask_of, name_at, patch_count, texture_in};
 
 use art_rules::{
     ENTRY_NUMBER_AT, ENTRY_SIZE, ENTRY_Y_AT, NAME_SIZE, Name8, OutOfMemory, PATCH_COUNT_AT,

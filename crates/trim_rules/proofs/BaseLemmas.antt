@@ -1,12 +1,7 @@
 -- What a level stands on, in a directory that gives the same bytes for the same names.
 use Rattle.std.proofs.Common.{◌≡◌, ℕ, List, Result, Ok, Err, take, refl, ap, sym, ◌∙◌}
-use Rattle.art_rules.specs.Words.{and_then, from_below, Lump, named_bytes, TextureLists}
-use Rattle.scene_rules.specs.Words.{base_in, base_over, colormap_of, label_of, level_in, level_of, LevelBase, LevelValue, lists_in, map_bytes, MapRefusal, playpal_of}
-use Rattle.art_rules.specs.declared.TheConstants.{PNAMES, TEXTURE1, TEXTURE2}
-use Rattle.art_rules.specs.declared.refusal.TexRefusal.{TexRefusal}
-use Rattle.scene_rules.specs.declared.TheConstants.{PALETTE_SIZE}
-use Rattle.scene_rules.specs.declared.refusal.ArtRefusal.{ArtRefusal}
-use Rattle.scene_rules.specs.declared.refusal.AuditRefusal.TheVariants.{Art, Map, Texture}
+use Rattle.trim_rules.specs.Rules.{Art, ArtRefusal, LevelBase, LevelValue, Lump, Map, MapRefusal, PALETTE_SIZE, PNAMES, TEXTURE1, TEXTURE2, TexRefusal, TextureLists, and_then, base_in, base_over, colormap_of, from_below, label_of, level_in, level_of, lists_in, map_bytes, named_bytes, playpal_of}
+use Rattle.scene_rules.specs.declared.refusal.AuditRefusal.TheVariants.{Texture}
 
 -- Two directories with the bytes of their lumps, which give the same for what a level stands on; `c`, `p` and `l` are
 -- COLORMAP, PLAYPAL and the label in the second.

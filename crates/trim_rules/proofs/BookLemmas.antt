@@ -1,14 +1,7 @@
 -- A book of frames by a directory that holds its pictures: the same, with the lumps of its shapes moved.
 use Rattle.art_rules.proofs.Common.{[], AllByRecursion, ap, arith, Bool, Decides-eqb, Err, false, List, list_any, map, None, Ok, ok_or, Option, range_with_len, refl, Result, Some, some-injective, subst, suc, sym, true, ℕ, ◌<◌, ◌==◌, ◌||◌, ◌∙◌, ◌∷◌, ◌≡◌}
-use Rattle.art_rules.specs.Words.{and_then, book_lumps, each_of, frame_in, frame_of, frame_picture, is_of_frame, joined_lists, last_mention, last_that, Lump, mentions, patch_of, patch_or_bad, picture_if, picture_or_missing, pictures_of, shape_in, shape_lumps, shape_of}
+use Rattle.trim_rules.specs.Rules.{BadPatch, Frame, Lump, Mention, MissingRotation, Need, NoFrame, Patch, ROTATIONS, Shape, and_then, book_lumps, each_of, frame_in, frame_of, frame_picture, is_of_frame, joined_lists, last_mention, last_that, mentions, patch_of, patch_or_bad, picture_if, picture_or_missing, pictures_of, shape_in, shape_lumps, shape_of}
 use Rattle.art_rules.proofs.Laws.{and_then-ok}
-use Rattle.art_rules.specs.declared.Mention.{Mention}
-use Rattle.art_rules.specs.declared.patch.Patch.{Patch}
-use Rattle.art_rules.specs.declared.refusal.SpriteRefusal.TheVariants.{BadPatch, MissingRotation, NoFrame}
-use Rattle.art_rules.specs.declared.shapes.Frame.{Frame}
-use Rattle.art_rules.specs.declared.shapes.Need.{Need}
-use Rattle.art_rules.specs.declared.shapes.Shape.{Shape}
-use Rattle.art_rules.specs.declared.TheConstants.{ROTATIONS}
 use Rattle.trim_rules.proofs.FrameLemmas.{each-back, each-moved, last-pictured, range-all}
 use Rattle.trim_rules.proofs.HeldSpriteLemmas.{HoldsPictures}
 use Rattle.trim_rules.proofs.NamedLemmas.{any_left, any_right}

@@ -1,8 +1,7 @@
 -- What is found by its name in the trimmed file has the bytes that it has in the given files.
 use Rattle.art_rules.proofs.Common.{[], AllByRecursion, ap, Bool, bytes_eq, bytes_eq-Decides, cond, Decides-eqb, false, filter, inl, inr, List, list_any, map, map-append, None, not, Option, refl, Some, some-injective, sym, true, ℕ, ◌++◌, ◌==◌, ◌||◌, ◌∙◌, ◌∷◌, ◌≡◌, ◌⊎◌}
-use Rattle.art_rules.specs.Words.{F_END, F_START, has_name, last_of, Lump, lump_at, map_of, or_else, S_END, S_START}
+use Rattle.trim_rules.specs.Rules.{F_END, F_START, Lump, S_END, S_START, SceneArt, has_name, last_of, lump_at, map_of, or_else}
 use Rattle.made_rules.specs.Wads as made
-use Rattle.scene_rules.specs.Words.{SceneArt}
 use Rattle.trim_rules.specs.Parts.{called_lumps, copy_part, flat_lumps, group_parts, map_parts, part_name, picture_lumps, trim_parts}
 use Rattle.trim_rules.specs.Files.{part_bytes, part_lump}
 use Rattle.trim_rules.proofs.NameLemmas.{last_bytes, last_bytes-append}

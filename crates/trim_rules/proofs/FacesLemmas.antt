@@ -1,9 +1,7 @@
 -- What the names of a level mean by the trimmed file: the same sides and sky, and the flats under other numbers.
 use Rattle.art_rules.proofs.Common.{AllByRecursion, ap, Err, length, List, map, Ok, Option, refl, Result, sym, ℕ, ◌∙◌, ◌≡◌, ◌≤◌}
-use Rattle.art_rules.specs.Words.{and_then, Lump, TextureLists}
+use Rattle.trim_rules.specs.Rules.{Faces, LevelValue, Lump, SKY_FLAT, SceneArt, Sector, SectorFlats, SideTextures, TextureLists, and_then, faces_in, sector_flats, side_textures, sky_texture}
 use Rattle.art_rules.proofs.Laws.{and_then-ok}
-use Rattle.scene_rules.specs.Words.{Faces, faces_in, LevelValue, SceneArt, Sector, sector_flats, side_textures, SideTextures, SKY_FLAT, sky_texture}
-use Rattle.scene_rules.specs.declared.SectorFlats.{SectorFlats}
 use Rattle.trim_rules.specs.Parts.{trim_parts}
 use Rattle.trim_rules.specs.Files.{trimmed_lumps}
 use Rattle.trim_rules.proofs.HeldFlatLemmas.{flat_part, flats-held}

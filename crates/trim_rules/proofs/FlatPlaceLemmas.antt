@@ -1,13 +1,9 @@
 -- The numbers of flats in the trimmed file are those of part 1 and that of the sky, and stand for their sources one to
 -- one.
 use Rattle.art_rules.proofs.Common.{[], AllByRecursion, and_parts, ap, arith, Bool, cases_lt, cond, Decides-eqb, Err, false, get_or, inl, inr, length, List, list_any, None, Ok, ok_or, Option, option_and_then, option_map, or-cases, range_with_len, refl, Result, Some, some-injective, subst, suc, sym, true, zero, ℕ, ◌&&◌, ◌+◌, ◌<◌, ◌==◌, ◌||◌, ◌∙◌, ◌∷◌, ◌≡◌, ◌≤◌, ◌⊎◌}
-use Rattle.art_rules.specs.Words.{and_then, flat_of, Flats, has_name, is_member, Lump, members}
+use Rattle.trim_rules.specs.Rules.{Flat, Flats, Lump, SKY_FLAT, Sector, SectorFlat, SectorFlats, Sky, and_then, both_flats, each_from, each_or, flat_named, flat_number, flat_of, flats_of, has_name, is_member, is_sky_name, lump_flat, members, sector_flats}
 use Rattle.art_rules.proofs.Laws.{and_then-ok, greatest-is}
-use Rattle.scene_rules.specs.Words.{both_flats, each_from, each_or, flat_named, flat_number, flats_of, is_sky_name, lump_flat, Sector, sector_flats, SKY_FLAT}
-use Rattle.scene_rules.specs.declared.Flat.{Flat}
-use Rattle.scene_rules.specs.declared.Flat.TheVariants.{Sky, Lump as LumpFlat}
-use Rattle.scene_rules.specs.declared.SectorFlats.{SectorFlats}
-use Rattle.scene_rules.specs.declared.refusal.SceneRefusal.TheVariants.{SectorFlat}
+use Rattle.scene_rules.specs.declared.Flat.TheVariants.{Lump as LumpFlat}
 use Rattle.trim_rules.specs.declared.part.TrimPart.{TrimPart}
 use Rattle.trim_rules.specs.declared.part.TrimPart.TheVariants.{Mark}
 use Rattle.trim_rules.proofs.MemberLemmas.{HasGroup, group-members}

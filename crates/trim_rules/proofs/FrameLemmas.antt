@@ -1,9 +1,7 @@
 -- The pictures of a frame: its last mention is one of them, and what f gives of each item.
 use Rattle.art_rules.proofs.Common.{[], AllByRecursion, and-true_true, and_parts, ap, arith, Bool, cases_lt, cond, Decides-eqb, Err, false, inl, inr, leb-true, List, map, nat_le, None, Ok, Option, range_with_len, refl, Result, Some, some-injective, subst, suc, sym, true, zero, ℕ, ◌&&◌, ◌+◌, ◌-◌, ◌<◌, ◌==◌, ◌∙◌, ◌∷◌, ◌≡◌, ◌≤◌}
-use Rattle.art_rules.specs.Words.{and_then, each_of, frame_picture, is_of_frame, is_of_rotation, is_pair, joined_lists, last_that, Lump, lump_at, lump_mentions, members, mention_at, mentions, name_mentions, or_else, picture_by, picture_if, Sprites}
+use Rattle.trim_rules.specs.Rules.{FIRST_FRAME, FIRST_ROTATION, LAST_FRAME, LAST_ROTATION, Lump, Mention, ROTATIONS, SECOND_PAIR_AT, SPRITE_LETTERS, Sprites, and_then, each_of, frame_picture, is_of_frame, is_of_rotation, is_pair, joined_lists, last_that, lump_at, lump_mentions, members, mention_at, mentions, name_mentions, or_else, picture_by, picture_if}
 use Rattle.art_rules.proofs.Laws.{and_then-ok}
-use Rattle.art_rules.specs.declared.Mention.{Mention}
-use Rattle.art_rules.specs.declared.TheConstants.{FIRST_FRAME, FIRST_ROTATION, LAST_FRAME, LAST_ROTATION, ROTATIONS, SECOND_PAIR_AT, SPRITE_LETTERS}
 use Rattle.trim_rules.proofs.ThereLemmas.{all-append}
 
 ok_of : {X R : Type 0} (a b : X) → (let l : Result X R = Ok a in l) ≡ Ok b → a ≡ b

@@ -1,14 +1,8 @@
 -- The flats of the trimmed file are those of the level's sectors: each by its name, ascending.
 use Rattle.art_rules.proofs.Common.{[], AllByRecursion, and_parts, ap, append_assoc, arith, Bool, bytes_eq, bytes_eq-Decides, cond, Decides-eqb, Err, false, get_or, length, length-map, List, list_any, map, None, Ok, ok_or, Option, option_and_then, option_map, or-cases, range_with_len, refl, Result, Some, subst, suc, sym, true, ℕ, ◌&&◌, ◌<◌, ◌==◌, ◌||◌, ◌∙◌, ◌∷◌, ◌≡◌, ◌≤◌}
-use Rattle.art_rules.specs.Words.{and_then, F_END, flat_of, Flats, has_name, is_member, Lump, lump_at}
+use Rattle.trim_rules.specs.Rules.{F_END, Flat, Flats, HEAD_SIZE, Lump, SKY_FLAT, SceneArt, SceneRefusal, Sector, SectorFlat, SectorFlats, Sky, and_then, both_flats, each_from, each_or, flat_named, flat_number, flat_of, flats_of, has_flat, has_name, is_member, is_sky_name, lump_at, lump_flat, sector_flats}
 use Rattle.art_rules.proofs.Laws.{greatest-is}
-use Rattle.made_rules.specs.declared.wad.TheConstants.{HEAD_SIZE}
-use Rattle.scene_rules.specs.Words.{both_flats, each_from, each_or, flat_named, flat_number, flats_of, has_flat, is_sky_name, lump_flat, SceneArt, Sector, sector_flats, SKY_FLAT}
-use Rattle.scene_rules.specs.declared.Flat.{Flat}
-use Rattle.scene_rules.specs.declared.Flat.TheVariants.{Sky, Lump as LumpFlat}
-use Rattle.scene_rules.specs.declared.SectorFlats.{SectorFlats}
-use Rattle.scene_rules.specs.declared.refusal.SceneRefusal.{SceneRefusal}
-use Rattle.scene_rules.specs.declared.refusal.SceneRefusal.TheVariants.{SectorFlat}
+use Rattle.scene_rules.specs.declared.Flat.TheVariants.{Lump as LumpFlat}
 use Rattle.trim_rules.specs.declared.part.TrimPart.TheVariants.{Mark}
 use Rattle.trim_rules.specs.Parts.{copy_part, flat_lumps, group_parts, part_name, trim_parts}
 use Rattle.trim_rules.specs.Files.{part_lump, stored_lumps, trimmed_lumps}

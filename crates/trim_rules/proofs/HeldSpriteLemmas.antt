@@ -1,16 +1,7 @@
 -- The sprite lumps of the trimmed file are the pictures of the level: each stands for its source, and all of them were
 -- sprite lumps.
 use Rattle.art_rules.proofs.Common.{[], AllByRecursion, ap, append_assoc, arith, Bool, cond, Decides-eqb, Err, false, filter, get_or, length, length-map, List, list_any, map, None, Ok, ok_or, Option, or-cases, range_with_len, refl, Result, Some, subst, suc, sym, true, ℕ, ⊤, ◌+◌, ◌<◌, ◌==◌, ◌||◌, ◌∙◌, ◌∷◌, ◌≡◌}
-use Rattle.art_rules.specs.Words.{and_then, book_lumps, each_of, F_END, F_START, frame_in, frame_of, frame_picture, is_member, is_of_frame, is_of_rotation, joined_lists, last_mention, last_that, Lump, lump_at, lump_mentions, members, mention_at, mentions, name_mentions, or_else, patch_or_bad, picture_by, picture_if, picture_or_missing, pictures_of, S_END, shape_in, shape_lumps, shape_of, Sprites}
-use Rattle.made_rules.specs.declared.wad.TheConstants.{HEAD_SIZE}
-use Rattle.art_rules.specs.declared.Mention.{Mention}
-use Rattle.art_rules.specs.declared.patch.Patch.{Patch}
-use Rattle.art_rules.specs.declared.refusal.SpriteRefusal.{SpriteRefusal}
-use Rattle.art_rules.specs.declared.shapes.Frame.{Frame}
-use Rattle.art_rules.specs.declared.shapes.Need.{Need}
-use Rattle.art_rules.specs.declared.shapes.Shape.{Shape}
-use Rattle.art_rules.specs.declared.TheConstants.{ROTATIONS, SPRITE_LETTERS, SECOND_PAIR_AT}
-use Rattle.scene_rules.specs.Words.{SceneArt}
+use Rattle.trim_rules.specs.Rules.{F_END, F_START, Frame, HEAD_SIZE, Lump, Mention, Need, Patch, ROTATIONS, SECOND_PAIR_AT, SPRITE_LETTERS, S_END, SceneArt, Shape, SpriteRefusal, Sprites, and_then, book_lumps, each_of, frame_in, frame_of, frame_picture, is_member, is_of_frame, is_of_rotation, joined_lists, last_mention, last_that, lump_at, lump_mentions, members, mention_at, mentions, name_mentions, or_else, patch_or_bad, picture_by, picture_if, picture_or_missing, pictures_of, shape_in, shape_lumps, shape_of}
 use Rattle.trim_rules.specs.declared.part.TrimPart.{TrimPart}
 use Rattle.trim_rules.specs.declared.part.TrimPart.TheVariants.{Mark}
 use Rattle.trim_rules.specs.Parts.{copy_part, flat_lumps, group_parts, part_name, picture_lumps, trim_parts}

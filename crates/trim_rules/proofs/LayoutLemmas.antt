@@ -2,11 +2,8 @@
 use Rattle.art_rules.proofs.Common.{[], AllByRecursion, and-false_right, ap, append-nil, append_assoc, arith, Bool, codes, cond, Decides-ltb, drop, drop-append-add, drop-append_seam, drop-drop, false, from_le_bytes, from_le_bytes-to_le_bytes_4, get_or, length, length-append, List, lt-false, nat_lt, None, not, Ok, option_map, position_or_len, position_or_len_is, refl, Some, suc, sym, take, take-append_seam, take-length, to_le_bytes, true, w32, zero, ℕ, ◌&&◌, ◌*◌, ◌++◌, ◌+◌, ◌<◌, ◌==◌, ◌^◌, ◌∙◌, ◌∷◌, ◌≡◌, ◌≤◌}
 use Rattle.byteorder.specs.Endian.{little_number}
 use Rattle.art_rules.proofs.Laws.{listed-all}
-use Rattle.art_rules.specs.Words.{directory, directory_place, entries_in, Entry, entry_at, entry_count, entry_refusal, ENTRY_SIZE, file_lumps, header, header_refusal, HEADER_SIZE, is_wad, LETTER_COUNT, Lump, lump_in, lumps_from, lumps_in, MAX_LUMPS, name_of, no_lump, passes_end, refusal_from, whole_header_refusal}
-use Rattle.made_rules.specs.Bytes.{word_bytes}
+use Rattle.trim_rules.specs.Rules.{ENTRY_SIZE, Entry, HEADER_SIZE, HEAD_SIZE, LETTER_COUNT, Lump, MAX_LUMPS, contents, directory, directory_place, entries, entries_in, entry_at, entry_count, entry_refusal, file_lumps, file_of, header, header_refusal, is_wad, lump_in, lumps_from, lumps_in, name_of, no_lump, passes_end, refusal_from, wad_file, whole_header_refusal, word_bytes}
 use Rattle.made_rules.specs.Wads as made
-use Rattle.made_rules.specs.declared.wad.TheConstants.{HEAD_SIZE}
-use Rattle.made_rules.specs.Wads.{contents, entries, file_of, wad_file}
 use Rattle.trim_rules.specs.Files.{stored_from, stored_lumps}
 
 -- the number that four bytes spell

@@ -1,11 +1,7 @@
 -- The map of the trimmed file is the label of its third part, and what is called by the map's name is that label.
 use Rattle.art_rules.proofs.Common.{[], AllByRecursion, and_parts, ap, append_assoc, arith, Bool, bytes_eq, bytes_eq-Decides, false, filter, get_or-range_with_len, inl, inr, length, List, list_any, map, map-append, None, not, Option, option_and_then, range_with_len, refl, Some, suc, sym, true, zero, ℕ, ◌&&◌, ◌++◌, ◌+◌, ◌<◌, ◌==◌, ◌∙◌, ◌∷◌, ◌≡◌, ◌⊎◌}
-use Rattle.art_rules.specs.Words.{are_named, BEHAVIOR, BEHAVIOR_AFTER, F_END, F_START, has_name, if_label, is_label, is_named_in, last_of, Lump, lump_at, MAP_LUMPS, map_of, or_else, patch_lumps, PreparedTexture, S_END, S_START}
+use Rattle.trim_rules.specs.Rules.{BEHAVIOR, BEHAVIOR_AFTER, COLORMAP, F_END, F_START, HEAD_SIZE, Lump, MAP_LUMPS, PLAYPAL, PNAMES, PreparedTexture, S_END, S_START, SceneArt, TEXTURE1, TEXTURE2, are_named, has_name, if_label, is_label, is_named_in, last_of, lump_at, map_of, or_else, patch_lumps}
 use Rattle.art_rules.proofs.Laws.{greatest-is, greatest-some}
-use Rattle.made_rules.specs.declared.wad.TheConstants.{HEAD_SIZE}
-use Rattle.art_rules.specs.declared.TheConstants.{PNAMES, TEXTURE1, TEXTURE2}
-use Rattle.scene_rules.specs.declared.TheConstants.{COLORMAP, PLAYPAL}
-use Rattle.scene_rules.specs.Words.{SceneArt}
 use Rattle.trim_rules.specs.declared.part.TrimPart.{TrimPart}
 use Rattle.trim_rules.specs.declared.part.TrimPart.TheVariants.{Mark}
 use Rattle.trim_rules.specs.Parts.{called_lumps, copy_part, fixed_lumps, flat_lumps, group_parts, label_or_copy, listed_last, map_parts, part_name, picture_lumps, trim_parts}

@@ -1,7 +1,6 @@
 -- The pictures of a frame by the mentions of fewer lumps: where those that are its pictures are kept, they stay so.
 use Rattle.art_rules.proofs.Common.{[], ap, Bool, cond, false, filter, List, None, Option, refl, Some, suc, sym, true, ℕ, ◌==◌, ◌∙◌, ◌∷◌, ◌≡◌}
-use Rattle.art_rules.specs.Words.{frame_picture, is_of_frame, is_of_rotation, last_that, or_else, picture_by, picture_if}
-use Rattle.art_rules.specs.declared.Mention.{Mention}
+use Rattle.trim_rules.specs.Rules.{Mention, frame_picture, is_of_frame, is_of_rotation, last_that, or_else, picture_by, picture_if}
 
 -- none passes among fewer
 fewer_none : (passes keep : Mention → Bool) (x : Mention) (rest : List Mention) (kept : Bool)

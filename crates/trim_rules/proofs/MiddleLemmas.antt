@@ -1,8 +1,6 @@
 -- Masked mid textures whose patches have other numbers: the same side is the first that is bad.
 use Rattle.art_rules.proofs.Common.{[], ap, length, length-map, List, list_all, list_any, map, None, not, Option, option_map, range_with_len, refl, Some, suc, zero, ℕ, ◌&&◌, ◌+◌, ◌==◌, ◌∙◌, ◌∷◌, ◌≡◌}
-use Rattle.art_rules.specs.Words.{is_single, least, mask_of, patches_in, PreparedTexture}
-use Rattle.scene_rules.specs.Words.{bad_middle, is_all_single, is_bad_middle, is_bad_side, is_seen_through, middle_of, Seg, SideTextures, texture_by}
-use Rattle.art_rules.specs.declared.PlacedPatch.{PlacedPatch}
+use Rattle.trim_rules.specs.Rules.{PlacedPatch, PreparedTexture, Seg, SideTextures, bad_middle, is_all_single, is_bad_middle, is_bad_side, is_seen_through, is_single, least, mask_of, middle_of, patches_in, texture_by}
 use Rattle.trim_rules.proofs.PreparedLemmas.{move_texture}
 use Rattle.trim_rules.proofs.TexelLemmas.{moved, moved_lookup, patches_in-moved}
 

@@ -1,13 +1,8 @@
 -- The flats of the sectors by the trimmed directory are those by the given one under other numbers.
 use Rattle.art_rules.proofs.Common.{[], and_parts, ap, arith, Bool, bytes_eq, bytes_eq-Decides, cases_lt, cond, Decides-eqb, Err, false, filter, get_or, inl, inr, length, List, list_any, map, None, Ok, ok_or, Option, option_and_then, option_map, or-cases, or-true_left, or-true_right, range_with_len, refl, Result, Some, some-injective, suc, sym, true, zero, ℕ, ◌&&◌, ◌+◌, ◌<◌, ◌==◌, ◌||◌, ◌∙◌, ◌∷◌, ◌≡◌, ◌≤◌}
-use Rattle.art_rules.specs.Words.{and_then, flat_of, Flats, has_name, is_member, Lump, lump_at}
+use Rattle.trim_rules.specs.Rules.{Flat, Flats, Lump, SceneRefusal, Sector, SectorFlat, SectorFlats, Sky, and_then, both_flats, each_from, each_or, flat_named, flat_number, flat_of, flats_of, has_flat, has_name, is_member, is_sky_name, lump_at, lump_flat, sector_flats}
 use Rattle.art_rules.proofs.Laws.{and_then-ok, greatest-is}
-use Rattle.scene_rules.specs.Words.{both_flats, each_from, each_or, flat_named, flat_number, flats_of, has_flat, is_sky_name, lump_flat, Sector, sector_flats}
-use Rattle.scene_rules.specs.declared.Flat.{Flat}
-use Rattle.scene_rules.specs.declared.Flat.TheVariants.{Sky, Lump as LumpFlat}
-use Rattle.scene_rules.specs.declared.SectorFlats.{SectorFlats}
-use Rattle.scene_rules.specs.declared.refusal.SceneRefusal.{SceneRefusal}
-use Rattle.scene_rules.specs.declared.refusal.SceneRefusal.TheVariants.{SectorFlat}
+use Rattle.scene_rules.specs.declared.Flat.TheVariants.{Lump as LumpFlat}
 use Rattle.trim_rules.specs.Parts.{flat_lumps}
 use Rattle.trim_rules.proofs.FlatLemmas.{HasFlats, trimmed_flat}
 use Rattle.trim_rules.proofs.MemberLemmas.{is_lump-at}

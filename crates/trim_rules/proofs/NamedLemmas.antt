@@ -2,11 +2,7 @@
 -- one, or none where they had none.
 use Rattle.art_rules.proofs.Common.{[], AllByRecursion, ap, arith, Bool, bytes_eq, bytes_eq-Decides, cond, Decides-eqb, false, filter, inl, inr, length, length-map, List, list_any, map, None, not, Option, option_map, or-cases, or-true_left, or-true_right, refl, Some, sym, true, ℕ, ◌++◌, ◌<◌, ◌==◌, ◌||◌, ◌∙◌, ◌∷◌, ◌≡◌, ◌⊎◌}
 use Rattle.art_rules.proofs.Laws.{greatest-is, none-below_greatest}
-use Rattle.art_rules.specs.Words.{F_END, F_START, has_name, last_of, Lump, lump_at, lump_bytes, map_of, named_bytes, PreparedTexture, S_END, S_START}
-use Rattle.made_rules.specs.declared.wad.TheConstants.{HEAD_SIZE}
-use Rattle.art_rules.specs.declared.TheConstants.{PNAMES, TEXTURE1, TEXTURE2}
-use Rattle.scene_rules.specs.declared.TheConstants.{COLORMAP, PLAYPAL}
-use Rattle.scene_rules.specs.Words.{SceneArt}
+use Rattle.trim_rules.specs.Rules.{COLORMAP, F_END, F_START, HEAD_SIZE, Lump, PLAYPAL, PNAMES, PreparedTexture, S_END, S_START, SceneArt, TEXTURE1, TEXTURE2, has_name, last_of, lump_at, lump_bytes, map_of, named_bytes}
 use Rattle.trim_rules.specs.declared.part.TrimPart.{TrimPart}
 use Rattle.trim_rules.specs.declared.part.TrimPart.TheVariants.{Mark}
 use Rattle.trim_rules.specs.Parts.{called_lumps, copy_part, fixed_lumps, label_part, listed_last, part_name, trim_parts}

@@ -1,11 +1,8 @@
 -- By the trimmed file of an accepted plan, flats are compared as they were: the sky keeps its number, and the flats of the
 -- sectors are those of part 1, which stand for their sources one to one.
 use Rattle.art_rules.proofs.Common.{[], AllByRecursion, ap, arith, Err, get_or, length, List, Ok, ok_or, Option, refl, Result, suc, sym, ℕ, ◌+◌, ◌<◌, ◌==◌, ◌∙◌, ◌∷◌, ◌≡◌, ◌≤◌}
-use Rattle.art_rules.specs.Words.{and_then, Lump, MAX_LUMPS}
+use Rattle.trim_rules.specs.Rules.{HEAD_SIZE, Lump, MAX_LUMPS, SKY_FLAT, SceneArt, Sector, SectorFlats, and_then, each_from, each_or, sector_flats}
 use Rattle.art_rules.proofs.Laws.{and_then-ok}
-use Rattle.scene_rules.specs.Words.{each_from, each_or, SceneArt, Sector, sector_flats, SKY_FLAT}
-use Rattle.made_rules.specs.declared.wad.TheConstants.{HEAD_SIZE}
-use Rattle.scene_rules.specs.declared.SectorFlats.{SectorFlats}
 use Rattle.trim_rules.specs.declared.part.TrimPart.{TrimPart}
 use Rattle.trim_rules.specs.Parts.{flat_lumps, trim_parts, trim_plan}
 use Rattle.trim_rules.specs.Files.{stored_lumps, trimmed_lumps}

@@ -1,8 +1,6 @@
 -- What is picked of a book whose lumps are moved is the same shape, moved.
 use Rattle.art_rules.proofs.Common.{[], ap, Bool, cond, false, find, List, map, None, Option, option_and_then, option_map, refl, slice_get, Some, suc, true, zero, ℕ, ◌∙◌, ◌∷◌, ◌≡◌}
-use Rattle.art_rules.specs.declared.shapes.Frame.{Frame}
-use Rattle.art_rules.specs.declared.shapes.Shape.{Shape}
-use Rattle.art_rules.specs.Words.{is_frame, picked}
+use Rattle.trim_rules.specs.Rules.{Frame, Shape, is_frame, picked}
 use Rattle.trim_rules.proofs.BookLemmas.{move_frame, move_shape}
 
 module _ (σ : ℕ → ℕ) where

@@ -1,9 +1,8 @@
 -- The scene of an accepted level by the trimmed file: the same, with its lumps moved.
 use Rattle.art_rules.proofs.Common.{[], AllByRecursion, ap, Err, length, List, list_any, map, Ok, option_map, refl, Result, subst, sym, true, ℕ, ◌==◌, ◌∙◌, ◌∷◌, ◌≡◌, ◌≤◌}
-use Rattle.art_rules.specs.Words.{and_then, book_lumps, directory, first_needs, from_below, last_of, Lump, lump_bytes, prepared_textures}
+use Rattle.trim_rules.specs.Rules.{LevelBase, Lump, SKY_FLAT, Scene, SceneArt, SceneValue, Sprite, ThingLine, and_then, art_with, bad_middle, base_in, book_in, book_lumps, checked, directory, faces_in, first_needs, from_below, is_wanted_texture, last_of, lump_bytes, need_of, placed_things, prepared_textures, scene_in, scene_on, scene_over, scene_with, texture_by}
 use Rattle.art_rules.proofs.Laws.{and_then-ok}
-use Rattle.scene_rules.specs.Words.{bad_middle, base_in, book_in, checked, faces_in, is_wanted_texture, LevelBase, need_of, placed_things, scene_in, scene_on, scene_over, scene_with, SceneArt, SceneValue, SKY_FLAT, texture_by, ThingLine}
-use Rattle.scene_rules.specs.declared.refusal.AuditRefusal.TheVariants.{Texture, Sprite, Scene}
+use Rattle.scene_rules.specs.declared.refusal.AuditRefusal.TheVariants.{Texture}
 use Rattle.trim_rules.specs.declared.part.TrimPart.{TrimPart}
 use Rattle.trim_rules.specs.Parts.{trim_parts, trim_plan}
 use Rattle.trim_rules.specs.Files.{trimmed_file, trimmed_lumps}
@@ -61,17 +60,6 @@ module _ (bytes : ℕ → List ℕ) (lumps : List Lump) (lines : List ThingLine)
   scene-made scene is =
       rw (is.base, is.faces, is.prepared, sym is.placed, is.book, is.checked) refl
 
--- What a scene takes from the directory, with the pictures of these lumps.
-abbrev pub art_for : SceneValue → List ℕ → SceneArt
-art_for scene pictures = record {
-  colormap = scene.base.colormap;
-  playpal = scene.base.playpal;
-  label = scene.base.label;
-  prepared = scene.prepared;
-  flats = scene.faces.flats;
-  pictures = pictures;
-}
-
 -- The same scene with its lumps moved.
 pub record IsSceneMoved (σ : ℕ → ℕ) (bytes : ℕ → List ℕ) (moved scene : SceneValue) : Type 0 where
   pub level : scene.base.level ≡ moved.base.level
@@ -88,16 +76,16 @@ pub record IsSceneMoved (σ : ℕ → ℕ) (bytes : ℕ → List ℕ) (moved sce
 module _ (contents : List (List ℕ)) (lumps : List Lump) (listed : directory contents ≡ Ok lumps) (few : length lumps ≤ SKY_FLAT)
     (lines : List ThingLine) (name : List ℕ) (skill : ℕ) (scene : SceneValue) (is : scene_in (lump_bytes contents lumps) lumps lines name skill ≡ Ok scene)
     (pictures : List ℕ) (sprites : AllByRecursion (IsSprite lumps) pictures) (kept : (n : ℕ) → list_any (λ m. m == n) (book_lumps scene.book) ≡ true → IsPicture pictures n)
-    (parts : List TrimPart) (plan : trim_plan lumps (art_for scene pictures) name ≡ Ok parts) where
+    (parts : List TrimPart) (plan : trim_plan lumps (art_with scene pictures) name ≡ Ok parts) where
   -- The scene of an accepted level by the trimmed file.
   pub trimmed-scene : (moved : SceneValue)
-      × (scene_in (λ k. lump_bytes contents lumps (source_of (trim_parts lumps (art_for scene pictures) name) k))
-      (trimmed_lumps (lump_bytes contents lumps) lumps (trim_parts lumps (art_for scene pictures) name)) lines name skill ≡ Ok moved)
-      × IsSceneMoved (source_of (trim_parts lumps (art_for scene pictures) name)) (lump_bytes contents lumps) moved scene
+      × (scene_in (λ k. lump_bytes contents lumps (source_of (trim_parts lumps (art_with scene pictures) name) k))
+      (trimmed_lumps (lump_bytes contents lumps) lumps (trim_parts lumps (art_with scene pictures) name)) lines name skill ≡ Ok moved)
+      × IsSceneMoved (source_of (trim_parts lumps (art_with scene pictures) name)) (lump_bytes contents lumps) moved scene
   unfolding book_in
   trimmed-scene =
       let bytes = lump_bytes contents lumps in
-      let art = art_for scene pictures in
+      let art = art_with scene pictures in
       let all = trim_parts lumps art name in
       let σ = source_of all in
       let trimmed = trimmed_lumps bytes lumps all in

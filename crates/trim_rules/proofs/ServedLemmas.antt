@@ -1,13 +1,9 @@
 -- The trimmed file gives the base of the level again: its map, its lists of textures and its palette.
 use Rattle.art_rules.proofs.Common.{[], ap, arith, Bool, cond, Err, false, filter, length, List, map, nat_le, None, not, Ok, ok_or, Option, option_and_then, option_map, refl, Result, Some, subst, suc, sym, take, true, zero, ℕ, ◌++◌, ◌+◌, ◌<◌, ◌∙◌, ◌∷◌, ◌≡◌}
-use Rattle.art_rules.specs.Words.{and_then, both_lists, directory, first_list, from_below, has_name, last_of, LiesWithin, Lump, lump_at, lump_bytes, map_of, named_bytes, no_lump, patch_names, prepared_textures, Texture as ListedTexture, texture_lists, TextureLists}
+use Rattle.trim_rules.specs.Rules.{Art, COLORMAP, COLORMAP_SIZE, Colormap, HEAD_SIZE, LevelBase, LiesWithin, Lump, Map, NoMap, PALETTE_SIZE, PLAYPAL, PNAMES, Playpal, SceneArt, TEXTURE1, TEXTURE2, TextureLists, and_then, base_in, base_over, both_lists, colormap_of, directory, first_list, from_below, has_name, if_long, label_of, last_of, level_in, level_of, lists_in, long_lump, lump_at, lump_bytes, map_bytes, map_of, named_bytes, no_lump, patch_names, playpal_of, prepared_textures, texture_lists}
+use Rattle.art_rules.specs.Words.{Texture as ListedTexture}
 use Rattle.art_rules.proofs.Laws.{and_then-ok, directory_within, greatest-is, lump_bytes-length}
-use Rattle.made_rules.specs.declared.wad.TheConstants.{HEAD_SIZE}
-use Rattle.scene_rules.specs.Words.{base_in, base_over, colormap_of, if_long, label_of, level_in, level_of, LevelBase, lists_in, long_lump, map_bytes, NoMap, playpal_of, SceneArt}
-use Rattle.art_rules.specs.declared.TheConstants.{PNAMES, TEXTURE1, TEXTURE2}
-use Rattle.scene_rules.specs.declared.TheConstants.{COLORMAP, COLORMAP_SIZE, PLAYPAL, PALETTE_SIZE}
-use Rattle.scene_rules.specs.declared.refusal.ArtRefusal.TheVariants.{Colormap, Playpal}
-use Rattle.scene_rules.specs.declared.refusal.AuditRefusal.TheVariants.{Art, Map, Texture}
+use Rattle.scene_rules.specs.declared.refusal.AuditRefusal.TheVariants.{Texture}
 use Rattle.trim_rules.specs.declared.part.TrimPart.{TrimPart}
 use Rattle.trim_rules.specs.Parts.{called_lumps, copy_part, label_or_copy, trim_parts}
 use Rattle.trim_rules.specs.Files.{part_bytes, part_lump, stored_from, stored_lumps, trimmed_file, trimmed_lumps}

@@ -1,8 +1,6 @@
 -- What an accepted level finds by its name is found by the trimmed directory too, as the lump that was copied from it.
 use Rattle.art_rules.proofs.Common.{[], AllByRecursion, ap, arith, Bool, false, filter, length, length-map, List, list_any, map, None, not, Option, option_map, range_with_len, refl, Some, suc, sym, true, zero, ℕ, ◌+◌, ◌<◌, ◌==◌, ◌∙◌, ◌∷◌, ◌≡◌}
-use Rattle.art_rules.specs.Words.{greatest, has_name, is_patch_of_any, last_of, Lump, map_of, patch_lumps, PreparedTexture}
-use Rattle.made_rules.specs.declared.wad.TheConstants.{HEAD_SIZE}
-use Rattle.scene_rules.specs.Words.{SceneArt}
+use Rattle.trim_rules.specs.Rules.{HEAD_SIZE, Lump, PreparedTexture, SceneArt, greatest, has_name, is_patch_of_any, last_of, map_of, patch_lumps}
 use Rattle.trim_rules.specs.declared.part.TrimPart.{TrimPart}
 use Rattle.trim_rules.specs.declared.part.TrimPart.TheVariants.{Mark, Label, Copy}
 use Rattle.trim_rules.specs.Parts.{called_lumps, fixed_lumps, trim_parts}

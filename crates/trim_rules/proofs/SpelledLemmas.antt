@@ -1,8 +1,7 @@
 -- The names of lumps of a directory are spelled as a directory spells them, so that they may be put into a new file.
 use Rattle.art_rules.proofs.Common.{[], All, All-append, All-nil, AllByRecursion, ap, arith, before_first, Bool, cond, Decides-eqb, drop, false, length, length-append, length-map, length-replicate, length-take, List, ltb-false, map, min, nat_lt, Ok, refl, replicate, subst, suc, sym, take, to_ascii_uppercase, true, uppercase-uppercase, zero, ℕ, ◌++◌, ◌+◌, ◌-◌, ◌<◌, ◌==◌, ◌∙◌, ◌∷◌, ◌≡◌, ◌≤◌}
 use Rattle.art_rules.proofs.Laws.{get_or-listed, lumps_in-length, unless_refused_ok}
-use Rattle.art_rules.specs.Words.{directory, entries_in, entry_at, entry_count, F_END, F_START, file_lumps, filled, header, Lump, lump_at, lump_in, lumps_from, lumps_in, name_of, no_lump, refusal_from, S_END, S_START}
-use Rattle.scene_rules.specs.Words.{SceneArt}
+use Rattle.trim_rules.specs.Rules.{F_END, F_START, Lump, S_END, S_START, SceneArt, directory, entries_in, entry_at, entry_count, file_lumps, filled, header, lump_at, lump_in, lumps_from, lumps_in, name_of, no_lump, refusal_from}
 use Rattle.trim_rules.specs.declared.part.TrimPart.{TrimPart}
 use Rattle.trim_rules.specs.declared.part.TrimPart.TheVariants.{Mark}
 use Rattle.trim_rules.specs.Parts.{copy_part, label_part, part_name, trim_parts}

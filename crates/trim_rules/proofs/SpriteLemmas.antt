@@ -1,9 +1,7 @@
 -- The pictures of a frame in a directory that has fewer sprite lumps under other numbers: where those of the frame
 -- are among them, they stay its pictures.
 use Rattle.art_rules.proofs.Common.{[], ap, Bool, cond, false, filter, filter-append, List, map, map-append, None, Option, option_map, range_with_len, refl, Some, suc, sym, true, ℕ, ⊤, ◌++◌, ◌+◌, ◌==◌, ◌∙◌, ◌∷◌, ◌≡◌}
-use Rattle.art_rules.specs.Words.{frame_picture, is_of_frame, is_of_rotation, is_of_sprite, joined_lists, last_that, Lump, lump_at, lump_mentions, members, mention_at, mentions, name_mentions, or_else, picture_by, picture_if, Sprites}
-use Rattle.art_rules.specs.declared.Mention.{Mention}
-use Rattle.art_rules.specs.declared.TheConstants.{SPRITE_LETTERS, SECOND_PAIR_AT}
+use Rattle.trim_rules.specs.Rules.{Lump, Mention, SECOND_PAIR_AT, SPRITE_LETTERS, Sprites, frame_picture, is_of_frame, is_of_rotation, is_of_sprite, joined_lists, last_that, lump_at, lump_mentions, members, mention_at, mentions, name_mentions, or_else, picture_by, picture_if}
 use Rattle.trim_rules.proofs.MentionLemmas.{frame_picture-fewer}
 
 -- the same mention of the lump that has another number

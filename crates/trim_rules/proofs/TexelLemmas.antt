@@ -1,10 +1,7 @@
 -- The texels of a texture whose patches have other numbers: where the bytes of the one are those of the other, so are
 -- the texels.
 use Rattle.art_rules.proofs.Common.{[], ap, Bool, cond, false, filter, length, List, map, nat_lt, range_with_len, refl, suc, true, ℕ, ◌*◌, ◌∙◌, ◌∷◌, ◌≡◌}
-use Rattle.art_rules.specs.Words.{column_lookup, column_posts, composed_byte, composed_column, composed_columns, composed_count, composite, composite_place, is_composed, joined_lists, listed, lookup_of, own_column, patch_texel, patches_in, placed_posts, stands_in, texel, texel_of}
-use Rattle.art_rules.specs.declared.ColumnLookup.{ColumnLookup}
-use Rattle.art_rules.specs.declared.ColumnLookup.TheVariants.{Empty, Single, Composed}
-use Rattle.art_rules.specs.declared.PlacedPatch.{PlacedPatch}
+use Rattle.trim_rules.specs.Rules.{ColumnLookup, Composed, Empty, PlacedPatch, Single, column_lookup, column_posts, composed_byte, composed_column, composed_columns, composed_count, composite, composite_place, is_composed, joined_lists, listed, lookup_of, own_column, patch_texel, patches_in, placed_posts, stands_in, texel, texel_of}
 
 -- a patch whose lump has another number
 abbrev pub moved : (ℕ → ℕ) → PlacedPatch → PlacedPatch

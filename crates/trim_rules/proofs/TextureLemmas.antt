@@ -1,9 +1,7 @@
 -- The prepared textures of an accepted level by the trimmed directory: the same, with their patches moved.
 use Rattle.art_rules.proofs.Common.{[], AllByRecursion, Bool, Decides-eqb, false, length, List, list_any, map, None, Ok, Option, option_map, or-true_left, or-true_right, refl, Some, true, ℕ, ◌==◌, ◌||◌, ◌∷◌, ◌≡◌, ◌≤◌}
 use Rattle.art_rules.proofs.Laws.{greatest-is}
-use Rattle.art_rules.specs.Words.{has_name, is_patch_of, is_patch_of_any, last_of, Lump, lump_bytes, prepared_textures, PreparedTexture}
-use Rattle.scene_rules.specs.Words.{base_in, LevelBase, SceneArt, SKY_FLAT}
-use Rattle.art_rules.specs.declared.PlacedPatch.{PlacedPatch}
+use Rattle.trim_rules.specs.Rules.{LevelBase, Lump, PlacedPatch, PreparedTexture, SKY_FLAT, SceneArt, base_in, has_name, is_patch_of, is_patch_of_any, last_of, lump_bytes, prepared_textures}
 use Rattle.trim_rules.specs.declared.part.TrimPart.{TrimPart}
 use Rattle.trim_rules.specs.Parts.{trim_parts}
 use Rattle.trim_rules.specs.Files.{trimmed_file, trimmed_lumps}

@@ -1,10 +1,7 @@
 -- Each lump of the trimmed file's parts is a lump of the given directory.
 use Rattle.art_rules.proofs.Common.{[], AllByRecursion, and_parts, ap, arith, Bool, cond, false, filter, length, List, list_any, map, None, not, Option, option_and_then, range_with_len, refl, Some, subst, suc, sym, true, zero, ℕ, ◌&&◌, ◌++◌, ◌+◌, ◌<◌, ◌==◌, ◌∙◌, ◌∷◌, ◌≡◌, ◌≤◌}
 use Rattle.art_rules.proofs.Laws.{greatest-is}
-use Rattle.art_rules.specs.Words.{are_named, F_END, F_START, has_name, if_label, is_label, is_lump, is_named_in, is_patch_of_any, last_of, Lump, lump_at, MAP_LUMPS, map_of, patch_lumps, PreparedTexture, S_END, S_START}
-use Rattle.art_rules.specs.declared.TheConstants.{PNAMES, TEXTURE1, TEXTURE2}
-use Rattle.scene_rules.specs.declared.TheConstants.{COLORMAP, PLAYPAL}
-use Rattle.scene_rules.specs.Words.{has_flat, SceneArt}
+use Rattle.trim_rules.specs.Rules.{COLORMAP, F_END, F_START, Lump, MAP_LUMPS, PLAYPAL, PNAMES, PreparedTexture, S_END, S_START, SceneArt, TEXTURE1, TEXTURE2, are_named, has_flat, has_name, if_label, is_label, is_lump, is_named_in, is_patch_of_any, last_of, lump_at, map_of, patch_lumps}
 use Rattle.trim_rules.specs.declared.part.TrimPart.{TrimPart}
 use Rattle.trim_rules.specs.declared.part.TrimPart.TheVariants.{Mark}
 use Rattle.trim_rules.specs.Parts.{called_lumps, copy_part, fixed_lumps, flat_lumps, group_parts, label_or_copy, label_part, last_list, listed_last, map_parts, picture_lumps, trim_parts}

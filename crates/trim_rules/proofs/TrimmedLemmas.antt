@@ -2,9 +2,7 @@
 -- name of a mark.
 use Rattle.art_rules.proofs.Common.{[], AllByRecursion, and-second_false, ap, append_assoc, Bool, Decides-eqb, false, filter, length, List, list_any, map, map-append, None, not, Option, or-true_right, range_with_len, refl, Some, subst, suc, sym, true, ℕ, ⊤, ◌&&◌, ◌++◌, ◌<◌, ◌||◌, ◌∙◌, ◌∷◌, ◌≡◌}
 use Rattle.art_rules.proofs.Laws.{none-below}
-use Rattle.art_rules.specs.Words.{F_END, F_START, Flats, Group, has_name, is_end, is_start, Lump, lump_at, MAP_LUMPS, map_of, S_END, S_START, Sprites}
-use Rattle.made_rules.specs.declared.wad.TheConstants.{HEAD_SIZE}
-use Rattle.scene_rules.specs.Words.{SceneArt}
+use Rattle.trim_rules.specs.Rules.{F_END, F_START, Flats, Group, HEAD_SIZE, Lump, MAP_LUMPS, S_END, S_START, SceneArt, Sprites, has_name, is_end, is_start, lump_at, map_of}
 use Rattle.trim_rules.specs.declared.part.TrimPart.{TrimPart}
 use Rattle.trim_rules.specs.declared.part.TrimPart.TheVariants.{Mark, Label, Copy}
 use Rattle.trim_rules.specs.Parts.{called_lumps, copy_part, flat_lumps, group_parts, is_lump_part, is_mark, label_or_copy, label_part, map_parts, marked_lump, part_name, picture_lumps, trim_parts}

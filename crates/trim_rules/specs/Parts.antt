@@ -1,17 +1,9 @@
 -- The parts of the trimmed file of a level, in their order, or why there is none.
 use Rattle.std.specs.Prelude.{ℕ, suc, ◌+◌, ◌*◌, ◌==◌, ◌&&◌, ◌||◌, Bool, false, not, cond, nat_lt, List, [], ◌∷◌, ◌++◌, length, map, filter, sum_by, Option, Some, None, option_map, Result, Ok, Err}
 use Rattle.std.specs.List.{list_any, range_with_len}
-use Rattle.art_rules.specs.Words.{ENTRY_SIZE, F_END, F_START, Flats, has_name, is_end, is_start, last_of, least, Lump, lump_at, MAP_LUMPS, map_of, MAX_LUMPS, or_else, patch_lumps, PreparedTexture, S_END, S_START, Sprites}
-use Rattle.made_rules.specs.declared.wad.TheConstants.{HEAD_SIZE}
-use Rattle.art_rules.specs.declared.TheConstants.{PNAMES, TEXTURE1, TEXTURE2}
-use Rattle.scene_rules.specs.declared.TheConstants.{COLORMAP, PLAYPAL}
-use Rattle.scene_rules.specs.declared.SectorFlats.{SectorFlats}
-use Rattle.scene_rules.specs.Words.{has_flat, SceneArt}
+use Rattle.trim_rules.specs.Rules.{COLORMAP, ENTRY_SIZE, F_END, F_START, Flats, HEAD_SIZE, Lump, MAP_LUMPS, MAX_FILE_BYTES, MAX_LUMPS, MarkName, PLAYPAL, PNAMES, PreparedTexture, S_END, S_START, SceneArt, SectorFlats, Sprites, TEXTURE1, TEXTURE2, TrimRefusal, TrimTooLarge, TrimTooMany, has_flat, has_name, is_end, is_start, last_of, least, lump_at, map_of, or_else, patch_lumps}
 use Rattle.trim_rules.specs.declared.part.TrimPart.{TrimPart}
 use Rattle.trim_rules.specs.declared.part.TrimPart.TheVariants.{Mark, Label, Copy}
-use Rattle.job_rules.specs.declared.trim.TrimRefusal.{TrimRefusal}
-use Rattle.job_rules.specs.declared.trim.TrimRefusal.TheVariants.{MarkName, TrimTooMany, TrimTooLarge}
-use Rattle.job_rules.specs.declared.trim.TheConstants.{MAX_FILE_BYTES}
 
 -- the label of the map, and any lump that is copied
 abbrev pub label_part : ℕ → TrimPart

@@ -5,7 +5,7 @@ use Rattle.view_rules.specs.declared.ColumnRange.{ColumnRange}
 use Rattle.view_rules.specs.declared.ColumnRange.TheVariants.{Behind, Columns}
 use Rattle.view_rules.specs.View.{ViewValue}
 use Rattle.view_rules.specs.Tables.{clip_angle, column_of_angle}
-use Rattle.view_rules.specs.Ranges.{clipped_end, clipped_left, clipped_right, column_at_angle, range_between, range_in_front, column_range}
+use Rattle.view_rules.specs.Ranges.{clipped_end, clipped_left, clipped_right, column_at_angle, range_between, range_in_front}
 use Rattle.view_rules.specs.Sound.{IsSound}
 use Rattle.view_rules.proofs.ColumnLemmas.{within_view-bound}
 
@@ -93,13 +93,3 @@ below_half span e = grind (arith, nat_tests)
 
 turned_below : (a b : ℕ) → turn_back a b < 2 ^ 32
 turned_below a b = omega arith
-
--- the columns of a range are in order and within the view
-pub column_range-order : (v : ViewValue) (angle1 angle2 x1 x2 : ℕ) → IsSound v.tables v.shape → angle1 < 2 ^ 32 → angle2 < 2 ^ 32 → v.eye.angle < 2 ^ 32 → column_range v angle1 angle2 ≡ Columns x1 x2 → (x1 ≤ x2) × (x2 ≤ v.shape.width)
-unfolding column_range
-column_range-order v angle1 angle2 x1 x2 s p q r e =
-    let front = not_behind _ _ x1 x2 e in
-    let half = below_half (turn_back angle1 angle2) front.0 in
-    let same = span_is angle1 angle2 v.eye.angle p q r in
-    let span : turn_back (turn_back angle1 v.eye.angle) (turn_back angle2 v.eye.angle) < 2 ^ 31 = omega arith in
-    range_in_front-order v (turn_back angle1 v.eye.angle) (turn_back angle2 v.eye.angle) x1 x2 s (turned_below angle1 v.eye.angle) (turned_below angle2 v.eye.angle) span (turn_back angle1 angle2) front.1

@@ -1,7 +1,7 @@
 -- Tables that nothing refuses are sound.
-use Rattle.word_rules.proofs.Common.{and-second_false, ap, arith, Bool, cases_lt, cond, div_below, false, inl, inr, int_lt, ints, le-from_lt_false, nat_le, nat_lt, nat_tests, negsuc, None, Option, or_else-none, pos, refl, slice_index_or, Some, suc, true, zero, ℕ, ℤ, ≤ℤ_refl, ◌%◌, ◌&&◌, ◌*◌, ◌+◌, ◌-◌, ◌/◌, ◌<◌, ◌^◌, ◌||◌, ◌∙◌, ◌≡◌, ◌≤ℤ◌, ◌≤◌}
+use Rattle.word_rules.proofs.Common.{and-second_false, ap, arith, Bool, cases_lt, cond, div_below, false, inl, inr, int_lt, ints, le-from_lt_false, nat_le, nat_lt, nat_tests, negsuc, None, Option, or_else-none, pos, refl, slice_index_or, Some, suc, true, zero, ℕ, ℤ, ≤ℤ_refl, ◌%◌, ◌*◌, ◌+◌, ◌-◌, ◌/◌, ◌<◌, ◌^◌, ◌||◌, ◌∙◌, ◌≡◌, ◌≤ℤ◌, ◌≤◌}
 use Rattle.word_rules.specs.Words.{div, ang90}
-use Rattle.word_rules.specs.Least.{least, or_else}
+use Rattle.word_rules.specs.Least.{least}
 use Rattle.word_rules.proofs.LeastLemmas.{none-below, least-is}
 use Rattle.view_rules.specs.declared.TheConstants.{TANGENTS, EDGE_TANGENT, MIN_EDGE_TANGENT}
 use Rattle.view_rules.specs.declared.TablesRefusal.{TablesRefusal}

@@ -1,19 +1,14 @@
 -- Laws of a canvas that is given a plane's spans from column to column: none yet, one column more, all.
 use Rattle.picture_rules.proofs.Common.{[], and_left, and_right, ap, ap₂, arith, Bool, both_ways, cases_eq, cases_lt, cond, false, inl, inr, le-ltb, List, lt-ltb, max, min, nat_lt, None, not, Option, refl, Some, suc, sym, true, zero, ℕ, ◌&&◌, ◌++◌, ◌+◌, ◌-◌, ◌<◌, ◌||◌, ◌∙◌, ◌≡◌, ◌≤◌}
 use Rattle.picture_rules.specs.Words.{Dot, FRAME_HEIGHT, FRAME_WIDTH, holds, holds_row, last_dot, or_else, Painter, Plane, span_start, ViewShape}
-use Rattle.picture_rules.proofs.Laws.{in_frame-append, last_dot-append, last_dot-none, put_dots-append}
+use Rattle.picture_rules.proofs.Laws.{in_frame-append, last_dot-append, last_dot-none}
 use Rattle.picture_rules.proofs.plane.SpanLemmas.{span_start-on, span_start-off, span_start-zero, span_start-within, span_start-passes, span_start-least, span_start-is}
 use Rattle.pixel_strips.specs.Canvases.{CanvasView, with_dots}
-use Rattle.pixel_strips.proofs.CanvasLemmas.{dots_none}
+use Rattle.pixel_strips.proofs.CanvasLemmas.{dots_none, with_dots-append}
 use Rattle.visplanes.specs.declared.rows.Rows.{Rows}
 use Rattle.visplanes.specs.Spans.{FloorView, pixel_colour, row_dots, closed_rows, closed_dots, is_in, run_before, plane_dot, CanPaint, IsSeen, HasSpans}
 use Rattle.visplanes.proofs.RowLemmas.{is_in-from}
 use Rattle.visplanes.proofs.DotLemmas.{row_dots-at, row_dots-beside, closed_dots-at, closed_dots-frame}
-
--- first the one list of dots, then the other
-pub dots_append : (mark : Painter → ℕ → ℕ) (xs ys : List Dot) (canvas : CanvasView) → with_dots mark ys (with_dots mark xs canvas) ≡ with_dots mark (xs ++ ys) canvas
-dots_append mark xs ys canvas =
-    ap (λ (cells : List ℕ). record canvas { cells = cells }) (sym (put_dots-append mark canvas.left canvas.top xs ys canvas.cells))
 
 -- no span ends where a column has the rows of the column before
 pub closed_same : (f : FloorView) (painter : Painter) (start : ℕ → ℕ) (before now : Rows) (x : ℕ) →
@@ -219,7 +214,7 @@ pub spans_more : (mark : Painter → ℕ → ℕ) (f : FloorView) (shape : ViewS
 spans_more mark f shape p start before now x n canvas mid after e i h g = record {
   dots = h.dots ++ closed_dots f canvas.painter start before now x;
   painted = g ∙ ap (λ (m : CanvasView). with_dots mark (closed_dots f m.painter start before now x) m) h.painted
-      ∙ dots_append mark h.dots (closed_dots f canvas.painter start before now x) canvas;
+      ∙ with_dots-append mark h.dots (closed_dots f canvas.painter start before now x) canvas;
   in_frame = in_frame-append canvas.left canvas.top h.dots (closed_dots f canvas.painter start before now x) h.in_frame
       (closed_dots-frame f canvas.painter start before now canvas.left canvas.top x (passing_frame shape p start before now x canvas i));
   pixels = λ k y. passed_pixel f canvas.painter shape p start before now x n canvas h.dots k y e i (h.pixels k y);

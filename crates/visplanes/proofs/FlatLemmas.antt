@@ -1,9 +1,7 @@
 -- A canvas that has a plane's spans has the dots of the plane, in whatever order they came.
 use Rattle.picture_rules.proofs.Common.{[], and_from, and_right, ap, arith, Bool, cases_lt, cond, false, inl, inr, le-leb, List, lt-ltb, nat_le, nat_lt, None, Option, pos, refl, Some, suc, sym, true, zero, ℕ, ℤ, ◌&&◌, ◌+◌, ◌<◌, ◌∙◌, ◌∷◌, ◌≡◌, ◌≤◌}
-use Rattle.picture_rules.specs.Words.{AreInColumn, AreInFrame, Art, column, distance_map, Dot, flat_colour, floor_colour, floor_dots, FRAME_WIDTH, holds, holds_row, is_sky_key, joined_lists, last_dot, light_number, listed, lump_source, Painter, painter_of, pixel_place, PLANE, Plane, plane_dots, plane_dots_by, row_distance, run_dots, same_flat, shade, span_colour, span_start, ViewShape, ViewValue}
+use Rattle.visplanes.specs.Rules.{AreInColumn, AreInFrame, Art, Dot, FRAME_WIDTH, Flat4, Lump, PLANE, Painter, Plane, Sky, ViewShape, ViewValue, column, distance_map, flat_colour, floor_colour, floor_dots, holds, holds_row, is_sky_key, joined_lists, last_dot, light_number, listed, lump_source, painter_of, pixel_place, plane_dots, plane_dots_by, row_distance, run_dots, same_flat, shade, span_colour, span_start}
 use Rattle.picture_rules.proofs.Laws.{column_dots-none, in_frame-append, in_frame-column_dots, last_dot-no_column, last_dot-none, listed_from-length, listed_from-none, put_dots-same}
-use Rattle.picture_rules.specs.declared.plane.Flat4.{Flat4}
-use Rattle.picture_rules.specs.declared.plane.Flat4.TheVariants.{Sky, Lump}
 use Rattle.picture_rules.proofs.plane.FloorLemmas.{in_column-run_dots, last_dot-floor_dots}
 use Rattle.pixel_strips.specs.Canvases.{CanvasView, with_dots}
 use Rattle.visplanes.specs.Planes.{flat_lump}

@@ -1,8 +1,7 @@
 -- How a plane keeps its runs: a byte for the top and one for the bottom of each column of a frame, and the least and the
 -- greatest marked column.
 use Rattle.std.specs.Prelude.{◌≡◌, ℕ, ◌<◌, ◌≤◌, ◌≢◌, ◌==◌, ◌⊎◌, cond, List, Option, Some, None, length, slice_index}
-use Rattle.picture_rules.specs.Words.{FRAME_HEIGHT, FRAME_WIDTH, listed, Plane}
-use Rattle.picture_rules.specs.declared.plane.PlaneKey.{PlaneKey}
+use Rattle.visplanes.specs.Rules.{FRAME_HEIGHT, FRAME_WIDTH, Plane, PlaneKey, listed}
 use Rattle.visplanes.specs.declared.columns.TheConstants.{NO_RUN}
 
 -- the run of column x

@@ -2,3 +2,4 @@ pub mod Planes
 pub mod Columns
 pub mod Spans
 pub mod Full
+pub mod Rules

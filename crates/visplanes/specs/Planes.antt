@@ -1,8 +1,6 @@
 -- What a contract sees of planes: their list, and the room that was taken for them.
 use Rattle.std.specs.Prelude.{◌≡◌, ℕ, ◌-◌, ◌<◌, ◌≤◌, pos, List, Some, length, slice_index_or}
-use Rattle.picture_rules.specs.declared.plane.Flat4.{Flat4}
-use Rattle.picture_rules.specs.declared.plane.Flat4.TheVariants.{Sky, Lump}
-use Rattle.picture_rules.specs.Words.{empty_plane, number_of, Plane}
+use Rattle.visplanes.specs.Rules.{Flat4, Lump, Plane, Sky, empty_plane, number_of}
 
 pub record PlanesView : Type 0 where
   pub planes : List Plane

@@ -1,8 +1,7 @@
 -- How a plane's rows are cut into spans: the runs from a column on, the rows that end and begin at a column, and the
 -- dots that are painted by then.
 use Rattle.std.specs.Prelude.{◌≡◌, ℕ, zero, suc, ◌+◌, ◌-◌, ◌<◌, ◌≤◌, min, max, ◌&&◌, nat_le, nat_lt, ℤ, pos, cond, Bool, true, List, [], ◌++◌, drop, length, Option, Some, None, slice_index}
-use Rattle.picture_rules.specs.Words.{AreInFrame, Art, column, distance_map, Dot, FRAME_HEIGHT, FRAME_WIDTH, holds, last_dot, light_number, Painter, pixel_place, Plane, plane_gaps, row_distance, runs, shade, span_colour, span_dots, span_start, ViewShape, ViewValue}
-use Rattle.picture_rules.specs.declared.plane.PlaneKey.{PlaneKey}
+use Rattle.visplanes.specs.Rules.{AreInFrame, Art, Dot, FRAME_HEIGHT, FRAME_WIDTH, Painter, Plane, PlaneKey, ViewShape, ViewValue, column, distance_map, holds, last_dot, light_number, pixel_place, plane_gaps, row_distance, runs, shade, span_colour, span_dots, span_start}
 use Rattle.pixel_strips.specs.Canvases.{CanvasView, with_dots}
 use Rattle.visplanes.specs.declared.rows.Rows.{Rows}
 

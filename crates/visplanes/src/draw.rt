@@ -1,7 +1,6 @@
 // The pixels of a plane, by spans that open and close from column to column.
 ghost use Rattle.std.specs.Prelude.{◌≡◌, ℕ, ◌+◌, ◌-◌, ◌<◌, ◌≤◌, true, false, length, slice_index};
-ghost use Rattle.picture_rules.specs.Words.{Art, FRAME_HEIGHT, FRAME_WIDTH, is_sky_key, lump_source, painter_of, PLANE, plane_dots};
-ghost use Rattle.picture_rules.specs.declared.plane.Flat4.{Flat4};
+ghost use Rattle.visplanes.specs.Rules.{Art, FRAME_HEIGHT, FRAME_WIDTH, Flat4, PLANE, is_sky_key, lump_source, painter_of, plane_dots};
 ghost use Rattle.pixel_strips.specs.Canvases.{with_painter, with_dots};
 ghost use Rattle.visplanes.specs.Planes.{plane_at, flat_lump};
 ghost use Rattle.visplanes.specs.Spans.{is_in, closed_rows, closed_dots, AreOpen, IsSeen, HasSpans, GivesFlat};

@@ -1,7 +1,6 @@
 // The planes of a view.
 ghost use Rattle.std.specs.Prelude.{◌≡◌, ℕ, ◌+◌, ◌<◌, ◌≤◌, ◌↔◌, true, Some, [], None, length, position, IfOk, IfErr, IfSome, IsSome, IsErr, OnOk, OnErr};
-ghost use Rattle.picture_rules.specs.Words.{add, AreWide, check, column, find, FRAME_HEIGHT, FRAME_WIDTH, holds, mark, number_of, row_runs, same_key};
-ghost use Rattle.picture_rules.specs.declared.plane.TheConstants.{MOST_VISPLANES};
+ghost use Rattle.visplanes.specs.Rules.{AreWide, FRAME_HEIGHT, FRAME_WIDTH, MOST_VISPLANES, add, check, column, find, holds, mark, number_of, row_runs, same_key};
 ghost use Rattle.visplanes.specs.Full.{ChoosesPlane};
 ghost use Rattle.visplanes.specs.Planes.{PlanesView, with_planes, plane_at, IsFirst};
 
@@ -40,8 +39,7 @@ pub struct Planes {
 
 impl Model for Planes {
     ghost use Rattle.std.specs.Prelude.{take, length, ◌≤◌};
-    ghost use Rattle.picture_rules.specs.declared.plane.TheConstants.{MOST_VISPLANES};
-    ghost use Rattle.picture_rules.specs.Words.{AreWide};
+    ghost use Rattle.visplanes.specs.Rules.{AreWide, MOST_VISPLANES};
     ghost use Rattle.visplanes.specs.Planes.{PlanesView, IsFirst};
 
     ghost Value = { PlanesView };

@@ -1,12 +1,7 @@
 -- Laws of what holds of each entry.
 use Rattle.picture_rules.proofs.Common.{[], All-permutation, All-push, AllPass, arith, Bool, cast_signed, clamps, cond, false, int_le, int_lt, int_wrap, ints, length, List, nat_lt, nat_tests, negsuc, None, Option, pos, refl, Some, subst, suc, sym, true, w32, zero, ℕ, ℤ, ◌%◌, ◌++◌, ◌-ℤ◌, ◌-◌, ◌<ℤ◌, ◌<◌, ◌^◌, ◌∷◌, ◌≡◌, ◌≤◌}
 use mir.Val.{sel}
-use Rattle.picture_rules.specs.Words.{add_entry, draw_order, entry_for, entry_of, entry_within, greater_word, lesser_word, minus, ViewValue, with_entry}
-use Rattle.picture_rules.specs.declared.sprite.TheConstants.{MAX_VISSPRITES}
-use Rattle.picture_rules.specs.declared.sprite.Placed.{Placed}
-use Rattle.picture_rules.specs.declared.sprite.Seen.{Seen}
-use Rattle.picture_rules.specs.declared.sprite.Shape5.{Shape5}
-use Rattle.picture_rules.specs.declared.sprite.SpriteEntry.{SpriteEntry}
+use Rattle.vissprites.specs.Rules.{MAX_VISSPRITES, Placed, Seen, Shape5, SpriteEntry, ViewValue, add_entry, draw_order, entry_for, entry_of, entry_within, greater_word, lesser_word, minus, with_entry}
 use Rattle.picture_rules.proofs.sprite.OrderLemmas.{draw_order-permutation}
 use Rattle.vissprites.specs.Bounds.{lies_within, has_lump_below}
 

@@ -1,12 +1,7 @@
 -- Laws of what is seen of a thing, and of its entry.
 use Rattle.picture_rules.proofs.Common.{ap, arith, Bool, cond, false, int_lt, ints, nat_le, nat_tests, negsuc, None, pos, refl, Some, subst, sym, true, ℕ, ℤ, ◌*◌, ◌/◌, ◌^◌, ◌≡◌, ◌≤ℤ◌, ◌≤◌}
-use Rattle.picture_rules.specs.Words.{depth, div, entry_for, entry_of, entry_within, FRACTION_UNIT, greater_word, IsWithinFrame, lesser_word, minus, picture_height, project, seen_at, seen_within, side, sprite_map, sprite_scale, ViewValue}
+use Rattle.vissprites.specs.Rules.{FRACTION_UNIT, IsWithinFrame, MIN_DEPTH, Placed, Seen, Shape5, SpriteEntry, ViewValue, depth, div, entry_for, entry_of, entry_within, greater_word, lesser_word, minus, picture_height, project, seen_at, seen_within, side, sprite_map, sprite_scale}
 use Rattle.picture_rules.proofs.Laws.{projection_is}
-use Rattle.picture_rules.specs.declared.sprite.TheConstants.{MIN_DEPTH}
-use Rattle.picture_rules.specs.declared.sprite.Placed.{Placed}
-use Rattle.picture_rules.specs.declared.sprite.Seen.{Seen}
-use Rattle.picture_rules.specs.declared.sprite.Shape5.{Shape5}
-use Rattle.picture_rules.specs.declared.sprite.SpriteEntry.{SpriteEntry}
 
 -- the scale of what is not too near is not negative
 div_positive : (n : ℕ) (d : ℤ) → n ≤ 160 → int_lt d MIN_DEPTH ≡ false → pos 0 ≤ℤ div (pos (n * 65536)) d

@@ -1,11 +1,6 @@
 -- Laws of the entries of a view that are kept in drawing order.
 use Rattle.picture_rules.proofs.Common.{[], and-true_true, and_parts, ap, arith, Bool, cond, drop, false, length, List, nat_lt, nat_tests, None, Option, refl, Some, suc, sym, take, true, ℕ, ◌&&◌, ◌++◌, ◌+◌, ◌<◌, ◌∙◌, ◌∷◌, ◌≡◌, ◌≤◌}
-use Rattle.picture_rules.specs.Words.{add_entry, draw_order, entry_for, insert_last, is_smaller, ViewValue, with_entry}
-use Rattle.picture_rules.specs.declared.sprite.TheConstants.{MAX_VISSPRITES}
-use Rattle.picture_rules.specs.declared.sprite.Placed.{Placed}
-use Rattle.picture_rules.specs.declared.sprite.Seen.{Seen}
-use Rattle.picture_rules.specs.declared.sprite.Shape5.{Shape5}
-use Rattle.picture_rules.specs.declared.sprite.SpriteEntry.{SpriteEntry}
+use Rattle.vissprites.specs.Rules.{MAX_VISSPRITES, Placed, Seen, Shape5, SpriteEntry, ViewValue, add_entry, draw_order, entry_for, insert_last, is_smaller, with_entry}
 use Rattle.picture_rules.proofs.sprite.OrderLemmas.{draw_order-more, length-draw_order}
 use Rattle.vissprites.specs.Kept.{insert_made, made_order, are_below, IsKept, count_before}
 

@@ -1,8 +1,6 @@
 -- How the entries of a view are kept: in drawing order, each with its number in order of making.
 use Rattle.std.specs.Prelude.{◌≡◌, ℕ, suc, ◌≤◌, ◌&&◌, nat_lt, Bool, true, cond, List, [], ◌∷◌, length, IsTrue}
-use Rattle.picture_rules.specs.declared.sprite.TheConstants.{MAX_VISSPRITES}
-use Rattle.picture_rules.specs.declared.sprite.SpriteEntry.{SpriteEntry}
-use Rattle.picture_rules.specs.Words.{draw_order, is_smaller}
+use Rattle.vissprites.specs.Rules.{MAX_VISSPRITES, SpriteEntry, draw_order, is_smaller}
 
 -- e before the first of the entries that was made later
 unfoldable pub insert_made : SpriteEntry → List SpriteEntry → List SpriteEntry

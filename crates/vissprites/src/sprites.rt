@@ -3,9 +3,7 @@
 ghost use Rattle.std.specs.Prelude.{◌≡◌, [], ◌<◌, ◌≤◌, ℕ, Bool, Some, IfOk, length, vec_len, vec_capacity};
 ghost use Rattle.std.specs.List.{AllPass};
 ghost use Rattle.std.specs.List.Sorted.{IsSortedBy, IsStableBy};
-ghost use Rattle.picture_rules.specs.Words.{add_entry, draw_order, insert_last, is_smaller, LIGHT_LEVELS, project, with_entry};
-ghost use Rattle.picture_rules.specs.declared.sprite.TheConstants.{MAX_VISSPRITES};
-ghost use Rattle.picture_rules.specs.declared.sprite.SpriteEntry.{SpriteEntry};
+ghost use Rattle.vissprites.specs.Rules.{LIGHT_LEVELS, MAX_VISSPRITES, SpriteEntry, add_entry, draw_order, insert_last, is_smaller, project, with_entry};
 ghost use Rattle.vissprites.specs.Kept.{made_order, IsKept, count_before};
 ghost use Rattle.vissprites.specs.Bounds.{lies_within, has_lump_below};
 
@@ -26,8 +24,7 @@ pub struct Sprites {
 
 impl Model for Sprites {
     ghost use Rattle.std.specs.Prelude.{List, ◌≤◌, vec_capacity};
-    ghost use Rattle.picture_rules.specs.declared.sprite.TheConstants.{MAX_VISSPRITES};
-    ghost use Rattle.picture_rules.specs.declared.sprite.SpriteEntry.{SpriteEntry};
+    ghost use Rattle.vissprites.specs.Rules.{MAX_VISSPRITES, SpriteEntry};
     ghost use Rattle.vissprites.specs.Kept.{made_order, IsKept};
 
     ghost Value = { List SpriteEntry };

@@ -1,11 +1,6 @@
 -- What a call answers after one of its parts.
 use Rattle.word_rules.proofs.Common.{ap, Bool, Err, err_from_is_err_and, IsErrAnd, None, Ok, Option, refl, Result, Some, true, ◌∙◌, ◌≡◌}
-use Rattle.outside.specs.declared.fault.Fault.{Fault}
-use Rattle.outside.specs.declared.fault.Fault.TheVariants.{Refused, ReadFault, ZoneFull, OutOfMemory}
-use Rattle.outside.specs.Faults.{FaultFits, ResultIs}
-use Rattle.word_rules.specs.Least.{or_else}
-use Rattle.lump_rules.specs.declared.wad.DirRefusal.{DirRefusal}
-use Rattle.lump_rules.specs.Wads.{unless_refused}
+use Rattle.wad_dir.specs.Rules.{DirRefusal, Fault, FaultFits, OutOfMemory, ReadFault, Refused, ResultIs, ZoneFull, or_else, unless_refused}
 
 -- a fault of a part that refuses nothing says the same of the whole
 unrefused : {A C R : Type 0} (steady later : Bool) (found : C) (expected : Result A R) (told : Fault R) → later ≡ steady →

@@ -1,9 +1,7 @@
 -- The lumps of a file's entries as they are read.
 use Rattle.word_rules.proofs.Common.{[], All, All-append, All-nil, ap, arith, drop, get_or, List, subst, suc, sym, take, zero, ℕ, ◌*◌, ◌++◌, ◌+◌, ◌<◌, ◌∙◌, ◌∷◌, ◌≡◌}
 use Rattle.word_rules.proofs.ListedLemmas.{listed-zero, listed-more}
-use Rattle.lump_rules.specs.declared.wad.TheConstants.{ENTRY_SIZE}
-use Rattle.lump_rules.specs.declared.wad.Lump.{Lump}
-use Rattle.lump_rules.specs.Wads.{lump_in, lumps_in, entry_at}
+use Rattle.wad_dir.specs.Rules.{ENTRY_SIZE, Lump, entry_at, lump_in, lumps_in}
 
 -- one entry more
 pub more_lumps : (file i m : ℕ) (entries : List ℕ) (old new : List Lump) (lump : Lump) → new ≡ old ++ lump ∷ [] →

@@ -1,14 +1,7 @@
 -- The lumps of a file, and of files one after the other.
 use Rattle.word_rules.proofs.Common.{[], add-one, ap, append-nil, append_assoc, arith, Bool, drop, drop-cons, drop_all, Err, err_from_is_err_and, get_or, IsErrAnd, length, List, Ok, refl, Result, suc, sum_by, sum_by-cons, sym, take, true, ℕ, ◌*◌, ◌++◌, ◌+◌, ◌<◌, ◌∙◌, ◌≡◌, ◌≤◌}
-use Rattle.outside.specs.declared.fault.Fault.{Fault}
-use Rattle.outside.specs.Faults.{FaultFits, ResultIs}
-use Rattle.outside.specs.Shelf.{ShelfView, IsLaterShelf, NameFiles, Stands}
-use Rattle.outside.specs.declared.shelf.FileNo.{FileNo}
+use Rattle.wad_dir.specs.Rules.{DirRefusal, Fault, FaultFits, FileNo, Header, IsLaterShelf, Lump, NameFiles, ResultIs, ShelfView, Stands, directory, entry_count, entry_refusal, file_lumps, file_refusal, header, header_in, header_refusal, listing_size, listing_sizes, lumps_from, lumps_in, refusal_from, unless_refused}
 use Rattle.outside.proofs.ShelfLemmas.{as_many, stands_at}
-use Rattle.lump_rules.specs.declared.wad.Header.{Header}
-use Rattle.lump_rules.specs.declared.wad.Lump.{Lump}
-use Rattle.lump_rules.specs.declared.wad.DirRefusal.{DirRefusal}
-use Rattle.lump_rules.specs.Wads.{header, header_in, header_refusal, entry_count, lumps_in, file_lumps, entry_refusal, file_refusal, refusal_from, lumps_from, unless_refused, directory, listing_size, listing_sizes}
 use Rattle.lump_rules.proofs.WadLemmas.{unless_refused_ok, file_lumps-length}
 use Rattle.wad_dir.specs.declared.fault.DirFault.{DirFault}
 use Rattle.wad_dir.specs.Faults.{dir_fault}
@@ -31,9 +24,6 @@ file_answers {value} {result} steady file before bytes head piece given e p q an
 pub record IsReadTo (contents : List (List ℕ)) (i : ℕ) (lumps : List Lump) : Type 0 where
   pub refusals : refusal_from 0 0 contents ≡ refusal_from i (length lumps) (drop i contents)
   pub listed : lumps_from 0 contents ≡ lumps ++ lumps_from i (drop i contents)
-
-pub none_read : (contents : List (List ℕ)) (lumps : List Lump) → lumps ≡ [] → IsReadTo contents 0 lumps
-none_read contents lumps e = rw e (record { refusals = refl; listed = refl })
 
 -- one file more
 pub file_more : (contents : List (List ℕ)) (i : ℕ) (old new found : List Lump) → i < length contents → new ≡ old ++ found → length new ≡ length old + length found →

@@ -1,10 +1,7 @@
 -- Laws of `greatest`, and an index as it grows.
 use Rattle.word_rules.proofs.Common.{add-one, ap, arith, Bool, BTreeMap, bytes_eq, Err, false, get_or, get_or-replicate, IfOk, IfSome, is_eq, length, List, nat_cmp, None, Ok, Option, option_map, refl, replicate, Result, slice_cmp, slice_get, Some, suc, sym, texts_ties, true, Updates, zero, ℕ, ◌&&◌, ◌+◌, ◌<◌, ◌∙◌, ◌≡◌}
-use Rattle.word_rules.specs.Least.{greatest}
+use Rattle.wad_dir.specs.Rules.{Lump, LumpNo, greatest, has_name, last_of}
 use Rattle.word_rules.proofs.LeastLemmas.{greatest-is}
-use Rattle.lump_rules.specs.declared.wad.Lump.{Lump}
-use Rattle.lump_rules.specs.Lookups.{has_name, last_of}
-use Rattle.lump_rules.specs.declared.wad.LumpNo.{LumpNo}
 use Rattle.wad_dir.specs.Indexes.{indexed}
 
 -- two tests that agree on each number below n
@@ -28,13 +25,6 @@ unfolding greatest
 name_indexed marked lumps i lump key name old new at is_marked is_key updates so_far =
     let same : is_eq (slice_cmp nat_cmp key name) ≡ bytes_eq lump.name name = sym (texts_ties key name) ∙ ap (λ k. bytes_eq k name) is_key in
     updates.0 name ∙ rw (add-one, same, so_far, at, is_marked) refl
-
--- a lump that is not marked changes nothing
-pub none_indexed : (marked : List Bool) (lumps : List Lump) (i : ℕ) (name : List ℕ) (found : Option ℕ) → get_or marked i false ≡ false →
-    found ≡ greatest (λ number. get_or marked number false && has_name lumps name number) i →
-    found ≡ greatest (λ number. get_or marked number false && has_name lumps name number) (i + 1)
-unfolding greatest
-none_indexed marked lumps i name found is_marked so_far = so_far ∙ rw (add-one, is_marked) refl
 
 -- where each lump is marked, the last of a name is found
 pub all_marked : (marked : List Bool) (lumps : List Lump) (name : List ℕ) → marked ≡ replicate (length lumps) true →

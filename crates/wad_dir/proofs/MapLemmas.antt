@@ -1,7 +1,6 @@
 -- The names of a map's lumps, one after the other.
 use Rattle.word_rules.proofs.Common.{[], add-one, add-suc, and_parts, arith, Bool, drop, drop-cons, drop_all, false, get_or, length, List, refl, slice_get_cases, suc, sym, true, ℕ, ⊎_elim, ◌&&◌, ◌+◌, ◌<◌, ◌∙◌, ◌∷◌, ◌≡◌, ◌≤◌}
-use Rattle.lump_rules.specs.declared.wad.Lump.{Lump}
-use Rattle.lump_rules.specs.Lookups.{is_lump, is_named_in, are_named}
+use Rattle.wad_dir.specs.Rules.{Lump, are_named, is_lump, is_named_in}
 
 -- one name more was found
 pub named_more : (lumps : List Lump) (file first i : ℕ) (names : List (List ℕ)) (found : Bool) → i < length names →

@@ -1,14 +1,8 @@
 -- The lumps of a group, as a walk finds them.
 use Rattle.word_rules.proofs.Common.{[], add-one, ap, append-nil, arith, Bool, cond, Err, false, filter, filter-append, get_or, IfOk, length, List, map, map-append, map-id, map-range_with_len_more, None, not, Ok, Option, range_with_len, refl, Result, slice_get, Some, suc, sym, true, zero, zero-add, ℕ, ◌&&◌, ◌++◌, ◌+◌, ◌<◌, ◌==◌, ◌||◌, ◌∙◌, ◌∷◌, ◌≡◌}
-use Rattle.word_rules.specs.Least.{greatest}
-use Rattle.word_rules.specs.Listed.{listed}
+use Rattle.wad_dir.specs.Rules.{Flats, Group, Lump, LumpNo, flat_of, greatest, has_name, is_end, is_lump, is_member, is_start, listed, mark_before, members, starts_in}
 use Rattle.word_rules.proofs.ListedLemmas.{get_or-listed, listed-more}
-use Rattle.lump_rules.specs.declared.names.Group.{Group}
-use Rattle.lump_rules.specs.declared.wad.Lump.{Lump}
-use Rattle.lump_rules.specs.Lookups.{has_name, is_start, is_end, is_member, is_lump, starts_in, mark_before, members, flat_of}
-use Rattle.lump_rules.specs.declared.names.Group.TheVariants.{Flats}
 use Rattle.std.specs.declared.vec.Vec.{Vec}
-use Rattle.lump_rules.specs.declared.wad.LumpNo.{LumpNo}
 use Rattle.wad_dir.specs.Indexes.{is_grouped}
 use Rattle.wad_dir.proofs.IndexLemmas.{greatest_agrees}
 

@@ -1,7 +1,6 @@
 -- What a contract sees of a directory.
 use Rattle.std.specs.Prelude.{List}
-use Rattle.outside.specs.declared.shelf.FileNo.{FileNo}
-use Rattle.lump_rules.specs.declared.wad.Lump.{Lump}
+use Rattle.wad_dir.specs.Rules.{FileNo, Lump}
 
 pub record DirectoryView : Type 0 where
   -- the numbers of its files, in the order in which they were given

@@ -1,7 +1,5 @@
 -- What the faults of a directory tell.
-use Rattle.outside.specs.declared.fault.Fault.{Fault}
-use Rattle.outside.specs.declared.fault.Fault.TheVariants.{Refused, ReadFault, OutOfMemory}
-use Rattle.lump_rules.specs.declared.wad.DirRefusal.{DirRefusal}
+use Rattle.wad_dir.specs.Rules.{DirRefusal, Fault, OutOfMemory, ReadFault, Refused}
 use Rattle.wad_dir.specs.declared.fault.DirFault.{DirFault}
 use Rattle.wad_dir.specs.declared.fault.DirFault.TheVariants.{Refused, ReadFault, OutOfMemory}
 

@@ -1,3 +1,4 @@
 pub mod DirectoryView
 pub mod Faults
 pub mod Indexes
+pub mod Rules

@@ -1,12 +1,7 @@
 // A directory, and what it finds.
 ghost use Rattle.std.specs.Prelude.{◌≡◌, ℕ, List, ◌<◌, ◌≤◌, ◌+◌, ◌*◌, ◌^◌, length, map, All, IfOk, IfSome, slice_get};
 ghost use Rattle.std.specs.Option.{option_map};
-ghost use Rattle.outside.specs.Shelf.{IsLaterShelf, NameFiles};
-ghost use Rattle.outside.specs.Faults.{ResultIs, HasCauses};
-ghost use Rattle.lump_rules.specs.Wads.{directory, listing_sizes};
-ghost use Rattle.lump_rules.specs.Lookups.{lump_at, last_of, flat_of, map_of, members};
-ghost use Rattle.lump_rules.specs.Contents.{AllWithin};
-ghost use Rattle.lump_rules.specs.declared.names.Group.TheVariants.{Sprites};
+ghost use Rattle.wad_dir.specs.Rules.{AllWithin, HasCauses, IsLaterShelf, NameFiles, ResultIs, Sprites, directory, flat_of, last_of, listing_sizes, lump_at, map_of, members};
 ghost use Rattle.wad_dir.specs.Faults.{dir_fault};
 
 use crate::DirFault;
@@ -35,8 +30,7 @@ pub struct Directory {
 
 impl Model for Directory {
     ghost use Rattle.std.specs.Prelude.{◌≡◌, ◌<◌, ◌^◌, ℕ, List, length, map, All};
-    ghost use Rattle.lump_rules.specs.Lookups.{last_of, flat_of, members};
-    ghost use Rattle.lump_rules.specs.declared.names.Group.TheVariants.{Sprites};
+    ghost use Rattle.wad_dir.specs.Rules.{Sprites, flat_of, last_of, members};
     ghost use Rattle.wad_dir.specs.DirectoryView.{DirectoryView};
     ghost use Rattle.wad_dir.specs.Indexes.{indexed};
 

@@ -3,10 +3,7 @@ ghost use Rattle.std.specs.Prelude.{◌≡◌, ℕ, List, ◌<◌, ◌^◌, ◌=
 ghost use Rattle.std.specs.List.{range_with_len};
 ghost use Rattle.std.specs.Option.{option_map};
 ghost use Rattle.std.specs.Str.{bytes_eq};
-ghost use Rattle.word_rules.specs.Least.{greatest};
-ghost use Rattle.word_rules.specs.Listed.{listed};
-ghost use Rattle.lump_rules.specs.Lookups.{has_name, is_start, is_end, is_member, last_of, flat_of, members};
-ghost use Rattle.lump_rules.specs.declared.names.Group.TheVariants.{Sprites};
+ghost use Rattle.wad_dir.specs.Rules.{Sprites, flat_of, greatest, has_name, is_end, is_member, is_start, last_of, listed, members};
 ghost use Rattle.wad_dir.specs.Indexes.{indexed, is_grouped};
 
 use crate::LumpNo;

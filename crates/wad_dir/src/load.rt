@@ -1,8 +1,6 @@
 // Directories are read from a shelf.
 ghost use Rattle.std.specs.Prelude.{◌≡◌, ℕ, List, ◌<◌, ◌≤◌, ◌+◌, ◌*◌, length, take, drop, true, position, Ok, All, IfOk};
-ghost use Rattle.outside.specs.Shelf.{IsLaterShelf, Stands, NameFiles};
-ghost use Rattle.outside.specs.Faults.{ResultIs, HasCauses};
-ghost use Rattle.lump_rules.specs.Wads.{is_wad, header, header_in, whole_header_refusal, header_refusal, lump_in, lumps_in, file_lumps, passes_end, entry_refusal, file_refusal, unless_refused, directory, listing_size, listing_sizes};
+ghost use Rattle.wad_dir.specs.Rules.{HasCauses, IsLaterShelf, NameFiles, ResultIs, Stands, directory, entry_refusal, file_lumps, file_refusal, header, header_in, header_refusal, is_wad, listing_size, listing_sizes, lump_in, lumps_in, passes_end, unless_refused, whole_header_refusal};
 ghost use Rattle.wad_dir.specs.Faults.{dir_fault};
 
 use crate::DirFault;

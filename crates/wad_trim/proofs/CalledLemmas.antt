@@ -1,10 +1,7 @@
 -- The lumps that are found by their names.
 use Rattle.art_rules.proofs.Common.{[], ap, append-nil, append_assoc, arith, Bool, cond, false, filter, filter-append, length, List, list_any, nat_lt, nat_tests, not, Option, range_with_len, refl, suc, true, zero, ℕ, ◌&&◌, ◌++◌, ◌+◌, ◌-◌, ◌<◌, ◌==◌, ◌∙◌, ◌∷◌, ◌≡◌, ◌≤◌}
-use Rattle.art_rules.specs.Words.{filled, is_patch_of_any, Lump, name_of, patch_lumps, PreparedTexture}
-use Rattle.art_rules.specs.declared.TheConstants.{PNAMES, TEXTURE1, TEXTURE2}
-use Rattle.scene_rules.specs.declared.TheConstants.{COLORMAP, PLAYPAL}
+use Rattle.wad_trim.specs.Rules.{COLORMAP, Lump, PLAYPAL, PNAMES, PreparedTexture, TEXTURE1, TEXTURE2, called_lumps, filled, fixed_lumps, is_patch_of_any, listed_last, name_of, patch_lumps}
 use Rattle.texture_build.proofs.JudgeLemmas.{pnames_name, texture1_name, texture2_name}
-use Rattle.trim_rules.specs.Parts.{called_lumps, fixed_lumps, listed_last}
 
 -- the patches among the first numbers, out of those among more
 below_kept : (p q : ℕ → Bool) (a n top : ℕ) → a + n ≤ top → filter (λ k. nat_lt k top && q k) (filter p (range_with_len a n)) ≡ filter q (filter p (range_with_len a n))

@@ -1,15 +1,7 @@
 -- The bytes of a trimmed file, in the order in which they are written.
 use Rattle.art_rules.proofs.Common.{[], add-zero, All, ap, append_assoc, arith, codes, drop, drop-cons, flat_map, flat_map-append, flat_map-cons, get_or, length, length-append, length-map, List, map, refl, suc, sum_by-cons, sum_by_more, sym, take, take-append-drop, take_all, take_more, zero, ℕ, ◌*◌, ◌++◌, ◌+◌, ◌<◌, ◌∙◌, ◌∷◌, ◌≡◌, ◌≤◌}
-use Rattle.art_rules.specs.Words.{AllWithin, ENTRY_SIZE, HEADER_SIZE, Lump, lump_bytes, LumpNo, no_lump}
+use Rattle.wad_trim.specs.Rules.{AllWithin, Copy, ENTRY_SIZE, HEADER_SIZE, HEAD_SIZE, Label, Lump, LumpNo, MAX_FILE_BYTES, Mark, TrimPart, contents, entries, file_of, file_size, lump_bytes, no_lump, part_bytes, part_lump, part_name, part_size, parts_size, trimmed_file, wad_file, word_bytes}
 use Rattle.art_rules.proofs.Laws.{lump_bytes-length}
-use Rattle.made_rules.specs.Bytes.{word_bytes}
-use Rattle.made_rules.specs.declared.wad.TheConstants.{HEAD_SIZE}
-use Rattle.made_rules.specs.Wads.{contents, entries, file_of, wad_file}
-use Rattle.trim_rules.specs.declared.part.TrimPart.{TrimPart}
-use Rattle.trim_rules.specs.declared.part.TrimPart.TheVariants.{Mark, Label, Copy}
-use Rattle.trim_rules.specs.Files.{part_bytes, part_lump, trimmed_file}
-use Rattle.trim_rules.specs.Parts.{file_size, part_name, part_size, parts_size}
-use Rattle.job_rules.specs.declared.trim.TheConstants.{MAX_FILE_BYTES}
 use Rattle.wad_trim.specs.Plans.{FitsFile, entries_from}
 use Rattle.wad_trim.specs.Writes.{IsCopied, IsPartThere}
 

@@ -1,12 +1,9 @@
 -- Lists of lumps by their numbers, and what marks of numbers list.
-use Rattle.art_rules.proofs.Common.{[], All, AllByRecursion, Any-from_list_any, ap, arith, Bool, Contains, Decides, eq-from_true, eq-true, filter, get_or, length, List, list_any, list_any-append, list_any_at, nat_tests, range_with_len, refl, same_from_decides, subst, suc, sym, true, zero, ℕ, ◌++◌, ◌<◌, ◌==◌, ◌||◌, ◌↔◌, ◌∙◌, ◌∷◌, ◌≡◌}
-use Rattle.art_rules.specs.Words.{Lump, LumpNo}
-use Rattle.scene_rules.specs.declared.SectorFlats.{SectorFlats}
-use Rattle.scene_rules.specs.Words.{has_flat}
+use Rattle.art_rules.proofs.Common.{[], All, AllByRecursion, ap, arith, Bool, Contains, filter, get_or, length, List, list_any, list_any-append, nat_tests, range_with_len, refl, same_from_decides, subst, suc, sym, true, zero, ℕ, ◌++◌, ◌<◌, ◌==◌, ◌||◌, ◌↔◌, ◌∙◌, ◌∷◌, ◌≡◌}
+use Rattle.wad_trim.specs.Rules.{Lump, LumpNo, SectorFlats, flat_lumps, has_flat, picture_lumps}
 use Rattle.texture_build.specs.Views.{is_marked}
 use Rattle.texture_build.proofs.MarkLemmas.{filter_same}
 use Rattle.sound_scene.specs.Views.{lump_numbers}
-use Rattle.trim_rules.specs.Parts.{flat_lumps, picture_lumps}
 
 -- a test of lumps by their numbers
 pub any-number : (p : ℕ → Bool) (lumps : List LumpNo) → list_any (λ (lump : LumpNo). p lump.0) lumps ≡ list_any p (lump_numbers lumps)
@@ -21,22 +18,6 @@ lumps_below count (lump ∷ rest) all (suc i) d l = lumps_below count rest all.1
 
 pub all-numbers : (count : ℕ) (lumps : List LumpNo) (ns : List ℕ) → lump_numbers lumps ≡ ns → AllByRecursion (λ n. n < count) ns → All (λ (lump : LumpNo). lump.0 < count) lumps
 all-numbers count lumps ns e all = lumps_below count lumps (subst (AllByRecursion (λ n. n < count)) (sym e) all)
-
-any_member : (xs : List ℕ) (k : ℕ) → Decides (list_any (λ n. n == k) xs) (Contains xs k)
-any_member xs k = (found, passes) where
-  found : list_any (λ n. n == k) xs ≡ true → Contains xs k
-  found e =
-      let any = Any-from_list_any (λ (n : ℕ). n == k) xs e in
-      let same : any.1 ≡ k = eq-from_true any.1 k any.4 in
-      (any.0, any.2, subst (λ (n : ℕ). get_or xs any.0 n ≡ n) same any.3)
-
-  passes : Contains xs k → list_any (λ n. n == k) xs ≡ true
-  passes there = list_any_at (λ (n : ℕ). n == k) xs there.0 k there.1 (eq-true (get_or xs there.0 k) k there.2)
-
-pub members-same : (xs ys : List ℕ) (k : ℕ) → ((n : ℕ) → Contains xs n ↔ Contains ys n) → list_any (λ n. n == k) xs ≡ list_any (λ n. n == k) ys
-members-same xs ys k same =
-    let there = any_member xs k in
-    same_from_decides (list_any (λ n. n == k) xs) (list_any (λ n. n == k) ys) (λ e. (same k).0 (there.0 e), λ c. there.1 ((same k).1 c)) (any_member ys k)
 
 -- the marked lumps are the flats of sectors
 pub flats-marked : (lumps : List Lump) (flats : List SectorFlats) (marks : List Bool) → length marks ≡ length lumps →

@@ -1,9 +1,7 @@
 -- The least lump of parts that has the name of a mark.
 use Rattle.art_rules.proofs.Common.{[], ap, arith, Bool, cond, eq-false_above, eq-same, false, get_or, IfSome, length, List, list_any, list_any_more, min, nat_tests, None, Option, option_map, refl, Some, suc, sym, take, true, zero, ℕ, ◌&&◌, ◌+◌, ◌<◌, ◌==◌, ◌||◌, ◌∙◌, ◌∷◌, ◌≡◌}
-use Rattle.art_rules.specs.Words.{least, Lump, lump_at, LumpNo, or_else}
+use Rattle.wad_trim.specs.Rules.{Lump, LumpNo, TrimPart, is_lump_part, is_mark, least, lump_at, marked_lump, or_else}
 use Rattle.art_rules.proofs.Laws.{least-is, least-none, least-some}
-use Rattle.trim_rules.specs.declared.part.TrimPart.{TrimPart}
-use Rattle.trim_rules.specs.Parts.{is_lump_part, is_mark, marked_lump}
 use Rattle.wad_trim.specs.Lessers.{lesser}
 
 -- one number more, by what was found below it and by whether it passes

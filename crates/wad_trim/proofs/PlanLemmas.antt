@@ -1,10 +1,6 @@
 -- The plan of a level, by whether its parts are refused.
 use Rattle.std.proofs.Common.{◌≡◌, ℕ, List, Some, None, Ok, Err, ap, sym, subst, ◌∙◌}
-use Rattle.art_rules.specs.Words.{Lump}
-use Rattle.scene_rules.specs.Words.{SceneArt}
-use Rattle.trim_rules.specs.declared.part.TrimPart.{TrimPart}
-use Rattle.job_rules.specs.declared.trim.TrimRefusal.{TrimRefusal}
-use Rattle.trim_rules.specs.Parts.{trim_parts, trim_plan, trim_refusal, unless_trim_refused}
+use Rattle.wad_trim.specs.Rules.{Lump, SceneArt, TrimPart, TrimRefusal, trim_parts, trim_plan, trim_refusal, unless_trim_refused}
 use Rattle.trim_rules.proofs.PlanLemmas.{plan-accepted}
 use Rattle.wad_trim.specs.Plans.{FitsFile}
 

@@ -1,12 +1,9 @@
 -- A call that reads lumps through the cache and writes bytes: what it appends, what it keeps, and
 -- the cause of each fault.
 use Rattle.std.specs.Prelude.{◌≡◌, ◌≤◌, ◌<◌, ℕ, List, Contains, IsTrue, OnErr, OnOk, Result, Ok, Err, ⊤}
-use Rattle.art_rules.specs.Words.{FaultsRose, Grew, GrewByPrefix, lump_bytes, ShelfView}
-use Rattle.scene_rules.specs.Words.{Heap, IsInOrder, Item, KeepsOrder}
+use Rattle.wad_trim.specs.Rules.{Copy, FaultsRose, Grew, GrewByPrefix, Heap, IsInOrder, Item, KeepsOrder, Label, Mark, ShelfView, TrimPart, lump_bytes}
 use Rattle.texture_build.specs.DirectoryView.{DirectoryView}
 use Rattle.texture_build.specs.Calls.{HasAll, HoldContents, IsFullFor, PreservesCache}
-use Rattle.trim_rules.specs.declared.part.TrimPart.{TrimPart}
-use Rattle.trim_rules.specs.declared.part.TrimPart.TheVariants.{Mark, Label, Copy}
 use Rattle.wad_trim.specs.declared.fault.TrimWrite.{TrimWrite}
 use Rattle.wad_trim.specs.declared.fault.TrimWrite.TheVariants.{ReadFault, WriteFault, ZoneFull}
 

@@ -4,9 +4,8 @@
 ghost use Rattle.std.specs.Prelude.{◌≡◌, ◌≤◌, ◌<◌, ◌++◌, ◌^◌, ◌==◌, ◌&&◌, nat_lt, map, not, filter, length, All, IfOk, OnOk};
 ghost use Rattle.std.specs.List.{list_any};
 ghost use Rattle.std.specs.Option.{option_copied};
-ghost use Rattle.art_rules.specs.Words.{book_lumps, has_name, map_of, name_of};
+ghost use Rattle.wad_trim.specs.Rules.{book_lumps, called_lumps, copy_part, fixed_lumps, flat_lumps, group_parts, has_name, label_or_copy, listed_last, map_of, map_parts, name_of, picture_lumps, trim_parts};
 ghost use Rattle.sound_scene.specs.Views.{AddsMarks, lump_numbers};
-ghost use Rattle.trim_rules.specs.Parts.{called_lumps, copy_part, fixed_lumps, flat_lumps, group_parts, label_or_copy, listed_last, map_parts, picture_lumps, trim_parts};
 ghost use Rattle.wad_trim.specs.Plans.{trim_art, layer_lumps};
 ghost use Rattle.wad_trim.specs.Writes.{IsPartThere};
 

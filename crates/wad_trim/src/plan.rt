@@ -1,9 +1,7 @@
 // The plan of a trimmed file.
 ghost use Rattle.std.specs.Prelude.{◌≡◌, ◌≤◌, length, All, Ok, Err, IfOk};
 ghost use Rattle.std.specs.Option.{option_copied};
-ghost use Rattle.job_rules.specs.declared.trim.TrimRefusal.{TrimRefusal};
-ghost use Rattle.trim_rules.specs.Files.{trimmed_file};
-ghost use Rattle.trim_rules.specs.Parts.{trim_plan};
+ghost use Rattle.wad_trim.specs.Rules.{TrimRefusal, trim_plan, trimmed_file};
 ghost use Rattle.wad_trim.specs.Plans.{FitsFile, trim_art, layer_lumps};
 ghost use Rattle.wad_trim.specs.Writes.{IsCopied, IsPartThere, WritesLumps};
 

@@ -3,8 +3,7 @@
 // Rules: `trim_rules`, Parts.
 ghost use Rattle.std.specs.Prelude.{◌≡◌, ◌≤◌, ◌<◌, ◌^◌, ◌==◌, ◌||◌, ◌∷◌, [], ℕ, false, cond, length, All, Some, None, IfSome, option_map};
 ghost use Rattle.std.specs.Option.{option_map_or};
-ghost use Rattle.art_rules.specs.Words.{Flats, is_end, is_start, lump_at, Sprites};
-ghost use Rattle.trim_rules.specs.Parts.{file_size, is_lump_part, is_mark, marked_lump, part_size, parts_size, trim_refusal};
+ghost use Rattle.wad_trim.specs.Rules.{Flats, Sprites, file_size, is_end, is_lump_part, is_mark, is_start, lump_at, marked_lump, part_size, parts_size, trim_refusal};
 ghost use Rattle.wad_trim.specs.Lessers.{lesser};
 ghost use Rattle.wad_trim.specs.Writes.{IsPartThere};
 

@@ -1,13 +1,8 @@
 -- Laws of what is built: nothing, a leaf more, a fragment more.
 use Rattle.picture_rules.proofs.Common.{[], All-nil, All-push, ap, arith, Bool, cond, length, length-append, List, nat_le, nat_lt, nat_tests, None, Option, refl, subst, suc, sym, take, true, ℕ, ℤ, ◌&&◌, ◌++◌, ◌+◌, ◌-◌, ◌<◌, ◌∙◌, ◌∷◌, ◌≡◌, ◌≤◌}
-use Rattle.picture_rules.specs.Words.{after_event, bottom_clips, ceiling_checked, ceiling_found, ceiling_marks, ceiling_rows, clip_after, clip_before, clip_past, columns_marked, Draws, edges_at, Finds, floor_checked, floor_found, floor_marks, floor_rows, fragment_numbers, FRAME_WIDTH, has_column, MarkAlike, marked_rows, middle_columns, no_planes, note_at, notes_from, open_clip, openings_list, past_wall, Plane, plane_wall, PlanesNow, PlaneWall, room_if, saved_by, saved_from, saves_bottom, saves_top, texture_column, top_clips, view_notes, ViewShape, ViewValue, Wall, wall_edges, wall_marked, wall_of, wall_step}
-use Rattle.picture_rules.specs.declared.wall.ColumnClip.{ColumnClip}
-use Rattle.picture_rules.specs.declared.wall.FragmentNote.{FragmentNote}
-use Rattle.picture_rules.specs.declared.wall.FragmentNumbers.{FragmentNumbers}
-use Rattle.picture_rules.specs.declared.wall.WallFacts.{WallFacts}
+use Rattle.wall_columns.specs.Rules.{ColumnClip, Draws, FRAME_WIDTH, Finds, FragmentNote, FragmentNumbers, MarkAlike, Plane, PlaneKey, PlaneWall, PlanesNow, ViewShape, ViewValue, Wall, WallFacts, after_event, bottom_clips, ceiling_checked, ceiling_found, ceiling_marks, ceiling_rows, clip_after, clip_before, clip_past, columns_marked, edges_at, floor_checked, floor_found, floor_marks, floor_rows, fragment_numbers, has_column, marked_rows, middle_columns, no_planes, note_at, notes_from, open_clip, openings_list, past_wall, plane_wall, room_if, saved_by, saved_from, saves_bottom, saves_top, texture_column, top_clips, view_notes, wall_edges, wall_marked, wall_of, wall_step}
 use Rattle.picture_rules.proofs.wall.NoteLemmas.{openings_list-more, view_notes-more}
 use Rattle.picture_rules.proofs.wall.WallLemmas.{clip_past-next, clip_before-front}
-use Rattle.picture_rules.specs.declared.plane.PlaneKey.{PlaneKey}
 use Rattle.picture_rules.proofs.plane.BuiltLemmas.{after_event-alike, sound-after_event}
 use Rattle.visplanes.specs.Planes.{PlanesView}
 use Rattle.wall_edges.specs.Fragments.{FragmentValue, fragment_of}
@@ -17,7 +12,7 @@ use Rattle.wall_columns.specs.Walls.{WallsView, clip_at}
 use Rattle.wall_columns.specs.Windows.{WindowsView, window_at}
 use Rattle.wall_columns.specs.Saved.{OpeningsView, columns_saved}
 use Rattle.wall_columns.specs.Places.{places_of}
-use Rattle.wall_columns.specs.Columns.{plane_number, columns_of, column_edges, column_after, clip_along, marks_along, HasMarked, HasSaved}
+use Rattle.wall_columns.specs.Columns.{plane_number, columns_of, column_edges, column_after, clip_along, marks_along, HasMarked, HasSaved, HasTaken}
 use Rattle.wall_columns.specs.Leaves.{now_of, ceiling_check, floor_check}
 use Rattle.wall_columns.specs.States.{walls_view}
 use Rattle.wall_columns.specs.Built.{IsDrawn, IsBuilt, with_wall, step_of_wall}
@@ -141,9 +136,7 @@ pub record WallDrawn (v : ViewValue) (walls : List Wall) (s : PlanesNow) (facts 
   pub frame : v.shape.width ≤ FRAME_WIDTH
   pub windows : checked.windows ≡ old.windows
   pub planes : now_of checked between ≡ floor_check (fragment_numbers v facts first last) first last (ceiling_check (fragment_numbers v facts first last) first last s)
-  pub places : lists ≡ places_of (fragment_numbers v facts first last) (length old.openings.saved) (last + 1 - first)
-  pub front : take (length old.openings.saved) checked.openings.saved ≡ old.openings.saved
-  pub total : length checked.openings.saved ≡ lists.end
+  pub taken : HasTaken (fragment_numbers v facts first last) (last + 1 - first) old.openings checked.openings lists
   pub marked : HasMarked (fragment_of v facts first last) (last + 1 - first) checked new between later
   pub saved : HasSaved v (fragment_of v facts first last) lists (last + 1 - first) checked new.openings
   pub note : entry ≡ note_at v (wall_of v facts first last) (length old.openings.saved)
@@ -203,7 +196,7 @@ openings_after {v} {walls} {s} {facts} {first} {last} {notes} {old} {checked} {n
     let w : Wall = wall_of v facts first last in
     d.saved.saved facts first last refl
     ∙ saved_lists v (with_wall walls w) (length walls) facts first last old.openings.saved checked.openings.saved
-    (column_after checked.windows.height (fragment_of v facts first last) (window_at checked.windows)) places d.places d.front d.total (λ x l h. left_open d x l h)
+    (column_after checked.windows.height (fragment_of v facts first last) (window_at checked.windows)) places d.taken.are d.taken.front d.taken.count (λ x l h. left_open d x l h)
     ∙ ap (λ (xs : List ℤ). xs ++ saved_by v (with_wall walls w) (length walls) w) d.built.openings
     ∙ sym (openings_list-more v walls w)
 
@@ -273,10 +266,10 @@ now_after {v} {walls} {s} {facts} {first} {last} {notes} {old} {checked} {new} {
     ∙ event_alike s (marks_along f open_at) (plane_wall v (with_wall walls w) (length walls) w) alike first last refl refl ordered
 
 -- a fragment is drawn
-pub built-wall : {v : ViewValue} {walls : List Wall} {s : PlanesNow} {facts : WallFacts} {first last : ℕ} {notes : List FragmentNote} {old checked new : ColumnState} {before between later : PlanesView} {places : SavePlaces} {note : FragmentNote} →
+built_wall : {v : ViewValue} {walls : List Wall} {s : PlanesNow} {facts : WallFacts} {first last : ℕ} {notes : List FragmentNote} {old checked new : ColumnState} {before between later : PlanesView} {places : SavePlaces} {note : FragmentNote} →
     WallDrawn v walls s facts first last notes old checked new before between later places note →
     IsBuilt v (with_wall walls (wall_of v facts first last)) (after_event s (step_of_wall v walls (wall_of v facts first last)).event) (walls_view (notes ++ note ∷ []) new) later.planes
-built-wall {v} {walls} {s} {facts} {first} {last} {notes} {note = note} d =
+built_wall {v} {walls} {s} {facts} {first} {last} {notes} {note = note} d =
     let w : Wall = wall_of v facts first last in
     let e = now_after d in
     record {
@@ -291,33 +284,35 @@ built-wall {v} {walls} {s} {facts} {first} {last} {notes} {note = note} d =
       sound = sound-after_event s (step_of_wall v walls w).event d.built.sound;
     }
 
--- what is drawn, by a fragment's value and its numbers
-pub wall-drawn : (v : ViewValue) (walls : List Wall) (s : PlanesNow) (facts : WallFacts) (first last : ℕ) (notes : List FragmentNote) (old checked new : ColumnState) (before between later : PlanesView) (places : SavePlaces) (note : FragmentNote)
-    (n : FragmentNumbers) (f : FragmentValue) → f ≡ fragment_of v facts first last → n ≡ f.numbers → IsBuilt v walls s (walls_view notes old) before.planes → first ≤ last → last < v.shape.width → v.shape.width ≤ FRAME_WIDTH →
-    checked.windows ≡ old.windows → now_of checked between ≡ floor_check n first last (ceiling_check n first last s) → places ≡ places_of n (length old.openings.saved) (last + 1 - first) →
-    take (length old.openings.saved) checked.openings.saved ≡ old.openings.saved → length checked.openings.saved ≡ places.end →
+-- what is built where the columns of the fragment of a seg were drawn, by its value and its numbers
+pub built-range : (v : ViewValue) (facts : WallFacts) (first last : ℕ) (n : FragmentNumbers) (f : FragmentValue) (notes : List FragmentNote) (old checked new : ColumnState) {state : WallsView} (before between later : PlanesView) (places : SavePlaces) (note : FragmentNote)
+    {items : List FragmentNote} → f ≡ fragment_of v facts first last → n ≡ f.numbers → first ≤ last → last < v.shape.width → v.shape.width ≤ FRAME_WIDTH → walls_view notes old ≡ state → checked.windows ≡ old.windows →
+    ((s : PlanesNow) → s ≡ now_of old before → now_of checked between ≡ floor_check n first last (ceiling_check n first last s)) → HasTaken n (last + 1 - first) old.openings checked.openings places →
     HasMarked f (columns_of f) checked new between later → HasSaved v f places (columns_of f) checked new.openings →
-    note ≡ note_at v (wall_of v facts first last) (length old.openings.saved) → WallDrawn v walls s facts first last notes old checked new before between later places note
-wall-drawn v walls s facts first last notes old checked new before between later places note n f e g built ordered within frame windows planes lists front total marked saved entry =
+    ((place : ℕ) → places ≡ places_of f.numbers place (last + 1 - first) → note ≡ note_at v (wall_of v facts first last) place) → items ≡ notes ++ note ∷ [] →
+    (walls : List Wall) (s : PlanesNow) → IsBuilt v walls s state before.planes →
+    IsBuilt v (with_wall walls (wall_of v facts first last)) (after_event s (step_of_wall v walls (wall_of v facts first last)).event) (walls_view items new) later.planes
+built-range v facts first last n f notes old checked new before between later places note e g ordered within frame view windows planes taken marked saved noted pushed walls s h =
     let numbers : n ≡ fragment_numbers v facts first last = g ∙ ap (λ (f : FragmentValue). f.numbers) e in
+    let built = built-inside v walls s notes old before view h in
     let P : FragmentNumbers → Type 0 = λ n. now_of checked between ≡ floor_check n first last (ceiling_check n first last s) in
-    let Q : FragmentNumbers → Type 0 = λ n. places ≡ places_of n (length old.openings.saved) (last + 1 - first) in
+    let Q : FragmentNumbers → Type 0 = λ n. HasTaken n (last + 1 - first) old.openings checked.openings places in
     let R : FragmentValue → Type 0 = λ f. HasMarked f (columns_of f) checked new between later in
     let S : FragmentValue → Type 0 = λ f. HasSaved v f places (columns_of f) checked new.openings in
-    record {
+    let drawn : WallDrawn v walls s facts first last notes old checked new before between later places note = record {
       built = built;
       ordered = ordered;
       within = within;
       frame = frame;
       windows = windows;
-      planes = subst P numbers planes;
-      places = subst Q numbers lists;
-      front = front;
-      total = total;
+      planes = subst P numbers (planes s (built-now v walls s notes old before built));
+      taken = subst Q numbers taken;
       marked = subst R e marked;
       saved = subst S e saved;
-      note = entry;
-    }
+      note = noted (length old.openings.saved) (taken.are ∙ ap (λ (m : FragmentNumbers). places_of m (length old.openings.saved) (last + 1 - first)) g);
+    } in
+    let T : List FragmentNote → Type 0 = λ all. IsBuilt v (with_wall walls (wall_of v facts first last)) (after_event s (step_of_wall v walls (wall_of v facts first last)).event) (walls_view all new) later.planes in
+    subst T (sym pushed) (built_wall drawn)
 
 length_notes : (v : ViewValue) (walls : List Wall) (place : ℕ) → length (notes_from v place walls) ≡ length walls
 unfolding notes_from

@@ -1,10 +1,7 @@
 -- Laws of the clips of a column: they stay in their ranges, and so do the rows between them.
 use Rattle.picture_rules.proofs.Common.{arith, Bool, clamps, cond, false, FitsSigned, int_le, int_shr, int_wrap, int_wrap_fits, ints, List, negsuc, None, Option, pos, refl, SFits-int_wrap, slice_get, Some, subst, suc, sym, true, w32, zero, ℕ, ℤ, ◌+ℤ◌, ◌-ℤ◌, ◌-◌, ◌<ℤ◌, ◌≡◌, ◌≤ℤ◌, ◌≤◌}
-use Rattle.picture_rules.specs.Words.{above_clip, below_clip, bottom_first, bottom_rows, ceiling_after, ceiling_past_none, ceiling_past_top, ceiling_rows, clip_after, clip_before, edge_at, edges_at, floor_after, floor_past_bottom, floor_past_none, floor_rows, FRAME_HEIGHT, greater_word, greatest_clip, has_column, has_texture, least_clip, lesser_word, middle_rows, minus, minus_one, narrowed_clip, open_clip, past_some, past_wall, plus, row_from, row_to, shr_word, shut_clip, step_at, top_last, top_rows, ViewShape, Wall, wall_edges, wall_first, wall_last}
-use Rattle.picture_rules.specs.declared.wall.TheConstants.{MAX_EDGE_FRACTION}
-use Rattle.picture_rules.specs.declared.wall.ColumnClip.{ColumnClip}
-use Rattle.picture_rules.specs.declared.wall.Edges.{Edges}
-use Rattle.picture_rules.specs.declared.wall.FragmentNumbers.{FragmentNumbers}
+use Rattle.wall_columns.specs.Rules.{ColumnClip, Edges, FRAME_HEIGHT, FragmentNumbers, MAX_EDGE_FRACTION, ViewShape, Wall, above_clip, below_clip, bottom_first, bottom_rows, ceiling_after, ceiling_past_none, ceiling_past_top, ceiling_rows, clip_after, clip_before, edge_at, edges_at, floor_after, floor_past_bottom, floor_past_none, floor_rows, greater_word, greatest_clip, has_column, has_texture, least_clip, lesser_word, middle_rows, minus, minus_one, narrowed_clip, open_clip, past_some, past_wall, plus, row_from, row_to, shr_word, shut_clip, step_at, top_last, top_rows, wall_edges, wall_first, wall_last}
+use Rattle.picture_rules.proofs.Laws.{greater_word-first, lesser_word-first}
 use Rattle.wall_columns.specs.Windows.{IsClipIn}
 use Rattle.wall_columns.specs.Plans.{AreEdgeWords, AreRowsIn}
 
@@ -39,17 +36,9 @@ row_to-low : (edge : ℤ) → FitsSigned w32 edge → negsuc 524287 ≤ℤ row_t
 unfolding row_to shr_word
 row_to-low edge f = shifted_low edge f
 
-greater-first : (a b : ℤ) → a ≤ℤ greater_word a b
-unfolding greater_word
-greater-first a b = omega (arith, ints, clamps)
-
 greater-most : (a b c : ℤ) → a ≤ℤ c → b ≤ℤ c → greater_word a b ≤ℤ c
 unfolding greater_word
 greater-most a b c h k = omega (arith, ints, clamps)
-
-lesser-first : (a b : ℤ) → lesser_word a b ≤ℤ a
-unfolding lesser_word
-lesser-first a b = omega (arith, ints, clamps)
 
 lesser-least : (a b c : ℤ) → c ≤ℤ a → c ≤ℤ b → c ≤ℤ lesser_word a b
 unfolding lesser_word
@@ -71,7 +60,7 @@ first_below clip row l h r =
     let e = plus_near clip (omega (arith, ints)) (omega (arith, ints)) in
     let least : pos 0 ≤ℤ (clip +ℤ pos 1) = omega (arith, ints) in
     let most : (clip +ℤ pos 1) ≤ℤ pos 1048577 = omega (arith, ints) in
-    let a : (clip +ℤ pos 1) ≤ℤ greater_word (clip +ℤ pos 1) row = greater-first (clip +ℤ pos 1) row in
+    let a : (clip +ℤ pos 1) ≤ℤ greater_word (clip +ℤ pos 1) row = greater_word-first (clip +ℤ pos 1) row in
     let b : greater_word (clip +ℤ pos 1) row ≤ℤ pos 1048577 = greater-most (clip +ℤ pos 1) row (pos 1048577) most (omega (arith, ints)) in
     let P : ℤ → Type 0 = λ z. IsFirst (greater_word z row) in
     subst P (sym e) (record { low = omega (arith, ints); high = b })
@@ -81,7 +70,7 @@ unfolding above_clip
 last_above height clip row s l h r =
     let e = minus_near clip (omega (arith, ints)) (omega (arith, ints)) in
     let least : negsuc 1048576 ≤ℤ (clip -ℤ pos 1) = omega (arith, ints) in
-    let a : lesser_word (clip -ℤ pos 1) row ≤ℤ (clip -ℤ pos 1) = lesser-first (clip -ℤ pos 1) row in
+    let a : lesser_word (clip -ℤ pos 1) row ≤ℤ (clip -ℤ pos 1) = lesser_word-first (clip -ℤ pos 1) row in
     let b : negsuc 1048576 ≤ℤ lesser_word (clip -ℤ pos 1) row = lesser-least (clip -ℤ pos 1) row (negsuc 1048576) least r in
     let P : ℤ → Type 0 = λ z. IsLast height (lesser_word z row) in
     subst P (sym e) (record { low = b; high = omega (arith, ints) })

@@ -1,51 +1,42 @@
 -- Laws of the columns of a fragment as they are painted one by one.
 use Rattle.picture_rules.proofs.Common.{[], All, AllByRecursion, ap, append-nil, arith, false, inl, inr, ints, length, List, map, map-range_with_len_more, or_parts, pos, range_with_len, recursion_from_All, refl, Result, subst, suc, sym, zero, ℕ, ℤ, ◌++◌, ◌+◌, ◌-◌, ◌<ℤ◌, ◌<◌, ◌||◌, ◌∙◌, ◌∷◌, ◌≡◌, ◌≢◌, ◌≤ℤ◌, ◌≤◌}
-use Rattle.art_rules.specs.Words.{Fault}
-use Rattle.picture_rules.specs.Words.{Art, clip_before, Dot, edges_at, fragment_numbers, FRAME_HEIGHT, FRAME_WIDTH, has_texture, joined_lists, listed_from, Painter, Plane, PlanesNow, strip_dots, strip_of, texture_column, ViewValue, Wall, wall_column, wall_column_by, wall_dots, wall_edges, wall_of, wall_strips, WallStrip}
+use Rattle.wall_columns.specs.Rules.{Art, ColumnClip, Dot, Edges, FRAME_HEIGHT, Fault, FragmentNote, FragmentNumbers, Painter, Plane, PlanesNow, ViewValue, Wall, WallFacts, WallStrip, clip_before, edges_at, fragment_numbers, has_texture, joined_lists, listed_from, strip_dots, strip_of, texture_column, wall_column, wall_column_by, wall_dots, wall_edges, wall_of, wall_strips}
 use Rattle.picture_rules.proofs.Laws.{joined_lists-append}
-use Rattle.picture_rules.specs.declared.wall.ColumnClip.{ColumnClip}
-use Rattle.picture_rules.specs.declared.wall.Edges.{Edges}
-use Rattle.picture_rules.specs.declared.wall.FragmentNumbers.{FragmentNumbers}
-use Rattle.picture_rules.specs.declared.wall.WallFacts.{WallFacts}
 use Rattle.wall_edges.specs.Fragments.{FragmentValue, fragment_of}
+use Rattle.pixel_strips.specs.Standing.{StandsInFrame}
 use Rattle.texture_build.specs.Draws.{CanDraw}
 use Rattle.texture_build.specs.Paints.{PaintState, PaintTools, Paints, painted_art}
-use Rattle.texture_build.proofs.PaintLemmas.{can_draw-later, paints-same, paints-wider, slots-later}
+use Rattle.texture_build.proofs.PaintLemmas.{can_draw-later, paints-asked, paints-same, paints-wider, slots-later}
 use Rattle.wall_columns.specs.declared.clips.ColumnPlan.{ColumnPlan}
 use Rattle.wall_columns.specs.declared.fault.DrawFault.{DrawFault}
-use Rattle.wall_columns.specs.Draws.{IsWallTexture}
+use Rattle.wall_columns.specs.Draws.{IsNoPicture, IsWallTexture}
+use Rattle.wall_columns.specs.Faults.{draw_fault}
 use Rattle.wall_columns.specs.Plans.{has_part, IsPartTexture, IsPlanTexture, plan_of, strips_by, HasRows, IsInRows, AreEdgeWords}
-use Rattle.picture_rules.specs.declared.wall.FragmentNote.{FragmentNote}
 use Rattle.wall_columns.specs.declared.column_state.ColumnState.{ColumnState}
-use Rattle.wall_columns.specs.Built.{IsBuilt, with_wall}
+use Rattle.wall_columns.specs.Built.{AreBehind, IsBuilt, with_wall}
 use Rattle.wall_columns.specs.States.{walls_view}
 use Rattle.wall_columns.specs.Walls.{WallsView}
 use Rattle.wall_columns.specs.Windows.{IsClipIn, WindowsView, window_at}
 use Rattle.wall_columns.proofs.BuiltLemmas.{built-count, built-window}
 use Rattle.wall_columns.specs.Columns.{column_edges, columns_of}
-use Rattle.wall_columns.specs.Drawn.{IsDrawnTexture, WallRange, column_painted, dots_along, CanPaint, PaintsColumn, PaintsPlan}
+use Rattle.wall_columns.specs.Drawn.{IsDrawnTexture, WallRange, column_painted, dots_along, CanPaint, PaintsColumn, PaintsColumns, PaintsPlan}
 use Rattle.wall_columns.proofs.PlanLemmas.{plan_strips-in, plan_strips-there, plan_strips-dots}
 use Rattle.wall_columns.proofs.SightLemmas.{numbers-scale, numbers-light, numbers-texture}
+use Rattle.wall_columns.proofs.ToolLemmas.{stands-later}
 
 -- what may be painted may be painted later
 pub can_paint-later : {R E Q : Type 0} {fault_of : E → Fault R} {mark : Painter → ℕ → ℕ} {t : PaintTools} {among pictures : ℕ → Type 0} {asked : Q → Type 0} {dots : List (List ℕ) → Q → List Dot}
     {a b : PaintState} {result : Result (Unit {0}) E} (v : ViewValue) (f : FragmentValue) →
     Paints fault_of mark t among pictures asked dots a b result → CanPaint v t a f → CanPaint v t b f
-can_paint-later v f one can =
-    let left = one.place.left in
-    let top = one.place.top in
-    let columns = can.columns in
-    let rows = can.rows in
-    record {
-      within = can.within;
-      columns = omega arith;
-      rows = omega arith;
-      slots = slots-later one can.slots;
-      shades = can.shades;
-      textures = λ number some part. can_draw-later one (can.textures number some part);
-      scales = can.scales;
-      light = can.light;
-    }
+can_paint-later v f one can = record {
+  within = can.within;
+  placed = stands-later one.place can.placed;
+  slots = slots-later one can.slots;
+  shades = can.shades;
+  textures = λ number some part. can_draw-later one (can.textures number some part);
+  scales = can.scales;
+  light = can.light;
+}
 
 -- no column yet
 pub along-none : (column : ℕ → List Dot) (first : ℕ) → [] ≡ dots_along column first 0
@@ -181,12 +172,12 @@ along-wall v art ws k number facts first last f before is e h =
     ap (λ (f : FragmentValue). dots_along (column_painted v art number f facts before) f.first (columns_of f)) is ∙ wall_is v art ws k number facts first last before e h
 
 -- so does that which is drawn where walls are built
-pub along-built : (v : ViewValue) (art : Art) (walls : List Wall) (s : PlanesNow) (state : WallsView) (notes : List FragmentNote) (columns : ColumnState) (windows : WindowsView) (planes : List Plane)
+along_built : (v : ViewValue) (art : Art) (walls : List Wall) (s : PlanesNow) (state : WallsView) (notes : List FragmentNote) (columns : ColumnState) (windows : WindowsView) (planes : List Plane)
     (facts : WallFacts) (first last number : ℕ) (f : FragmentValue) → walls_view notes columns ≡ state → IsBuilt v walls s state planes → windows ≡ columns.windows → f ≡ fragment_of v facts first last →
     number ≡ length notes → last < v.shape.width →
     dots_along (column_painted v art number f facts (window_at windows)) f.first (columns_of f)
     ≡ wall_dots v art (with_wall walls (wall_of v facts first last)) (length walls) (wall_of v facts first last)
-along-built v art walls s state notes columns windows planes facts first last number f view built same is count within =
+along_built v art walls s state notes columns windows planes facts first last number f view built same is count within =
     let P : WallsView → Type 0 = λ w. IsBuilt v walls s w planes in
     let b : IsBuilt v walls s (walls_view notes columns) planes = subst P (sym view) built in
     let w : Wall = wall_of v facts first last in
@@ -202,14 +193,13 @@ own_scale v facts first last k l = scale_least _ (numbers-scale v facts first la
 
 -- the fragment of a seg may be painted where its textures may be drawn
 pub can_paint-of : (v : ViewValue) (facts : WallFacts) (first last : ℕ) (t : PaintTools) (old : PaintState) (f : FragmentValue) → f ≡ fragment_of v facts first last →
-    last < v.shape.width → old.canvas.left + v.shape.width ≤ FRAME_WIDTH → old.canvas.top + v.shape.height ≤ FRAME_HEIGHT → length t.dir.lumps ≤ old.cache.lumps → t.colormap < length t.dir.lumps →
+    last < v.shape.width → StandsInFrame v.shape old.canvas → length t.dir.lumps ≤ old.cache.lumps → t.colormap < length t.dir.lumps →
     ((number : ℕ) → IsWallTexture facts number → CanDraw t.dir.lumps t.textures old.cache number) → CanPaint v t old f
-can_paint-of v facts first last t old f is within columns rows slots shades textures =
+can_paint-of v facts first last t old f is within placed slots shades textures =
     let P : FragmentValue → Type 0 = λ f. CanPaint v t old f in
     subst P (sym is) (record {
       within = within;
-      columns = columns;
-      rows = rows;
+      placed = placed;
       slots = slots;
       shades = shades;
       textures = λ number some part. textures number (some, numbers-texture v facts first last number some part);
@@ -218,8 +208,19 @@ can_paint-of v facts first last t old f is within columns rows slots shades text
     })
 
 -- a texture that is drawn is one of the seg's
-pub drawn-textures : (v : ViewValue) (facts : WallFacts) (first last : ℕ) (f : FragmentValue) → f ≡ fragment_of v facts first last → (number : ℕ) → IsDrawnTexture f.numbers number → IsWallTexture facts number
-drawn-textures v facts first last f is number h =
+drawn_textures : (v : ViewValue) (facts : WallFacts) (first last : ℕ) (f : FragmentValue) → f ≡ fragment_of v facts first last → (number : ℕ) → IsDrawnTexture f.numbers number → IsWallTexture facts number
+drawn_textures v facts first last f is number h =
     let P : FragmentValue → Type 0 = λ f. IsDrawnTexture f.numbers number in
     let own : IsDrawnTexture (fragment_numbers v facts first last) number = subst P is h in
     (own.0, numbers-texture v facts first last number own.0 own.1)
+
+-- what paints the columns of the fragment of a seg paints it behind those that are there
+pub paints-range : (v : ViewValue) (t : PaintTools) (mark : Painter → ℕ → ℕ) (facts : WallFacts) (first last number : ℕ) (f : FragmentValue) (notes : List FragmentNote) (columns : ColumnState) (windows : WindowsView)
+    {state : WallsView} (planes : List Plane) → walls_view notes columns ≡ state → windows ≡ columns.windows → f ≡ fragment_of v facts first last → number ≡ length notes → last < v.shape.width →
+    {a b : PaintState} {result : Result (Unit {0}) DrawFault} → PaintsColumns v t mark number f (window_at windows) (columns_of f) a b result →
+    Paints draw_fault mark t (IsWallTexture facts) IsNoPicture (AreBehind v state planes)
+    (λ contents behind. wall_dots v (painted_art contents t) (with_wall behind.0 (wall_of v facts first last)) (length behind.0) (wall_of v facts first last)) a b result
+paints-range v t mark facts first last number f notes columns windows {state} planes view same is count within one =
+    let range : WallRange = record { facts = facts; first = first; last = last } in
+    paints-same _ (λ contents (behind : List Wall × PlanesNow) are. along_built v (painted_art contents t) behind.0 behind.1 state notes columns windows planes facts first last number f view are.0 same is count within)
+    (paints-wider (drawn_textures v facts first last f is) (λ (lump : ℕ) h. h) (paints-asked (AreBehind v state planes) (λ behind. range) (λ behind are. is) one))

@@ -1,10 +1,6 @@
 -- Laws of the strip of a plan that is painted first, and of the one below it.
 use Rattle.picture_rules.proofs.Common.{[], AllByRecursion, ap, Bool, cond, false, inl, inr, int_lt, List, not, refl, subst, sym, true, ℕ, ◌&&◌, ◌++◌, ◌∙◌, ◌∷◌, ◌≡◌}
-use Rattle.picture_rules.specs.Words.{Art, Dot, has_texture, joined_lists, ViewShape, WallStrip}
-use Rattle.picture_rules.specs.declared.wall.ColumnClip.{ColumnClip}
-use Rattle.picture_rules.specs.declared.wall.Edges.{Edges}
-use Rattle.picture_rules.specs.declared.wall.FragmentNumbers.{FragmentNumbers}
-use Rattle.picture_rules.specs.declared.wall.RowRange.{RowRange}
+use Rattle.wall_columns.specs.Rules.{Art, ColumnClip, Dot, Edges, FragmentNumbers, RowRange, ViewShape, WallStrip, has_texture, joined_lists}
 use Rattle.wall_columns.specs.declared.clips.ColumnPlan.{ColumnPlan}
 use Rattle.wall_columns.specs.declared.paint.ColumnLook.{ColumnLook}
 use Rattle.wall_columns.specs.Painted.{look_dots, strip_with, strips_dots}

@@ -1,12 +1,9 @@
 -- Laws of the planes of a leaf: what finding and checking them one after the other comes to, and what
 -- is told where one passes its room.
 use Rattle.picture_rules.proofs.Common.{ap, arith, Bool, Err, false, IsErr, IsErrAnd, length, List, lt-true, nat_lt, nat_tests, None, Ok, Option, refl, Result, Some, sym, true, ℕ, ◌<◌, ◌∙◌, ◌≡◌, ◌≤◌}
-use Rattle.picture_rules.specs.declared.plane.PlaneKey.{PlaneKey}
-use Rattle.picture_rules.specs.Words.{ceiling_found, checked_plane, find, floor_found, IsAmongPlanes, openings_count, Plane, PlaneChoice, planes_count, PlanesNow, with_ceiling, with_floor}
+use Rattle.wall_columns.specs.Rules.{FragmentNumbers, IsAmongPlanes, OverLimit, Plane, PlaneChoice, PlaneKey, PlanesNow, ceiling_found, checked_plane, find, floor_found, openings_count, planes_count, with_ceiling, with_floor}
 use Rattle.picture_rules.proofs.plane.PlaneLemmas.{length-find}
-use Rattle.picture_rules.specs.declared.OverLimit.{OverLimit}
 use Rattle.visplanes.specs.Planes.{PlanesView, with_planes}
-use Rattle.picture_rules.specs.declared.wall.FragmentNumbers.{FragmentNumbers}
 use Rattle.wall_columns.specs.declared.fault.DrawFault.{DrawFault}
 use Rattle.wall_columns.specs.Faults.{limit_of_fault, limit_of_result}
 use Rattle.wall_columns.specs.Leaves.{planes_found, number_found, planes_checked, number_checked, ceiling_check, floor_check, planes_over, openings_over, leaf_over, checks_over}
@@ -105,33 +102,14 @@ check-floor s a b n first last floor ceiling number e f g =
     ∙ ap (λ (ps : List Plane). now ps (number_checked floor c) ceiling) (sym (ap (λ (v : PlanesView). v.planes) f))
     ∙ ap (λ (o : Option ℕ). now b.planes o ceiling) (sym g)
 
-count_floor : (s : PlanesNow) (key : Option PlaneKey) → length (floor_found key s).planes ≡ length (planes_found s.planes key)
-unfolding floor_found planes_found
-count_floor s None = refl
-count_floor s (Some key) = refl
-
-count_ceiling : (s : PlanesNow) (key : Option PlaneKey) → length (ceiling_found key s).planes ≡ length (planes_found s.planes key)
-unfolding ceiling_found planes_found
-count_ceiling s None = refl
-count_ceiling s (Some key) = refl
-
-count_with_ceiling : (s : PlanesNow) (c : Option PlaneChoice) → length (with_ceiling c s).planes ≡ length (planes_checked s.planes c)
-unfolding with_ceiling planes_checked
-count_with_ceiling s None = refl
-count_with_ceiling s (Some c) = refl
-
-count_with_floor : (s : PlanesNow) (c : Option PlaneChoice) → length (with_floor c s).planes ≡ length (planes_checked s.planes c)
-unfolding with_floor planes_checked
-count_with_floor s None = refl
-count_with_floor s (Some c) = refl
-
 -- the counts of a leaf, by the planes before each step
 leaf_counts : (room : ℕ) (s : PlanesNow) (floor ceiling : Option PlaneKey) →
     leaf_over room s floor ceiling ≡ planes_over room (length (planes_found s.planes floor)) (planes_over room (length (planes_found (floor_found floor s).planes ceiling)) None)
 unfolding leaf_over
 leaf_counts room s floor ceiling =
-    ap (λ (m : ℕ). planes_over room m (planes_over room (length (ceiling_found ceiling (floor_found floor s)).planes) None)) (count_floor s floor)
-    ∙ ap (λ (n : ℕ). planes_over room (length (planes_found s.planes floor)) (planes_over room n None)) (count_ceiling (floor_found floor s) ceiling)
+    let t : PlanesNow = floor_found floor s in
+    ap (λ (u : PlanesNow). planes_over room (length u.planes) (planes_over room (length (ceiling_found ceiling t).planes) None)) (floor_found-is floor s.planes s.floor s.ceiling)
+    ∙ ap (λ (u : PlanesNow). planes_over room (length (planes_found s.planes floor)) (planes_over room (length u.planes) None)) (ceiling_found-is ceiling t.planes t.floor t.ceiling)
 
 check_counts : (room : ℕ) (n : FragmentNumbers) (first last : ℕ) (s : PlanesNow) →
     checks_over room n first last s
@@ -141,10 +119,10 @@ check_counts : (room : ℕ) (n : FragmentNumbers) (first last : ℕ) (s : Planes
 unfolding checks_over ceiling_check floor_check
 check_counts room n first last s =
     let t : PlanesNow = with_ceiling (checked_plane n.ceiling_mark s.planes s.ceiling first last) s in
-    ap (λ (m : ℕ). planes_over room m (planes_over room (length (with_floor (checked_plane n.floor_mark t.planes t.floor first last) t).planes) None))
-    (count_with_ceiling s (checked_plane n.ceiling_mark s.planes s.ceiling first last))
-    ∙ ap (λ (m : ℕ). planes_over room (length (planes_checked s.planes (checked_plane n.ceiling_mark s.planes s.ceiling first last))) (planes_over room m None))
-    (count_with_floor t (checked_plane n.floor_mark t.planes t.floor first last))
+    ap (λ (u : PlanesNow). planes_over room (length u.planes) (planes_over room (length (with_floor (checked_plane n.floor_mark t.planes t.floor first last) t).planes) None))
+    (with_ceiling-is (checked_plane n.ceiling_mark s.planes s.ceiling first last) s.planes s.floor s.ceiling)
+    ∙ ap (λ (u : PlanesNow). planes_over room (length (planes_checked s.planes (checked_plane n.ceiling_mark s.planes s.ceiling first last))) (planes_over room (length u.planes) None))
+    (with_floor-is (checked_plane n.floor_mark t.planes t.floor first last) t.planes t.floor t.ceiling)
 
 -- two counts: the first passes the room, or the second, or neither
 pub record Counts (over : Option OverLimit) (room m n : ℕ) : Type 0 where

@@ -1,10 +1,6 @@
 -- Laws of a fragment's note and of the places of its lists.
 use Rattle.std.proofs.Common.{◌≡◌, ℕ, ◌+◌, ◌-◌, ◌≤◌, Bool, true, false, ℤ, pos, Option, refl, ap, sym, subst, ◌∙◌, arith}
-use Rattle.picture_rules.specs.Words.{clip_note, fragment_numbers, minus_one, note_at, place_if, room_if, saves_bottom, saves_top, silhouette_of, ViewValue, wall_of}
-use Rattle.picture_rules.specs.declared.wall.Clip.{Clip}
-use Rattle.picture_rules.specs.declared.wall.FragmentNote.{FragmentNote}
-use Rattle.picture_rules.specs.declared.wall.FragmentNumbers.{FragmentNumbers}
-use Rattle.picture_rules.specs.declared.wall.WallFacts.{WallFacts}
+use Rattle.wall_columns.specs.Rules.{Clip, FragmentNote, FragmentNumbers, ViewValue, WallFacts, clip_note, fragment_numbers, minus_one, note_at, place_if, room_if, saves_bottom, saves_top, silhouette_of, wall_of}
 use Rattle.wall_columns.specs.declared.notes.SavePlaces.{SavePlaces}
 use Rattle.wall_columns.specs.Places.{room_of, places_of, clip_noted}
 use Rattle.wall_columns.specs.Columns.{IsPlaceIn, ArePlacesIn}

@@ -1,12 +1,7 @@
 -- Laws of the notes of a view: their lists are whole and apart, their scales above 0, their clips
 -- rows of the view, and behind the seg of a masked one there is a sector.
 use Rattle.picture_rules.proofs.Common.{[], All, AllByRecursion, ap, append_assoc, arith, bit_and, Bool, cond, false, from_bool, IfSome, ints, IsSome, length, length-append, List, None, not, Option, pos, recursion_from_All, refl, slice_get, Some, subst, suc, sym, true, zero, ℕ, ℤ, ◌&&◌, ◌*◌, ◌++◌, ◌+◌, ◌-◌, ◌<ℤ◌, ◌<◌, ◌||◌, ◌∙◌, ◌∷◌, ◌≡◌, ◌≢◌, ◌≤ℤ◌, ◌≤◌}
-use Rattle.picture_rules.specs.Words.{AreNoted, bottom_clip, clip_note, clip_past, fragment_numbers, FRAME_HEIGHT, greatest_clip, is_masked, IsClip, IsClipAmong, IsListAt, IsWholeNote, least_clip, ListsApart, MAX_DRAWSEGS, minus_one, note_at, notes_from, numbers_by, openings_list, place_if, room_if, saved_by, saved_from, saves_bottom, saves_top, silhouette_of, step_at, Surface, top_clip, view_notes, ViewShape, ViewValue, Wall, wall_of}
-use Rattle.picture_rules.specs.declared.wall.TheConstants.{SIL_BOTTOM, SIL_TOP}
-use Rattle.picture_rules.specs.declared.wall.ColumnClip.{ColumnClip}
-use Rattle.picture_rules.specs.declared.wall.FragmentNote.{FragmentNote}
-use Rattle.picture_rules.specs.declared.wall.FragmentNumbers.{FragmentNumbers}
-use Rattle.picture_rules.specs.declared.wall.WallFacts.{WallFacts}
+use Rattle.wall_columns.specs.Rules.{AreNoted, ColumnClip, FRAME_HEIGHT, FragmentNote, FragmentNumbers, IsClip, IsClipAmong, IsListAt, IsWholeNote, ListsApart, MAX_DRAWSEGS, SIL_BOTTOM, SIL_TOP, Surface, ViewShape, ViewValue, Wall, WallFacts, bottom_clip, clip_note, clip_past, fragment_numbers, greatest_clip, is_masked, least_clip, minus_one, note_at, notes_from, numbers_by, openings_list, place_if, room_if, saved_by, saved_from, saves_bottom, saves_top, silhouette_of, step_at, top_clip, view_notes, wall_of}
 use Rattle.picture_rules.proofs.wall.NoteLemmas.{length-saved_by, note-top_clip, note-bottom_clip}
 use Rattle.wall_columns.specs.Windows.{IsClipIn}
 use Rattle.wall_columns.specs.Built.{IsDrawn}

@@ -1,11 +1,7 @@
 -- Laws of the first count of a step that passes its limit.
 use Rattle.picture_rules.proofs.Common.{ap, arith, Bool, cond, Err, false, length, List, nat_lt, None, Ok, OnOk, Option, refl, Result, Some, sym, true, ℕ, ◌+◌, ◌-◌, ◌∙◌, ◌≡◌}
-use Rattle.picture_rules.specs.Words.{ceiling_checked, floor_checked, fragment_numbers, limit_of, openings_count, openings_counts, openings_of, passes_limit, plane_counts, plane_wall, planes_count, PlanesNow, room_if, ViewValue, Wall, wall_of, wall_step}
-use Rattle.picture_rules.specs.declared.wall.FragmentNumbers.{FragmentNumbers}
-use Rattle.picture_rules.specs.declared.wall.WallFacts.{WallFacts}
+use Rattle.wall_columns.specs.Rules.{FragmentNote, FragmentNumbers, OverLimit, PlaneKey, PlanesNow, ViewValue, Wall, WallFacts, ceiling_checked, floor_checked, fragment_numbers, limit_of, openings_count, openings_counts, openings_of, passes_limit, plane_counts, plane_wall, planes_count, room_if, wall_of, wall_step}
 use Rattle.picture_rules.proofs.wall.NoteLemmas.{length-saved_by, length-saved_openings}
-use Rattle.picture_rules.specs.declared.plane.PlaneKey.{PlaneKey}
-use Rattle.picture_rules.specs.declared.OverLimit.{OverLimit}
 use Rattle.visplanes.specs.Planes.{PlanesView}
 use Rattle.wall_columns.specs.declared.fault.DrawFault.{DrawFault}
 use Rattle.wall_columns.specs.declared.fault.DrawFault.TheVariants.{Planes, Openings, ZoneFull, ReadFault}
@@ -14,12 +10,12 @@ use Rattle.wall_columns.specs.Places.{places_of}
 use Rattle.wall_columns.specs.Faults.{limit_of_fault, IsLimitFault}
 use Rattle.visplanes.specs.declared.planes.PlaneNo.{PlaneNo}
 use Rattle.wall_columns.specs.declared.column_state.ColumnState.{ColumnState}
-use Rattle.picture_rules.specs.declared.wall.FragmentNote.{FragmentNote}
 use Rattle.wall_edges.specs.Fragments.{FragmentValue, fragment_of}
 use Rattle.wall_columns.specs.States.{walls_view}
 use Rattle.wall_columns.specs.Columns.{plane_number}
 use Rattle.wall_columns.specs.Leaves.{now_of, ceiling_check, floor_check, planes_over, openings_over, leaf_over, checks_over}
-use Rattle.wall_columns.specs.Built.{limits_of, step_over, step_of_leaf, step_of_wall}
+use Rattle.wall_columns.specs.Built.{IsBuilt, limits_of, step_over, step_of_leaf, step_of_wall}
+use Rattle.wall_columns.proofs.BuiltLemmas.{built-inside, built-now}
 
 -- what holds where a call is done
 pub on_ok : {A E : Type 0} {P Q : Type 0} (r : Result A E) → (P → Q) → OnOk r P → OnOk r Q
@@ -47,10 +43,10 @@ wall_over : (v : ViewValue) (walls : List Wall) (facts : WallFacts) (first last 
 unfolding openings_over planes_over checks_over passes_limit limit_of openings_counts plane_counts planes_count openings_count ceiling_checked floor_checked ceiling_check floor_check wall_step plane_wall wall_of
 wall_over v walls facts first last state planes s place = refl
 
-pub step_over-wall : (v : ViewValue) (walls : List Wall) (facts : WallFacts) (first last : ℕ) (state : WallsView) (planes : PlanesView) (s : PlanesNow) (place : ℕ) →
+step_over_wall : (v : ViewValue) (walls : List Wall) (facts : WallFacts) (first last : ℕ) (state : WallsView) (planes : PlanesView) (s : PlanesNow) (place : ℕ) →
     openings_over state.room (places_of (fragment_numbers v facts first last) place (last + 1 - first)).end (checks_over planes.room (fragment_numbers v facts first last) first last s)
     ≡ step_over (limits_of state planes) s place (step_of_wall v walls (wall_of v facts first last))
-step_over-wall v walls facts first last state planes s place =
+step_over_wall v walls facts first last state planes s place =
     ap (λ (m : ℕ). openings_over state.room m (checks_over planes.room (fragment_numbers v facts first last) first last s)) (ends_at v walls 0 facts first last place)
     ∙ wall_over v walls facts first last state planes s place
 
@@ -82,12 +78,14 @@ same_now old new planes e f =
     ∙ ap (λ (o : Option PlaneNo). let t : PlanesNow = record { planes = planes.planes; floor = plane_number new.floor; ceiling = plane_number o } in t) (sym f)
 
 -- what is told of a fragment, by its value, its numbers and the parts of a state
-pub over-range : (v : ViewValue) (walls : List Wall) (facts : WallFacts) (first last : ℕ) (n : FragmentNumbers) (f : FragmentValue) → f ≡ fragment_of v facts first last → n ≡ f.numbers →
-    (notes : List FragmentNote) (columns : ColumnState) (state : WallsView) (planes : PlanesView) (s : PlanesNow) → walls_view notes columns ≡ state →
-    openings_over columns.openings.room (places_of n (length columns.openings.saved) (last + 1 - first)).end (checks_over planes.room n first last s)
-    ≡ step_over (limits_of state planes) s (length state.openings) (step_of_wall v walls (wall_of v facts first last))
-over-range v walls facts first last n f e g notes columns state planes s view =
+pub limit-range : (v : ViewValue) (facts : WallFacts) (first last : ℕ) (n : FragmentNumbers) (f : FragmentValue) (notes : List FragmentNote) (columns : ColumnState) {state : WallsView} (planes : PlanesView) {told : Option OverLimit} →
+    f ≡ fragment_of v facts first last → n ≡ f.numbers → walls_view notes columns ≡ state →
+    ((s : PlanesNow) → s ≡ now_of columns planes → told ≡ openings_over columns.openings.room (places_of n (length columns.openings.saved) (last + 1 - first)).end (checks_over planes.room n first last s)) →
+    (walls : List Wall) (s : PlanesNow) → IsBuilt v walls s state planes.planes →
+    told ≡ step_over (limits_of state planes) s (length state.openings) (step_of_wall v walls (wall_of v facts first last))
+limit-range v facts first last n f notes columns planes e g view is walls s h =
     let numbers : n ≡ fragment_numbers v facts first last = g ∙ ap (λ (f : FragmentValue). f.numbers) e in
-    ap (λ (n : FragmentNumbers). openings_over columns.openings.room (places_of n (length columns.openings.saved) (last + 1 - first)).end (checks_over planes.room n first last s)) numbers
-    ∙ step_over-wall v walls facts first last (walls_view notes columns) planes s (length columns.openings.saved)
+    is s (built-now v walls s notes columns planes (built-inside v walls s notes columns planes view h))
+    ∙ ap (λ (n : FragmentNumbers). openings_over columns.openings.room (places_of n (length columns.openings.saved) (last + 1 - first)).end (checks_over planes.room n first last s)) numbers
+    ∙ step_over_wall v walls facts first last (walls_view notes columns) planes s (length columns.openings.saved)
     ∙ ap (λ (w : WallsView). step_over (limits_of w planes) s (length w.openings) (step_of_wall v walls (wall_of v facts first last))) view

@@ -1,11 +1,9 @@
 -- Laws of the strips of a fragment's column, and of a call that paints one of a live column.
 use Rattle.picture_rules.proofs.Common.{[], ap, append-nil, Err, false, int_lt, IsErrAnd, length, List, Ok, pos, refl, Result, subst, sym, true, ℕ, ℤ, ◌++◌, ◌+◌, ◌<◌, ◌∙◌, ◌∷◌, ◌≡◌}
-use Rattle.art_rules.specs.Words.{byte_at, Lump, lump_bytes, ShelfView}
-use Rattle.picture_rules.specs.Words.{Art, column_dots, Dot, joined_lists, listed_from, Painter, painter_of, row_fraction, rows_between, shade, texel_row, ViewShape, WALL, WallStrip}
+use Rattle.wall_columns.specs.Rules.{Art, ColumnLookup, Dot, Lump, Painter, Part, RowRange, ShelfView, ViewShape, WALL, WallStrip, byte_at, column_dots, joined_lists, listed_from, lump_bytes, painter_of, row_fraction, rows_between, shade, texel_row}
 use Rattle.picture_rules.proofs.Laws.{joined_lists-append}
 use Rattle.texture_build.specs.Zones.{Heap}
 use Rattle.texture_build.specs.Caches.{KeepsCounts}
-use Rattle.art_rules.specs.declared.ColumnLookup.{ColumnLookup}
 use Rattle.pixel_strips.specs.Canvases.{CanvasView, with_dots, with_painter}
 use Rattle.pixel_strips.specs.Dotted.{HasDots, PlacedAlike}
 use Rattle.pixel_strips.specs.Strips.{strip_colour, column_strip_dots}
@@ -18,8 +16,6 @@ use Rattle.texture_build.specs.Draws.{CanDraw, DrawsWith, FitsBeside}
 use Rattle.texture_build.specs.Paints.{FitIn, Holds, PaintTools, Paints, paint_state, painted_art}
 use Rattle.texture_build.proofs.BesideLemmas.{fit_beside-column_dots}
 use Rattle.texture_build.proofs.PaintLemmas.{paints-live, paints-missed, paints-same}
-use Rattle.picture_rules.specs.declared.wall.Part.{Part}
-use Rattle.picture_rules.specs.declared.wall.RowRange.{RowRange}
 use Rattle.wall_columns.specs.declared.fault.DrawFault.{DrawFault}
 use Rattle.wall_columns.specs.declared.paint.ColumnLook.{ColumnLook}
 use Rattle.wall_columns.specs.Draws.{IsNoPicture}

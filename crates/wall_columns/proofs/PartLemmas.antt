@@ -1,10 +1,8 @@
 -- Laws of the parts of a wall state: windows, openings and the planes of a leaf.
 use Rattle.picture_rules.proofs.Common.{[], All-replicate, All-set, ap, arith, Bool, cond, false, get_or-replicate, ints, is_none, length, length-append, length-replicate, length-set, length-take, List, None, Option, pos, replicate, slice_get, Some, sym, take, take-set-lt, true, ℕ, ℤ, ◌+◌, ◌<◌, ◌∙◌, ◌∷◌, ◌≡◌, ◌≤ℤ◌, ◌≤◌}
 use Rattle.std.proofs.Common.{set}
-use Rattle.picture_rules.specs.Words.{add, check, check_plane, check_some, empty_plane, find, FRAME_HEIGHT, FRAME_WIDTH, greatest_clip, is_free, least_clip, minus_one, number_of, Plane}
-use Rattle.picture_rules.specs.declared.plane.PlaneKey.{PlaneKey}
+use Rattle.wall_columns.specs.Rules.{ColumnClip, FRAME_HEIGHT, FRAME_WIDTH, Plane, PlaneKey, add, check, check_plane, check_some, empty_plane, find, greatest_clip, is_free, least_clip, minus_one, number_of}
 use Rattle.picture_rules.proofs.plane.PlaneLemmas.{length-check, length-find}
-use Rattle.picture_rules.specs.declared.wall.ColumnClip.{ColumnClip}
 use Rattle.wall_columns.specs.Walls.{AreClips}
 use Rattle.wall_columns.specs.Saved.{OpeningsView, with_saved}
 use Rattle.wall_columns.specs.Windows.{IsClipIn}

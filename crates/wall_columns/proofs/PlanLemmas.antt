@@ -1,13 +1,8 @@
 -- Laws of the plan of a column: its strips are rows of the view, of parts that are there, and have
 -- the dots of the fragment's strips.
 use Rattle.picture_rules.proofs.Common.{[], All, All-cons, All-nil, ap, append-nil, arith, Bool, cond, false, inl, inr, ints, List, nat_tests, not, pos, refl, subst, sym, true, ℕ, ℤ, ◌++◌, ◌<ℤ◌, ◌==◌, ◌∙◌, ◌∷◌, ◌≡◌, ◌≢◌, ◌≤ℤ◌, ◌≤◌}
-use Rattle.picture_rules.specs.Words.{Art, bottom_rows, ceiling_rows, column_dots, Dot, floor_rows, FRAME_HEIGHT, has_texture, joined_lists, middle_rows, rows_between, strip_dots, strip_of, top_rows, ViewValue, wall_strips, WallStrip}
+use Rattle.wall_columns.specs.Rules.{Art, ColumnClip, Dot, Edges, FRAME_HEIGHT, FragmentNumbers, Part, RowRange, ViewValue, WallStrip, bottom_rows, ceiling_rows, column_dots, floor_rows, has_texture, joined_lists, middle_rows, rows_between, strip_dots, strip_of, top_rows, wall_strips}
 use Rattle.picture_rules.proofs.Laws.{joined_lists-append}
-use Rattle.picture_rules.specs.declared.wall.ColumnClip.{ColumnClip}
-use Rattle.picture_rules.specs.declared.wall.Edges.{Edges}
-use Rattle.picture_rules.specs.declared.wall.FragmentNumbers.{FragmentNumbers}
-use Rattle.picture_rules.specs.declared.wall.Part.{Part}
-use Rattle.picture_rules.specs.declared.wall.RowRange.{RowRange}
 use Rattle.wall_columns.specs.Windows.{IsClipIn}
 use Rattle.wall_columns.specs.declared.clips.ColumnPlan.{ColumnPlan}
 use Rattle.wall_columns.specs.Plans.{no_rows, rows_if, plan_of, strips_by, HasRows, AreRowsIn, IsInRows, IsPartTexture, AreEdgeWords}

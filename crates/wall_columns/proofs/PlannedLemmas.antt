@@ -1,18 +1,19 @@
 -- Laws of the strips of a plan.
-use Rattle.picture_rules.proofs.Common.{[], All, AllByRecursion, ap, arith, int_lt, ints, List, of_z, recursion_from_All, refl, SFits, to_z, true, w32, ℕ, ℤ, ◌<ℤ◌, ◌∙◌, ◌≡◌}
+use Rattle.picture_rules.proofs.Common.{[], All, AllByRecursion, ap, arith, int_lt, ints, length, List, of_z, recursion_from_All, refl, Result, SFits, to_z, true, w32, ℕ, ℤ, ◌<ℤ◌, ◌<◌, ◌∙◌, ◌≡◌}
 use Rattle.std.proofs.Common.{to_z-of_z}
-use Rattle.picture_rules.specs.Words.{Art, column_dots, Dot, inverse_word, joined_lists, rows_between, scale_map, strip_dots, texture_column, ViewValue, wall_colour, WallStrip}
-use Rattle.art_rules.specs.Words.{Lump}
+use Rattle.wall_columns.specs.Rules.{Art, Dot, Edges, FragmentNumbers, Lump, Painter, RowRange, ViewValue, WallFacts, WallStrip, column_dots, inverse_word, joined_lists, rows_between, scale_map, strip_dots, texture_column, wall_colour}
 use Rattle.texture_build.specs.Zones.{Heap}
 use Rattle.texture_build.specs.Views.{TexturesView}
 use Rattle.texture_build.specs.Draws.{CanDraw}
-use Rattle.picture_rules.specs.declared.wall.FragmentNumbers.{FragmentNumbers}
-use Rattle.picture_rules.specs.declared.wall.RowRange.{RowRange}
-use Rattle.picture_rules.specs.declared.wall.WallFacts.{WallFacts}
+use Rattle.texture_build.specs.Paints.{PaintState, PaintTools, painted_art}
+use Rattle.texture_build.proofs.PaintLemmas.{paints-asked, paints-same}
+use Rattle.wall_edges.specs.Fragments.{FragmentValue, fragment_of}
 use Rattle.wall_columns.specs.declared.clips.ColumnPlan.{ColumnPlan}
+use Rattle.wall_columns.specs.declared.fault.DrawFault.{DrawFault}
 use Rattle.wall_columns.specs.declared.paint.ColumnLook.{ColumnLook}
-use Rattle.wall_columns.specs.Painted.{look_colour, look_dots, strips_dots}
-use Rattle.wall_columns.specs.Plans.{HasNoRows, HasRows, IsInRows, strips_by}
+use Rattle.wall_columns.specs.Drawn.{PaintsPlan, WallRange}
+use Rattle.wall_columns.specs.Painted.{PaintsStrips, look_colour, look_dots, strips_dots}
+use Rattle.wall_columns.specs.Plans.{HasNoRows, HasRows, IsInRows, IsPlanTexture, strips_by}
 
 -- each of the strips of a plan is in the view, and its texture may be drawn
 pub plan-rows : (height : ℕ) (n : FragmentNumbers) (plan : ColumnPlan) →
@@ -37,39 +38,42 @@ plan-none v art k x light column scale n plan none =
       past rows h = grind (arith, ints)
 
 -- a fragment's strip by what its column has in common
-pub strip-by_look : (v : ViewValue) (art : Art) (look : ColumnLook) (light : ℕ) (scale : ℤ)
+strip_by_look : (v : ViewValue) (art : Art) (look : ColumnLook) (light : ℕ) (scale : ℤ)
     (s : WallStrip) → look.step ≡ inverse_word scale → look.map ≡ scale_map v light scale →
     look_dots v.shape art look s ≡ strip_dots v art look.number look.x light look.column scale s
 unfolding look_dots look_colour strip_dots wall_colour
-strip-by_look v art look light scale s is_step is_map =
+strip_by_look v art look light scale s is_step is_map =
     ap (λ (step : ℤ). look_dots v.shape art (record look { step = step }) s) is_step
     ∙ ap (λ (m : ℕ). look_dots v.shape art (record look { step = inverse_word scale; map = m }) s)
     is_map
 
-strips-by_look : (v : ViewValue) (art : Art) (look : ColumnLook) (light : ℕ) (scale : ℤ)
+strips_by_look : (v : ViewValue) (art : Art) (look : ColumnLook) (light : ℕ) (scale : ℤ)
     (strips : List WallStrip) → look.step ≡ inverse_word scale → look.map ≡ scale_map v light scale →
     strips_dots v.shape art look strips
     ≡ joined_lists (strip_dots v art look.number look.x light look.column scale) strips
 unfolding strips_dots
-strips-by_look v art look light scale strips is_step is_map =
+strips_by_look v art look light scale strips is_step is_map =
     ap (λ (f : WallStrip → List Dot). joined_lists f strips)
-    (λ i s. strip-by_look v art look light scale s is_step is_map i)
+    (λ i s. strip_by_look v art look light scale s is_step is_map i)
 
--- and where its column, its step and its map are told by words
-pub strips-by_words : (v : ViewValue) (art : Art) (number x light map : ℕ)
-    (facts : WallFacts) (scale step column : ℤ) (strips : List WallStrip) →
-    SFits w32 scale → SFits w32 step → SFits w32 column → step ≡ inverse_word (to_z w32 (of_z w32 scale)) → map ≡ scale_map v light (to_z w32 (of_z w32 scale)) →
-    column ≡ texture_column v facts x →
-    strips_dots v.shape art (record {
-      number = number;
-      x = x;
-      column = to_z w32 (of_z w32 column);
-      step = to_z w32 (of_z w32 step);
-      map = map;
-    }) strips
-    ≡ joined_lists (strip_dots v art number x light (texture_column v facts x) scale) strips
-strips-by_words v art number x light map facts scale step column strips s t c is_step is_map is_column =
-    let look : ColumnLook = record { number = number; x = x; column = to_z w32 (of_z w32 column); step = to_z w32 (of_z w32 step); map = map } in
-    strips-by_look v art look light scale strips
-    (to_z-of_z t ∙ is_step ∙ ap inverse_word (to_z-of_z s)) (is_map ∙ ap (scale_map v light) (to_z-of_z s))
-    ∙ ap (λ (y : ℤ). joined_lists (strip_dots v art number x light y scale) strips) (to_z-of_z c ∙ is_column)
+-- what a column has in common, its column and its step by words
+abbrev pub look_with : ℕ → ℕ → ℤ → ℤ → ℕ → ColumnLook
+look_with number x column step map =
+    record { number = number; x = x; column = to_z w32 (of_z w32 column); step = to_z w32 (of_z w32 step); map = map }
+
+-- so a call that paints the strips of a plan with these paints the plan
+pub paints-plan : {t : PaintTools} {mark : Painter → ℕ → ℕ} {a b : PaintState} {result : Result (Unit {0}) DrawFault}
+    (v : ViewValue) (number x map : ℕ) (f : FragmentValue) (n : FragmentNumbers) (e : Edges) (plan : ColumnPlan) (column step : ℤ) →
+    SFits w32 e.scale → SFits w32 step → SFits w32 column → t.colormap < length t.dir.lumps →
+    step ≡ inverse_word (to_z w32 (of_z w32 e.scale)) → map ≡ scale_map v n.light (to_z w32 (of_z w32 e.scale)) →
+    ((facts : WallFacts) (first last : ℕ) → f ≡ fragment_of v facts first last → column ≡ texture_column v facts x) →
+    PaintsStrips v.shape t mark (look_with number x column step map) (IsPlanTexture n plan) (strips_by n plan) a b result →
+    PaintsPlan v t mark number f n x e plan a b result
+paints-plan {t} v number x map f n e plan column step s_fits t_fits c_fits there is_step is_map are one =
+    let look = look_with number x column step map in
+    paints-same _
+    (λ contents (q : WallRange) is. strips_by_look v (painted_art contents t) look n.light e.scale (strips_by n plan)
+    (to_z-of_z t_fits ∙ is_step ∙ ap inverse_word (to_z-of_z s_fits)) (is_map ∙ ap (scale_map v n.light) (to_z-of_z s_fits))
+    ∙ ap (λ (y : ℤ). joined_lists (strip_dots v (painted_art contents t) number x n.light y e.scale) (strips_by n plan))
+    (to_z-of_z c_fits ∙ are q.facts q.first q.last is))
+    (paints-asked (λ (q : WallRange). f ≡ fragment_of v q.facts q.first q.last) (λ q. tt) (λ q is. there) one)

@@ -2,10 +2,8 @@
 -- other behind the openings that there were.
 use Rattle.picture_rules.proofs.Common.{[], ap, append-nil, append_assoc, arith, Bool, drop, false, get_or, get_or-set_other, get_or-set_same, length, length-append, length-drop, length-set, length-take-le, List, nat_lt, nat_tests, pos, refl, set-append_left, set-append_right, subst, suc, sym, take, take-append-drop, true, zero, ℕ, ℤ, ◌++◌, ◌+◌, ◌-◌, ◌<◌, ◌∙◌, ◌∷◌, ◌≡◌, ◌≤◌}
 use Rattle.std.proofs.Common.{set}
-use Rattle.picture_rules.specs.Words.{listed, listed_from, place_if, saved_if, saves_bottom, saves_top}
+use Rattle.wall_columns.specs.Rules.{ColumnClip, FragmentNumbers, listed, listed_from, place_if, saved_if, saves_bottom, saves_top}
 use Rattle.picture_rules.proofs.Laws.{get_or-listed_from, length-listed_from, listed-all}
-use Rattle.picture_rules.specs.declared.wall.ColumnClip.{ColumnClip}
-use Rattle.picture_rules.specs.declared.wall.FragmentNumbers.{FragmentNumbers}
 use Rattle.wall_columns.specs.Places.{room_of, places_of}
 use Rattle.wall_columns.specs.Saved.{with_saved, column_saved, columns_saved}
 

@@ -1,10 +1,8 @@
 -- Laws of a fragment's numbers: its scale at each of its columns is above 0, its light is one of the
 -- levels, and its parts have the textures of its facts.
 use Rattle.picture_rules.proofs.Common.{ap, arith, Bool, cond, false, FitsSigned, inl, inr, int_div, int_wrap, int_wrap_fits, ints, mul-le-mul_right, nat_tests, neg_ℤ, negsuc, None, Option, pos, refl, Some, subst, suc, sym, true, unsigned_abs, w32, zero, ℕ, ℤ, ◌*ℤ◌, ◌*◌, ◌+ℤ◌, ◌+◌, ◌-ℤ◌, ◌-◌, ◌/◌, ◌<ℤ◌, ◌<◌, ◌==◌, ◌∙◌, ◌≡◌, ◌≢◌, ◌≤ℤ◌, ◌≤◌, ◌⊎◌}
-use Rattle.picture_rules.specs.Words.{bottom_part, clamp_word, fragment_numbers, LIGHT_LEVELS, light_number, MAX_SCALE, middle_part, MIN_SCALE, minus, no_part, numbers_by, plus, scale_at, scale_by, scale_of_column, scale_step, Seg, seg_light, step_at, Surface, times, top_part, ViewValue}
+use Rattle.wall_columns.specs.Rules.{LIGHT_LEVELS, MAX_SCALE, MIN_SCALE, Part, Seg, Surface, ViewValue, WallFacts, bottom_part, clamp_word, fragment_numbers, light_number, middle_part, minus, no_part, numbers_by, plus, scale_at, scale_by, scale_of_column, scale_step, seg_light, step_at, times, top_part}
 use Rattle.picture_rules.proofs.Laws.{clamp_word-high, clamp_word-low}
-use Rattle.picture_rules.specs.declared.wall.WallFacts.{WallFacts}
-use Rattle.picture_rules.specs.declared.wall.Part.{Part}
 use Rattle.wall_columns.specs.Plans.{IsPartTexture}
 
 -- a scale is held within these

@@ -1,6 +1,9 @@
 -- What holds of a view and of tools holds of those with the same references.
 use Rattle.std.proofs.Common.{◌≡◌, sym, ap, subst, ◌∙◌}
-use Rattle.picture_rules.specs.Words.{ViewValue}
+use Rattle.picture_rules.specs.Words.{ViewShape, ViewValue}
+use Rattle.pixel_strips.specs.Canvases.{CanvasView}
+use Rattle.pixel_strips.specs.Dotted.{PlacedAlike}
+use Rattle.pixel_strips.specs.Standing.{StandsInFrame}
 use Rattle.texture_build.specs.Paints.{PaintTools, paint_tools}
 use Rattle.wall_columns.specs.declared.tools.WallTools.{WallTools}
 use Rattle.wall_columns.specs.Tools.{AreSameWallTools, wall_tools}
@@ -20,3 +23,7 @@ module _ {S C : Type 0} (old new : WallTools S C) (P : ViewValue → PaintTools 
 
   pub after-same : P old.view.now (wall_tools old) → P new.view.now (wall_tools new)
   after-same k = subst (P new.view.now) (sym same_paint_tools) (subst (λ (v : ViewValue). P v (wall_tools old)) (sym same_view) k)
+
+-- a view that stands in the frame stands there later
+pub stands-later : {shape : ViewShape} {a b : CanvasView} → PlacedAlike a b → StandsInFrame shape a → StandsInFrame shape b
+stands-later place stands = record { columns = rw place.left stands.columns; rows = rw place.top stands.rows }

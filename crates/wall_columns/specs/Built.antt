@@ -1,9 +1,6 @@
 -- The walls of a view and its planes as the drawn fragments so far make them.
 use Rattle.std.specs.Prelude.{◌≡◌, ◌≤◌, ◌<◌, ◌++◌, ℕ, List, [], ◌∷◌, All, Option, None, find, length, map}
-use Rattle.picture_rules.specs.Words.{clip_before, Finds, IsSoundNow, openings_counts, openings_list, passes_limit, Plane, plane_counts, planes_count, PlanesNow, Step, view_notes, ViewValue, Wall, wall_of, wall_step}
-use Rattle.picture_rules.specs.declared.plane.PlaneKey.{PlaneKey}
-use Rattle.picture_rules.specs.declared.Limits.{Limits}
-use Rattle.picture_rules.specs.declared.OverLimit.{OverLimit}
+use Rattle.wall_columns.specs.Rules.{Finds, IsSoundNow, Limits, MAX_DRAWSEGS, OverLimit, Plane, PlaneKey, PlanesNow, Step, ViewValue, Wall, clip_before, openings_counts, openings_list, passes_limit, plane_counts, planes_count, view_notes, wall_of, wall_step}
 use Rattle.visplanes.specs.Planes.{PlanesView}
 use Rattle.wall_columns.specs.Walls.{WallsView, clip_at}
 
@@ -34,6 +31,10 @@ with_wall walls w = walls ++ w ∷ []
 
 abbrev pub step_of_wall : ViewValue → List Wall → Wall → Step
 step_of_wall v walls w = wall_step v (with_wall walls w) (length walls) w
+
+-- these fragments and planes are there, and a fragment more has room behind them
+abbrev pub AreBehind : ViewValue → WallsView → List Plane → List Wall × PlanesNow → Type 0
+AreBehind v state list behind = IsBuilt v behind.0 behind.1 state list × (length behind.0 < MAX_DRAWSEGS)
 
 -- the step of a leaf that is entered
 abbrev pub step_of_leaf : Option PlaneKey → Option PlaneKey → Step

@@ -1,10 +1,6 @@
 -- The columns of a fragment as they are drawn one by one: clips, planes and openings.
-use Rattle.std.specs.Prelude.{◌≡◌, ◌<◌, ◌≤◌, ◌+◌, ◌-◌, ◌&&◌, ℕ, Bool, nat_le, nat_lt, cond, Option, None, option_map, IfSome, length}
-use Rattle.picture_rules.specs.Words.{ceiling_rows, clip_after, columns_marked, edges_at, floor_rows, FRAME_WIDTH, marked_rows, PlaneWall, texture_column, ViewValue}
-use Rattle.picture_rules.specs.declared.wall.ColumnClip.{ColumnClip}
-use Rattle.picture_rules.specs.declared.wall.Edges.{Edges}
-use Rattle.picture_rules.specs.declared.wall.FragmentNumbers.{FragmentNumbers}
-use Rattle.picture_rules.specs.declared.wall.WallFacts.{WallFacts}
+use Rattle.std.specs.Prelude.{◌≡◌, ◌<◌, ◌≤◌, ◌+◌, ◌-◌, ◌&&◌, ℕ, Bool, List, nat_le, nat_lt, cond, Option, None, option_map, IfSome, length, take}
+use Rattle.wall_columns.specs.Rules.{ColumnClip, Edges, FRAME_WIDTH, FragmentNumbers, IsAmongPlanes, Plane, PlaneWall, ViewValue, WallFacts, ceiling_rows, clip_after, columns_marked, edges_at, floor_rows, marked_rows, texture_column}
 use Rattle.visplanes.specs.Planes.{PlanesView, with_planes}
 use Rattle.visplanes.specs.declared.planes.PlaneNo.{PlaneNo}
 use Rattle.wall_edges.specs.Fragments.{FragmentValue, fragment_of}
@@ -12,6 +8,7 @@ use Rattle.wall_columns.specs.declared.columns.MarkedPlanes.{MarkedPlanes}
 use Rattle.wall_columns.specs.declared.notes.SavePlaces.{SavePlaces}
 use Rattle.wall_columns.specs.declared.column_state.ColumnState.{ColumnState}
 use Rattle.wall_columns.specs.Windows.{window_at}
+use Rattle.wall_columns.specs.Places.{places_of}
 use Rattle.wall_columns.specs.Saved.{OpeningsView, columns_saved}
 
 -- the number of a plane, where there is one
@@ -28,6 +25,11 @@ marked_planes n ceiling floor = record {
   ceiling = marked_plane n.ceiling_mark ceiling;
   floor = marked_plane n.floor_mark floor;
 }
+
+-- the planes of the leaf that is entered are among those that there are
+abbrev pub AreLeafPlanes : List Plane → ColumnState → Type 0
+AreLeafPlanes planes state = IsAmongPlanes planes (plane_number state.floor)
+    × IsAmongPlanes planes (plane_number state.ceiling)
 
 -- how many columns a fragment has
 abbrev pub columns_of : FragmentValue → ℕ
@@ -90,3 +92,11 @@ pub record ArePlacesIn (n total : ℕ) (places : SavePlaces) : Type 0 where
   pub masked : IsPlaceIn n total places.masked
   pub top : IsPlaceIn n total places.top
   pub bottom : IsPlaceIn n total places.bottom
+
+-- the openings of a fragment's lists are taken, and those before them are as they were
+pub record HasTaken (n : FragmentNumbers) (columns : ℕ) (old new : OpeningsView)
+    (places : SavePlaces) : Type 0 where
+  pub are : places ≡ places_of n (length old.saved) columns
+  pub within : ArePlacesIn columns (length new.saved) places
+  pub count : length new.saved ≡ places.end
+  pub front : take (length old.saved) new.saved ≡ old.saved

@@ -1,11 +1,8 @@
 -- The columns of a fragment as they are painted one by one.
 use Rattle.std.specs.Prelude.{◌≡◌, ◌≢◌, ◌<◌, ◌≤◌, ◌≤ℤ◌, ◌+◌, ◌-◌, ◌++◌, ℕ, zero, suc, pos, List, [], length, Result}
-use Rattle.picture_rules.specs.Words.{Art, Dot, edges_at, FRAME_HEIGHT, FRAME_WIDTH, joined_lists, LIGHT_LEVELS, Painter, strip_dots, texture_column, ViewValue, wall_strips}
-use Rattle.picture_rules.specs.declared.wall.ColumnClip.{ColumnClip}
-use Rattle.picture_rules.specs.declared.wall.Edges.{Edges}
-use Rattle.picture_rules.specs.declared.wall.FragmentNumbers.{FragmentNumbers}
-use Rattle.picture_rules.specs.declared.wall.WallFacts.{WallFacts}
+use Rattle.wall_columns.specs.Rules.{Art, ColumnClip, Dot, Edges, FragmentNumbers, LIGHT_LEVELS, Painter, ViewValue, WallFacts, edges_at, joined_lists, strip_dots, texture_column, wall_strips}
 use Rattle.wall_edges.specs.Fragments.{FragmentValue, fragment_of}
+use Rattle.pixel_strips.specs.Standing.{StandsInFrame}
 use Rattle.texture_build.specs.Draws.{CanDraw}
 use Rattle.texture_build.specs.Paints.{PaintState, PaintTools, Paints, painted_art}
 use Rattle.wall_columns.specs.declared.clips.ColumnPlan.{ColumnPlan}
@@ -35,8 +32,7 @@ dots_along column first (suc n) = dots_along column first n ++ column (first + n
 pub record CanPaint (v : ViewValue) (t : PaintTools) (old : PaintState) (f : FragmentValue) :
     Type 0 where
   pub within : f.last < v.shape.width
-  pub columns : old.canvas.left + v.shape.width ≤ FRAME_WIDTH
-  pub rows : old.canvas.top + v.shape.height ≤ FRAME_HEIGHT
+  pub placed : StandsInFrame v.shape old.canvas
   pub slots : length t.dir.lumps ≤ old.cache.lumps
   pub shades : t.colormap < length t.dir.lumps
   pub textures : (number : ℕ) → number ≢ 0 → IsPartTexture f.numbers number →

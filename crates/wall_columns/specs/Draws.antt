@@ -1,8 +1,7 @@
 -- Which textures a fragment is painted with, and what is left as it was where it is not drawn.
 use Rattle.std.specs.Prelude.{◌≡◌, ◌≢◌, ◌⊎◌, ℕ}
-use Rattle.art_rules.specs.Words.{ShelfView}
+use Rattle.wall_columns.specs.Rules.{ShelfView, WallFacts}
 use Rattle.texture_build.specs.Zones.{Heap}
-use Rattle.picture_rules.specs.declared.wall.WallFacts.{WallFacts}
 use Rattle.pixel_strips.specs.Canvases.{CanvasView}
 use Rattle.visplanes.specs.Planes.{PlanesView}
 

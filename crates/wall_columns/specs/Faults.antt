@@ -1,9 +1,7 @@
 -- The faults of drawing as those of any layer, which refuses what passes a limit.
 use Rattle.std.specs.Prelude.{Option, Some, None, Result, Ok, Err, ⊤}
-use Rattle.art_rules.specs.Words.{Fault}
+use Rattle.wall_columns.specs.Rules.{Fault, OverLimit, openings_count, planes_count}
 use Rattle.art_rules.specs.Fault.TheVariants as fault
-use Rattle.picture_rules.specs.declared.OverLimit.{OverLimit}
-use Rattle.picture_rules.specs.Words.{openings_count, planes_count}
 use Rattle.wall_columns.specs.declared.fault.DrawFault.{DrawFault}
 use Rattle.wall_columns.specs.declared.fault.DrawFault.TheVariants.{Planes, Openings, ZoneFull, ReadFault}
 use Rattle.texture_build.specs.CacheFault.{CacheFault}

@@ -1,10 +1,7 @@
 -- The planes of a leaf, one at a time: found where it is entered, checked where a fragment marks.
 use Rattle.std.specs.Prelude.{ℕ, nat_lt, cond, List, Option, Some, None, length}
-use Rattle.picture_rules.specs.declared.plane.PlaneKey.{PlaneKey}
-use Rattle.picture_rules.specs.Words.{ceiling_found, checked_plane, find, floor_found, openings_count, Plane, PlaneChoice, planes_count, PlanesNow, with_ceiling, with_floor}
-use Rattle.picture_rules.specs.declared.OverLimit.{OverLimit}
+use Rattle.wall_columns.specs.Rules.{FragmentNumbers, OverLimit, Plane, PlaneChoice, PlaneKey, PlanesNow, ceiling_found, checked_plane, find, floor_found, openings_count, planes_count, with_ceiling, with_floor}
 use Rattle.visplanes.specs.Planes.{PlanesView}
-use Rattle.picture_rules.specs.declared.wall.FragmentNumbers.{FragmentNumbers}
 use Rattle.wall_columns.specs.declared.column_state.ColumnState.{ColumnState}
 use Rattle.wall_columns.specs.Columns.{plane_number}
 

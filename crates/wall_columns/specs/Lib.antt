@@ -13,3 +13,4 @@ pub mod States
 pub mod Painted
 pub mod Drawn
 pub mod Tools
+pub mod Rules

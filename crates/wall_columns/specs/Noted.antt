@@ -1,7 +1,6 @@
 -- What the notes say of the fragments that they are of.
 use Rattle.std.specs.Prelude.{ℕ, List, IfSome, IsSome, slice_get}
-use Rattle.picture_rules.specs.Words.{Wall}
-use Rattle.picture_rules.specs.declared.wall.FragmentNote.{FragmentNote}
+use Rattle.wall_columns.specs.Rules.{FragmentNote, Wall}
 
 -- behind the seg of a masked note there is a sector
 pub record HaveBacks (walls : List Wall) (notes : List FragmentNote) : Type 0 where

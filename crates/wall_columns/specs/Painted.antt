@@ -1,8 +1,6 @@
 -- The strips of a fragment in one of its columns, by what they have in common.
 use Rattle.std.specs.Prelude.{◌<◌, ℕ, List, length, Result}
-use Rattle.picture_rules.specs.Words.{Art, column_dots, Dot, joined_lists, Painter, painter_of, row_fraction, rows_between, texel_row, ViewShape, WALL, WallStrip}
-use Rattle.picture_rules.specs.declared.wall.Part.{Part}
-use Rattle.picture_rules.specs.declared.wall.RowRange.{RowRange}
+use Rattle.wall_columns.specs.Rules.{Art, Dot, Painter, Part, RowRange, ViewShape, WALL, WallStrip, column_dots, joined_lists, painter_of, row_fraction, rows_between, texel_row}
 use Rattle.texture_build.specs.Paints.{PaintState, PaintTools, Paints, painted_art}
 use Rattle.wall_columns.specs.declared.fault.DrawFault.{DrawFault}
 use Rattle.wall_columns.specs.declared.paint.ColumnLook.{ColumnLook}

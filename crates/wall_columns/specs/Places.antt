@@ -1,9 +1,6 @@
 -- Where a fragment saves its lists among the openings.
 use Rattle.std.specs.Prelude.{ℕ, ◌+◌, ℤ, Bool, cond, Option, Some, None}
-use Rattle.picture_rules.specs.declared.wall.Clip.{Clip}
-use Rattle.picture_rules.specs.declared.wall.Clip.TheVariants.{Absent, Constant, Saved}
-use Rattle.picture_rules.specs.declared.wall.FragmentNumbers.{FragmentNumbers}
-use Rattle.picture_rules.specs.Words.{place_if, saves_bottom, saves_top}
+use Rattle.wall_columns.specs.Rules.{Absent, Clip, Constant, FragmentNumbers, Saved, place_if, saves_bottom, saves_top}
 use Rattle.wall_columns.specs.declared.notes.SavePlaces.{SavePlaces}
 
 -- how many openings a list takes, where it is saved

@@ -1,11 +1,7 @@
 -- What a fragment does in one of its columns: its plan, and the strips that a plan has.
 use Rattle.std.specs.Prelude.{◌≡◌, ◌⊎◌, ◌≤ℤ◌, ◌<ℤ◌, ◌||◌, ◌&&◌, ℕ, pos, Bool, true, false, not, int_lt, cond, List, [], ◌∷◌, FitsSigned}
 use Rattle.std.specs.Int.{w32}
-use Rattle.picture_rules.specs.Words.{bottom_rows, ceiling_rows, clip_after, floor_rows, has_texture, middle_rows, minus_one, top_rows, WallStrip}
-use Rattle.picture_rules.specs.declared.wall.ColumnClip.{ColumnClip}
-use Rattle.picture_rules.specs.declared.wall.Edges.{Edges}
-use Rattle.picture_rules.specs.declared.wall.FragmentNumbers.{FragmentNumbers}
-use Rattle.picture_rules.specs.declared.wall.RowRange.{RowRange}
+use Rattle.wall_columns.specs.Rules.{ColumnClip, Edges, FragmentNumbers, RowRange, WallStrip, bottom_rows, ceiling_rows, clip_after, floor_rows, has_texture, middle_rows, minus_one, top_rows}
 use Rattle.wall_columns.specs.declared.clips.ColumnPlan.{ColumnPlan}
 
 -- no row, and rows that a part has only where it is there

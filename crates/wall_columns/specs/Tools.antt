@@ -1,12 +1,10 @@
 -- What walls are drawn with, by the values of their tools.
-use Rattle.std.specs.Prelude.{◌≡◌, ◌<◌, ◌≤◌, ◌+◌, ℕ, List, length, All}
-use Rattle.art_rules.specs.Words.{lump_bytes, ShelfView}
-use Rattle.picture_rules.specs.Words.{Dot, FRAME_HEIGHT, FRAME_WIDTH, ViewValue, Wall, wall_dots, wall_of}
+use Rattle.std.specs.Prelude.{◌≡◌, ◌<◌, ℕ, List, length, All}
+use Rattle.wall_columns.specs.Rules.{Dot, FragmentNumbers, ShelfView, ViewValue, Wall, WallFacts, lump_bytes, wall_dots, wall_of}
 use Rattle.pixel_strips.specs.Canvases.{CanvasView}
-use Rattle.picture_rules.specs.declared.wall.FragmentNumbers.{FragmentNumbers}
-use Rattle.picture_rules.specs.declared.wall.WallFacts.{WallFacts}
+use Rattle.pixel_strips.specs.Standing.{StandsInFrame}
 use Rattle.texture_build.specs.Arts.{view_art}
-use Rattle.texture_build.specs.Draws.{CanDraw, HoldsArt}
+use Rattle.texture_build.specs.Draws.{CanDraw}
 use Rattle.texture_build.specs.Paints.{PaintState, PaintTools, paint_state, paint_tools}
 use Rattle.wall_columns.specs.declared.tools.WallTools.{WallTools}
 use Rattle.wall_columns.specs.declared.clips.ColumnPlan.{ColumnPlan}
@@ -19,11 +17,6 @@ wall_tools t = paint_tools t.dir.now t.textures.now t.colormap.0
 
 abbrev pub wall_state : {S C : Type 0} → (S → ShelfView) → (C → CanvasView) → WallTools S C → PaintState
 wall_state shelf canvas t = paint_state (shelf t.shelf.now) t.cache.now (canvas t.canvas.now)
-
--- the cache holds what the files of these contents give, and a colormap of `count` bytes
-abbrev pub HoldsWallTools : {S C : Type 0} → (S → ShelfView) → WallTools S C → List (List ℕ) → ℕ → Type 0
-HoldsWallTools shelf t contents count =
-    HoldsArt (shelf t.shelf.now) t.dir.now t.textures.now contents t.colormap.0 count t.cache.now
 
 -- the dots of the fragment of a seg behind these, where the files have these contents
 abbrev pub range_dots : {S C : Type 0} → WallTools S C → WallFacts → ℕ → ℕ → List Wall →
@@ -43,8 +36,7 @@ AreSameWallTools old new = (new.view ≡ old.view) × ((new.textures ≡ old.tex
 
 -- a column of a view that lies on a canvas
 abbrev pub IsColumnOn : CanvasView → ViewValue → ℕ → Type 0
-IsColumnOn canvas v x = (x < v.shape.width) × ((canvas.left + v.shape.width ≤ FRAME_WIDTH)
-    × (canvas.top + v.shape.height ≤ FRAME_HEIGHT))
+IsColumnOn canvas v x = (x < v.shape.width) × StandsInFrame v.shape canvas
 
 -- the strips of a plan that have rows are in the view, and their textures may be drawn
 abbrev pub CanPaintPlan : {S C : Type 0} → WallTools S C → FragmentNumbers → ColumnPlan → Type 0

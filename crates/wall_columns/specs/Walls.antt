@@ -1,8 +1,6 @@
 -- What contracts see of the walls of a view as far as they are drawn.
 use Rattle.std.specs.Prelude.{◌≡◌, ◌≤◌, ◌≤ℤ◌, ℕ, ℤ, pos, List, All, Option, length, slice_index_or}
-use Rattle.picture_rules.specs.Words.{FRAME_HEIGHT, FRAME_WIDTH, greatest_clip, least_clip, minus_one}
-use Rattle.picture_rules.specs.declared.wall.ColumnClip.{ColumnClip}
-use Rattle.picture_rules.specs.declared.wall.FragmentNote.{FragmentNote}
+use Rattle.wall_columns.specs.Rules.{ColumnClip, FRAME_HEIGHT, FRAME_WIDTH, FragmentNote, greatest_clip, least_clip, minus_one}
 
 pub record WallsView : Type 0 where
   -- the notes of the drawn fragments, the openings that they saved, and how many there is room for

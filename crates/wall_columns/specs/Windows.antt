@@ -1,7 +1,6 @@
 -- What is open of each column of a frame, row by row (ceilingclip, floorclip, r_plane.c).
 use Rattle.std.specs.Prelude.{◌≤ℤ◌, ℕ, ℤ, pos, List, slice_index_or, slice_set}
-use Rattle.picture_rules.specs.Words.{greatest_clip, least_clip, minus_one}
-use Rattle.picture_rules.specs.declared.wall.ColumnClip.{ColumnClip}
+use Rattle.wall_columns.specs.Rules.{ColumnClip, greatest_clip, least_clip, minus_one}
 
 -- the two clips of each column, and the rows of the view
 pub record WindowsView : Type 0 where

@@ -1,10 +1,8 @@
 // What a fragment is drawn among: the windows, the openings, and the planes of the leaf.
 //
 // Rules: this crate's Columns, Leaves and Saved.
-ghost use Rattle.std.specs.Prelude.{◌≡◌, ◌≢◌, ◌<◌, ◌≤◌, ◌+◌, ◌-◌, ℕ, [], None, Some, IfOk, IfErr, OnOk, length, take};
-ghost use Rattle.picture_rules.specs.Words.{ceiling_found, ceiling_rows, floor_found, floor_rows, FRAME_HEIGHT, FRAME_WIDTH, IsAmongPlanes, marked_rows, open_clip, PlanesNow, set_run, texture_column};
-ghost use Rattle.picture_rules.specs.declared.wall.TheConstants.{MOST_OPENINGS};
-ghost use Rattle.picture_rules.specs.declared.wall.WallFacts.{WallFacts};
+ghost use Rattle.std.specs.Prelude.{◌≡◌, ◌≢◌, ◌<◌, ◌≤◌, ◌+◌, ◌-◌, ℕ, [], None, Some, IfOk, IfErr, OnOk, length};
+ghost use Rattle.wall_columns.specs.Rules.{FRAME_HEIGHT, FRAME_WIDTH, MOST_OPENINGS, PlanesNow, WallFacts, ceiling_found, ceiling_rows, floor_found, floor_rows, marked_rows, open_clip, set_run, texture_column};
 ghost use Rattle.visplanes.specs.Planes.{with_planes};
 ghost use Rattle.wall_edges.specs.Fragments.{fragment_of};
 ghost use Rattle.wall_columns.specs.Faults.{limit_of_result, IsPlanesFault, IsLimitFault};
@@ -12,7 +10,7 @@ ghost use Rattle.wall_columns.specs.Windows.{window_at, with_window, IsClipIn};
 ghost use Rattle.wall_columns.specs.Plans.{plan_of, AreEdgeWords};
 ghost use Rattle.wall_columns.specs.Saved.{column_saved};
 ghost use Rattle.wall_columns.specs.Places.{places_of};
-ghost use Rattle.wall_columns.specs.Columns.{marked_planes, plane_number, columns_of, HasMarked, HasSaved, ArePlacesIn};
+ghost use Rattle.wall_columns.specs.Columns.{marked_planes, plane_number, columns_of, AreLeafPlanes, HasMarked, HasSaved, HasTaken, ArePlacesIn};
 ghost use Rattle.wall_columns.specs.Leaves.{now_of, ceiling_check, floor_check, openings_over, leaf_over, checks_over};
 
 use crate::clips::{ColumnPlan, column_plan};
@@ -81,10 +79,7 @@ impl ColumnState {
         ensures limit { (s : PlanesNow) → s ≡ now_of self.old planes.old →
             limit_of_result result ≡ leaf_over planes.old.room s leaf.floor leaf.ceiling }
         ensures faults { IfErr result IsPlanesFault }
-        ensures floor { OnOk result
-            (IsAmongPlanes planes.new.planes (plane_number self.new.floor)) }
-        ensures ceiling { OnOk result
-            (IsAmongPlanes planes.new.planes (plane_number self.new.ceiling)) }
+        ensures leaf { OnOk result (AreLeafPlanes planes.new.planes self.new) }
         ensures windows { self.new.windows ≡ self.old.windows }
         ensures openings { self.new.openings ≡ self.old.openings }
         ensures room { planes.new.room ≡ planes.old.room }
@@ -104,14 +99,8 @@ impl ColumnState {
         last: u16,
     ) -> Result<SavePlaces, DrawFault>
         requires { first ≤ last }
-        ensures ok { IfOk result (λ places. places
-            ≡ places_of numbers.now (length self.old.openings.saved) (last + 1 - first)) }
-        ensures within { IfOk result (λ places.
-            ArePlacesIn (last + 1 - first) (length self.new.openings.saved) places) }
-        ensures length { IfOk result (λ places.
-            length self.new.openings.saved ≡ places.end) }
-        ensures front { OnOk result (take (length self.old.openings.saved)
-            self.new.openings.saved ≡ self.old.openings.saved) }
+        ensures taken { IfOk result
+            (HasTaken numbers.now (last + 1 - first) self.old.openings self.new.openings) }
         ensures limit { limit_of_result result ≡ openings_over self.old.openings.room
             (places_of numbers.now (length self.old.openings.saved) (last + 1 - first)).end None }
         ensures faults { IfErr result IsLimitFault }
@@ -138,18 +127,14 @@ impl ColumnState {
     ) -> Result<(), DrawFault>
         requires ordered { first ≤ last }
         requires within { last < FRAME_WIDTH }
-        requires floor { IsAmongPlanes planes.old.planes (plane_number self.old.floor) }
-        requires ceiling { IsAmongPlanes planes.old.planes (plane_number self.old.ceiling) }
+        requires leaf { AreLeafPlanes planes.old.planes self.old }
         ensures ok { (s : PlanesNow) → s ≡ now_of self.old planes.old →
             OnOk result (now_of self.new planes.new ≡ floor_check numbers.now first last
             (ceiling_check numbers.now first last s)) }
         ensures limit { (s : PlanesNow) → s ≡ now_of self.old planes.old →
             limit_of_result result ≡ checks_over planes.old.room numbers.now first last s }
         ensures faults { IfErr result IsPlanesFault }
-        ensures floor { OnOk result
-            (IsAmongPlanes planes.new.planes (plane_number self.new.floor)) }
-        ensures ceiling { OnOk result
-            (IsAmongPlanes planes.new.planes (plane_number self.new.ceiling)) }
+        ensures leaf { OnOk result (AreLeafPlanes planes.new.planes self.new) }
         ensures windows { self.new.windows ≡ self.old.windows }
         ensures openings { self.new.openings ≡ self.old.openings }
         ensures room { planes.new.room ≡ planes.old.room }
@@ -171,28 +156,18 @@ impl ColumnState {
     ) -> Result<SavePlaces, DrawFault>
         requires ordered { first ≤ last }
         requires within { last < FRAME_WIDTH }
-        requires floor { IsAmongPlanes planes.old.planes (plane_number self.old.floor) }
-        requires ceiling { IsAmongPlanes planes.old.planes (plane_number self.old.ceiling) }
+        requires leaf { AreLeafPlanes planes.old.planes self.old }
         ensures ok { (s : PlanesNow) → s ≡ now_of self.old planes.old →
             OnOk result (now_of self.new planes.new ≡ floor_check numbers.now first last
             (ceiling_check numbers.now first last s)) }
-        ensures places { IfOk result (λ places. places
-            ≡ places_of numbers.now (length self.old.openings.saved) (last + 1 - first)) }
-        ensures within { IfOk result (λ places.
-            ArePlacesIn (last + 1 - first) (length self.new.openings.saved) places) }
-        ensures length { IfOk result (λ places.
-            length self.new.openings.saved ≡ places.end) }
-        ensures front { OnOk result (take (length self.old.openings.saved)
-            self.new.openings.saved ≡ self.old.openings.saved) }
+        ensures taken { IfOk result
+            (HasTaken numbers.now (last + 1 - first) self.old.openings self.new.openings) }
         ensures limit { (s : PlanesNow) → s ≡ now_of self.old planes.old →
             limit_of_result result ≡ openings_over self.old.openings.room
             (places_of numbers.now (length self.old.openings.saved) (last + 1 - first)).end
             (checks_over planes.old.room numbers.now first last s) }
         ensures faults { IfErr result IsLimitFault }
-        ensures floor { OnOk result
-            (IsAmongPlanes planes.new.planes (plane_number self.new.floor)) }
-        ensures ceiling { OnOk result
-            (IsAmongPlanes planes.new.planes (plane_number self.new.ceiling)) }
+        ensures leaf { OnOk result (AreLeafPlanes planes.new.planes self.new) }
         ensures windows { self.new.windows ≡ self.old.windows }
         ensures openings_room { self.new.openings.room ≡ self.old.openings.room }
         ensures room { planes.new.room ≡ planes.old.room }
@@ -226,8 +201,7 @@ impl ColumnState {
         requires marked { marked ≡ marked_planes numbers.now self.old.ceiling self.old.floor }
         requires column { x < FRAME_WIDTH }
         requires edges { AreEdgeWords edges.now }
-        requires floor { IsAmongPlanes planes.old.planes (plane_number self.old.floor) }
-        requires ceiling { IsAmongPlanes planes.old.planes (plane_number self.old.ceiling) }
+        requires leaf { AreLeafPlanes planes.old.planes self.old }
         ensures plan { result ≡ plan_of self.old.windows.height numbers.now
             (window_at self.old.windows x) edges.now }
         ensures rows { IsClipIn self.old.windows.height (window_at self.old.windows x) }
@@ -268,8 +242,7 @@ impl ColumnState {
         requires within { fragment.now.last < view.now.shape.width }
         requires places { ArePlacesIn (columns_of fragment.now)
             (length self.old.openings.saved) places }
-        requires floor { IsAmongPlanes planes.old.planes (plane_number self.old.floor) }
-        requires ceiling { IsAmongPlanes planes.old.planes (plane_number self.old.ceiling) }
+        requires leaf { AreLeafPlanes planes.old.planes self.old }
         ensures marked { HasMarked fragment.now (columns_of fragment.now) self.old self.new
             planes.old planes.new }
         ensures saved { HasSaved view.now fragment.now places (columns_of fragment.now)

@@ -1,9 +1,8 @@
 // The columns of a fragment, drawn from left to right: this crate's Columns and Drawn.
 ghost use Rattle.std.specs.Prelude.{◌≡◌, None, OnOk, length};
-ghost use Rattle.picture_rules.specs.Words.{IsAmongPlanes};
 ghost use Rattle.wall_columns.specs.Faults.{limit_of_result};
 ghost use Rattle.wall_columns.specs.Windows.{window_at};
-ghost use Rattle.wall_columns.specs.Columns.{plane_number, columns_of, HasMarked, HasSaved, ArePlacesIn};
+ghost use Rattle.wall_columns.specs.Columns.{columns_of, AreLeafPlanes, HasMarked, HasSaved, ArePlacesIn};
 ghost use Rattle.wall_columns.specs.Drawn.{CanPaint, PaintsColumns};
 ghost use Rattle.wall_columns.specs.Tools.{AreSameWallTools, wall_state, wall_tools};
 
@@ -35,9 +34,7 @@ impl ColumnState {
             (wall_state S.view C.view tools.old) fragment.now }
         requires places { ArePlacesIn (columns_of fragment.now)
             (length self.old.openings.saved) places }
-        requires floor { IsAmongPlanes tools.old.planes.now.planes (plane_number self.old.floor) }
-        requires ceiling { IsAmongPlanes tools.old.planes.now.planes
-            (plane_number self.old.ceiling) }
+        requires leaf { AreLeafPlanes tools.old.planes.now.planes self.old }
         ensures same { AreSameWallTools tools.old tools.new }
         ensures limit { limit_of_result result ≡ None }
         ensures marked { OnOk result (HasMarked fragment.now (columns_of fragment.now) self.old
@@ -87,9 +84,7 @@ impl ColumnState {
             (wall_state S.view C.view tools.old) fragment.now }
         requires places { ArePlacesIn (columns_of fragment.now)
             (length self.old.openings.saved) places }
-        requires floor { IsAmongPlanes tools.old.planes.now.planes (plane_number self.old.floor) }
-        requires ceiling { IsAmongPlanes tools.old.planes.now.planes
-            (plane_number self.old.ceiling) }
+        requires leaf { AreLeafPlanes tools.old.planes.now.planes self.old }
         ensures same { AreSameWallTools tools.old tools.new }
         ensures limit { limit_of_result result ≡ None }
         ensures marked { OnOk result (HasMarked fragment.now (columns_of fragment.now) self.old

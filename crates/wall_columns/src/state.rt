@@ -2,16 +2,16 @@
 //
 // Rules: `specs/Walls`, `specs/Built`. The original: r_segs.c, and `R_Subsector` of r_bsp.c.
 ghost use Rattle.std.specs.Prelude.{◌≡◌, ◌<◌, ◌≤◌, ◌+◌, ◌↔◌, ℕ, [], List, None, Ok, IfOk, IfErr, OnOk, IsTrue, length};
-ghost use Rattle.picture_rules.specs.Words.{after_event, AreNoted, FRAME_HEIGHT, FRAME_WIDTH, IsAmongPlanes, MAX_DRAWSEGS, no_planes, PlanesNow, ViewValue, Wall, wall_of};
-ghost use Rattle.picture_rules.specs.declared.wall.TheConstants.{MOST_OPENINGS};
-ghost use Rattle.texture_build.specs.Draws.{FitBeside, CanDraw, DrawsWith};
+ghost use Rattle.wall_columns.specs.Rules.{AreNoted, FRAME_HEIGHT, FRAME_WIDTH, IsAmongPlanes, MAX_DRAWSEGS, MOST_OPENINGS, PlanesNow, ViewValue, Wall, after_event, no_planes, wall_of};
+ghost use Rattle.texture_build.specs.Draws.{CanDraw};
+ghost use Rattle.texture_build.specs.Paints.{Paints};
 ghost use Rattle.wall_columns.specs.Walls.{WallsView};
-ghost use Rattle.wall_columns.specs.Built.{IsBuilt, with_wall, step_of_wall, step_of_leaf, limits_of, step_over};
+ghost use Rattle.wall_columns.specs.Built.{AreBehind, IsBuilt, with_wall, step_of_wall, step_of_leaf, limits_of, step_over};
 ghost use Rattle.wall_columns.specs.Faults.{draw_fault, limit_of_result, IsPlanesFault, IsLimitFault};
-ghost use Rattle.pixel_strips.specs.Dotted.{HasDots, PlacedAlike};
+ghost use Rattle.pixel_strips.specs.Standing.{StandsInFrame};
 ghost use Rattle.wall_columns.specs.Draws.{IsWallTexture, IsNoPicture, IsUntouched};
 ghost use Rattle.wall_columns.specs.Noted.{HaveBacks};
-ghost use Rattle.wall_columns.specs.Tools.{AreSameWallTools, HoldsWallTools, range_dots};
+ghost use Rattle.wall_columns.specs.Tools.{AreSameWallTools, range_dots, wall_state, wall_tools};
 
 use crate::column_state::ColumnState;
 use crate::fault::DrawFault;
@@ -173,10 +173,7 @@ impl WallState {
         requires ordered { first ≤ last }
         requires within { last < tools.old.view.now.shape.width }
         requires height { self.old.height ≡ tools.old.view.now.shape.height }
-        requires columns { (C.view tools.old.canvas.now).left + tools.old.view.now.shape.width
-            ≤ FRAME_WIDTH }
-        requires rows { (C.view tools.old.canvas.now).top + tools.old.view.now.shape.height
-            ≤ FRAME_HEIGHT }
+        requires placed { StandsInFrame tools.old.view.now.shape (C.view tools.old.canvas.now) }
         requires slots { length tools.old.dir.now.lumps ≤ tools.old.cache.now.lumps }
         requires colormap { tools.old.colormap.0 < length tools.old.dir.now.lumps }
         requires textures { (number : ℕ) → IsWallTexture facts.now number →
@@ -197,23 +194,10 @@ impl WallState {
             limit_of_result result ≡ step_over (limits_of self.old tools.old.planes.now) s
             (length self.old.openings) (step_of_wall tools.old.view.now walls
             (wall_of tools.old.view.now facts.now first last)) }
-        ensures painted { (walls : List Wall) (s : PlanesNow) (contents : List (List ℕ))
-            (count : ℕ) →
-            IsBuilt tools.old.view.now walls s self.old tools.old.planes.now.planes →
-            length walls < MAX_DRAWSEGS → HoldsWallTools S.view tools.old contents count →
-            OnOk result (HasDots C.mark
-            (range_dots tools.old facts.now first last walls contents)
-            (C.view tools.old.canvas.now) (C.view tools.new.canvas.now)) }
-        ensures fits { (walls : List Wall) (s : PlanesNow) (contents : List (List ℕ))
-            (count : ℕ) →
-            IsBuilt tools.old.view.now walls s self.old tools.old.planes.now.planes →
-            length walls < MAX_DRAWSEGS → HoldsWallTools S.view tools.old contents count →
-            OnOk result (FitBeside tools.old.dir.now.lumps tools.old.textures.now
-            tools.old.colormap.0 count tools.old.cache.now.size
-            (range_dots tools.old facts.now first last walls contents)) }
-        ensures paints { DrawsWith draw_fault (IsWallTexture facts.now) IsNoPicture
-            (S.view tools.old.shelf.now) (S.view tools.new.shelf.now) tools.old.dir.now
-            tools.old.textures.now tools.old.cache.now tools.new.cache.now result }
+        ensures paints { Paints draw_fault C.mark (wall_tools tools.old) (IsWallTexture facts.now)
+            IsNoPicture (AreBehind tools.old.view.now self.old tools.old.planes.now.planes)
+            (λ contents behind. range_dots tools.old facts.now first last behind.0 contents)
+            (wall_state S.view C.view tools.old) (wall_state S.view C.view tools.new) result }
         ensures past { length self.old.notes ≡ MAX_DRAWSEGS → result ≡ Ok tt }
         ensures past_state { length self.old.notes ≡ MAX_DRAWSEGS → self.new ≡ self.old }
         ensures past_tools { length self.old.notes ≡ MAX_DRAWSEGS →
@@ -227,7 +211,6 @@ impl WallState {
         ensures stays { self.new.height ≡ self.old.height }
         ensures room { self.new.room ≡ self.old.room }
         ensures planes_room { tools.new.planes.now.room ≡ tools.old.planes.now.room }
-        ensures place { PlacedAlike (C.view tools.old.canvas.now) (C.view tools.new.canvas.now) }
     {
         if self.is_full() {
             return Ok(());

@@ -47,4 +47,4 @@ pub use Rattle.std.specs.Str.{bytes_eq}
 pub use Rattle.std.specs.Vec.{with_item}
 pub use Rattle.std.specs.declared.cmp.Ordering.{Ordering}
 pub use Rattle.std.specs.declared.cmp.Ordering.TheVariants.{Equal, Greater, Less}
-pub use Rattle.word_rules.proofs.Logic.{and-false_left, and-false_right, and-second_false, and-true_true, eq-false_above, eq-false_positive, eq-from_true, eq-same, eq-true, funext, is_some-false, le-from_lt_false, lt-false, lt-true, on_ok-always, or-cases, or-false_false, or-true_left, or-true_right, or_else-assoc, or_else-none, or_else-none_right, some-injective, some-same, within-row}
+pub use Rattle.word_rules.proofs.Logic.{any-contains, and-false_left, and-false_right, and-second_false, and-true_true, eq-false_above, eq-false_positive, eq-from_true, eq-same, eq-true, funext, is_some-false, le-from_lt_false, lt-false, lt-true, on_ok-always, or-cases, or-false_false, or-true_left, or-true_right, or_else-assoc, or_else-none, or_else-none_right, some-injective, some-same, within-row}

@@ -1,5 +1,5 @@
 -- Laws of `listed`, `listed_from` and `joined_lists`.
-use Rattle.std.proofs.Common.{◌≡◌, ℕ, ◌+◌, ◌-◌, ◌<◌, ◌≤◌, List, [], ◌∷◌, ◌++◌, length, get_or, refl, ap, sym, ◌∙◌, arith}
+use Rattle.std.proofs.Common.{◌≡◌, ℕ, ◌+◌, ◌-◌, ◌<◌, ◌≤◌, List, [], ◌∷◌, ◌++◌, length, get_or, refl, ap, sym, ◌∙◌, append-nil, arith}
 use Rattle.std.specs.List.{range_with_len}
 use Rattle.std.specs.Prelude.{map}
 use Rattle.std.proofs.lemmas.List.FromFn.{length-map-range_with_len, get_or-map-range_with_len, map-range_with_len_more, fill_by_all}
@@ -62,6 +62,22 @@ joined_lists-append f xs ys = flat_map-append f xs ys
 pub joined_lists-cons : {X Y : Type 0} (f : X → List Y) (x : X) (xs : List X) → joined_lists f (x ∷ xs) ≡ f x ++ joined_lists f xs
 unfolding joined_lists
 joined_lists-cons f x xs = refl
+
+-- one value alone
+pub joined_lists-one : {X Y : Type 0} (f : X → List Y) (x : X) → joined_lists f (x ∷ []) ≡ f x
+unfolding joined_lists
+joined_lists-one f x = append-nil (f x)
+
+-- one more behind numbers that follow one another
+pub joined_lists-next : {Y : Type 0} (f : ℕ → List Y) (first next : ℕ) → first ≤ next →
+    joined_lists f (map (λ x. x) (range_with_len first (next + 1 - first))) ≡ joined_lists f (map (λ x. x) (range_with_len first (next - first))) ++ f next
+joined_lists-next {Y} f first next l =
+    let before : List ℕ = map (λ x. x) (range_with_len first (next - first)) in
+    let n : next + 1 - first ≡ next - first + 1 = omega arith in
+    ap (λ (k : ℕ). joined_lists f (map (λ x. x) (range_with_len first k))) n
+    ∙ ap (joined_lists f) (map-range_with_len_more (λ x. x) first (next - first) next (omega (arith, l)))
+    ∙ joined_lists-append f before (next ∷ [])
+    ∙ ap (λ (ys : List Y). joined_lists f before ++ ys) (joined_lists-one f next)
 
 -- for `grind`: a loop that pushes the values
 pub ruleset listing = (listed-zero, listed-more, length-listed)

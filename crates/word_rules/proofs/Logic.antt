@@ -1,5 +1,7 @@
 -- Laws of truth values, options, answers and numbers that proofs of many crates use.
-use Rattle.std.proofs.Common.{◌≡◌, ◌<◌, ◌≤◌, ◌+◌, ℕ, zero, Bool, true, false, ◌&&◌, ◌||◌, Option, Some, None, Result, Ok, Err, OnOk, refl, arith}
+use Rattle.std.proofs.Common.{◌≡◌, ◌<◌, ◌≤◌, ◌+◌, ℕ, Bool, true, false, ◌&&◌, ◌||◌, Decides, List, get_or, Option, Some, None, Result, Ok, Err, OnOk, refl, subst, arith}
+use Rattle.std.specs.List.{Contains, list_any}
+use Rattle.std.proofs.lemmas.List.Folds.{Any-from_list_any, list_any_at}
 use Rattle.std.specs.Prelude.{◌==◌, nat_lt, nat_le, is_some}
 use Rattle.std.proofs.lemmas.Bool.Decides.{nat_tests}
 use Rattle.word_rules.specs.Least.{or_else}
@@ -93,3 +95,15 @@ eq-false_positive n l = grind (arith, nat_tests)
 
 pub within-row : (first k v : ℕ) → v ≡ first + k → (nat_le first v && nat_lt v (first + (k + 1))) ≡ true
 within-row first k v e = grind (arith, nat_tests)
+
+-- a test for a number passes exactly where a list has it
+pub any-contains : (xs : List ℕ) (k : ℕ) → Decides (list_any (λ n. n == k) xs) (Contains xs k)
+any-contains xs k = (found, passes) where
+  found : list_any (λ n. n == k) xs ≡ true → Contains xs k
+  found e =
+      let any = Any-from_list_any (λ (n : ℕ). n == k) xs e in
+      let same : any.1 ≡ k = eq-from_true any.1 k any.4 in
+      (any.0, any.2, subst (λ (n : ℕ). get_or xs any.0 n ≡ n) same any.3)
+
+  passes : Contains xs k → list_any (λ n. n == k) xs ≡ true
+  passes there = list_any_at (λ (n : ℕ). n == k) xs there.0 k there.1 (eq-true (get_or xs there.0 k) k there.2)

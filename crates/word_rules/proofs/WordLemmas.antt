@@ -8,7 +8,7 @@ use Rattle.std.proofs.lemmas.Int.{ints, clamps, to_z-of_z, fits_signed_from_abs,
 use Rattle.std.proofs.Math.Pow.{pow-lt}
 use Rattle.std.proofs.lemmas.Nat.{and_mask, div_below}
 use Rattle.word_rules.specs.declared.TheConstants.{FRACTION_UNIT, QUOTIENT_BITS, SLOPE_STEPS, MIN_SLOPE_DIVISOR, SLOPE_DIVIDEND_SHIFT, SLOPE_DIVISOR_SHIFT}
-use Rattle.word_rules.specs.Words.{word, clamp_word, slope_div, shl_word}
+use Rattle.word_rules.specs.Words.{word, clamp_word, greater_word, lesser_word, slope_div, shl_word}
 
 low_of_negative : (n : ℕ) → n < 2 ^ 63 → (2 ^ 64 - suc n) % 2 ^ 32 ≡ 2 ^ 32 - 1 - n % 2 ^ 32
 low_of_negative n h = omega arith
@@ -104,6 +104,15 @@ shl_of_bits z k f h =
     ∙ ap (λ (y : ℤ). word (y *ℤ cast_signed w32 (2 ^ k))) (to_z-of_z w32 z f)
     ∙ ap (λ (y : ℤ). word (z *ℤ y)) (signed_of_bits (2 ^ k) small)
     ∙ int_wrap-mul_right w32 z (pos (2 ^ k))
+
+-- the greater of two is at least the first, and the lesser at most
+pub greater_word-first : (a b : ℤ) → a ≤ℤ greater_word a b
+unfolding greater_word
+greater_word-first a b = omega (arith, ints, clamps)
+
+pub lesser_word-first : (a b : ℤ) → lesser_word a b ≤ℤ a
+unfolding lesser_word
+lesser_word-first a b = omega (arith, ints, clamps)
 
 -- for `grind`: bounds of words
 pub ruleset word_bounds = (slope_div-bound, clamp_word-low, clamp_word-high)

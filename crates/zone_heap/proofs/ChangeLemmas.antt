@@ -3,9 +3,7 @@ use Rattle.std.proofs.Common.{◌≡◌, ℕ, ◌+◌, ◌*◌, ◌/◌, ◌<◌
 use Rattle.std.specs.Prelude.{◌==◌}
 use Rattle.std.proofs.lemmas.Bool.{cond-true, cond-false, false≢true}
 use Rattle.std.proofs.lemmas.List.{length-append}
-use Rattle.zone_rules.specs.declared.Tag.{Tag}
-use Rattle.zone_rules.specs.Zones.{Block, Holding, Owner, Unique, AllFit, FitsHolding, Lacks, is_held_by, block_size, bytes_of}
-use Rattle.zone_rules.specs.Frees.{retag_block, set_tag}
+use Rattle.zone_heap.specs.Rules.{AllFit, Block, FitsHolding, Holding, Lacks, Owner, Tag, Unique, block_size, bytes_of, is_held_by, retag_block, set_tag}
 use Rattle.zone_rules.proofs.OwnerLemmas.{lacks_held}
 use Rattle.zone_heap.specs.Headers.{word_at, with_word, block_in, holding_in, live_in, owner_in, code_tag, tag_code}
 use Rattle.zone_heap.specs.Regions.{joined, blocks_in, blocks_from, parts_in, AllWhole, AreLinked, IsLaid, IsRing, last_place, ring_place}
@@ -33,9 +31,6 @@ module _ (region : List ℕ) (o : Owner) (place : ℕ) (f : IsFound region o pla
 
   part_whole : AllWhole (part ∷ f.others)
   part_whole = let k = f.large in (omega arith, told ∙ whole.1 ∙ sym same, whole.2)
-
-  old_laid : IsLaid region
-  old_laid = laid_with region f.split.front (f.part ∷ f.others) f.split.front_whole whole (f.split.is ∙ ap (λ cs. joined f.split.front ++ joined cs) f.rest_is)
 
   old_parts : ring.laid.parts ≡ f.split.front ++ (f.part ∷ f.others)
   old_parts = laid_is region ring.laid ∙ sym (laid_is region (laid_with region f.split.front (f.part ∷ f.others) f.split.front_whole whole (f.split.is ∙ ap (λ cs. joined f.split.front ++ joined cs) f.rest_is)))

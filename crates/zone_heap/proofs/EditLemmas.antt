@@ -3,8 +3,7 @@ use Rattle.std.proofs.Common.{◌≡◌, ℕ, ◌+◌, ◌<◌, ◌≤◌, ◌^�
 use Rattle.std.specs.Prelude.{◌==◌}
 use Rattle.std.proofs.lemmas.Bool.{cond-true, cond-false, and_from, and_parts}
 use Rattle.std.proofs.lemmas.List.{length-append}
-use Rattle.zone_rules.specs.Zones.{Block, Holding, is_free, free_block}
-use Rattle.zone_rules.specs.Requests.{join_free, join_on, join_pair}
+use Rattle.zone_heap.specs.Rules.{Block, Holding, free_block, is_free, join_free, join_on, join_pair}
 use Rattle.zone_heap.specs.Headers.{word_at, with_word, block_in, holding_in, live_in, owner_in, code_tag}
 use Rattle.zone_heap.specs.Regions.{joined, blocks_in, blocks_from, AreLinked, last_place, ring_place, IsSplit}
 use Rattle.zone_heap.proofs.WordLemmas.{word_same, word_other, word_in_front, length-with_word, drop-with_word}

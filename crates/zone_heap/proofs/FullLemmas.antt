@@ -2,8 +2,7 @@
 use Rattle.std.proofs.Common.{◌≡◌, ℕ, ◌+◌, ◌<◌, Bool, true, false, cond, ◌&&◌, List, [], ◌∷◌, ◌++◌, map, Option, Some, None, refl, sym, subst, ap, ◌∙◌}
 use Rattle.std.specs.Prelude.{All}
 use Rattle.std.proofs.lemmas.List.Elements.{All-nil, All-cons, All-head, All-tail}
-use Rattle.zone_rules.specs.Zones.{Block, Heap, IsSound, Tiles, is_free, is_purgeable, free_block}
-use Rattle.zone_rules.specs.Requests.{gaps, stretches, passed_blocks, first_room, purge_among, purge_block, join_free, join_on, after_search, blocks_from, start_in}
+use Rattle.zone_heap.specs.Rules.{Block, Heap, IsSound, Tiles, after_search, blocks_from, first_room, free_block, gaps, is_free, is_purgeable, join_free, join_on, passed_blocks, purge_among, purge_block, start_in, stretches}
 use Rattle.zone_heap.specs.Walks.{fit_from}
 use Rattle.zone_rules.proofs.PurgeLemmas.{unpinned, covers_after, covers_itself, purge_covered}
 use Rattle.zone_heap.proofs.SearchLemmas.{NoFit, fit_is, no_fit, found_first, found_later}

@@ -3,9 +3,7 @@ use Rattle.std.proofs.Common.{◌≡◌, ℕ, ◌-◌, ◌<◌, ◌≤◌, Bool,
 use Rattle.std.specs.Prelude.{◌==◌, slice_index, slice_set}
 use Rattle.std.proofs.lemmas.Bool.{cond-true, cond-false, false≢true, and_from, eq-eqb}
 use Rattle.std.proofs.lemmas.List.{get_or-set_same, get_or-set_other, length-set}
-use Rattle.zone_rules.specs.Zones.{Block, Holding, Owner, AllFit, FitsHolding, Unique, Lacks, is_held_by, holds_for, same_owner, free_block, owned_block}
-use Rattle.zone_rules.specs.Requests.{join_free, cut_block}
-use Rattle.zone_rules.specs.Frees.{free_owner}
+use Rattle.zone_heap.specs.Rules.{AllFit, Block, FitsHolding, Holding, Lacks, Owner, Unique, cut_block, free_block, free_owner, holds_for, is_held_by, join_free, owned_block, same_owner}
 use Rattle.zone_rules.proofs.TakeLemmas.{code_small, code_same}
 use Rattle.zone_rules.proofs.OwnerLemmas.{owned_cut, owned_beside, owner_eq, lacks_held, owned_freed, owned_freed_others, owned_block-join_free}
 use Rattle.zone_rules.proofs.JoinLemmas.{Unique-join_free, AllFit-join_free}

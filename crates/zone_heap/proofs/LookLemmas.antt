@@ -3,13 +3,12 @@ use Rattle.std.proofs.Common.{◌≡◌, ℕ, ◌+◌, ◌/◌, ◌%◌, ◌<◌
 use Rattle.std.specs.Prelude.{◌==◌, IsSome, option_and_then}
 use Rattle.std.proofs.lemmas.Bool.{cond-false, false≢true}
 use Rattle.std.proofs.lemmas.List.{length-append}
-use Rattle.zone_rules.specs.Zones.{Unique, free_block, Block, Owner, owned_block, holding_of, is_held_by, holds_for}
+use Rattle.zone_heap.specs.Rules.{Block, Owner, Unique, free_block, free_owner, holding_of, holds_for, is_held_by, owned_block}
 use Rattle.zone_heap.specs.Headers.{owner_in, word_at, with_use, freed, block_in, live_in}
 use Rattle.zone_heap.specs.Regions.{joined, blocks_in, blocks_from, AllWhole, IsLaid, IsSplit}
 use Rattle.zone_heap.specs.declared.homes.Homes.{Homes}
 use Rattle.zone_heap.specs.Homes.{home_index, home_in, home_of, AreHome, IsHomed, IsSet}
 use Rattle.zone_heap.proofs.WordLemmas.{word_within, used_within, length-with_use}
-use Rattle.zone_rules.specs.Frees.{free_owner}
 use Rattle.zone_heap.proofs.PurgeLemmas.{length-freed, told-freed, block-freed}
 use Rattle.zone_heap.proofs.HomeLemmas.{freed_home, index_small, free_one}
 use Rattle.zone_heap.proofs.TakeLemmas.{among, laid_with, blocks_with}

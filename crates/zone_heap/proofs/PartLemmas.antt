@@ -9,8 +9,7 @@ use Rattle.zone_heap.specs.declared.headers.Header.{Header}
 use Rattle.zone_heap.specs.Headers.{word_at, header_in, block_in, live_in, code_tag, is_free_header, is_pinned_header, is_purgeable_header, keeps_tag}
 use Rattle.zone_heap.specs.Regions.{joined, parts_in, blocks_from, blocks_in, AllWhole, IsLaid, IsSplit}
 use Rattle.zone_heap.proofs.WordLemmas.{word_in_front, word_from}
-use Rattle.zone_rules.specs.declared.Tag.{Tag}
-use Rattle.zone_rules.specs.Zones.{Tiles, is_free, is_pinned, is_purgeable, is_purgeable_tag}
+use Rattle.zone_heap.specs.Rules.{Tag, Tiles, is_free, is_pinned, is_purgeable, is_purgeable_tag}
 
 pub joined-append : (xs ys : List (List ℕ)) → joined (xs ++ ys) ≡ joined xs ++ joined ys
 joined-append [] ys = refl

@@ -4,8 +4,7 @@ use Rattle.std.specs.Prelude.{◌==◌}
 use Rattle.std.proofs.lemmas.Bool.{cond-true, cond-false, false≢true}
 use Rattle.std.proofs.lemmas.List.{append_assoc, map-append}
 use Rattle.std.proofs.lemmas.List.Sums.{sum_by-append, sum_by-cons}
-use Rattle.zone_rules.specs.Zones.{Block, free_block, is_purgeable}
-use Rattle.zone_rules.specs.Requests.{purge_block}
+use Rattle.zone_heap.specs.Rules.{Block, free_block, is_purgeable, purge_block}
 use Rattle.zone_heap.specs.Headers.{owner_in, word_at, with_word, with_use, block_in, holding_in, live_in, freed}
 use Rattle.zone_heap.specs.Regions.{joined, blocks_in, blocks_from, IsSplit}
 use Rattle.zone_heap.specs.declared.homes.Homes.{Homes}

@@ -5,10 +5,8 @@ use Rattle.std.specs.List.{position_or_len}
 use Rattle.std.proofs.lemmas.Bool.{cond-true, cond-false, ne_eqb, eq-eqb, le-leb, leb-true, and_from, and_cases, or_left, or_right, false≢true, cases_lt, cases_Bool, or_cases, and_parts}
 use Rattle.std.proofs.lemmas.List.{append_assoc, map-append, take_at, drop_at, take-map, take-append-drop}
 use Rattle.std.proofs.lemmas.List.Sums.{sum_by_push}
-use Rattle.zone_rules.specs.Zones.{Block, Tiles, Apart, is_free, is_pinned, has_place, Holding, is_purgeable, is_purgeable_tag, pins, free_block}
-use Rattle.zone_rules.specs.Requests.{total, ends_free_at, join_free, purge_block}
+use Rattle.zone_heap.specs.Rules.{Apart, Block, Holding, RoomAt, Tiles, ends_free_at, free_block, has_place, is_free, is_pinned, is_purgeable, is_purgeable_tag, join_free, pins, purge_block, total}
 use Rattle.zone_heap.specs.Walks.{fit_from, run_place, starts_at}
-use Rattle.zone_rules.specs.Rooms.{RoomAt}
 use Rattle.zone_rules.proofs.GapLemmas.{total-cons}
 use Rattle.zone_rules.proofs.PurgeLemmas.{Sized, purged_place, purged_twice, pinned_stays, Sized-tiles, tiles_cut}
 use Rattle.zone_rules.proofs.JoinLemmas.{EndsHeld, AllFree, join_free-append, run_begins}

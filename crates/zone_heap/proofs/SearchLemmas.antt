@@ -3,8 +3,7 @@ use Rattle.std.proofs.Common.{◌≡◌, ℕ, ◌+◌, ◌<◌, ◌≤◌, suc, 
 use Rattle.std.specs.Prelude.{◌==◌, ◌⊎◌}
 use Rattle.std.specs.List.{position_or_len}
 use Rattle.std.proofs.lemmas.Bool.{cond-true, cond-false, le-leb, lt-leb, ne_eqb, or_left, or_from, or_right, and_right, false≢true, cases_lt}
-use Rattle.zone_rules.specs.Zones.{Block, Tiles, is_free, has_place, is_purgeable}
-use Rattle.zone_rules.specs.Requests.{blocks_from, start_in, ends_free_at, place_or, gaps, stretches, holds, passed_blocks, least_front, first_place, purge_among, purge_block, count_among, first_room}
+use Rattle.zone_heap.specs.Rules.{Block, Tiles, blocks_from, count_among, ends_free_at, first_place, first_room, gaps, has_place, holds, is_free, is_purgeable, least_front, passed_blocks, place_or, purge_among, purge_block, start_in, stretches}
 use Rattle.zone_heap.specs.Walks.{starts_at, fit_from, SearchIs}
 use Rattle.std.proofs.lemmas.List.{append_assoc, take-append-drop, take-map, drop-map}
 use Rattle.zone_rules.proofs.GapLemmas.{all_from}
@@ -64,12 +63,6 @@ start_is r p q (b ∷ bs) t h = pick (cases_lt p r) (ends_free_at r b) refl (λ 
       let no : (b.place == r) ≡ false = ne_eqb b.place r (λ x. omega arith) in
       let k : has_place r bs ≡ true = rw no at h in
       further r p q b bs t l e (has_low r (p + b.size) q bs t.2 k) (rest k)
-
-found_none : (w : ℕ) (gs : List (List Block)) → first_room w gs ≡ None → find (holds w) gs ≡ None
-found_none w gs e = go (find (holds w) gs) e where
-  go : (o : Option (List Block)) → option_map first_place o ≡ None → o ≡ None
-  go None e = refl
-  go (Some g) e = cc
 
 pub found_later : (w : ℕ) (gs hs : List (List Block)) → first_room w gs ≡ None → (first_room w (gs ++ hs) ≡ first_room w hs) × (passed_blocks w (gs ++ hs) ≡ passed_blocks w gs ++ passed_blocks w hs)
 found_later w [] hs e = (refl, refl)

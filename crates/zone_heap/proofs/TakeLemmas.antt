@@ -3,9 +3,7 @@ use Rattle.std.proofs.Common.{◌≡◌, ℕ, zero, suc, ◌+◌, ◌-◌, ◌<�
 use Rattle.std.specs.Prelude.{◌==◌, nat_lt}
 use Rattle.std.proofs.lemmas.Bool.{cond-true, cond-false, eq-eqb, ne_eqb, le-ltb, lt-ltb}
 use Rattle.std.proofs.lemmas.List.{length-append, length-take, length-drop, drop_at, drop-drop}
-use Rattle.zone_rules.specs.Zones.{Block, Holding, Tiles, free_block}
-use Rattle.zone_rules.specs.Requests.{cut_block, take_at, place_after}
-use Rattle.zone_rules.specs.Rooms.{RoomAt}
+use Rattle.zone_heap.specs.Rules.{Block, Holding, RoomAt, Tiles, cut_block, free_block, place_after, take_at}
 use Rattle.zone_rules.proofs.TakeLemmas.{take_at_is}
 use Rattle.zone_heap.specs.declared.headers.Used.{Used}
 use Rattle.zone_heap.specs.Headers.{word_at, with_word, with_use, block_in, holding_in, live_in, owner_in, code_tag, first_part, second_part, used_holding}

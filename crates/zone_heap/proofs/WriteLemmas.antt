@@ -2,8 +2,7 @@
 use Rattle.std.proofs.Common.{◌≡◌, ℕ, zero, suc, ◌+◌, ◌≤◌, List, [], ◌∷◌, ◌++◌, length, take, drop, map, refl, sym, subst, ap, ap₂, ◌∙◌, arith}
 use Rattle.std.proofs.lemmas.Bool.{cond-true, cond-false}
 use Rattle.std.proofs.lemmas.List.{length-append, length-take, length-drop, append_assoc, take_at, drop_at, get_or_append_left, get_or-take}
-use Rattle.zone_rules.specs.Zones.{Owner, Unique, is_held_by}
-use Rattle.zone_rules.specs.Frees.{write_block, write_holding}
+use Rattle.zone_heap.specs.Rules.{Owner, Unique, is_held_by, write_block, write_holding}
 use Rattle.zone_heap.specs.Headers.{word_at, block_in, live_in, owner_in, code_tag}
 use Rattle.zone_heap.specs.Regions.{joined, blocks_in, IsRing}
 use Rattle.zone_heap.proofs.WordLemmas.{same_word}

@@ -4,10 +4,8 @@ use Rattle.std.specs.Prelude.{◌==◌, ◌⊎◌, slice_range, IsSome, option_a
 use Rattle.std.proofs.lemmas.Bool.{cases_eq, eq-eqb, ne_eqb}
 use Rattle.std.proofs.lemmas.List.{length-take, length-drop}
 use Rattle.std.specs.declared.vec.Vec.{Vec}
-use Rattle.zone_rules.specs.declared.Tag.{Tag}
-use Rattle.zone_rules.specs.Zones.{Heap, Block, Holding, Owner, AllFit, IsSound, is_held_by, owner_at, owned_block, holding_of, slot_count, IsLive, bytes_of, same_owner}
+use Rattle.zone_heap.specs.Rules.{AllFit, Block, Heap, Holding, IsLive, IsSound, Owner, Tag, bytes_of, holding_of, is_held_by, owned_block, owner_at, retag_block, same_owner, slot_count, with_bytes, write_block}
 use Rattle.zone_rules.proofs.OwnerLemmas.{owned_apart}
-use Rattle.zone_rules.specs.Frees.{retag_block, write_block, with_bytes}
 use Rattle.zone_rules.proofs.ChangeLemmas.{retag_keeps, with_bytes_sound, write_keeps}
 use Rattle.zone_heap.specs.declared.homes.Homes.{Homes}
 use Rattle.zone_heap.specs.declared.look.Span.{Span}

@@ -1,8 +1,6 @@
 -- What a request asks for, and what came of it.
 use Rattle.std.specs.Prelude.{◌≡◌, ℕ, List, length}
-use Rattle.zone_rules.specs.Zones.{Heap, Block}
-use Rattle.zone_rules.specs.Requests.{after_search, take_at, place_after}
-use Rattle.zone_rules.specs.Rooms.{RoomAt}
+use Rattle.zone_heap.specs.Rules.{Block, Heap, RoomAt, after_search, place_after, take_at}
 use Rattle.zone_heap.specs.declared.headers.Used.{Used}
 use Rattle.zone_heap.specs.declared.homes.Homes.{Homes}
 use Rattle.zone_heap.specs.Headers.{owner_in, code_tag}

@@ -2,8 +2,7 @@
 use Rattle.std.specs.Prelude.{◌≡◌, ℕ, List, length, Some}
 use Rattle.std.specs.Borrow.{Bor, MutBor}
 use Rattle.std.specs.Fn.{Once, FnOnceReturnsAtMut}
-use Rattle.zone_rules.specs.Zones.{Owner, Heap, bytes_of}
-use Rattle.zone_rules.specs.Frees.{with_bytes}
+use Rattle.zone_heap.specs.Rules.{Heap, Owner, bytes_of, with_bytes}
 
 -- at a `&` to x and a `&mut` to y, f may give r and leave w there
 pub record ReturnsAtPair {F R : Type 0} (g : Once F (Bor (List ℕ) × (MutBor (List ℕ) × Unit {0})) (R × (MutBor (List ℕ) × Unit {0}))) (f : F) (x y : List ℕ) (r : R) (w : List ℕ) : Type 0 where

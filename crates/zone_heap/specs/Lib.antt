@@ -5,3 +5,4 @@ pub mod Asks
 pub mod Walks
 pub mod View
 pub mod Calls
+pub mod Rules

@@ -1,7 +1,6 @@
 -- The rules of a request as one walk over the blocks meets them.
 use Rattle.std.specs.Prelude.{◌≡◌, ℕ, ◌+◌, ◌^◌, ◌<◌, ◌==◌, ◌||◌, Bool, true, nat_le, if◌then◌else◌, List, [], ◌∷◌, Option, Some, None, max, length}
-use Rattle.zone_rules.specs.Zones.{Apart, Block, has_place, is_pinned}
-use Rattle.zone_rules.specs.Requests.{ends_free_at, first_room, stretches, passed_blocks, purge_among, count_among}
+use Rattle.zone_heap.specs.Rules.{Apart, Block, count_among, ends_free_at, first_room, has_place, is_pinned, passed_blocks, purge_among, stretches}
 use Rattle.zone_heap.specs.declared.homes.Homes.{Homes}
 use Rattle.zone_heap.specs.Homes.{AreHome}
 use Rattle.zone_heap.specs.Regions.{blocks_in, IsLaid}

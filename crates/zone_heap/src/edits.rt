@@ -1,9 +1,7 @@
 // Changes of the blocks: joined, split, and linked into the ring.
 ghost use Rattle.std.specs.Prelude.{◌≡◌, ◌<◌, ◌≤◌, ◌^◌, ◌+◌, ◌++◌, ◌&&◌, ◌==◌, ℕ, List, [], ◌∷◌, length, drop, false, nat_lt};
-ghost use Rattle.zone_rules.specs.Zones.{free_block};
+ghost use Rattle.zone_heap.specs.Rules.{RoomAt, free_block, join_free, place_after, place_around, take_at};
 ghost use Rattle.zone_heap.specs.Headers.{header_in, is_free_header, word_at, first_part, second_part, used_holding};
-ghost use Rattle.zone_rules.specs.Requests.{join_free, place_around, place_after, take_at};
-ghost use Rattle.zone_rules.specs.Rooms.{RoomAt};
 ghost use Rattle.zone_heap.specs.Regions.{blocks_in, IsLaid, IsRing, ring_place};
 
 use crate::headers::{

@@ -3,8 +3,7 @@ ghost use Rattle.std.specs.Prelude.{◌≡◌, ◌<◌, ◌≤◌, ◌+◌, ◌-
 ghost use Rattle.zone_heap.specs.Headers.{word_at};
 ghost use Rattle.zone_heap.specs.Homes.{home_in, composites_in, IsHomed};
 ghost use Rattle.zone_heap.specs.Regions.{blocks_in, IsLaid, IsRing};
-ghost use Rattle.zone_rules.specs.Frees.{retag_block};
-ghost use Rattle.zone_rules.specs.Zones.{AllFit, Unique, owner_at, owned_block, holding_of, bytes_of};
+ghost use Rattle.zone_heap.specs.Rules.{AllFit, Unique, bytes_of, holding_of, owned_block, owner_at, retag_block};
 
 use crate::headers::{ASKED_AT, TAG_AT, code_tag, set_word, tag_code, word_at};
 use crate::homes::{Homes, NO_HOME};

@@ -1,9 +1,7 @@
 // A request for a block, and a block given back.
 ghost use Rattle.std.specs.Prelude.{◌≡◌, ◌<◌, ◌≤◌, ◌-◌, ◌^◌, ◌==◌, length, IsSome, IsErr, IfOk, IfErr, false};
 ghost use Rattle.std.specs.Result.{result_ok};
-ghost use Rattle.zone_rules.specs.Zones.{IsSound, Lacks, block_size, owner_at, owned_block};
-ghost use Rattle.zone_rules.specs.Requests.{first_room, stretches, passed_blocks, count_among, after_search, place_around, join_free};
-ghost use Rattle.zone_rules.specs.Frees.{free_owner};
+ghost use Rattle.zone_heap.specs.Rules.{IsSound, Lacks, after_search, block_size, count_among, first_room, free_owner, join_free, owned_block, owner_at, passed_blocks, place_around, stretches};
 ghost use Rattle.zone_heap.specs.Headers.{owner_in};
 ghost use Rattle.zone_heap.specs.Regions.{blocks_in, IsLaid, IsRing};
 ghost use Rattle.zone_heap.specs.Homes.{IsSlot, AreExact, AreHome, AreAlike};

@@ -1,12 +1,10 @@
 // Where a request finds room, and which blocks it purges.
 ghost use Rattle.std.specs.Prelude.{◌≡◌, ◌<◌, ◌+◌, ◌++◌, ◌^◌, length, IfOk, IfErr, option_map, drop, take, map, count_by};
 ghost use Rattle.std.specs.Result.{result_ok};
-ghost use Rattle.zone_rules.specs.Zones.{is_purgeable};
-ghost use Rattle.zone_rules.specs.Requests.{purge_block, join_free, first_room, stretches, passed_blocks, purge_among, count_among};
+ghost use Rattle.zone_heap.specs.Rules.{RoomAt, count_among, first_room, is_purgeable, join_free, passed_blocks, purge_among, purge_block, stretches};
 ghost use Rattle.zone_heap.specs.Homes.{AreHome, AreAlike};
 ghost use Rattle.std.specs.List.{position_or_len};
 ghost use Rattle.zone_heap.specs.Walks.{CanSearch, fit_from, widest_from, starts_at, SearchIs};
-ghost use Rattle.zone_rules.specs.Rooms.{RoomAt};
 ghost use Rattle.zone_heap.specs.Regions.{blocks_in, blocks_from, IsLaid, IsSplit};
 
 use crate::edits::join;

@@ -6,9 +6,7 @@ ghost use Rattle.std.specs.Option.{option_copied};
 ghost use Rattle.zone_heap.specs.Calls.{PairCalled, BytesChanged, BytesChangedWith};
 ghost use Rattle.zone_heap.specs.Regions.{blocks_in, IsRing};
 ghost use Rattle.zone_heap.specs.View.{heap_of, IsZone};
-ghost use Rattle.zone_rules.specs.Zones.{Owner, Heap, IsLive, IsSound, block_size, slot_count, owner_at, bytes_of, free_block, holding_of, owned_block, same_owner, is_purgeable, used_size, purgeable_size, free_size, IsZoneSize, fresh_heap};
-ghost use Rattle.zone_rules.specs.Requests.{gaps, widest, total, without_room, TakesBlock, stretches, passed_blocks, block_left};
-ghost use Rattle.zone_rules.specs.Frees.{without_block, with_tag, retag_block};
+ghost use Rattle.zone_heap.specs.Rules.{Heap, IsLive, IsSound, IsZoneSize, Owner, TakesBlock, block_left, block_size, bytes_of, free_block, free_size, fresh_heap, gaps, holding_of, is_purgeable, owned_block, owner_at, passed_blocks, purgeable_size, retag_block, same_owner, slot_count, stretches, total, used_size, widest, with_tag, without_block, without_room};
 
 use crate::headers::{Used, owner_word, tag_code};
 use crate::homes::{Homes, NO_HOME};

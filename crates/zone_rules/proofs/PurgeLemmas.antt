@@ -50,9 +50,6 @@ purged_pin b = go (is_purgeable b) refl where
   go true e = sym (never_both b.holding e)
   go false e = refl
 
-among_purged : (ch : List Block) (b : Block) → is_among ch (purge_block b) ≡ is_among ch b
-among_purged ch b = ap (λ p. list_any (λ c. c.place == p) ch) (purged_place b)
-
 -- each block that is not pinned is among the chosen
 abbrev pub Covers : List Block → List Block → Type 0
 Covers ch [] = ⊤

@@ -1,22 +1,15 @@
 -- What is loaded of a trimmed file: what was loaded of the WADs that it was made of, under other numbers of lumps.
-use Rattle.picture_rules.proofs.Common.{[], All, AllByRecursion, ap, arith, Err, inl, length, List, list_any, map, None, Ok, Option, option_map, refl, Result, Some, subst, sym, true, unwrap_or, ℕ, ◌==◌, ◌∙◌, ◌∷◌, ◌≡◌, ◌≤◌}
-use Rattle.art_rules.specs.Words.{and_then, book_lumps, directory, each_of, File, file_named, first_needs, frame_of, from_below, Lump, lump_bytes, MAX_LUMPS, TextureLists}
+use Rattle.picture_rules.proofs.Common.{[], All, AllByRecursion, ap, arith, inl, length, List, list_any, map, None, Ok, Option, option_map, refl, Some, subst, sym, true, unwrap_or, ℕ, ◌==◌, ◌∙◌, ◌∷◌, ◌≡◌, ◌≤◌}
+use Rattle.doom_run.specs.Rules.{Faces, File, Frame, LevelJobValue, LevelValue, MAX_LUMPS, SKY_FLAT, SceneArt, SceneValue, TextureLists, ThingLine, TrimPart, WeaponArt, book_in, book_lumps, directory, each_of, faces_in, first_needs, flat_lumps, from_below, lump_bytes, map_bytes, need_of, scene_in, sector_flats, side_textures, sky_texture, trim_parts, trim_plan, trimmed_file, trimmed_lumps}
+use Rattle.art_rules.specs.Words.{frame_of, Lump}
 use Rattle.art_rules.proofs.Laws.{and_then-ok}
-use Rattle.picture_rules.specs.Words.{LevelValue, SKY_FLAT, ThingLine}
 use Rattle.csv_tables.specs.declared.weapons.WeaponRow.{WeaponRow}
-use Rattle.art_rules.specs.declared.shapes.Frame.{Frame}
-use Rattle.job_rules.specs.LevelJobs.{FileNames, LevelJobValue}
-use Rattle.scene_rules.specs.declared.refusal.AuditRefusal.TheVariants.{WeaponArt}
-use Rattle.scene_rules.specs.Words.{book_in, Faces, faces_in, map_bytes, need_of, scene_in, SceneArt, SceneValue, sector_flats, side_textures, sky_texture}
 use Rattle.job_files.specs.Files.{path_file, tables_file, things_file, weapons_file}
 use Rattle.job_files.specs.Sizes.{wad_contents}
 use Rattle.sound_scene.specs.Sound.{art_with}
 use Rattle.level_audit.specs.scene_load.Loads.{LoadedValue, load_in, loaded_pictures, wad_bytes, weapon_lumps, weapons_of}
 use Rattle.level_audit.specs.Weapons.{weapon_book, weapon_needs, weapon_refusal}
 use Rattle.frame_core.specs.Scenes.{lists_of}
-use Rattle.trim_rules.specs.declared.part.TrimPart.{TrimPart}
-use Rattle.trim_rules.specs.Parts.{flat_lumps, trim_parts, trim_plan}
-use Rattle.trim_rules.specs.Files.{trimmed_file, trimmed_lumps}
 use Rattle.trim_rules.proofs.BaseLemmas.{base-made}
 use Rattle.trim_rules.proofs.BookLemmas.{IsPicture, book-moved, move_frame}
 use Rattle.trim_rules.proofs.CountLemmas.{directory-few}
@@ -32,15 +25,9 @@ use Rattle.trim_rules.proofs.ThereLemmas.{all-append}
 use Rattle.alike_rules.proofs.PlaneLemmas.{IsOneToOne}
 use Rattle.alike_rules.proofs.SoundLemmas.{HasSectors}
 use Rattle.alike_rules.proofs.SurfaceLemmas.{IsSurfaceOf}
+use Rattle.doom_run.specs.Alike.{StandsForWads}
 use Rattle.doom_run.proofs.alike.TrimmedLemmas.{scene-sectors, surfaces-placed}
-use Rattle.doom_run.proofs.alike.StepLemmas.{IsFilesOf, IsLoadOf, in_file-same, in_optional_file-same, load-made, load-steps, lumps-listed, one-listed, one-named}
-
-ok_of : {X R : Type 0} (a b : X) → (let l : Result X R = Ok a in l) ≡ Ok b → a ≡ b
-ok_of a b e = cc
-
-below : {A R Q : Type 0} (f : R → Q) (r : Result A R) (x : A) → from_below f r ≡ Ok x → r ≡ Ok x
-below f (Ok y) x e = let same : y ≡ x = cc in ap Ok same
-below f (Err reason) x e = cc
+use Rattle.doom_run.proofs.alike.StepLemmas.{IsFilesOf, IsLoadOf, below, in_file-same, in_optional_file-same, load-made, load-steps, lumps-listed, ok_of, one-listed, one-named}
 
 -- the book of the rows is one of frames
 layers_made : (bytes : ℕ → List ℕ) (lumps : List Lump) (rows : List WeaponRow) (book : List Frame) → each_of (frame_of bytes lumps) (first_needs (weapon_needs rows)) ≡ Ok book
@@ -73,14 +60,6 @@ pub record IsComparedAlike (P : ℕ → Type 0) (σ : ℕ → ℕ) (moved : Scen
   pub has_sky : P SKY_FLAT
   pub sectors : HasSectors (lists_of moved)
   pub flats : All (IsSurfaceOf P) (lists_of moved).surfaces
-
--- other files, of which the first of a name has these bytes, and the files beside the WADs are the same
-pub record StandsFor (names : FileNames) (bytes name : List ℕ) (files others : List File) : Type 0 where
-  pub trimmed : file_named name others ≡ Some bytes
-  pub tables : file_named names.tables others ≡ file_named names.tables files
-  pub things : file_named names.things others ≡ file_named names.things files
-  pub path : file_named names.path others ≡ file_named names.path files
-  pub weapon : (layers : List ℕ) → names.weapon ≡ Some layers → file_named layers others ≡ file_named layers files
 
 -- the weapon layers by a directory that holds their pictures
 layers-moved : (trimmed lumps : List Lump) (σ : ℕ → ℕ) (a : ℕ) (pictures : List ℕ) → HoldsPictures trimmed lumps σ a pictures
@@ -134,7 +113,7 @@ compared bytes lumps few art name parts plan lines skill level flats moved is sa
 
 -- the same files, but for the WADs
 files_moved : (level : LevelJobValue) (wads : List (List ℕ)) (files : List File) (loaded : LoadedValue) (file name : List ℕ) (others : List File) (trimmed : List Lump)
-    → IsLoadOf level wads files loaded → StandsFor level.files file name files others → directory (file ∷ []) ≡ Ok trimmed
+    → IsLoadOf level wads files loaded → StandsForWads level.files file name files others → directory (file ∷ []) ≡ Ok trimmed
     → IsFilesOf level.files (name ∷ []) level.settings others
     (record { tables = loaded.files.tables; things = loaded.files.things; path = loaded.files.path; weapons = loaded.files.weapons; lumps = trimmed })
 files_moved level wads files loaded file name others trimmed steps stands listed = record {
@@ -149,7 +128,7 @@ files_moved level wads files loaded file name others trimmed steps stands listed
 pub trimmed-load : (level : LevelJobValue) (wads : List (List ℕ)) (files : List File) (loaded : LoadedValue) → load_in level wads files ≡ Ok loaded
     → (parts : List TrimPart) → trim_plan loaded.files.lumps (art_with loaded.scene (loaded_pictures loaded)) level.map_name ≡ Ok parts
     → (name : List ℕ) (others : List File)
-    → StandsFor level.files (trimmed_file (wad_bytes wads files loaded.files.lumps) loaded.files.lumps (trim_parts loaded.files.lumps (art_with loaded.scene (loaded_pictures loaded)) level.map_name)) name files others
+    → StandsForWads level.files (trimmed_file (wad_bytes wads files loaded.files.lumps) loaded.files.lumps (trim_parts loaded.files.lumps (art_with loaded.scene (loaded_pictures loaded)) level.map_name)) name files others
     → (moved : LoadedValue) × (load_in level (name ∷ []) others ≡ Ok moved)
     × IsLoadMoved (source_of (trim_parts loaded.files.lumps (art_with loaded.scene (loaded_pictures loaded)) level.map_name)) (wad_bytes wads files loaded.files.lumps) moved loaded
     × (wad_bytes (name ∷ []) others moved.files.lumps

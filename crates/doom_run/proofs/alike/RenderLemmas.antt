@@ -1,21 +1,10 @@
--- What is rendered of a trimmed file: the same bytes, lines and end as of the WADs that it was made of.
+-- What is rendered of a trimmed file: the same bytes and end as of the WADs that it was made of.
 use Rattle.picture_rules.proofs.Common.{[], ap, Bool, cond, false, is_some, length, length-map, List, map, map-append, None, Ok, Option, option_and_then, option_map, option_to_list, refl, slice_get, slice_index_or, Some, subst, suc, sym, take, take-map, true, unwrap_or, zero, ℕ, ℤ, ◌+◌, ◌==◌, ◌∙◌, ◌∷◌, ◌≡◌}
-use Rattle.art_rules.specs.Words.{File, picked}
-use Rattle.picture_rules.specs.Words.{Eye, joined_lists, least, LevelValue, listed, no_surface, overlaid_picture, Sector, sky_flat, surface_at, view_of, view_over, ViewValue, WeaponLayer}
+use Rattle.doom_run.specs.Rules.{Eye, File, Format, Frame, LevelJobValue, LevelValue, SceneValue, Sector, SectorFlats, Settings, Shape, TrimPart, ViewValue, WeaponLayer, flat_lumps, joined_lists, least, no_surface, overlaid_picture, picked, sector_at, sky_flat, surface_at, surface_of, surfaces_of, trim_parts, trim_plan, trimmed_file, view_of, view_over}
 use Rattle.csv_tables.specs.declared.path.PathRow.{PathRow}
 use Rattle.csv_tables.specs.declared.weapons.WeaponRow.{WeaponRow}
-use Rattle.art_rules.specs.declared.shapes.Frame.{Frame}
-use Rattle.art_rules.specs.declared.shapes.Shape.{Shape}
-use Rattle.job_rules.specs.LevelJobs.{LevelJobValue}
-use Rattle.job_rules.specs.declared.command.Format.{Format}
-use Rattle.job_rules.specs.declared.command.Settings.{Settings}
-use Rattle.scene_rules.specs.declared.SectorFlats.{SectorFlats}
-use Rattle.scene_rules.specs.Words.{SceneValue, sector_at, surface_of, surfaces_of}
 use Rattle.sound_scene.specs.Sound.{art_with}
 use Rattle.level_audit.specs.scene_load.Loads.{LoadedValue, load_in, loaded_pictures, wad_bytes}
-use Rattle.trim_rules.specs.declared.part.TrimPart.{TrimPart}
-use Rattle.trim_rules.specs.Parts.{flat_lumps, trim_parts, trim_plan}
-use Rattle.trim_rules.specs.Files.{trimmed_file}
 use Rattle.trim_rules.proofs.BookLemmas.{move_frame, move_shape}
 use Rattle.trim_rules.proofs.FlatPlaceLemmas.{IsFlatPlace}
 use Rattle.trim_rules.proofs.MovedFlatLemmas.{move_both}
@@ -24,15 +13,16 @@ use Rattle.trim_rules.proofs.PlaceLemmas.{source_of}
 use Rattle.trim_rules.proofs.PlanLemmas.{plan-accepted}
 use Rattle.trim_rules.proofs.SceneLemmas.{IsSceneMoved}
 use Rattle.alike_rules.proofs.EntryLemmas.{moved_layer}
-use Rattle.alike_rules.proofs.PictureLemmas.{overlaid_picture-same, view_counts-same, view_over-same}
+use Rattle.alike_rules.proofs.PictureLemmas.{overlaid_picture-same, view_over-same}
 use Rattle.alike_rules.proofs.PlaneLemmas.{IsOneToOne}
 use Rattle.alike_rules.proofs.SceneLemmas.{IsMovedScene}
+use Rattle.doom_run.specs.Alike.{StandsForWads}
 use Rattle.doom_run.proofs.alike.SceneOfLemmas.{scene-moved}
 use Rattle.doom_run.proofs.alike.TrimmedLemmas.{moved-value}
-use Rattle.doom_run.proofs.alike.LoadLemmas.{IsComparedAlike, IsLoadMoved, StandsFor, trimmed-load}
+use Rattle.doom_run.proofs.alike.LoadLemmas.{IsComparedAlike, IsLoadMoved, trimmed-load}
 use Rattle.doom_run.specs.declared.canvas.ViewForm.TheVariants as form
 use Rattle.doom_run.specs.Layers.{SeenView, eye_of, layer_of, layer_with, layers_by, layers_from, layers_of, layer_light, seen_from, seen_view, seen_views}
-use Rattle.doom_run.specs.Views.{ViewsValue, counted_bytes, due_views, end_at, first_lines, first_over, frame_bytes, frames_of, over_at, rendered_bytes, rendered_end, view_bytes, view_line, view_line_at, views_of}
+use Rattle.doom_run.specs.Views.{ViewsValue, due_views, end_at, first_over, frame_bytes, frames_of, over_at, rendered_bytes, rendered_end, view_bytes, views_of}
 
 -- a view whose layers have their pictures under other numbers
 abbrev pub moved_seen : (ℕ → ℕ) → SeenView → SeenView
@@ -54,11 +44,6 @@ joined_moved : {X Y Z : Type 0} (g : X → Y) (f : Y → List Z) (h : X → List
 unfolding joined_lists
 joined_moved g f h same [] = refl
 joined_moved g f h same (x ∷ xs) = rw (same x, joined_moved g f h same xs) refl
-
-joined_same : {X Y : Type 0} (f g : X → List Y) → ((x : X) → f x ≡ g x) → (xs : List X) → joined_lists f xs ≡ joined_lists g xs
-unfolding joined_lists
-joined_same f g same [] = refl
-joined_same f g same (x ∷ xs) = rw (same x, joined_same f g same xs) refl
 
 module _ (P : ℕ → Type 0) (σ : ℕ → ℕ) (one : IsOneToOne P σ) (sky : P sky_flat) (keeps : σ sky_flat ≡ sky_flat)
     (r other : ViewsValue) (moved : AreMovedViews P σ r other) where
@@ -112,24 +97,6 @@ module _ (P : ℕ → Type 0) (σ : ℕ → ℕ) (one : IsOneToOne P σ) (sky : 
   -- and how the rendering ends
   pub end-same : rendered_end other ≡ rendered_end r
   end-same = ap (end_at other) first-same ∙ end_step (first_over r)
-
-  line-same : (k : ℕ) (s : SeenView) → view_line other k (moved_seen σ s) ≡ view_line r k s
-  unfolding view_line
-  line-same k s = rw (over-same s, view_counts-same P σ one sky keeps r.scene other.scene moved.scene s.view) refl
-
-  line_step : (k : ℕ) (o : Option SeenView) → view_line_at other k (option_map (moved_seen σ) o) ≡ view_line_at r k o
-  line_step k None = refl
-  line_step k (Some s) = line-same k s
-
-  lines-same : (n : ℕ) → first_lines other n ≡ first_lines r n
-  unfolding first_lines
-  lines-same n =
-      joined_same (λ k. view_line_at other k (slice_get other.views k)) (λ k. view_line_at r k (slice_get r.views k))
-      (λ k. ap (λ views. view_line_at other k (slice_get views k)) moved.views ∙ ap (view_line_at other k) (get_moved (moved_seen σ) r.views k) ∙ line_step k (slice_get r.views k)) (listed (λ k. k) n)
-
-  -- the lines of the counts
-  pub counted-same : counted_bytes other ≡ counted_bytes r
-  counted-same = ap (first_lines other) count-same ∙ lines-same (length r.views)
 
 -- the light of a sector does not depend on its flats
 light_same : (σ : ℕ → ℕ) (sectors : List Sector) (flats : List SectorFlats) (n : ℕ)
@@ -221,13 +188,12 @@ pub record AreViewedAlike (level : LevelJobValue) (loaded : LoadedValue) (bytes'
   pub same : wad_bytes (name ∷ []) others moved.files.lumps ≡ bytes
   pub rendered : (format : Format) → rendered_bytes (form.Frame format) (views_of bytes level.settings moved) ≡ rendered_bytes (form.Frame format) (views_of bytes' level.settings loaded)
   pub end : rendered_end (views_of bytes level.settings moved) ≡ rendered_end (views_of bytes' level.settings loaded)
-  pub counted : counted_bytes (views_of bytes level.settings moved) ≡ counted_bytes (views_of bytes' level.settings loaded)
 
--- The trimmed file of a job comes to the same frames and counts as the WADs that it was made of.
+-- The trimmed file of a job comes to the same frames as the WADs that it was made of.
 pub trimmed-views : (level : LevelJobValue) (wads : List (List ℕ)) (files : List File) (loaded : LoadedValue) → load_in level wads files ≡ Ok loaded
     → (parts : List TrimPart) → trim_plan loaded.files.lumps (art_with loaded.scene (loaded_pictures loaded)) level.map_name ≡ Ok parts
     → (name : List ℕ) (others : List File)
-    → StandsFor level.files (trimmed_file (wad_bytes wads files loaded.files.lumps) loaded.files.lumps parts) name files others
+    → StandsForWads level.files (trimmed_file (wad_bytes wads files loaded.files.lumps) loaded.files.lumps parts) name files others
     → AreViewedAlike level loaded (wad_bytes wads files loaded.files.lumps) name others
 trimmed-views level wads files loaded is parts plan name others stands =
     let lumps = loaded.files.lumps in
@@ -236,7 +202,7 @@ trimmed-views level wads files loaded is parts plan name others stands =
     let all = trim_parts lumps art level.map_name in
     let σ = source_of all in
     let load = trimmed-load level wads files loaded is parts plan name others
-    (subst (λ ps. StandsFor level.files (trimmed_file bytes lumps ps) name files others) (sym (plan-accepted lumps art level.map_name parts plan).0) stands) in
+    (subst (λ ps. StandsForWads level.files (trimmed_file bytes lumps ps) name files others) (sym (plan-accepted lumps art level.map_name parts plan).0) stands) in
     let moved = load.0 in
     let P = IsFlatPlace (length (flat_lumps lumps loaded.scene.faces.flats)) in
     let alike = load.4 in
@@ -250,5 +216,4 @@ trimmed-views level wads files loaded is parts plan name others stands =
       same = load.3;
       rendered = λ format. sym (rendered-same P σ alike.one alike.has_sky alike.sky second first views format);
       end = sym (end-same P σ alike.one alike.has_sky alike.sky second first views);
-      counted = sym (counted-same P σ alike.one alike.has_sky alike.sky second first views);
     }

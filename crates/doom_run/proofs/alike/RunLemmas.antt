@@ -1,17 +1,11 @@
 -- What a trimmed file is for: rendering it comes to the same as rendering the WADs that it was made of.
 use Rattle.std.proofs.Common.{◌≡◌, ℕ, List, [], ◌∷◌, Some, Result, Ok, Err, ap, refl, subst, sym, ◌∙◌}
-use Rattle.art_rules.specs.Words.{and_then, File, from_below, no_file, Stop}
+use Rattle.doom_run.specs.Rules.{File, Format, LevelJobValue, Stop, TrimPart, and_then, from_below, level_job, no_file, trim_plan, trimmed_file}
 use Rattle.art_rules.proofs.Laws.{and_then-ok}
-use Rattle.job_rules.specs.Commands.{level_job}
-use Rattle.job_rules.specs.LevelJobs.{LevelJobValue}
-use Rattle.job_rules.specs.declared.command.Format.{Format}
 use Rattle.job_rules.specs.declared.command.LevelTask.TheVariants.{Trim as TrimTask}
 use Rattle.command_line.specs.Commands.{command_of}
 use Rattle.refusals.specs.declared.refusal.Refusal.{Refusal}
 use Rattle.refusals.specs.declared.refusal.Refusal.TheVariants.{Trim}
-use Rattle.trim_rules.specs.declared.part.TrimPart.{TrimPart}
-use Rattle.trim_rules.specs.Files.{trimmed_file}
-use Rattle.trim_rules.specs.Parts.{trim_plan}
 use Rattle.sound_scene.specs.Sound.{art_with}
 use Rattle.level_audit.specs.scene_load.Loads.{LoadedValue, load_in, loaded_pictures, loaded_sizes, wad_bytes}
 use Rattle.doom_run.specs.declared.canvas.ViewForm.TheVariants as form
@@ -22,13 +16,7 @@ use Rattle.doom_run.specs.Trims.{plan_in}
 use Rattle.doom_run.specs.Verdict.{Accepted, accepted_in, delivered, job_verdict, verdict, work_verdict}
 use Rattle.doom_run.specs.Views.{views_of}
 use Rattle.doom_run.proofs.alike.RenderLemmas.{trimmed-views}
-
-ok_of : {X R : Type 0} (a b : X) → (let l : Result X R = Ok a in l) ≡ Ok b → a ≡ b
-ok_of a b e = cc
-
-below : {A R Q : Type 0} (f : R → Q) (r : Result A R) (x : A) → from_below f r ≡ Ok x → r ≡ Ok x
-below f (Ok y) x e = let same : y ≡ x = cc in ap Ok same
-below f (Err reason) x e = cc
+use Rattle.doom_run.proofs.alike.StepLemmas.{below, ok_of}
 
 no_file_ok : {A R : Type 0} (r : Result A R) (x : A) → no_file r ≡ Ok x → r ≡ Ok x
 no_file_ok (Ok y) x e = let same : y ≡ x = cc in ap Ok same
@@ -47,13 +35,7 @@ trimmed-renders : (level : LevelJobValue) (wads : List (List ℕ)) (files : List
     RendersAlike level wads files (trimmed_file (wad_bytes wads files loaded.files.lumps) loaded.files.lumps parts)
 trimmed-renders level wads files loaded parts is plan = record {
   alike = λ format others name stands.
-      let views = trimmed-views level wads files loaded is parts plan name others (record {
-        trimmed = stands.trimmed;
-        tables = stands.tables;
-        things = stands.things;
-        path = stands.path;
-        weapon = stands.weapon;
-      }) in
+      let views = trimmed-views level wads files loaded is parts plan name others stands in
       record {
         first = accepted_in (loaded_sizes loaded).enough (rendered (form.Frame format) (views_of (wad_bytes wads files loaded.files.lumps) level.settings loaded));
         second = accepted_in (loaded_sizes views.moved).enough (rendered (form.Frame format) (views_of views.bytes level.settings views.moved));

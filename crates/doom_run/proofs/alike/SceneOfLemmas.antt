@@ -1,12 +1,7 @@
 -- The scene that is drawn of a level whose lumps have other numbers is the same scene under the other numbers.
 use Rattle.picture_rules.proofs.Common.{[], All, ap, List, map, None, Option, option_map, refl, Some, sym, unwrap_or, ℕ, ◌∙◌, ◌∷◌, ◌≡◌}
-use Rattle.picture_rules.specs.Words.{Sector, sky_flat}
-use Rattle.art_rules.specs.declared.shapes.Shape.{Shape}
-use Rattle.art_rules.specs.Words.{picked, texture_at}
-use Rattle.scene_rules.specs.declared.Flat.{Flat}
+use Rattle.doom_run.specs.Rules.{Flat, SceneValue, Sector, SectorFlats, Shape, flat_number, picked, sky_flat, surface_of, surfaces_of, texture_at, things_of}
 use Rattle.scene_rules.specs.declared.Flat.TheVariants.{Sky, Lump as LumpFlat}
-use Rattle.scene_rules.specs.declared.SectorFlats.{SectorFlats}
-use Rattle.scene_rules.specs.Words.{flat_number, SceneValue, surface_of, surfaces_of, things_of}
 use Rattle.sound_scene.specs.Sound.{textures_view}
 use Rattle.frame_core.specs.Scenes.{drawn_shape, lists_of, scene_of}
 use Rattle.alike_rules.proofs.EntryLemmas.{moved_shape}

@@ -1,32 +1,26 @@
 -- The steps of a load: each file gives what it should, and the lumps give the scene and the weapon layers.
 use Rattle.std.proofs.Common.{◌≡◌, ℕ, List, [], ◌∷◌, Option, Some, None, Result, Ok, Err, refl, ap, subst, ◌∙◌}
-use Rattle.art_rules.specs.Words.{and_then, directory, else_absent, File, file_named, from_below, Lump, no_file, Stop}
+use Rattle.doom_run.specs.Rules.{File, FileNames, LevelJobValue, Settings, Stop, and_then, directory, else_absent, file_named, from_below, no_file, scene_in}
+use Rattle.art_rules.specs.Words.{Lump}
 use Rattle.art_rules.proofs.Laws.{and_then-ok}
-use Rattle.job_rules.specs.declared.command.Settings.{Settings}
-use Rattle.job_rules.specs.LevelJobs.{FileNames, LevelJobValue}
 use Rattle.refusals.specs.declared.refusal.Refusal.{Refusal}
 use Rattle.refusals.specs.declared.refusal.Refusal.TheVariants.{Wad}
 use Rattle.refusals.specs.Groups.{of_audit}
-use Rattle.scene_rules.specs.Words.{scene_in}
 use Rattle.job_files.specs.declared.texts.TextTables.{TextTables}
 use Rattle.job_files.specs.Files.{FilesValue, files_in, files_named, in_file, in_optional_file, lumps_in, path_file, tables_file, texts_in, things_file, wad_files, weapons_file}
 use Rattle.job_files.specs.Sizes.{wad_contents}
 use Rattle.level_audit.specs.scene_load.Loads.{LoadedValue, audited_in, load_in, wad_bytes, weapons_of}
 
-ok_of : {X R : Type 0} (a b : X) → (let l : Result X R = Ok a in l) ≡ Ok b → a ≡ b
+pub ok_of : {X R : Type 0} (a b : X) → (let l : Result X R = Ok a in l) ≡ Ok b → a ≡ b
 ok_of a b e = cc
 
-below : {A R Q : Type 0} (f : R → Q) (r : Result A R) (x : A) → from_below f r ≡ Ok x → r ≡ Ok x
+pub below : {A R Q : Type 0} (f : R → Q) (r : Result A R) (x : A) → from_below f r ≡ Ok x → r ≡ Ok x
 below f (Ok y) x e = let same : y ≡ x = cc in ap Ok same
 below f (Err reason) x e = cc
 
 pub no_file-ok : {A R : Type 0} (r : Result A R) (x : A) → no_file r ≡ Ok x → r ≡ Ok x
 no_file-ok (Ok y) x e = let same : y ≡ x = cc in ap Ok same
 no_file-ok (Err reason) x e = cc
-
-present : {A R : Type 0} (o : Option A) (x : A) → (let r : Result A (Stop R) = else_absent o in r) ≡ Ok x → o ≡ Some x
-present None x e = cc
-present (Some y) x e = let same : y ≡ x = cc in ap Some same
 
 -- the tables of text
 pub record IsTextsOf (names : FileNames) (files : List File) (texts : TextTables) : Type 0 where

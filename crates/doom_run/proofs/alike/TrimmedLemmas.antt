@@ -1,11 +1,9 @@
 -- The scene by the trimmed file is the level's under other numbers, as drawing asks for it.
 use Rattle.picture_rules.proofs.Common.{[], All, AllByRecursion, ap, arith, length, length-map, List, map, None, Ok, Option, or_else-none, refl, Some, suc, sym, zero, ℕ, ◌<◌, ◌∙◌, ◌∷◌, ◌≡◌}
-use Rattle.picture_rules.specs.Words.{joined_leaves, joined_level, Leaf, level_of, LevelValue, map_refusal, MapBytes, MapLeaf, MapRefusal, no_leaf_refusal, or_else, records_of, records_refusal, Sector, sizes_refusal, unless}
+use Rattle.doom_run.specs.Rules.{Flat, LevelValue, MapBytes, MapLeaf, MapRefusal, SceneValue, Sector, SectorFlats, joined_leaves, joined_level, level_of, map_refusal, no_leaf_refusal, picked, records_of, records_refusal, sizes_refusal, surface_of, surfaces_of, unless}
+use Rattle.picture_rules.specs.Words.{Leaf}
 use Rattle.picture_rules.proofs.Laws.{level_of-sound}
-use Rattle.scene_rules.specs.declared.Flat.{Flat}
 use Rattle.scene_rules.specs.declared.Flat.TheVariants.{Sky, Lump as LumpFlat}
-use Rattle.scene_rules.specs.declared.SectorFlats.{SectorFlats}
-use Rattle.scene_rules.specs.Words.{SceneValue, surface_of, surfaces_of}
 use Rattle.frame_core.proofs.SceneLemmas.{surface_counts}
 use Rattle.frame_core.specs.Scenes.{lists_of}
 use Rattle.trim_rules.proofs.FlatPlaceLemmas.{AreFlatPlaces, IsFlatPlace}
@@ -15,7 +13,6 @@ use Rattle.trim_rules.proofs.SceneLemmas.{IsSceneMoved}
 use Rattle.alike_rules.proofs.SoundLemmas.{HasSectors}
 use Rattle.alike_rules.proofs.SurfaceLemmas.{IsSurfaceOf}
 use Rattle.doom_run.proofs.alike.SceneOfLemmas.{IsMovedValue, moved_flats, moved_named}
-use Rattle.art_rules.specs.Words.{picked}
 
 -- the same flats by both names for what moves them
 flat-same : (σ : ℕ → ℕ) (f : Flat) → move_flat σ f ≡ moved_named σ f

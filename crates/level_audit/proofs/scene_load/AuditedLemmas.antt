@@ -1,13 +1,9 @@
 -- What is told of an audit of the scene, and then of the weapon layers.
-use Rattle.scene_rules.specs.declared.refusal.AuditRefusal.{AuditRefusal}
+use Rattle.level_audit.specs.Rules.{AuditRefusal, Fault, FaultFits, Frame, HasCauseAt, HasCauses, LevelJobValue, Lump, OutOfMemory, ReadFault, Refused, ResultIs, SceneValue, ZoneFull, and_then, itself, scene_in}
 use Rattle.art_rules.proofs.Common.{ap, Bool, Err, err_from_is_err_and, IfErr, IfOk, IsErrAnd, List, None, Ok, Option, refl, Result, Some, subst, sym, ℕ, ◌∙◌, ◌≡◌, ◌≤◌}
-use Rattle.art_rules.specs.Words.{and_then, Fault, FaultFits, HasCauseAt, HasCauses, itself, Lump, OutOfMemory, ReadFault, Refused, ResultIs, ZoneFull}
 use Rattle.art_rules.proofs.Laws.{and_then-ok, step}
 use Rattle.texture_build.proofs.CallLemmas.{cause_later}
-use Rattle.art_rules.specs.declared.shapes.Frame.{Frame}
-use Rattle.job_rules.specs.LevelJobs.{LevelJobValue}
 use Rattle.job_files.specs.Files.{FilesValue}
-use Rattle.scene_rules.specs.Words.{scene_in, SceneValue}
 use Rattle.sound_scene.specs.Sound.{SoundValue, with_book}
 use Rattle.level_audit.specs.scene_load.Loads.{LoadedValue, audited_in, audited_value, weapons_of, with_layers}
 

@@ -1,15 +1,11 @@
 -- When the zone is full while files are audited, and while all is loaded.
 use Rattle.refusals.specs.declared.refusal.Refusal.{Refusal}
-use Rattle.scene_rules.specs.declared.refusal.AuditRefusal.{AuditRefusal}
-use Rattle.art_rules.specs.Words.{Fault, File, itself, lump_at, lump_bytes, OutOfMemory, ReadFault, Refused, ShelfView, ZoneFull}
+use Rattle.level_audit.specs.Rules.{AuditRefusal, Fault, File, Frame, Heap, LevelJobValue, MIN_FRAGMENT, OutOfMemory, ReadFault, Refused, SceneValue, ShelfView, ZoneFull, block_size, colormap_of, itself, lump_at, lump_bytes, scene_in, sizes_of}
 use Rattle.art_rules.proofs.Common.{ap, arith, Err, err_from_is_err_and, IfErr, inl, inr, IsErrAnd, IsOk, List, Ok, Option, refl, Result, subst, sym, ℕ, ◌+◌, ◌<◌, ◌∙◌, ◌≡◌}
-use Rattle.scene_rules.specs.Words.{block_size, colormap_of, Heap, MIN_FRAGMENT, scene_in, SceneValue, sizes_of}
 use Rattle.texture_build.specs.Caches.{IsAtRest, IsEmpty}
 use Rattle.texture_build.specs.Calls.{IfFull, IsFullFor, HoldContents}
 use Rattle.texture_build.specs.Sizes.{IsGapAround, IsGapBeside}
 use Rattle.texture_build.proofs.CallLemmas.{full_room}
-use Rattle.art_rules.specs.declared.shapes.Frame.{Frame}
-use Rattle.job_rules.specs.LevelJobs.{LevelJobValue}
 use Rattle.job_files.specs.declared.read.SceneFiles.{SceneFiles}
 use Rattle.job_files.specs.Files.{FilesValue, IsNeverFull, files_in, value_of}
 use Rattle.level_audit.specs.Reads.{IsFullAudit}

@@ -1,15 +1,11 @@
 -- What is told of the pictures of weapon layers.
 use Rattle.std.proofs.Common.{◌≡◌, ℕ, List, Option, Some, None, Result, Ok, Err, refl, IsErrAnd}
-use Rattle.art_rules.specs.Words.{Fault, from_below, itself, Lump, ShelfView}
-use Rattle.scene_rules.specs.Words.{Heap}
+use Rattle.level_audit.specs.Rules.{AuditRefusal, Fault, Frame, Heap, Lump, ShelfView, WeaponArt, from_below, itself}
 use Rattle.texture_build.specs.DirectoryView.{DirectoryView}
 use Rattle.csv_tables.specs.declared.weapons.WeaponRow.{WeaponRow}
 use Rattle.texture_build.specs.Calls.{ReadsLumps}
 use Rattle.texture_build.proofs.CallLemmas.{reads_as, reads_known, reads_stop_first}
-use Rattle.art_rules.specs.declared.shapes.Frame.{Frame}
 use Rattle.sprite_book.specs.Calls.{IsWanted}
-use Rattle.scene_rules.specs.declared.refusal.AuditRefusal.{AuditRefusal}
-use Rattle.scene_rules.specs.declared.refusal.AuditRefusal.TheVariants.{WeaponArt}
 use Rattle.level_audit.specs.Weapons.{weapon_book, weapon_needs}
 use Rattle.level_audit.specs.scene_load.Fulls.{IsOfLayers}
 use Rattle.level_audit.specs.scene_load.Loads.{weapons_of}

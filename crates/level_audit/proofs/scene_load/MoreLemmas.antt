@@ -1,12 +1,9 @@
 -- What a scene needs with more pictures, and with those of its weapon layers.
 use Rattle.art_rules.proofs.Common.{[], append-nil, arith, Bool, cases_lt, cond, eq-eqb, false, filter, inl, inr, length, List, list_any, list_any-append, None, Ok, Option, or_right, range_with_len, refl, Some, subst, true, ℕ, ◌++◌, ◌+◌, ◌<◌, ◌==◌, ◌||◌, ◌∙◌, ◌∷◌, ◌≡◌, ◌≤◌}
-use Rattle.art_rules.specs.Words.{book_lumps, each_of, first_needs, frame_of, from_below, Lump, lump_at}
+use Rattle.level_audit.specs.Rules.{Frame, Lump, MIN_FRAGMENT, SceneValue, WeaponArt, art_of, block_size, book_lumps, each_of, enough, first_needs, frame_of, from_below, greatest_by, is_needed, lump_at, lump_block, needed_lumps, sizes_of, zone_sizes}
 use Rattle.art_rules.proofs.Laws.{and_then-ok}
-use Rattle.scene_rules.specs.Words.{art_of, block_size, enough, greatest_by, is_needed, lump_block, MIN_FRAGMENT, needed_lumps, SceneValue, sizes_of, zone_sizes}
 use Rattle.csv_tables.specs.declared.weapons.WeaponRow.{WeaponRow}
-use Rattle.art_rules.specs.declared.shapes.Frame.{Frame}
 use Rattle.job_files.specs.Files.{FilesValue}
-use Rattle.scene_rules.specs.declared.refusal.AuditRefusal.TheVariants.{WeaponArt}
 use Rattle.sound_scene.specs.Sound.{SoundValue, art_with, with_book}
 use Rattle.level_audit.specs.Weapons.{weapon_book, weapon_needs, weapon_refusal}
 use Rattle.sound_scene.proofs.NeededLemmas.{for_colormap, for_picture, needed_there, past_block}

@@ -1,8 +1,7 @@
 -- Laws of what loading and drawing ask the zone for: each lump that is needed and each composite is
 -- of the list, no owner is twice, and the sizes add up to those that the audit tells.
 use Rattle.art_rules.proofs.Common.{[], and_from, ap, arith, Bool, cond, eq-eqb, eqb-true, false, filter, inl, inr, length, List, list_any, list_any-append, map, ne_eqb, None, Option, or_cases, or_from, or_left, or_right, range_with_len, refl, Some, subst, suc, sum_by, sum_by-append, sum_by-cons, sym, true, zero, ℕ, ◌&&◌, ◌++◌, ◌+◌, ◌<◌, ◌==◌, ◌∙◌, ◌∷◌, ◌≡◌, ◌≤◌}
-use Rattle.art_rules.specs.Words.{Lump, lump_at, PreparedTexture}
-use Rattle.scene_rules.specs.Words.{AreDistinct, AreRoomy, Block, block_or_none, block_size, composite_block, has_item, has_owner, Heap, is_needed, Item, items_size, KeepsOrder, live_sum, lump_block, lump_size, needed_lumps, Owner, roomy, same_owner, zone_sizes}
+use Rattle.level_audit.specs.Rules.{AreDistinct, AreRoomy, Block, Heap, Item, KeepsOrder, Lump, Owner, PreparedTexture, block_or_none, block_size, composite_block, has_item, has_owner, is_needed, items_size, live_sum, lump_at, lump_block, lump_size, needed_lumps, roomy, same_owner, zone_sizes}
 use Rattle.scene_rules.proofs.Laws.{item_block, live_most}
 use Rattle.texture_build.specs.Caches.{composite_owner, lump_owner}
 use Rattle.texture_build.specs.Asked.{size_of}

@@ -1,19 +1,11 @@
 -- Each lump that loading reads is of the directory, and is asked for.
 use Rattle.art_rules.proofs.Common.{All-contains, and_parts, ap, arith, Bool, cond, eq-eqb, false, inl, inr, leb-true, length, List, list_any, list_any-append, nat_le, nat_lt, None, not, Ok, ok_or, Option, option_and_then, or_right, refl, slice_get, Some, subst, suc, sym, true, ℕ, ◌+◌, ◌<◌, ◌==◌, ◌∙◌, ◌≡◌, ◌≤◌}
 use Rattle.art_rules.proofs.Laws.{greatest-is}
-use Rattle.art_rules.specs.Words.{are_named, BEHAVIOR, BEHAVIOR_AFTER, book_lumps, has_name, if_label, is_label, is_named_in, last_of, Lump, lump_at, MAP_LUMPS, map_of}
-use Rattle.scene_rules.specs.Words.{art_of, has_item, if_long, is_map_lump, is_needed, label_of, long_lump, playpal_of, scene_in, SceneValue, ThingLine}
+use Rattle.level_audit.specs.Rules.{BEHAVIOR, BEHAVIOR_AFTER, Frame, LevelJobValue, Lump, MAP_LUMPS, Mention, Need, PALETTE_SIZE, PLAYPAL, PNAMES, Playpal, SceneValue, TEXTURE1, TEXTURE2, ThingLine, are_named, art_of, book_lumps, has_item, has_name, if_label, if_long, is_label, is_map_lump, is_named_in, is_needed, label_of, last_of, long_lump, lump_at, map_of, playpal_of, scene_in}
 use Rattle.texture_build.specs.Caches.{lump_owner}
 use Rattle.texture_build.proofs.MapLemmas.{named_within}
-use Rattle.art_rules.specs.declared.Mention.{Mention}
-use Rattle.art_rules.specs.declared.TheConstants.{PNAMES, TEXTURE1, TEXTURE2}
-use Rattle.art_rules.specs.declared.shapes.Frame.{Frame}
-use Rattle.art_rules.specs.declared.shapes.Need.{Need}
 use Rattle.sprite_book.specs.Calls.{IsWanted}
 use Rattle.sprite_book.proofs.FrameLemmas.{pictures_there}
-use Rattle.job_rules.specs.LevelJobs.{LevelJobValue}
-use Rattle.scene_rules.specs.declared.TheConstants.{PLAYPAL, PALETTE_SIZE}
-use Rattle.scene_rules.specs.declared.refusal.ArtRefusal.TheVariants.{Playpal}
 use Rattle.level_audit.specs.Asked.{IsOfArt, IsOfBase}
 use Rattle.level_audit.specs.Reads.{IsAfterColormap, IsReadBy}
 use Rattle.sound_scene.specs.Sound.{art_with}

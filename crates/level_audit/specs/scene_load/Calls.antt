@@ -1,17 +1,13 @@
 -- What a call that loads a scene answers, and what it leaves; the same of the audits that it makes.
 use Rattle.std.specs.Prelude.{◌≡◌, ◌<◌, ◌≤◌, ◌+◌, ◌^◌, ℕ, List, length, Option, Some, None, Result, Ok, IfOk, IfErr, MatchResult}
-use Rattle.art_rules.specs.Words.{Fault, File, HasCauses, Holds, IsLaterShelf, itself, lump_at, lump_bytes, NameFiles, ResultIs, ResultIsOrAbsent, ShelfView}
-use Rattle.scene_rules.specs.Words.{bytes_of, Heap, IsInOrder}
+use Rattle.level_audit.specs.Rules.{AuditRefusal, Fault, File, Frame, HasCauses, Heap, Holds, IsInOrder, IsLaterShelf, LevelJobValue, NameFiles, ResultIs, ResultIsOrAbsent, ShelfView, bytes_of, itself, lump_at, lump_bytes}
 use Rattle.texture_build.specs.Caches.{IsAtRest, IsFaithful, KeepsCounts, composite_owner}
 use Rattle.texture_build.specs.Calls.{HoldContents, IfFull, InOrderAt, LeavesInOrder}
-use Rattle.art_rules.specs.declared.shapes.Frame.{Frame}
 use Rattle.texture_build.specs.Draws.{HoldsArt}
-use Rattle.job_rules.specs.LevelJobs.{LevelJobValue}
 use Rattle.refusals.specs.declared.refusal.Refusal.{Refusal}
 use Rattle.job_files.specs.Files.{files_named, value_of}
 use Rattle.job_files.specs.Sizes.{files_size}
 use Rattle.job_files.specs.declared.read.SceneFiles.{SceneFiles}
-use Rattle.scene_rules.specs.declared.refusal.AuditRefusal.{AuditRefusal}
 use Rattle.sound_scene.specs.Sound.{SoundValue, textures_view}
 use Rattle.sound_scene.specs.Whole.{IsWholeScene}
 use Rattle.level_audit.specs.Weapons.{AreThere}

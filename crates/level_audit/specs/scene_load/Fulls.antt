@@ -1,11 +1,9 @@
 -- When the zone is full while a scene is loaded.
 use Rattle.std.specs.Prelude.{◌≡◌, ◌≢◌, ◌<◌, ◌≤◌, ◌+◌, ℕ, List, Option, Some, Ok, ◌⊎◌}
-use Rattle.art_rules.specs.Words.{File, Lump, lump_at}
-use Rattle.scene_rules.specs.Words.{block_size, colormap_of, MIN_FRAGMENT}
+use Rattle.level_audit.specs.Rules.{File, LevelJobValue, Lump, MIN_FRAGMENT, block_size, colormap_of, lump_at}
 use Rattle.texture_build.specs.Sizes.{IsGapAround}
 use Rattle.csv_tables.specs.declared.weapons.WeaponRow.{WeaponRow}
 use Rattle.sprite_book.specs.Calls.{IsWanted}
-use Rattle.job_rules.specs.LevelJobs.{LevelJobValue}
 use Rattle.job_files.specs.Files.{FilesValue, files_in}
 use Rattle.level_audit.specs.Asked.{IsOfBase}
 use Rattle.level_audit.specs.Reads.{IsReadBy}

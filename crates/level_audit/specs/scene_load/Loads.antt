@@ -1,17 +1,11 @@
 -- What the files of a job over a level give: tables, a scene and the pictures of weapon layers; or the
 -- first step that stops.
 use Rattle.std.specs.Prelude.{ℕ, List, [], ◌++◌, Option, Some, None, Result, Ok}
-use Rattle.art_rules.specs.Words.{and_then, book_lumps, File, from_below, Lump, lump_bytes, no_file, Stop}
+use Rattle.level_audit.specs.Rules.{AuditRefusal, File, Frame, LevelJobValue, Lump, SceneValue, Stop, WeaponArt, ZoneSizes, and_then, book_lumps, from_below, lump_bytes, needed_lumps, no_file, scene_in, zone_sizes}
 use Rattle.csv_tables.specs.declared.weapons.WeaponRow.{WeaponRow}
-use Rattle.art_rules.specs.declared.shapes.Frame.{Frame}
-use Rattle.job_rules.specs.LevelJobs.{LevelJobValue}
 use Rattle.refusals.specs.declared.refusal.Refusal.{Refusal}
 use Rattle.job_files.specs.Files.{FilesValue, files_in, value_of}
 use Rattle.job_files.specs.Sizes.{wad_contents}
-use Rattle.scene_rules.specs.declared.ZoneSizes.{ZoneSizes}
-use Rattle.scene_rules.specs.declared.refusal.AuditRefusal.{AuditRefusal}
-use Rattle.scene_rules.specs.declared.refusal.AuditRefusal.TheVariants.{WeaponArt}
-use Rattle.scene_rules.specs.Words.{needed_lumps, scene_in, SceneValue, zone_sizes}
 use Rattle.sound_scene.specs.Sound.{SoundValue, art_with, with_book}
 use Rattle.level_audit.specs.Weapons.{weapon_book}
 use Rattle.refusals.specs.Groups.{of_audit}

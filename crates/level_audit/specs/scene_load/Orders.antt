@@ -1,11 +1,9 @@
 -- What loading and drawing ask the zone for, and how many bytes are read at most where the zone has
 -- room for all of it.
 use Rattle.std.specs.Prelude.{ℕ, ◌+◌, ◌≤◌, ◌==◌, cond, List, [], ◌∷◌, ◌++◌, map, sum_by, Option, Some, None}
-use Rattle.art_rules.specs.Words.{File, Lump, lump_at, PreparedTexture}
-use Rattle.scene_rules.specs.Words.{Heap, IsInOrder, Item, live_sum, lump_size}
+use Rattle.level_audit.specs.Rules.{File, Heap, IsInOrder, Item, LevelJobValue, Lump, PreparedTexture, live_sum, lump_at, lump_size}
 use Rattle.texture_build.specs.Caches.{composite_owner, lump_owner}
 use Rattle.texture_build.specs.Asked.{size_of}
-use Rattle.job_rules.specs.LevelJobs.{LevelJobValue}
 use Rattle.job_files.specs.Sizes.{files_size}
 use Rattle.level_audit.specs.scene_load.Loads.{LoadedValue, loaded_lumps}
 

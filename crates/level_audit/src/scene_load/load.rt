@@ -2,13 +2,10 @@
 //
 // Rules: specs, Loads, Fulls, Orders and Calls. The original: `D_DoomMain`, d_main.c, `P_SetupLevel`,
 // p_setup.c.
-ghost use Rattle.job_rules.specs.Ranges.{IsSkill};
+ghost use Rattle.level_audit.specs.Rules.{AreRoomy, IsInOrder, IsSkill, IsZoneSize, Item, MAX_SIZE, MIN_SIZE, OutOfMemory, from_below, itself, level_job_value};
 ghost use Rattle.std.specs.Prelude.{◌≡◌, ◌<◌, ◌≤◌, ◌^◌, ℕ, List, length, map, IfOk, IfErr};
-ghost use Rattle.art_rules.specs.Words.{from_below, itself, MAX_SIZE, MIN_SIZE, OutOfMemory};
-ghost use Rattle.scene_rules.specs.Words.{AreRoomy, IsInOrder, IsZoneSize, Item};
 ghost use Rattle.texture_build.specs.Caches.{IsEmpty, IsFaithful};
 ghost use Rattle.texture_build.specs.Calls.{ReadsLumps};
-ghost use Rattle.job_rules.specs.LevelJobs.{level_job_value};
 ghost use Rattle.refusals.specs.Groups.{of_audit};
 ghost use Rattle.level_audit.specs.Weapons.{AreThere};
 ghost use Rattle.level_audit.specs.scene_load.Calls.{AuditsLevel, LoadsScene};

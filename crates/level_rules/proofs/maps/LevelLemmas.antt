@@ -1,5 +1,5 @@
 -- The level of eight lumps: what its parts say, and that it is sound.
-use Rattle.word_rules.proofs.Common.{arith, Err, false, le-from_lt_false, length, List, nat_lt, None, Ok, Option, or_else-none, refl, Some, subst, ℕ, ◌/◌, ◌≡◌, ◌≤◌}
+use Rattle.word_rules.proofs.Common.{Err, le-from_lt_false, length, List, nat_lt, None, Ok, Option, or_else-none, refl, Some, subst, ℕ, ◌/◌, ◌≡◌, ◌≤◌}
 use Rattle.word_rules.proofs.ListedLemmas.{length-listed}
 use Rattle.level_rules.specs.declared.maps.lumps.MapLump.{MapLump}
 use Rattle.level_rules.specs.declared.maps.lumps.MapLump.TheVariants as lump

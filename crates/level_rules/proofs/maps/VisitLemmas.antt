@@ -1,5 +1,5 @@
 -- Laws of the visits of a tree, for code that makes them.
-use Rattle.word_rules.proofs.Common.{[], ap, arith, Bool, List, None, Option, or_else-assoc, refl, slice_get, slice_set, Some, suc, sym, true, zero, ℕ, ◌++◌, ◌+◌, ◌-◌, ◌<◌, ◌∙◌, ◌∷◌, ◌≡◌}
+use Rattle.word_rules.proofs.Common.{[], ap, arith, Bool, List, None, or_else-assoc, refl, slice_get, slice_set, Some, suc, sym, true, zero, ℕ, ◌++◌, ◌+◌, ◌-◌, ◌<◌, ◌∙◌, ◌∷◌, ◌≡◌}
 use Rattle.word_rules.specs.Least.{or_else}
 use Rattle.level_rules.specs.declared.Node.{Node}
 use Rattle.level_rules.specs.Levels.{child_on}

@@ -18,10 +18,6 @@ unfolding after_events
 after_events-more s [] e = refl
 after_events-more s (f ∷ fs) e = after_events-more (after_event s f) fs e
 
-pub after_events-none : (s : PlanesNow) → after_events s [] ≡ s
-unfolding after_events
-after_events-none s = refl
-
 -- no column, and one column more
 pub columns_marked-none : (w : PlaneWall) (ceiling floor : Option ℕ) (n : ℕ) (planes : List Plane) → n ≡ 0 → planes ≡ columns_marked w ceiling floor n planes
 unfolding columns_marked

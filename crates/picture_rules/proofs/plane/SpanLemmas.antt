@@ -1,7 +1,6 @@
 -- Laws of `span_start`: it is the least column from which on all pass; and it is where a run of the row begins.
 use Rattle.word_rules.proofs.Common.{[], ap, arith, Bool, cases_lt, cond, false, get_or, inl, inr, length, List, map, None, not, not-false, not-true, Option, refl, slice_index_or, suc, sym, true, zero, ℕ, ◌+◌, ◌-◌, ◌<◌, ◌∙◌, ◌∷◌, ◌≡◌, ◌≤◌, ◌⊎◌}
-use Rattle.view_rules.specs.declared.TheConstants.{FRAME_WIDTH}
-use Rattle.level_rules.specs.walk.Covered.{is_covered, IsFragment}
+use Rattle.picture_rules.specs.Rules.{FRAME_WIDTH, IsFragment, is_covered}
 use Rattle.picture_rules.specs.plane.Planes.{Plane, column}
 use Rattle.picture_rules.specs.plane.Spans.{holds_row, holds, span_start, plane_gaps}
 

@@ -1,7 +1,6 @@
 -- Laws of clips and moments: the least sprite in front, and that fragments alike clip alike.
 use Rattle.word_rules.proofs.Common.{[], AllZip, and_parts, ap, arith, Bool, cases_lt, cond, false, get_or, inl, inr, int_lt, leb-true, length, List, lt-ltb, nat_le, None, not, Option, pos, position, position-Some, position_or_len, refl, slice_get, Some, suc, sym, true, zero, ℕ, ℤ, ◌&&◌, ◌+◌, ◌<◌, ◌∙◌, ◌∷◌, ◌≡◌, ◌≤◌}
-use Rattle.word_rules.specs.Words.{minus_one}
-use Rattle.word_rules.specs.Least.{least, greatest}
+use Rattle.picture_rules.specs.Rules.{greatest, least, minus_one}
 use Rattle.word_rules.proofs.LeastLemmas.{least-none, least-some, greatest-is}
 use Rattle.picture_rules.specs.declared.sprite.SpriteEntry.{SpriteEntry}
 use Rattle.picture_rules.specs.sprite.Drawsegs.{Drawseg, drawseg_has, entry_has, is_behind, DrawAlike}

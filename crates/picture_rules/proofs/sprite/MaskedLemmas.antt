@@ -1,15 +1,6 @@
 -- Laws of the masked pass: dots in their own columns, one sprite or fragment more, an empty scene, and that fragments alike paint alike.
-use Rattle.word_rules.proofs.Common.{[], AllByRecursion, AllZip, ap, append-nil, append_assoc, arith, Bool, cases_lt, cond, eq-eqb, eqb-true, false, filter, flat_map, inl, inr, length, List, map, None, Option, range_with_len, refl, slice_get, Some, suc, sym, true, zero, ℕ, ◌&&◌, ◌++◌, ◌+◌, ◌-◌, ◌∙◌, ◌∷◌, ◌≡◌, ◌≤◌}
-use Rattle.word_rules.specs.Listed.{listed_from, joined_lists}
-use Rattle.view_rules.specs.View.{ViewValue}
-use Rattle.view_rules.specs.declared.ViewShape.{ViewShape}
-use Rattle.pixel_rules.specs.declared.Painter.{Painter}
-use Rattle.pixel_rules.specs.declared.Post.{Post}
-use Rattle.pixel_rules.specs.declared.MaskedColumn.{MaskedColumn}
-use Rattle.pixel_rules.specs.Art.{Art}
-use Rattle.pixel_rules.specs.Dots.{Dot, AreInColumn}
-use Rattle.pixel_rules.specs.Strips.{rows_between}
-use Rattle.pixel_rules.specs.Posts.{post_colour, post_rows, post_dots, posts_dots}
+use Rattle.word_rules.proofs.Common.{[], AllByRecursion, AllZip, ap, append-nil, append_assoc, arith, Bool, cases_lt, cond, false, filter, flat_map, inl, inr, length, List, map, None, Option, range_with_len, refl, slice_get, Some, suc, sym, true, zero, ℕ, ◌&&◌, ◌++◌, ◌+◌, ◌-◌, ◌∙◌, ◌∷◌, ◌≡◌, ◌≤◌}
+use Rattle.picture_rules.specs.Rules.{AreInColumn, Art, Dot, MaskedColumn, Painter, Post, ViewShape, ViewValue, joined_lists, listed_from, post_colour, post_dots, post_rows, rows_between}
 use Rattle.pixel_rules.proofs.StripLemmas.{in_column-column_dots}
 use Rattle.picture_rules.specs.declared.sprite.SpriteEntry.{SpriteEntry}
 use Rattle.picture_rules.specs.sprite.Drawsegs.{Drawseg, is_behind, DrawAlike}
@@ -30,10 +21,6 @@ in_column_posts shape painter x c byte shade (p ∷ ps) =
     in_column-append x (post_dots shape painter x c byte shade p) (flat_map (post_dots shape painter x c byte shade) ps)
     (in_column-column_dots painter x (post_colour shape c byte shade p) (post_rows shape c p)) (in_column_posts shape painter x c byte shade ps)
 
-pub in_column-posts_dots : (shape : ViewShape) (painter : Painter) (x : ℕ) (c : MaskedColumn) (byte shade : ℕ → ℕ) (posts : List Post) → AreInColumn x (posts_dots shape painter x c byte shade posts)
-unfolding posts_dots joined_lists
-in_column-posts_dots shape painter x c byte shade posts = in_column_posts shape painter x c byte shade posts
-
 -- nothing is drawn where there is neither a fragment nor a sprite
 pub masked_dots-empty : (v : ViewValue) (art : Art) → masked_dots v art [] [] ≡ []
 unfolding masked_dots sprites_from middles_at
@@ -53,19 +40,6 @@ sprites_from-more v art ds sprites i n [] e h = append-nil (sprite_step v art ds
 sprites_from-more v art ds sprites i n (f ∷ fs) e h =
     ap (λ (xs : List Dot). sprite_step v art ds sprites i f ++ xs) (sprites_from-more v art ds sprites (i + 1) n fs e (omega arith))
     ∙ sym (append_assoc (sprite_step v art ds sprites i f) (sprites_from v art ds sprites (i + 1) fs) (sprite_step v art ds sprites n e))
-
--- equal numbers of sprites
-pub same_number-true : (a b : Option ℕ) → same_number a b ≡ true → a ≡ b
-unfolding same_number
-same_number-true None None h = refl
-same_number-true None (Some m) h = cc
-same_number-true (Some n) None h = cc
-same_number-true (Some n) (Some m) h = ap Some (eqb-true n m h)
-
-pub same_number-same : (a : Option ℕ) → same_number a a ≡ true
-unfolding same_number
-same_number-same None = refl
-same_number-same (Some n) = eq-eqb n n refl
 
 -- what follows: fragments alike give the same masked pass
 range_within : (low first n last : ℕ) → low ≤ first → first + n ≤ last + 1 → AllByRecursion (λ x. (low ≤ x) × (x ≤ last)) (map (λ x. x) (range_with_len first n))

@@ -13,9 +13,6 @@ not_le_lt a b h = grind (arith, ints)
 lt_not_lt : (a b : ℤ) → int_lt a b ≡ true → int_lt b a ≡ false
 lt_not_lt a b h = grind (arith, ints)
 
-lt_chain : (a b c : ℤ) → int_lt a b ≡ true → int_lt c b ≡ false → int_lt a c ≡ true
-lt_chain a b c h k = grind (arith, ints)
-
 far_le : (d e f : ℤ) → int_lt e f ≡ true → int_le d f ≡ false → int_le d e ≡ false
 far_le d e f p q = grind (arith, ints)
 

@@ -1,8 +1,7 @@
 -- Laws of edges: those of each column are the first ones, stepped.
 use Rattle.word_rules.proofs.Common.{FitsSigned, SFits-int_wrap, w32, ℕ, ℤ, ◌+◌, ◌-ℤ◌, ◌≡◌}
-use Rattle.word_rules.specs.Words.{minus, mul, shr_word}
+use Rattle.picture_rules.specs.Rules.{ViewShape, minus, mul, shr_word}
 use Rattle.word_rules.proofs.StepLemmas.{step_at-zero, step_at-more}
-use Rattle.view_rules.specs.declared.ViewShape.{ViewShape}
 use Rattle.picture_rules.specs.declared.wall.FragmentNumbers.{FragmentNumbers}
 use Rattle.picture_rules.specs.declared.wall.TheConstants.{HEIGHT_SHIFT}
 use Rattle.picture_rules.specs.wall.Edges.{centre_edge, edge_first, edge_step, edge_at, edges_at, edges_first, edges_step, edges_plus}

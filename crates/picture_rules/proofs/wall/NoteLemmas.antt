@@ -1,8 +1,7 @@
 -- Laws of what fragments save: how much, where the notes say that it lies, and one fragment more.
 use Rattle.word_rules.proofs.Common.{[], ap, append-nil, append_assoc, arith, Bool, cond, false, from_bool, get_or, get_or-append_right, get_or_append_left, length, length-append, List, map, pos, range_with_len, refl, sym, true, ℕ, ℤ, ◌*◌, ◌++◌, ◌+◌, ◌-◌, ◌<◌, ◌||◌, ◌∙◌, ◌∷◌, ◌≡◌, ◌≤◌}
-use Rattle.word_rules.specs.Listed.{listed_from}
+use Rattle.picture_rules.specs.Rules.{ViewValue, listed_from}
 use Rattle.word_rules.proofs.ListedLemmas.{length-listed_from, get_or-listed_from}
-use Rattle.view_rules.specs.View.{ViewValue}
 use Rattle.picture_rules.specs.declared.wall.ColumnClip.{ColumnClip}
 use Rattle.picture_rules.specs.declared.wall.FragmentNote.{FragmentNote}
 use Rattle.picture_rules.specs.wall.Walls.{Wall, clip_past}

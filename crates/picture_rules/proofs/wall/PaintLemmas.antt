@@ -1,11 +1,6 @@
 -- Laws of the dots of walls: each in its own column, and unchanged by fragments that come later.
 use Rattle.word_rules.proofs.Common.{[], ap, flat_map, length, List, refl, ℕ, ℤ, ◌++◌, ◌∙◌, ◌∷◌, ◌≡◌, ◌≤◌}
-use Rattle.word_rules.specs.Listed.{listed_from, joined_lists}
-use Rattle.view_rules.specs.View.{ViewValue}
-use Rattle.pixel_rules.specs.Dots.{Dot, last_dot, AreInColumn}
-use Rattle.pixel_rules.specs.Art.{Art, painter_of}
-use Rattle.pixel_rules.specs.Strips.{rows_between}
-use Rattle.pixel_rules.specs.declared.TheConstants.{WALL}
+use Rattle.picture_rules.specs.Rules.{AreInColumn, Art, Dot, ViewValue, WALL, joined_lists, last_dot, listed_from, painter_of, rows_between}
 use Rattle.pixel_rules.proofs.StripLemmas.{in_column-column_dots}
 use Rattle.pixel_rules.proofs.ColumnLemmas.{last_dot-columns}
 use Rattle.picture_rules.specs.declared.wall.ColumnClip.{ColumnClip}

@@ -1,7 +1,6 @@
 -- Laws of the clips of a column: by the last fragment that has it, and with one fragment more.
 use Rattle.word_rules.proofs.Common.{[], ap, arith, Bool, cond, false, length, List, None, Option, refl, slice_get, Some, suc, true, zero, ℕ, ◌++◌, ◌<◌, ◌∙◌, ◌∷◌, ◌≡◌, ◌≤◌}
-use Rattle.word_rules.specs.Least.{greatest}
-use Rattle.view_rules.specs.declared.ViewShape.{ViewShape}
+use Rattle.picture_rules.specs.Rules.{ViewShape, greatest}
 use Rattle.picture_rules.specs.declared.wall.ColumnClip.{ColumnClip}
 use Rattle.picture_rules.specs.wall.Clips.{clip_after}
 use Rattle.picture_rules.specs.wall.Walls.{Wall, has_column, wall_edges, past_wall, past_some, clip_before, clip_past, some_has, wall_has, last_wall, clip_by}

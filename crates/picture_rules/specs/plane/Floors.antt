@@ -1,16 +1,6 @@
 -- The pixels of a plane that is not sky (R_MapPlane, R_DrawPlanes, r_plane.c).
 use Rattle.std.specs.Prelude.{ℕ, ◌-◌, ℤ, pos, List, [], Option, Some, None}
-use Rattle.word_rules.specs.Words.{plus, minus, neg_word, mul, div, abs_word, turn, turn_back, ang90, fine_angle}
-use Rattle.word_rules.specs.Listed.{listed, listed_from, joined_lists}
-use Rattle.view_rules.specs.View.{ViewValue}
-use Rattle.view_rules.specs.Angles.{sine_at, cosine_at}
-use Rattle.view_rules.specs.Tables.{projection, angle_of_column, y_slope, dist_scale}
-use Rattle.view_rules.specs.Lights.{light_number, distance_map}
-use Rattle.pixel_rules.specs.declared.Painter.{Painter}
-use Rattle.pixel_rules.specs.declared.TheConstants.{PLANE}
-use Rattle.pixel_rules.specs.Dots.{Dot}
-use Rattle.pixel_rules.specs.Art.{Art, lump_source, painter_of}
-use Rattle.pixel_rules.specs.Strips.{span_place, column_dots}
+use Rattle.picture_rules.specs.Rules.{Art, Dot, PLANE, Painter, ViewValue, abs_word, ang90, angle_of_column, column_dots, cosine_at, dist_scale, distance_map, div, fine_angle, joined_lists, light_number, listed, listed_from, lump_source, minus, mul, neg_word, painter_of, plus, projection, sine_at, span_place, turn, turn_back, y_slope}
 use Rattle.picture_rules.specs.plane.Planes.{Plane, column}
 use Rattle.picture_rules.specs.plane.Spans.{span_start, holds}
 

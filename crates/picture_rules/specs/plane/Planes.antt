@@ -3,7 +3,7 @@ use Rattle.std.specs.Prelude.{◌≡◌, ℕ, ◌+◌, Bool, cond, List, [], ◌
 use Rattle.std.specs.List.{list_all, All}
 use Rattle.view_rules.specs.declared.TheConstants.{FRAME_WIDTH}
 use Rattle.picture_rules.specs.declared.plane.PlaneKey.{PlaneKey}
-use Rattle.picture_rules.specs.plane.Keys.{same_key, same_flat}
+use Rattle.picture_rules.specs.plane.Keys.{same_key}
 
 pub record Plane : Type 0 where
   pub key : PlaneKey
@@ -67,8 +67,3 @@ column p x = slice_index_or p.runs x None
 -- each plane has a place for each column of a frame
 abbrev pub AreWide : List Plane → Type 0
 AreWide planes = All (λ p. length p.runs ≡ FRAME_WIDTH) planes
-
--- for rows by evaluation: who unfolds it unfolds the rules above
-unfoldable pub planes_unfolded : ℕ
-unfolding empty_plane add number_or_add number_of find is_free check_plane check_some check with_run mark_some mark column same_key same_flat
-planes_unfolded = 0

@@ -1,13 +1,6 @@
 -- The pixels of a sky plane, and of planes of both kinds (R_DrawPlanes, r_plane.c).
 use Rattle.std.specs.Prelude.{ℕ, ◌/◌, ◌^◌, ℤ, pos, List}
-use Rattle.word_rules.specs.Words.{turn}
-use Rattle.word_rules.specs.Listed.{listed, joined_lists}
-use Rattle.view_rules.specs.View.{ViewValue}
-use Rattle.view_rules.specs.Tables.{angle_of_column}
-use Rattle.pixel_rules.specs.declared.TheConstants.{SKY}
-use Rattle.pixel_rules.specs.Dots.{Dot}
-use Rattle.pixel_rules.specs.Art.{Art, painter_of}
-use Rattle.pixel_rules.specs.Strips.{texel_row, row_fraction}
+use Rattle.picture_rules.specs.Rules.{Art, Dot, SKY, ViewValue, angle_of_column, joined_lists, listed, painter_of, row_fraction, texel_row, turn}
 use Rattle.picture_rules.specs.declared.plane.TheConstants.{SKY_SHIFT, SKY_MID, SKY_MAP}
 use Rattle.picture_rules.specs.declared.plane.Flat4.{Flat4}
 use Rattle.picture_rules.specs.declared.plane.Flat4.TheVariants.{Sky, Lump}

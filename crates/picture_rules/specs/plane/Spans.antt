@@ -1,7 +1,6 @@
 -- The spans of a plane's rows (R_MakeSpans, r_plane.c).
 use Rattle.std.specs.Prelude.{◌≡◌, ℕ, zero, suc, ◌-◌, ◌&&◌, nat_le, nat_lt, Bool, false, not, cond, List, map, Option, Some, None, refl}
-use Rattle.view_rules.specs.declared.TheConstants.{FRAME_WIDTH}
-use Rattle.level_rules.specs.walk.Covered.{fragments}
+use Rattle.picture_rules.specs.Rules.{FRAME_WIDTH, fragments}
 use Rattle.picture_rules.specs.plane.Planes.{Plane, column}
 
 -- the run holds row y

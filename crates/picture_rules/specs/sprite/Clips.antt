@@ -1,7 +1,6 @@
 -- How far a sprite is seen in a column: the clips of the last fragments in front of it (R_DrawSprite, r_things.c).
 use Rattle.std.specs.Prelude.{ℕ, ◌&&◌, int_lt, ℤ, pos, Bool, false, not, List, length, Option, Some, None, slice_get, position}
-use Rattle.word_rules.specs.Words.{minus_one}
-use Rattle.word_rules.specs.Least.{greatest}
+use Rattle.picture_rules.specs.Rules.{greatest, minus_one}
 use Rattle.picture_rules.specs.declared.sprite.SpriteEntry.{SpriteEntry}
 use Rattle.picture_rules.specs.sprite.Drawsegs.{Drawseg, drawseg_has, entry_has, is_behind}
 

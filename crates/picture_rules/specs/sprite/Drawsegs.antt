@@ -1,9 +1,6 @@
 -- What the masked pass needs of a drawn fragment (drawseg_t, r_defs.h), and what of it is behind a sprite (R_DrawSprite, r_things.c).
 use Rattle.std.specs.Prelude.{◌≡◌, ◌≤◌, ℕ, ◌==◌, ◌&&◌, ◌||◌, nat_le, int_lt, int_le, ℤ, pos, Bool}
-use Rattle.word_rules.specs.Words.{minus, greater_word, lesser_word}
-use Rattle.view_rules.specs.Sides.{side_of}
-use Rattle.view_rules.specs.declared.Partition.{Partition}
-use Rattle.level_rules.specs.declared.Seg.{Seg}
+use Rattle.picture_rules.specs.Rules.{Partition, Seg, greater_word, lesser_word, minus, side_of}
 use Rattle.picture_rules.specs.declared.sprite.SpriteEntry.{SpriteEntry}
 
 pub record Drawseg : Type 0 where

@@ -1,11 +1,7 @@
 -- The vissprites of a view, in order of making (R_ProjectSprite, R_NewVisSprite, r_things.c).
 use Rattle.std.specs.Prelude.{ℕ, ℤ, pos, int_lt, nat_lt, ◌||◌, Bool, cond, List, [], ◌∷◌, ◌++◌, length, Option, Some, None}
 use Rattle.std.specs.Int.{is_negative}
-use Rattle.word_rules.specs.Words.{plus, minus, mul, div, shr_word, fixed, greater_word, lesser_word}
-use Rattle.word_rules.specs.declared.TheConstants.{FRACTION_UNIT}
-use Rattle.view_rules.specs.View.{ViewValue}
-use Rattle.view_rules.specs.Tables.{projection}
-use Rattle.view_rules.specs.Lights.{scale_map, bright_map}
+use Rattle.picture_rules.specs.Rules.{FRACTION_UNIT, ViewValue, bright_map, div, fixed, greater_word, lesser_word, minus, mul, plus, projection, scale_map, shr_word}
 use Rattle.picture_rules.specs.declared.sprite.TheConstants.{MAX_VISSPRITES}
 use Rattle.picture_rules.specs.declared.sprite.Placed.{Placed}
 use Rattle.picture_rules.specs.declared.sprite.Seen.{Seen}

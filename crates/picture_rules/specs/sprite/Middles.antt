@@ -1,19 +1,6 @@
 -- The pixels of masked mid textures, and when they are drawn (R_RenderMaskedSegRange, r_segs.c; R_DrawMasked, r_things.c).
 use Rattle.std.specs.Prelude.{ℕ, zero, suc, ◌+◌, ◌-◌, bit_and, ◌==◌, ◌&&◌, ◌++◌, ℤ, pos, Bool, true, false, cond, List, [], ◌∷◌, length, Option, Some, None, slice_get, filter}
-use Rattle.word_rules.specs.Words.{plus, minus, fixed, inverse_word, greater_word, lesser_word}
-use Rattle.word_rules.specs.Steps.{step_at}
-use Rattle.word_rules.specs.Listed.{listed_from, joined_lists}
-use Rattle.view_rules.specs.View.{ViewValue}
-use Rattle.view_rules.specs.Lights.{scale_map}
-use Rattle.level_rules.specs.declared.TheConstants.{BOTTOM_UNPEGGED}
-use Rattle.level_rules.specs.declared.Seg.{Seg}
-use Rattle.level_rules.specs.declared.Surface.{Surface}
-use Rattle.pixel_rules.specs.Dots.{Dot}
-use Rattle.pixel_rules.specs.declared.Source.{Source}
-use Rattle.pixel_rules.specs.declared.TheConstants.{MIDDLE}
-use Rattle.pixel_rules.specs.Art.{Art, painter_of}
-use Rattle.pixel_rules.specs.declared.MaskedColumn.{MaskedColumn}
-use Rattle.pixel_rules.specs.Posts.{posts_dots}
+use Rattle.picture_rules.specs.Rules.{Art, BOTTOM_UNPEGGED, Dot, MIDDLE, MaskedColumn, Seg, Source, Surface, ViewValue, fixed, greater_word, inverse_word, joined_lists, lesser_word, listed_from, minus, painter_of, plus, posts_dots, scale_map, step_at}
 use Rattle.picture_rules.specs.declared.sprite.SpriteEntry.{SpriteEntry}
 use Rattle.picture_rules.specs.sprite.Drawsegs.{Drawseg}
 use Rattle.picture_rules.specs.sprite.Clips.{sprite_in_front}

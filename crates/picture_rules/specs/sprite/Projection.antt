@@ -1,10 +1,6 @@
 -- Where a thing is seen, before its picture is known (R_ProjectSprite, r_things.c).
 use Rattle.std.specs.Prelude.{ℕ, ◌/◌, ◌^◌, ℤ, int_lt, cond, Option, Some, None}
-use Rattle.word_rules.specs.Words.{plus, minus, neg_word, mul, div, abs_word, shl_word, turn, turn_back, fine_angle}
-use Rattle.view_rules.specs.View.{ViewValue}
-use Rattle.view_rules.specs.Angles.{sine_at, cosine_at}
-use Rattle.view_rules.specs.Tables.{projection}
-use Rattle.view_rules.specs.Bearings.{point_angle}
+use Rattle.picture_rules.specs.Rules.{ViewValue, abs_word, cosine_at, div, fine_angle, minus, mul, neg_word, plus, point_angle, projection, shl_word, sine_at, turn, turn_back}
 use Rattle.picture_rules.specs.declared.sprite.TheConstants.{MIN_DEPTH, SIDE_SHIFT, ROTATION_TURN, ROTATION_SHIFT}
 use Rattle.picture_rules.specs.declared.sprite.Placed.{Placed}
 use Rattle.picture_rules.specs.declared.sprite.Seen.{Seen}

@@ -1,14 +1,6 @@
 -- The pixels of a sprite (R_DrawVisSprite, r_things.c).
 use Rattle.std.specs.Prelude.{ℕ, ℤ, pos, cond, Bool, List}
-use Rattle.word_rules.specs.Words.{minus, times, shr_word, fixed}
-use Rattle.word_rules.specs.Listed.{joined_lists}
-use Rattle.view_rules.specs.View.{ViewValue}
-use Rattle.pixel_rules.specs.Dots.{Dot}
-use Rattle.pixel_rules.specs.declared.TheConstants.{SPRITE}
-use Rattle.pixel_rules.specs.Art.{Art, lump_source, painter_of}
-use Rattle.pixel_rules.specs.Strips.{rows_between}
-use Rattle.pixel_rules.specs.declared.MaskedColumn.{MaskedColumn}
-use Rattle.pixel_rules.specs.Posts.{posts_dots}
+use Rattle.picture_rules.specs.Rules.{Art, Dot, MaskedColumn, SPRITE, ViewValue, fixed, joined_lists, lump_source, minus, painter_of, posts_dots, rows_between, shr_word, times}
 use Rattle.picture_rules.specs.declared.sprite.SpriteEntry.{SpriteEntry}
 use Rattle.picture_rules.specs.sprite.Drawsegs.{Drawseg}
 use Rattle.picture_rules.specs.sprite.Clips.{sprite_bottom, sprite_top}

@@ -1,18 +1,6 @@
 -- The pixels of a weapon's picture over a view (R_DrawPSprite, r_things.c).
 use Rattle.std.specs.Prelude.{ℕ, ◌-◌, ◌*◌, ◌/◌, Bool, ℤ, pos, cond, List, []}
-use Rattle.word_rules.specs.Words.{plus, minus, fixed, greater_word, lesser_word, minus_one}
-use Rattle.word_rules.specs.Listed.{joined_lists}
-use Rattle.view_rules.specs.declared.TheConstants.{FRAME_WIDTH, HALF_UNIT, SCALE_STEPS}
-use Rattle.view_rules.specs.View.{ViewValue}
-use Rattle.view_rules.specs.declared.ViewShape.{ViewShape}
-use Rattle.view_rules.specs.Lights.{light_number, fixed_or, bright_map}
-use Rattle.view_rules.specs.Tables.{scale_light}
-use Rattle.pixel_rules.specs.Dots.{Dot}
-use Rattle.pixel_rules.specs.declared.TheConstants.{WEAPON}
-use Rattle.pixel_rules.specs.Art.{Art, lump_source, painter_of}
-use Rattle.pixel_rules.specs.Strips.{rows_between}
-use Rattle.pixel_rules.specs.declared.MaskedColumn.{MaskedColumn}
-use Rattle.pixel_rules.specs.Posts.{posts_dots}
+use Rattle.picture_rules.specs.Rules.{Art, Dot, FRAME_WIDTH, HALF_UNIT, MaskedColumn, SCALE_STEPS, ViewShape, ViewValue, WEAPON, bright_map, fixed, fixed_or, greater_word, joined_lists, lesser_word, light_number, lump_source, minus, minus_one, painter_of, plus, posts_dots, rows_between, scale_light}
 use Rattle.picture_rules.specs.declared.sprite.Shape5.{Shape5}
 use Rattle.picture_rules.specs.declared.sprite.TheConstants.{WEAPON_CENTRE, WEAPON_MID}
 use Rattle.picture_rules.specs.sprite.Entries.{edge_column, misses_view}

@@ -1,12 +1,6 @@
 -- The texture column of a fragment at a column of the view (R_StoreWallRange, R_RenderSegLoop, r_segs.c).
 use Rattle.std.specs.Prelude.{ℕ, ◌%◌, min, ℤ, nat_lt, cond}
-use Rattle.word_rules.specs.Words.{plus, minus, mul, neg_word, shr_word, turn, turn_back, ang90, ang180, fine_angle}
-use Rattle.word_rules.specs.declared.TheConstants.{FRACTION_BITS}
-use Rattle.view_rules.specs.declared.TheConstants.{TANGENTS}
-use Rattle.view_rules.specs.View.{ViewValue}
-use Rattle.view_rules.specs.Angles.{sine_at, tangent_at}
-use Rattle.view_rules.specs.Tables.{angle_of_column}
-use Rattle.level_rules.specs.declared.Seg.{Seg}
+use Rattle.picture_rules.specs.Rules.{FRACTION_BITS, Seg, TANGENTS, ViewValue, ang180, ang90, angle_of_column, fine_angle, minus, mul, neg_word, plus, shr_word, sine_at, tangent_at, turn, turn_back}
 use Rattle.picture_rules.specs.declared.wall.WallFacts.{WallFacts}
 use Rattle.picture_rules.specs.wall.Scales.{seg_normal, normal_turn, vertex_dist, seg_distance}
 

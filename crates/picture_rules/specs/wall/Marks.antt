@@ -1,9 +1,6 @@
 -- Whether a fragment marks rows of its leaf's floor and ceiling plane (markfloor, markceiling, r_segs.c).
 use Rattle.std.specs.Prelude.{◌==◌, ◌||◌, ◌&&◌, ℤ, int_le, Bool, true, false, not, cond, Option, Some, None}
-use Rattle.word_rules.specs.Words.{same_word}
-use Rattle.level_rules.specs.declared.Surface.{Surface}
-use Rattle.level_rules.specs.Levels.{is_sky}
-use Rattle.level_rules.specs.walk.Segs.{is_closed}
+use Rattle.picture_rules.specs.Rules.{Surface, is_closed, is_sky, same_word}
 use Rattle.picture_rules.specs.wall.Heights.{world_top, world_bottom, world_high, world_low}
 
 unfoldable pub floors_differ : ℤ → Surface → Surface → Bool

@@ -1,9 +1,7 @@
 -- What drawn fragments save among the openings, and the note of each for the masked pass (R_StoreWallRange, r_segs.c).
 use Rattle.std.specs.Prelude.{ℕ, ◌+◌, ◌-◌, ◌*◌, ℤ, pos, Bool, cond, List, [], ◌∷◌, ◌++◌, Option, Some, None, slice_index_or}
 use Rattle.std.specs.Int.{from_bool}
-use Rattle.word_rules.specs.Words.{minus_one}
-use Rattle.word_rules.specs.Listed.{listed_from}
-use Rattle.view_rules.specs.View.{ViewValue}
+use Rattle.picture_rules.specs.Rules.{ViewValue, listed_from, minus_one}
 use Rattle.picture_rules.specs.declared.wall.TheConstants.{SIL_BOTTOM, SIL_TOP}
 use Rattle.picture_rules.specs.declared.wall.Clip.{Clip}
 use Rattle.picture_rules.specs.declared.wall.Clip.TheVariants.{Absent, Constant, Saved}

@@ -1,9 +1,6 @@
 -- The numbers of a fragment, in one record (R_StoreWallRange, r_segs.c).
 use Rattle.std.specs.Prelude.{ℕ, ◌-◌, ℤ, pos, cond}
-use Rattle.word_rules.specs.Words.{same_word, minus_one}
-use Rattle.view_rules.specs.View.{ViewValue}
-use Rattle.view_rules.specs.Lights.{light_number}
-use Rattle.level_rules.specs.declared.Seg.{Seg}
+use Rattle.picture_rules.specs.Rules.{Seg, ViewValue, light_number, minus_one, same_word}
 use Rattle.picture_rules.specs.declared.wall.WallFacts.{WallFacts}
 use Rattle.picture_rules.specs.wall.Scales.{scale_of_column, scale_step}
 use Rattle.picture_rules.specs.wall.Heights.{world_top, world_bottom, world_high, world_low}

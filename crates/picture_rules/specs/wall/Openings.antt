@@ -1,8 +1,7 @@
 -- What a drawn fragment keeps for sprites and masked middles: clips, and how many openings they take (R_StoreWallRange, r_segs.c).
 use Rattle.std.specs.Prelude.{ℕ, ◌+◌, ◌-◌, ◌*◌, ◌||◌, ◌&&◌, ℤ, pos, Bool, not, cond, List}
 use Rattle.std.specs.Int.{from_bool}
-use Rattle.word_rules.specs.Words.{minus_one}
-use Rattle.view_rules.specs.declared.ViewShape.{ViewShape}
+use Rattle.picture_rules.specs.Rules.{ViewShape, minus_one}
 use Rattle.picture_rules.specs.declared.wall.FragmentNumbers.{FragmentNumbers}
 use Rattle.picture_rules.specs.wall.Walls.{Wall, clip_past}
 

@@ -1,9 +1,6 @@
 -- The textures of a fragment, each with the texel row at the view's centre row (R_StoreWallRange, r_segs.c).
 use Rattle.std.specs.Prelude.{bit_and, ◌==◌, ℤ, pos, int_lt, Bool, false, not, cond, Option, Some, None}
-use Rattle.word_rules.specs.Words.{plus, minus, fixed}
-use Rattle.level_rules.specs.declared.TheConstants.{TOP_UNPEGGED, BOTTOM_UNPEGGED}
-use Rattle.level_rules.specs.declared.Seg.{Seg}
-use Rattle.level_rules.specs.declared.Surface.{Surface}
+use Rattle.picture_rules.specs.Rules.{BOTTOM_UNPEGGED, Seg, Surface, TOP_UNPEGGED, fixed, minus, plus}
 use Rattle.picture_rules.specs.declared.wall.WallTexture.{WallTexture}
 use Rattle.picture_rules.specs.declared.wall.WallFacts.{WallFacts}
 use Rattle.picture_rules.specs.wall.Heights.{world_top, world_bottom, world_high, world_low}

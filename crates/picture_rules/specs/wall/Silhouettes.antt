@@ -1,7 +1,6 @@
 -- Where a fragment clips what is behind it, and up to which height (R_StoreWallRange, r_segs.c).
 use Rattle.std.specs.Prelude.{ℤ, pos, int_lt, int_le, Bool, true, false, cond, Option, Some, None}
-use Rattle.word_rules.specs.Words.{greatest_word, least_word}
-use Rattle.level_rules.specs.declared.Surface.{Surface}
+use Rattle.picture_rules.specs.Rules.{Surface, greatest_word, least_word}
 use Rattle.picture_rules.specs.declared.wall.Silhouette.{Silhouette}
 
 abbrev pub no_silhouette : Silhouette

@@ -1,13 +1,6 @@
 -- What drawn fragments paint of their walls, and which rows they mark in planes (R_RenderSegLoop, r_segs.c).
 use Rattle.std.specs.Prelude.{ℕ, ◌++◌, ℤ, int_lt, Bool, cond, List, [], ◌∷◌, Option, Some, None}
-use Rattle.word_rules.specs.Words.{inverse_word, natural}
-use Rattle.word_rules.specs.Listed.{listed_from, joined_lists}
-use Rattle.view_rules.specs.View.{ViewValue}
-use Rattle.view_rules.specs.Lights.{scale_map}
-use Rattle.pixel_rules.specs.Dots.{Dot}
-use Rattle.pixel_rules.specs.declared.TheConstants.{WALL}
-use Rattle.pixel_rules.specs.Art.{Art, painter_of}
-use Rattle.pixel_rules.specs.Strips.{texel_row, row_fraction, rows_between, column_dots}
+use Rattle.picture_rules.specs.Rules.{Art, Dot, ViewValue, WALL, column_dots, inverse_word, joined_lists, listed_from, natural, painter_of, row_fraction, rows_between, scale_map, texel_row}
 use Rattle.picture_rules.specs.declared.wall.ColumnClip.{ColumnClip}
 use Rattle.picture_rules.specs.declared.wall.Edges.{Edges}
 use Rattle.picture_rules.specs.declared.wall.Part.{Part}

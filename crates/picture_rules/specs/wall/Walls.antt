@@ -1,8 +1,6 @@
 -- The drawn fragments of a view, and what is open of a column before and after each (ceilingclip, floorclip, r_segs.c).
 use Rattle.std.specs.Prelude.{ℕ, zero, suc, ◌-◌, ◌&&◌, nat_le, Bool, false, cond, List, Option, Some, None, slice_get}
-use Rattle.word_rules.specs.Least.{greatest}
-use Rattle.view_rules.specs.View.{ViewValue}
-use Rattle.view_rules.specs.declared.ViewShape.{ViewShape}
+use Rattle.picture_rules.specs.Rules.{ViewShape, ViewValue, greatest}
 use Rattle.picture_rules.specs.declared.wall.WallFacts.{WallFacts}
 use Rattle.picture_rules.specs.declared.wall.ColumnClip.{ColumnClip}
 use Rattle.picture_rules.specs.declared.wall.Edges.{Edges}

@@ -1,6 +1,5 @@
 use Rattle.std.proofs.Common.{◌≡◌, ℕ, ◌+◌, ◌-◌, ◌<◌, ◌≤◌, slice_index, length, false}
-use Rattle.view_rules.specs.declared.TheConstants.{TANGENTS}
-use Rattle.view_rules.specs.Tables.{angle_of_column, is_seen_by, focal_length}
+use Rattle.angle_tables.specs.Rules.{TANGENTS, angle_of_column, focal_length, is_seen_by}
 use Rattle.angle_tables.proofs.columns.angles_of_columns.Given as goal
 
 -- no fine angle below that of the last column is seen at a column further left

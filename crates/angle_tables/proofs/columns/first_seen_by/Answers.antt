@@ -1,7 +1,6 @@
 use Rattle.std.proofs.Common.{rules, arith, sym}
 use Rattle.word_rules.proofs.LeastLemmas.{least-some, least-none}
-use Rattle.view_rules.specs.declared.TheConstants.{TANGENTS}
-use Rattle.view_rules.specs.Tables.{first_seen_by, is_seen_by, focal_length}
+use Rattle.angle_tables.specs.Rules.{TANGENTS, first_seen_by, focal_length, is_seen_by}
 use Rattle.angle_tables.proofs.columns.first_seen_by.Goals as goal
 
 -- the first that is seen, and none before it

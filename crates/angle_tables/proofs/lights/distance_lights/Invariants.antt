@@ -1,6 +1,5 @@
 use Rattle.std.proofs.Common.{◌≡◌, ℕ, ◌/◌, ◌%◌, ◌<◌, slice_index, length}
-use Rattle.view_rules.specs.declared.TheConstants.{DISTANCE_STEPS}
-use Rattle.view_rules.specs.Tables.{distance_light}
+use Rattle.angle_tables.specs.Rules.{DISTANCE_STEPS, distance_light}
 use Rattle.angle_tables.proofs.lights.distance_lights.Given as goal
 
 abbrev pub invariant-loop-n : goal.invariant-loop-n

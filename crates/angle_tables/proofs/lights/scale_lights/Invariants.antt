@@ -1,6 +1,5 @@
 use Rattle.std.proofs.Common.{◌≡◌, ℕ, ◌/◌, ◌%◌, ◌<◌, slice_index, length}
-use Rattle.view_rules.specs.declared.TheConstants.{SCALE_STEPS}
-use Rattle.view_rules.specs.Tables.{scale_light}
+use Rattle.angle_tables.specs.Rules.{SCALE_STEPS, scale_light}
 use Rattle.angle_tables.proofs.lights.scale_lights.Given as goal
 
 abbrev pub invariant-loop-n : goal.invariant-loop-n

@@ -1,7 +1,5 @@
 use Rattle.std.proofs.Common.{ap, sym, arith, length, subst}
-use Rattle.art_rules.specs.Words.{memory_view}
-use Rattle.job_rules.specs.LevelJobs.{LevelJobValue}
-use Rattle.job_rules.specs.Ranges.{AreSettings}
+use Rattle.doom_run.specs.Rules.{AreSettings, LevelJobValue, memory_view}
 use Rattle.doom_run.specs.Exercises.{made_files}
 use Rattle.job_files.specs.declared.status.Status.TheVariants.{Done}
 use Rattle.doom_run.proofs.ExerciseLemmas.{exercise_done, exercise_stops, over_made}

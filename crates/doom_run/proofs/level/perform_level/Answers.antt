@@ -4,13 +4,29 @@ use Rattle.doom_run.specs.Jobs.{delivery_of}
 use Rattle.doom_run.proofs.PerformLemmas.{loads_performs, stops_performs}
 use Rattle.doom_run.proofs.level.perform_level.Goals as goal
 
-pub perform_task-requires-clause-loaded : goal.perform_task-requires-clause-loaded
-perform_task-requires-clause-loaded g c = c.in-Ok.ensures.loaded
+pub returns-in-Render : goal.returns-in-Render
+returns-in-Render g c =
+    rw c.in-Render.is (loads_performs (level_job_value c.args.level.now) (map (λ wad. wad.now) c.args.wads.now) _ _ c.in-Ok.loaded c.in-Ok.ensures c.perform_views.ensures)
 
-pub returns-in-Ok : goal.returns-in-Ok
-returns-in-Ok g c =
-    loads_performs (level_job_value c.args.level.now) (map (λ wad. wad.now) c.args.wads.now) (delivery_of c.args.task (level_job_value c.args.level.now)) _ _ _ _ _ _ _ c.in-Ok.loaded c.perform_task.result
-    c.in-Ok.ensures c.perform_task.ensures
+pub returns-in-Trace : goal.returns-in-Trace
+returns-in-Trace g c =
+    rw c.in-Trace.is (loads_performs (level_job_value c.args.level.now) (map (λ wad. wad.now) c.args.wads.now) _ _ c.in-Ok.loaded c.in-Ok.ensures c.perform_views-in-Trace.ensures)
+
+pub returns-in-Audit : goal.returns-in-Audit
+returns-in-Audit g c =
+    rw c.in-Audit.is (loads_performs (level_job_value c.args.level.now) (map (λ wad. wad.now) c.args.wads.now) _ _ c.in-Ok.loaded c.in-Ok.ensures (c.perform_audit.ensures _ _ c.in-Ok.ensures.loaded))
+
+pub returns-in-Limits : goal.returns-in-Limits
+returns-in-Limits g c =
+    rw c.in-Limits.is (loads_performs (level_job_value c.args.level.now) (map (λ wad. wad.now) c.args.wads.now) _ _ c.in-Ok.loaded c.in-Ok.ensures (c.perform_limits.ensures _))
+
+pub returns-in-List : goal.returns-in-List
+returns-in-List g c =
+    rw c.in-List.is (loads_performs (level_job_value c.args.level.now) (map (λ wad. wad.now) c.args.wads.now) _ _ c.in-Ok.loaded c.in-Ok.ensures (c.perform_list.ensures _))
+
+pub returns-in-Trim : goal.returns-in-Trim
+returns-in-Trim g c =
+    rw c.in-Trim.is (loads_performs (level_job_value c.args.level.now) (map (λ wad. wad.now) c.args.wads.now) _ _ c.in-Ok.loaded c.in-Ok.ensures c.perform_trim.ensures)
 
 pub returns-in-Err : goal.returns-in-Err
 returns-in-Err g c =

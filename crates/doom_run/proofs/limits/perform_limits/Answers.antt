@@ -1,35 +1,16 @@
-use Rattle.std.proofs.Common.{subst, sym}
 use Rattle.job_rules.specs.LevelJobs.{level_job_value}
 use Rattle.job_rules.specs.declared.command.LevelTask.TheVariants.{Limits}
-use Rattle.level_audit.specs.declared.scene_load.load.LoadedScene.{LoadedScene}
-use Rattle.level_audit.specs.scene_load.Calls.{IsLoadedScene}
-use Rattle.doom_run.specs.Ends.{DeliversAt}
 use Rattle.doom_run.specs.Jobs.{counted_views, delivery_of}
-use Rattle.doom_run.specs.Performs.{Delivers}
-use Rattle.doom_run.specs.Views.{ViewsValue, views_of}
 use Rattle.doom_run.proofs.CountLemmas.{can_count}
-use Rattle.doom_run.proofs.DeliverLemmas.{memory_delivers, telling_delivers}
-use Rattle.doom_run.proofs.DrawnLemmas.{drawable}
-use Rattle.doom_run.proofs.EndLemmas.{ready_as}
+use Rattle.doom_run.proofs.DeliverLemmas.{memory_delivers, ready_drawable, views_delivers}
 use Rattle.doom_run.proofs.limits.perform_limits.Goals as goal
 
 pub put_views-requires : goal.put_views-requires
-put_views-requires g c =
-    let level = level_job_value c.args.level.now in
-    can_count _ _ _ (drawable level c.in-Ok.ready.loaded (subst (IsLoadedScene level) (sym c.in-Ok.ensures.loaded) c.requires.loaded))
+put_views-requires g c = can_count _ _ _ (ready_drawable (level_job_value c.args.level.now) c.args.loaded c.in-Ok.ready c.in-Ok.ensures.loaded c.requires.loaded).0
 
 pub returns-in-Ok : goal.returns-in-Ok
 returns-in-Ok g c view =
-    let level = level_job_value c.args.level.now in
-    let ready = c.in-Ok.ready in
-    let stands : IsLoadedScene level ready.loaded = subst (IsLoadedScene level) (sym c.in-Ok.ensures.loaded) c.requires.loaded in
-    let old = g.K.Sink.written c.args.out.now in
-    let new = g.K.Sink.written c.put_views.new.out in
-    let status = c.put_views.result in
-    subst (λ (l : LoadedScene). Delivers level (delivery_of Limits level) view view l old new (g.K.Sink.faults c.args.out.now) (g.K.Sink.faults c.put_views.new.out) status) c.in-Ok.ensures.loaded
-    (telling_delivers level view ready.loaded (λ bytes loaded. counted_views (views_of bytes level.settings loaded)) old new _ _ status stands
-    (λ bytes. subst (λ (r : ViewsValue). DeliversAt (counted_views r) old new status) (sym (ready_as bytes level ready (record { loaded = stands; limits = c.in-Ok.ensures.limits }))) (c.put_views.ensures.ends bytes))
-    c.put_views.ensures.write_fault)
+    views_delivers (level_job_value c.args.level.now) view c.args.loaded c.in-Ok.ready counted_views _ _ _ _ c.put_views.result c.in-Ok.ensures.loaded c.in-Ok.ensures.limits c.requires.loaded c.put_views.ensures
 
 pub returns-in-Err : goal.returns-in-Err
 returns-in-Err g c view = memory_delivers (level_job_value c.args.level.now) (delivery_of Limits (level_job_value c.args.level.now)) view c.args.loaded _ _

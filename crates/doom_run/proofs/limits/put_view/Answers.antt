@@ -1,19 +1,22 @@
-use Rattle.doom_run.proofs.FrameLemmas.{view_get}
-use Rattle.doom_run.proofs.LimitLemmas.{line_of_counts, line_of_over, same_bytes}
+use Rattle.std.proofs.Common.{ap, refl, ◌∙◌}
+use Rattle.picture_rules.specs.declared.Counts.{Counts}
+use Rattle.doom_run.specs.Views.{counts_line, view_line}
+use Rattle.doom_run.proofs.LimitLemmas.{lines_over, lines_within, same_bytes}
 use Rattle.doom_run.proofs.limits.put_view.Goals as goal
 
-pub returns-in-Ok-clause-writes : goal.returns-in-Ok-clause-writes
-returns-in-Ok-clause-writes g c bytes =
-    same_bytes
-    (line_of_counts bytes c.args.ready.now c.args.number _ c.in-Ok.counts
-    (view_get bytes c.args.ready.now c.args.number c.eye_at-eye.result c.eye_at-eye.ensures)
-    (c.in-Ok.ensures.counts bytes) (c.in-Ok.ensures.within bytes))
-    c.put_counts.ensures
+pub returns-in-Ok : goal.returns-in-Ok
+returns-in-Ok g c = record {
+  writes = λ bytes.
+      same_bytes
+      (ap (λ (counts : Counts). counts_line c.args.number counts) (c.in-Ok.ensures.counts bytes) ∙ lines_within view_line bytes c.args.ready.now c.args.number _ c.eye_at-eye.ensures (c.in-Ok.ensures.within bytes))
+      c.put_counts.ensures;
+  loaded = refl;
+  limits = c.count_view.ensures.limits;
+}
 
-pub returns-in-Err-clause-writes : goal.returns-in-Err-clause-writes
-returns-in-Err-clause-writes g c bytes =
-    same_bytes
-    (line_of_over bytes c.args.ready.now c.args.number _ c.in-Err.over
-    (view_get bytes c.args.ready.now c.args.number c.eye_at-eye.result c.eye_at-eye.ensures)
-    (c.in-Err.ensures.over bytes))
-    c.put_over.ensures
+pub returns-in-Err : goal.returns-in-Err
+returns-in-Err g c = record {
+  writes = λ bytes. same_bytes (lines_over view_line bytes c.args.ready.now c.args.number _ c.eye_at-eye.ensures c.in-Err.over (c.in-Err.ensures.over bytes)) c.put_over.ensures;
+  loaded = refl;
+  limits = c.count_view.ensures.limits;
+}

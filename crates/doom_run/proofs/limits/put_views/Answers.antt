@@ -1,44 +1,19 @@
-use Rattle.std.proofs.Common.{◌≡◌, ◌≤◌, ◌+◌, ℕ, List, [], length, refl, ◌∙◌, arith}
-use Rattle.doom_run.specs.Renders.{ready_views}
-use Rattle.doom_run.proofs.LimitLemmas.{all_written, length_views, more_written, none_written, prefix_of_lines, ready_same, same_lines}
+use Rattle.std.proofs.Common.{arith}
+use Rattle.doom_run.specs.Views.{view_line}
+use Rattle.doom_run.proofs.LimitLemmas.{puts-all, puts-more, puts-none, puts-stopped}
 use Rattle.doom_run.proofs.limits.put_views.Goals as goal
 
 pub loop-number-init : goal.loop-number-init
-loop-number-init g c = record { loaded = refl; limits = refl; writes = λ bytes. none_written (ready_views bytes c.args.ready.now) _ _ }
+loop-number-init g c = puts-none view_line c.args.ready.now _ _
 
 pub loop-number-preserved : goal.loop-number-preserved
-loop-number-preserved g c = record {
-  loaded = c.put_view.ensures.loaded ∙ c.loop-number.invariant.loaded;
-  limits = c.put_view.ensures.limits ∙ c.loop-number.invariant.limits;
-  writes = λ bytes.
-      all_written (ready_views bytes c.args.ready.now) (ready_views bytes c.loop-number.ready) c.loop-number.number
-      (ready_same bytes c.loop-number.ready c.args.ready.now c.loop-number.invariant.loaded c.loop-number.invariant.limits)
-      (c.loop-number.invariant.writes bytes) (c.put_view.ensures.writes bytes) _ c.in-Ok.is;
-}
+loop-number-preserved g c = rw c.in-Ok.is at (puts-more view_line c.loop-number.number c.loop-number.invariant c.put_view.ensures)
 
-pub returns-in-Err-clause-ends : goal.returns-in-Err-clause-ends
-returns-in-Err-clause-ends g c bytes =
-    let within : c.loop-number.number + 1 ≤ length (ready_views bytes c.args.ready.now).views =
-    let e = length_views bytes c.args.ready.now in
-    let v = c.view_count-count.ensures in
-    let t = c.loop-number-test.true in omega (arith, e, v, t) in
-    prefix_of_lines (ready_views bytes c.args.ready.now) (c.loop-number.number + 1) within
-    (rw c.in-Err.is at (more_written (ready_views bytes c.args.ready.now) (ready_views bytes c.loop-number.ready) c.loop-number.number
-    (ready_same bytes c.loop-number.ready c.args.ready.now c.loop-number.invariant.loaded c.loop-number.invariant.limits)
-    (c.loop-number.invariant.writes bytes) (c.put_view.ensures.writes bytes)).err)
+pub returns-in-Err : goal.returns-in-Err
+returns-in-Err g c bytes =
+    puts-stopped view_line c.loop-number.number c.in-Err.field-0 (rw c.in-Err.is at (puts-more view_line c.loop-number.number c.loop-number.invariant c.put_view.ensures))
+    (omega (arith, c.view_count-count.ensures, c.loop-number-test.true)) bytes
 
-pub returns-in-Err-clause-write_fault : goal.returns-in-Err-clause-write_fault
-returns-in-Err-clause-write_fault g c is =
-    let bytes : ℕ → List ℕ = λ lump. [] in
-    rw c.in-Err.is at (more_written (ready_views bytes c.args.ready.now) (ready_views bytes c.loop-number.ready) c.loop-number.number
-    (ready_same bytes c.loop-number.ready c.args.ready.now c.loop-number.invariant.loaded c.loop-number.invariant.limits)
-    (c.loop-number.invariant.writes bytes) (c.put_view.ensures.writes bytes)).failed
-
-pub returns-clause-ends : goal.returns-clause-ends
-returns-clause-ends g c bytes =
-    let e : c.loop-number.number ≡ length (ready_views bytes c.args.ready.now).views =
-    let n = length_views bytes c.args.ready.now in
-    let v = c.view_count-count.ensures in
-    let t = c.loop-number-test.false in
-    let u = c.loop-number.auto.number-end in omega (arith, n, v, t, u) in
-    (refl, same_lines (ready_views bytes c.args.ready.now) _ e (c.loop-number.invariant.writes bytes).ok)
+pub returns : goal.returns
+returns g c bytes =
+    puts-all view_line c.loop-number.number c.loop-number.invariant (omega (arith, c.view_count-count.ensures, c.loop-number-test.false, c.loop-number.auto.number-end)) bytes

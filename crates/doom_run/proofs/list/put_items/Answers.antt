@@ -1,44 +1,42 @@
 use Rattle.std.proofs.Common.{List, ◌++◌, ◌∙◌, ap, append_assoc, refl}
 use Rattle.art_rules.proofs.Laws.{writes_stop, writes_stopped, writes_then}
-use Rattle.picture_rules.specs.declared.list.ListedFragment.{ListedFragment}
-use Rattle.picture_rules.specs.declared.list.ListedPlane.{ListedPlane}
-use Rattle.picture_rules.specs.declared.list.ListedSprite.{ListedSprite}
+use Rattle.doom_run.specs.Rules.{ListedFragment, ListedPlane, ListedSprite}
 use Rattle.doom_run.specs.Lists.{fragment_line, lines_from, plane_line, sprite_line, sums_line}
 use Rattle.doom_run.proofs.LimitLemmas.{same_bytes}
 use Rattle.doom_run.proofs.ListLemmas.{items_are}
 use Rattle.doom_run.proofs.list.put_items.Goals as goal
 
-pub returns-in_err-put_fragments : goal.returns-in_err-put_fragments
-returns-in_err-put_fragments g c =
+pub returns-in_err-put_each : goal.returns-in_err-put_each
+returns-in_err-put_each g c =
     let view = c.args.view in
     let list = c.args.list.now in
     let behind = lines_from (plane_line view) 0 list.planes ++ (lines_from (sprite_line view) 0 list.sprites ++ sums_line view c.args.counts.now list) in
-    let first = same_bytes (ap (λ (xs : List ListedFragment). lines_from (fragment_line view) 0 xs) c.fragments.ensures) c.put_fragments.ensures in
-    writes_stop c.from_residual.result behind _ first _ c.in_err-put_fragments.was c.from_residual.ensures.0 (items_are view c.args.counts.now list)
+    let first = same_bytes (ap (λ (xs : List ListedFragment). lines_from (fragment_line view) 0 xs) c.fragments.ensures) c.put_each.ensures in
+    writes_stop c.from_residual.result behind _ first _ c.in_err-put_each.was c.from_residual.ensures.0 (items_are view c.args.counts.now list)
 
-pub returns-in_err-put_planes : goal.returns-in_err-put_planes
-returns-in_err-put_planes g c =
+pub returns-in_err-put_each-2 : goal.returns-in_err-put_each-2
+returns-in_err-put_each-2 g c =
     let view = c.args.view in
     let list = c.args.list.now in
     let behind = lines_from (sprite_line view) 0 list.sprites ++ sums_line view c.args.counts.now list in
-    let first = same_bytes (ap (λ (xs : List ListedFragment). lines_from (fragment_line view) 0 xs) c.fragments.ensures) c.put_fragments.ensures in
-    let second = same_bytes (ap (λ (xs : List ListedPlane). lines_from (plane_line view) 0 xs) c.planes.ensures) c.put_planes.ensures in
-    writes_stopped c.from_residual-in_err-put_planes.result behind _ first _ c.in_ok-put_fragments.was second _ c.in_err-put_planes.was c.from_residual-in_err-put_planes.ensures.0
+    let first = same_bytes (ap (λ (xs : List ListedFragment). lines_from (fragment_line view) 0 xs) c.fragments.ensures) c.put_each.ensures in
+    let second = same_bytes (ap (λ (xs : List ListedPlane). lines_from (plane_line view) 0 xs) c.planes.ensures) c.put_each-2.ensures in
+    writes_stopped c.from_residual-in_err-put_each-2.result behind _ first _ c.in_ok-put_each.was second _ c.in_err-put_each-2.was c.from_residual-in_err-put_each-2.ensures.0
     (items_are view c.args.counts.now list)
 
-pub returns-in_err-put_sprites : goal.returns-in_err-put_sprites
-returns-in_err-put_sprites g c =
+pub returns-in_err-put_each-3 : goal.returns-in_err-put_each-3
+returns-in_err-put_each-3 g c =
     let view = c.args.view in
     let list = c.args.list.now in
     let fragments = lines_from (fragment_line view) 0 list.fragments in
     let planes = lines_from (plane_line view) 0 list.planes in
     let sprites = lines_from (sprite_line view) 0 list.sprites in
     let sums = sums_line view c.args.counts.now list in
-    let first = same_bytes (ap (λ (xs : List ListedFragment). lines_from (fragment_line view) 0 xs) c.fragments.ensures) c.put_fragments.ensures in
-    let second = same_bytes (ap (λ (xs : List ListedPlane). lines_from (plane_line view) 0 xs) c.planes.ensures) c.put_planes.ensures in
-    let third = same_bytes (ap (λ (xs : List ListedSprite). lines_from (sprite_line view) 0 xs) c.sprites.ensures) c.put_sprites.ensures in
-    writes_stopped c.from_residual-in_err-put_sprites.result sums _ (writes_then (fragments ++ planes) first _ c.in_ok-put_fragments.was second refl) _ c.in_ok-put_planes.was third _
-    c.in_err-put_sprites.was c.from_residual-in_err-put_sprites.ensures.0 (append_assoc fragments planes (sprites ++ sums) ∙ items_are view c.args.counts.now list)
+    let first = same_bytes (ap (λ (xs : List ListedFragment). lines_from (fragment_line view) 0 xs) c.fragments.ensures) c.put_each.ensures in
+    let second = same_bytes (ap (λ (xs : List ListedPlane). lines_from (plane_line view) 0 xs) c.planes.ensures) c.put_each-2.ensures in
+    let third = same_bytes (ap (λ (xs : List ListedSprite). lines_from (sprite_line view) 0 xs) c.sprites.ensures) c.put_each-3.ensures in
+    writes_stopped c.from_residual-in_err-put_each-3.result sums _ (writes_then (fragments ++ planes) first _ c.in_ok-put_each.was second refl) _ c.in_ok-put_each-2.was third _
+    c.in_err-put_each-3.was c.from_residual-in_err-put_each-3.ensures.0 (append_assoc fragments planes (sprites ++ sums) ∙ items_are view c.args.counts.now list)
 
 pub returns : goal.returns
 returns g c =
@@ -47,9 +45,9 @@ returns g c =
     let sums = sums_line view c.args.counts.now list in
     let sprites = lines_from (sprite_line view) 0 list.sprites ++ sums in
     let planes = lines_from (plane_line view) 0 list.planes ++ sprites in
-    let first = same_bytes (ap (λ (xs : List ListedFragment). lines_from (fragment_line view) 0 xs) c.fragments.ensures) c.put_fragments.ensures in
-    let second = same_bytes (ap (λ (xs : List ListedPlane). lines_from (plane_line view) 0 xs) c.planes.ensures) c.put_planes.ensures in
-    let third = same_bytes (ap (λ (xs : List ListedSprite). lines_from (sprite_line view) 0 xs) c.sprites.ensures) c.put_sprites.ensures in
-    writes_then _ first _ c.in_ok-put_fragments.was
-    (writes_then planes second _ c.in_ok-put_planes.was (writes_then sprites third _ c.in_ok-put_sprites.was c.put_sums.ensures refl) refl)
+    let first = same_bytes (ap (λ (xs : List ListedFragment). lines_from (fragment_line view) 0 xs) c.fragments.ensures) c.put_each.ensures in
+    let second = same_bytes (ap (λ (xs : List ListedPlane). lines_from (plane_line view) 0 xs) c.planes.ensures) c.put_each-2.ensures in
+    let third = same_bytes (ap (λ (xs : List ListedSprite). lines_from (sprite_line view) 0 xs) c.sprites.ensures) c.put_each-3.ensures in
+    writes_then _ first _ c.in_ok-put_each.was
+    (writes_then planes second _ c.in_ok-put_each-2.was (writes_then sprites third _ c.in_ok-put_each-3.was c.put_sums.ensures refl) refl)
     (items_are view c.args.counts.now list)

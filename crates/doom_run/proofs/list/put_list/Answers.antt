@@ -1,20 +1,26 @@
-use Rattle.doom_run.proofs.FrameLemmas.{view_get}
-use Rattle.doom_run.proofs.LimitLemmas.{same_bytes}
-use Rattle.doom_run.proofs.ListLemmas.{list_of_counts, list_of_over}
+use Rattle.std.proofs.Common.{refl, ℕ, ◌∙◌, ◌≡◌}
+use Rattle.doom_run.specs.Rules.{Counts, ViewListValue}
+use Rattle.doom_run.specs.Lists.{items_lines, list_lines}
+use Rattle.doom_run.proofs.LimitLemmas.{lines_over, lines_within, same_bytes}
 use Rattle.doom_run.proofs.list.put_list.Goals as goal
 
-pub returns-in-Ok-clause-writes : goal.returns-in-Ok-clause-writes
-returns-in-Ok-clause-writes g c bytes =
-    same_bytes
-    (list_of_counts bytes c.args.ready.now c.args.number _ c.in-Ok.counts _
-    (view_get bytes c.args.ready.now c.args.number c.eye_at-eye.result c.eye_at-eye.ensures)
-    (c.in-Ok.ensures.counts bytes) (c.in-Ok.ensures.list bytes) (c.in-Ok.ensures.within bytes))
-    c.put_items.ensures
+items_same : {a b : Counts} {x y : ViewListValue} (view : ℕ) → a ≡ b → x ≡ y → items_lines view a x ≡ items_lines view b y
+items_same view e f = rw (e, f) refl
 
-pub returns-in-Err-clause-writes : goal.returns-in-Err-clause-writes
-returns-in-Err-clause-writes g c bytes =
-    same_bytes
-    (list_of_over bytes c.args.ready.now c.args.number _ c.in-Err.over
-    (view_get bytes c.args.ready.now c.args.number c.eye_at-eye.result c.eye_at-eye.ensures)
-    (c.in-Err.ensures.over bytes))
-    c.put_over.ensures
+pub returns-in-Ok : goal.returns-in-Ok
+returns-in-Ok g c = record {
+  writes = λ bytes.
+      same_bytes
+      (items_same c.args.number (c.in-Ok.ensures.counts bytes) (c.in-Ok.ensures.list bytes)
+      ∙ lines_within list_lines bytes c.args.ready.now c.args.number _ c.eye_at-eye.ensures (c.in-Ok.ensures.within bytes))
+      c.put_items.ensures;
+  loaded = refl;
+  limits = c.list_view.ensures.limits;
+}
+
+pub returns-in-Err : goal.returns-in-Err
+returns-in-Err g c = record {
+  writes = λ bytes. same_bytes (lines_over list_lines bytes c.args.ready.now c.args.number _ c.eye_at-eye.ensures c.in-Err.over (c.in-Err.ensures.over bytes)) c.put_over.ensures;
+  loaded = refl;
+  limits = c.list_view.ensures.limits;
+}

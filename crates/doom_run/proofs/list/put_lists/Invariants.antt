@@ -1,14 +1,10 @@
-use Rattle.std.proofs.Common.{◌≡◌, ℕ, List, Ok}
-use Rattle.art_rules.specs.Words.{Failed, Writes}
-use Rattle.doom_run.specs.Renders.{ready_views}
-use Rattle.doom_run.specs.Lists.{first_lists}
+use Rattle.std.proofs.Common.{Ok}
+use Rattle.doom_run.specs.Renders.{PutsLines}
+use Rattle.doom_run.specs.Lists.{list_lines}
+use Rattle.doom_run.proofs.LimitLemmas.{first_lines}
 use Rattle.doom_run.proofs.list.put_lists.Given as goal
 
+-- the lines of the views so far
 abbrev pub invariant-loop-number : goal.invariant-loop-number
-invariant-loop-number g l = record {
-  loaded : l.ready.loaded ≡ l.fn.ready.loaded;
-  limits : l.ready.shop.limits ≡ l.fn.ready.shop.limits;
-  writes : (bytes : ℕ → List ℕ) →
-      Writes {E = Failed} (g.K.Sink.written l.fn.out) (g.K.Sink.written l.out) (g.K.Sink.faults l.fn.out) (g.K.Sink.faults l.out)
-      (first_lists (ready_views bytes l.fn.ready) l.number) (Ok tt);
-}
+invariant-loop-number g l =
+    PutsLines (first_lines list_lines l.number) l.fn.ready l.ready (g.K.Sink.written l.fn.out) (g.K.Sink.written l.out) (g.K.Sink.faults l.fn.out) (g.K.Sink.faults l.out) (Ok tt)

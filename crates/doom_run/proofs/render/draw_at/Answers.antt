@@ -1,17 +1,20 @@
 -- A canvas that is cleared and given a view has it.
-use Rattle.picture_rules.proofs.Common.{ap, on_ok_weaker}
+use Rattle.std.proofs.Common.{ap}
 use Rattle.pixel_strips.specs.Canvases.{CanvasView}
-use Rattle.doom_run.proofs.CanvasLemmas.{index_drawn, ppm_drawn, trace_drawn}
+use Rattle.doom_run.proofs.CanvasLemmas.{draws_at, index_drawn, ppm_drawn, trace_drawn}
 use Rattle.doom_run.proofs.render.draw_at.Goals as goal
 
-pub returns-in-Index-clause-drawn : goal.returns-in-Index-clause-drawn
-returns-in-Index-clause-drawn g c contents count holds =
-    on_ok_weaker c.draw_on.result (λ has. index_drawn (ap (λ (v : CanvasView). v.cells) c.clear.ensures) has) (c.draw_on.ensures.seen contents count holds)
+pub returns-in-Index-clause-draws : goal.returns-in-Index-clause-draws
+returns-in-Index-clause-draws g c =
+    let e = c.draw_layered.ensures in
+    draws_at c.args.number _ c.args.ready.now _ _ c.eye_at-eye.ensures e.within e.over e.paints e.limits (λ r has. index_drawn (ap (λ (v : CanvasView). v.cells) c.clear.ensures) has)
 
-pub returns-in-Ppm-clause-drawn : goal.returns-in-Ppm-clause-drawn
-returns-in-Ppm-clause-drawn g c contents count holds =
-    on_ok_weaker c.draw_on-in-Ppm.result (λ has. ppm_drawn (ap (λ (v : CanvasView). v.cells) c.clear-in-Ppm.ensures) has) (c.draw_on-in-Ppm.ensures.seen contents count holds)
+pub returns-in-Ppm-clause-draws : goal.returns-in-Ppm-clause-draws
+returns-in-Ppm-clause-draws g c =
+    let e = c.draw_layered-in-Ppm.ensures in
+    draws_at c.args.number _ c.args.ready.now _ _ c.eye_at-eye.ensures e.within e.over e.paints e.limits (λ r has. ppm_drawn (ap (λ (v : CanvasView). v.cells) c.clear-in-Ppm.ensures) has)
 
-pub returns-in-Trace-clause-drawn : goal.returns-in-Trace-clause-drawn
-returns-in-Trace-clause-drawn g c contents count holds =
-    on_ok_weaker c.draw_on-in-Trace.result (λ has. trace_drawn (ap (λ (v : CanvasView). v.cells) c.clear-in-Trace.ensures) has) (c.draw_on-in-Trace.ensures.seen contents count holds)
+pub returns-in-Trace-clause-draws : goal.returns-in-Trace-clause-draws
+returns-in-Trace-clause-draws g c =
+    let e = c.draw_layered-in-Trace.ensures in
+    draws_at c.args.number _ c.args.ready.now _ _ c.eye_at-eye.ensures e.within e.over e.paints e.limits (λ r has. trace_drawn (ap (λ (v : CanvasView). v.cells) c.clear-in-Trace.ensures) has)

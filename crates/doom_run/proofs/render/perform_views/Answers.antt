@@ -5,19 +5,11 @@ use Rattle.level_audit.specs.scene_load.Calls.{IsLoadedScene}
 use Rattle.doom_run.specs.Jobs.{drawing, rendered}
 use Rattle.doom_run.specs.Performs.{Delivers}
 use Rattle.doom_run.specs.Renders.{IsReady}
-use Rattle.doom_run.proofs.DeliverLemmas.{drawing_delivers, memory_delivers}
-use Rattle.doom_run.proofs.DrawnLemmas.{drawable}
+use Rattle.doom_run.proofs.DeliverLemmas.{drawing_delivers, memory_delivers, ready_drawable}
 use Rattle.doom_run.proofs.render.perform_views.Goals as goal
 
-pub deliver_render-requires-clause-drawable : goal.deliver_render-requires-clause-drawable
-deliver_render-requires-clause-drawable g c =
-    let level = level_job_value c.args.level.now in
-    drawable level c.in-Ok.ready.loaded (subst (IsLoadedScene level) (sym c.in-Ok.ensures.loaded) c.requires.loaded)
-
-pub deliver_render-requires-clause-layers : goal.deliver_render-requires-clause-layers
-deliver_render-requires-clause-layers g c =
-    let level = level_job_value c.args.level.now in
-    (subst (IsLoadedScene level) (sym c.in-Ok.ensures.loaded) c.requires.loaded).audited.layers
+pub deliver_render-requires : goal.deliver_render-requires
+deliver_render-requires g c = ready_drawable (level_job_value c.args.level.now) c.args.loaded c.in-Ok.ready c.in-Ok.ensures.loaded c.requires.loaded
 
 pub returns-in-Ok-new : goal.returns-in-Ok-new
 returns-in-Ok-new g c =
@@ -27,8 +19,8 @@ returns-in-Ok-new g c =
     let e = c.deliver_render.ensures in
     let status = c.deliver_render.result in
     subst (λ (l : LoadedScene). Delivers level (drawing level (rendered c.args.form)) (g.S.Shelf.view c.args.shelf.now) (g.S.Shelf.view c.deliver_render.new.shelf) l (g.K.Sink.written c.args.out.now) (g.K.Sink.written c.deliver_render.new.out) (g.K.Sink.faults c.args.out.now) (g.K.Sink.faults c.deliver_render.new.out) status) c.in-Ok.ensures.loaded
-    (drawing_delivers level c.args.form ready c.deliver_render.new.ready.loaded.cache _ _ _ _ _ _ status stands
-    (λ contents count holds. rw c.in-Ok-new.ensures at (e.ends contents count holds)) e.fits e.order e.read_fault e.write_fault e.zone_full e.answers)
+    (drawing_delivers level c.args.form ready c.deliver_render.new.ready _ _ _ _ _ _ status stands
+    (λ contents count holds. rw c.in-Ok-new.ensures at (e.ends contents count holds)) e.fits e.renders)
 
 pub returns-in-Ok : goal.returns-in-Ok
 returns-in-Ok g c = memory_delivers (level_job_value c.args.level.now) (drawing (level_job_value c.args.level.now) (rendered c.args.form)) _ c.args.loaded _ _

@@ -19,12 +19,12 @@ loop-index-preserved c =
     let makers = c.args.makers.now in
     let i = c.loop-index.index in
     record {
-      items = c.push_plane.ensures.items
+      items = c.push_within.ensures.items
           ∙ ap (λ (ps : List ListedPlane). ps ++ c.listed_plane-plane.result ∷ []) c.loop-index.invariant.items
           ∙ ap (λ (p : ListedPlane). listed_planes planes (take i makers) ++ p ∷ []) c.listed_plane-plane.ensures
           ∙ planes-more planes makers i (i + 1) no_plane _ refl c.loop-index-test.true c.requires.makers;
-      count = c.push_plane.ensures.count ∙ ap (λ (n : ℕ). n + 1) c.loop-index.invariant.count;
-      capacity = omega (arith, c.loop-index.invariant.capacity, c.push_plane.ensures.capacity);
+      count = c.push_within.ensures.count ∙ ap (λ (n : ℕ). n + 1) c.loop-index.invariant.count;
+      capacity = omega (arith, c.loop-index.invariant.capacity, c.push_within.ensures.capacity);
     }
 
 pub returns-clause-items : goal.returns-clause-items

@@ -33,22 +33,10 @@ pub returns-in_err-draw_masked-clause-paints : goal.returns-in_err-draw_masked-c
 returns-in_err-draw_masked-clause-paints g c =
     let same = parts-same c.args.tools.now.scene.now.scene c.args.bench.now c.level-level.ensures c.textures.ensures c.colormap.ensures c.segs.ensures.value c.sides.ensures.value c.sectors.ensures.value c.middles.ensures
     c.openings-openings.ensures.value c.notes.ensures.value in
-    let draws = c.in_err-draw_masked.ensures in
-    masks-above same (subst IsSound c.level-level.ensures c.segs.ensures.sound) c.requires.drawable c.requires.walked c.from_residual.ensures.1 (record {
-      painted = λ contents count q hold asked. draws.painted contents count hold;
-      fits = λ contents count q hold asked. draws.fits contents count hold;
-      draws = draws.draws;
-      place = draws.place;
-    })
+    masks-above same (subst IsSound c.level-level.ensures c.segs.ensures.sound) c.requires.drawable c.requires.walked c.from_residual.ensures.1 c.in_err-draw_masked.ensures.paints
 
 pub returns-clause-paints : goal.returns-clause-paints
 returns-clause-paints g c =
     let same = parts-same c.args.tools.now.scene.now.scene c.args.bench.now c.level-level.ensures c.textures.ensures c.colormap.ensures c.segs.ensures.value c.sides.ensures.value c.sectors.ensures.value c.middles.ensures
     c.openings-openings.ensures.value c.notes.ensures.value in
-    let draws = c.in_ok-draw_masked.ensures in
-    masks-above same (subst IsSound c.level-level.ensures c.segs.ensures.sound) c.requires.drawable c.requires.walked refl (record {
-      painted = λ contents count q hold asked. draws.painted contents count hold;
-      fits = λ contents count q hold asked. draws.fits contents count hold;
-      draws = draws.draws;
-      place = draws.place;
-    })
+    masks-above same (subst IsSound c.level-level.ensures c.segs.ensures.sound) c.requires.drawable c.requires.walked refl c.in_ok-draw_masked.ensures.paints

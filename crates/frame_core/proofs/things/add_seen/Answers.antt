@@ -1,6 +1,5 @@
 use Rattle.std.proofs.Common.{List, ap, ◌∙◌}
-use Rattle.art_rules.specs.declared.shapes.Frame.{Frame}
-use Rattle.art_rules.specs.Words.{picked}
+use Rattle.frame_core.specs.Rules.{Frame, picked}
 use Rattle.frame_core.proofs.ThingLemmas.{drawn_below, seen_with, seen_without}
 use Rattle.frame_core.proofs.things.add_seen.Goals as goal
 

@@ -1,6 +1,5 @@
 use Rattle.picture_rules.proofs.Common.{All, AllPass, drop, List, ℕ, ◌<◌, ◌≡◌}
-use Rattle.art_rules.specs.Words.{book_lumps}
-use Rattle.picture_rules.specs.Words.{with_things}
+use Rattle.frame_core.specs.Rules.{book_lumps, with_things}
 use Rattle.vissprites.specs.Bounds.{lies_within, has_lump_below}
 use Rattle.frame_core.specs.Scenes.{scene_of}
 use Rattle.frame_core.proofs.things.add_things.Given as goal

@@ -1,8 +1,6 @@
 -- The view is placed and the bench started; then come walls, planes and the masked pass.
 use Rattle.picture_rules.proofs.Common.{ap, IfErr, IfSome, length, None, on_ok-always, Some, subst, sym, ℕ, ◌∙◌, ◌≡◌, ◌≤◌}
-use Rattle.picture_rules.specs.Words.{IsWithinFrame, view_over, ViewValue}
-use Rattle.picture_rules.specs.declared.Limits.{Limits}
-use Rattle.picture_rules.specs.declared.OverLimit.{OverLimit}
+use Rattle.frame_core.specs.Rules.{IsWithinFrame, Limits, OverLimit, ViewValue, view_over}
 use Rattle.frame_core.specs.declared.fault.ViewFault.{ViewFault}
 use Rattle.frame_core.specs.Faults.{limit_of_view}
 use Rattle.frame_core.specs.Scenes.{scene_of}

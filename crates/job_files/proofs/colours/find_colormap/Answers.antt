@@ -1,7 +1,5 @@
 use Rattle.std.proofs.Common.{ap, ◌∙◌}
-use Rattle.scene_rules.specs.declared.TheConstants.{COLORMAP_SIZE}
-use Rattle.scene_rules.specs.declared.refusal.ArtRefusal.TheVariants.{Colormap}
-use Rattle.scene_rules.specs.Words.{colormap_of, long_lump}
+use Rattle.job_files.specs.Rules.{COLORMAP_SIZE, Colormap, colormap_of, long_lump}
 use Rattle.job_files.proofs.ColourLemmas.{colour_names, long_told}
 use Rattle.job_files.proofs.colours.find_colormap.Goals as goal
 

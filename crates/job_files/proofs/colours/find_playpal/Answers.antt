@@ -1,7 +1,5 @@
 use Rattle.std.proofs.Common.{ap, ◌∙◌}
-use Rattle.scene_rules.specs.declared.TheConstants.{PALETTE_SIZE}
-use Rattle.scene_rules.specs.declared.refusal.ArtRefusal.TheVariants.{Playpal}
-use Rattle.scene_rules.specs.Words.{long_lump, playpal_of}
+use Rattle.job_files.specs.Rules.{PALETTE_SIZE, Playpal, long_lump, playpal_of}
 use Rattle.job_files.proofs.ColourLemmas.{colour_names, long_told}
 use Rattle.job_files.proofs.colours.find_playpal.Goals as goal
 

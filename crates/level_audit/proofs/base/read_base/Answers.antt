@@ -1,9 +1,7 @@
 use Rattle.art_rules.proofs.Common.{ap, IfOk-weaker, inl, inr, Ok, refl, sym, ◌∙◌}
-use Rattle.scene_rules.specs.declared.refusal.AuditRefusal.TheVariants.{Art}
-use Rattle.art_rules.specs.Words.{Refused}
+use Rattle.level_audit.specs.Rules.{Art, Refused, base_in}
 use Rattle.texture_build.proofs.CallLemmas.{reads_refused, reads_then}
 use Rattle.texture_build.proofs.SizeLemmas.{either_beside}
-use Rattle.scene_rules.specs.Words.{base_in}
 use Rattle.level_audit.proofs.BaseLemmas.{base-stop, base-more, playpal_beside}
 use Rattle.level_audit.proofs.base.read_base.Goals as goal
 

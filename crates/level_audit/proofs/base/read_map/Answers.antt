@@ -1,8 +1,7 @@
 use Rattle.std.proofs.Common.{ℕ, Ok, ap, inl, inr}
-use Rattle.art_rules.specs.Words.{and_then}
+use Rattle.level_audit.specs.Rules.{LevelValue, and_then, base_over}
 use Rattle.texture_build.proofs.CallLemmas.{reads_as, reads_stop_first, reads_then}
 use Rattle.texture_build.proofs.SizeLemmas.{either_beside}
-use Rattle.scene_rules.specs.Words.{base_over, LevelValue}
 use Rattle.sound_scene.specs.declared.parts.ReadBase.{ReadBase}
 use Rattle.level_audit.proofs.BaseLemmas.{base_over-stop, base_over-more, map_beside, then_lists, with_colours}
 use Rattle.level_audit.proofs.base.read_map.Goals as goal

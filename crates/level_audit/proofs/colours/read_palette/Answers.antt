@@ -1,8 +1,7 @@
 use Rattle.std.proofs.Common.{◌≡◌, Ok, ap, sym, take, ◌∙◌}
 use Rattle.texture_build.proofs.CallLemmas.{reads_told}
 use Rattle.texture_build.proofs.SizeLemmas.{beside_earlier, beside_lent}
-use Rattle.art_rules.specs.Words.{lump_bytes}
-use Rattle.scene_rules.specs.declared.TheConstants.{PALETTE_SIZE}
+use Rattle.level_audit.specs.Rules.{PALETTE_SIZE, lump_bytes}
 use Rattle.level_audit.proofs.ColourLemmas.{live_long}
 use Rattle.level_audit.proofs.colours.read_palette.Goals as goal
 

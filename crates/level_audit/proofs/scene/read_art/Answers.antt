@@ -1,9 +1,7 @@
 use Rattle.art_rules.proofs.Common.{All, inl, inr, List, map, Ok, refl, subst, sym}
-use Rattle.scene_rules.specs.Words.{need_of, scene_with, SideTextures}
+use Rattle.level_audit.specs.Rules.{OutOfMemory, Placed, SideTextures, need_of, scene_with}
 use Rattle.texture_build.proofs.CallLemmas.{reads_same, reads_short, reads_stop_first, reads_then}
 use Rattle.sprite_book.specs.Calls.{IsWanted}
-use Rattle.scene_rules.specs.declared.Placed.{Placed}
-use Rattle.art_rules.specs.Words.{OutOfMemory}
 use Rattle.sound_scene.specs.Bases.{base_of}
 use Rattle.sound_scene.specs.declared.parts.ReadBase.{ReadBase}
 use Rattle.sound_scene.specs.Whole.{AreSidePrepared}

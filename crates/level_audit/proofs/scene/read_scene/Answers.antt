@@ -1,7 +1,6 @@
 use Rattle.art_rules.proofs.Common.{ap, Err, IfOk-weaker, length, Ok, refl, subst, ◌∙◌, ◌≡◌}
 use Rattle.texture_build.proofs.CallLemmas.{reads_stop_first, reads_then}
-use Rattle.art_rules.specs.Words.{TextureLists}
-use Rattle.scene_rules.specs.Words.{faces_in, scene_on}
+use Rattle.level_audit.specs.Rules.{TextureLists, faces_in, scene_on}
 use Rattle.level_audit.specs.Faults.{above_scene}
 use Rattle.sound_scene.specs.Bases.{base_of}
 use Rattle.sound_scene.specs.declared.parts.ReadFaces.{ReadFaces}

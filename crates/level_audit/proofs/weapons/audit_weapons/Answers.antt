@@ -1,7 +1,5 @@
 use Rattle.std.proofs.Common.{List, ap, subst, ◌∙◌}
-use Rattle.art_rules.specs.declared.shapes.Frame.{Frame}
-use Rattle.art_rules.specs.Words.{book_lumps}
-use Rattle.scene_rules.specs.Words.{needed_lumps, SceneValue, zone_sizes}
+use Rattle.level_audit.specs.Rules.{Frame, SceneValue, book_lumps, needed_lumps, zone_sizes}
 use Rattle.sound_scene.specs.Views.{lump_numbers}
 use Rattle.sound_scene.specs.Sound.{art_with}
 use Rattle.sound_scene.proofs.PictureLemmas.{HaveSame, books_same, with_book_is}

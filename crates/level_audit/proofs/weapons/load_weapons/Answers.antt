@@ -1,6 +1,5 @@
 use Rattle.std.proofs.Common.{Ok, Err, ap, ◌∙◌}
-use Rattle.art_rules.specs.Words.{from_below}
-use Rattle.scene_rules.specs.declared.refusal.AuditRefusal.TheVariants.{WeaponArt}
+use Rattle.level_audit.specs.Rules.{WeaponArt, from_below}
 use Rattle.texture_build.proofs.CallLemmas.{reads_same}
 use Rattle.level_audit.specs.Weapons.{weapon_book, weapon_fault, weapon_needs}
 use Rattle.level_audit.proofs.WeaponLemmas.{weapons_above}

@@ -1,7 +1,6 @@
 -- The places so far are put.
 use Rattle.std.proofs.Common.{◌≡◌, ◌++◌}
-use Rattle.made_rules.specs.Bytes.{records}
-use Rattle.made_rules.specs.Pictures.{made_column_place}
+use Rattle.level_maker.specs.Rules.{made_column_place, records}
 use Rattle.level_maker.proofs.patches.put_places.Given as goal
 
 abbrev pub invariant-loop-x : goal.invariant-loop-x

@@ -1,7 +1,6 @@
 -- The texels so far are put.
 use Rattle.std.proofs.Common.{◌≡◌, ◌++◌}
-use Rattle.word_rules.specs.Listed.{listed}
-use Rattle.made_rules.specs.Pictures.{made_texel}
+use Rattle.level_maker.specs.Rules.{listed, made_texel}
 use Rattle.level_maker.proofs.patches.put_texels.Given as goal
 
 abbrev pub invariant-loop-k : goal.invariant-loop-k

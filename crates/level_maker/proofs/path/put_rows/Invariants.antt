@@ -1,7 +1,6 @@
 -- The rows so far are put.
 use Rattle.std.proofs.Common.{◌≡◌, ◌++◌}
-use Rattle.made_rules.specs.Bytes.{records}
-use Rattle.made_rules.specs.Texts.{made_path_row}
+use Rattle.level_maker.specs.Rules.{made_path_row, records}
 use Rattle.level_maker.proofs.path.put_rows.Given as goal
 
 abbrev pub invariant-loop-k : goal.invariant-loop-k

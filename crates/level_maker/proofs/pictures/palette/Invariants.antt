@@ -1,7 +1,6 @@
 -- The colours so far are put.
 use Rattle.std.proofs.Common.{◌≡◌}
-use Rattle.made_rules.specs.Bytes.{records}
-use Rattle.made_rules.specs.Pictures.{colour_bytes}
+use Rattle.level_maker.specs.Rules.{colour_bytes, records}
 use Rattle.level_maker.proofs.pictures.palette.Given as goal
 
 abbrev pub invariant-loop-i : goal.invariant-loop-i

@@ -1,7 +1,6 @@
 -- The entries so far are put.
 use Rattle.std.proofs.Common.{◌≡◌, ◌++◌}
-use Rattle.made_rules.specs.Bytes.{records}
-use Rattle.made_rules.specs.Tables.{angle_bytes}
+use Rattle.level_maker.specs.Rules.{angle_bytes, records}
 use Rattle.level_maker.proofs.tables.put_slopes.Given as goal
 
 abbrev pub invariant-loop-i : goal.invariant-loop-i

@@ -1,7 +1,6 @@
 -- The tangents so far are listed.
 use Rattle.std.proofs.Common.{◌≡◌}
-use Rattle.word_rules.specs.Listed.{listed}
-use Rattle.view_rules.specs.Formulas.{upper_tangent}
+use Rattle.level_maker.specs.Rules.{listed, upper_tangent}
 use Rattle.level_maker.proofs.tables.upper_tangents.Given as goal
 
 abbrev pub invariant-loop-j : goal.invariant-loop-j

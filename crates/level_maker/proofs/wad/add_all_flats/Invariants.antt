@@ -1,7 +1,6 @@
 -- The flats so far are put.
 use Rattle.std.proofs.Common.{◌≡◌}
-use Rattle.word_rules.specs.Listed.{listed}
-use Rattle.made_rules.specs.Wads.{with_lumps, made_flat_lump}
+use Rattle.level_maker.specs.Rules.{listed, made_flat_lump, with_lumps}
 use Rattle.level_maker.proofs.wad.add_all_flats.Given as goal
 
 abbrev pub invariant-loop-number : goal.invariant-loop-number

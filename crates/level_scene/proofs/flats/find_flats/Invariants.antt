@@ -1,6 +1,5 @@
 use Rattle.art_rules.proofs.Common.{All, drop, length, ◌≡◌}
-use Rattle.scene_rules.specs.declared.refusal.SceneRefusal.TheVariants.{SectorFlat}
-use Rattle.scene_rules.specs.Words.{each_or, flats_of}
+use Rattle.level_scene.specs.Rules.{SectorFlat, each_or, flats_of}
 use Rattle.scene_rules.proofs.NumberedLemmas.{each_after}
 use Rattle.level_scene.specs.Bounds.{AreThere}
 use Rattle.level_scene.proofs.flats.find_flats.Given as goal

@@ -1,7 +1,6 @@
 use Rattle.std.proofs.Common.{refl}
-use Rattle.scene_rules.specs.Words.{level_in}
+use Rattle.level_scene.specs.Rules.{Refused, level_in}
 use Rattle.lump_cache.proofs.CallLemmas.{reads_as, reads_refused, reads_stop_first}
-use Rattle.art_rules.specs.Words.{Refused}
 use Rattle.level_scene.proofs.LevelLemmas.{level_in-none, level_in-stop, level_in-more, of_map}
 use Rattle.level_scene.proofs.level.read_level.Goals as goal
 

@@ -1,6 +1,5 @@
 use Rattle.std.proofs.Common.{◌≡◌, ◌-◌, ap, ◌∙◌, rules}
-use Rattle.scene_rules.specs.Words.{Child, child_on, is_within, leaf_from, partition_of}
-use Rattle.art_rules.specs.Words.{side_of}
+use Rattle.level_scene.specs.Rules.{Child, child_on, is_within, leaf_from, partition_of, side_of}
 use Rattle.level_scene.proofs.LeafLemmas.{leaf_from-child, within-child}
 use Rattle.level_scene.proofs.places.child_toward.Goals as goal
 

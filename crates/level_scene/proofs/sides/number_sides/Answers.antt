@@ -1,6 +1,5 @@
 use Rattle.std.proofs.Common.{length}
-use Rattle.scene_rules.specs.declared.refusal.SceneRefusal.TheVariants.{SideTexture}
-use Rattle.scene_rules.specs.Words.{side_textures, textures_of}
+use Rattle.level_scene.specs.Rules.{SideTexture, side_textures, textures_of}
 use Rattle.level_scene.specs.Bounds.{AreBelow}
 use Rattle.level_scene.proofs.EachLemmas.{each-first, each-more}
 use Rattle.level_scene.proofs.sides.number_sides.Goals as goal

@@ -1,6 +1,5 @@
 use Rattle.art_rules.proofs.Common.{All, drop, length, ◌≡◌}
-use Rattle.scene_rules.specs.declared.refusal.SceneRefusal.TheVariants.{SideTexture}
-use Rattle.scene_rules.specs.Words.{each_or, textures_of}
+use Rattle.level_scene.specs.Rules.{SideTexture, each_or, textures_of}
 use Rattle.scene_rules.proofs.NumberedLemmas.{each_after}
 use Rattle.level_scene.specs.Bounds.{AreBelow}
 use Rattle.level_scene.proofs.sides.number_sides.Given as goal

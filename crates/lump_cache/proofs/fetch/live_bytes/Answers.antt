@@ -1,7 +1,6 @@
 use Rattle.std.proofs.Common.{◌≡◌, false, Option, subst}
 use Rattle.std.specs.Prelude.{IfSome}
-use Rattle.zone_rules.specs.Zones.{same_owner}
-use Rattle.lump_rules.specs.declared.wad.LumpNo.{LumpNo}
+use Rattle.lump_cache.specs.Rules.{LumpNo, same_owner}
 use Rattle.lump_cache.specs.Caches.{lump_owner}
 use Rattle.lump_cache.proofs.fetch.live_bytes.Goals as goal
 

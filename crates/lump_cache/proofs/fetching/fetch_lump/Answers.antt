@@ -1,7 +1,6 @@
 use Rattle.std.proofs.Common.{◌≡◌, ap, ◌∙◌, sym, Option, None, Some, refl, true, option_map}
 use Rattle.std.specs.Prelude.{is_some}
-use Rattle.zone_rules.specs.declared.Tag.{Tag}
-use Rattle.zone_rules.specs.Zones.{Holding, holding_of, owner_at}
+use Rattle.lump_cache.specs.Rules.{Holding, Tag, holding_of, owner_at}
 use Rattle.lump_cache.specs.Caches.{lump_owner, with_tag_unless_static}
 use Rattle.lump_cache.proofs.MissLemmas.{fetch_hit}
 use Rattle.lump_cache.proofs.fetching.fetch_lump.Goals as goal

@@ -2,13 +2,8 @@ use Rattle.std.proofs.Common.{◌≡◌, ◌∙◌, ◌+◌, ◌<◌, ◌≤◌,
 use Rattle.std.specs.Prelude.{All, IfSome, ◌⊎◌}
 use Rattle.std.proofs.lemmas.Bool.{false≢true, cases_lt}
 use Rattle.std.proofs.lemmas.Result.{err_from_is_err_and}
-use Rattle.outside.specs.Shelf.{NameFiles, counted}
+use Rattle.lump_cache.specs.Rules.{AllWithin, Block, Heap, LiesWithin, NameFiles, Owner, TakesBlock, block_left, block_size, bytes_of, counted, file_bytes, gaps, lump_at, no_lump, owned_block, owner_at, same_owner, total, without_block, without_room}
 use Rattle.outside.proofs.ShelfLemmas.{follows_none}
-use Rattle.lump_rules.specs.Lookups.{lump_at, no_lump}
-use Rattle.lump_rules.specs.Contents.{AllWithin, LiesWithin, file_bytes}
-use Rattle.zone_rules.specs.Zones.{Owner, Block, Heap, owner_at, owned_block, bytes_of, same_owner, block_size}
-use Rattle.zone_rules.specs.Requests.{TakesBlock, block_left, gaps, total, without_room}
-use Rattle.zone_rules.specs.Frees.{without_block}
 use Rattle.lump_cache.specs.Caches.{KeptOrPurged, lump_owner}
 use Rattle.lump_cache.specs.Fetches.{FetchesLump}
 use Rattle.lump_cache.proofs.FillLemmas.{filled_takes, written_len, written_bytes, left_kept, filled_others, filled_sound, written_use, use_live}

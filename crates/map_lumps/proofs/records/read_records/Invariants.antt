@@ -1,6 +1,5 @@
 use Rattle.std.proofs.Common.{◌≡◌}
-use Rattle.word_rules.specs.Listed.{listed}
-use Rattle.level_rules.specs.maps.Fields.{record_at}
+use Rattle.map_lumps.specs.Rules.{listed, record_at}
 use Rattle.map_lumps.proofs.records.read_records.Given as goal
 
 abbrev pub invariant-loop-n : goal.invariant-loop-n

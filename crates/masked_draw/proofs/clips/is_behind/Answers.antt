@@ -1,8 +1,7 @@
 -- A fragment of the seg and the scales of the note is behind the sprite as the tests say.
 use Rattle.picture_rules.proofs.Common.{ap, Bool, false, int_lt, rules, sym, true, w32, ℕ, ℤ, ◌&&◌, ◌==◌, ◌||◌, ◌∙◌, ◌≡◌}
 use Rattle.std.proofs.lemmas.Int.{to_z-of_z}
-use Rattle.picture_rules.specs.Words.{Drawseg, greater_word, is_behind, is_in_front, lesser_word, seg_line, side_of}
-use Rattle.picture_rules.specs.declared.sprite.SpriteEntry.{SpriteEntry}
+use Rattle.masked_draw.specs.Rules.{Drawseg, SpriteEntry, greater_word, is_behind, is_in_front, lesser_word, seg_line, side_of}
 use Rattle.masked_draw.proofs.clips.is_behind.Goals as goal
 
 -- the test in its three cases, by the greater scale, the lesser one and the side

@@ -1,7 +1,6 @@
 -- The loop paints and marks the columns one by one.
 use Rattle.std.proofs.Common.{◌≡◌, ℕ, ◌+◌, ◌≤◌, Bool, List, ◌++◌, Some, sym, ap, ◌∙◌, arith}
-use Rattle.picture_rules.specs.Words.{Art, Drawseg, middle_column, ViewValue}
-use Rattle.picture_rules.specs.declared.wall.FragmentNote.{FragmentNote}
+use Rattle.masked_draw.specs.Rules.{Art, Drawseg, FragmentNote, ViewValue, middle_column}
 use Rattle.texture_build.proofs.PaintLemmas.{paints-none, paints-same, paints-then, paints-then_stop}
 use Rattle.masked_draw.specs.Marks.{MarksBy, if_unmarked, is_between, mark_of, unmarked_dots}
 use Rattle.masked_draw.specs.Scenes.{scene_art, scene_drawseg}

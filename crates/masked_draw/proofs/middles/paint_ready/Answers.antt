@@ -1,7 +1,6 @@
 use Rattle.std.proofs.Common.{◌≡◌, ◌<◌, ℕ, w32, sym, subst, ◌∙◌, rules, arith}
 use Rattle.std.proofs.lemmas.Int.{to_z-of_z}
-use Rattle.picture_rules.specs.Words.{LIGHT_LEVELS, MIDDLE, scale_map}
-use Rattle.art_rules.specs.Words.{lump_bytes}
+use Rattle.masked_draw.specs.Rules.{LIGHT_LEVELS, MIDDLE, lump_bytes, scale_map}
 use Rattle.texture_build.proofs.StaticLemmas.{rest_static}
 use Rattle.texture_build.proofs.LentLemmas.{fits-lump}
 use Rattle.texture_build.specs.Views.{prepared_texture}

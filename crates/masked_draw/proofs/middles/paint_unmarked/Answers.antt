@@ -1,9 +1,15 @@
 -- A column that is marked gets no dots, and another one those of the call.
-use Rattle.std.proofs.Common.{◌≡◌, Bool, true, false, List, [], is_some, sym, ap}
+use Rattle.std.proofs.Common.{◌≡◌, ◌∙◌, ℕ, ℤ, Bool, true, false, List, [], is_some, to_z, of_z, w32, refl, rules, sym, ap}
+use Rattle.std.proofs.lemmas.Int.{to_z-of_z}
 use Rattle.picture_rules.specs.Words.{Dot, middle_column}
-use Rattle.texture_build.proofs.PaintLemmas.{paints-none, paints-same, paints-wider}
+use Rattle.texture_build.specs.Sources.{column_in}
+use Rattle.texture_build.specs.Views.{prepared_texture}
+use Rattle.texture_build.proofs.DrawLemmas.{draws-wider}
+use Rattle.texture_build.proofs.LiveLemmas.{draws-ready}
+use Rattle.texture_build.proofs.PaintLemmas.{paints-live, paints-none, paints-same}
 use Rattle.masked_draw.specs.Marks.{if_unmarked, mark_of}
 use Rattle.masked_draw.specs.Scenes.{scene_art, scene_drawseg}
+use Rattle.masked_draw.proofs.MiddleLemmas.{drawseg-column}
 use Rattle.masked_draw.proofs.middles.paint_unmarked.Goals as goal
 
 where_marked : (marked : Bool) (dots : List Dot) → marked ≡ true → [] ≡ if_unmarked marked dots
@@ -18,9 +24,23 @@ returns-then-hands-at-clause-paints g c =
     let marked = mark_of c.args.hands.now.marks.now c.args.note.now c.args.middle.place c.args.x in
     paints-same _ (λ contents q is. where_marked marked (middle_column s.view.now (scene_art contents s) c.args.middle.number (scene_drawseg s c.args.note.now) c.args.x) c.if-hands-at.true) (paints-none _ _)
 
+pub paint_ready-requires-clause-column : goal.paint_ready-requires-clause-column
+paint_ready-requires-clause-column g c =
+    to_z-of_z w32 c.saved_column-col.result (search rules) ∙ c.saved_column-col.ensures
+    ∙ drawseg-column c.args.scene.now c.args.note.now c.args.middle c.args.x c.requires.middle
+
 pub returns-clause-paints : goal.returns-clause-paints
 returns-clause-paints g c =
     let s = c.args.scene.now in
-    let marked = mark_of c.args.hands.now.marks.now c.args.note.now c.args.middle.place c.args.x in
-    paints-wider (λ n e. record { masked = ap is_some c.requires.middle.place; is = e }) (λ n e. e)
-    (paints-same _ (λ contents q is. where_not marked (middle_column s.view.now (scene_art contents s) c.args.middle.number (scene_drawseg s c.args.note.now) c.args.x) c.if-hands-at.false) c.paint_middle_column.ensures.paints)
+    let d = c.args.note.now in
+    let marked = mark_of c.args.hands.now.marks.now d c.args.middle.place c.args.x in
+    let r = c.in_ok-ready.ensures in
+    let col : ℤ = to_z w32 (of_z w32 c.saved_column-col.result) in
+    let lookup = column_in (prepared_texture s.textures.now c.args.middle.tex.0) col in
+    paints-same _ (λ contents q is. where_not marked (middle_column s.view.now (scene_art contents s) c.args.middle.number (scene_drawseg s d) c.args.x) c.if-hands-at.false)
+    (paints-live tt
+    (draws-wider (λ n e. record { masked = ap is_some c.requires.middle.place; is = e ∙ c.requires.middle.tex }) (λ lump k. k)
+    (draws-ready {pictures = λ (n : ℕ). ⊥} c.args.middle.tex.0 col lookup refl r.keeps r.readies))
+    (λ view contents count q hold is. c.paint_ready.ensures.painted view contents count hold)
+    (λ view contents count q hold is. c.paint_ready.ensures.fits view contents count hold) c.paint_ready.ensures.place
+    (ap g.S.Shelf.view c.paint_ready.ensures.shelf) c.paint_ready.ensures.cache)

@@ -1,8 +1,7 @@
 -- A sprite without a column, and one behind which the masked columns come first.
 use Rattle.picture_rules.proofs.Common.{and_parts, ap, arith, false, int_lt, ints, leb-true, List, ltb-true, nat_le, nat_lt, None, Option, pos, rules, subst, sym, true, w32, ℕ, ℤ, ◌+◌, ◌<ℤ◌, ◌<◌, ◌^◌, ◌∙◌, ◌≡◌, ◌≤ℤ◌, ◌≤◌}
 use Rattle.std.proofs.lemmas.Int.{to_z-of_z}
-use Rattle.picture_rules.specs.declared.sprite.SpriteEntry.{SpriteEntry}
-use Rattle.picture_rules.specs.Words.{entry_has}
+use Rattle.masked_draw.specs.Rules.{SpriteEntry, entry_has}
 use Rattle.masked_draw.specs.Clipped.{row_in}
 use Rattle.masked_draw.proofs.EntryLemmas.{entry-between, entry-numbers, entry-within}
 use Rattle.masked_draw.proofs.SpriteLemmas.{has-column, sprite-none, sprite-then}
@@ -32,7 +31,7 @@ pub column_of-first-requires : goal.column_of-first-requires
 column_of-first-requires g c =
     let e = c.args.entry.now in
     let o = ordered_by _ _ e.first e.last (to_z-of_z w32 e.first (search rules)) (to_z-of_z w32 e.last (search rules)) c.if-entry.false in
-    let n = entry-numbers e c.args.scene.now.view.now.shape.width (omega (arith, c.requires.ready.paint.left)) c.requires.within o in
+    let n = entry-numbers e c.args.scene.now.view.now.shape.width (omega (arith, c.requires.ready.paint.placed.columns)) c.requires.within o in
     let first = sym (to_z-of_z w32 e.first (search rules)) in
     record { least = subst (λ (z : ℤ). pos 0 ≤ℤ z) first n.first_least; greatest = subst (λ (z : ℤ). z <ℤ pos (2 ^ 16)) first n.first_greatest }
 
@@ -40,14 +39,14 @@ pub column_of-last-requires-clause-greatest : goal.column_of-last-requires-claus
 column_of-last-requires-clause-greatest g c =
     let e = c.args.entry.now in
     let o = ordered_by _ _ e.first e.last (to_z-of_z w32 e.first (search rules)) (to_z-of_z w32 e.last (search rules)) c.if-entry.false in
-    let n = entry-numbers e c.args.scene.now.view.now.shape.width (omega (arith, c.requires.ready.paint.left)) c.requires.within o in
+    let n = entry-numbers e c.args.scene.now.view.now.shape.width (omega (arith, c.requires.ready.paint.placed.columns)) c.requires.within o in
     subst (λ (z : ℤ). z <ℤ pos (2 ^ 16)) (sym (to_z-of_z w32 e.last (search rules))) n.last_greatest
 
 pub clear-requires-clause-within : goal.clear-requires-clause-within
 clear-requires-clause-within g c =
     let e = c.args.entry.now in
     let l = entry-within e c.args.scene.now.view.now.shape.width _ c.requires.within (sym (to_z-of_z w32 e.last (search rules)) ∙ c.column_of-last.ensures) in
-    omega (arith, l, c.requires.ready.paint.left)
+    omega (arith, l, c.requires.ready.paint.placed.columns)
 
 pub pass_fragments-requires-clause-tops : goal.pass_fragments-requires-clause-tops
 pass_fragments-requires-clause-tops g c =

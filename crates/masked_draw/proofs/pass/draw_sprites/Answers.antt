@@ -1,7 +1,6 @@
 -- One sprite after the other, in drawing order.
 use Rattle.picture_rules.proofs.Common.{ap, length, length_push, List, map-id, subst, sym, YieldsList-end, YieldsList-from_first, YieldsList-turn, ℕ, ◌∙◌, ◌≡◌}
-use Rattle.picture_rules.specs.declared.sprite.SpriteEntry.{SpriteEntry}
-use Rattle.picture_rules.specs.Words.{draw_order, sprites_from}
+use Rattle.masked_draw.specs.Rules.{SpriteEntry, draw_order, sprites_from}
 use Rattle.texture_build.proofs.PaintLemmas.{paints-same, paints-then_stop, paints-wider}
 use Rattle.masked_draw.specs.Marks.{MarkedTo}
 use Rattle.masked_draw.specs.Scenes.{scene_art, scene_drawseg, scene_drawsegs}

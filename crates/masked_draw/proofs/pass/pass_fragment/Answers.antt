@@ -2,9 +2,7 @@
 use Rattle.picture_rules.proofs.Common.{ap, arith, Bool, false, List, max, min, Option, pos, refl, rules, subst, sym, true, w32, ℕ, ℤ, ◌&&◌, ◌<ℤ◌, ◌^◌, ◌∙◌, ◌≡◌, ◌≤ℤ◌, ◌≤◌}
 use Rattle.std.proofs.lemmas.Int.{to_z-of_z}
 use Rattle.lump_cache.proofs.FillLemmas.{on_ok}
-use Rattle.picture_rules.specs.declared.wall.FragmentNote.{FragmentNote}
-use Rattle.picture_rules.specs.declared.sprite.SpriteEntry.{SpriteEntry}
-use Rattle.picture_rules.specs.Words.{Art, Drawseg, is_behind, ViewValue}
+use Rattle.masked_draw.specs.Rules.{Art, Drawseg, FragmentNote, SpriteEntry, ViewValue, is_behind}
 use Rattle.texture_build.proofs.PaintLemmas.{paints-none, paints-same}
 use Rattle.masked_draw.specs.Clipped.{clips_bottom, clips_top, row_after}
 use Rattle.masked_draw.specs.Lists.{noted_drawseg, note_seg}
@@ -17,14 +15,14 @@ use Rattle.masked_draw.proofs.pass.pass_fragment.Goals as goal
 pub column_of-first-requires : goal.column_of-first-requires
 column_of-first-requires g c =
     let e = c.args.entry.now in
-    let n = entry-numbers e c.args.scene.now.view.now.shape.width (omega (arith, c.requires.note.paint.left)) c.requires.within c.requires.ordered in
+    let n = entry-numbers e c.args.scene.now.view.now.shape.width (omega (arith, c.requires.note.paint.placed.columns)) c.requires.within c.requires.ordered in
     let first = sym (to_z-of_z w32 e.first (search rules)) in
     record { least = subst (λ (z : ℤ). pos 0 ≤ℤ z) first n.first_least; greatest = subst (λ (z : ℤ). z <ℤ pos (2 ^ 16)) first n.first_greatest }
 
 pub column_of-last-requires-clause-greatest : goal.column_of-last-requires-clause-greatest
 column_of-last-requires-clause-greatest g c =
     let e = c.args.entry.now in
-    let n = entry-numbers e c.args.scene.now.view.now.shape.width (omega (arith, c.requires.note.paint.left)) c.requires.within c.requires.ordered in
+    let n = entry-numbers e c.args.scene.now.view.now.shape.width (omega (arith, c.requires.note.paint.placed.columns)) c.requires.within c.requires.ordered in
     subst (λ (z : ℤ). z <ℤ pos (2 ^ 16)) (sym (to_z-of_z w32 e.last (search rules))) n.last_greatest
 
 pub returns-then-not-counts-clause-marked : goal.returns-then-not-counts-clause-marked

@@ -1,7 +1,6 @@
 use Rattle.picture_rules.proofs.Common.{ap, arith, false, int_lt, ints, List, nat_abs, pos, rules, subst, sym, true, ℕ, ℤ, ◌<ℤ◌, ◌∙◌, ◌≡◌, ◌≤ℤ◌}
 use Rattle.std.proofs.lemmas.Int.{to_z-of_z}
-use Rattle.picture_rules.specs.Words.{Dot, fixed, MaskedColumn, minus, Painter, picture_top, plus, Post, post_bottom, post_first, post_last, post_top, row_fraction, shade, times, ViewShape}
-use Rattle.art_rules.specs.Words.{byte_at}
+use Rattle.masked_draw.specs.Rules.{Dot, MaskedColumn, Painter, Post, ViewShape, byte_at, fixed, minus, picture_top, plus, post_bottom, post_first, post_last, post_top, row_fraction, shade, times}
 use Rattle.pixel_strips.specs.Canvases.{with_dots}
 use Rattle.pixel_strips.specs.Strips.{column_strip_dots, strip_colour}
 use Rattle.pixel_strips.proofs.CanvasLemmas.{dots_none}

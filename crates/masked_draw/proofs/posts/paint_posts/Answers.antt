@@ -1,6 +1,5 @@
 use Rattle.std.proofs.Common.{arith}
-use Rattle.art_rules.specs.Words.{byte_at, posts}
-use Rattle.picture_rules.specs.Words.{shade}
+use Rattle.masked_draw.specs.Rules.{byte_at, posts, shade}
 use Rattle.masked_draw.proofs.PostLemmas.{shut-dots}
 use Rattle.masked_draw.proofs.posts.paint_posts.Goals as goal
 

@@ -1,6 +1,5 @@
 use Rattle.word_rules.proofs.Common.{ap, Err, err_from_is_err_and, sym, ◌∙◌}
-use Rattle.level_rules.specs.declared.Child.{Child}
-use Rattle.level_rules.specs.walk.Walk.{walk_child}
+use Rattle.node_walk.specs.Rules.{Child, walk_child}
 use Rattle.level_rules.proofs.walk.WalkLemmas.{walk-leaf, walk-too_deep}
 use Rattle.node_walk.specs.Lists.{part_start}
 use Rattle.node_walk.proofs.PartLemmas.{node_front, node_near, node_both}

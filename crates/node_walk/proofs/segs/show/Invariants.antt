@@ -1,6 +1,5 @@
 use Rattle.std.proofs.Common.{◌≡◌, ◌++◌, map, Ok}
-use Rattle.level_rules.specs.walk.Covered.{fragments}
-use Rattle.level_rules.specs.walk.Events.Event.{FragmentEvent}
+use Rattle.node_walk.specs.Rules.{FragmentEvent, fragments}
 use Rattle.node_walk.specs.Visits.{Visits}
 use Rattle.node_walk.proofs.segs.show.Given as goal
 

@@ -1,4 +1,4 @@
-use Rattle.std.proofs.Common.{◌+◌, refl, rules, arith}
+use Rattle.std.proofs.Common.{refl, rules, arith}
 use Rattle.pixel_strips.proofs.FillLemmas.{span_filled-none, span_filled-to}
 use Rattle.pixel_strips.proofs.PlaceLemmas.{first_place_words, span_place_begun}
 use Rattle.pixel_strips.proofs.frame.fill_few_across.Goals as goal

@@ -1,6 +1,5 @@
 use Rattle.std.proofs.Common.{ℕ, ◌+◌, ◌*◌, List, ap, ap₂, ◌∙◌, arith, slice_index, slice_set}
-use Rattle.view_rules.specs.declared.TheConstants.{FRAME_WIDTH}
-use Rattle.word_rules.specs.Steps.{step_at}
+use Rattle.pixel_strips.specs.Rules.{FRAME_WIDTH, step_at}
 use Rattle.pixel_strips.specs.Strips.{cut_colour}
 use Rattle.pixel_strips.proofs.FillLemmas.{fill_cells-on}
 use Rattle.pixel_strips.proofs.frame.fill_row.Goals as goal

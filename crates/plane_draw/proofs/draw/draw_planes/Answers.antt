@@ -1,23 +1,25 @@
--- The dots of all planes are those of the scene.
-use Rattle.std.proofs.Common.{List, OnOk, subst}
-use Rattle.art_rules.specs.Words.{lump_bytes}
-use Rattle.picture_rules.specs.Words.{Dot}
-use Rattle.pixel_strips.specs.Dotted.{HasDots}
-use Rattle.texture_build.specs.Arts.{view_art}
-use Rattle.texture_build.specs.Draws.{FitBeside}
-use Rattle.plane_draw.proofs.PlaneLemmas.{planes-end}
+-- One plane after the other.
+use Rattle.std.proofs.Common.{◌≡◌, length, ap, arith}
+use Rattle.plane_draw.specs.Scenes.{first_planes, plane_art}
+use Rattle.plane_draw.proofs.KeptLemmas.{keeps-more, keeps-start, planes-painted}
+use Rattle.plane_draw.proofs.PlaneLemmas.{planes-more, planes-start}
+use Rattle.texture_build.proofs.PaintLemmas.{paints-same, paints-then_stop}
 use Rattle.plane_draw.proofs.draw.draw_planes.Goals as goal
 
-pub returns-clause-painted : goal.returns-clause-painted
-returns-clause-painted g c = λ scene contents count hold art sky.
-    let t = c.args.tools.now in
-    subst (λ (dots : List Dot). OnOk c.draw_each.result (HasDots g.C.Canvas.mark dots (g.C.Canvas.view t.canvas.now) (g.C.Canvas.view c.draw_each.new.hands.canvas.now)))
-    (planes-end t.view.now scene (view_art (lump_bytes contents t.dir.now.lumps) t.textures.now t.colormap.0) c.args.planes.now.planes art)
-    (c.draw_each.ensures.paints.painted contents count scene.sky hold sky)
+pub loop-number-init : goal.loop-number-init
+loop-number-init g c =
+    keeps-start (λ contents sky. planes-start _ (plane_art contents c.args.scene.now) sky _) c.requires
 
-pub returns-clause-fits : goal.returns-clause-fits
-returns-clause-fits g c = λ scene contents count hold art sky.
-    let t = c.args.tools.now in
-    subst (λ (dots : List Dot). OnOk c.draw_each.result (FitBeside t.dir.now.lumps t.textures.now t.colormap.0 count t.cache.now.size dots))
-    (planes-end t.view.now scene (view_art (lump_bytes contents t.dir.now.lumps) t.textures.now t.colormap.0) c.args.planes.now.planes art)
-    (c.draw_each.ensures.paints.fits contents count scene.sky hold sky)
+pub returns-in_err-draw_one-clause-paints : goal.returns-in_err-draw_one-clause-paints
+returns-in_err-draw_one-clause-paints g c =
+    planes-painted c.args.scene.now (paints-then_stop c.in_err-draw_one.was c.from_residual.ensures.1 c.loop-number.invariant.paints c.draw_one.ensures.paints)
+
+pub loop-number-preserved : goal.loop-number-preserved
+loop-number-preserved g c =
+    keeps-more (λ contents sky. planes-more _ (plane_art contents c.args.scene.now) sky _ c.loop-number.number) c.loop-number.invariant c.in_ok-draw_one.ensures.same c.in_ok-draw_one.ensures.paints
+
+pub returns-clause-paints : goal.returns-clause-paints
+returns-clause-paints g c =
+    let s = c.args.scene.now in
+    let end : c.loop-number.number ≡ length s.planes.now.planes = omega arith in
+    planes-painted s (paints-same _ (λ contents sky is. ap (first_planes s.view.now (plane_art contents s) sky s.planes.now.planes) end) c.loop-number.invariant.paints)

@@ -1,9 +1,8 @@
 -- The bytes that are lent are those of the flat and of the colormap.
 use Rattle.picture_rules.proofs.Common.{List, Option, Some, some-same, sym, ℕ, ◌≡◌}
-use Rattle.art_rules.specs.Words.{lump_bytes}
+use Rattle.plane_draw.specs.Rules.{PLANE, lump_bytes, lump_source}
 use Rattle.texture_build.proofs.FetchLemmas.{live_faithful}
 use Rattle.texture_build.proofs.StaticLemmas.{rest_static}
-use Rattle.picture_rules.specs.Words.{lump_source, PLANE}
 use Rattle.visplanes.specs.Planes.{plane_at}
 use Rattle.texture_build.proofs.LentLemmas.{colormap_lent, fits-lump}
 use Rattle.plane_draw.specs.Scenes.{plane_art}

@@ -1,7 +1,6 @@
 -- The bytes that are lent are those of the sky's column and of the colormap.
 use Rattle.picture_rules.proofs.Common.{ap, List, Option, Some, some-same, sym, ℕ, ◌+◌, ◌∙◌, ◌≡◌}
-use Rattle.art_rules.specs.Words.{byte_at, lump_bytes}
-use Rattle.picture_rules.specs.Words.{SKY, sky_column}
+use Rattle.plane_draw.specs.Rules.{SKY, byte_at, lump_bytes, sky_column}
 use Rattle.texture_build.proofs.ColumnLemmas.{single_slot}
 use Rattle.texture_build.proofs.LentLemmas.{colormap_lent, fits-column}
 use Rattle.plane_draw.specs.Scenes.{plane_art}

@@ -1,7 +1,6 @@
 use Rattle.art_rules.proofs.Common.{arith, List, subst, ℕ, ◌||◌, ◌∙◌}
-use Rattle.art_rules.specs.declared.TheConstants.{PNAMES, TEXTURE1, TEXTURE2}
+use Rattle.sound_scene.specs.Rules.{PNAMES, TEXTURE1, TEXTURE2, is_last, is_list}
 use Rattle.texture_build.proofs.JudgeLemmas.{pnames_name, texture1_name, texture2_name}
-use Rattle.scene_rules.specs.Words.{is_last, is_list}
 use Rattle.sound_scene.specs.Views.{AddsMarks}
 use Rattle.sound_scene.proofs.MarkLemmas.{adds_then}
 use Rattle.sound_scene.proofs.needed.mark_lists.Goals as goal

@@ -1,6 +1,5 @@
 use Rattle.art_rules.proofs.Common.{Bool, list_any, subst, ℕ, ◌==◌, ◌||◌, ◌∙◌}
-use Rattle.art_rules.specs.Words.{is_patch_of_any}
-use Rattle.scene_rules.specs.Words.{has_flat, is_list, is_map_lump, is_needed, SceneArt}
+use Rattle.sound_scene.specs.Rules.{SceneArt, has_flat, is_list, is_map_lump, is_needed, is_patch_of_any}
 use Rattle.sound_scene.specs.Views.{AddsMarks, lump_numbers}
 use Rattle.sound_scene.proofs.MarkLemmas.{adds_then}
 use Rattle.sound_scene.proofs.needed.mark_needed.Goals as goal

@@ -1,6 +1,5 @@
 use Rattle.art_rules.proofs.Common.{ap, arith, length, refl, take_all, ℕ, ◌<◌, ◌∙◌}
-use Rattle.art_rules.specs.Words.{LumpNo}
-use Rattle.scene_rules.specs.Words.{greatest_by, lump_block}
+use Rattle.sound_scene.specs.Rules.{LumpNo, greatest_by, lump_block}
 use Rattle.sound_scene.proofs.SizeLemmas.{greatest_by-map, greatest_none, greatest_step, index_below, sum_step}
 use Rattle.sound_scene.proofs.sizes.lump_blocks.Goals as goal
 

@@ -1,6 +1,5 @@
 use Rattle.art_rules.proofs.Common.{sum_by, take, ◌*◌, ◌^◌, ◌≡◌, ◌≤◌}
-use Rattle.art_rules.specs.Words.{LumpNo}
-use Rattle.scene_rules.specs.Words.{greatest_by, lump_block}
+use Rattle.sound_scene.specs.Rules.{LumpNo, greatest_by, lump_block}
 use Rattle.sound_scene.proofs.sizes.lump_blocks.Given as goal
 
 -- the blocks of the lumps so far, each of at most 2 ^ 33 bytes

@@ -1,7 +1,5 @@
 use Rattle.art_rules.proofs.Common.{[], append-nil, append_assoc, Bool, bytes_eq, cond, false, List, on_ok_weaker, option_to_list, slice_index, take, true, ℕ, ◌++◌, ◌==◌, ◌≡◌}
-use Rattle.art_rules.specs.declared.Mention.{Mention}
-use Rattle.art_rules.specs.declared.TheConstants.{SPRITE_LETTERS, SECOND_PAIR_AT}
-use Rattle.art_rules.specs.Words.{is_of_sprite, mention_at, name_mentions}
+use Rattle.sprite_book.specs.Rules.{Mention, SECOND_PAIR_AT, SPRITE_LETTERS, is_of_sprite, mention_at, name_mentions}
 use Rattle.sprite_book.proofs.MentionLemmas.{index_alike}
 use Rattle.sprite_book.proofs.mentions.add_name.Goals as goal
 

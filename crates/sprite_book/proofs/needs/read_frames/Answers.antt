@@ -1,7 +1,5 @@
 use Rattle.art_rules.proofs.Common.{[], ap, arith, get_or, length, List, map, map-append, Ok, subst, sym, take, ◌++◌, ◌+◌, ◌<◌, ◌∙◌, ◌∷◌, ◌≡◌}
-use Rattle.art_rules.specs.Words.{each_of, first_needs, frame_of, outline, outline_of, OutOfMemory}
-use Rattle.art_rules.specs.declared.shapes.Need.{Need}
-use Rattle.art_rules.specs.declared.shapes.Frame.{Frame}
+use Rattle.sprite_book.specs.Rules.{Frame, Need, OutOfMemory, each_of, first_needs, frame_of, outline, outline_of}
 use Rattle.sprite_book.specs.Calls.{Reads, IsWanted}
 use Rattle.sprite_book.proofs.CallLemmas.{reads_known, reads_more, reads_stop, reads_same, reads_short}
 use Rattle.sprite_book.proofs.NeedLemmas.{needs_none, need_same, need_push, need_stop, need_asked, wanted_need, frame_absent}

@@ -1,6 +1,5 @@
 use Rattle.art_rules.proofs.Common.{List, Ok, range_with_len, Some, take, ℕ, ◌≡◌}
-use Rattle.art_rules.specs.declared.Mention.{Mention}
-use Rattle.art_rules.specs.Words.{each_of, is_of_frame, last_that, picture_or_missing}
+use Rattle.sprite_book.specs.Rules.{Mention, each_of, is_of_frame, last_that, picture_or_missing}
 use Rattle.sprite_book.specs.Indexes.{IsIndexOf}
 use Rattle.sprite_book.proofs.pictures.fill_pictures.Given as goal
 

@@ -1,6 +1,5 @@
 use Rattle.art_rules.proofs.Common.{arith, Contains-get_or, false, length, refl, sym, take, ◌+◌, ◌<◌}
-use Rattle.art_rules.specs.declared.Mention.{Mention}
-use Rattle.art_rules.specs.Words.{each_of, shape_of}
+use Rattle.sprite_book.specs.Rules.{Mention, each_of, shape_of}
 use Rattle.sprite_book.proofs.CallLemmas.{reads_known, reads_more, reads_stop, reads_same}
 use Rattle.art_rules.proofs.EachLemmas.{each_of-nil}
 use Rattle.sprite_book.proofs.FrameLemmas.{shapes_push, shapes_stop, outlines_push}

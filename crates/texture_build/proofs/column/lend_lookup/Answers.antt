@@ -2,8 +2,7 @@ use Rattle.art_rules.proofs.Common.{false, IfSome, length, List, None, Option, o
 use Rattle.lump_cache.specs.Zones.{block_size, same_owner}
 use Rattle.lump_cache.specs.Caches.{lump_owner}
 use Rattle.lump_cache.proofs.StaticLemmas.{rest_static}
-use Rattle.art_rules.specs.declared.ColumnLookup.{ColumnLookup}
-use Rattle.art_rules.specs.declared.ColumnLookup.TheVariants.{Single}
+use Rattle.texture_build.specs.Rules.{ColumnLookup, Single}
 use Rattle.texture_build.specs.Sources.{ColumnView, IsLentBeside, column_from}
 use Rattle.texture_build.proofs.column.lend_lookup.Goals as goal
 

@@ -1,7 +1,6 @@
-use Rattle.art_rules.specs.Words.{itself}
+use Rattle.texture_build.specs.Rules.{MissingPatch, itself}
 use Rattle.art_rules.proofs.Common.{ap, option_map, Some, sym, ◌∙◌, ◌≡◌}
 use Rattle.lump_cache.proofs.CallLemmas.{reads_refused, reads_wider}
-use Rattle.art_rules.specs.declared.refusal.TexRefusal.TheVariants.{MissingPatch}
 use Rattle.texture_build.specs.Asked.{patch_lump}
 use Rattle.texture_build.specs.Parts.{or_missing, step_of}
 use Rattle.texture_build.proofs.PlaceLemmas.{entry_lump, entry_missing, entry_none, entry_placed}

@@ -1,7 +1,6 @@
-use Rattle.art_rules.specs.Words.{itself, lump_bytes}
+use Rattle.texture_build.specs.Rules.{MissingPatch, itself, lump_bytes}
 use Rattle.std.proofs.Common.{ap}
 use Rattle.lump_cache.proofs.CallLemmas.{reads_told, reads_then_refused}
-use Rattle.art_rules.specs.declared.refusal.TexRefusal.TheVariants.{MissingPatch}
 use Rattle.texture_build.proofs.PlaceLemmas.{lump_placed, step_made, step_missing}
 use Rattle.texture_build.proofs.place.place_lump.Goals as goal
 

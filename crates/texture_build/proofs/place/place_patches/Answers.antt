@@ -1,9 +1,6 @@
 use Rattle.art_rules.proofs.Common.{[], All, All-nil, All-push, ap, arith, Contains-get_or, get_or, length, List, Ok, option_map, pos, refl, subst, sym, take, ℕ, ◌++◌, ◌+◌, ◌<◌, ◌∙◌, ◌∷◌}
-use Rattle.art_rules.specs.Words.{last_of, OutOfMemory, placed_patches}
+use Rattle.texture_build.specs.Rules.{ColumnLookup, OutOfMemory, PlacedPatch, TextureEntry, last_of, placed_patches}
 use Rattle.lump_cache.proofs.CallLemmas.{reads_known, reads_more, reads_stop, reads_same, reads_short}
-use Rattle.art_rules.specs.declared.ColumnLookup.{ColumnLookup}
-use Rattle.art_rules.specs.declared.PlacedPatch.{PlacedPatch}
-use Rattle.art_rules.specs.declared.TextureEntry.{TextureEntry}
 use Rattle.patch_columns.specs.Seen.{AreSeen}
 use Rattle.patch_columns.proofs.AnyBytesLemmas.{seen_all}
 use Rattle.texture_build.specs.Parts.{IsEntryPatch, PatchesPart, or_missing, patches_part}

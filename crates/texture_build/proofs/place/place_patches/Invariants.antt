@@ -1,7 +1,6 @@
-use Rattle.art_rules.specs.Words.{itself, last_of, placed_patches}
+use Rattle.texture_build.specs.Rules.{PlacedPatch, itself, last_of, placed_patches}
 use Rattle.art_rules.proofs.Common.{All, length, Ok, option_map, take, ◌<◌}
 use Rattle.lump_cache.specs.Calls.{ReadsLumps}
-use Rattle.art_rules.specs.declared.PlacedPatch.{PlacedPatch}
 use Rattle.patch_columns.specs.Seen.{AreSeen}
 use Rattle.texture_build.specs.Parts.{IsEntryPatch, PatchesPart, or_missing, patches_part}
 use Rattle.texture_build.proofs.place.place_patches.Given as goal

@@ -1,6 +1,5 @@
 use Rattle.std.proofs.Common.{ap, length}
-use Rattle.art_rules.specs.Words.{Refused, texture_at}
-use Rattle.art_rules.specs.declared.refusal.TexRefusal.TheVariants.{TooBig}
+use Rattle.texture_build.specs.Rules.{Refused, TooBig, texture_at}
 use Rattle.texture_build.proofs.PrepareLemmas.{bound_big, bound_ok}
 use Rattle.texture_build.proofs.prepare.bind_texture.Goals as goal
 

@@ -1,8 +1,6 @@
 use Rattle.art_rules.proofs.Common.{ap, arith, Err, IfErr-weaker, IfOk-weaker, length, length-replicate, List, Ok, option_map, replicate, subst, sym, ℕ, ◌∙◌, ◌≡◌}
-use Rattle.art_rules.specs.Words.{last_of, placed_patches, prepared, texture_at}
+use Rattle.texture_build.specs.Rules.{Empty, TooBig, last_of, placed_patches, prepared, texture_at}
 use Rattle.lump_cache.proofs.CallLemmas.{reads_stop_first}
-use Rattle.art_rules.specs.declared.ColumnLookup.TheVariants.{Empty}
-use Rattle.art_rules.specs.declared.refusal.TexRefusal.TheVariants.{TooBig}
 use Rattle.patch_columns.specs.Seen.{seen_lookups}
 use Rattle.texture_build.specs.Parts.{IsEntryPatch, PatchesPart, or_missing, patches_part}
 use Rattle.texture_build.proofs.MarkLemmas.{same_front}

@@ -1,6 +1,5 @@
 use Rattle.std.proofs.Common.{◌<◌, ◌+◌, arith, sym, subst}
-use Rattle.art_rules.specs.Words.{half_at}
-use Rattle.art_rules.specs.declared.layout.TheConstants.{TEXTURE_WIDTH_AT}
+use Rattle.texture_lists.specs.Rules.{TEXTURE_WIDTH_AT, half_at}
 use Rattle.texture_lists.proofs.PartLemmas.{head_within, width_within}
 use Rattle.texture_lists.proofs.lists.read_textures.Goals as goal
 

@@ -1,6 +1,5 @@
 use Rattle.std.proofs.Common.{ap, inl, inr}
-use Rattle.art_rules.specs.Words.{and_then, both_lists, named_bytes}
-use Rattle.art_rules.specs.declared.TheConstants.{TEXTURE1, TEXTURE2}
+use Rattle.texture_lists.specs.Rules.{TEXTURE1, TEXTURE2, and_then, both_lists, named_bytes}
 use Rattle.lump_cache.proofs.CallLemmas.{reads_stop_first, reads_then}
 use Rattle.lump_cache.proofs.SizeLemmas.{either_beside}
 use Rattle.texture_lists.specs.Parts.{joined_parts}

@@ -1,6 +1,5 @@
 use Rattle.std.proofs.Common.{◌≡◌, ◌+◌, ◌*◌}
-use Rattle.art_rules.specs.Words.{listed, name_at}
-use Rattle.art_rules.specs.declared.layout.TheConstants.{COUNT_SIZE, NAME_SIZE}
+use Rattle.texture_lists.specs.Rules.{COUNT_SIZE, NAME_SIZE, listed, name_at}
 use Rattle.texture_lists.proofs.names.read_names.Given as goal
 
 abbrev pub invariant-loop-i : goal.invariant-loop-i

@@ -1,7 +1,5 @@
 use Rattle.std.proofs.Common.{◌≡◌, ◌+◌, ◌*◌}
-use Rattle.art_rules.specs.Words.{listed}
-use Rattle.art_rules.specs.declared.layout.TheConstants.{ENTRY_SIZE}
-use Rattle.art_rules.specs.Textures.{entry_at}
+use Rattle.texture_lists.specs.Rules.{ENTRY_SIZE, entry_at, listed}
 use Rattle.texture_lists.proofs.records.read_entries.Given as goal
 
 abbrev pub invariant-loop-i : goal.invariant-loop-i

@@ -1,7 +1,7 @@
 use Rattle.picture_rules.proofs.Common.{ap, min, slice_index, ℕ, ◌++◌, ◌-◌, ◌∙◌}
 use Rattle.pixel_strips.specs.Canvases.{CanvasView, with_dots}
 use Rattle.visplanes.specs.Spans.{closed_rows, closed_dots}
-use Rattle.visplanes.proofs.DrawLemmas.{dots_append}
+use Rattle.pixel_strips.proofs.CanvasLemmas.{with_dots-append}
 use Rattle.visplanes.proofs.draw.close_rows.Goals as goal
 
 pub returns : goal.returns
@@ -15,6 +15,6 @@ returns g c =
     let n = c.args.now in
     c.paint_rows-2.ensures
     ∙ ap (λ (v : CanvasView). with_dots mark (closed_rows f v.painter start c.args.x c.max.result (b.end - c.max.result)) v) c.paint_rows.ensures
-    ∙ dots_append mark (closed_rows f old.painter start c.args.x b.begin (c.min.result - b.begin)) (closed_rows f old.painter start c.args.x c.max.result (b.end - c.max.result)) old
+    ∙ with_dots-append mark (closed_rows f old.painter start c.args.x b.begin (c.min.result - b.begin)) (closed_rows f old.painter start c.args.x c.max.result (b.end - c.max.result)) old
     ∙ ap (λ (m : ℕ). with_dots mark (closed_rows f old.painter start c.args.x b.begin (m - b.begin) ++ closed_rows f old.painter start c.args.x c.max.result (b.end - c.max.result)) old) c.min.ensures
     ∙ ap (λ (m : ℕ). with_dots mark (closed_rows f old.painter start c.args.x b.begin (min b.end n.begin - b.begin) ++ closed_rows f old.painter start c.args.x m (b.end - m)) old) c.max.ensures

@@ -1,6 +1,5 @@
 use Rattle.std.proofs.Common.{◌≡◌, ap, ◌∙◌, refl, subst}
-use Rattle.picture_rules.specs.Words.{FRAME_WIDTH, lump_source, Painter, painter_of, PLANE, Plane}
-use Rattle.picture_rules.specs.declared.plane.PlaneKey.{PlaneKey}
+use Rattle.visplanes.specs.Rules.{FRAME_WIDTH, PLANE, Painter, Plane, PlaneKey, lump_source, painter_of}
 use Rattle.pixel_strips.specs.Canvases.{CanvasView, with_painter}
 use Rattle.visplanes.specs.Planes.{plane_at, flat_lump}
 use Rattle.visplanes.specs.Spans.{FloorView, HasSpans}

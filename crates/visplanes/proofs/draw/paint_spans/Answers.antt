@@ -4,7 +4,7 @@ use Rattle.pixel_strips.specs.Canvases.{CanvasView, with_dots}
 use Rattle.pixel_strips.proofs.CanvasLemmas.{dots_none}
 use Rattle.visplanes.specs.Spans.{closed_rows, row_dots}
 use Rattle.visplanes.proofs.DotLemmas.{closed_rows-none, closed_rows-more}
-use Rattle.visplanes.proofs.DrawLemmas.{dots_append}
+use Rattle.pixel_strips.proofs.CanvasLemmas.{with_dots-append}
 use Rattle.visplanes.proofs.draw.paint_spans.Goals as goal
 
 pub loop-y-init : goal.loop-y-init
@@ -28,7 +28,7 @@ loop-y-preserved g c =
       idle = omega (arith, c.loop-y-test.true);
       painted = c.paint_row.ensures
           ∙ ap (λ (v : CanvasView). with_dots g.C.Canvas.mark (row_dots c.args.floor.now v.painter c.loop-y.y (start c.loop-y.y) (c.args.x - 1)) v) i.painted
-          ∙ dots_append g.C.Canvas.mark above (row_dots c.args.floor.now old.painter c.loop-y.y (start c.loop-y.y) (c.args.x - 1)) old
+          ∙ with_dots-append g.C.Canvas.mark above (row_dots c.args.floor.now old.painter c.loop-y.y (start c.loop-y.y) (c.args.x - 1)) old
           ∙ ap (λ (dots : List Dot). with_dots g.C.Canvas.mark dots old)
           (closed_rows-more c.args.floor.now old.painter start c.args.x c.args.rows.begin (c.loop-y.y - c.args.rows.begin) (c.loop-y.y + 1 - c.args.rows.begin) c.loop-y.y (omega (arith, i.from)) (omega (arith, i.from)));
     }

@@ -1,6 +1,5 @@
 use Rattle.word_rules.proofs.Common.{false, get_or, List, ℕ, ◌&&◌, ◌≡◌}
-use Rattle.word_rules.specs.Least.{greatest}
-use Rattle.lump_rules.specs.Lookups.{has_name}
+use Rattle.wad_dir.specs.Rules.{greatest, has_name}
 use Rattle.wad_dir.specs.Indexes.{indexed}
 use Rattle.wad_dir.proofs.index.index_of.Given as goal
 

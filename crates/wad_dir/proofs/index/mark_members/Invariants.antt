@@ -1,6 +1,5 @@
 use Rattle.std.proofs.Common.{◌≡◌, ℕ, length}
-use Rattle.lump_rules.specs.Lookups.{is_member, starts_in, mark_before}
-use Rattle.word_rules.specs.Listed.{listed}
+use Rattle.wad_dir.specs.Rules.{is_member, listed, mark_before, starts_in}
 use Rattle.wad_dir.specs.Indexes.{is_grouped}
 use Rattle.wad_dir.proofs.index.mark_members.Given as goal
 

@@ -1,6 +1,5 @@
 use Rattle.std.proofs.Common.{arith, ap, ◌≡◌, length, sym}
-use Rattle.lump_rules.specs.declared.wad.Header.{Header}
-use Rattle.lump_rules.specs.Wads.{header, header_in, header_refusal}
+use Rattle.wad_dir.specs.Rules.{Header, header, header_in, header_refusal}
 use Rattle.lump_rules.proofs.WadLemmas.{unless_refused_ok}
 use Rattle.wad_dir.proofs.AnswerLemmas.{part_failed}
 use Rattle.wad_dir.proofs.FileLemmas.{file_answers}

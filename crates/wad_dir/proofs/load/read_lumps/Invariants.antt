@@ -1,7 +1,5 @@
 use Rattle.std.proofs.Common.{ℕ, ◌<◌, ◌≤◌, ◌+◌, ◌*◌, List, drop, length, All}
-use Rattle.outside.specs.Shelf.{IsLaterShelf, NameFiles}
-use Rattle.lump_rules.specs.declared.wad.TheConstants.{HEADER_SIZE, ENTRY_SIZE, MAX_LUMPS}
-use Rattle.lump_rules.specs.Wads.{listing_sizes}
+use Rattle.wad_dir.specs.Rules.{ENTRY_SIZE, HEADER_SIZE, IsLaterShelf, MAX_LUMPS, NameFiles, listing_sizes}
 use Rattle.wad_dir.proofs.FileLemmas.{IsReadTo}
 use Rattle.wad_dir.proofs.load.read_lumps.Given as goal
 

@@ -1,7 +1,6 @@
 use Rattle.std.proofs.Common.{◌≡◌, ◌++◌, filter, map, not, take}
-use Rattle.art_rules.specs.Words.{has_name}
+use Rattle.wad_trim.specs.Rules.{copy_part, has_name}
 use Rattle.sound_scene.specs.Views.{lump_numbers}
-use Rattle.trim_rules.specs.Parts.{copy_part}
 use Rattle.wad_trim.proofs.parts.add_called.Given as goal
 
 -- the copies so far

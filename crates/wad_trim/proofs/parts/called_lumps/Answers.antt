@@ -1,6 +1,5 @@
 use Rattle.std.proofs.Common.{length, ap, ◌∙◌, arith}
-use Rattle.art_rules.specs.Words.{MAX_LUMPS}
-use Rattle.trim_rules.specs.Parts.{called_lumps}
+use Rattle.wad_trim.specs.Rules.{MAX_LUMPS, called_lumps}
 use Rattle.trim_rules.proofs.ThereLemmas.{called-there}
 use Rattle.sound_scene.specs.Views.{lump_numbers}
 use Rattle.wad_trim.proofs.CalledLemmas.{called-is}

@@ -1,7 +1,6 @@
 use Rattle.art_rules.proofs.Common.{ap, option_copied, ◌++◌, ◌∙◌}
-use Rattle.art_rules.specs.Words.{book_lumps}
+use Rattle.wad_trim.specs.Rules.{book_lumps, called_lumps, flat_lumps, picture_lumps}
 use Rattle.sound_scene.specs.Views.{lump_numbers}
-use Rattle.trim_rules.specs.Parts.{called_lumps, flat_lumps, picture_lumps}
 use Rattle.wad_trim.specs.Plans.{trim_art, layer_lumps}
 use Rattle.wad_trim.proofs.PartLemmas.{all-there, listed-few, parts-are}
 use Rattle.wad_trim.proofs.parts.list_parts.Goals as goal

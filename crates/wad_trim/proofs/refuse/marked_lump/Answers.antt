@@ -1,7 +1,5 @@
 use Rattle.art_rules.proofs.Common.{[], ap, arith, Option, option_map, sym, take, ℕ, ◌∙◌, ◌∷◌}
-use Rattle.art_rules.specs.Words.{LumpNo}
-use Rattle.trim_rules.specs.declared.part.TrimPart.{TrimPart}
-use Rattle.trim_rules.specs.Parts.{marked_lump}
+use Rattle.wad_trim.specs.Rules.{LumpNo, TrimPart, marked_lump}
 use Rattle.wad_trim.specs.Lessers.{lesser}
 use Rattle.wad_trim.proofs.MarkedLemmas.{marked-more, marked-none}
 use Rattle.wad_trim.proofs.refuse.marked_lump.Goals as goal

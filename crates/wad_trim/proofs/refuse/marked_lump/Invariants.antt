@@ -1,6 +1,5 @@
 use Rattle.art_rules.proofs.Common.{option_map, take, ◌≡◌}
-use Rattle.art_rules.specs.Words.{LumpNo}
-use Rattle.trim_rules.specs.Parts.{marked_lump}
+use Rattle.wad_trim.specs.Rules.{LumpNo, marked_lump}
 use Rattle.wad_trim.proofs.refuse.marked_lump.Given as goal
 
 -- the least of the parts so far

@@ -1,6 +1,5 @@
 use Rattle.art_rules.proofs.Common.{ap, length, option_map, sym, ◌∙◌}
-use Rattle.art_rules.specs.Words.{lump_at, LumpNo}
-use Rattle.trim_rules.specs.Parts.{is_mark}
+use Rattle.wad_trim.specs.Rules.{LumpNo, is_mark, lump_at}
 use Rattle.wad_trim.proofs.MarkedLemmas.{marked-listed, marked-unlisted, number-cond}
 use Rattle.wad_trim.proofs.refuse.marked_part.Goals as goal
 

@@ -1,8 +1,6 @@
 use Rattle.std.proofs.Common.{◌≡◌, ◌≤◌, ◌+◌, ℕ, List, ◌++◌, get_or, take, Ok, ap, sym, subst, ◌∙◌, refl, arith}
 use Rattle.art_rules.proofs.Laws.{writes_more, writes_none, writes_stopped}
-use Rattle.art_rules.specs.Words.{Failed, HEADER_SIZE, Writes}
-use Rattle.trim_rules.specs.Parts.{part_name, part_size, parts_size}
-use Rattle.job_rules.specs.declared.trim.TheConstants.{MAX_FILE_BYTES}
+use Rattle.wad_trim.specs.Rules.{Failed, HEADER_SIZE, MAX_FILE_BYTES, Writes, part_name, part_size, parts_size}
 use Rattle.wad_trim.specs.Plans.{entries_from}
 use Rattle.wad_trim.proofs.FileLemmas.{entries-left, entries-more, entries-none, entries_behind, entry-is, fits-size, size-more, size-none, size-within}
 use Rattle.wad_trim.proofs.write.put_entries.Goals as goal

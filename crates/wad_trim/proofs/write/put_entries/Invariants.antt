@@ -1,6 +1,5 @@
 use Rattle.std.proofs.Common.{◌≡◌, ◌+◌, take, Ok}
-use Rattle.art_rules.specs.Words.{Failed, HEADER_SIZE, Writes}
-use Rattle.trim_rules.specs.Parts.{parts_size}
+use Rattle.wad_trim.specs.Rules.{Failed, HEADER_SIZE, Writes, parts_size}
 use Rattle.wad_trim.specs.Plans.{entries_from}
 use Rattle.wad_trim.proofs.write.put_entries.Given as goal
 

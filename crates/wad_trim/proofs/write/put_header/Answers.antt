@@ -1,9 +1,6 @@
 use Rattle.std.proofs.Common.{◌≤◌, ◌+◌, ℕ, ◌++◌, length, ap, refl, arith}
 use Rattle.art_rules.proofs.Laws.{writes_stop, writes_stopped, writes_then}
-use Rattle.art_rules.specs.Words.{HEADER_SIZE}
-use Rattle.made_rules.specs.Bytes.{word_bytes}
-use Rattle.trim_rules.specs.Parts.{parts_size}
-use Rattle.job_rules.specs.declared.trim.TheConstants.{MAX_FILE_BYTES}
+use Rattle.wad_trim.specs.Rules.{HEADER_SIZE, MAX_FILE_BYTES, parts_size, word_bytes}
 use Rattle.wad_trim.proofs.FileLemmas.{fits-size}
 use Rattle.wad_trim.proofs.write.put_header.Goals as goal
 

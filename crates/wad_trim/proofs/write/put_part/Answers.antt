@@ -1,7 +1,6 @@
 use Rattle.wad_trim.proofs.FileLemmas.{bytes-one, copied-one}
 use Rattle.wad_trim.proofs.WriteLemmas.{lumps-as}
-use Rattle.art_rules.specs.Words.{lump_bytes}
-use Rattle.trim_rules.specs.Files.{part_bytes}
+use Rattle.wad_trim.specs.Rules.{lump_bytes, part_bytes}
 use Rattle.wad_trim.proofs.write.put_part.Goals as goal
 
 pub returns-in-Copy : goal.returns-in-Copy

@@ -1,6 +1,5 @@
 use Rattle.std.proofs.Common.{ℕ, ◌+◌, List, suc, [], ◌++◌, drop, ap, sym, ◌∙◌, append-nil, arith}
-use Rattle.art_rules.specs.Words.{HEADER_SIZE, lump_bytes}
-use Rattle.trim_rules.specs.Files.{trimmed_file}
+use Rattle.wad_trim.specs.Rules.{HEADER_SIZE, lump_bytes, trimmed_file}
 use Rattle.wad_trim.specs.Plans.{entries_from}
 use Rattle.wad_trim.specs.Writes.{IsCopied}
 use Rattle.wad_trim.proofs.FileLemmas.{bytes_by, copied-among, file-begun, file-ended, file-left, head_of, so_far, so_far-more}

@@ -1,8 +1,7 @@
 -- A note is made of its parts.
 use Rattle.picture_rules.proofs.Common.{ap, arith, ints, refl, rules, sym, to_z, w32, ◌+◌, ◌-◌, ◌∙◌, ◌≡◌}
 use Rattle.std.proofs.lemmas.Int.{to_z-of_z}
-use Rattle.picture_rules.specs.Words.{fragment_numbers, minus_one, silhouette_of}
-use Rattle.picture_rules.specs.declared.wall.FragmentNumbers.{FragmentNumbers}
+use Rattle.wall_columns.specs.Rules.{FragmentNumbers, fragment_numbers, minus_one, silhouette_of}
 use Rattle.wall_edges.specs.Fragments.{FragmentValue}
 use Rattle.wall_columns.specs.Places.{places_of}
 use Rattle.wall_columns.proofs.NoteLemmas.{note_of-parts}

@@ -1,8 +1,7 @@
 use Rattle.picture_rules.proofs.Common.{ap, arith, false, int_lt, ints, List, Option, Some, sym, ℕ, ℤ, ◌+◌, ◌∙◌, ◌≡◌, ◌≤ℤ◌}
-use Rattle.art_rules.specs.Words.{byte_at, lump_bytes}
+use Rattle.wall_columns.specs.Rules.{ViewShape, WALL, byte_at, lump_bytes, row_fraction}
 use Rattle.texture_build.proofs.ColumnLemmas.{single_slot}
 use Rattle.texture_build.proofs.LentLemmas.{colormap_lent, fits-column}
-use Rattle.picture_rules.specs.Words.{row_fraction, ViewShape, WALL}
 use Rattle.wall_columns.proofs.PaintedLemmas.{live-painted}
 use Rattle.wall_columns.proofs.paint.paint_live.Goals as goal
 

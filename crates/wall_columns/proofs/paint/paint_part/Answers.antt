@@ -1,7 +1,6 @@
 use Rattle.picture_rules.proofs.Common.{ap, arith, false, int_lt, ints, of_z, refl, rules, SFits, to_z, true, w32, ℕ, ℤ, ◌∙◌, ◌≡◌, ◌≤ℤ◌}
 use Rattle.std.proofs.Common.{to_z-of_z}
-use Rattle.art_rules.specs.declared.ColumnLookup.{ColumnLookup}
-use Rattle.art_rules.specs.Words.{PreparedTexture}
+use Rattle.wall_columns.specs.Rules.{ColumnLookup, PreparedTexture}
 use Rattle.texture_build.specs.Draws.{CanDraw}
 use Rattle.texture_build.specs.Paints.{painted_art}
 use Rattle.texture_build.specs.Sources.{column_in}

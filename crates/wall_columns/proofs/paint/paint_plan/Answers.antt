@@ -1,12 +1,18 @@
-use Rattle.std.proofs.Common.{rules, ◌≡◌}
-use Rattle.picture_rules.specs.Words.{texture_column}
+-- No strip has rows, or the first is painted, and the lower wall below an upper one.
+use Rattle.std.proofs.Common.{◌≡◌, ℕ, ◌∷◌, [], refl, sym, subst, ◌∙◌, inr, rules}
+use Rattle.wall_columns.specs.Rules.{FragmentNumbers, WallStrip, texture_column}
+use Rattle.texture_build.specs.Draws.{CanDraw}
 use Rattle.texture_build.specs.Paints.{painted_art}
-use Rattle.texture_build.proofs.PaintLemmas.{paints-asked, paints-none, paints-same}
+use Rattle.texture_build.proofs.PaintLemmas.{can_draw-later, paints-asked, paints-none, paints-same, paints-stop, paints-then, paints-wider}
 use Rattle.wall_edges.specs.Fragments.{fragment_of}
+use Rattle.wall_columns.specs.declared.clips.ColumnPlan.{ColumnPlan}
 use Rattle.wall_columns.specs.Drawn.{WallRange}
-use Rattle.wall_columns.specs.Plans.{strips_by}
+use Rattle.wall_columns.specs.Painted.{PaintsStrips, strip_with}
+use Rattle.wall_columns.specs.Plans.{HasRows, IsInRows, IsPlanTexture}
 use Rattle.wall_columns.specs.Tools.{wall_state, wall_tools}
-use Rattle.wall_columns.proofs.PlannedLemmas.{plan-none, strips-by_words}
+use Rattle.wall_columns.proofs.FirstLemmas.{first-in, first-texture, first-alone, first-both}
+use Rattle.wall_columns.proofs.PlannedLemmas.{look_with, paints-plan, plan-none, plan-rows, plan-textures}
+use Rattle.wall_columns.proofs.ToolLemmas.{after-same, before-same}
 use Rattle.wall_columns.proofs.paint.paint_plan.Goals as goal
 
 pub returns-then-not-paints-clause-paints : goal.returns-then-not-paints-clause-paints
@@ -17,12 +23,66 @@ returns-then-not-paints-clause-paints g c =
     (texture_column tools.view.now q.facts c.args.x) c.args.edges.now.scale c.args.numbers.now c.args.plan.now (c.paints.ensures c.if-not-paints.true))
     (paints-none (wall_state g.S.Shelf.view g.C.Canvas.view tools) tt)
 
--- what the strips paint, by the words of the look
+pub paint_part-requires-clause-rows : goal.paint_part-requires-clause-rows
+paint_part-requires-clause-rows g c =
+    subst (IsInRows c.args.tools.now.view.now.shape.height) (sym c.first_strip.ensures)
+    (first-in (IsInRows c.args.tools.now.view.now.shape.height) c.args.numbers.now c.args.plan.now
+    (plan-rows c.args.tools.now.view.now.shape.height c.args.numbers.now c.args.plan.now c.requires.strips.0))
+
+pub paint_part-requires-clause-texture : goal.paint_part-requires-clause-texture
+paint_part-requires-clause-texture g c =
+    let t = c.args.tools.now in
+    let P : WallStrip → Type 0 = λ s. HasRows s → CanDraw t.dir.now.lumps t.textures.now t.cache.now s.part.number in
+    subst P (sym c.first_strip.ensures) (first-in P c.args.numbers.now c.args.plan.now
+    (plan-textures t.dir.now.lumps t.textures.now t.cache.now c.args.numbers.now c.args.plan.now c.requires.strips.1))
+
+pub paint_second-requires-clause-rows : goal.paint_second-requires-clause-rows
+paint_second-requires-clause-rows g c =
+    after-same c.args.tools.now c.paint_part.new.tools (λ v t. IsInRows v.shape.height (strip_with c.args.numbers.now.bottom_part c.args.plan.now.bottom))
+    c.in_ok-paint_part.ensures.same
+    (plan-rows c.args.tools.now.view.now.shape.height c.args.numbers.now c.args.plan.now c.requires.strips.0).1.1.0
+
+pub paint_second-requires-clause-texture : goal.paint_second-requires-clause-texture
+paint_second-requires-clause-texture g c = λ some.
+    let tools = c.args.tools.now in
+    after-same c.args.tools.now c.paint_part.new.tools (λ v t. CanDraw t.dir.lumps t.textures c.paint_part.new.tools.cache.now c.args.numbers.now.bottom_part.number)
+    c.in_ok-paint_part.ensures.same
+    (can_draw-later c.in_ok-paint_part.ensures.paints
+    ((plan-textures tools.dir.now.lumps tools.textures.now tools.cache.now c.args.numbers.now c.args.plan.now c.requires.strips.1).1.1.0 some))
+
+pub returns-in_err-paint_part-clause-paints : goal.returns-in_err-paint_part-clause-paints
+returns-in_err-paint_part-clause-paints g c =
+    paints-stop refl c.from_residual.ensures.1
+    (paints-asked (λ (q : WallRange). c.args.fragment.now ≡ fragment_of c.args.tools.now.view.now q.facts q.first q.last) (λ q. tt) (λ q is. c.requires.colormap)
+    (paints-wider (first-texture c.args.numbers.now c.args.plan.now _ c.first_strip.ensures) (λ (lump : ℕ) h. h) c.in_err-paint_part.ensures.paints))
+
+pub returns-then-not-has_second-clause-paints : goal.returns-then-not-has_second-clause-paints
+returns-then-not-has_second-clause-paints g c =
+    let tools = c.args.tools.now in
+    let n : FragmentNumbers = c.args.numbers.now in
+    let plan : ColumnPlan = c.args.plan.now in
+    let look = look_with c.args.number c.args.x c.column_at.result c.inverse_word.result c.scale_map.result in
+    paints-plan tools.view.now c.args.number c.args.x c.scale_map.result c.args.fragment.now n c.args.edges.now plan c.column_at.result c.inverse_word.result
+    (search rules) (search rules) (search rules) c.requires.colormap c.inverse_word.ensures c.scale_map.ensures c.column_at.ensures
+    (paints-same _
+    (λ contents q is. first-alone tools.view.now.shape (painted_art contents (wall_tools tools)) look n plan _ c.first_strip.ensures
+    c.requires.rows (sym c.has_second.ensures ∙ c.if-not-has_second.true))
+    (paints-wider (first-texture n plan _ c.first_strip.ensures) (λ (lump : ℕ) h. h) c.in_ok-paint_part.ensures.paints))
+
 pub returns-clause-paints : goal.returns-clause-paints
 returns-clause-paints g c =
     let tools = c.args.tools.now in
-    paints-same _
-    (λ contents (q : WallRange) is. strips-by_words tools.view.now (painted_art contents (wall_tools tools)) c.args.number c.args.x c.args.numbers.now.light c.scale_map.result
-    q.facts c.args.edges.now.scale c.inverse_word.result c.column_at.result (strips_by c.args.numbers.now c.args.plan.now)
-    (search rules) (search rules) (search rules) c.inverse_word.ensures c.scale_map.ensures (c.column_at.ensures q.facts q.first q.last is))
-    (paints-asked (λ (q : WallRange). c.args.fragment.now ≡ fragment_of tools.view.now q.facts q.first q.last) (λ q. tt) (λ q is. c.requires.colormap) c.paint_strips.ensures.paints)
+    let n : FragmentNumbers = c.args.numbers.now in
+    let plan : ColumnPlan = c.args.plan.now in
+    let look = look_with c.args.number c.args.x c.column_at.result c.inverse_word.result c.scale_map.result in
+    paints-plan tools.view.now c.args.number c.args.x c.scale_map.result c.args.fragment.now n c.args.edges.now plan c.column_at.result c.inverse_word.result
+    (search rules) (search rules) (search rules) c.requires.colormap c.inverse_word.ensures c.scale_map.ensures c.column_at.ensures
+    (paints-same _
+    (λ contents q is. first-both tools.view.now.shape (painted_art contents (wall_tools tools)) look n plan _ c.first_strip.ensures
+    c.requires.rows (sym c.has_second.ensures ∙ c.if-not-has_second.false))
+    (paints-then
+    (paints-wider (first-texture n plan _ c.first_strip.ensures) (λ (lump : ℕ) h. h) c.in_ok-paint_part.ensures.paints)
+    (before-same c.args.tools.now c.paint_part.new.tools (λ v t. PaintsStrips v.shape t g.C.Canvas.mark look (IsPlanTexture n plan) (strip_with n.bottom_part plan.bottom ∷ [])
+    (wall_state g.S.Shelf.view g.C.Canvas.view c.paint_part.new.tools) (wall_state g.S.Shelf.view g.C.Canvas.view c.paint_second.new.tools) c.paint_second.result)
+    c.in_ok-paint_part.ensures.same
+    (paints-wider (λ (number : ℕ) h. inr (inr h)) (λ (lump : ℕ) h. h) c.paint_second.ensures.paints))))

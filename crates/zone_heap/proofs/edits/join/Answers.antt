@@ -1,8 +1,7 @@
 use Rattle.std.proofs.Common.{arith, rules, ◌≡◌, ◌<◌, ◌≤◌, ◌+◌, ◌-◌, ◌++◌, ◌∷◌, [], ◌&&◌, ◌∙◌, ap, ap₂, sym, subst, refl, length, drop, true, false, ℕ, List}
 use Rattle.std.proofs.lemmas.Bool.{and_parts}
 use Rattle.std.proofs.lemmas.List.{append_assoc, length-append}
-use Rattle.zone_rules.specs.Zones.{is_free}
-use Rattle.zone_rules.specs.Requests.{join_free}
+use Rattle.zone_heap.specs.Rules.{is_free, join_free}
 use Rattle.zone_heap.specs.Headers.{word_at, with_word, header_in, block_in, is_free_header}
 use Rattle.zone_heap.specs.Regions.{joined, blocks_from, IsSplit}
 use Rattle.zone_heap.proofs.WordLemmas.{written_within, length-with_word, word_same}

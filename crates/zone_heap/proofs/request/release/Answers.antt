@@ -1,6 +1,5 @@
 use Rattle.std.proofs.Common.{arith, ◌∙◌, ap, sym, subst}
-use Rattle.zone_rules.specs.Zones.{owner_at}
-use Rattle.zone_rules.specs.Requests.{join_free}
+use Rattle.zone_heap.specs.Rules.{join_free, owner_at}
 use Rattle.zone_heap.specs.Regions.{blocks_in, IsLaid}
 use Rattle.zone_heap.specs.Homes.{AreHome}
 use Rattle.zone_heap.proofs.HomeLemmas.{joined_home}

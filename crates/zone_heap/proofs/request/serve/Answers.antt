@@ -1,8 +1,6 @@
 use Rattle.std.proofs.Common.{arith, rules, ◌≡◌, ◌+◌, ◌*◌, ◌/◌, ◌<◌, ◌≤◌, ◌++◌, ◌∙◌, ap, ap₂, sym, subst, length, take, drop, ℕ}
 use Rattle.std.proofs.lemmas.List.{length-take, length-drop}
-use Rattle.zone_rules.specs.Zones.{Heap, Holding, Tiles, Lacks, free_block}
-use Rattle.zone_rules.specs.Requests.{cut_block, take_at, place_after}
-use Rattle.zone_rules.specs.Rooms.{RoomAt}
+use Rattle.zone_heap.specs.Rules.{Heap, Holding, Lacks, RoomAt, Tiles, cut_block, free_block, place_after, take_at}
 use Rattle.zone_rules.proofs.SoundLemmas.{room_end, searched_lacks, searched_tiles}
 use Rattle.zone_rules.proofs.TakeLemmas.{take_at_is}
 use Rattle.zone_heap.specs.Headers.{owner_in, used_holding}

@@ -1,11 +1,9 @@
 use Rattle.std.proofs.Common.{arith, ◌≡◌, ◌+◌, ◌++◌, ◌≤◌, [], ap, ap₂, sym, ◌∙◌, take, drop, subst, map, count_by, length, List, ℕ, Option, Some, None}
 use Rattle.std.specs.List.{position_or_len}
 use Rattle.std.proofs.lemmas.List.{take_at, drop_at, take_all, drop_all, append-nil, length-append}
-use Rattle.zone_rules.specs.Zones.{Block, Tiles, is_purgeable}
-use Rattle.zone_rules.specs.Requests.{purge_block, join_free}
+use Rattle.zone_heap.specs.Rules.{Block, RoomAt, Tiles, is_purgeable, join_free, purge_block}
 use Rattle.zone_heap.specs.declared.homes.Homes.{Homes}
 use Rattle.zone_heap.specs.Walks.{fit_from, starts_at, CanSearch, SearchIs}
-use Rattle.zone_rules.specs.Rooms.{RoomAt}
 use Rattle.zone_heap.proofs.SearchLemmas.{fit_first, fit_second, fit_never}
 use Rattle.zone_heap.proofs.RunLemmas.{room_first, room_second}
 use Rattle.zone_rules.proofs.SoundLemmas.{few_tiles}

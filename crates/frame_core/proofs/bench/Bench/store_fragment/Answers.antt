@@ -1,18 +1,19 @@
 use Rattle.std.proofs.Common.{◌≤◌, ℕ, List, Result, ap, sym, ◌∙◌, arith}
-use Rattle.picture_rules.specs.Words.{Event, FRAME_HEIGHT, surface_at}
-use Rattle.picture_rules.specs.declared.Limits.{Limits}
-use Rattle.texture_build.specs.Paints.{paint_state}
+use Rattle.frame_core.specs.Rules.{Event, FRAME_HEIGHT, Limits, surface_at}
+use Rattle.texture_build.specs.Paints.{paint_state, paint_tools}
+use Rattle.texture_build.specs.Views.{TexturesView}
 use Rattle.texture_build.proofs.DrawLemmas.{IsMapped}
+use Rattle.sound_scene.specs.Sound.{textures_view}
 use Rattle.wall_columns.specs.Faults.{limit_of_result}
 use Rattle.frame_core.specs.Scenes.{lists_of}
 use Rattle.frame_core.specs.declared.fault.ViewFault.{ViewFault}
 use Rattle.frame_core.specs.Faults.{from_draw}
 use Rattle.frame_core.specs.Views.{PaintsView, tools_scene, tools_state}
 use Rattle.frame_core.specs.Walked.{HasWalked, next_dots}
-use Rattle.frame_core.proofs.FragmentLemmas.{can_draw-facts, facts-ready, ok-through, paints-fragment, told-over}
+use Rattle.frame_core.proofs.FragmentLemmas.{StoresFragment, can_draw-facts, facts-ready, ok-through, paints-fragment, told-over}
 use Rattle.frame_core.proofs.PaintLemmas.{mapped-err, mapped-ok}
 use Rattle.frame_core.proofs.WalkedLemmas.{same_limits}
-use Rattle.frame_core.proofs.WalkedFragmentLemmas.{TakesFragment, over-fragment, walked-range}
+use Rattle.frame_core.proofs.WalkedFragmentLemmas.{over-fragment, walked-range}
 use Rattle.frame_core.proofs.bench.Bench.store_fragment.Given.{Over}
 use Rattle.frame_core.proofs.bench.Bench.store_fragment.Goals as goal
 use Rattle.frame_core.proofs.bench.Bench.store_fragment.Goals.{After-store_range}
@@ -25,15 +26,25 @@ store_range-requires-clause-textures g c = λ number is.
     can_draw-facts c.args.tools.now.dir.now.lumps scene c.args.tools.now.cache.now c.facts_of-facts.result c.textures.result.now number can ready c.textures.ensures is
 
 -- what the call of the walls gives
-taken : (g : Over) (c : After-store_range g) → TakesFragment c.args.tools.now.view.now c.args.tools.now.scene.now.scene c.args.seg c.args.first c.args.last c.facts_of-facts.result c.args.self.now
-    c.store_range.new.tools.planes.now c.store_range.new.self (limit_of_result c.store_range.result)
-taken g c = record {
-  there = c.requires.there;
-  facts_are = c.facts_of-facts.ensures.facts;
-  limit = c.store_range.ensures.limit;
-  limits = same_limits c.args.self.now.walls c.store_range.new.self c.args.self.now.planes c.store_range.new.tools.planes.now c.store_range.ensures.room c.store_range.ensures.planes_room;
-  full = λ n. (ap limit_of_result (c.store_range.ensures.past n), ((c.store_range.ensures.past_tools n).same_planes, c.store_range.ensures.past_state n));
-}
+stored : (g : Over) (c : After-store_range g) → StoresFragment g.C.Canvas.mark (tools_scene c.args.tools.now) (paint_tools c.args.tools.now.dir.now c.textures.result.now c.colormap.result.0) c.args.seg c.args.first c.args.last
+    c.facts_of-facts.result c.args.self.now c.store_range.new.tools.planes.now c.store_range.new.self (tools_state g.S.Shelf.view g.C.Canvas.view c.args.tools.now)
+    (paint_state (g.S.Shelf.view c.store_range.new.tools.shelf.now) c.store_range.new.tools.cache.now (g.C.Canvas.view c.store_range.new.tools.canvas.now)) c.store_range.result
+stored g c =
+    let e = c.store_range.ensures in
+    let t = c.args.tools.now in
+    let b = c.args.self.now in
+    record {
+      tools = ap (λ (textures : TexturesView). paint_tools t.dir.now textures c.colormap.result.0) c.textures.ensures ∙ ap (paint_tools t.dir.now (textures_view t.scene.now.scene)) c.colormap.ensures;
+      takes = record {
+        there = c.requires.there;
+        facts_are = c.facts_of-facts.ensures.facts;
+        limit = e.limit;
+        limits = same_limits b.walls c.store_range.new.self b.planes c.store_range.new.tools.planes.now e.room e.planes_room;
+        full = λ n. (ap limit_of_result (e.past n), ((e.past_tools n).same_planes, e.past_state n));
+      };
+      paints = e.paints;
+      past = λ n. (e.past n, e.past_tools n);
+    }
 
 -- what it paints, by the answer that its own is turned into
 painted : (g : Over) (c : After-store_range g) (whole : Result (Unit {0}) ViewFault) → IsMapped from_draw c.store_range.result whole → (most : Limits) (events : List Event) →
@@ -42,26 +53,15 @@ painted : (g : Over) (c : After-store_range g) (whole : Result (Unit {0}) ViewFa
     (paint_state (g.S.Shelf.view c.store_range.new.tools.shelf.now) c.store_range.new.tools.cache.now (g.C.Canvas.view c.store_range.new.tools.canvas.now)) whole
 painted g c whole mapped most events walked =
     let t = c.args.tools.now in
-    let e = c.store_range.ensures in
     let ready = facts-ready t.dir.now.lumps t.scene.now.scene t.cache.now (surface_at (lists_of t.scene.now.scene) c.args.self.now.sector) c.args.seg c.facts_of-facts.result c.requires.drawable c.facts_of-facts.ensures.sound c.requires.there.0 c.facts_of-facts.ensures.facts in
-    paints-fragment (tools_scene t) c.textures.result.now c.colormap.result.0 most events c.args.seg c.args.first c.args.last c.facts_of-facts.result c.args.self.now _ _ c.store_range.result whole
-    (record {
-      paints = record {
-        painted = λ contents count q hold behind. e.painted q.0 q.1 contents count behind.0 behind.1 hold;
-        fits = λ contents count q hold behind. e.fits q.0 q.1 contents count behind.0 behind.1 hold;
-        draws = e.paints;
-        place = e.place;
-      };
-      past = λ n. (e.past n, (e.past_tools n).same_canvas);
-    })
-    c.textures.ensures c.colormap.ensures mapped ready walked c.facts_of-facts.ensures.facts
+    paints-fragment (tools_scene t) most events c.args.seg c.args.first c.args.last c.facts_of-facts.result c.args.self.now _ _ _ _ c.store_range.result whole (stored g c) mapped ready walked
 
 pub returns-in_err-store_range-clause-over : goal.returns-in_err-store_range-clause-over
 returns-in_err-store_range-clause-over g c = λ bytes most events h.
     told-over _ c.in_err-store_range.field-0.0 c.from_residual.result c.from_residual.ensures.1
     (sym (ap limit_of_result c.in_err-store_range.was)
     ∙ over-fragment c.args.tools.now.view.now bytes c.args.tools.now.scene.now.scene most events c.args.seg c.args.first c.args.last c.facts_of-facts.result c.args.self.now c.store_range.new.tools.planes.now c.store_range.new.self
-    (limit_of_result c.store_range.result) (taken g (goal.at.returns-in_err-store_range-clause-over g c).After-store_range) h)
+    (limit_of_result c.store_range.result) (stored g (goal.at.returns-in_err-store_range-clause-over g c).After-store_range).takes h)
 
 pub returns-in_err-store_range-clause-paints : goal.returns-in_err-store_range-clause-paints
 returns-in_err-store_range-clause-paints g c =
@@ -74,7 +74,7 @@ returns-clause-walked g c = λ bytes most events h.
     let tall : c.args.tools.now.view.now.shape.height ≤ FRAME_HEIGHT = omega arith in
     ok-through _ c.store_range.result c.in_ok-store_range.field-0 c.in_ok-store_range.was
     (walked-range c.args.tools.now.view.now bytes c.args.tools.now.scene.now.scene most events c.args.seg c.args.first c.args.last c.facts_of-facts.result c.args.self.now c.store_range.new.tools.planes.now c.store_range.new.self c.store_range.result tall
-    (taken g (goal.at.returns-clause-walked g c).After-store_range) c.store_range.ensures.built h)
+    (stored g (goal.at.returns-clause-walked g c).After-store_range).takes c.store_range.ensures.built h)
 
 pub returns-clause-paints : goal.returns-clause-paints
 returns-clause-paints g c =

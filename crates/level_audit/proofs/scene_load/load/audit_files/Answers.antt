@@ -1,11 +1,9 @@
 use Rattle.std.proofs.Common.{◌≡◌, ◌<◌, ap, sym, subst, ◌∙◌, length, Ok, inl, inr, arith}
-use Rattle.art_rules.specs.Words.{itself, lump_at, lump_bytes}
+use Rattle.level_audit.specs.Rules.{KeepsOrder, SceneValue, itself, level_job_value, lump_at, lump_bytes}
 use Rattle.art_rules.proofs.Laws.{all_stand_later, follows_then}
-use Rattle.scene_rules.specs.Words.{KeepsOrder, SceneValue}
 use Rattle.scene_rules.proofs.Laws.{order_then}
 use Rattle.texture_build.specs.Caches.{IsAtRest}
 use Rattle.texture_build.proofs.SizeLemmas.{sizes_empty}
-use Rattle.job_rules.specs.LevelJobs.{level_job_value}
 use Rattle.job_files.specs.Files.{value_of}
 use Rattle.sound_scene.specs.Sound.{SoundValue}
 use Rattle.sound_scene.specs.Whole.{IsWholeScene}

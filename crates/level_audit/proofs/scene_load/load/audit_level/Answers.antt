@@ -1,7 +1,5 @@
-use Rattle.art_rules.specs.Words.{itself, lump_bytes}
+use Rattle.level_audit.specs.Rules.{KeepsOrder, itself, level_job_value, lump_bytes}
 use Rattle.art_rules.proofs.Laws.{ok_through}
-use Rattle.scene_rules.specs.Words.{KeepsOrder}
-use Rattle.job_rules.specs.LevelJobs.{level_job_value}
 use Rattle.refusals.specs.Groups.{of_audit}
 use Rattle.job_files.specs.Files.{value_of}
 use Rattle.level_audit.specs.scene_load.Fulls.{IsFullOver}

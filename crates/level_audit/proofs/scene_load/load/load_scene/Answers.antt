@@ -1,8 +1,7 @@
 use Rattle.std.proofs.Common.{Bor, ℕ, List, map, refl, ◌∙◌, arith}
 use Rattle.art_rules.proofs.Laws.{all_stand_later, follows_then}
-use Rattle.scene_rules.specs.Words.{IsInOrder, KeepsOrder}
+use Rattle.level_audit.specs.Rules.{IsInOrder, KeepsOrder, level_job_value}
 use Rattle.texture_build.specs.Calls.{HoldContents}
-use Rattle.job_rules.specs.LevelJobs.{level_job_value}
 use Rattle.job_files.specs.Files.{value_of}
 use Rattle.level_audit.specs.scene_load.Fulls.{IsFullLoad}
 use Rattle.level_audit.specs.scene_load.Loads.{audited_value}

@@ -1,8 +1,6 @@
 use Rattle.std.proofs.Common.{◌≡◌, ◌<◌, ◌∙◌, ap, subst, refl, ℕ, Result, Ok, Err, None}
 use Rattle.std.specs.Prelude.{All, IfErr, IsErr, OnErr, OnOk}
-use Rattle.zone_rules.specs.declared.Tag.TheVariants.{Level}
-use Rattle.zone_rules.specs.Zones.{Heap, owner_at, owned_block, same_owner, block_size}
-use Rattle.zone_rules.specs.Requests.{TakesBlock, gaps, total, widest}
+use Rattle.lump_cache.specs.Rules.{Heap, Level, TakesBlock, block_size, gaps, owned_block, owner_at, same_owner, total, widest}
 use Rattle.zone_heap.specs.declared.zone.ZoneFull.{ZoneFull}
 use Rattle.lump_cache.specs.Caches.{NoRoom, composite_owner}
 use Rattle.lump_cache.specs.Fetches.{RequestsBlock}

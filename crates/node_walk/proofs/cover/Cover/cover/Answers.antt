@@ -1,5 +1,4 @@
-use Rattle.word_rules.proofs.Common.{ap, arith, Bool, IsTrue, length, List, subst, sym, ℕ, ◌*◌, ◌+◌, ◌<◌, ◌∙◌, ◌≡◌, ◌≤◌}
-use Rattle.node_walk.specs.declared.ranges.Range.{Range}
+use Rattle.word_rules.proofs.Common.{ap, arith, Bool, length, List, sym, ◌<◌, ◌∙◌, ◌≤◌}
 use Rattle.node_walk.specs.Ranges.{columns_of, are_apart, with_range}
 use Rattle.level_rules.specs.walk.Covered.{cover}
 use Rattle.node_walk.proofs.RangeLemmas.{apart_parts, apart_test, length-apart, length-columns_of, with_range-apart, with_range-cover}

@@ -1,5 +1,5 @@
 use Rattle.std.proofs.Common.{◌≤◌, List, Bool, length, ap, ◌∙◌, arith}
-use Rattle.node_walk.specs.Ranges.{columns_of, are_apart, range_gaps}
+use Rattle.node_walk.specs.Ranges.{are_apart, range_gaps}
 use Rattle.level_rules.specs.walk.Covered.{fragments}
 use Rattle.node_walk.proofs.RangeLemmas.{apart_parts, apart_test, apart_wider, column_within, length-columns_of}
 use Rattle.node_walk.proofs.GapLemmas.{gaps-fragments}

@@ -1,5 +1,5 @@
 use Rattle.std.proofs.Common.{List, Bool, ap, ◌∙◌}
-use Rattle.node_walk.specs.Ranges.{hides_in, columns_of}
+use Rattle.node_walk.specs.Ranges.{hides_in}
 use Rattle.level_rules.specs.walk.Covered.{hides}
 use Rattle.node_walk.proofs.RangeLemmas.{apart_parts, column_within}
 use Rattle.node_walk.proofs.GapLemmas.{hides_in-hides}

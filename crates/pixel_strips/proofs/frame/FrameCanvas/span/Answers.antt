@@ -1,6 +1,5 @@
 use Rattle.word_rules.proofs.Common.{ap, arith, List, with_items_is, ℕ, ◌∙◌}
-use Rattle.pixel_rules.specs.Dots.{put_dots}
-use Rattle.pixel_rules.specs.Strips.{span_dots}
+use Rattle.pixel_strips.specs.Rules.{put_dots, span_dots}
 use Rattle.pixel_strips.specs.Canvases.{CanvasView, with_dots, marked_by_colour}
 use Rattle.pixel_strips.specs.Strips.{cut_row_colour}
 use Rattle.pixel_strips.proofs.CanvasLemmas.{view_with}

@@ -1,6 +1,5 @@
 use Rattle.art_rules.proofs.Common.{Contains, List, map, subst, sym, ℕ, ◌↔◌}
-use Rattle.art_rules.specs.Words.{book_lumps, LumpNo}
-use Rattle.art_rules.specs.declared.shapes.Frame.{Frame}
+use Rattle.sprite_book.specs.Rules.{Frame, LumpNo, book_lumps}
 use Rattle.sprite_book.proofs.book.SpriteBook.pictures.Goals as goal
 
 pub returns-clause-lumps : goal.returns-clause-lumps

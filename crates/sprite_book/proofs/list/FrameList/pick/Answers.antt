@@ -1,6 +1,5 @@
 use Rattle.art_rules.proofs.Common.{ap, arith, length, rules, slice_get, sym, vec_len, ◌<◌, ◌∙◌, ◌≡◌}
-use Rattle.art_rules.specs.declared.shapes.Frame.{Frame}
-use Rattle.art_rules.specs.Words.{is_frame}
+use Rattle.sprite_book.specs.Rules.{Frame, is_frame}
 use Rattle.sprite_book.proofs.ListLemmas.{place_below, picked_found, picked_none}
 use Rattle.sprite_book.proofs.list.FrameList.pick.Goals as goal
 

@@ -1,6 +1,5 @@
 use Rattle.art_rules.proofs.Common.{ap, get_or_default, is_some, length, subst, sym, ◌<◌, ◌∙◌}
-use Rattle.art_rules.specs.declared.ColumnLookup.TheVariants.{Empty}
-use Rattle.art_rules.specs.Words.{is_single, is_single_lookup, PreparedTexture, single_place}
+use Rattle.texture_build.specs.Rules.{Empty, PreparedTexture, is_single, is_single_lookup, single_place}
 use Rattle.art_rules.proofs.LookupLemmas.{columns_of-single}
 use Rattle.texture_build.specs.Sources.{own_lookup}
 use Rattle.texture_build.proofs.prepared.PreparedTexture.is_single.Goals as goal

@@ -1,7 +1,5 @@
 use Rattle.art_rules.proofs.Common.{ap, List, slice_index_or, subst, sym, ◌∙◌}
-use Rattle.art_rules.specs.declared.ColumnLookup.{ColumnLookup}
-use Rattle.art_rules.specs.declared.ColumnLookup.TheVariants.{Empty}
-use Rattle.art_rules.specs.Words.{PreparedTexture}
+use Rattle.texture_build.specs.Rules.{ColumnLookup, Empty, PreparedTexture}
 use Rattle.texture_build.specs.Sources.{IsColumnThere}
 use Rattle.texture_build.specs.Views.{ArePatchesThere}
 use Rattle.texture_build.proofs.ColumnLemmas.{column_there}

@@ -1,6 +1,5 @@
 use Rattle.std.proofs.Common.{ap, ◌∙◌, refl, sym, inl, inr, Ok}
-use Rattle.art_rules.specs.Words.{and_then, named_bytes, OutOfMemory, texture_lists}
-use Rattle.art_rules.specs.declared.TheConstants.{PNAMES, TEXTURE1, TEXTURE2}
+use Rattle.texture_lists.specs.Rules.{OutOfMemory, PNAMES, TEXTURE1, TEXTURE2, and_then, named_bytes, texture_lists}
 use Rattle.lump_cache.proofs.CallLemmas.{reads_as, reads_same, reads_short, reads_stop_first, reads_then}
 use Rattle.lump_cache.proofs.SizeLemmas.{either_beside}
 use Rattle.texture_lists.proofs.PartLemmas.{texture_lists-stop, texture_lists-more, then_lists, with_names}

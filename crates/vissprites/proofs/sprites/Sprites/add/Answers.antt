@@ -1,6 +1,5 @@
 use Rattle.picture_rules.proofs.Common.{AllPass, ap, length, List, rules, Some, subst, sym, vec_len, ◌∙◌, ◌≡◌}
-use Rattle.picture_rules.specs.declared.sprite.SpriteEntry.{SpriteEntry}
-use Rattle.picture_rules.specs.Words.{with_entry}
+use Rattle.vissprites.specs.Rules.{SpriteEntry, with_entry}
 use Rattle.vissprites.specs.Bounds.{lies_within, has_lump_below}
 use Rattle.vissprites.proofs.BoundLemmas.{add-all, entry_for-lies_within, entry_for-lump}
 use Rattle.vissprites.proofs.KeptLemmas.{length-made_order, with_entry-none, add-entry}

@@ -1,6 +1,5 @@
 use Rattle.picture_rules.proofs.Common.{AllPass, IsSortedBy, IsStableBy, List, rules, subst, sym, ◌≡◌}
-use Rattle.picture_rules.specs.declared.sprite.SpriteEntry.{SpriteEntry}
-use Rattle.picture_rules.specs.Words.{draw_order, is_smaller}
+use Rattle.vissprites.specs.Rules.{SpriteEntry, draw_order, is_smaller}
 use Rattle.picture_rules.proofs.sprite.OrderLemmas.{draw_order-sorted, draw_order-stable}
 use Rattle.vissprites.proofs.BoundLemmas.{draw_order-all}
 use Rattle.vissprites.proofs.sprites.Sprites.sorted.Goals as goal

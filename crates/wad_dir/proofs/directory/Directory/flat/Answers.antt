@@ -1,6 +1,5 @@
 use Rattle.word_rules.proofs.Common.{length, rules, ◌&&◌}
-use Rattle.lump_rules.specs.declared.names.Group.TheVariants.{Flats}
-use Rattle.lump_rules.specs.Lookups.{has_name, is_member}
+use Rattle.wad_dir.specs.Rules.{Flats, has_name, is_member}
 use Rattle.wad_dir.proofs.IndexLemmas.{found_there}
 use Rattle.wad_dir.proofs.directory.Directory.flat.Goals as goal
 

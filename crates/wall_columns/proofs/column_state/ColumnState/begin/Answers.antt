@@ -1,7 +1,9 @@
 -- The openings are taken, and then the planes are checked: the first count past its room is told.
-use Rattle.std.proofs.Common.{ℕ, ◌+◌, ◌-◌, length, ◌∙◌}
+use Rattle.std.proofs.Common.{ℕ, ◌+◌, ◌-◌, length, subst, sym, ◌∙◌}
+use Rattle.wall_columns.specs.Columns.{HasTaken}
 use Rattle.wall_columns.specs.Leaves.{checks_over}
 use Rattle.wall_columns.specs.Places.{places_of}
+use Rattle.wall_columns.specs.Saved.{OpeningsView}
 use Rattle.wall_columns.proofs.LeafLemmas.{limit-passed_on}
 use Rattle.wall_columns.proofs.OverLemmas.{openings_over-stop, openings_over-next, same_now}
 use Rattle.wall_columns.proofs.column_state.ColumnState.begin.Goals as goal
@@ -29,3 +31,8 @@ returns-clause-limit c = λ s e.
     let end : ℕ = (places_of c.args.numbers.now (length c.args.self.now.openings.saved) (c.args.last + 1 - c.args.first)).end in
     c.in_ok-check_planes.ensures.limit s (e ∙ same_now c.args.self.now c.take_openings.new.self c.args.planes.now c.in_ok-places.ensures.floor c.in_ok-places.ensures.ceiling)
     ∙ openings_over-next c.args.self.now.openings.room end (checks_over c.args.planes.now.room c.args.numbers.now c.args.first c.args.last s) c.in_ok-places.ensures.limit
+
+pub returns-clause-taken : goal.returns-clause-taken
+returns-clause-taken c =
+    subst (λ (openings : OpeningsView). HasTaken c.args.numbers.now (c.args.last + 1 - c.args.first) c.args.self.now.openings openings c.in_ok-places.places)
+    (sym c.in_ok-check_planes.ensures.openings) c.in_ok-places.ensures.taken

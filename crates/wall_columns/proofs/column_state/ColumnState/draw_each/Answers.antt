@@ -1,9 +1,6 @@
 -- A column more is marked, painted and saved.
 use Rattle.std.proofs.Common.{◌≡◌, ◌<◌, ◌+◌, ℕ, length, Ok, Err, ap, sym, refl, subst, ◌∙◌, arith}
-use Rattle.picture_rules.specs.Words.{edges_at, FRAME_WIDTH, texture_column, ViewValue}
-use Rattle.picture_rules.specs.declared.wall.ColumnClip.{ColumnClip}
-use Rattle.picture_rules.specs.declared.wall.Edges.{Edges}
-use Rattle.picture_rules.specs.declared.wall.WallFacts.{WallFacts}
+use Rattle.wall_columns.specs.Rules.{ColumnClip, Edges, FRAME_WIDTH, ViewValue, WallFacts, edges_at, texture_column}
 use Rattle.texture_build.specs.Paints.{painted_art}
 use Rattle.texture_build.proofs.PaintLemmas.{paints-none, paints-same, paints-then, paints-then_stop}
 use Rattle.visplanes.specs.Planes.{PlanesView}

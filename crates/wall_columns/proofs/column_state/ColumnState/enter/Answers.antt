@@ -42,8 +42,8 @@ returns-clause-limit c = λ s e.
     let room = c.in_ok-self.ensures.room in
     sym (counts.none c.in_ok-self.ensures.full.1 (λ l. c.in_ok-self-2.ensures.full.1 (omega arith)))
 
-pub returns-clause-floor : goal.returns-clause-floor
-returns-clause-floor c =
+pub returns-clause-leaf : goal.returns-clause-leaf
+returns-clause-leaf c =
     let longer = longer_found c.find_plane.new.planes.planes c.args.leaf.ceiling in
     let e = ap (λ (ps : PlanesView). length ps.planes) c.in_ok-self-2.ensures.ok in
-    among-longer (plane_number c.in_ok-self.field-0) c.find_plane.new.planes.planes c.find_plane-2.new.planes.planes c.in_ok-self.ensures.among (omega arith)
+    (among-longer (plane_number c.in_ok-self.field-0) c.find_plane.new.planes.planes c.find_plane-2.new.planes.planes c.in_ok-self.ensures.among (omega arith), c.in_ok-self-2.ensures.among)

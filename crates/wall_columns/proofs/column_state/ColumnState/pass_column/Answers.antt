@@ -1,7 +1,6 @@
 -- The rows that are marked are rows of a frame, and the window stays in its ranges.
 use Rattle.std.proofs.Common.{ap, ◌∙◌}
-use Rattle.picture_rules.specs.declared.wall.ColumnClip.{ColumnClip}
-use Rattle.picture_rules.specs.Words.{ceiling_rows, floor_rows}
+use Rattle.wall_columns.specs.Rules.{ColumnClip, ceiling_rows, floor_rows}
 use Rattle.wall_columns.specs.declared.clips.ColumnPlan.{ColumnPlan}
 use Rattle.wall_columns.specs.Plans.{plan_of}
 use Rattle.wall_columns.proofs.MarkLemmas.{marked-planes}

@@ -24,10 +24,14 @@ returns-in_err-extend-clause-limit c =
     ∙ ap (λ (n : ℕ). Some (openings_count n)) e
     ∙ sym (openings_over-passed room _ None (let l : room < c.save_places-places.result.end = c.in_err-extend.ensures.full.0 refl in omega arith))
 
-pub returns-clause-within : goal.returns-clause-within
-returns-clause-within c =
-    places_of-within c.args.numbers.now c.count.result (c.args.last + 1 - c.args.first) (length c.extend.new.self.saved) c.save_places-places.result
-    c.save_places-places.ensures (let l : length c.extend.new.self.saved ≡ c.save_places-places.result.end = c.in_ok-extend.ensures.length in omega arith)
+pub returns-clause-taken : goal.returns-clause-taken
+returns-clause-taken c = record {
+  are = c.save_places-places.ensures ∙ ap (λ (used : ℕ). places_of c.args.numbers.now used (c.args.last + 1 - c.args.first)) c.count.ensures.value;
+  within = places_of-within c.args.numbers.now c.count.result (c.args.last + 1 - c.args.first) (length c.extend.new.self.saved) c.save_places-places.result
+      c.save_places-places.ensures (let l : length c.extend.new.self.saved ≡ c.save_places-places.result.end = c.in_ok-extend.ensures.length in omega arith);
+  count = c.in_ok-extend.ensures.length;
+  front = c.in_ok-extend.ensures.front;
+}
 
 pub returns-clause-limit : goal.returns-clause-limit
 returns-clause-limit c =

@@ -1,8 +1,7 @@
 use Rattle.std.proofs.Common.{◌≡◌, ◌∙◌, ap, ap₂, sym, subst, refl, map, option_map, List, ℕ, length, arith}
 use Rattle.std.specs.Vec.{with_items}
 use Rattle.std.proofs.lemmas.List.{with_items_is}
-use Rattle.zone_rules.specs.Zones.{Heap, Owner, IsSound, owner_at, owned_block}
-use Rattle.zone_rules.specs.Frees.{retag_block}
+use Rattle.zone_heap.specs.Rules.{Heap, IsSound, Owner, owned_block, owner_at, retag_block}
 use Rattle.zone_rules.proofs.ChangeLemmas.{with_tag_sound}
 use Rattle.zone_rules.proofs.OwnerLemmas.{owned_block-map, owned_retagged_others, retag_held}
 use Rattle.zone_heap.specs.View.{heap_of}

@@ -2,9 +2,7 @@ use Rattle.std.proofs.Common.{arith, ◌≡◌, ◌∙◌, ap, ap₂, sym, subst
 use Rattle.std.specs.Vec.{with_items}
 use Rattle.std.proofs.lemmas.List.{with_items_is}
 use Rattle.zone_heap.specs.View.{heap_of}
-use Rattle.zone_rules.specs.Zones.{Heap, Owner, IsSound, owner_at, owned_block}
-use Rattle.zone_rules.specs.Requests.{join_free, place_around}
-use Rattle.zone_rules.specs.Frees.{free_owner, without_block}
+use Rattle.zone_heap.specs.Rules.{Heap, IsSound, Owner, free_owner, join_free, owned_block, owner_at, place_around, without_block}
 use Rattle.zone_rules.proofs.SoundLemmas.{without_block_sound}
 use Rattle.zone_rules.proofs.OwnerLemmas.{owned_freed, owned_freed_others}
 use Rattle.zone_heap.specs.Regions.{blocks_in, IsRing}

@@ -5,11 +5,9 @@ use Rattle.std.proofs.lemmas.List.{with_items_is}
 use Rattle.std.specs.Prelude.{IsNone, IsErr, All}
 use Rattle.std.specs.Result.{result_ok}
 use Rattle.zone_heap.specs.View.{heap_of, IsZone}
-use Rattle.zone_rules.specs.Zones.{is_purgeable, Block, owned_block, Heap, Holding, Owner, IsSound, Lacks, owner_at, block_size, slot_count, holding_of}
-use Rattle.zone_rules.specs.Requests.{after_search, passed_blocks, block_left, cap_count, without_room, with_block, take_at, TakesBlock, place_around, place_after, gaps, widest, total, first_room, stretches, purge_count, count_among}
+use Rattle.zone_heap.specs.Rules.{Block, Heap, Holding, IsSound, Lacks, Owner, RoomAt, TakesBlock, after_search, block_left, block_size, cap_count, count_among, first_room, gaps, holding_of, is_purgeable, owned_block, owner_at, passed_blocks, place_after, place_around, purge_count, slot_count, stretches, take_at, total, widest, with_block, without_room}
 use Rattle.zone_heap.specs.declared.search.NoRoom.{NoRoom}
 use Rattle.zone_heap.specs.Walks.{widest_from}
-use Rattle.zone_rules.specs.Rooms.{RoomAt}
 use Rattle.zone_rules.proofs.TakeLemmas.{InRange}
 use Rattle.zone_rules.proofs.SoundLemmas.{lacked, without_room_sound, with_block_sound, in_range_of, full_none, full_some}
 use Rattle.zone_heap.proofs.WalkLemmas.{widest_is}
