@@ -295,11 +295,12 @@ class Build(unittest.TestCase):
         self.assertEqual(sorted(self.seconds()), ['left', 'low', 'right'])
         self.builds()
         self.assertEqual(sorted(self.seconds()), sorted(ORDER))
-        old = dict.fromkeys(ORDER, 0.0)
-        self.write('out/seconds.csv', 'crate,seconds\n' + ''.join(f'{crate},0\n' for crate in old))
+        unmeasured = -1  # no build takes that, however fast the machine is
+        self.write('out/seconds.csv', 'crate,seconds\n' + ''.join(f'{crate},{unmeasured}\n' for crate in ORDER))
         self.write('crates/left/src/lib.rt', 'changed')
         self.builds()
-        self.assertEqual({crate for crate, seconds in self.seconds().items() if not seconds}, {'low', 'right'})
+        self.assertEqual({crate for crate, seconds in self.seconds().items() if seconds == unmeasured},
+                         {'low', 'right'})
 
     def test_damaged_seconds(self):
         """A build does without its notes."""
