@@ -115,7 +115,7 @@ class Build(unittest.TestCase):
 
     def waiting(self):
         """The process of an rt that waits."""
-        for _ in range(1000):
+        for _ in range(3000):
             for line in self.calls():
                 if line.startswith('waiting '):
                     return int(line.split()[1])
