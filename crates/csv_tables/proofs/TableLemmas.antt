@@ -3,7 +3,7 @@ use Rattle.std.proofs.Common.{◌≡◌, ℕ, zero, suc, ◌+◌, ◌<◌, ◌�
 use Rattle.std.proofs.lemmas.Bool.Decides.{nat_tests}
 use Rattle.csv_tables.specs.declared.fault.CsvRefusal.{CsvRefusal}
 use Rattle.csv_tables.specs.declared.fault.CsvRefusal.TheVariants.{Header, TooMany}
-use Rattle.csv_tables.specs.declared.path.PathRow.{PathRow}
+use Rattle.view_rules.specs.declared.Eye.{Eye}
 use Rattle.csv_tables.specs.declared.path.TheConstants.{MAX_VIEWS}
 use Rattle.level_rules.specs.declared.ThingLine.{ThingLine}
 use Rattle.csv_tables.specs.declared.things.TheConstants.{MAX_THINGS, THING_WIDTH}
@@ -65,7 +65,7 @@ weapons_of_records-first (suc n) (head ∷ rows) l =
 
 -- a table read from the first records of a file that is not too long
 module _ (bytes : List ℕ) (records : List (List (List ℕ))) (whole : table_records bytes ≡ Ok (csv_records bytes)) where
-  pub path_in-first : (r : Result (List PathRow) CsvRefusal) → records ≡ take (MAX_VIEWS + 2) (csv_records bytes) → path_of_records records ≡ r → path_in bytes ≡ r
+  pub path_in-first : (r : Result (List Eye) CsvRefusal) → records ≡ take (MAX_VIEWS + 2) (csv_records bytes) → path_of_records records ≡ r → path_in bytes ≡ r
   unfolding path_in
   path_in-first r first e = rw whole (sym (path_of_records-first (MAX_VIEWS + 2) (csv_records bytes) (omega arith)) ∙ ap path_of_records (sym first) ∙ e)
 

@@ -2,14 +2,14 @@
 use Rattle.std.specs.Prelude.{ℕ, ◌≤◌, cond, ◌==◌, List, [], ◌∷◌, Result, Ok, Err, codes}
 use Rattle.csv_tables.specs.declared.fault.CsvRefusal.{CsvRefusal}
 use Rattle.csv_tables.specs.declared.fault.CsvRefusal.TheVariants.{Header}
-use Rattle.csv_tables.specs.declared.path.PathRow.{PathRow}
+use Rattle.view_rules.specs.declared.Eye.{Eye}
 use Rattle.csv_tables.specs.declared.path.TheConstants.{LIT_WIDTH, MAX_ANGLE, MAX_COLORMAP, MAX_EXTRALIGHT, MAX_VIEWS, PLAIN_WIDTH}
 use Rattle.csv_tables.specs.Records.{then_checked, is_header, checked_shape, table_records}
 use Rattle.csv_tables.specs.Columns.{natural_column, place_column}
 use Rattle.csv_tables.specs.Rows.{rows_after}
 
 -- the light of a view is within its range
-abbrev pub HasLightInRange : PathRow → Type 0
+abbrev pub HasLightInRange : Eye → Type 0
 HasLightInRange view = (view.extralight ≤ MAX_EXTRALIGHT) × (view.colormap ≤ MAX_COLORMAP)
 
 abbrev pub plain_header : List (List ℕ)
@@ -27,7 +27,7 @@ unfoldable pub light_column : ℕ → ℕ → ℕ → ℕ → List (List ℕ) �
 light_column width row column high fields = cond (width == PLAIN_WIDTH) (Ok 0) (natural_column row column high fields)
 
 -- the view of a row with the right number of fields, its columns from left to right
-unfoldable pub view_of_fields : ℕ → ℕ → List (List ℕ) → Result PathRow CsvRefusal
+unfoldable pub view_of_fields : ℕ → ℕ → List (List ℕ) → Result Eye CsvRefusal
 view_of_fields width row fields =
     then_checked (place_column row 0 fields) (λ x.
     then_checked (place_column row 1 fields) (λ y.
@@ -37,17 +37,17 @@ view_of_fields width row fields =
     then_checked (light_column width row 5 MAX_COLORMAP fields) (λ colormap.
     Ok (record { x = x; y = y; z = z; angle = angle; extralight = extralight; colormap = colormap })))))))
 
-unfoldable pub path_row : ℕ → ℕ → List (List ℕ) → Result PathRow CsvRefusal
+unfoldable pub path_row : ℕ → ℕ → List (List ℕ) → Result Eye CsvRefusal
 path_row width row fields = then_checked (checked_shape MAX_VIEWS width row fields) (λ _. view_of_fields width row fields)
 
-abbrev pub path_rows : ℕ → List (List (List ℕ)) → Result (List PathRow) CsvRefusal
+abbrev pub path_rows : ℕ → List (List (List ℕ)) → Result (List Eye) CsvRefusal
 path_rows width rows = rows_after (λ _. path_row width) [] rows
 
 -- the header and the rows under it
-unfoldable pub path_of_records : List (List (List ℕ)) → Result (List PathRow) CsvRefusal
+unfoldable pub path_of_records : List (List (List ℕ)) → Result (List Eye) CsvRefusal
 path_of_records [] = Err Header
 path_of_records (head ∷ rows) = then_checked (path_width head) (λ width. path_rows width rows)
 
 -- the views of a file, or its first refusal
-unfoldable pub path_in : List ℕ → Result (List PathRow) CsvRefusal
+unfoldable pub path_in : List ℕ → Result (List Eye) CsvRefusal
 path_in bytes = then_checked (table_records bytes) path_of_records

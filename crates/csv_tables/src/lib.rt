@@ -14,8 +14,9 @@ mod things;
 mod weapons;
 
 pub use crate::fault::{CsvFault, CsvRefusal};
-pub use crate::path::{PathRow, PathTable};
+pub use crate::path::PathTable;
 pub use crate::records::MAX_TABLE_BYTES;
 pub use crate::things::ThingTable;
 pub use crate::weapons::{WeaponRow, WeaponTable};
 pub use level_rules::{ThingLine, ThingRow};
+pub use view_rules::Eye as PathRow;

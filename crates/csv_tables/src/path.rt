@@ -3,7 +3,6 @@
 ghost use Rattle.std.specs.Prelude.{◌≡◌, ◌≤◌, ◌+◌, List, length, IfOk, map, Result, Ok, Err, All};
 ghost use Rattle.csv.specs.Records.{fields_of};
 ghost use Rattle.csv_tables.specs.Records.{IsRefusedAs};
-ghost use Rattle.csv_tables.specs.declared.path.PathRow.{PathRow};
 ghost use Rattle.csv_tables.specs.declared.path.TheConstants.{MAX_VIEWS};
 ghost use Rattle.csv_tables.specs.Paths.{HasLightInRange, light_column, path_in, path_of_records, path_row, path_rows, path_width, view_of_fields};
 
@@ -13,6 +12,7 @@ use crate::records::{BESIDE_ROWS, checked_shape, is_header, table_records};
 use csv::ByteRecord;
 use std::alloc::Global;
 use std::marker::Model;
+use view_rules::Eye;
 
 /// The most views of a path.
 pub const MAX_VIEWS: u64 = 10_000;
@@ -29,33 +29,19 @@ pub const MAX_EXTRALIGHT: u8 = 15;
 
 pub const MAX_COLORMAP: u8 = 32;
 
-/// A view of a path: the viewpoint in map units (16.16), its angle (BAM), the extra light, 0 to
-/// 15, and the fixed colormap, 0 to 32, where 0 fixes none.
-///
-/// The original: `viewx` to `extralight` and `fixedcolormap`, r_main.c.
-#[derive(Clone, Copy, Debug, PartialEq, Eq)]
-pub struct PathRow {
-    pub x: i32,
-    pub y: i32,
-    pub z: i32,
-    pub angle: u32,
-    pub extralight: u8,
-    pub colormap: u8,
-}
-
 /// The views of a path, in order.
 #[derive(Drop)]
 pub struct PathTable {
-    rows: Vec<PathRow>,
+    rows: Vec<Eye>,
 }
 
 impl Model for PathTable {
     ghost use Rattle.std.specs.Prelude.{◌≤◌, List, All, length};
-    ghost use Rattle.csv_tables.specs.declared.path.PathRow.{PathRow};
+    ghost use Rattle.view_rules.specs.declared.Eye.{Eye};
     ghost use Rattle.csv_tables.specs.declared.path.TheConstants.{MAX_VIEWS};
     ghost use Rattle.csv_tables.specs.Paths.{HasLightInRange};
 
-    ghost Value = { List PathRow };
+    ghost Value = { List Eye };
 
     ghost view = { λ t. t.rows.items };
 
@@ -83,7 +69,7 @@ impl PathTable {
     }
 
     /// The views in the order of the file, at most 10,000. Takes no memory.
-    pub fn views(&self) -> &[PathRow]
+    pub fn views(&self) -> &[Eye]
         ensures value { result.now ≡ self.now }
         ensures few { length result.now ≤ MAX_VIEWS }
         ensures light { All HasLightInRange result.now }
@@ -94,7 +80,7 @@ impl PathTable {
 
 // The views of the header's record and those after it.
 #[tactic(auto, unfolding(crate::specs::Paths::path_of_records))]
-fn path_of_records(alloc: Global, records: &[ByteRecord]) -> Result<Vec<PathRow>, CsvFault>
+fn path_of_records(alloc: Global, records: &[ByteRecord]) -> Result<Vec<Eye>, CsvFault>
     ensures ok { IfOk result (λ v. path_of_records (map fields_of records.now) ≡ Ok v.items) }
     ensures few { IfOk result (λ v. length v.items ≤ MAX_VIEWS) }
     ensures light { IfOk result (λ v. All HasLightInRange v.items) }
@@ -127,7 +113,7 @@ fn path_width(head: &ByteRecord) -> Result<usize, CsvRefusal>
 }
 
 // The views of the rows.
-fn path_rows(alloc: Global, width: usize, rows: &[ByteRecord]) -> Result<Vec<PathRow>, CsvFault>
+fn path_rows(alloc: Global, width: usize, rows: &[ByteRecord]) -> Result<Vec<Eye>, CsvFault>
     ensures ok { IfOk result (λ v. path_rows width (map fields_of rows.now) ≡ Ok v.items) }
     ensures few { IfOk result (λ v. length v.items ≤ MAX_VIEWS) }
     ensures light { IfOk result (λ v. All HasLightInRange v.items) }
@@ -149,7 +135,7 @@ fn path_rows(alloc: Global, width: usize, rows: &[ByteRecord]) -> Result<Vec<Pat
 
 // The view of a row.
 #[tactic(auto, unfolding(crate::specs::Paths::path_row))]
-fn path_row(width: usize, row: u64, fields: &ByteRecord) -> Result<PathRow, CsvRefusal>
+fn path_row(width: usize, row: u64, fields: &ByteRecord) -> Result<Eye, CsvRefusal>
     ensures value { result ≡ path_row width row (fields_of fields.now) }
     ensures within { IfOk result (λ _. row ≤ MAX_VIEWS) }
     ensures light { IfOk result HasLightInRange }
@@ -160,7 +146,7 @@ fn path_row(width: usize, row: u64, fields: &ByteRecord) -> Result<PathRow, CsvR
 
 // The view of a row with the right number of fields.
 #[tactic(auto, unfolding(crate::specs::Paths::view_of_fields))]
-fn view_of_fields(width: usize, row: u64, fields: &ByteRecord) -> Result<PathRow, CsvRefusal>
+fn view_of_fields(width: usize, row: u64, fields: &ByteRecord) -> Result<Eye, CsvRefusal>
     ensures value { result ≡ view_of_fields width row (fields_of fields.now) }
     ensures light { IfOk result HasLightInRange }
 {
@@ -170,7 +156,7 @@ fn view_of_fields(width: usize, row: u64, fields: &ByteRecord) -> Result<PathRow
     let angle = natural_column(row, 3, MAX_ANGLE, fields)?;
     let extralight = light_column(width, row, 4, MAX_EXTRALIGHT, fields)?;
     let colormap = light_column(width, row, 5, MAX_COLORMAP, fields)?;
-    Ok(PathRow {
+    Ok(Eye {
         x,
         y,
         z,

@@ -17,12 +17,11 @@ use Rattle.doom_run.specs.declared.canvas.ViewForm.TheVariants as form
 use Rattle.doom_run.specs.declared.render.ReadyViews.{ReadyViews}
 use Rattle.doom_run.specs.Drawn.{DrawsLayered}
 use Rattle.doom_run.specs.Frames.{IsDrawnAt}
-use Rattle.doom_run.specs.Layers.{SeenView, eye_of, layers_of}
+use Rattle.doom_run.specs.Layers.{SeenView, layers_of, seen_view}
 use Rattle.doom_run.specs.Renders.{DrawsAt, ready_bytes, ready_views}
 use Rattle.doom_run.specs.Views.{ViewsValue, view_bytes}
 use Rattle.doom_run.proofs.FitLemmas.{fits_at}
 use Rattle.doom_run.proofs.FrameLemmas.{over_at-eye, view_get}
-use Rattle.doom_run.proofs.SeenLemmas.{seen_by}
 
 -- View number k is there, it lies in the frame, and all that it shows in it; a canvas that is placed where it
 -- lies was given that, and then its layers.
@@ -39,13 +38,13 @@ on_ok_both (Ok x) f p q = f p q
 on_ok_both (Err e) f p q = tt
 
 -- what a canvas was given of a viewpoint is the view of the number
-has_view : {mark : Painter → ℕ → ℕ} {before now : CanvasView} (bytes : ℕ → List ℕ) (ready : ReadyViews) (k : ℕ) (eye : Eye) → option_map eye_of (slice_get ready.loaded.files.path k) ≡ Some eye →
+has_view : {mark : Painter → ℕ → ℕ} {before now : CanvasView} (bytes : ℕ → List ℕ) (ready : ReadyViews) (k : ℕ) (eye : Eye) → slice_get ready.loaded.files.path k ≡ Some eye →
     IsWithinFrame (view_of ready.loaded.files.tables eye).shape → AreInView (view_of ready.loaded.files.tables eye).shape (overlaid_paints (view_of ready.loaded.files.tables eye) (scene_of bytes ready.loaded.scene.scene) (layers_of (loaded_value ready.loaded) k eye)) →
     HasDots mark (overlaid_paints (view_of ready.loaded.files.tables eye) (scene_of bytes ready.loaded.scene.scene) (layers_of (loaded_value ready.loaded) k eye)) (placed_for (view_of ready.loaded.files.tables eye) before) now →
     HasView mark (ready_views bytes ready) k before now
 unfolding ready_views
 has_view bytes ready k eye at window inside dots = record {
-  seen = seen_by (loaded_value ready.loaded) k eye;
+  seen = seen_view (loaded_value ready.loaded) k eye;
   is = view_get bytes ready k eye at;
   window = window;
   in_view = inside;
@@ -54,7 +53,7 @@ has_view bytes ready k eye at window inside dots = record {
 
 -- what a call drew of a viewpoint is told of the view of the number
 pub draws_at : {mark : Painter → ℕ → ℕ} {view after : ShelfView} {before now : CanvasView} {result : Result (Unit {0}) ViewFault} (k : ℕ) (eye : Eye) (old new : ReadyViews) (canvas : ViewCanvas) →
-    option_map eye_of (slice_get old.loaded.files.path k) ≡ Some eye → EndsWithin (view_of old.loaded.files.tables eye) old.loaded.scene.scene old.shop.limits result →
+    slice_get old.loaded.files.path k ≡ Some eye → EndsWithin (view_of old.loaded.files.tables eye) old.loaded.scene.scene old.shop.limits result →
     EndsOver (view_of old.loaded.files.tables eye) old.loaded.scene.scene old.shop.limits result → DrawsLayered mark k eye view after old.loaded new.loaded before now result →
     new.shop.limits ≡ old.shop.limits → ((r : ViewsValue) → HasView mark r k before now → IsDrawnAt r k canvas) → DrawsAt k view after old new canvas result
 draws_at {result = result} k eye old new canvas at within over paints limits shows = record {

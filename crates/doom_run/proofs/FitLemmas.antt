@@ -1,5 +1,5 @@
 -- What the frames that are due are painted from stands beside COLORMAP.
-use Rattle.picture_rules.proofs.Common.{Bool, IfSome, length, List, None, Option, option_map, refl, slice_get, Some, subst, sym, unwrap_or, ℕ, ◌<◌, ◌≡◌}
+use Rattle.picture_rules.proofs.Common.{Bool, IfSome, length, List, None, Option, refl, slice_get, Some, subst, sym, unwrap_or, ℕ, ◌<◌, ◌≡◌}
 use Rattle.doom_run.specs.Rules.{Eye, OverLimit, ShelfView, lump_bytes, overlaid_paints, view_of}
 use Rattle.texture_build.specs.Draws.{FitBeside}
 use Rattle.sound_scene.specs.Sound.{SoundValue, textures_view}
@@ -13,15 +13,14 @@ use Rattle.doom_run.specs.Ends.{IsEnd}
 use Rattle.doom_run.specs.Frames.{KeepsReady, ViewEnds}
 use Rattle.doom_run.specs.Renders.{FitsAt, ready_views}
 use Rattle.doom_run.specs.Views.{ViewsValue, first_over, over_at}
-use Rattle.doom_run.specs.Layers.{SeenView, eye_of}
+use Rattle.doom_run.specs.Layers.{SeenView, seen_view}
 use Rattle.doom_run.proofs.FrameLemmas.{Rendered, none_over, some_over, view_get}
 use Rattle.level_audit.specs.scene_load.Loads.{loaded_value}
 use Rattle.doom_run.proofs.ReadyLemmas.{views-later}
-use Rattle.doom_run.proofs.SeenLemmas.{seen_by}
 
 -- what a viewpoint is painted from is that of the number's view
-pub fits_at : (bytes : ℕ → List ℕ) (count : ℕ) (ready : ReadyViews) (k : ℕ) (eye : Eye) → option_map eye_of (slice_get ready.loaded.files.path k) ≡ Some eye →
-    FitBeside ready.loaded.files.dir.lumps (textures_view ready.loaded.scene.scene) ready.loaded.scene.scene.base.colormap count ready.loaded.cache.size (overlaid_paints (view_of ready.loaded.files.tables eye) (scene_of bytes ready.loaded.scene.scene) (seen_by (loaded_value ready.loaded) k eye).layers) →
+pub fits_at : (bytes : ℕ → List ℕ) (count : ℕ) (ready : ReadyViews) (k : ℕ) (eye : Eye) → slice_get ready.loaded.files.path k ≡ Some eye →
+    FitBeside ready.loaded.files.dir.lumps (textures_view ready.loaded.scene.scene) ready.loaded.scene.scene.base.colormap count ready.loaded.cache.size (overlaid_paints (view_of ready.loaded.files.tables eye) (scene_of bytes ready.loaded.scene.scene) (seen_view (loaded_value ready.loaded) k eye).layers) →
     FitsAt bytes count ready k
 unfolding ready_views
 fits_at bytes count ready k eye at fits =

@@ -17,31 +17,27 @@ use Rattle.doom_run.specs.Ends.{RendersAt}
 use Rattle.doom_run.specs.declared.canvas.ViewCanvas.{ViewCanvas}
 use Rattle.doom_run.specs.declared.canvas.ViewForm.{ViewForm}
 use Rattle.doom_run.specs.Frames.{IsDrawnAt, ViewEnds, canvas_bytes, form_of, frame_at, status_of_view}
-use Rattle.doom_run.specs.Layers.{SeenView, eye_of, seen_view}
+use Rattle.doom_run.specs.Layers.{SeenView, seen_view}
 use Rattle.doom_run.specs.Renders.{DrawsAt, HoldsReady, ready_bytes, ready_views}
 use Rattle.doom_run.specs.Jobs.{rendered}
 use Rattle.doom_run.specs.Views.{ViewsValue, due_views, end_at, first_over, limit_at, frames_of, over_at, rendered_bytes, view_bytes}
-use Rattle.doom_run.proofs.SeenLemmas.{seen_at, seen_by}
+use Rattle.doom_run.proofs.SeenLemmas.{seen_at}
 
 none_within : {X : Type 0} (xs : List X) (n : ℕ) → n < length xs → slice_get xs n ≡ None → ⊥
 none_within [] n below e = absurd (omega (arith, below))
 none_within (x ∷ xs) zero below e = cc
 none_within (x ∷ xs) (suc n) below e = none_within xs n (omega (arith, below)) e
 
-mapped_twice : {X Y Z : Type 0} (f : X → Y) (g : Y → Z) (o : Option X) (y : Y) → option_map f o ≡ Some y → option_map (λ x. g (f x)) o ≡ Some (g y)
-mapped_twice f g None y e = absurd (cc)
-mapped_twice f g (Some x) y e = ap (option_map g) e
-
 -- the view of a number is that of its viewpoint
-pub view_get : (bytes : ℕ → List ℕ) (ready : ReadyViews) (k : ℕ) (eye : Eye) → option_map eye_of (slice_get ready.loaded.files.path k) ≡ Some eye →
-    slice_get (ready_views bytes ready).views k ≡ Some (seen_by (loaded_value ready.loaded) k eye)
-unfolding ready_views seen_view
+pub view_get : (bytes : ℕ → List ℕ) (ready : ReadyViews) (k : ℕ) (eye : Eye) → slice_get ready.loaded.files.path k ≡ Some eye →
+    slice_get (ready_views bytes ready).views k ≡ Some (seen_view (loaded_value ready.loaded) k eye)
+unfolding ready_views
 view_get bytes ready k eye e =
     seen_at (seen_view (loaded_value ready.loaded)) k ready.loaded.files.path
-    ∙ mapped_twice eye_of (λ (e : Eye). seen_by (loaded_value ready.loaded) k e) (slice_get ready.loaded.files.path k) eye e
+    ∙ ap (option_map (seen_view (loaded_value ready.loaded) k)) e
 
 -- whether a viewpoint is over a limit is told of the number
-pub over_at-eye : (bytes : ℕ → List ℕ) (ready : ReadyViews) (k : ℕ) (eye : Eye) → option_map eye_of (slice_get ready.loaded.files.path k) ≡ Some eye →
+pub over_at-eye : (bytes : ℕ → List ℕ) (ready : ReadyViews) (k : ℕ) (eye : Eye) → slice_get ready.loaded.files.path k ≡ Some eye →
     over_at (ready_views bytes ready) k ≡ view_over (view_of ready.loaded.files.tables eye) (scene_of bytes ready.loaded.scene.scene) ready.shop.limits
 unfolding ready_views over_at
 over_at-eye bytes ready k eye at =

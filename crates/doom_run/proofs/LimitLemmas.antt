@@ -1,5 +1,5 @@
 -- The lines of the views of a path, one after the other.
-use Rattle.picture_rules.proofs.Common.{[], ap, arith, Err, length, List, None, Ok, option_map, option_map_or, Option, refl, Result, slice_get, Some, subst, sym, ℕ, ◌+◌, ◌<◌, ◌∙◌, ◌≡◌}
+use Rattle.picture_rules.proofs.Common.{[], ap, arith, Err, length, List, None, Ok, option_map_or, Option, refl, Result, slice_get, Some, subst, sym, ℕ, ◌+◌, ◌<◌, ◌∙◌, ◌≡◌}
 use Rattle.doom_run.specs.Rules.{Eye, Failed, Grew, OverLimit, Scene, Writes, view_of, view_over}
 use Rattle.art_rules.proofs.Laws.{writes_then}
 use Rattle.picture_rules.specs.declared.Limits.{Limits}
@@ -10,13 +10,12 @@ use Rattle.job_files.specs.declared.status.Status.TheVariants.{Done, WriteFault}
 use Rattle.doom_run.specs.declared.render.ReadyViews.{ReadyViews}
 use Rattle.doom_run.specs.Ends.{WritesDue}
 use Rattle.doom_run.specs.Jobs.{done}
-use Rattle.doom_run.specs.Layers.{SeenView, eye_of}
+use Rattle.doom_run.specs.Layers.{SeenView, seen_view}
 use Rattle.doom_run.specs.Renders.{PutsLines, ready_views}
 use Rattle.doom_run.specs.Views.{ViewsValue, lines_at, over_line, unless_over, view_lines}
 use Rattle.doom_run.proofs.FirstLemmas.{first-more, first_of, none_first, prefix_first}
 use Rattle.doom_run.proofs.FrameLemmas.{over_at-eye, view_get}
 use Rattle.doom_run.proofs.ReadyLemmas.{views_count}
-use Rattle.doom_run.proofs.SeenLemmas.{seen_by}
 
 -- the same bytes, told otherwise
 pub same_bytes : {E : Type 0} {a b : List ℕ → Type 0} {i j : ℕ} {xs ys : List ℕ} {result : Result (Unit {0}) E} → xs ≡ ys → Writes a b i j xs result → Writes a b i j ys result
@@ -30,13 +29,13 @@ ready_same bytes a b e l =
     ∙ ap (λ (limits : Limits). ready_views bytes (record { loaded = b.loaded; shop = record { limits = limits; frame = a.shop.frame } })) l
 
 -- the lines of view number k, by its viewpoint
-module _ (lines : Scene → ℕ → SeenView → List ℕ) (bytes : ℕ → List ℕ) (ready : ReadyViews) (k : ℕ) (eye : Eye) (at : option_map eye_of (slice_get ready.loaded.files.path k) ≡ Some eye) where
+module _ (lines : Scene → ℕ → SeenView → List ℕ) (bytes : ℕ → List ℕ) (ready : ReadyViews) (k : ℕ) (eye : Eye) (at : slice_get ready.loaded.files.path k ≡ Some eye) where
   abbrev own : Option SeenView → List ℕ
   own o = option_map_or (lines (ready_views bytes ready).scene k) o []
 
   -- it is within its limits
   pub lines_within : view_over (view_of ready.loaded.files.tables eye) (scene_of bytes ready.loaded.scene.scene) ready.shop.limits ≡ None →
-      lines (scene_of bytes ready.loaded.scene.scene) k (seen_by (loaded_value ready.loaded) k eye) ≡ lines_at lines (ready_views bytes ready) k
+      lines (scene_of bytes ready.loaded.scene.scene) k (seen_view (loaded_value ready.loaded) k eye) ≡ lines_at lines (ready_views bytes ready) k
   unfolding ready_views lines_at
   lines_within none = sym (ap (unless_over k (own (slice_get (ready_views bytes ready).views k))) (over_at-eye bytes ready k eye at ∙ none) ∙ ap own (view_get bytes ready k eye at))
 

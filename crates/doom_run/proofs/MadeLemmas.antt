@@ -1,10 +1,9 @@
 -- What the made files give: they are held, and their path is not long.
 use Rattle.picture_rules.proofs.Common.{[], ap, arith, codes, Err, IsTrue, length, List, nat_lt, nat_tests, None, Ok, refl, Result, Some, subst, sym, true, ℕ, ◌<◌, ◌∙◌, ◌∷◌, ◌≡◌, ◌≤◌}
-use Rattle.doom_run.specs.Rules.{AreSettings, File, FileNames, Holds, IsZoneSize, LevelJobValue, Path, Settings, ShelfInMemory, Stop, Tables, Things, Wad, absent, and_then, else_absent, file_named, filled, from_below, memory_view, name_of, no_file, stopped}
+use Rattle.doom_run.specs.Rules.{AreSettings, Eye, File, FileNames, Holds, IsZoneSize, LevelJobValue, Path, Settings, ShelfInMemory, Stop, Tables, Things, Wad, absent, and_then, else_absent, file_named, filled, from_below, memory_view, name_of, no_file, stopped}
 use Rattle.art_rules.proofs.Laws.{and_then-ok}
 use Rattle.csv_tables.specs.declared.fault.CsvRefusal.{CsvRefusal}
 use Rattle.csv_tables.specs.declared.fault.CsvRefusal.TheVariants.{TooMany}
-use Rattle.csv_tables.specs.declared.path.PathRow.{PathRow}
 use Rattle.csv_tables.specs.declared.path.TheConstants.{MAX_VIEWS}
 use Rattle.csv_tables.specs.Records.{checked_shape, table_records, then_checked}
 use Rattle.csv_tables.specs.Paths.{path_in, path_of_records, path_row, path_width}
@@ -30,7 +29,7 @@ row_past : (width row : ℕ) (fields : List (List ℕ)) → MAX_VIEWS < row → 
 unfolding path_row checked_shape
 row_past width row fields past = let over : nat_lt MAX_VIEWS row ≡ true = grind (arith, nat_tests) in rw over refl
 
-records_few : (records : List (List (List ℕ))) (rows : List PathRow) → path_of_records records ≡ Ok rows → length rows ≤ MAX_VIEWS
+records_few : (records : List (List (List ℕ))) (rows : List Eye) → path_of_records records ≡ Ok rows → length rows ≤ MAX_VIEWS
 unfolding path_of_records
 records_few [] rows e = absurd (cc)
 records_few (head ∷ rest) rows e =
@@ -38,7 +37,7 @@ records_few (head ∷ rest) rows e =
     rows_after-within (λ _. path_row w.0) MAX_VIEWS [] rows rest (λ _ row fields past. row_past w.0 row fields past) (omega arith) w.2
 
 -- a path that is accepted has no more views than the limit
-pub path_few : (bytes : List ℕ) (rows : List PathRow) → path_in bytes ≡ Ok rows → length rows ≤ MAX_VIEWS
+pub path_few : (bytes : List ℕ) (rows : List Eye) → path_in bytes ≡ Ok rows → length rows ≤ MAX_VIEWS
 unfolding path_in
 path_few bytes rows e = let t = then_ok (table_records bytes) path_of_records rows e in records_few t.0 rows t.2
 

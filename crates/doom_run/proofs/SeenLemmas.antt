@@ -1,8 +1,6 @@
 -- The views of a path by number, and as many as rows.
 use Rattle.picture_rules.proofs.Common.{[], ap, arith, length, List, option_map, refl, slice_get, Some, suc, zero, ℕ, ◌+◌, ◌∙◌, ◌∷◌, ◌≡◌}
-use Rattle.picture_rules.specs.Words.{Eye, view_of}
-use Rattle.level_audit.specs.scene_load.Loads.{LoadedValue}
-use Rattle.doom_run.specs.Layers.{SeenView, layers_of, seen_from}
+use Rattle.doom_run.specs.Layers.{seen_from}
 
 pub seen_from-length : {A B : Type 0} (view : ℕ → A → B) (k : ℕ) (rows : List A) → length (seen_from view k rows) ≡ length rows
 unfolding seen_from
@@ -20,10 +18,3 @@ seen_from-at view k (suc i) (row ∷ rows) =
 -- view number i of a path that begins with number 0
 pub seen_at : {A B : Type 0} (view : ℕ → A → B) (i : ℕ) (rows : List A) → slice_get (seen_from view 0 rows) i ≡ option_map (view i) (slice_get rows i)
 seen_at view i rows = let e : 0 + i ≡ i = omega arith in seen_from-at view 0 i rows ∙ ap (λ m. option_map (view m) (slice_get rows i)) e
-
--- a view of a number by its viewpoint
-abbrev pub seen_by : LoadedValue → ℕ → Eye → SeenView
-seen_by loaded k eye = record {
-  view = view_of loaded.files.tables eye;
-  layers = layers_of loaded k eye;
-}

@@ -2,7 +2,6 @@
 use Rattle.std.specs.Prelude.{ℕ, ◌+◌, ◌==◌, cond, ℤ, List, [], ◌∷◌, ◌++◌, option_map, Option, Some, None}
 use Rattle.std.specs.Option.{option_to_list}
 use Rattle.doom_run.specs.Rules.{Eye, Frame, SceneValue, Shape, ViewValue, WeaponLayer, picked, sector_at, surface_at, view_of}
-use Rattle.csv_tables.specs.declared.path.PathRow.{PathRow}
 use Rattle.csv_tables.specs.declared.weapons.WeaponRow.{WeaponRow}
 use Rattle.level_audit.specs.scene_load.Loads.{LoadedValue}
 use Rattle.frame_core.specs.Scenes.{drawn_shape, lists_of}
@@ -11,17 +10,6 @@ use Rattle.frame_core.specs.Scenes.{drawn_shape, lists_of}
 pub record SeenView : Type 0 where
   pub view : ViewValue
   pub layers : List WeaponLayer
-
--- the viewpoint of a row of the path
-abbrev pub eye_of : PathRow → Eye
-eye_of row = record {
-  x = row.x;
-  y = row.y;
-  z = row.z;
-  angle = row.angle;
-  extralight = row.extralight;
-  colormap = row.colormap;
-}
 
 -- the light of the sector where the viewpoint stands
 unfoldable pub layer_light : SceneValue → Eye → ℤ
@@ -59,10 +47,10 @@ unfoldable pub layers_of : LoadedValue → ℕ → Eye → List WeaponLayer
 layers_of loaded k eye = layers_by loaded.files.weapons loaded.weapons (layer_light loaded.scene eye) k
 
 -- view number k of a path, with its layers
-unfoldable pub seen_view : LoadedValue → ℕ → PathRow → SeenView
-seen_view loaded k row = record {
-  view = view_of loaded.files.tables (eye_of row);
-  layers = layers_of loaded k (eye_of row);
+abbrev pub seen_view : LoadedValue → ℕ → Eye → SeenView
+seen_view loaded k eye = record {
+  view = view_of loaded.files.tables eye;
+  layers = layers_of loaded k eye;
 }
 
 -- the views of the rows of a path, of which the first has that number

@@ -8,11 +8,12 @@ ghost use Rattle.doom_run.specs.Performs.{Performs};
 
 use crate::audit::perform_audit;
 use crate::canvas::ViewForm;
-use crate::limits::perform_limits;
-use crate::list::perform_list;
+use crate::limits::CountLines;
+use crate::lines::perform_lines;
 use crate::render::perform_views;
 use crate::trim::perform_trim;
 use art_rules::{Shelf, Sink};
+use frame_core::ViewList;
 use job_files::Status;
 use job_rules::{LevelJob, LevelTask};
 use level_audit::load_scene;
@@ -39,8 +40,11 @@ pub fn perform_level<S: Shelf, K: Sink>(
             }
             LevelTask::Trace => perform_views(alloc, ViewForm::Trace, level, loaded, shelf, out),
             LevelTask::Audit => perform_audit(&loaded, out),
-            LevelTask::Limits => perform_limits(alloc, level, loaded, out),
-            LevelTask::List => perform_list(alloc, level, loaded, out),
+            LevelTask::Limits => perform_lines(alloc, &mut CountLines, level, loaded, out),
+            LevelTask::List => match ViewList::new(alloc) {
+                Ok(mut list) => perform_lines(alloc, &mut list, level, loaded, out),
+                Err(_) => Status::OutOfMemory,
+            },
             LevelTask::Trim => perform_trim(alloc, level, loaded, shelf, out),
         },
         Err(fault) => Status::of(fault),

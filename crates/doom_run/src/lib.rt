@@ -24,6 +24,7 @@ mod exercise;
 mod layers;
 mod level;
 mod limits;
+mod lines;
 mod list;
 mod render;
 mod top;

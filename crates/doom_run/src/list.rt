@@ -1,29 +1,18 @@
 // The job `list`: what each view of a path is made of, item by item.
 //
 // Rules: `specs/Lists`. This project's own.
-ghost use Rattle.std.specs.Prelude.{◌≡◌, ◌+◌, ◌++◌, ◌<◌, ◌≤◌, ℕ, List, length};
-ghost use Rattle.doom_run.specs.Rules.{AreSettings, ShelfView, Writes, level_job_value};
-ghost use Rattle.frame_core.specs.Views.{CanCount};
-ghost use Rattle.job_rules.specs.declared.command.LevelTask.TheVariants.{List as Lists};
-ghost use Rattle.level_audit.specs.scene_load.Calls.{IsLoadedScene};
+ghost use Rattle.std.specs.Prelude.{◌≡◌, ◌+◌, ◌++◌, ◌≤◌, ℕ, List, length};
+ghost use Rattle.doom_run.specs.Rules.{Writes};
 ghost use Rattle.refusals.specs.declared.line.TheConstants.{LINE_ROOM};
-ghost use Rattle.doom_run.specs.Ends.{WritesDue};
-ghost use Rattle.doom_run.specs.Jobs.{delivery_of, listed_views};
 ghost use Rattle.doom_run.specs.Lists.{flat_part, fragment_line, item_start, items_lines, lines_from, list_lines, maker_part, plane_line, sprite_line, sums_line};
-ghost use Rattle.doom_run.specs.Performs.{Delivers};
-ghost use Rattle.doom_run.specs.Renders.{PutsLines, ready_views};
-ghost use Rattle.doom_run.specs.Views.{lines_at};
 
 use crate::limits::put_over;
-use crate::render::{ReadyViews, eye_at, prepare_views, view_count};
+use crate::lines::ViewLines;
+use crate::render::{ReadyViews, eye_at};
 use art_rules::{Failed, Sink};
 use frame_core::{Counts, ViewList, list_view};
-use job_files::Status;
-use job_rules::LevelJob;
-use level_audit::LoadedScene;
 use picture_rules::{Flat4, ListedFragment, ListedPlane, ListedSprite, PlaneMaker};
 use refusals::Line;
-use std::alloc::Global;
 
 // A line that begins with item number `number` of a view.
 fn start_item(view: u64, label: &[u8], number: u64) -> Line
@@ -160,67 +149,20 @@ fn put_items<K: Sink>(
     put_sums(out, view, counts, list)
 }
 
-// Appends the lines of view number `number`.
-fn put_list<K: Sink>(
-    ready: &mut ReadyViews,
-    list: &mut ViewList,
-    number: u32,
-    out: &mut K,
-) -> Result<(), Failed>
-    requires number { number < length ready.old.loaded.files.path }
-    requires scene { CanCount ready.old.loaded.scene.scene }
-    ensures { PutsLines (λ r. lines_at list_lines r number) ready.old ready.new (K.written out.old)
-        (K.written out.new) (K.faults out.old) (K.faults out.new) result }
-{
-    let loaded = &ready.loaded;
-    let eye = eye_at(&loaded.files.path, number);
-    match list_view(
-        &loaded.scene,
-        &loaded.files.tables,
-        &mut ready.shop,
-        list,
-        eye,
-    ) {
-        Ok(counts) => put_items(out, number as u64, &counts, list),
-        Err(over) => put_over(out, number as u64, &over),
-    }
-}
+impl ViewLines for ViewList {
+    ghost lines = { list_lines };
 
-// Writes the lines of each view; a view over a limit has its own, and the next comes after it. Takes
-// no memory.
-fn put_lists<K: Sink>(ready: &mut ReadyViews, list: &mut ViewList, out: &mut K) -> Status
-    requires { CanCount ready.old.loaded.scene.scene }
-    ensures { (bytes : ℕ → List ℕ) → WritesDue (listed_views (ready_views bytes ready.old))
-        (K.written out.old) (K.written out.new) (K.faults out.old) (K.faults out.new) result }
-{
-    let count = view_count(&ready.loaded.files.path);
-    for number in 0..count {
-        match put_list(ready, list, number, out) {
-            Ok(()) => {}
-            Err(_) => return Status::WriteFault,
+    fn put<K: Sink>(
+        &mut self,
+        ready: &mut ReadyViews,
+        number: u32,
+        out: &mut K,
+    ) -> Result<(), Failed> {
+        let (scene, tables) = (&ready.loaded.scene, &ready.loaded.files.tables);
+        let eye = eye_at(&ready.loaded.files.path, number);
+        match list_view(scene, tables, &mut ready.shop, self, eye) {
+            Ok(counts) => put_items(out, number as u64, &counts, self),
+            Err(over) => put_over(out, number as u64, &over),
         }
-    }
-    Status::Done
-}
-
-// The job `list` over a level that is loaded.
-pub fn perform_list<K: Sink>(
-    alloc: Global,
-    level: &LevelJob<'_>,
-    loaded: LoadedScene,
-    out: &mut K,
-) -> Status
-    requires settings { AreSettings level.now.settings }
-    requires loaded { IsLoadedScene (level_job_value level.now) loaded }
-    ensures { (view : ShelfView) → Delivers (level_job_value level.now)
-        (delivery_of Lists (level_job_value level.now)) view view loaded
-        (K.written out.old) (K.written out.new) (K.faults out.old) (K.faults out.new) result }
-{
-    match prepare_views(alloc, &level.settings, loaded) {
-        Ok(mut ready) => match ViewList::new(alloc) {
-            Ok(mut list) => put_lists(&mut ready, &mut list, out),
-            Err(_) => Status::OutOfMemory,
-        },
-        Err(_) => Status::OutOfMemory,
     }
 }

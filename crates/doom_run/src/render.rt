@@ -4,16 +4,15 @@ ghost use Rattle.doom_run.specs.Frames.{ViewEnds, form_of, status_of_view};
 ghost use Rattle.doom_run.specs.Jobs.{drawing, rendered};
 ghost use Rattle.doom_run.specs.Performs.{Delivers};
 ghost use Rattle.doom_run.specs.Renders.{DrawsAt, FitDue, FitsAt, HoldsReady, IsDrawable, RendersReady, ready_bytes, ready_views};
-ghost use Rattle.doom_run.specs.Layers.{eye_of};
 ghost use Rattle.doom_run.specs.Views.{limits_of_settings};
 ghost use Rattle.doom_run.specs.Rules.{AreSettings, level_job_value};
 ghost use Rattle.level_audit.specs.scene_load.Calls.{IsLoadedScene};
-ghost use Rattle.std.specs.Prelude.{◌≡◌, ◌<◌, ℕ, List, length, option_map, slice_get, Some, IfOk};
+ghost use Rattle.std.specs.Prelude.{◌≡◌, ◌<◌, ℕ, List, length, slice_get, Some, IfOk};
 
 use crate::canvas::{ViewCanvas, ViewForm};
 use crate::layers::draw_layered;
 use art_rules::{Shelf, Sink};
-use csv_tables::{PathRow, PathTable};
+use csv_tables::PathTable;
 use frame_core::{Limits, ViewFault, Workshop};
 use job_files::Status;
 use job_rules::{LevelJob, Settings};
@@ -48,20 +47,6 @@ pub fn prepare_views(
     }
 }
 
-// The viewpoint of a row of the path.
-pub(crate) fn eye_of(row: &PathRow) -> Eye
-    ensures { result ≡ eye_of row.now }
-{
-    Eye {
-        x: row.x,
-        y: row.y,
-        z: row.z,
-        angle: row.angle,
-        extralight: row.extralight,
-        colormap: row.colormap,
-    }
-}
-
 // How many views a path has.
 pub(crate) fn view_count(path: &PathTable) -> u32
     ensures { result ≡ length path.now }
@@ -72,9 +57,9 @@ pub(crate) fn view_count(path: &PathTable) -> u32
 // The viewpoint of view number `number`, which is there.
 pub(crate) fn eye_at(path: &PathTable, number: u32) -> Eye
     requires { number < length path.now }
-    ensures { option_map eye_of (slice_get path.now number) ≡ Some result }
+    ensures { slice_get path.now number ≡ Some result }
 {
-    eye_of(&path.views()[number as usize])
+    path.views()[number as usize]
 }
 
 // The status of a fault of a view.

@@ -1,9 +1,8 @@
 -- What the files of a job over a level give: tables of angles, things, a path, weapons where a file
 -- of them is named, and the lumps of the WADs; or the first step that stops.
 use Rattle.std.specs.Prelude.{◌≡◌, ℕ, List, [], ◌∷◌, Option, Some, None, option_and_then, option_map, Result, Ok, Err, IfErr, codes, refl}
-use Rattle.job_files.specs.Rules.{Fault, File, FileNames, Lump, Settings, Stop, TablesRefusal, TablesValue, ThingLine, absent, and_then, angles_in, directory, else_absent, file_named, from_below, no_file, tables_refusal}
+use Rattle.job_files.specs.Rules.{Eye, Fault, File, FileNames, Lump, Settings, Stop, TablesRefusal, TablesValue, ThingLine, absent, and_then, angles_in, directory, else_absent, file_named, from_below, no_file, tables_refusal}
 use Rattle.lump_cache.specs.Calls.{IfFull}
-use Rattle.csv_tables.specs.declared.path.PathRow.{PathRow}
 use Rattle.csv_tables.specs.declared.weapons.WeaponRow.{WeaponRow}
 use Rattle.csv_tables.specs.Things.{things_in_table}
 use Rattle.csv_tables.specs.Paths.{path_in}
@@ -17,7 +16,7 @@ use Rattle.job_files.specs.declared.texts.TextTables.{TextTables}
 pub record FilesValue : Type 0 where
   pub tables : TablesValue
   pub things : List ThingLine
-  pub path : List PathRow
+  pub path : List Eye
   pub weapons : Option (List WeaponRow)
   pub lumps : List Lump
 
@@ -50,7 +49,7 @@ tables_file settings bytes = from_below Tables (tables_in settings bytes)
 abbrev pub things_file : List ℕ → Result (List ThingLine) Refusal
 things_file bytes = from_below Things (things_in_table bytes)
 
-abbrev pub path_file : List ℕ → Result (List PathRow) Refusal
+abbrev pub path_file : List ℕ → Result (List Eye) Refusal
 path_file bytes = from_below Path (path_in bytes)
 
 abbrev pub weapons_file : List ℕ → Result (List WeaponRow) Refusal

@@ -9,7 +9,7 @@ pub use Rattle.job_rules.specs.declared.command.Settings.{Settings}
 unfoldable pub use Rattle.made_rules.specs.Tables.{made_tables}
 unfoldable pub use Rattle.made_rules.specs.Texts.{made_path, made_things}
 unfoldable pub use Rattle.made_rules.specs.Wads.{made_wad}
-pub use Rattle.picture_rules.specs.Words.{FLAT_SIDE, FRAME_WIDTH, Length, MAX_SIZE, MIN_SIZE, TABLES_BYTES, TablesRefusal, TablesValue, ThingLine}
+pub use Rattle.picture_rules.specs.Words.{Eye, FLAT_SIDE, FRAME_WIDTH, Length, MAX_SIZE, MIN_SIZE, TABLES_BYTES, TablesRefusal, TablesValue, ThingLine}
 unfoldable pub use Rattle.picture_rules.specs.Words.{angles_in, angles_refusal, listed, shape_of_size, tables_refusal}
 pub use Rattle.picture_rules.specs.declared.LimitKind.{LimitKind}
 pub use Rattle.picture_rules.specs.declared.LimitKind.TheVariants.{Openings, Planes}

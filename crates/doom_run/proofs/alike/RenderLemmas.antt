@@ -1,7 +1,6 @@
 -- What is rendered of a trimmed file: the same bytes and end as of the WADs that it was made of.
 use Rattle.picture_rules.proofs.Common.{[], ap, Bool, cond, false, is_some, length, length-map, List, map, map-append, None, Ok, Option, option_and_then, option_map, option_to_list, refl, slice_get, slice_index_or, Some, subst, suc, sym, take, take-map, true, unwrap_or, zero, ℕ, ℤ, ◌+◌, ◌==◌, ◌∙◌, ◌∷◌, ◌≡◌}
 use Rattle.doom_run.specs.Rules.{Eye, File, Format, Frame, LevelJobValue, LevelValue, SceneValue, Sector, SectorFlats, Settings, Shape, TrimPart, ViewValue, WeaponLayer, flat_lumps, joined_lists, least, no_surface, overlaid_picture, picked, sector_at, sky_flat, surface_at, surface_of, surfaces_of, trim_parts, trim_plan, trimmed_file, view_of, view_over}
-use Rattle.csv_tables.specs.declared.path.PathRow.{PathRow}
 use Rattle.csv_tables.specs.declared.weapons.WeaponRow.{WeaponRow}
 use Rattle.sound_scene.specs.Sound.{art_with}
 use Rattle.level_audit.specs.scene_load.Loads.{LoadedValue, load_in, loaded_pictures, wad_bytes}
@@ -21,7 +20,7 @@ use Rattle.doom_run.proofs.alike.SceneOfLemmas.{scene-moved}
 use Rattle.doom_run.proofs.alike.TrimmedLemmas.{moved-value}
 use Rattle.doom_run.proofs.alike.LoadLemmas.{IsComparedAlike, IsLoadMoved, trimmed-load}
 use Rattle.doom_run.specs.declared.canvas.ViewForm.TheVariants as form
-use Rattle.doom_run.specs.Layers.{SeenView, eye_of, layer_of, layer_with, layers_by, layers_from, layers_of, layer_light, seen_from, seen_view, seen_views}
+use Rattle.doom_run.specs.Layers.{SeenView, layer_of, layer_with, layers_by, layers_from, layers_of, layer_light, seen_from, seen_view, seen_views}
 use Rattle.doom_run.specs.Views.{ViewsValue, due_views, end_at, first_over, frame_bytes, frames_of, over_at, rendered_bytes, rendered_end, view_bytes, views_of}
 
 -- a view whose layers have their pictures under other numbers
@@ -156,16 +155,15 @@ module _ (σ : ℕ → ℕ) (bytes : ℕ → List ℕ) (moved loaded : LoadedVal
       ∙ ap (λ light. layers_by moved.files.weapons (option_map (map (move_frame σ)) moved.weapons) light k) (light-same σ bytes moved.scene loaded.scene eye m.scene)
       ∙ by-moved σ (layer_light moved.scene eye) moved.files.weapons moved.weapons k
 
-  seen-moved : (k : ℕ) (row : PathRow) → seen_view loaded k row ≡ moved_seen σ (seen_view moved k row)
-  unfolding seen_view
-  seen-moved k row =
-      ap (λ tables. with_layers (view_of tables (eye_of row)) (layers_of loaded k (eye_of row))) m.tables
-      ∙ ap (with_layers (view_of moved.files.tables (eye_of row))) (layers-moved k (eye_of row))
+  seen-moved : (k : ℕ) (eye : Eye) → seen_view loaded k eye ≡ moved_seen σ (seen_view moved k eye)
+  seen-moved k eye =
+      ap (λ tables. with_layers (view_of tables eye) (layers_of loaded k eye)) m.tables
+      ∙ ap (with_layers (view_of moved.files.tables eye)) (layers-moved k eye)
 
-  rows-moved : (k : ℕ) (rows : List PathRow) → seen_from (seen_view loaded) k rows ≡ map (moved_seen σ) (seen_from (seen_view moved) k rows)
+  rows-moved : (k : ℕ) (eyes : List Eye) → seen_from (seen_view loaded) k eyes ≡ map (moved_seen σ) (seen_from (seen_view moved) k eyes)
   unfolding seen_from
   rows-moved k [] = refl
-  rows-moved k (row ∷ rows) = rw (seen-moved k row, rows-moved (k + 1) rows) refl
+  rows-moved k (eye ∷ eyes) = rw (seen-moved k eye, rows-moved (k + 1) eyes) refl
 
   path-moved : seen_views loaded ≡ map (moved_seen σ) (seen_views moved)
   path-moved = ap (seen_from (seen_view loaded) 0) m.path ∙ rows-moved 0 moved.files.path

@@ -115,26 +115,8 @@ fn scene_of(
 {
     let bytes = make_things(alloc)?;
     let things = Box::new(alloc, ThingTable::read(alloc, &bytes)?)?;
-    audited(alloc, dir, cache, shelf, &things)
-}
-
-// The same, with these things.
-fn audited(
-    alloc: Global,
-    dir: &Directory,
-    cache: &mut LumpCache,
-    shelf: &mut MemoryShelf,
-    things: &ThingTable,
-) -> Result<Box<SoundScene>, Fail>
-    requires few { length dir.now.lumps < 2 ^ 16 }
-    requires slots { length dir.now.lumps ≤ cache.old.lumps }
-    requires composites { cache.old.composites ≡ COMPOSITE_SLOTS }
-    ensures drawable { IfOk result (λ scene.
-        CanDrawView dir.now.lumps scene.value.scene cache.new) }
-    ensures composites { cache.new.composites ≡ COMPOSITE_SLOTS }
-{
     let map = Name8::from_text("MAP01").ok_or("a name")?;
-    Ok(Box::new(alloc, audit(alloc, dir, cache, shelf, things, &map, 3)?)?)
+    Ok(Box::new(alloc, audit(alloc, dir, cache, shelf, &things, &map, 3)?)?)
 }
 
 // The WAD with other texels, on a shelf of its own.

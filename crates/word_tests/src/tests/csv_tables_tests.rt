@@ -126,58 +126,42 @@ fn judged_row(alloc: Global, kind: Kind, row: &str) -> Judged {
     }
 }
 
-// Compares what becomes of rows: each is taken, or the field in that column is out of its range.
-fn compare_rows(rt: &impl Abort, alloc: Global, kind: Kind, rows: &[(&str, Option<u64>)]) {
-    for (row, column) in rows {
-        let expected = match *column {
-            None => Ok(()),
-            Some(column) => Err(Some(CsvRefusal::Range { row: 1, column })),
-        };
-        assert_eq!(rt; judged_row(alloc, kind, row), expected, "{row}");
-    }
-}
-
-fn things() -> &'static [(&'static str, Option<u64>)] {
+// Rows, each taken, or with a field out of its range in that column.
+fn rows() -> &'static [(Kind, &'static str, Option<u64>)] {
     &[
-        ("0,!!!!,A,0,0,0", None),
-        ("65535,~~~~,],1,32767,1", None),
-        ("65536,TREE,A,0,0,0", Some(0)),
-        ("1,TRE ,A,0,0,0", Some(1)),
-        ("1,TRE\x7f,A,0,0,0", Some(1)),
-        ("1,TREE,@,0,0,0", Some(2)),
-        ("1,TREE,^,0,0,0", Some(2)),
-        ("1,TREE,A,0,32768,0", Some(4)),
-    ]
-}
-
-fn views() -> &'static [(&'static str, Option<u64>)] {
-    &[
-        ("-2147483648,-2147483648,-2147483648,0,0,0", None),
-        ("2147483647,2147483647,2147483647,4294967295,15,32", None),
-        ("2147483648,0,0,0,0,0", Some(0)),
-        ("0,-2147483649,0,0,0,0", Some(1)),
-        ("0,0,0,4294967296,0,0", Some(3)),
-        ("0,0,0,0,16,0", Some(4)),
-        ("0,0,0,0,0,33", Some(5)),
-    ]
-}
-
-fn layers() -> &'static [(&'static str, Option<u64>)] {
-    &[
-        ("0,!!!!,A,0,-2147483648,-2147483648", None),
-        ("9999,~~~~,],1,2147483647,2147483647", None),
-        ("10000,TREE,A,0,0,0", Some(0)),
-        ("0,TREE,A,2,0,0", Some(3)),
-        ("0,TREE,A,0,0,2147483648", Some(5)),
+        (Kind::Things, "0,!!!!,A,0,0,0", None),
+        (Kind::Things, "65535,~~~~,],1,32767,1", None),
+        (Kind::Things, "65536,TREE,A,0,0,0", Some(0)),
+        (Kind::Things, "1,TRE ,A,0,0,0", Some(1)),
+        (Kind::Things, "1,TRE\x7f,A,0,0,0", Some(1)),
+        (Kind::Things, "1,TREE,@,0,0,0", Some(2)),
+        (Kind::Things, "1,TREE,^,0,0,0", Some(2)),
+        (Kind::Things, "1,TREE,A,0,32768,0", Some(4)),
+        (Kind::Path, "-2147483648,-2147483648,-2147483648,0,0,0", None),
+        (Kind::Path, "2147483647,2147483647,2147483647,4294967295,15,32", None),
+        (Kind::Path, "2147483648,0,0,0,0,0", Some(0)),
+        (Kind::Path, "0,-2147483649,0,0,0,0", Some(1)),
+        (Kind::Path, "0,0,0,4294967296,0,0", Some(3)),
+        (Kind::Path, "0,0,0,0,16,0", Some(4)),
+        (Kind::Path, "0,0,0,0,0,33", Some(5)),
+        (Kind::Weapons, "0,!!!!,A,0,-2147483648,-2147483648", None),
+        (Kind::Weapons, "9999,~~~~,],1,2147483647,2147483647", None),
+        (Kind::Weapons, "10000,TREE,A,0,0,0", Some(0)),
+        (Kind::Weapons, "0,TREE,A,2,0,0", Some(3)),
+        (Kind::Weapons, "0,TREE,A,0,0,2147483648", Some(5)),
     ]
 }
 
 #[test]
 fn fields_have_their_ranges(rt: HostRuntime) {
     let alloc = rt.alloc();
-    compare_rows(&rt, alloc, Kind::Things, things());
-    compare_rows(&rt, alloc, Kind::Path, views());
-    compare_rows(&rt, alloc, Kind::Weapons, layers());
+    for (kind, row, column) in rows() {
+        let expected = match *column {
+            None => Ok(()),
+            Some(column) => Err(Some(CsvRefusal::Range { row: 1, column })),
+        };
+        assert_eq!(rt; judged_row(alloc, *kind, row), expected, "{row}");
+    }
 }
 
 // A table of so many rows, of which no two are alike.

@@ -18,11 +18,15 @@ returns-in-Audit g c =
 
 pub returns-in-Limits : goal.returns-in-Limits
 returns-in-Limits g c =
-    rw c.in-Limits.is (loads_performs (level_job_value c.args.level.now) (map (λ wad. wad.now) c.args.wads.now) _ _ c.in-Ok.loaded c.in-Ok.ensures (c.perform_limits.ensures _))
+    rw c.in-Limits.is (loads_performs (level_job_value c.args.level.now) (map (λ wad. wad.now) c.args.wads.now) _ _ c.in-Ok.loaded c.in-Ok.ensures (c.perform_lines.ensures _))
 
-pub returns-in-List : goal.returns-in-List
-returns-in-List g c =
-    rw c.in-List.is (loads_performs (level_job_value c.args.level.now) (map (λ wad. wad.now) c.args.wads.now) _ _ c.in-Ok.loaded c.in-Ok.ensures (c.perform_list.ensures _))
+pub returns-in-List-Ok : goal.returns-in-List-Ok
+returns-in-List-Ok g c =
+    rw c.in-List.is (loads_performs (level_job_value c.args.level.now) (map (λ wad. wad.now) c.args.wads.now) _ _ c.in-Ok.loaded c.in-Ok.ensures (c.perform_lines.ensures _))
+
+pub returns-in-List-Err : goal.returns-in-List-Err
+returns-in-List-Err g c =
+    rw c.in-List.is (loads_performs (level_job_value c.args.level.now) (map (λ wad. wad.now) c.args.wads.now) _ _ c.in-Ok.loaded c.in-Ok.ensures (memory_delivers _ _ _ _ _ _))
 
 pub returns-in-Trim : goal.returns-in-Trim
 returns-in-Trim g c =

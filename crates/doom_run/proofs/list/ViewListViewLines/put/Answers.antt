@@ -2,7 +2,7 @@ use Rattle.std.proofs.Common.{refl, ℕ, ◌∙◌, ◌≡◌}
 use Rattle.doom_run.specs.Rules.{Counts, ViewListValue}
 use Rattle.doom_run.specs.Lists.{items_lines, list_lines}
 use Rattle.doom_run.proofs.LimitLemmas.{lines_over, lines_within, same_bytes}
-use Rattle.doom_run.proofs.list.put_list.Goals as goal
+use Rattle.doom_run.proofs.list.ViewListViewLines.put.Goals as goal
 
 items_same : {a b : Counts} {x y : ViewListValue} (view : ℕ) → a ≡ b → x ≡ y → items_lines view a x ≡ items_lines view b y
 items_same view e f = rw (e, f) refl

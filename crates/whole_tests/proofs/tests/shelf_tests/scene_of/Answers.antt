@@ -3,7 +3,7 @@ use Rattle.sound_scene.specs.Sound.{SoundValue}
 use Rattle.sound_scene.proofs.SceneLemmas.{colormap_there}
 use Rattle.frame_core.specs.Views.{CanDrawView}
 use Rattle.frame_core.proofs.SceneLemmas.{drawable-whole}
-use Rattle.whole_tests.proofs.tests.shelf_tests.audited.Goals as goal
+use Rattle.whole_tests.proofs.tests.shelf_tests.scene_of.Goals as goal
 
 -- what passed its audit can be drawn, and the cache has as many slots as before
 pub returns-clause-drawable : goal.returns-clause-drawable

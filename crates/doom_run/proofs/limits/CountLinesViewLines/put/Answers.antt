@@ -2,7 +2,7 @@ use Rattle.std.proofs.Common.{ap, refl, ◌∙◌}
 use Rattle.picture_rules.specs.declared.Counts.{Counts}
 use Rattle.doom_run.specs.Views.{counts_line, view_line}
 use Rattle.doom_run.proofs.LimitLemmas.{lines_over, lines_within, same_bytes}
-use Rattle.doom_run.proofs.limits.put_view.Goals as goal
+use Rattle.doom_run.proofs.limits.CountLinesViewLines.put.Goals as goal
 
 pub returns-in-Ok : goal.returns-in-Ok
 returns-in-Ok g c = record {
