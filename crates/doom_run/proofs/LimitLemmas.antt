@@ -45,6 +45,16 @@ module _ (lines : Scene → ℕ → SeenView → List ℕ) (bytes : ℕ → List
   unfolding lines_at
   lines_over over some = sym (ap (unless_over k (own (slice_get (ready_views bytes ready).views k))) (over_at-eye bytes ready k eye at ∙ some))
 
+-- the line of a view that is over was written
+pub puts-over : {a b : List ℕ → Type 0} {i j : ℕ} {result : Result (Unit {0}) Failed} (lines : Scene → ℕ → SeenView → List ℕ) (ready after : ReadyViews) (k : ℕ) (eye : Eye) → slice_get ready.loaded.files.path k ≡ Some eye → (over : OverLimit) →
+    ((bytes : ℕ → List ℕ) → view_over (view_of ready.loaded.files.tables eye) (scene_of bytes ready.loaded.scene.scene) ready.shop.limits ≡ Some over) →
+    after.loaded ≡ ready.loaded → after.shop.limits ≡ ready.shop.limits → Writes a b i j (over_line k over) result → PutsLines (λ r. lines_at lines r k) ready after a b i j result
+puts-over lines ready after k eye at over some loaded limits writes = record {
+  writes = λ bytes. same_bytes (lines_over lines bytes ready k eye at over (some bytes)) writes;
+  loaded = loaded;
+  limits = limits;
+}
+
 module _ (lines : Scene → ℕ → SeenView → List ℕ) where
   -- the lines of the first n views
   abbrev pub first_lines : ℕ → ViewsValue → List ℕ

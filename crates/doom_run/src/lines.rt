@@ -24,7 +24,12 @@ pub trait ViewLines {
     ghost lines: { Scene → ℕ → SeenView → List ℕ };
 
     // Appends the lines of view number `number`; a view over a limit has the line of that.
-    fn put<K: Sink>(&mut self, ready: &mut ReadyViews, number: u32, out: &mut K) -> Result<(), Failed>
+    fn put<K: Sink>(
+        &mut self,
+        ready: &mut ReadyViews,
+        number: u32,
+        out: &mut K,
+    ) -> Result<(), Failed>
         requires number { number < length ready.old.loaded.files.path }
         requires scene { CanCount ready.old.loaded.scene.scene }
         ensures { PutsLines (λ r. lines_at lines r number) ready.old ready.new (K.written out.old)

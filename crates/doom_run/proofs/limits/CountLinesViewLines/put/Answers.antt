@@ -1,7 +1,7 @@
 use Rattle.std.proofs.Common.{ap, refl, ◌∙◌}
 use Rattle.picture_rules.specs.declared.Counts.{Counts}
 use Rattle.doom_run.specs.Views.{counts_line, view_line}
-use Rattle.doom_run.proofs.LimitLemmas.{lines_over, lines_within, same_bytes}
+use Rattle.doom_run.proofs.LimitLemmas.{lines_within, puts-over, same_bytes}
 use Rattle.doom_run.proofs.limits.CountLinesViewLines.put.Goals as goal
 
 pub returns-in-Ok : goal.returns-in-Ok
@@ -15,8 +15,4 @@ returns-in-Ok g c = record {
 }
 
 pub returns-in-Err : goal.returns-in-Err
-returns-in-Err g c = record {
-  writes = λ bytes. same_bytes (lines_over view_line bytes c.args.ready.now c.args.number _ c.eye_at-eye.ensures c.in-Err.over (c.in-Err.ensures.over bytes)) c.put_over.ensures;
-  loaded = refl;
-  limits = c.count_view.ensures.limits;
-}
+returns-in-Err g c = puts-over view_line c.args.ready.now _ c.args.number _ c.eye_at-eye.ensures c.in-Err.over c.in-Err.ensures.over refl c.count_view.ensures.limits c.put_over.ensures

@@ -1,7 +1,7 @@
 use Rattle.std.proofs.Common.{refl, ℕ, ◌∙◌, ◌≡◌}
 use Rattle.doom_run.specs.Rules.{Counts, ViewListValue}
 use Rattle.doom_run.specs.Lists.{items_lines, list_lines}
-use Rattle.doom_run.proofs.LimitLemmas.{lines_over, lines_within, same_bytes}
+use Rattle.doom_run.proofs.LimitLemmas.{lines_within, puts-over, same_bytes}
 use Rattle.doom_run.proofs.list.ViewListViewLines.put.Goals as goal
 
 items_same : {a b : Counts} {x y : ViewListValue} (view : ℕ) → a ≡ b → x ≡ y → items_lines view a x ≡ items_lines view b y
@@ -19,8 +19,4 @@ returns-in-Ok g c = record {
 }
 
 pub returns-in-Err : goal.returns-in-Err
-returns-in-Err g c = record {
-  writes = λ bytes. same_bytes (lines_over list_lines bytes c.args.ready.now c.args.number _ c.eye_at-eye.ensures c.in-Err.over (c.in-Err.ensures.over bytes)) c.put_over.ensures;
-  loaded = refl;
-  limits = c.list_view.ensures.limits;
-}
+returns-in-Err g c = puts-over list_lines c.args.ready.now _ c.args.number _ c.eye_at-eye.ensures c.in-Err.over c.in-Err.ensures.over refl c.list_view.ensures.limits c.put_over.ensures
