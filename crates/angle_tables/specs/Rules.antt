@@ -1,4 +1,4 @@
--- The words of the rules below that this crate cites, each with the page that defines it.
+-- The words of the rules below that this crate cites, by the page that each comes from.
 pub use Rattle.view_rules.specs.Angles.{Angles}
 unfoldable pub use Rattle.view_rules.specs.Angles.{angle_at, cosine_at, sine_at, tangent_at}
 pub use Rattle.view_rules.specs.Refusals.{is_wrong_left, refused_at}

@@ -1,4 +1,4 @@
--- The words of this crate and of those below it that others cite, each with the page that defines it.
+-- The words of this crate and of those below it that others cite, by the page that each comes from.
 pub use Rattle.outside.specs.Causes.{FaultsRose}
 pub use Rattle.outside.specs.Faults.{FaultFits, HasCauseAt, HasCauses, IsAboveBy, ResultIs, and_then, fault_above, from_below, itself}
 pub use Rattle.outside.specs.MemoryShelf.{ShelfInMemory, memory_view}

@@ -1,4 +1,4 @@
--- The words of the rules below that this crate cites, each with the page that defines it.
+-- The words of the rules below that this crate cites, by the page that each comes from.
 pub use Rattle.job_rules.specs.Commands.{CommandValue, IsCounted, command_value, exercise, flat, level_job, make}
 pub use Rattle.job_rules.specs.LevelJobs.{FileNames, LevelJobValue, file_names, level_job_value}
 pub use Rattle.job_rules.specs.Ranges.{AreSettings, IsWithin, IsZone}

@@ -1,4 +1,4 @@
--- The words of the rules below that this crate cites, each with the page that defines it.
+-- The words of the rules below that this crate cites, by the page that each comes from.
 pub use Rattle.art_rules.specs.Words.{Failed, Fault, FaultFitsOrAbsent, FaultsRose, File, Grew, GrewByPrefix, HasCauseAt, Holds, IsTallyOf, MAX_LUMPS, OutOfMemory, PreparedTexture, ReadFault, Refused, ShelfInMemory, ShelfView, Stop, Tally, TextureLists, Writes, ZoneFull, absent, and_then, directory, else_absent, fault_above, file_named, from_below, last_of, lump_at, memory_view, name_of, no_file, stopped, texture_at}
 unfoldable pub use Rattle.art_rules.specs.Words.{book_lumps, each_of, filled, first_needs, is_frame, lump_bytes, picked, shape_lumps, texel}
 pub use Rattle.art_rules.specs.declared.ColumnLookup.{ColumnLookup}

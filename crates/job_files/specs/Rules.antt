@@ -1,4 +1,4 @@
--- The words of the rules below that this crate cites, each with the page that defines it.
+-- The words of the rules below that this crate cites, by the page that each comes from.
 pub use Rattle.art_rules.specs.Words.{AllWithin, DirRefusal, Fault, FaultsRose, File, HasCauses, Holds, IsLaterShelf, Lump, LumpNo, NameFiles, ResultIs, ResultIsOrAbsent, Stop, absent, and_then, directory, else_absent, file_named, flat_of, from_below, itself, lump_at, name_of, no_file}
 unfoldable pub use Rattle.art_rules.specs.Words.{filled, flat_byte, listing_sizes, lump_bytes}
 pub use Rattle.job_rules.specs.Commands.{IsCountedMake}

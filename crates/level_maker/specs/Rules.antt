@@ -1,4 +1,4 @@
--- The words of the rules below that this crate cites, each with the page that defines it.
+-- The words of the rules below that this crate cites, by the page that each comes from.
 unfoldable pub use Rattle.made_rules.specs.Bytes.{halves, records, words}
 unfoldable pub use Rattle.made_rules.specs.Cells.{corner, next_edge}
 unfoldable pub use Rattle.made_rules.specs.Maps.{has_grate, inner_name, leaf_bytes, line_bytes, line_flags, middle_name, sector_bytes, seg_bytes, side_bytes, thing_bytes, vertex_bytes, wall_name}

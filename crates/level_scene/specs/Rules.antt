@@ -1,4 +1,4 @@
--- The words of the rules below that this crate cites, each with the page that defines it.
+-- The words of the rules below that this crate cites, by the page that each comes from.
 pub use Rattle.art_rules.specs.Words.{Fault, Lump, LumpNo, Refused, ResultIs, ShelfView, and_then, itself, map_of, or_else}
 unfoldable pub use Rattle.art_rules.specs.Words.{lump_bytes, side_of}
 pub use Rattle.scene_rules.specs.Node.{Node}

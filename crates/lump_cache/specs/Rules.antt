@@ -1,4 +1,4 @@
--- The words of the rules below that this crate cites, each with the page that defines it.
+-- The words of the rules below that this crate cites, by the page that each comes from.
 pub use Rattle.lump_rules.specs.Contents.{AllWithin, LiesWithin, file_bytes, named_bytes}
 unfoldable pub use Rattle.lump_rules.specs.Contents.{lump_bytes}
 pub use Rattle.lump_rules.specs.Lookups.{last_of, lump_at, no_lump}

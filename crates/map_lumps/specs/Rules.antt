@@ -1,4 +1,4 @@
--- The words of the rules below that this crate cites, each with the page that defines it.
+-- The words of the rules below that this crate cites, by the page that each comes from.
 unfoldable pub use Rattle.level_rules.specs.Levels.{child_on}
 pub use Rattle.level_rules.specs.declared.Child.{Child}
 pub use Rattle.level_rules.specs.declared.Leaf.{Leaf}

@@ -1,4 +1,4 @@
--- The words of the rules below that this crate cites, each with the page that defines it.
+-- The words of the rules below that this crate cites, by the page that each comes from.
 pub use Rattle.art_rules.specs.Words.{Lump, PreparedTexture, ShelfView, texture_at}
 unfoldable pub use Rattle.art_rules.specs.Words.{byte_at, column_place, half_at, is_post, lump_bytes, mask_of, masked_column, next_place, post_at, post_in, posts, single_place}
 pub use Rattle.art_rules.specs.declared.ColumnLookup.{ColumnLookup}

@@ -1,4 +1,4 @@
--- The words of the rules below that this crate cites, each with the page that defines it.
+-- The words of the rules below that this crate cites, by the page that each comes from.
 pub use Rattle.level_rules.specs.Levels.{LevelLists}
 unfoldable pub use Rattle.level_rules.specs.Levels.{child_on, leaf_at, node_at, seg_at, surface_at}
 pub use Rattle.level_rules.specs.declared.Box4.{Box4}

@@ -1,4 +1,4 @@
--- The words of the rules below that this crate cites, each with the page that defines it.
+-- The words of the rules below that this crate cites, by the page that each comes from.
 pub use Rattle.level_rules.specs.Levels.{LevelLists, is_sky, no_leaf, no_seg, no_surface, sky_flat}
 unfoldable pub use Rattle.level_rules.specs.Levels.{leaf_at, node_at, seg_at, surface_at}
 pub use Rattle.level_rules.specs.declared.Child.{Child}

@@ -1,4 +1,4 @@
--- The words of this crate and of those below it that others cite, each with the page that defines it.
+-- The words of this crate and of those below it that others cite, by the page that each comes from.
 pub use Rattle.picture_rules.specs.Rules.{AreInColumn, AreInFrame, Art, COMPOSITE, Child, Dot, Event, Eye, FINE_ANGLES, FLAT_SIDE, FRACTION_BITS, FRACTION_UNIT, FRAME_CELLS, FRAME_HEIGHT, FRAME_WIDTH, FragmentEvent, Full, IsSegIn, IsSound, IsWithinFrame, LIGHT_LEVELS, LUMP, Leaf, LeafEvent, LeafFragment, Length, LevelLists, LevelValue, MAX_DEPTH, MAX_DRAWSEGS, MAX_FRACTION, MAX_SCALE, MAX_SIZE, MIDDLE, MIN_SCALE, MIN_SIZE, MapBytes, MapLeaf, MapRefusal, MaskedColumn, Node, PLANE, Painter, PlacedThing, Post, SKY, SKY_FLAT, SPRITE, Sector, Seg, Side, SideTextures, Source, Spans, Surface, TABLES_BYTES, TANGENTS, TablesRefusal, TablesValue, ThingLine, ViewShape, ViewValue, WALL, WEAPON, WalkState, ang180, ang90, bits_of, fine_angle, is_sky, minus_one, no_leaf, no_seg, no_surface, or_else, sky_flat, turn_back, view_of}
 unfoldable pub use Rattle.picture_rules.specs.Rules.{abs_word, angle_of_column, angles_in, angles_refusal, at_far, at_leaf, at_leaf_of, at_node, at_seg, at_seg_of, at_segs, back_of, box_passes, bright_map, cell_of, clamp_word, colour_of, column_dots, cosine_at, distance_map, div, drawsegs, enters, faces_differ, far_box, far_child, fixed, fixed_or, fragments, greater_word, greatest, heights_differ, inverse_word, is_at, is_closed, is_covered, is_pass, is_solid, joined_leaves, joined_level, joined_lists, last_dot, last_dot_from, last_leaf, leaf_at, leaf_fragments, least, leaves_entered, lesser_word, level_of, light_number, listed, listed_from, lump_source, map_refusal, mark_or, middle_of, minus, mul, natural, near_child, neg_word, no_leaf_refusal, node_at, painter_of, picture_top, plus, post_bottom, post_colour, post_dots, post_first, post_last, post_rows, post_texel, post_top, posts_dots, put_dots, records_of, records_refusal, row_fraction, rows_between, runs, same_word, scale_at, scale_by, scale_light, scale_map, seg_at, shade, shape_of_size, shr_word, side_by_product, side_by_slope, side_of, signed_of, sine_at, sizes_refusal, span_colour, span_dots, step_at, surface_at, tables_refusal, tangent_at, texel_row, times, unless, view_events, walk_child, walk_start, words_unfolded}
 unfoldable pub use Rattle.picture_rules.specs.Counts.{counts_by, counts_from, limit_of, openings_after, openings_count, openings_counts, openings_past, passes_limit, planes_count, steps_over, view_counts, view_over, view_steps}

@@ -1,4 +1,4 @@
--- The words of the rules below that this crate cites, each with the page that defines it.
+-- The words of the rules below that this crate cites, by the page that each comes from.
 pub use Rattle.pixel_rules.specs.Dots.{Dot}
 unfoldable pub use Rattle.pixel_rules.specs.Dots.{cell_of, put_dots}
 unfoldable pub use Rattle.pixel_rules.specs.Strips.{column_colour, column_dots, flat_place, pack, packed_at, packed_half, packed_place, row_fraction, rows_between, shade, span_colour, span_dots, span_place, texel_row}

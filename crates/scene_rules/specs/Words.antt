@@ -1,4 +1,4 @@
--- The words of this crate and of those below it that others cite, each with the page that defines it.
+-- The words of this crate and of those below it that others cite, by the page that each comes from.
 unfoldable pub use Rattle.level_rules.specs.Levels.{child_on}
 pub use Rattle.level_rules.specs.declared.Child.{Child}
 pub use Rattle.level_rules.specs.declared.Child.TheVariants.{Leaf, Node}

@@ -1,4 +1,4 @@
--- The words of the rules below that this crate cites, each with the page that defines it.
+-- The words of the rules below that this crate cites, by the page that each comes from.
 pub use Rattle.art_rules.specs.Words.{Lump, LumpNo, MAP_LUMPS, MAX_LUMPS, PreparedTexture, and_then, from_below, has_name, last_of, lump_at, no_lump}
 unfoldable pub use Rattle.art_rules.specs.Words.{book_lumps, is_patch_of_any, mask_of, patch_lumps, prepared_textures, single_place}
 pub use Rattle.art_rules.specs.declared.TheConstants.{MAX_TEXTURES, PNAMES, TEXTURE1, TEXTURE2}

@@ -1,4 +1,4 @@
--- The words of the rules below that this crate cites, each with the page that defines it.
+-- The words of the rules below that this crate cites, by the page that each comes from.
 pub use Rattle.lump_rules.specs.Contents.{AllWithin}
 pub use Rattle.lump_rules.specs.Lookups.{flat_of, has_name, is_end, is_lump, is_member, is_named_in, is_start, last_of, lump_at, map_of, mark_before, starts_in}
 unfoldable pub use Rattle.lump_rules.specs.Lookups.{are_named, members}

@@ -1,4 +1,4 @@
--- The words of the rules below that this crate cites, each with the page that defines it.
+-- The words of the rules below that this crate cites, by the page that each comes from.
 pub use Rattle.art_rules.specs.Words.{AllWithin, ENTRY_SIZE, F_END, F_START, Failed, FaultsRose, Flats, Grew, GrewByPrefix, HEADER_SIZE, Lump, LumpNo, MAP_LUMPS, MAX_LUMPS, PreparedTexture, S_END, S_START, ShelfView, Sprites, Writes, has_name, is_end, is_start, last_of, lump_at, map_of, name_of, no_lump, or_else}
 unfoldable pub use Rattle.art_rules.specs.Words.{book_lumps, filled, is_patch_of_any, least, lump_bytes, patch_lumps}
 pub use Rattle.art_rules.specs.declared.TheConstants.{PNAMES, TEXTURE1, TEXTURE2}

@@ -1,4 +1,4 @@
--- The words of the rules below that this crate cites, each with the page that defines it.
+-- The words of the rules below that this crate cites, by the page that each comes from.
 pub use Rattle.art_rules.specs.Words.{Fault, Lump, PreparedTexture, ShelfView}
 unfoldable pub use Rattle.art_rules.specs.Words.{byte_at, lump_bytes}
 pub use Rattle.art_rules.specs.declared.ColumnLookup.{ColumnLookup}
