@@ -1,5 +1,5 @@
 -- Laws of what each column of a texture is read from, and of the composite.
-use Rattle.word_rules.proofs.Common.{[], and_le_r, ap, arith, bit_and, get_or-replicate, get_or_default, length, length-append, length-replicate, List, nat_lt, nat_tests, refl, replicate, replicate-append-replicate, slice_index_or, suc, sym, take_all, true, ℕ, ◌*◌, ◌++◌, ◌+◌, ◌<◌, ◌==◌, ◌∙◌, ◌∷◌, ◌≡◌}
+use Rattle.word_rules.proofs.Common.{[], ap, arith, get_or-replicate, get_or_default, length, length-append, length-replicate, List, nat_lt, nat_tests, refl, replicate, replicate-append-replicate, slice_index_or, suc, sym, take_all, true, ℕ, ◌*◌, ◌++◌, ◌+◌, ◌<◌, ◌==◌, ◌∙◌, ◌∷◌, ◌≡◌}
 use Rattle.word_rules.specs.Listed.{joined_lists}
 use Rattle.word_rules.proofs.ListedLemmas.{get_or-listed, length-listed, listed-all}
 use Rattle.art_rules.specs.declared.PlacedPatch.{PlacedPatch}
@@ -7,7 +7,6 @@ use Rattle.art_rules.specs.declared.ColumnLookup.{ColumnLookup}
 use Rattle.art_rules.specs.declared.ColumnLookup.TheVariants.{Empty, Composed}
 use Rattle.art_rules.specs.Columns.{patches_in, is_composed, is_single, composed_columns, composed_count, composite_size, composite_place, last_put, composed_byte, column_posts, composed_column, composite, patch_texel, texel_of, texel}
 use Rattle.art_rules.specs.Lookups.{lookup_of, column_lookup, column_lookups, AreColumnsOf, composite_of_first, texel_by, single_place, is_single_lookup, is_composed_lookup}
-use Rattle.art_rules.proofs.MaskLemmas.{IsMask}
 
 texel_of-lookup_of : (bytes : ℕ → List ℕ) (standing patches : List PlacedPatch) (width height x r : ℕ) → texel_of bytes standing patches width height x r ≡ texel_by bytes (composite bytes patches width height) (lookup_of bytes (composite_place patches height x) x standing) r
 unfolding texel_of texel_by lookup_of patch_texel
@@ -29,12 +28,6 @@ length-column_lookups bytes patches width height = length-listed (column_lookup 
 pub column_lookups-read : (bytes : ℕ → List ℕ) (patches : List PlacedPatch) (width height x : ℕ) (d : ColumnLookup) → x < width → slice_index_or (column_lookups bytes patches width height) x d ≡ column_lookup bytes patches height x
 unfolding column_lookups
 column_lookups-read bytes patches width height x d l = get_or-listed (column_lookup bytes patches height) width x d l
-
-below_mask : (width mask n : ℕ) → 0 < width → IsMask width mask → bit_and n mask < width
-below_mask width mask n some m =
-    let within = m.within in
-    let is = m.is in
-    omega (arith, and_le_r n mask)
 
 lookup_of-single : (bytes : ℕ → List ℕ) (start x : ℕ) (standing : List PlacedPatch) → is_single_lookup (lookup_of bytes start x standing) ≡ (length standing == 1)
 unfolding is_single_lookup single_place lookup_of

@@ -1,5 +1,4 @@
 // The job `limits`: the counts of the views of a path.
-ghost use Rattle.std.specs.Prelude.{ℕ};
 ghost use Rattle.doom_run.specs.Rules.{Writes};
 ghost use Rattle.doom_run.specs.Views.{counts_line, over_line, view_line};
 

@@ -3,8 +3,8 @@ use Rattle.std.proofs.Common.{◌≡◌, ℕ, Bool, true, List, Option, Some, No
 use Rattle.std.proofs.lemmas.Result.{err_from_is_err_and}
 use Rattle.outside.specs.declared.fault.Fault.{Fault}
 use Rattle.outside.specs.declared.fault.Fault.TheVariants.{Refused, ReadFault, ZoneFull, OutOfMemory}
-use Rattle.outside.specs.Faults.{fault_above, and_then, from_below, FaultFits, ResultIs}
-use Rattle.outside.specs.Stops.{Stop, else_absent, no_file, stop_above, FaultFitsOrAbsent, ResultIsOrAbsent}
+use Rattle.outside.specs.Faults.{and_then, FaultFits, ResultIs}
+use Rattle.outside.specs.Stops.{Stop, else_absent, no_file, FaultFitsOrAbsent, ResultIsOrAbsent}
 
 -- a step that stops stops all
 pub stops_all : {A C R : Type 0} (steady : Bool) (first : Result C (Stop R)) (next : C → Result A (Stop R)) (fault : Fault R) →
@@ -80,11 +80,3 @@ unread_agrees {fault_of} {steady} expected (Err fault) answers = record { ok = t
 pub all_passed : {A B R E : Type 0} {fault_of : E → Fault R} {steady : Bool} {value : B → A} (expected : Result A (Stop R)) (found : B) →
     expected ≡ Ok (value found) → ResultIsOrAbsent {E = E} fault_of steady value expected (Ok found)
 all_passed expected found e = record { ok = e; err = tt }
-
--- the stops of a layer below are those of the layer above
-stops_above : {A R Q : Type 0} (f : R → Q) (steady : Bool) (expected : Result A (Stop R)) (fault : Fault R) →
-    FaultFitsOrAbsent steady expected fault → FaultFitsOrAbsent steady (from_below (stop_above f) expected) (fault_above f fault)
-stops_above f steady expected (Refused reason) h = rw h refl
-stops_above f steady expected ReadFault h = λ holds. rw (h holds) refl
-stops_above f steady expected (ZoneFull wanted widest) h = tt
-stops_above f steady expected OutOfMemory h = tt
