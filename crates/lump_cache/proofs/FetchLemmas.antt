@@ -23,7 +23,7 @@ use Rattle.lump_cache.proofs.RestLemmas.{kept_pinned, kept_unpinned, rest_retag,
 use Rattle.lump_cache.proofs.RoomButLemmas.{gap_of_except}
 use Rattle.lump_cache.proofs.RoomLemmas.{gap_of_empty, gap_of_rest}
 use Rattle.lump_cache.proofs.SizeLemmas.{sizes_fetched}
-use Rattle.lump_cache.proofs.StaticLemmas.{has_static_held, held_pinned, static_retagged, static_sized, static_taken}
+use Rattle.lump_cache.proofs.StaticLemmas.{held_pinned, static_retagged, static_sized, static_taken}
 use Rattle.lump_cache.proofs.TagLemmas.{counts_unless_static, static_unless_static}
 
 -- a slot that a call does not name has its bytes, or none

@@ -6,7 +6,7 @@ use Rattle.std.proofs.lemmas.Bool.{cond-true, cond-false}
 use Rattle.lump_cache.specs.Rules.{Block, FitsHolding, Heap, Holding, IsSound, Owner, block_size, bytes_of, is_held_by, owned_block, same_owner, total}
 use Rattle.zone_rules.proofs.GapLemmas.{total-cons}
 use Rattle.zone_rules.proofs.PurgeLemmas.{tiles_end}
-use Rattle.lump_cache.specs.Caches.{HasStatic, IsStatic, lump_owner}
+use Rattle.lump_cache.specs.Caches.{HasStatic, lump_owner}
 use Rattle.lump_cache.proofs.FaithLemmas.{bytes_in}
 use Rattle.lump_cache.proofs.RoomLemmas.{asked_least, held_once, static_asked}
 use Rattle.lump_cache.proofs.RoomButLemmas.{owned_fits}

@@ -1,5 +1,5 @@
 -- A block that is pinned for the whole run.
-use Rattle.std.proofs.Common.{◌≡◌, ℕ, Bool, true, false, cond, not, List, length, Option, Some, None, refl, sym, subst, ap, ◌∙◌, option_map}
+use Rattle.std.proofs.Common.{◌≡◌, ℕ, Bool, true, false, cond, not, length, Option, Some, None, refl, sym, subst, ap, ◌∙◌, option_map}
 use Rattle.std.specs.Prelude.{IfSome, IsSome, option_and_then}
 use Rattle.std.proofs.lemmas.Bool.{cond-true, false≢true}
 use Rattle.lump_cache.specs.Rules.{Block, Cache, FitsHolding, Heap, Holding, IsLive, IsSound, Level, Owner, Static, Tag, bytes_of, holding_of, is_held_by, is_purgeable_tag, owned_block, pins, retag_block, set_tag, with_tag}

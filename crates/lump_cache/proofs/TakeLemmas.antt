@@ -1,5 +1,5 @@
 -- What follows of a request for a block.
-use Rattle.std.proofs.Common.{◌≡◌, ℕ, ◌<◌, false, true, List, [], ◌∷◌, Result, Ok, Err, refl, sym, subst, arith}
+use Rattle.std.proofs.Common.{◌≡◌, ℕ, false, true, List, [], ◌∷◌, Result, Ok, Err, refl, sym, subst, arith}
 use Rattle.std.specs.Prelude.{IfErr, IsOk, OnOk, OnErr}
 use Rattle.lump_cache.specs.Rules.{Heap, IsInOrder, IsLive, Item, KeepsOrder, Lump, Owner, Tag, TakesBlock, block_left, block_size, has_item, owned_block, passed_blocks, same_owner, stretches, without_room}
 use Rattle.zone_heap.specs.declared.zone.ZoneFull.{ZoneFull}

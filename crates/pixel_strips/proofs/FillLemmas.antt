@@ -1,31 +1,80 @@
--- Laws of `fill_cells`: one cell more, and that the cells of a strip of a frame are those of its dots.
-use Rattle.word_rules.proofs.Common.{[], ap, arith, cases_lt, inl, inr, List, max, refl, set-set, set_comm, subst, suc, sym, zero, ℕ, ℤ, ◌*◌, ◌++◌, ◌+◌, ◌-◌, ◌<◌, ◌∙◌, ◌∷◌, ◌≡◌, ◌≢◌, ◌≤◌}
+-- Laws of `fill_cells`: one cell more, how far a loop is, and that the cells of a strip of a frame are
+-- those of its dots.
+use Rattle.word_rules.proofs.Common.{[], ap, arith, cases_lt, FitsSigned, inl, inr, List, max, of_z, refl, set-set, set_comm, subst, suc, sym, to_z, w32, zero, ℕ, ℤ, ◌*◌, ◌++◌, ◌+◌, ◌-◌, ◌<◌, ◌∙◌, ◌∷◌, ◌≡◌, ◌≢◌, ◌≤◌}
 use Rattle.std.proofs.Common.{set}
-use Rattle.pixel_strips.specs.Rules.{Dot, FRAME_WIDTH, Painter, Spans, cell_of, column_dots, listed_from, put_dots, span_dots}
+use Rattle.pixel_strips.specs.Rules.{Dot, FRAME_WIDTH, Painter, Spans, cell_of, column_dots, listed_from, put_dots, span_dots, step_at}
 use Rattle.pixel_rules.proofs.DotLemmas.{put_dots-more, put_dots-none}
+use Rattle.pixel_strips.specs.declared.canvas.CutColumn.{CutColumn}
+use Rattle.pixel_strips.specs.declared.canvas.CutSpan.{CutSpan}
+use Rattle.pixel_strips.specs.declared.places.TheConstants.{CARRIES}
 use Rattle.pixel_strips.specs.Canvases.{marked_by_colour, fill_cells}
-use Rattle.pixel_strips.specs.Fills.{ColumnFilled, SpanFilled}
+use Rattle.pixel_strips.specs.Fills.{ColumnFilled, ColumnFills, Filled, Fills, SpanFilled, SpanFills}
+use Rattle.pixel_strips.specs.Places.{IsFirstPlace, IsSpanPlace, IsTexelPlace}
+use Rattle.pixel_strips.proofs.PlaceLemmas.{span_place-to, span_place_begun, texel_place_begun, texel_place_later}
 use Rattle.pixel_strips.proofs.CanvasLemmas.{rows_dots, rows_none, rows_more, rows_all, span_dot, columns_dots, columns_none, columns_more, columns_all}
 
-pub fill_cells-none : (place value : ℕ → ℕ) (cells : List ℕ) → cells ≡ fill_cells place value 0 cells
+fill_cells-none : (place value : ℕ → ℕ) (cells : List ℕ) → cells ≡ fill_cells place value 0 cells
 unfolding fill_cells
 fill_cells-none place value cells = refl
 
--- no cell of a strip is set yet
-pub column_filled-none : {texels shades : List ℕ} {fraction step : ℤ} {start : ℕ} {cells : List ℕ} → ColumnFilled texels shades fraction step start 0 cells cells
-column_filled-none {cells = cells} = record { filled = fill_cells-none _ _ cells }
+-- so many cells are set, where a call has set the last of them
+pub fills_to : {cell value : ℕ → ℕ} {n count so_far all : ℕ} {before old new : List ℕ} → max so_far (n + count) ≡ all → n ≤ so_far →
+    Fills cell value n count old new → Filled cell value so_far before old → Filled cell value all before new
+fills_to {cell} {value} {so_far = so_far} {before = before} {new = new} e among f i = subst (λ (k : ℕ). Filled cell value k before new) e (f.sets so_far before among i)
 
-pub span_filled-none : {spans : Spans} {texels shades : List ℕ} {x y x_step y_step : ℤ} {start : ℕ} {cells : List ℕ} → SpanFilled spans texels shades x y x_step y_step start 0 cells cells
-span_filled-none {cells = cells} = record { filled = fill_cells-none _ _ cells }
+-- four, one by one
+pub fills_four : {cell value : ℕ → ℕ} {n : ℕ} {a b c d e : List ℕ} → Fills cell value n 1 a b → Fills cell value (n + 1) 1 b c →
+    Fills cell value (n + 2) 1 c d → Fills cell value (n + 3) 1 d e → Fills cell value n 4 a e
+fills_four {n = n} one two three four = record {
+  sets = λ so_far before among i.
+      fills_to {so_far = max so_far (n + 3)} (omega arith) (omega arith) four
+      (fills_to {so_far = max so_far (n + 2)} (omega arith) (omega arith) three
+      (fills_to {so_far = max so_far (n + 1)} (omega arith) (omega arith) two (one.sets so_far before among i)));
+}
 
--- the same under another name of their count
-pub column_filled-to : {texels shades : List ℕ} {fraction step : ℤ} {start m n : ℕ} {before cells : List ℕ} → m ≡ n →
-    ColumnFilled texels shades fraction step start m before cells → ColumnFilled texels shades fraction step start n before cells
-column_filled-to {texels} {shades} {fraction} {step} {start} {m} {n} {before} {cells} e i = subst (λ (k : ℕ). ColumnFilled texels shades fraction step start k before cells) e i
+-- n cells of a column are set, and the place is that of the next one
+pub record ColumnReached (cut : CutColumn) (start n place : ℕ) (before cells : List ℕ) : Type 0 where
+  pub at : IsTexelPlace (step_at cut.fraction cut.step n) place
+  pub filled : ColumnFilled cut.texels.now cut.shades.now cut.fraction cut.step start n before cells
 
-pub span_filled-to : {spans : Spans} {texels shades : List ℕ} {x y x_step y_step : ℤ} {start m n : ℕ} {before cells : List ℕ} → m ≡ n →
-    SpanFilled spans texels shades x y x_step y_step start m before cells → SpanFilled spans texels shades x y x_step y_step start n before cells
-span_filled-to {spans} {texels} {shades} {x} {y} {x_step} {y_step} {start} {m} {n} {before} {cells} e i = subst (λ (k : ℕ). SpanFilled spans texels shades x y x_step y_step start k before cells) e i
+pub column_begun : {cut : CutColumn} {start place : ℕ} {cells : List ℕ} → FitsSigned w32 cut.fraction →
+    IsTexelPlace (to_z w32 (of_z w32 cut.fraction)) place → ColumnReached cut start 0 place cells cells
+column_begun {cut} {cells = cells} f p = record {
+  at = texel_place_begun cut.fraction cut.step _ f p;
+  filled = record { filled = fill_cells-none _ _ cells };
+}
+
+-- `count` rows more, and so many steps
+pub column_reached : {cut : CutColumn} {start n m count place step next : ℕ} {before old new : List ℕ} → n + count ≡ m → IsTexelPlace cut.step step →
+    ColumnReached cut start n place before old → ((a b : ℤ) → IsTexelPlace a place → IsTexelPlace b step → IsTexelPlace (step_at a b count) next) →
+    (IsTexelPlace (step_at cut.fraction cut.step n) place → ColumnFills cut cut.fraction start n count old new) →
+    ColumnReached cut start m next before new
+column_reached {cut} {n = n} {m} {count} e step i stepped filled = record {
+  at = texel_place_later cut.fraction cut.step n count m _ e (stepped _ cut.step i.at step);
+  filled = fills_to (omega (arith, e)) (omega arith) (filled i.at) i.filled;
+}
+
+-- the same of a span, with at most one carry a step
+pub record SpanReached (cut : CutSpan) (start n place : ℕ) (before cells : List ℕ) : Type 0 where
+  pub at : IsSpanPlace cut.spans cut.x_fraction cut.y_fraction cut.x_step cut.y_step n place
+  pub filled : SpanFilled cut.spans cut.texels.now cut.shades.now cut.x_fraction cut.y_fraction cut.x_step cut.y_step start n before cells
+
+pub span_begun : {cut : CutSpan} {start place : ℕ} {cells : List ℕ} → FitsSigned w32 cut.x_fraction → FitsSigned w32 cut.y_fraction →
+    IsFirstPlace cut.spans (to_z w32 (of_z w32 cut.x_fraction)) (to_z w32 (of_z w32 cut.y_fraction)) place → SpanReached cut start 0 place cells cells
+span_begun {cut} {cells = cells} f g p = record {
+  at = span_place_begun cut.spans cut.x_fraction cut.y_fraction cut.x_step cut.y_step _ f g p;
+  filled = record { filled = fill_cells-none _ _ cells };
+}
+
+pub span_reached : {cut : CutSpan} {start n m count place step next : ℕ} {before old new : List ℕ} → n + count ≡ m → n + count < CARRIES →
+    IsFirstPlace cut.spans cut.x_step cut.y_step step → SpanReached cut start n place before old →
+    ((spans : Spans) (x y a b : ℤ) (k : ℕ) → k + count < CARRIES → IsSpanPlace spans x y a b k place → IsFirstPlace spans a b step → IsSpanPlace spans x y a b (k + count) next) →
+    (IsSpanPlace cut.spans cut.x_fraction cut.y_fraction cut.x_step cut.y_step n place → SpanFills cut cut.x_fraction cut.y_fraction start n count old new) →
+    SpanReached cut start m next before new
+span_reached {cut} {n = n} {m} {count} e few step i stepped filled = record {
+  at = span_place-to cut.spans cut.x_fraction cut.y_fraction cut.x_step cut.y_step (n + count) m _ e (stepped cut.spans cut.x_fraction cut.y_fraction cut.x_step cut.y_step n few i.at step);
+  filled = fills_to (omega (arith, e)) (omega arith) (filled i.at) i.filled;
+}
 
 pub fill_cells-more : (place value : ℕ → ℕ) (k n : ℕ) (cells : List ℕ) → k + 1 ≡ n →
     set (fill_cells place value k cells) (place k) (value k) ≡ fill_cells place value n cells

@@ -3,9 +3,9 @@ ghost use Rattle.std.specs.Prelude.{◌≡◌, ◌^◌, ◌<◌};
 ghost use Rattle.pixel_strips.specs.Lying.{IsColumnIn, with_column_cut};
 
 use crate::canvas::{Canvas, CutColumn};
-use crate::texels::{column_colour, window};
+use crate::texels::{column_colour, shades_of, window};
 use fx_words::plus;
-use pixel_rules::{MAP_COLOURS, TEXEL_ROWS};
+use pixel_rules::TEXEL_ROWS;
 
 /// Rows `first` to `last` of column `x` of the view.
 ///
@@ -37,11 +37,7 @@ pub fn paint_column<C: Canvas>(canvas: &mut C, strip: &ColumnStrip<'_>)
     ensures { C.view canvas.new ≡ with_column_cut C.mark strip.now (C.view canvas.old) }
 {
     if let Some(texels) = window(strip.source, strip.base, TEXEL_ROWS as usize)
-        && let Some(shades) = window(
-            strip.colormap,
-            MAP_COLOURS as u64 * strip.map as u64,
-            MAP_COLOURS as usize,
-        )
+        && let Some(shades) = shades_of(strip.colormap, strip.map)
     {
         let cut = CutColumn {
             texels,

@@ -1,9 +1,9 @@
 // A frame of palette indices.
-ghost use Rattle.std.specs.Prelude.{◌≡◌, ◌+◌, ◌<◌, ◌≤◌, ◌*◌, ℕ, ℤ, List, length, max, replicate, IfOk};
+ghost use Rattle.std.specs.Prelude.{◌≡◌, ◌+◌, ◌<◌, ◌≤◌, ◌*◌, ℕ, ℤ, length, replicate, IfOk};
 ghost use Rattle.pixel_strips.specs.Rules.{FRAME_CELLS, FRAME_WIDTH, MAP_COLOURS, TEXEL_ROWS, step_at};
 ghost use Rattle.pixel_strips.specs.declared.texels.TheConstants.{FLAT_BYTES};
 ghost use Rattle.pixel_strips.specs.Canvases.{CanvasView, blank, marked_by_colour};
-ghost use Rattle.pixel_strips.specs.Fills.{ColumnFilled, SpanFilled};
+ghost use Rattle.pixel_strips.specs.Fills.{ColumnFilled, ColumnFills, SpanFilled, SpanFills};
 ghost use Rattle.pixel_strips.specs.Places.{IsTexelPlace, IsFirstPlace, IsSpanPlace};
 
 use crate::canvas::{Canvas, CutColumn, CutSpan};
@@ -205,13 +205,9 @@ fn fill_four(cells: &mut [u8], cell: usize, place: u32, step: u32, cut: &CutColu
     requires within { cell + 3 * FRAME_WIDTH < FRAME_CELLS }
     requires texels { length cut.now.texels.now ≡ TEXEL_ROWS }
     requires shades { length cut.now.shades.now ≡ MAP_COLOURS }
-    ensures { (fraction : ℤ) (start n so_far : ℕ) (before : List ℕ) →
-        cell ≡ start + FRAME_WIDTH * n → n ≤ so_far → so_far ≤ n + 4 →
+    ensures { (fraction : ℤ) (start n : ℕ) → cell ≡ start + FRAME_WIDTH * n →
         IsTexelPlace cut.now.step step → IsTexelPlace (step_at fraction cut.now.step n) place →
-        ColumnFilled cut.now.texels.now cut.now.shades.now fraction cut.now.step start so_far
-        before cells.old →
-        ColumnFilled cut.now.texels.now cut.now.shades.now fraction cut.now.step start (n + 4)
-        before cells.new }
+        ColumnFills cut.now fraction start n 4 cells.old cells.new }
 {
     let width = FRAME_WIDTH as usize;
     fill_row(cells, cell, place, cut);
@@ -227,13 +223,9 @@ fn fill_row(cells: &mut [u8], cell: usize, place: u32, cut: &CutColumn<'_>)
     requires within { cell < FRAME_CELLS }
     requires texels { length cut.now.texels.now ≡ TEXEL_ROWS }
     requires shades { length cut.now.shades.now ≡ MAP_COLOURS }
-    ensures { (fraction : ℤ) (start n so_far : ℕ) (before : List ℕ) →
-        cell ≡ start + FRAME_WIDTH * n → n ≤ so_far →
+    ensures { (fraction : ℤ) (start n : ℕ) → cell ≡ start + FRAME_WIDTH * n →
         IsTexelPlace (step_at fraction cut.now.step n) place →
-        ColumnFilled cut.now.texels.now cut.now.shades.now fraction cut.now.step start so_far
-        before cells.old →
-        ColumnFilled cut.now.texels.now cut.now.shades.now fraction cut.now.step start
-        (max so_far (n + 1)) before cells.new }
+        ColumnFills cut.now fraction start n 1 cells.old cells.new }
 {
     cells[cell] = cut.shades[cut.texels[row_at(place)] as usize];
 }
@@ -309,14 +301,10 @@ fn fill_four_across(cells: &mut [u8], cell: usize, place: u64, step: u64, cut: &
     requires within { cell + 3 < FRAME_CELLS }
     requires texels { length cut.now.texels.now ≡ FLAT_BYTES }
     requires shades { length cut.now.shades.now ≡ MAP_COLOURS }
-    ensures { (x y : ℤ) (start n so_far : ℕ) (before : List ℕ) → n + 3 < FRAME_WIDTH →
-        cell ≡ start + n → n ≤ so_far → so_far ≤ n + 4 →
+    ensures { (x y : ℤ) (start n : ℕ) → n + 3 < FRAME_WIDTH → cell ≡ start + n →
         IsFirstPlace cut.now.spans cut.now.x_step cut.now.y_step step →
         IsSpanPlace cut.now.spans x y cut.now.x_step cut.now.y_step n place →
-        SpanFilled cut.now.spans cut.now.texels.now cut.now.shades.now x y cut.now.x_step
-        cut.now.y_step start so_far before cells.old →
-        SpanFilled cut.now.spans cut.now.texels.now cut.now.shades.now x y cut.now.x_step
-        cut.now.y_step start (n + 4) before cells.new }
+        SpanFills cut.now x y start n 4 cells.old cells.new }
 {
     fill_one(cells, cell, place, cut);
     fill_one(cells, cell + 1, place_after(place, step, 1), cut);
@@ -331,13 +319,9 @@ fn fill_one(cells: &mut [u8], cell: usize, place: u64, cut: &CutSpan<'_>)
     requires within { cell < FRAME_CELLS }
     requires texels { length cut.now.texels.now ≡ FLAT_BYTES }
     requires shades { length cut.now.shades.now ≡ MAP_COLOURS }
-    ensures { (x y : ℤ) (start n so_far : ℕ) (before : List ℕ) → n < FRAME_WIDTH →
-        cell ≡ start + n → n ≤ so_far →
+    ensures { (x y : ℤ) (start n : ℕ) → n < FRAME_WIDTH → cell ≡ start + n →
         IsSpanPlace cut.now.spans x y cut.now.x_step cut.now.y_step n place →
-        SpanFilled cut.now.spans cut.now.texels.now cut.now.shades.now x y cut.now.x_step
-        cut.now.y_step start so_far before cells.old →
-        SpanFilled cut.now.spans cut.now.texels.now cut.now.shades.now x y cut.now.x_step
-        cut.now.y_step start (max so_far (n + 1)) before cells.new }
+        SpanFills cut.now x y start n 1 cells.old cells.new }
 {
     cells[cell] = cut.shades[cut.texels[flat_place_at(place)] as usize];
 }

@@ -5,8 +5,7 @@ ghost use Rattle.pixel_strips.specs.Lying.{IsSpanIn, with_span};
 
 use crate::canvas::{Canvas, CutSpan};
 use crate::places::{first_place, flat_place_at, place_after};
-use crate::texels::{FLAT_BYTES, span_colour, window};
-use pixel_rules::MAP_COLOURS;
+use crate::texels::{FLAT_BYTES, shades_of, span_colour, window};
 use view_rules::Spans;
 
 /// Columns `first` to `last` of row `y` of the view.
@@ -49,11 +48,7 @@ pub fn paint_span_as<C: Canvas>(canvas: &mut C, strip: &SpanStrip<'_>, spans: Sp
     ensures { C.view canvas.new ≡ with_span C.mark spans strip.now (C.view canvas.old) }
 {
     if let Some(texels) = window(strip.flat, 0, FLAT_BYTES)
-        && let Some(shades) = window(
-            strip.colormap,
-            MAP_COLOURS as u64 * strip.map as u64,
-            MAP_COLOURS as usize,
-        )
+        && let Some(shades) = shades_of(strip.colormap, strip.map)
     {
         let cut = CutSpan {
             texels,

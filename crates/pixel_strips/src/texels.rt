@@ -25,6 +25,20 @@ pub fn window(bytes: &[u8], offset: u64, count: usize) -> Option<&[u8]>
     Some(&bytes[start..end])
 }
 
+/// The 256 shades of colormap `map`, None where the lump ends before them.
+#[inline(always)]
+pub fn shades_of(colormap: &[u8], map: u8) -> Option<&[u8]>
+    ensures some { IfSome result (λ part.
+        IsWindow colormap.now (MAP_COLOURS * map) MAP_COLOURS part.now) }
+    ensures none { IfNone result (length colormap.now < MAP_COLOURS * map + MAP_COLOURS) }
+{
+    window(
+        colormap,
+        MAP_COLOURS as u64 * map as u64,
+        MAP_COLOURS as usize,
+    )
+}
+
 /// The byte at an offset, 0 past the end.
 pub fn byte_or_zero(bytes: &[u8], offset: u64) -> u8
     ensures { result ≡ slice_index bytes.now offset }

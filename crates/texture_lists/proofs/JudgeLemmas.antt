@@ -1,13 +1,16 @@
 -- Lumps that are fetched by name and then judged by their bytes.
-use Rattle.std.proofs.Common.{◌≡◌, ℕ, true, List, Option, Result, Ok, Err, refl, sym, ap, ◌∙◌, IsErrAnd}
+use Rattle.std.proofs.Common.{◌≡◌, ◌<◌, ◌≤◌, ℕ, ◌+◌, false, true, List, length, Option, Result, Ok, Err, refl, sym, ap, ◌∙◌, IfSome, IsErrAnd, OnOk}
 use Rattle.texture_lists.specs.Rules.{Fault, LumpNo, OutOfMemory, PNAMES, ReadFault, Refused, ResultIs, ShelfView, TEXTURE1, TEXTURE2, TexRefusal, ZoneFull, filled, itself, last_of, lump_bytes, name_of, named_bytes}
-use Rattle.lump_cache.specs.Zones.{Heap}
+use Rattle.lump_cache.specs.Zones.{Heap, IsLive, block_size, owned_block, same_owner}
 use Rattle.lump_cache.specs.DirectoryView.{DirectoryView}
+use Rattle.lump_cache.specs.Caches.{HasStatic, lump_owner}
 use Rattle.lump_cache.specs.Calls.{ReadsLumps, HoldContents}
-use Rattle.lump_cache.specs.Named.{IsLast}
+use Rattle.lump_cache.specs.Named.{IsLast, live_bytes}
+use Rattle.lump_cache.specs.Sizes.{StandsBeside}
 use Rattle.lump_cache.proofs.CallLemmas.{reads_stop_first, reads_short, reads_then_refused, reads_then_found}
 use Rattle.texture_lists.specs.Asked.{lump_number}
 use Rattle.texture_lists.specs.Parts.{IsOfBytes}
+use Rattle.texture_lists.proofs.BesideLemmas.{list_beside}
 
 -- the names of the lists are in capitals
 pub pnames_name : name_of PNAMES ≡ PNAMES
@@ -41,11 +44,17 @@ module _ {A B : Type 0} {v w : ShelfView} {dir : DirectoryView} {a b : Heap} {na
   fetch_stopped fetched fault result one was is =
       reads_stop_first (λ bytes. judge (named_bytes bytes dir.lumps key)) fetched fault result one was is (λ lump s. ap (last_of dir.lumps) (sym same) ∙ s) (λ bytes e stopped. absurd (cc))
 
-  -- the lump was fetched, if there is one
-  pub fetch_judged : (lump : Option LumpNo) (live : Option (List ℕ)) (result : Result B (Fault TexRefusal)) →
+  -- the lump was fetched, if there is one, and stands beside the colormap
+  pub fetch_judged : (lump : Option LumpNo) (lent : Option (List ℕ)) (result : Result B (Fault TexRefusal)) →
       ReadsLumps {R = TexRefusal} itself v w dir a b (IsLast dir.lumps name) lump_number (λ bytes. Ok (last_of dir.lumps name)) (Ok lump) →
-      ((contents : List (List ℕ)) → HoldContents v dir a contents → live ≡ named_bytes (lump_bytes contents dir.lumps) dir.lumps name) → ResultIs itself true value (judge live) result → IsOfBytes result →
+      lump_number lump ≡ last_of dir.lumps name → IfSome lump (λ l. l.0 < length dir.lumps) → IfSome lump (λ l. IsLive b (lump_owner l.0)) →
+      ((contents : List (List ℕ)) → HoldContents v dir a contents → live_bytes lump b ≡ named_bytes (lump_bytes contents dir.lumps) dir.lumps name) → lent ≡ live_bytes lump b →
+      ((colormap count : ℕ) → HasStatic count (owned_block (lump_owner colormap) b.blocks) → IfSome lump (λ l. same_owner (lump_owner colormap) (lump_owner l.0) ≡ false) → IfSome lent (λ bytes. block_size count + block_size (length bytes) ≤ b.size)) →
+      ResultIs itself true value (judge lent) result → IsOfBytes result →
       ReadsLumps itself v w dir a b (IsLast dir.lumps key) value (λ bytes. judge (named_bytes bytes dir.lumps key)) result
-  fetch_judged lump live result one bytes judged of_bytes =
-      tells_end (λ bytes. judge (named_bytes bytes dir.lumps key)) result one (λ lump s. ap (last_of dir.lumps) (sym same) ∙ s) of_bytes
-      (λ contents t last. rw (← ap (named_bytes (lump_bytes contents dir.lumps) dir.lumps) same, ← bytes contents t) judged)
+      × OnOk result ((number : ℕ) → IsLast dir.lumps key number → StandsBeside dir.lumps a number)
+  fetch_judged lump lent result one found there live bytes is fits judged of_bytes = (
+    tells_end (λ bytes. judge (named_bytes bytes dir.lumps key)) result one (λ lump s. ap (last_of dir.lumps) (sym same) ∙ s) of_bytes
+        (λ contents t last. rw (← ap (named_bytes (lump_bytes contents dir.lumps) dir.lumps) same, ← bytes contents t, ← is) judged),
+    list_beside same lump lent result one.keeps found there live is fits,
+  )

@@ -4,9 +4,9 @@ use Rattle.pixel_strips.proofs.CanvasLemmas.{recoloured}
 use Rattle.pixel_strips.proofs.CutLemmas.{cut_strip_words}
 use Rattle.pixel_strips.proofs.column.paint_column.Goals as goal
 
-pub returns-in-Some-window : goal.returns-in-Some-window
-returns-in-Some-window g c =
+pub returns-in-Some-shades_of : goal.returns-in-Some-shades_of
+returns-in-Some-shades_of g c =
     let s = c.args.strip.now in
     recoloured _ _ _ (λ (colour : ℕ → ℕ). column_strip_dots (g.C.Canvas.view c.args.canvas.now).painter s.x colour s.first s.last) _ _ c.column.ensures
-    (cut_strip_words s.source.now s.colormap.now c.in-Some.texels.now c.in-Some-window.shades.now s.base s.map s.fraction s.step s.first (search rules) (search rules)
-    c.in-Some.ensures.some c.in-Some-window.ensures.some c.in-Some.ensures.within)
+    (cut_strip_words s.source.now s.colormap.now c.in-Some.texels.now c.in-Some-shades_of.shades.now s.base s.map s.fraction s.step s.first (search rules) (search rules)
+    c.in-Some.ensures.some c.in-Some-shades_of.ensures.some c.in-Some.ensures.within)
