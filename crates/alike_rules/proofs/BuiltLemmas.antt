@@ -1,7 +1,7 @@
 -- The planes of a view whose flats have other numbers are built alike, and counted alike.
 use Rattle.picture_rules.proofs.Common.{[], AllByRecursion, ap, Bool, cond, false, length-map, List, map, None, Option, option_map, refl, slice_get, slice_set, Some, suc, true, zero, ℕ, ⊤, ◌++◌, ◌+◌, ◌-◌, ◌∙◌, ◌∷◌, ◌≡◌}
-use Rattle.alike_rules.specs.Rules.{Draws, Finds, Plane, PlaneEvent, PlaneKey, PlaneWall, PlanesNow, add, after_event, after_events, ceiling_checked, ceiling_found, check, check_plane, check_some, checked_plane, column_marked, columns_marked, empty_plane, find, floor_checked, floor_found, is_free, mark, mark_some, no_planes, number_of, number_or_add, plane_counts, planes_of, set_run, wall_marked, with_ceiling, with_floor, with_run}
-use Rattle.alike_rules.proofs.PlaneLemmas.{IsFlatOf, IsOneToOne, IsPlaneOf, check-moved, find-moved, mark-moved, moved_key, moved_plane}
+use Rattle.alike_rules.specs.Rules.{Draws, Finds, Plane, PlaneChoice, PlaneEvent, PlaneKey, PlaneWall, PlanesNow, add, after_event, after_events, ceiling_checked, ceiling_found, check, check_plane, check_some, checked_plane, column_marked, columns_marked, empty_plane, find, floor_checked, floor_found, is_free, mark, mark_some, no_planes, number_of, number_or_add, plane_counts, planes_of, set_run, wall_marked, with_ceiling, with_floor, with_run}
+use Rattle.alike_rules.proofs.PlaneLemmas.{IsFlatOf, IsOneToOne, IsPlaneOf, check-moved, find-moved, mark-moved, moved_choice, moved_key, moved_plane}
 
 abbrev pub moved_now : (ℕ → ℕ) → PlanesNow → PlanesNow
 moved_now σ s = record { planes = map (moved_plane σ) s.planes; floor = s.floor; ceiling = s.ceiling }
@@ -101,26 +101,24 @@ module _ (P : ℕ → Type 0) where
   ceiling_found-of None s all k = all
   ceiling_found-of (Some key) s all k = find-of s.planes key all k
 
-  ceiling_checked-by : (b : Bool) (o : Option ℕ) (w : PlaneWall) (s : PlanesNow) → AreOf P s.planes → AreOf P (with_ceiling (checked_plane b s.planes o w.first w.last) s).planes
-  unfolding with_ceiling checked_plane
-  ceiling_checked-by false o w s all = all
-  ceiling_checked-by true None w s all = all
-  ceiling_checked-by true (Some i) w s all = check-of s.planes i w.first w.last all
-
-  floor_checked-by : (b : Bool) (o : Option ℕ) (w : PlaneWall) (s : PlanesNow) → AreOf P s.planes → AreOf P (with_floor (checked_plane b s.planes o w.first w.last) s).planes
-  unfolding with_floor checked_plane
-  floor_checked-by false o w s all = all
-  floor_checked-by true None w s all = all
-  floor_checked-by true (Some i) w s all = check-of s.planes i w.first w.last all
+  -- a plane is checked, and put as the leaf's ceiling or floor
+  checked-by : (put : Option PlaneChoice → PlanesNow → PlanesNow) → ((s : PlanesNow) → AreOf P s.planes → AreOf P (put None s).planes)
+      → ((c : PlaneChoice) (s : PlanesNow) → AreOf P c.planes → AreOf P (put (Some c) s).planes)
+      → (b : Bool) (o : Option ℕ) (w : PlaneWall) (s : PlanesNow) → AreOf P s.planes → AreOf P (put (checked_plane b s.planes o w.first w.last) s).planes
+  unfolding checked_plane
+  checked-by put none some false o w s all = none s all
+  checked-by put none some true None w s all = none s all
+  checked-by put none some true (Some i) w s all = some (check s.planes i w.first w.last) s (check-of s.planes i w.first w.last all)
 
   pub event-of : (s : PlanesNow) (e : PlaneEvent) → AreOf P s.planes → IsEventOf P e → AreOf P (after_event s e).planes
-  unfolding after_event wall_marked ceiling_checked floor_checked
+  unfolding after_event wall_marked ceiling_checked floor_checked with_ceiling with_floor
   event-of s (Finds floor ceiling) all k = ceiling_found-of ceiling (floor_found floor s) (floor_found-of floor s all k.0) k.1
   event-of s (Draws w) all k =
       let one = with_ceiling (checked_plane w.ceiling_mark s.planes s.ceiling w.first w.last) s in
       let two = with_floor (checked_plane w.floor_mark one.planes one.floor w.first w.last) one in
       columns-of w two.ceiling two.floor (w.last + 1 - w.first) two.planes
-      (floor_checked-by w.floor_mark one.floor w one (ceiling_checked-by w.ceiling_mark s.ceiling w s all))
+      (checked-by with_floor (λ t all. all) (λ c t all. all) w.floor_mark one.floor w one
+      (checked-by with_ceiling (λ t all. all) (λ c t all. all) w.ceiling_mark s.ceiling w s all))
 
   module _ (σ : ℕ → ℕ) (one : IsOneToOne P σ) where
     floor_found-moved : (key : Option PlaneKey) (s : PlanesNow) → AreOf P s.planes → IsKeyOf P key → floor_found (option_map (moved_key σ) key) (moved_now σ s) ≡ moved_now σ (floor_found key s)
@@ -133,19 +131,23 @@ module _ (P : ℕ → Type 0) where
     ceiling_found-moved None s all k = refl
     ceiling_found-moved (Some key) s all k = rw (find-moved P σ one s.planes key all k) refl
 
-    ceiling_checked-moved : (b : Bool) (o : Option ℕ) (w : PlaneWall) (s : PlanesNow)
-        → with_ceiling (checked_plane b (map (moved_plane σ) s.planes) o w.first w.last) (moved_now σ s) ≡ moved_now σ (with_ceiling (checked_plane b s.planes o w.first w.last) s)
-    unfolding with_ceiling checked_plane
-    ceiling_checked-moved false o w s = refl
-    ceiling_checked-moved true None w s = refl
-    ceiling_checked-moved true (Some i) w s = rw (check-moved P σ one s.planes i w.first w.last) refl
+    checked-moved : (put : Option PlaneChoice → PlanesNow → PlanesNow) → ((s : PlanesNow) → put None (moved_now σ s) ≡ moved_now σ (put None s))
+        → ((c : PlaneChoice) (s : PlanesNow) → put (Some (moved_choice σ c)) (moved_now σ s) ≡ moved_now σ (put (Some c) s))
+        → (b : Bool) (o : Option ℕ) (w : PlaneWall) (s : PlanesNow)
+        → put (checked_plane b (map (moved_plane σ) s.planes) o w.first w.last) (moved_now σ s) ≡ moved_now σ (put (checked_plane b s.planes o w.first w.last) s)
+    unfolding checked_plane
+    checked-moved put none some false o w s = none s
+    checked-moved put none some true None w s = none s
+    checked-moved put none some true (Some i) w s =
+        ap (λ c. put (Some c) (moved_now σ s)) (check-moved P σ one s.planes i w.first w.last) ∙ some (check s.planes i w.first w.last) s
 
-    floor_checked-moved : (b : Bool) (o : Option ℕ) (w : PlaneWall) (s : PlanesNow)
-        → with_floor (checked_plane b (map (moved_plane σ) s.planes) o w.first w.last) (moved_now σ s) ≡ moved_now σ (with_floor (checked_plane b s.planes o w.first w.last) s)
-    unfolding with_floor checked_plane
-    floor_checked-moved false o w s = refl
-    floor_checked-moved true None w s = refl
-    floor_checked-moved true (Some i) w s = rw (check-moved P σ one s.planes i w.first w.last) refl
+    ceiling_checked-moved : (w : PlaneWall) (s : PlanesNow) → ceiling_checked w (moved_now σ s) ≡ moved_now σ (ceiling_checked w s)
+    unfolding ceiling_checked with_ceiling
+    ceiling_checked-moved w s = checked-moved with_ceiling (λ t. refl) (λ c t. refl) w.ceiling_mark s.ceiling w s
+
+    floor_checked-moved : (w : PlaneWall) (s : PlanesNow) → floor_checked w (moved_now σ s) ≡ moved_now σ (floor_checked w s)
+    unfolding floor_checked with_floor
+    floor_checked-moved w s = checked-moved with_floor (λ t. refl) (λ c t. refl) w.floor_mark s.floor w s
 
     run-moved : (planes : List Plane) (o : Option ℕ) (x : ℕ) (rows : Option (ℕ × ℕ)) → set_run (map (moved_plane σ) planes) o x rows ≡ map (moved_plane σ) (set_run planes o x rows)
     unfolding set_run
@@ -165,16 +167,16 @@ module _ (P : ℕ → Type 0) where
 
     -- an event does the same to planes under other numbers
     pub event-moved : (s : PlanesNow) (e : PlaneEvent) → AreOf P s.planes → IsEventOf P e → after_event (moved_now σ s) (moved_event σ e) ≡ moved_now σ (after_event s e)
-    unfolding after_event wall_marked ceiling_checked floor_checked
+    unfolding after_event wall_marked
     event-moved s (Finds floor ceiling) all k =
         ap (ceiling_found (option_map (moved_key σ) ceiling)) (floor_found-moved floor s all k.0)
         ∙ ceiling_found-moved ceiling (floor_found floor s) (floor_found-of floor s all k.0) k.1
     event-moved s (Draws w) all k =
-        let one_step = with_ceiling (checked_plane w.ceiling_mark s.planes s.ceiling w.first w.last) s in
-        let two_step = with_floor (checked_plane w.floor_mark one_step.planes one_step.floor w.first w.last) one_step in
+        let one_step = ceiling_checked w s in
+        let two_step = floor_checked w one_step in
         rw (
-          ceiling_checked-moved w.ceiling_mark s.ceiling w s,
-          floor_checked-moved w.floor_mark one_step.floor w one_step,
+          ceiling_checked-moved w s,
+          floor_checked-moved w one_step,
           columns-moved w two_step.ceiling two_step.floor (w.last + 1 - w.first) two_step.planes,
         ) refl
 
@@ -193,7 +195,7 @@ module _ (P : ℕ → Type 0) where
 
     -- and the counts of an event
     pub counts-moved : (s : PlanesNow) (e : PlaneEvent) → AreOf P s.planes → IsEventOf P e → plane_counts (moved_now σ s) (moved_event σ e) ≡ plane_counts s e
-    unfolding plane_counts ceiling_checked floor_checked
+    unfolding plane_counts
     counts-moved s (Finds floor ceiling) all k =
         rw (
           floor_found-moved floor s all k.0,
@@ -202,11 +204,9 @@ module _ (P : ℕ → Type 0) where
           length-map (ceiling_found ceiling (floor_found floor s)).planes (moved_plane σ),
         ) refl
     counts-moved s (Draws w) all k =
-        let one_step = with_ceiling (checked_plane w.ceiling_mark s.planes s.ceiling w.first w.last) s in
-        let two_step = with_floor (checked_plane w.floor_mark one_step.planes one_step.floor w.first w.last) one_step in
         rw (
-          ceiling_checked-moved w.ceiling_mark s.ceiling w s,
-          floor_checked-moved w.floor_mark one_step.floor w one_step,
-          length-map one_step.planes (moved_plane σ),
-          length-map two_step.planes (moved_plane σ),
+          ceiling_checked-moved w s,
+          floor_checked-moved w (ceiling_checked w s),
+          length-map (ceiling_checked w s).planes (moved_plane σ),
+          length-map (floor_checked w (ceiling_checked w s)).planes (moved_plane σ),
         ) refl

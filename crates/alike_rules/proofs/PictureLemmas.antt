@@ -1,15 +1,15 @@
 -- The picture of a view does not depend on the numbers of lumps: its dots are the same but for the source that their
--- painters name, and its cells and its counts are the same.
-use Rattle.picture_rules.proofs.Common.{[], AllByRecursion, ap, Bool, cond, false, length-map, List, map, map-append, None, Option, option_map, refl, sym, true, ℕ, ◌%◌, ◌++◌, ◌+◌, ◌-◌, ◌/◌, ◌∙◌, ◌∷◌, ◌≡◌}
-use Rattle.alike_rules.specs.Rules.{Dot, Event, FRAME_CELLS, FRAME_WIDTH, Limits, Plane, PlanesNow, Scene, Step, ViewShape, ViewValue, Wall, WeaponLayer, after_event, colour_of, counts_by, counts_from, draw_order, frame_dot, frame_dots, frame_of, is_in_window, joined_lists, last_dot, listed, masked_dots, no_planes, openings_of, openings_past, overlaid_paints, overlaid_picture, overlaid_trace, paints_by, paints_of, picture, plane_dots, planes_dots, planes_from, sky_flat, steps_of, steps_over, view_counts, view_drawsegs, view_entries, view_events, view_over, view_paints, view_planes, view_steps, wall_dots, walls_dots, walls_from, walls_of, weapon_dots}
+-- painters name, and its cells and the first count that passes a limit are the same.
+use Rattle.picture_rules.proofs.Common.{[], AllByRecursion, ap, Bool, cond, false, List, map, map-append, None, Option, option_map, refl, sym, true, ℕ, ◌%◌, ◌++◌, ◌+◌, ◌-◌, ◌/◌, ◌∙◌, ◌∷◌, ◌≡◌}
+use Rattle.alike_rules.specs.Rules.{Dot, Event, FRAME_CELLS, FRAME_WIDTH, Limits, Plane, PlanesNow, Scene, Step, ViewShape, ViewValue, Wall, WeaponLayer, after_event, colour_of, counts_from, draw_order, frame_dot, frame_dots, frame_of, is_in_window, joined_lists, last_dot, listed, masked_dots, no_planes, openings_past, overlaid_paints, overlaid_picture, overlaid_trace, paints_by, paints_of, picture, plane_dots, planes_dots, planes_from, sky_flat, steps_of, steps_over, view_drawsegs, view_entries, view_events, view_over, view_paints, view_planes, view_steps, wall_dots, walls_dots, walls_from, walls_of, weapon_dots}
 use Rattle.alike_rules.proofs.BuiltLemmas.{AreOf, IsEventOf, counts-moved, event-moved, event-of, moved_now}
 use Rattle.alike_rules.proofs.DotLemmas.{colour-moved, joined-along, last-moved, moved_dot}
-use Rattle.alike_rules.proofs.EntryLemmas.{moved_entry, moved_layer, order-moved, weapon_dots-moved}
+use Rattle.alike_rules.proofs.EntryLemmas.{moved_layer, order-moved, weapon_dots-moved}
 use Rattle.alike_rules.proofs.FloorLemmas.{plane_dots-moved}
 use Rattle.alike_rules.proofs.MiddleLemmas.{masked_dots-moved}
 use Rattle.alike_rules.proofs.PlaneLemmas.{IsOneToOne, moved_plane}
 use Rattle.alike_rules.proofs.SceneLemmas.{IsMovedScene, drawsegs-same, entries-moved, moved_step, planes_built-moved, steps-moved, steps-of, walk-same, walls-moved}
-use Rattle.alike_rules.proofs.StripLemmas.{moved_wall, openings-same, wall_dots-moved}
+use Rattle.alike_rules.proofs.StripLemmas.{moved_wall, wall_dots-moved}
 
 -- the cells of dots that are the same but for their sources
 module _ (σ : ℕ → ℕ) where
@@ -124,29 +124,6 @@ module _ (P : ℕ → Type 0) (σ : ℕ → ℕ) (one : IsOneToOne P σ) (sky : 
   unfolding overlaid_trace
   trace-moved layers = rw (overlaid-moved layers) (frame_dots-moved σ v.shape (overlaid_paints v scene layers))
 
-  openings_same : (walls : List Wall) → map openings_of (map (moved_wall σ) walls) ≡ map openings_of walls
-  openings_same [] = refl
-  openings_same (w ∷ ws) = rw (openings-same σ w, openings_same ws) refl
-
-  counts_by-same : (events : List Event) (walls : List Wall) → counts_by v other events (map (moved_wall σ) walls) ≡ counts_by v scene events walls
-  unfolding counts_by
-  counts_by-same events walls =
-      rw (
-        view_planes-moved walls events,
-        length-map (view_planes (steps_of v scene walls events)) (moved_plane σ),
-        openings_same walls,
-        length-map walls (moved_wall σ),
-        entries-moved P σ one sky keeps scene other moved v events,
-        length-map (view_entries v scene events) (moved_entry σ),
-      ) refl
-
-  -- The counts are the same.
-  pub view_counts-same : view_counts v other ≡ view_counts v scene
-  unfolding view_counts
-  view_counts-same =
-      rw (walk-same P σ one sky keeps scene other moved v, walls-moved P σ one sky keeps scene other moved v (view_events v scene.level))
-      (counts_by-same (view_events v scene.level) (walls_of v scene (view_events v scene.level)))
-
   counts_from-same : (s : PlanesNow) (openings : ℕ) (steps : List Step) → AreOf P s.planes → AllByRecursion (λ e. IsEventOf P e.event) steps
       → counts_from (moved_now σ s) openings (map (moved_step σ) steps) ≡ counts_from s openings steps
   unfolding counts_from
@@ -171,7 +148,7 @@ module _ (P : ℕ → Type 0) (σ : ℕ → ℕ) (one : IsOneToOne P σ) (sky : 
   unfolding view_steps
   steps_of-each events = steps-of P σ one sky keeps scene other moved v (walls_of v scene events) events
 
-  -- And so is the first count that passes its limit.
+  -- The first count that passes its limit is the same.
   pub view_over-same : (limits : Limits) → view_over v other limits ≡ view_over v scene limits
   unfolding view_over
   view_over-same limits =

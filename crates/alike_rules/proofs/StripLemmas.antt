@@ -1,5 +1,5 @@
 -- Drawn fragments of sectors whose flats have other numbers: the same columns, and the same dots of walls.
-use Rattle.picture_rules.proofs.Common.{ap, funext, List, map, None, Option, option_map, refl, slice_get, slice_get-map, Some, suc, zero, ℕ, ℤ, ◌∙◌, ◌≡◌}
+use Rattle.picture_rules.proofs.Common.{ap, List, map, None, Option, option_map, refl, slice_get, slice_get-map, Some, suc, zero, ℕ, ℤ, ◌∙◌, ◌≡◌}
 use Rattle.alike_rules.specs.Rules.{Art, ColumnClip, Edges, Part, ViewShape, ViewValue, WALL, Wall, WallFacts, WallStrip, bottom_clip, ceiling_marks, clip_before, clip_past, floor_marks, has_column, listed_from, openings_of, past_some, past_wall, strip_dots, texture_column, texture_offset, top_clip, wall_colour, wall_column, wall_column_by, wall_dots, wall_edges, wall_strips}
 use Rattle.alike_rules.proofs.DotLemmas.{IsMovedArt, column_dots-moved, joined-moved, moved_dot, painter-moved}
 use Rattle.alike_rules.proofs.NumberLemmas.{moved_facts}

@@ -2,6 +2,7 @@
 use Rattle.std.proofs.Common.{◌≡◌, ℕ, List, Result, Ok, Err, take, refl, ap, sym, ◌∙◌}
 use Rattle.trim_rules.specs.Rules.{Art, ArtRefusal, LevelBase, LevelValue, Lump, Map, MapRefusal, PALETTE_SIZE, PNAMES, TEXTURE1, TEXTURE2, TexRefusal, TextureLists, and_then, base_in, base_over, colormap_of, from_below, label_of, level_in, level_of, lists_in, map_bytes, named_bytes, playpal_of}
 use Rattle.scene_rules.specs.declared.refusal.AuditRefusal.TheVariants.{Texture}
+use Rattle.trim_rules.proofs.AnswerLemmas.{ok_of}
 
 -- Two directories with the bytes of their lumps, which give the same for what a level stands on; `c`, `p` and `l` are
 -- COLORMAP, PLAYPAL and the label in the second.
@@ -29,9 +30,6 @@ pub record IsMadeOf (bytes : ℕ → List ℕ) (lumps : List Lump) (base : Level
   pub palette : take PALETTE_SIZE (bytes base.playpal) ≡ base.palette
   pub level : level_of (map_bytes bytes base.label) ≡ Ok base.level
   pub lists : lists_in bytes lumps ≡ Ok base.lists
-
-ok_of : {X R : Type 0} (a b : X) → (let l : Result X R = Ok a in l) ≡ Ok b → a ≡ b
-ok_of a b e = cc
 
 module _ (bytes : ℕ → List ℕ) (lumps : List Lump) (name : List ℕ) (base : LevelBase) where
   made_step : (c p l : ℕ) (palette : List ℕ) (level : Result LevelValue MapRefusal) (lists : Result TextureLists TexRefusal)

@@ -1,7 +1,8 @@
 -- A book of frames by a directory that holds its pictures: the same, with the lumps of its shapes moved.
-use Rattle.art_rules.proofs.Common.{[], AllByRecursion, ap, arith, Bool, Decides-eqb, Err, false, List, list_any, map, None, Ok, ok_or, Option, range_with_len, refl, Result, Some, some-injective, subst, suc, sym, true, ℕ, ◌<◌, ◌==◌, ◌||◌, ◌∙◌, ◌∷◌, ◌≡◌}
+use Rattle.art_rules.proofs.Common.{[], AllByRecursion, ap, arith, Bool, Decides-eqb, false, List, list_any, map, None, Ok, Option, range_with_len, refl, Result, Some, some-injective, subst, suc, sym, true, ℕ, ◌<◌, ◌==◌, ◌||◌, ◌∙◌, ◌∷◌, ◌≡◌}
 use Rattle.trim_rules.specs.Rules.{BadPatch, Frame, Lump, Mention, MissingRotation, Need, NoFrame, Patch, ROTATIONS, Shape, and_then, book_lumps, each_of, frame_in, frame_of, frame_picture, is_of_frame, joined_lists, last_mention, last_that, mentions, patch_of, patch_or_bad, picture_if, picture_or_missing, pictures_of, shape_in, shape_lumps, shape_of}
 use Rattle.art_rules.proofs.Laws.{and_then-ok}
+use Rattle.trim_rules.proofs.AnswerLemmas.{ok_of, some_value}
 use Rattle.trim_rules.proofs.FrameLemmas.{each-back, each-moved, last-pictured, range-all}
 use Rattle.trim_rules.proofs.HeldSpriteLemmas.{HoldsPictures}
 use Rattle.trim_rules.proofs.NamedLemmas.{any_left, any_right}
@@ -13,13 +14,6 @@ move_shape σ s = record { lump = record { 0 = σ s.lump.0 }; flip = s.flip; wid
 
 abbrev pub move_frame : (ℕ → ℕ) → Frame → Frame
 move_frame σ f = record { sprite = f.sprite; frame = f.frame; shapes = map (move_shape σ) f.shapes }
-
-ok_of : {X R : Type 0} (a b : X) → (let l : Result X R = Ok a in l) ≡ Ok b → a ≡ b
-ok_of a b e = cc
-
-some_value : {X E : Type 0} (o : Option X) (e : E) (x : X) → ok_or o e ≡ Ok x → o ≡ Some x
-some_value None e x is = cc
-some_value (Some y) e x is = let same : y ≡ x = cc in ap Some same
 
 -- a picture that is listed
 abbrev pub IsPicture : List ℕ → ℕ → Type 0

@@ -1,6 +1,6 @@
 -- What the names of a level mean by the trimmed file: the same sides and sky, and the flats under other numbers.
-use Rattle.art_rules.proofs.Common.{AllByRecursion, ap, Err, length, List, map, Ok, Option, refl, Result, sym, ℕ, ◌∙◌, ◌≡◌, ◌≤◌}
-use Rattle.trim_rules.specs.Rules.{Faces, LevelValue, Lump, SKY_FLAT, SceneArt, Sector, SectorFlats, SideTextures, TextureLists, and_then, faces_in, sector_flats, side_textures, sky_texture}
+use Rattle.art_rules.proofs.Common.{AllByRecursion, ap, length, List, map, Ok, Option, refl, sym, ℕ, ◌∙◌, ◌≡◌, ◌≤◌}
+use Rattle.trim_rules.specs.Rules.{Faces, LevelValue, Lump, SKY_FLAT, SceneArt, Sector, SectorFlats, SideTextures, TextureLists, faces_in, sector_flats, side_textures, sky_texture}
 use Rattle.art_rules.proofs.Laws.{and_then-ok}
 use Rattle.trim_rules.specs.Parts.{trim_parts}
 use Rattle.trim_rules.specs.Files.{trimmed_lumps}

@@ -1,11 +1,12 @@
 -- The numbers of flats in the trimmed file are those of part 1 and that of the sky, and stand for their sources one to
 -- one.
-use Rattle.art_rules.proofs.Common.{[], AllByRecursion, and_parts, ap, arith, Bool, cases_lt, cond, Decides-eqb, Err, false, get_or, inl, inr, length, List, list_any, None, Ok, ok_or, Option, option_and_then, option_map, or-cases, range_with_len, refl, Result, Some, some-injective, subst, suc, sym, true, zero, ℕ, ◌&&◌, ◌+◌, ◌<◌, ◌==◌, ◌||◌, ◌∙◌, ◌∷◌, ◌≡◌, ◌≤◌, ◌⊎◌}
-use Rattle.trim_rules.specs.Rules.{Flat, Flats, Lump, SKY_FLAT, Sector, SectorFlat, SectorFlats, Sky, and_then, both_flats, each_from, each_or, flat_named, flat_number, flat_of, flats_of, has_name, is_member, is_sky_name, lump_flat, members, sector_flats}
+use Rattle.art_rules.proofs.Common.{[], AllByRecursion, and_parts, ap, arith, Bool, cases_lt, cond, Decides-eqb, false, get_or, inl, inr, length, List, list_any, None, Ok, ok_or, Option, option_and_then, option_map, or-cases, range_with_len, refl, Some, some-injective, subst, suc, sym, true, zero, ℕ, ◌&&◌, ◌+◌, ◌<◌, ◌==◌, ◌∙◌, ◌∷◌, ◌≡◌, ◌≤◌, ◌⊎◌}
+use Rattle.trim_rules.specs.Rules.{Flat, Flats, Lump, SKY_FLAT, Sector, SectorFlat, SectorFlats, Sky, both_flats, each_from, each_or, flat_named, flat_number, flat_of, flats_of, has_name, is_member, is_sky_name, lump_flat, members, sector_flats}
 use Rattle.art_rules.proofs.Laws.{and_then-ok, greatest-is}
 use Rattle.scene_rules.specs.declared.Flat.TheVariants.{Lump as LumpFlat}
 use Rattle.trim_rules.specs.declared.part.TrimPart.{TrimPart}
 use Rattle.trim_rules.specs.declared.part.TrimPart.TheVariants.{Mark}
+use Rattle.trim_rules.proofs.AnswerLemmas.{ok_of, some_value}
 use Rattle.trim_rules.proofs.MemberLemmas.{HasGroup, group-members}
 use Rattle.trim_rules.proofs.MovedFlatLemmas.{range-any}
 use Rattle.trim_rules.proofs.NamedLemmas.{any_kept}
@@ -71,13 +72,6 @@ range_place a (suc c) n any =
     (λ is. let same : a ≡ n = (Decides-eqb a n).0 is in (0, omega arith, omega arith))
     (λ later. let more = range_place (a + 1) c n later in
     let at : n ≡ (a + 1) + more.0 = more.1 in let lt : more.0 < c = more.2 in (suc more.0, omega arith, omega arith)) any
-
-some_value : {X E : Type 0} (o : Option X) (e : E) (x : X) → ok_or o e ≡ Ok x → o ≡ Some x
-some_value None e x is = cc
-some_value (Some y) e x is = let same : y ≡ x = cc in ap Some same
-
-ok_of : {X R : Type 0} (a b : X) → (let l : Result X R = Ok a in l) ≡ Ok b → a ≡ b
-ok_of a b e = cc
 
 -- both flats of a sector are such numbers
 pub record AreFlatPlaces (count : ℕ) (both : SectorFlats) : Type 0 where

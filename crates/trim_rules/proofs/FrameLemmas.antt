@@ -1,11 +1,9 @@
 -- The pictures of a frame: its last mention is one of them, and what f gives of each item.
-use Rattle.art_rules.proofs.Common.{[], AllByRecursion, and-true_true, and_parts, ap, arith, Bool, cases_lt, cond, Decides-eqb, Err, false, inl, inr, leb-true, List, map, nat_le, None, Ok, Option, range_with_len, refl, Result, Some, some-injective, subst, suc, sym, true, zero, ℕ, ◌&&◌, ◌+◌, ◌-◌, ◌<◌, ◌==◌, ◌∙◌, ◌∷◌, ◌≡◌, ◌≤◌}
-use Rattle.trim_rules.specs.Rules.{FIRST_FRAME, FIRST_ROTATION, LAST_FRAME, LAST_ROTATION, Lump, Mention, ROTATIONS, SECOND_PAIR_AT, SPRITE_LETTERS, Sprites, and_then, each_of, frame_picture, is_of_frame, is_of_rotation, is_pair, joined_lists, last_that, lump_at, lump_mentions, members, mention_at, mentions, name_mentions, or_else, picture_by, picture_if}
+use Rattle.art_rules.proofs.Common.{[], AllByRecursion, and-true_true, and_parts, ap, arith, Bool, cases_lt, cond, Decides-eqb, false, inl, inr, leb-true, List, map, nat_le, None, Ok, Option, range_with_len, refl, Result, Some, some-injective, subst, suc, sym, true, zero, ℕ, ◌&&◌, ◌+◌, ◌-◌, ◌<◌, ◌==◌, ◌∙◌, ◌∷◌, ◌≡◌, ◌≤◌}
+use Rattle.trim_rules.specs.Rules.{FIRST_FRAME, FIRST_ROTATION, LAST_FRAME, LAST_ROTATION, Lump, Mention, ROTATIONS, SECOND_PAIR_AT, SPRITE_LETTERS, Sprites, each_of, frame_picture, is_of_frame, is_of_rotation, is_pair, joined_lists, last_that, lump_at, lump_mentions, members, mention_at, mentions, name_mentions, or_else, picture_by, picture_if}
 use Rattle.art_rules.proofs.Laws.{and_then-ok}
+use Rattle.trim_rules.proofs.AnswerLemmas.{ok_of}
 use Rattle.trim_rules.proofs.ThereLemmas.{all-append}
-
-ok_of : {X R : Type 0} (a b : X) → (let l : Result X R = Ok a in l) ≡ Ok b → a ≡ b
-ok_of a b e = cc
 
 -- What f gives of each, where the other function gives the same, moved.
 pub each-moved : {X Y Z R : Type 0} (f : X → Result Y R) (g : X → Result Z R) (move : Z → Y) (P : Y → Type 0)
@@ -46,7 +44,7 @@ range-all P a (suc c) n all le lt = elim (cases_lt a n) [
 abbrev IsTurned : Mention → Type 0
 IsTurned m = m.rotation ≤ ROTATIONS
 
-cond_all : {X : Type 0} (P : X → Type 0) (b : Bool) (xs ys : List X) → (b ≡ true → AllByRecursion P xs) → AllByRecursion P ys → AllByRecursion P (cond b xs ys)
+pub cond_all : {X : Type 0} (P : X → Type 0) (b : Bool) (xs ys : List X) → (b ≡ true → AllByRecursion P xs) → AllByRecursion P ys → AllByRecursion P (cond b xs ys)
 cond_all P true xs ys a b = a refl
 cond_all P false xs ys a b = b
 
@@ -80,16 +78,17 @@ mentions_turned : (lumps : List Lump) (sprite : List ℕ) → AllByRecursion IsT
 unfolding mentions
 mentions_turned lumps sprite = joined_turned lumps sprite (members Sprites lumps)
 
-is_step : (P : Mention → Type 0) (o : Option Mention) (b : Bool) (x m : Mention) → P x → (o ≡ Some m → P m) → or_else o (cond b (Some x) None) ≡ Some m → P m
-is_step P (Some v) b x m one more e = more e
-is_step P None true x m one more e = subst P (some-injective x m e) one
-is_step P None false x m one more e = absurd (cc)
+found_step : (P : Mention → Type 0) (o : Option Mention) (b : Bool) (x m : Mention) → (b ≡ true → P x) → (o ≡ Some m → P m) → or_else o (cond b (Some x) None) ≡ Some m → P m
+found_step P (Some v) b x m one more e = more e
+found_step P None true x m one more e = subst P (some-injective x m e) (one refl)
+found_step P None false x m one more e = absurd (cc)
 
-last_that-is : (P : Mention → Type 0) (passes : Mention → Bool) (all : List Mention) (m : Mention) → AllByRecursion P all → last_that passes all ≡ Some m → P m
+-- a mention that is found is one of them
+pub last_that-is : (P : Mention → Type 0) (passes : Mention → Bool) (all : List Mention) (m : Mention) → AllByRecursion P all → last_that passes all ≡ Some m → P m
 unfolding last_that
 last_that-is P passes [] m holds e = absurd (cc)
 last_that-is P passes (x ∷ all) m holds e =
-    is_step P (last_that passes all) (passes x) x m holds.0 (λ later. last_that-is P passes all m holds.1 later) e
+    found_step P (last_that passes all) (passes x) x m (λ is. holds.0) (λ later. last_that-is P passes all m holds.1 later) e
 
 -- the last that passes one test is the last that passes a narrower one, where it passes that
 module _ (passes narrow : Mention → Bool) (within : (m : Mention) → narrow m ≡ true → passes m ≡ true) where
@@ -123,16 +122,11 @@ rotation_within : (frame rotation : ℕ) (m : Mention) → is_of_rotation frame 
 unfolding is_of_rotation
 rotation_within frame rotation m e = (and_parts (is_of_frame frame m) (m.rotation == rotation) e).0
 
-frame_step : (P : Mention → Type 0) (o : Option Mention) (b : Bool) (x m : Mention) → (b ≡ true → P x) → (o ≡ Some m → P m) → or_else o (cond b (Some x) None) ≡ Some m → P m
-frame_step P (Some v) b x m one more e = more e
-frame_step P None true x m one more e = subst P (some-injective x m e) (one refl)
-frame_step P None false x m one more e = absurd (cc)
-
 last_passes : (passes : Mention → Bool) (all : List Mention) (m : Mention) → last_that passes all ≡ Some m → passes m ≡ true
 unfolding last_that
 last_passes passes [] m e = absurd (cc)
 last_passes passes (x ∷ all) m e =
-    frame_step (λ n. passes n ≡ true) (last_that passes all) (passes x) x m (λ is. is) (λ later. last_passes passes all m later) e
+    found_step (λ n. passes n ≡ true) (last_that passes all) (passes x) x m (λ is. is) (λ later. last_passes passes all m later) e
 
 own_rotation : (frame rotation : ℕ) (m : Mention) → is_of_frame frame m ≡ true → m.rotation ≡ rotation → is_of_rotation frame rotation m ≡ true
 unfolding is_of_rotation

@@ -1,11 +1,12 @@
 -- The flats of the trimmed file are those of the level's sectors: each by its name, ascending.
-use Rattle.art_rules.proofs.Common.{[], AllByRecursion, and_parts, ap, append_assoc, arith, Bool, bytes_eq, bytes_eq-Decides, cond, Decides-eqb, Err, false, get_or, length, length-map, List, list_any, map, None, Ok, ok_or, Option, option_and_then, option_map, or-cases, range_with_len, refl, Result, Some, subst, suc, sym, true, ℕ, ◌&&◌, ◌<◌, ◌==◌, ◌||◌, ◌∙◌, ◌∷◌, ◌≡◌, ◌≤◌}
+use Rattle.art_rules.proofs.Common.{[], AllByRecursion, and_parts, ap, append_assoc, arith, Bool, bytes_eq, bytes_eq-Decides, cond, Decides-eqb, Err, false, get_or, length, length-map, List, list_any, map, None, Ok, ok_or, Option, option_and_then, option_map, or-cases, range_with_len, refl, Result, Some, some-injective, subst, suc, sym, true, ℕ, ◌&&◌, ◌<◌, ◌==◌, ◌∙◌, ◌∷◌, ◌≡◌, ◌≤◌}
 use Rattle.trim_rules.specs.Rules.{F_END, Flat, Flats, HEAD_SIZE, Lump, SKY_FLAT, SceneArt, SceneRefusal, Sector, SectorFlat, SectorFlats, Sky, and_then, both_flats, each_from, each_or, flat_named, flat_number, flat_of, flats_of, has_flat, has_name, is_member, is_sky_name, lump_at, lump_flat, sector_flats}
 use Rattle.art_rules.proofs.Laws.{greatest-is}
 use Rattle.scene_rules.specs.declared.Flat.TheVariants.{Lump as LumpFlat}
 use Rattle.trim_rules.specs.declared.part.TrimPart.TheVariants.{Mark}
 use Rattle.trim_rules.specs.Parts.{copy_part, flat_lumps, group_parts, part_name, trim_parts}
 use Rattle.trim_rules.specs.Files.{part_lump, stored_lumps, trimmed_lumps}
+use Rattle.trim_rules.proofs.AnswerLemmas.{ok_of}
 use Rattle.trim_rules.proofs.FlatLemmas.{HasFlats}
 use Rattle.trim_rules.proofs.MemberLemmas.{HasGroup, is_lump-at}
 use Rattle.trim_rules.proofs.TrimmedLemmas.{IsUnmarked, trimmed-flats}
@@ -46,19 +47,14 @@ unfolding both_flats has_flat
 both_step lumps floor ceiling None c both is js e = absurd (cc)
 both_step lumps floor ceiling (Some f) None both is js e = absurd (cc)
 both_step lumps floor ceiling (Some f) (Some c) both is js e = λ n lt any.
-    let same : record { floor = f; ceiling = c } ≡ both = one_of _ both e in
+    let same : record { floor = f; ceiling = c } ≡ both = some-injective _ both e in
     or-cases (flat_number both.floor == n) (flat_number both.ceiling == n) (IsOwnFlat lumps n)
     (λ t. named_own lumps floor f n lt is (ap (λ (b : SectorFlats). flat_number b.floor) same ∙ (Decides-eqb (flat_number both.floor) n).0 t))
-    (λ t. named_own lumps ceiling c n lt js (ap (λ (b : SectorFlats). flat_number b.ceiling) same ∙ (Decides-eqb (flat_number both.ceiling) n).0 t)) any where
-      one_of : (a b : SectorFlats) → Some a ≡ Some b → a ≡ b
-      one_of a b e = cc
+    (λ t. named_own lumps ceiling c n lt js (ap (λ (b : SectorFlats). flat_number b.ceiling) same ∙ (Decides-eqb (flat_number both.ceiling) n).0 t)) any
 
 sector_own : (lumps : List Lump) (sector : Sector) (both : SectorFlats) → flats_of lumps sector ≡ Some both → AreOwn lumps both
 unfolding flats_of
 sector_own lumps sector both e = both_step lumps sector.floor_name sector.ceiling_name (flat_named lumps sector.floor_name) (flat_named lumps sector.ceiling_name) both refl refl e
-
-ok_of : {X R : Type 0} (a b : X) → (let l : Result X R = Ok a in l) ≡ Ok b → a ≡ b
-ok_of a b e = cc
 
 each_step : (lumps : List Lump) (number : ℕ) (o : Option SectorFlats) (r : Result (List SectorFlats) SceneRefusal) (flats : List SectorFlats)
     → ((both : SectorFlats) → o ≡ Some both → AreOwn lumps both)

@@ -1,17 +1,19 @@
 -- The sprite lumps of the trimmed file are the pictures of the level: each stands for its source, and all of them were
 -- sprite lumps.
-use Rattle.art_rules.proofs.Common.{[], AllByRecursion, ap, append_assoc, arith, Bool, cond, Decides-eqb, Err, false, filter, get_or, length, length-map, List, list_any, map, None, Ok, ok_or, Option, or-cases, range_with_len, refl, Result, Some, subst, suc, sym, true, ℕ, ⊤, ◌+◌, ◌<◌, ◌==◌, ◌||◌, ◌∙◌, ◌∷◌, ◌≡◌}
-use Rattle.trim_rules.specs.Rules.{F_END, F_START, Frame, HEAD_SIZE, Lump, Mention, Need, Patch, ROTATIONS, SECOND_PAIR_AT, SPRITE_LETTERS, S_END, SceneArt, Shape, SpriteRefusal, Sprites, and_then, book_lumps, each_of, frame_in, frame_of, frame_picture, is_member, is_of_frame, is_of_rotation, joined_lists, last_mention, last_that, lump_at, lump_mentions, members, mention_at, mentions, name_mentions, or_else, patch_or_bad, picture_by, picture_if, picture_or_missing, pictures_of, shape_in, shape_lumps, shape_of}
+use Rattle.art_rules.proofs.Common.{[], AllByRecursion, ap, append_assoc, arith, Bool, cond, Decides-eqb, Err, false, filter, get_or, length, length-map, List, list_any, map, None, Ok, Option, or-cases, range_with_len, refl, Result, Some, some-injective, subst, suc, sym, true, ℕ, ⊤, ◌+◌, ◌<◌, ◌==◌, ◌∙◌, ◌∷◌, ◌≡◌}
+use Rattle.trim_rules.specs.Rules.{F_END, F_START, Frame, HEAD_SIZE, Lump, Mention, Need, Patch, ROTATIONS, SECOND_PAIR_AT, SPRITE_LETTERS, S_END, SceneArt, Shape, SpriteRefusal, Sprites, and_then, book_lumps, each_of, frame_in, frame_of, frame_picture, is_member, is_of_frame, is_of_rotation, joined_lists, last_mention, last_that, lump_at, lump_mentions, members, mention_at, mentions, name_mentions, patch_or_bad, picture_by, picture_if, picture_or_missing, pictures_of, shape_in, shape_lumps, shape_of}
 use Rattle.trim_rules.specs.declared.part.TrimPart.{TrimPart}
 use Rattle.trim_rules.specs.declared.part.TrimPart.TheVariants.{Mark}
 use Rattle.trim_rules.specs.Parts.{copy_part, flat_lumps, group_parts, part_name, picture_lumps, trim_parts}
 use Rattle.trim_rules.specs.Files.{part_lump, stored_lumps, trimmed_lumps}
+use Rattle.trim_rules.proofs.AnswerLemmas.{ok_of, some_value}
 use Rattle.trim_rules.proofs.MemberLemmas.{group-members}
 use Rattle.trim_rules.proofs.SpriteLemmas.{StandFor, count_of}
 use Rattle.trim_rules.proofs.TrimmedLemmas.{IsUnmarked, trimmed-pictures}
 use Rattle.trim_rules.proofs.PlaceLemmas.{part_at, part_at-behind, part_at-copied, source_of, part_source, stored-name}
 use Rattle.trim_rules.proofs.OrderLemmas.{kept-passing}
 use Rattle.trim_rules.proofs.ThereLemmas.{all-append}
+use Rattle.trim_rules.proofs.FrameLemmas.{cond_all, last_that-is}
 
 -- a sprite lump
 abbrev pub IsSprite : List Lump → ℕ → Type 0
@@ -104,24 +106,20 @@ pictures-held bytes lumps art name sprites unmarked =
 abbrev IsSpriteMention : List Lump → Mention → Type 0
 IsSpriteMention lumps m = IsSprite lumps m.lump
 
-cond_all : {X : Type 0} (P : X → Type 0) (b : Bool) (xs ys : List X) → AllByRecursion P xs → AllByRecursion P ys → AllByRecursion P (cond b xs ys)
-cond_all P true xs ys a b = a
-cond_all P false xs ys a b = b
-
 mention_one : (lumps : List Lump) (n : ℕ) (name : List ℕ) (offset : ℕ) (flip : Bool) → IsSprite lumps n → AllByRecursion (IsSpriteMention lumps) (mention_at n name offset flip)
 unfolding mention_at
-mention_one lumps n name offset flip is = cond_all (IsSpriteMention lumps) _ (_ ∷ []) [] (is, tt) tt
+mention_one lumps n name offset flip is = cond_all (IsSpriteMention lumps) _ (_ ∷ []) [] (λ b. (is, tt)) tt
 
 mention_both : (lumps : List Lump) (n : ℕ) (name : List ℕ) → IsSprite lumps n → AllByRecursion (IsSpriteMention lumps) (name_mentions n name)
 unfolding name_mentions
 mention_both lumps n name is =
     all-append (IsSpriteMention lumps) (mention_at n name SPRITE_LETTERS false) _ (mention_one lumps n name SPRITE_LETTERS false is)
-    (cond_all (IsSpriteMention lumps) _ [] (mention_at n name SECOND_PAIR_AT true) tt (mention_one lumps n name SECOND_PAIR_AT true is))
+    (cond_all (IsSpriteMention lumps) _ [] (mention_at n name SECOND_PAIR_AT true) (λ b. tt) (mention_one lumps n name SECOND_PAIR_AT true is))
 
 mention_lump : (lumps : List Lump) (sprite : List ℕ) (n : ℕ) → IsSprite lumps n → AllByRecursion (IsSpriteMention lumps) (lump_mentions lumps sprite n)
 unfolding lump_mentions
 mention_lump lumps sprite n is =
-    cond_all (IsSpriteMention lumps) _ (name_mentions n (lump_at lumps n).name) [] (mention_both lumps n (lump_at lumps n).name is) tt
+    cond_all (IsSpriteMention lumps) _ (name_mentions n (lump_at lumps n).name) [] (λ b. mention_both lumps n (lump_at lumps n).name is) tt
 
 joined_all : {X Y : Type 0} (P : X → Type 0) (Q : Y → Type 0) (f : X → List Y) → ((x : X) → P x → AllByRecursion Q (f x)) → (xs : List X) → AllByRecursion P xs → AllByRecursion Q (joined_lists f xs)
 unfolding joined_lists
@@ -134,24 +132,9 @@ mentions-sprites lumps sprite =
     joined_all (IsSprite lumps) (IsSpriteMention lumps) (lump_mentions lumps sprite) (λ n is. mention_lump lumps sprite n is) (members Sprites lumps)
     (kept-passing (is_member Sprites lumps) (range_with_len 0 (length lumps)))
 
--- a mention that is found is one of them
-found_step : (P : Mention → Type 0) (o : Option Mention) (b : Bool) (x m : Mention) → P x → (o ≡ Some m → P m) → or_else o (cond b (Some x) None) ≡ Some m → P m
-found_step P (Some v) b x m one more e = more e
-found_step P None true x m one more e = subst P (one_of x m e) one where
-  one_of : (a b : Mention) → Some a ≡ Some b → a ≡ b
-  one_of a b e = cc
-found_step P None false x m one more e = absurd (cc)
-
-last_that-is : (P : Mention → Type 0) (passes : Mention → Bool) (all : List Mention) (m : Mention) → AllByRecursion P all → last_that passes all ≡ Some m → P m
-unfolding last_that
-last_that-is P passes [] m holds e = absurd (cc)
-last_that-is P passes (x ∷ all) m holds e =
-    found_step P (last_that passes all) (passes x) x m holds.0 (λ later. last_that-is P passes all m holds.1 later) e
-
+-- a picture is one of the mentions
 by_step : (P : Mention → Type 0) (b : Bool) (last m : Mention) (o : Option Mention) → P last → (o ≡ Some m → P m) → cond b (Some last) o ≡ Some m → P m
-by_step P true last m o one more e = subst P (one_of last m e) one where
-  one_of : (a b : Mention) → Some a ≡ Some b → a ≡ b
-  one_of a b e = cc
+by_step P true last m o one more e = subst P (some-injective last m e) one
 by_step P false last m o one more e = more e
 
 if_step : (P : Mention → Type 0) (all : List Mention) (frame k : ℕ) (o : Option Mention) (m : Mention) → AllByRecursion P all → last_that (is_of_frame frame) all ≡ o
@@ -167,9 +150,6 @@ unfolding frame_picture
 frame_picture-is P all frame k m holds e = if_step P all frame k (last_that (is_of_frame frame) all) m holds refl e
 
 -- what f gives of each
-ok_of : {X R : Type 0} (a b : X) → (let l : Result X R = Ok a in l) ≡ Ok b → a ≡ b
-ok_of a b e = cc
-
 each_step : {Y R : Type 0} (Q : Y → Type 0) (a : Result Y R) (b : Result (List Y) R) (ys : List Y) → ((y : Y) → a ≡ Ok y → Q y) → ((more : List Y) → b ≡ Ok more → AllByRecursion Q more)
     → and_then a (λ y. and_then b (λ more. Ok (y ∷ more))) ≡ Ok ys → AllByRecursion Q ys
 each_step Q (Err r) b ys one more e = absurd (cc)
@@ -187,13 +167,9 @@ any_of : {X : Type 0} (xs : List X) → AllByRecursion (λ x. ⊤) xs
 any_of [] = tt
 any_of (x ∷ xs) = (tt, any_of xs)
 
-some_step : {R : Type 0} (o : Option Mention) (r : R) (m : Mention) → ok_or o r ≡ Ok m → o ≡ Some m
-some_step None r m e = absurd (cc)
-some_step (Some v) r m e = cc
-
 missing_is : (P : Mention → Type 0) (all : List Mention) (need : Need) (k : ℕ) (m : Mention) → AllByRecursion P all → picture_or_missing all need k ≡ Ok m → P m
 unfolding picture_or_missing
-missing_is P all need k m holds e = frame_picture-is P all need.frame k m holds (some_step (frame_picture all need.frame k) _ m e)
+missing_is P all need k m holds e = frame_picture-is P all need.frame k m holds (some_value (frame_picture all need.frame k) _ m e)
 
 pictures_step : (P : Mention → Type 0) (all : List Mention) (need : Need) (last : Result Mention SpriteRefusal) (ms : List Mention) → AllByRecursion P all
     → and_then last (λ l. each_of (picture_or_missing all need) (range_with_len 0 ROTATIONS)) ≡ Ok ms → AllByRecursion P ms

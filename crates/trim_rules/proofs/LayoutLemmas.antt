@@ -1,5 +1,5 @@
 -- A new file of lumps is a WAD whose directory lists them.
-use Rattle.art_rules.proofs.Common.{[], AllByRecursion, and-false_right, ap, append-nil, append_assoc, arith, Bool, codes, cond, Decides-ltb, drop, drop-append-add, drop-append_seam, drop-drop, false, from_le_bytes, from_le_bytes-to_le_bytes_4, get_or, length, length-append, List, lt-false, nat_lt, None, not, Ok, option_map, position_or_len, position_or_len_is, refl, Some, suc, sym, take, take-append_seam, take-length, to_le_bytes, true, w32, zero, ℕ, ◌&&◌, ◌*◌, ◌++◌, ◌+◌, ◌<◌, ◌==◌, ◌^◌, ◌∙◌, ◌∷◌, ◌≡◌, ◌≤◌}
+use Rattle.art_rules.proofs.Common.{[], AllByRecursion, and-false_right, ap, append-nil, append_assoc, arith, codes, cond, drop, drop-append-add, drop-append_seam, drop-drop, false, from_le_bytes, from_le_bytes-to_le_bytes_4, get_or, length, length-append, List, lt-false, nat_lt, None, not, Ok, option_map, position_or_len, position_or_len_is, refl, Some, suc, sym, take, take-append_seam, take-length, to_le_bytes, true, w32, zero, ℕ, ◌*◌, ◌++◌, ◌+◌, ◌<◌, ◌==◌, ◌^◌, ◌∙◌, ◌∷◌, ◌≡◌, ◌≤◌}
 use Rattle.byteorder.specs.Endian.{little_number}
 use Rattle.art_rules.proofs.Laws.{listed-all}
 use Rattle.trim_rules.specs.Rules.{ENTRY_SIZE, Entry, HEADER_SIZE, HEAD_SIZE, LETTER_COUNT, Lump, MAX_LUMPS, contents, directory, directory_place, entries, entries_in, entry_at, entry_count, entry_refusal, file_lumps, file_of, header, header_refusal, is_wad, lump_in, lumps_from, lumps_in, name_of, no_lump, passes_end, refusal_from, wad_file, whole_header_refusal, word_bytes}

@@ -1,9 +1,10 @@
 -- The flats of the sectors by the trimmed directory are those by the given one under other numbers.
-use Rattle.art_rules.proofs.Common.{[], and_parts, ap, arith, Bool, bytes_eq, bytes_eq-Decides, cases_lt, cond, Decides-eqb, Err, false, filter, get_or, inl, inr, length, List, list_any, map, None, Ok, ok_or, Option, option_and_then, option_map, or-cases, or-true_left, or-true_right, range_with_len, refl, Result, Some, some-injective, suc, sym, true, zero, ℕ, ◌&&◌, ◌+◌, ◌<◌, ◌==◌, ◌||◌, ◌∙◌, ◌∷◌, ◌≡◌, ◌≤◌}
-use Rattle.trim_rules.specs.Rules.{Flat, Flats, Lump, SceneRefusal, Sector, SectorFlat, SectorFlats, Sky, and_then, both_flats, each_from, each_or, flat_named, flat_number, flat_of, flats_of, has_flat, has_name, is_member, is_sky_name, lump_at, lump_flat, sector_flats}
+use Rattle.art_rules.proofs.Common.{[], and_parts, ap, arith, Bool, bytes_eq, bytes_eq-Decides, cases_lt, cond, Decides-eqb, false, filter, get_or, inl, inr, length, List, list_any, map, None, Ok, ok_or, Option, option_and_then, option_map, or-cases, or-true_left, or-true_right, range_with_len, refl, Some, some-injective, suc, sym, true, zero, ℕ, ◌&&◌, ◌+◌, ◌<◌, ◌==◌, ◌∙◌, ◌∷◌, ◌≡◌, ◌≤◌}
+use Rattle.trim_rules.specs.Rules.{Flat, Flats, Lump, Sector, SectorFlat, SectorFlats, Sky, both_flats, each_from, each_or, flat_named, flat_number, flat_of, flats_of, has_flat, has_name, is_member, is_sky_name, lump_at, lump_flat, sector_flats}
 use Rattle.art_rules.proofs.Laws.{and_then-ok, greatest-is}
 use Rattle.scene_rules.specs.declared.Flat.TheVariants.{Lump as LumpFlat}
 use Rattle.trim_rules.specs.Parts.{flat_lumps}
+use Rattle.trim_rules.proofs.AnswerLemmas.{ok_of, some_value}
 use Rattle.trim_rules.proofs.FlatLemmas.{HasFlats, trimmed_flat}
 use Rattle.trim_rules.proofs.MemberLemmas.{is_lump-at}
 use Rattle.trim_rules.proofs.NamedLemmas.{any_kept}
@@ -44,10 +45,6 @@ unfolding flat_lumps
 flat-listed lumps flats n lt any =
     place-of (filter (λ k. list_any (has_flat k) flats) (range_with_len 0 (length lumps))) n
     (any_kept (λ k. list_any (has_flat k) flats) n (range_with_len 0 (length lumps)) any (range-any 0 (length lumps) n (omega arith) (omega arith)))
-
-some_value : {X E : Type 0} (o : Option X) (e : E) (x : X) → ok_or o e ≡ Ok x → o ≡ Some x
-some_value None e x is = cc
-some_value (Some y) e x is = let same : y ≡ x = cc in ap Some same
 
 each-made : (lumps : List Lump) (number : ℕ) (sector : Sector) (sectors : List Sector) (both : SectorFlats) (more : List SectorFlats)
     → flats_of lumps sector ≡ Some both → each_from (flats_of lumps) SectorFlat (suc number) sectors ≡ Ok more → each_from (flats_of lumps) SectorFlat number (sector ∷ sectors) ≡ Ok (both ∷ more)
@@ -118,9 +115,7 @@ module _ (trimmed lumps : List Lump) (σ : ℕ → ℕ) (flats : List ℕ) (has 
       let first = sector-moved sector one.0 (some_value (flats_of lumps sector) (SectorFlat number) one.0 one.1)
       (λ n lt is. listed n lt (ap (list_any (has_flat n)) (sym same) ∙ or-true_left (has_flat n one.0) _ is)) in
       let more = each-moved (suc number) sectors rest.0 rest.1 (λ n lt any. listed n lt (ap (list_any (has_flat n)) (sym same) ∙ or-true_right (has_flat n one.0) _ any)) in
-      (first.0 ∷ more.0, each-made trimmed number sector sectors first.0 more.0 first.1 more.1, ap (λ (b : SectorFlats). b ∷ map (move_both σ) more.0) first.2 ∙ ap (λ bs. one.0 ∷ bs) more.2 ∙ same) where
-        ok_of : (a b : List SectorFlats) → (let l : Result (List SectorFlats) SceneRefusal = Ok a in l) ≡ Ok b → a ≡ b
-        ok_of a b e = cc
+      (first.0 ∷ more.0, each-made trimmed number sector sectors first.0 more.0 first.1 more.1, ap (λ (b : SectorFlats). b ∷ map (move_both σ) more.0) first.2 ∙ ap (λ bs. one.0 ∷ bs) more.2 ∙ same)
 
 -- The flats of an accepted level's sectors, by a directory that has its flats.
 pub sectors-moved : (trimmed lumps : List Lump) (σ : ℕ → ℕ) (sectors : List Sector) (all : List SectorFlats) → HasFlats trimmed lumps (flat_lumps lumps all)

@@ -1,6 +1,6 @@
 -- By the trimmed directory the names of colours and of the lists of textures have the bytes that they have by the given
 -- one, or none where they had none.
-use Rattle.art_rules.proofs.Common.{[], AllByRecursion, ap, arith, Bool, bytes_eq, bytes_eq-Decides, cond, Decides-eqb, false, filter, inl, inr, length, length-map, List, list_any, map, None, not, Option, option_map, or-cases, or-true_left, or-true_right, refl, Some, sym, true, ℕ, ◌++◌, ◌<◌, ◌==◌, ◌||◌, ◌∙◌, ◌∷◌, ◌≡◌, ◌⊎◌}
+use Rattle.art_rules.proofs.Common.{[], AllByRecursion, ap, arith, Bool, bytes_eq, bytes_eq-Decides, cond, Decides-eqb, false, filter, inl, inr, length, length-map, List, list_any, map, None, not, Option, option_map, or-cases, or-true_left, or-true_right, refl, Some, some-injective, sym, true, ℕ, ◌++◌, ◌<◌, ◌==◌, ◌∙◌, ◌∷◌, ◌≡◌, ◌⊎◌}
 use Rattle.art_rules.proofs.Laws.{greatest-is, none-below_greatest}
 use Rattle.trim_rules.specs.Rules.{COLORMAP, F_END, F_START, HEAD_SIZE, Lump, PLAYPAL, PNAMES, PreparedTexture, S_END, S_START, SceneArt, TEXTURE1, TEXTURE2, has_name, last_of, lump_at, lump_bytes, map_of, named_bytes}
 use Rattle.trim_rules.specs.declared.part.TrimPart.{TrimPart}
@@ -81,9 +81,6 @@ fixed_called : (lumps : List Lump) (prepared : List (Option PreparedTexture)) (n
 unfolding called_lumps
 fixed_called lumps prepared n any = any_left (λ m. m == n) (fixed_lumps lumps) _ any
 
-one_of : (m n : ℕ) → Some m ≡ Some n → m ≡ n
-one_of m n e = cc
-
 module _ (bytes : ℕ → List ℕ) (lumps : List Lump) (art : SceneArt) (name : List ℕ) (label : ℕ) (is : map_of lumps name ≡ Some label)
     (all : AllByRecursion (IsLastOfName lumps) (filter (λ m. not (has_name lumps name m)) (called_lumps lumps art.prepared))) where
   -- a lump that is called has its bytes by its name
@@ -94,7 +91,7 @@ module _ (bytes : ℕ → List ℕ) (lumps : List Lump) (art : SceneArt) (name :
       let map_name : (lump_at lumps n).name ≡ name =
       (bytes_eq-Decides (lump_at lumps n).name name).0 (sym (is_lump-at (λ lump. bytes_eq lump.name name) lumps n found.0) ∙ has) in
       let same : wanted ≡ name = sym (last_of-name lumps wanted n e) ∙ map_name in
-      let number : label ≡ n = one_of label n (sym (label-is lumps name label is).0 ∙ sym (ap (last_of lumps) same) ∙ e) in
+      let number : label ≡ n = some-injective label n (sym (label-is lumps name label is).0 ∙ sym (ap (last_of lumps) same) ∙ e) in
       ap (last_bytes (map (part_lump bytes lumps) (trim_parts lumps art name))) same
       ∙ map_name-bytes bytes lumps art name label is (any_that (has_name lumps name) n (called_lumps lumps art.prepared) any has)
       ∙ ap (λ k. Some (bytes k)) number

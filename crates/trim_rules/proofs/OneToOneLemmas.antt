@@ -1,11 +1,12 @@
 -- By the trimmed file of an accepted plan, flats are compared as they were: the sky keeps its number, and the flats of the
 -- sectors are those of part 1, which stand for their sources one to one.
-use Rattle.art_rules.proofs.Common.{[], AllByRecursion, ap, arith, Err, get_or, length, List, Ok, ok_or, Option, refl, Result, suc, sym, ℕ, ◌+◌, ◌<◌, ◌==◌, ◌∙◌, ◌∷◌, ◌≡◌, ◌≤◌}
-use Rattle.trim_rules.specs.Rules.{HEAD_SIZE, Lump, MAX_LUMPS, SKY_FLAT, SceneArt, Sector, SectorFlats, and_then, each_from, each_or, sector_flats}
+use Rattle.art_rules.proofs.Common.{[], AllByRecursion, ap, arith, get_or, length, List, Ok, ok_or, Option, suc, sym, ℕ, ◌+◌, ◌<◌, ◌==◌, ◌∙◌, ◌∷◌, ◌≡◌, ◌≤◌}
+use Rattle.trim_rules.specs.Rules.{HEAD_SIZE, Lump, MAX_LUMPS, SKY_FLAT, SceneArt, Sector, SectorFlats, each_from, each_or, sector_flats}
 use Rattle.art_rules.proofs.Laws.{and_then-ok}
 use Rattle.trim_rules.specs.declared.part.TrimPart.{TrimPart}
 use Rattle.trim_rules.specs.Parts.{flat_lumps, trim_parts, trim_plan}
 use Rattle.trim_rules.specs.Files.{stored_lumps, trimmed_lumps}
+use Rattle.trim_rules.proofs.AnswerLemmas.{ok_of}
 use Rattle.trim_rules.proofs.FlatPlaceLemmas.{AreFlatPlaces, IsFlatPlace, one-to-one, places-flats, source-past}
 use Rattle.trim_rules.proofs.HeldFlatLemmas.{flat_part, flats-held}
 use Rattle.trim_rules.proofs.MapLemmas.{stored-length}
@@ -15,9 +16,6 @@ use Rattle.trim_rules.proofs.PlanLemmas.{plan-accepted, plan-unmarked}
 use Rattle.trim_rules.proofs.ThereLemmas.{flats-there}
 
 -- as many as the items
-ok_of : {X R : Type 0} (a b : X) → (let l : Result X R = Ok a in l) ≡ Ok b → a ≡ b
-ok_of a b e = cc
-
 each-length : {X Y R : Type 0} (f : X → Option Y) (refuse : ℕ → R) (number : ℕ) (xs : List X) (ys : List Y) → each_from f refuse number xs ≡ Ok ys → length ys ≡ length xs
 unfolding each_from
 each-length f refuse number [] ys e = ap length (sym (ok_of [] ys e))

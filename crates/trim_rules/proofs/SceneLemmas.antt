@@ -1,11 +1,12 @@
 -- The scene of an accepted level by the trimmed file: the same, with its lumps moved.
-use Rattle.art_rules.proofs.Common.{[], AllByRecursion, ap, Err, length, List, list_any, map, Ok, option_map, refl, Result, subst, sym, true, ℕ, ◌==◌, ◌∙◌, ◌∷◌, ◌≡◌, ◌≤◌}
-use Rattle.trim_rules.specs.Rules.{LevelBase, Lump, SKY_FLAT, Scene, SceneArt, SceneValue, Sprite, ThingLine, and_then, art_with, bad_middle, base_in, book_in, book_lumps, checked, directory, faces_in, first_needs, from_below, is_wanted_texture, last_of, lump_bytes, need_of, placed_things, prepared_textures, scene_in, scene_on, scene_over, scene_with, texture_by}
+use Rattle.art_rules.proofs.Common.{[], AllByRecursion, ap, length, List, list_any, map, Ok, option_map, refl, subst, sym, true, ℕ, ◌==◌, ◌∙◌, ◌∷◌, ◌≡◌, ◌≤◌}
+use Rattle.trim_rules.specs.Rules.{LevelBase, Lump, SKY_FLAT, Scene, SceneValue, Sprite, ThingLine, art_with, bad_middle, base_in, book_in, book_lumps, checked, directory, faces_in, first_needs, from_below, is_wanted_texture, last_of, lump_bytes, need_of, placed_things, prepared_textures, scene_in, scene_on, scene_over, scene_with, texture_by}
 use Rattle.art_rules.proofs.Laws.{and_then-ok}
 use Rattle.scene_rules.specs.declared.refusal.AuditRefusal.TheVariants.{Texture}
 use Rattle.trim_rules.specs.declared.part.TrimPart.{TrimPart}
 use Rattle.trim_rules.specs.Parts.{trim_parts, trim_plan}
 use Rattle.trim_rules.specs.Files.{trimmed_file, trimmed_lumps}
+use Rattle.trim_rules.proofs.AnswerLemmas.{below, ok_of}
 use Rattle.trim_rules.proofs.BaseLemmas.{base-served}
 use Rattle.trim_rules.proofs.BookLemmas.{IsPicture, book-moved, move_frame}
 use Rattle.trim_rules.proofs.FacesLemmas.{trimmed-faces}
@@ -18,13 +19,6 @@ use Rattle.trim_rules.proofs.PlanLemmas.{plan-unmarked}
 use Rattle.trim_rules.proofs.PreparedLemmas.{move_texture}
 use Rattle.trim_rules.proofs.ServedLemmas.{trimmed-serves}
 use Rattle.trim_rules.proofs.TextureLemmas.{bytes-moved, trimmed-prepared}
-
-ok_of : {X R : Type 0} (a b : X) → (let l : Result X R = Ok a in l) ≡ Ok b → a ≡ b
-ok_of a b e = cc
-
-below : {A R Q : Type 0} (f : R → Q) (r : Result A R) (x : A) → from_below f r ≡ Ok x → r ≡ Ok x
-below f (Ok y) x e = let same : y ≡ x = cc in ap Ok same
-below f (Err reason) x e = cc
 
 -- the steps of a scene that is accepted
 pub record IsSceneOf (bytes : ℕ → List ℕ) (lumps : List Lump) (lines : List ThingLine) (name : List ℕ) (skill : ℕ) (scene : SceneValue) : Type 0 where

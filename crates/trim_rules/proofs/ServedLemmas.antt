@@ -1,26 +1,19 @@
 -- The trimmed file gives the base of the level again: its map, its lists of textures and its palette.
-use Rattle.art_rules.proofs.Common.{[], ap, arith, Bool, cond, Err, false, filter, length, List, map, nat_le, None, not, Ok, ok_or, Option, option_and_then, option_map, refl, Result, Some, subst, suc, sym, take, true, zero, ℕ, ◌++◌, ◌+◌, ◌<◌, ◌∙◌, ◌∷◌, ◌≡◌}
-use Rattle.trim_rules.specs.Rules.{Art, COLORMAP, COLORMAP_SIZE, Colormap, HEAD_SIZE, LevelBase, LiesWithin, Lump, Map, NoMap, PALETTE_SIZE, PLAYPAL, PNAMES, Playpal, SceneArt, TEXTURE1, TEXTURE2, TextureLists, and_then, base_in, base_over, both_lists, colormap_of, directory, first_list, from_below, has_name, if_long, label_of, last_of, level_in, level_of, lists_in, long_lump, lump_at, lump_bytes, map_bytes, map_of, named_bytes, no_lump, patch_names, playpal_of, prepared_textures, texture_lists}
+use Rattle.art_rules.proofs.Common.{[], ap, arith, Bool, cond, false, filter, length, List, map, nat_le, None, not, Ok, ok_or, Option, option_and_then, option_map, refl, Some, subst, suc, sym, take, true, zero, ℕ, ◌++◌, ◌+◌, ◌<◌, ◌∙◌, ◌∷◌, ◌≡◌}
+use Rattle.trim_rules.specs.Rules.{Art, COLORMAP, COLORMAP_SIZE, Colormap, HEAD_SIZE, LevelBase, LiesWithin, Lump, Map, NoMap, PALETTE_SIZE, PLAYPAL, PNAMES, Playpal, SceneArt, TEXTURE1, TEXTURE2, TextureLists, base_in, base_over, both_lists, colormap_of, directory, first_list, from_below, has_name, if_long, label_of, last_of, level_in, level_of, lists_in, long_lump, lump_at, lump_bytes, map_bytes, map_of, named_bytes, no_lump, patch_names, playpal_of, prepared_textures, texture_lists}
 use Rattle.art_rules.specs.Words.{Texture as ListedTexture}
 use Rattle.art_rules.proofs.Laws.{and_then-ok, directory_within, greatest-is, lump_bytes-length}
 use Rattle.scene_rules.specs.declared.refusal.AuditRefusal.TheVariants.{Texture}
 use Rattle.trim_rules.specs.declared.part.TrimPart.{TrimPart}
 use Rattle.trim_rules.specs.Parts.{called_lumps, copy_part, label_or_copy, trim_parts}
 use Rattle.trim_rules.specs.Files.{part_bytes, part_lump, stored_from, stored_lumps, trimmed_file, trimmed_lumps}
+use Rattle.trim_rules.proofs.AnswerLemmas.{below, some_value}
 use Rattle.trim_rules.proofs.BaseLemmas.{ServesBase, base-made, base-served}
 use Rattle.trim_rules.proofs.BytesLemmas.{part-bytes}
 use Rattle.trim_rules.proofs.LastLemmas.{called-last}
 use Rattle.trim_rules.proofs.MapLemmas.{HasFixed, behind_map, front_parts, is_called, map_place, parts-by-map, row-at, trimmed-map}
 use Rattle.trim_rules.proofs.NamedLemmas.{colormap-fixed, named-same, playpal-fixed, pnames-fixed, texture1-fixed, texture2-fixed}
 use Rattle.trim_rules.proofs.PlaceLemmas.{part_at}
-
-below : {A R Q : Type 0} (f : R → Q) (r : Result A R) (x : A) → from_below f r ≡ Ok x → r ≡ Ok x
-below f (Ok y) x e = let same : y ≡ x = cc in ap Ok same
-below f (Err reason) x e = cc
-
-some_value : {X E : Type 0} (o : Option X) (e : E) (x : X) → ok_or o e ≡ Ok x → o ≡ Some x
-some_value None e x is = cc
-some_value (Some y) e x is = let same : y ≡ x = cc in ap Some same
 
 -- what the directory tells of a base
 pub record IsFoundBy (lumps : List Lump) (name : List ℕ) (base : LevelBase) : Type 0 where
@@ -163,22 +156,6 @@ ok_some : {X E : Type 0} (o : Option X) (e : E) (x : X) → o ≡ Some x → ok_
 ok_some o e x is = rw is refl
 
 module _ (lumps : List Lump) where
-  colormap_long : (c : ℕ) → colormap_of lumps ≡ Ok c → long_lump lumps COLORMAP COLORMAP_SIZE ≡ Some c
-  unfolding colormap_of
-  colormap_long c e = some_value (long_lump lumps COLORMAP COLORMAP_SIZE) Colormap c e
-
-  long_colormap : (c : ℕ) → long_lump lumps COLORMAP COLORMAP_SIZE ≡ Some c → colormap_of lumps ≡ Ok c
-  unfolding colormap_of
-  long_colormap c e = ok_some (long_lump lumps COLORMAP COLORMAP_SIZE) Colormap c e
-
-  playpal_long : (c : ℕ) → playpal_of lumps ≡ Ok c → long_lump lumps PLAYPAL PALETTE_SIZE ≡ Some c
-  unfolding playpal_of
-  playpal_long c e = some_value (long_lump lumps PLAYPAL PALETTE_SIZE) Playpal c e
-
-  long_playpal : (c : ℕ) → long_lump lumps PLAYPAL PALETTE_SIZE ≡ Some c → playpal_of lumps ≡ Ok c
-  unfolding playpal_of
-  long_playpal c e = ok_some (long_lump lumps PLAYPAL PALETTE_SIZE) Playpal c e
-
   pub label_map : (name : List ℕ) (l : ℕ) → label_of lumps name ≡ Ok l → map_of lumps name ≡ Some l
   unfolding label_of
   label_map name l e = some_value (map_of lumps name) NoMap l e
@@ -196,6 +173,7 @@ pub trimmed-serves : (contents : List (List ℕ)) (lumps : List Lump) (art : Sce
     × ServesBase (lump_bytes contents lumps)
     (lump_bytes (trimmed_file (lump_bytes contents lumps) lumps (trim_parts lumps art name) ∷ []) (trimmed_lumps (lump_bytes contents lumps) lumps (trim_parts lumps art name)))
     lumps (trimmed_lumps (lump_bytes contents lumps) lumps (trim_parts lumps art name)) name base c p (map_place lumps art)
+unfolding colormap_of playpal_of
 trimmed-serves contents lumps art name base wanted listed is prepared =
     let bytes = lump_bytes contents lumps in
     let parts = trim_parts lumps art name in
@@ -207,11 +185,13 @@ trimmed-serves contents lumps art name base wanted listed is prepared =
     let all = called-last lumps bytes base.lists wanted art.prepared name prepared in
     let colormap = named-same bytes lumps art name base.label label all COLORMAP (colormap-fixed lumps) (record { f_start = refl; f_end = refl; s_start = refl; s_end = refl }) in
     let playpal = named-same bytes lumps art name base.label label all PLAYPAL (playpal-fixed lumps) (record { f_start = refl; f_end = refl; s_start = refl; s_end = refl }) in
-    let c = long-kept contents lumps parts listed COLORMAP COLORMAP_SIZE base.colormap (colormap_long lumps base.colormap found.colormap) colormap in
-    let p = long-kept contents lumps parts listed PLAYPAL PALETTE_SIZE base.playpal (playpal_long lumps base.playpal found.playpal) playpal in
+    let colours = some_value (long_lump lumps COLORMAP COLORMAP_SIZE) Colormap base.colormap found.colormap in
+    let palette = some_value (long_lump lumps PLAYPAL PALETTE_SIZE) Playpal base.playpal found.playpal in
+    let c = long-kept contents lumps parts listed COLORMAP COLORMAP_SIZE base.colormap colours colormap in
+    let p = long-kept contents lumps parts listed PLAYPAL PALETTE_SIZE base.playpal palette playpal in
     let fixed : HasFixed lumps base.playpal base.colormap lists.0.0 lists.1.0 = record {
-      playpal = (long-is lumps PLAYPAL PALETTE_SIZE base.playpal (playpal_long lumps base.playpal found.playpal)).0;
-      colormap = (long-is lumps COLORMAP COLORMAP_SIZE base.colormap (colormap_long lumps base.colormap found.colormap)).0;
+      playpal = (long-is lumps PLAYPAL PALETTE_SIZE base.playpal palette).0;
+      colormap = (long-is lumps COLORMAP COLORMAP_SIZE base.colormap colours).0;
       pnames = lists.0.1;
       texture1 = lists.1.1;
     } in (
@@ -220,8 +200,8 @@ trimmed-serves contents lumps art name base wanted listed is prepared =
       c.2,
       record {
         is = is;
-        colormap = long_colormap trimmed c.0 c.1;
-        playpal = long_playpal trimmed p.0 p.1;
+        colormap = ok_some (long_lump trimmed COLORMAP COLORMAP_SIZE) Colormap c.0 c.1;
+        playpal = ok_some (long_lump trimmed PLAYPAL PALETTE_SIZE) Playpal p.0 p.1;
         palette = p.2;
         label = map_label trimmed name (map_place lumps art) (trimmed-map bytes lumps art name base.label base.playpal base.colormap lists.0.0 lists.1.0 label fixed);
         level = map-kept bytes lumps art name base.label label;

@@ -128,21 +128,9 @@ directory-named contents lumps e n lt =
 abbrev IsNamedPart : List Lump → TrimPart → Type 0
 IsNamedPart lumps p = IsName (part_name lumps p)
 
-mark_start : (lumps : List Lump) → IsNamedPart lumps (Mark F_START)
-unfolding part_name filled
-mark_start lumps = record { size = refl; same = refl }
-
-mark_end : (lumps : List Lump) → IsNamedPart lumps (Mark F_END)
-unfolding part_name filled
-mark_end lumps = record { size = refl; same = refl }
-
-sprite_start : (lumps : List Lump) → IsNamedPart lumps (Mark S_START)
-unfolding part_name filled
-sprite_start lumps = record { size = refl; same = refl }
-
-sprite_end : (lumps : List Lump) → IsNamedPart lumps (Mark S_END)
-unfolding part_name filled
-sprite_end lumps = record { size = refl; same = refl }
+mark_named : (lumps : List Lump) (name : List ℕ) → length name ≡ 8 → name_of name ≡ name → IsNamedPart lumps (Mark name)
+unfolding part_name
+mark_named lumps name size same = record { size = size; same = same }
 
 copy_named : (lumps : List Lump) (n : ℕ) → IsName (lump_at lumps n).name → IsNamedPart lumps (copy_part n)
 unfolding part_name
@@ -160,7 +148,8 @@ put_spelled bytes lumps (p ∷ parts) all = (record { size = all.0.size; name = 
 -- The lumps of the trimmed file are spelled as a directory spells them.
 pub trimmed-spelled : (bytes : ℕ → List ℕ) (contents : List (List ℕ)) (lumps : List Lump) (art : SceneArt) (name : List ℕ) → directory contents ≡ Ok lumps
     → AllByRecursion IsSpelled (map (part_lump bytes lumps) (trim_parts lumps art name))
+unfolding filled
 trimmed-spelled bytes contents lumps art name e =
     put_spelled bytes lumps (trim_parts lumps art name)
     (parts-all lumps (IsNamedPart lumps) (λ n lt. copy_named lumps n (directory-named contents lumps e n lt)) art name
-    (mark_start lumps) (mark_end lumps) (sprite_start lumps) (sprite_end lumps) (λ n lt. label_named lumps n (directory-named contents lumps e n lt)))
+    (mark_named lumps F_START refl refl) (mark_named lumps F_END refl refl) (mark_named lumps S_START refl refl) (mark_named lumps S_END refl refl) (λ n lt. label_named lumps n (directory-named contents lumps e n lt)))

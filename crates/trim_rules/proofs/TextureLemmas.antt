@@ -1,5 +1,5 @@
 -- The prepared textures of an accepted level by the trimmed directory: the same, with their patches moved.
-use Rattle.art_rules.proofs.Common.{[], AllByRecursion, Bool, Decides-eqb, false, length, List, list_any, map, None, Ok, Option, option_map, or-true_left, or-true_right, refl, Some, true, ℕ, ◌==◌, ◌||◌, ◌∷◌, ◌≡◌, ◌≤◌}
+use Rattle.art_rules.proofs.Common.{[], AllByRecursion, Bool, Decides-eqb, length, List, list_any, map, None, Ok, Option, option_map, or-true_left, or-true_right, refl, Some, true, ℕ, ◌==◌, ◌∷◌, ◌≡◌, ◌≤◌}
 use Rattle.art_rules.proofs.Laws.{greatest-is}
 use Rattle.trim_rules.specs.Rules.{LevelBase, Lump, PlacedPatch, PreparedTexture, SKY_FLAT, SceneArt, base_in, has_name, is_patch_of, is_patch_of_any, last_of, lump_bytes, prepared_textures}
 use Rattle.trim_rules.specs.declared.part.TrimPart.{TrimPart}

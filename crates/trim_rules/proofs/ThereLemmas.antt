@@ -1,5 +1,5 @@
 -- Each lump of the trimmed file's parts is a lump of the given directory.
-use Rattle.art_rules.proofs.Common.{[], AllByRecursion, and_parts, ap, arith, Bool, cond, false, filter, length, List, list_any, map, None, not, Option, option_and_then, range_with_len, refl, Some, subst, suc, sym, true, zero, ℕ, ◌&&◌, ◌++◌, ◌+◌, ◌<◌, ◌==◌, ◌∙◌, ◌∷◌, ◌≡◌, ◌≤◌}
+use Rattle.art_rules.proofs.Common.{[], AllByRecursion, and_parts, ap, arith, Bool, cond, false, filter, length, List, list_any, map, None, not, Option, option_and_then, range_with_len, refl, Some, subst, suc, sym, true, zero, ℕ, ◌++◌, ◌+◌, ◌<◌, ◌==◌, ◌∙◌, ◌∷◌, ◌≡◌, ◌≤◌}
 use Rattle.art_rules.proofs.Laws.{greatest-is}
 use Rattle.trim_rules.specs.Rules.{COLORMAP, F_END, F_START, Lump, MAP_LUMPS, PLAYPAL, PNAMES, PreparedTexture, S_END, S_START, SceneArt, TEXTURE1, TEXTURE2, are_named, has_flat, has_name, if_label, is_label, is_lump, is_named_in, is_patch_of_any, last_of, lump_at, map_of, patch_lumps}
 use Rattle.trim_rules.specs.declared.part.TrimPart.{TrimPart}

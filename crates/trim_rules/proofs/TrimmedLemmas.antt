@@ -1,6 +1,6 @@
 -- The groups of a trimmed file: the flats of part 1 and the pictures of part 2, where no lump that is copied has the
 -- name of a mark.
-use Rattle.art_rules.proofs.Common.{[], AllByRecursion, and-second_false, ap, append_assoc, Bool, Decides-eqb, false, filter, length, List, list_any, map, map-append, None, not, Option, or-true_right, range_with_len, refl, Some, subst, suc, sym, true, ℕ, ⊤, ◌&&◌, ◌++◌, ◌<◌, ◌||◌, ◌∙◌, ◌∷◌, ◌≡◌}
+use Rattle.art_rules.proofs.Common.{[], AllByRecursion, and-second_false, ap, append_assoc, Bool, Decides-eqb, false, filter, length, List, list_any, map, map-append, None, not, Option, or-true_right, or_parts, range_with_len, refl, Some, subst, suc, sym, true, ℕ, ⊤, ◌&&◌, ◌++◌, ◌<◌, ◌||◌, ◌∙◌, ◌∷◌, ◌≡◌}
 use Rattle.art_rules.proofs.Laws.{none-below}
 use Rattle.trim_rules.specs.Rules.{F_END, F_START, Flats, Group, HEAD_SIZE, Lump, MAP_LUMPS, S_END, S_START, SceneArt, Sprites, has_name, is_end, is_start, lump_at, map_of}
 use Rattle.trim_rules.specs.declared.part.TrimPart.{TrimPart}
@@ -52,22 +52,8 @@ parts-unmarked lumps parts none there =
 -- a part that is no mark is plain in both groups
 plain_name : (group : Group) (name : List ℕ) → is_mark name ≡ false → (is_start group name ≡ false) × (is_end group name ≡ false)
 unfolding is_mark
-plain_name Flats name e = (or_first _ _ (or_first _ _ e), or_second _ _ (or_first _ _ e)) where
-  or_first : (a b : Bool) → (a || b) ≡ false → a ≡ false
-  or_first true b e = e
-  or_first false b e = refl
-
-  or_second : (a b : Bool) → (a || b) ≡ false → b ≡ false
-  or_second true b e = absurd (cc)
-  or_second false b e = e
-plain_name Sprites name e = (or_first _ _ (or_second _ _ e), or_second _ _ (or_second _ _ e)) where
-  or_first : (a b : Bool) → (a || b) ≡ false → a ≡ false
-  or_first true b e = e
-  or_first false b e = refl
-
-  or_second : (a b : Bool) → (a || b) ≡ false → b ≡ false
-  or_second true b e = absurd (cc)
-  or_second false b e = e
+plain_name Flats name e = or_parts _ _ (or_parts _ _ e).0
+plain_name Sprites name e = or_parts _ _ (or_parts _ _ e).1
 
 all_first : {X : Type 0} (P : X → Type 0) (xs ys : List X) → AllByRecursion P (xs ++ ys) → AllByRecursion P xs
 all_first P [] ys all = tt

@@ -1,5 +1,5 @@
 -- The bytes of a trimmed file, in the order in which they are written.
-use Rattle.art_rules.proofs.Common.{[], add-zero, All, ap, append_assoc, arith, codes, drop, drop-cons, flat_map, flat_map-append, flat_map-cons, get_or, length, length-append, length-map, List, map, refl, suc, sum_by-cons, sum_by_more, sym, take, take-append-drop, take_all, take_more, zero, ℕ, ◌*◌, ◌++◌, ◌+◌, ◌<◌, ◌∙◌, ◌∷◌, ◌≡◌, ◌≤◌}
+use Rattle.art_rules.proofs.Common.{[], add-zero, All, ap, append_assoc, arith, codes, drop, drop-cons, flat_map, flat_map-append, flat_map-cons, get_or, length, length-append, length-map, List, map, refl, suc, sum_by, sum_by-cons, sum_by_more, sym, take, take-append-drop, take_all, take_more, zero, ℕ, ◌*◌, ◌++◌, ◌+◌, ◌<◌, ◌∙◌, ◌∷◌, ◌≡◌, ◌≤◌}
 use Rattle.wad_trim.specs.Rules.{AllWithin, Copy, ENTRY_SIZE, HEADER_SIZE, HEAD_SIZE, Label, Lump, LumpNo, MAX_FILE_BYTES, Mark, TrimPart, contents, entries, file_of, file_size, lump_bytes, no_lump, part_bytes, part_lump, part_name, part_size, parts_size, trimmed_file, wad_file, word_bytes}
 use Rattle.art_rules.proofs.Laws.{lump_bytes-length}
 use Rattle.wad_trim.specs.Plans.{FitsFile, entries_from}
@@ -30,7 +30,7 @@ abbrev pub entries_behind : List Lump → List TrimPart → ℕ → TrimPart →
 entries_behind lumps parts i d = entries_from lumps (HEADER_SIZE + parts_size lumps (take i parts) + part_size lumps (get_or parts i d)) (drop (suc i) parts)
 
 -- the entries so far, the next one, and those behind it
-pub entries-left : (lumps : List Lump) (parts : List TrimPart) (i : ℕ) (d : TrimPart) → i < length parts →
+entries-left : (lumps : List Lump) (parts : List TrimPart) (i : ℕ) (d : TrimPart) → i < length parts →
     entries_from lumps HEADER_SIZE (take i parts) ++ (entry lumps (HEADER_SIZE + parts_size lumps (take i parts)) (get_or parts i d) ++ entries_behind lumps parts i d)
     ≡ entries_from lumps HEADER_SIZE parts
 entries-left lumps parts i d l =
@@ -48,7 +48,7 @@ entries-last lumps place part = append_nil (entry lumps place part) where
   append_nil (x ∷ xs) = ap (λ ys. x ∷ ys) (append_nil xs)
 
 -- one entry more
-pub entries-more : (lumps : List Lump) (parts : List TrimPart) (i : ℕ) (d : TrimPart) → i < length parts →
+entries-more : (lumps : List Lump) (parts : List TrimPart) (i : ℕ) (d : TrimPart) → i < length parts →
     entries_from lumps HEADER_SIZE (take i parts) ++ entry lumps (HEADER_SIZE + parts_size lumps (take i parts)) (get_or parts i d)
     ≡ entries_from lumps HEADER_SIZE (take (i + 1) parts)
 entries-more lumps parts i d l =
@@ -56,13 +56,21 @@ entries-more lumps parts i d l =
     ∙ sym (entries-append lumps HEADER_SIZE (take i parts) (get_or parts i d ∷ []))
     ∙ ap (entries_from lumps HEADER_SIZE) (sym (take_more parts i d l))
 
--- an entry by its place, its size and its name
-pub entry-is : (lumps : List Lump) (place at size : ℕ) (name : List ℕ) (part : TrimPart) → place ≡ at → size ≡ part_size lumps part → name ≡ part_name lumps part →
-    word_bytes place ++ (word_bytes size ++ name) ≡ entry lumps at part
-entry-is lumps place at size name part p s n =
-    ap (λ (k : ℕ). word_bytes k ++ (word_bytes size ++ name)) p
-    ∙ ap (λ (k : ℕ). word_bytes at ++ (word_bytes k ++ name)) s
-    ∙ ap (λ (v : List ℕ). word_bytes at ++ (word_bytes (part_size lumps part) ++ v)) n
+-- the entry of the next part, by its place, its size and its name
+module _ (lumps : List Lump) (parts : List TrimPart) (i : ℕ) (part : TrimPart) {place size : ℕ} {name : List ℕ} (l : i < length parts) (is : part ≡ get_or parts i part)
+    (p : place ≡ HEADER_SIZE + parts_size lumps (take i parts)) (s : size ≡ part_size lumps part) (n : name ≡ part_name lumps part) where
+  entry-is : word_bytes place ++ (word_bytes size ++ name) ≡ entry lumps (HEADER_SIZE + parts_size lumps (take i parts)) (get_or parts i part)
+  entry-is =
+      ap (λ (k : ℕ). word_bytes k ++ (word_bytes size ++ name)) p
+      ∙ ap (λ (k : ℕ). word_bytes (HEADER_SIZE + parts_size lumps (take i parts)) ++ (word_bytes k ++ name)) s
+      ∙ ap (λ (v : List ℕ). word_bytes (HEADER_SIZE + parts_size lumps (take i parts)) ++ (word_bytes (part_size lumps part) ++ v)) n
+      ∙ ap (entry lumps (HEADER_SIZE + parts_size lumps (take i parts))) is
+
+  pub entry-left : entries_from lumps HEADER_SIZE (take i parts) ++ ((word_bytes place ++ (word_bytes size ++ name)) ++ entries_behind lumps parts i part) ≡ entries_from lumps HEADER_SIZE parts
+  entry-left = ap (λ (v : List ℕ). entries_from lumps HEADER_SIZE (take i parts) ++ (v ++ entries_behind lumps parts i part)) entry-is ∙ entries-left lumps parts i part l
+
+  pub entry-more : entries_from lumps HEADER_SIZE (take i parts) ++ (word_bytes place ++ (word_bytes size ++ name)) ≡ entries_from lumps HEADER_SIZE (take (i + 1) parts)
+  entry-more = ap (λ (v : List ℕ). entries_from lumps HEADER_SIZE (take i parts) ++ v) entry-is ∙ entries-more lumps parts i part l
 
 -- no part yet
 pub entries-none : (lumps : List Lump) (place : ℕ) → entries_from lumps place [] ≡ []
@@ -70,10 +78,10 @@ unfolding entries_from
 entries-none lumps place = refl
 
 -- the size of one part more
-pub size-more : (lumps : List Lump) (parts : List TrimPart) (i : ℕ) (d : TrimPart) → i < length parts →
-    parts_size lumps (take (i + 1) parts) ≡ parts_size lumps (take i parts) + part_size lumps (get_or parts i d)
+pub size-more : (lumps : List Lump) (parts : List TrimPart) (i : ℕ) (part : TrimPart) → i < length parts → part ≡ get_or parts i part →
+    parts_size lumps (take (i + 1) parts) ≡ parts_size lumps (take i parts) + part_size lumps part
 unfolding parts_size
-size-more lumps parts i d l = sum_by_more (part_size lumps) parts i d l
+size-more lumps parts i part l is = sum_by_more (part_size lumps) parts i part l ∙ ap (λ p. sum_by (part_size lumps) (take i parts) + part_size lumps p) (sym is)
 
 size-append : (lumps : List Lump) (xs ys : List TrimPart) → parts_size lumps (xs ++ ys) ≡ parts_size lumps xs + parts_size lumps ys
 unfolding parts_size
@@ -81,12 +89,12 @@ size-append lumps [] ys = omega arith
 size-append lumps (x ∷ xs) ys = omega (arith, sum_by-cons (part_size lumps) x (xs ++ ys), sum_by-cons (part_size lumps) x xs, size-append lumps xs ys)
 
 -- the parts up to one are no larger than all
-pub size-within : (lumps : List Lump) (parts : List TrimPart) (i : ℕ) (d : TrimPart) → i < length parts →
-    parts_size lumps (take i parts) + part_size lumps (get_or parts i d) ≤ parts_size lumps parts
-size-within lumps parts i d l =
+pub size-within : (lumps : List Lump) (parts : List TrimPart) (i : ℕ) (part : TrimPart) → i < length parts → part ≡ get_or parts i part →
+    parts_size lumps (take i parts) + part_size lumps part ≤ parts_size lumps parts
+size-within lumps parts i part l is =
     let all : parts_size lumps (take (i + 1) parts) + parts_size lumps (drop (i + 1) parts) ≡ parts_size lumps parts =
     sym (size-append lumps (take (i + 1) parts) (drop (i + 1) parts)) ∙ ap (parts_size lumps) (take-append-drop (i + 1) parts) in
-    omega (arith, all, size-more lumps parts i d l)
+    omega (arith, all, size-more lumps parts i part l is)
 
 -- a lump that a part copies is copied
 any_default : (xs : List TrimPart) (j : ℕ) (x y : TrimPart) → j < length xs → get_or xs j x ≡ get_or xs j y
@@ -94,20 +102,20 @@ any_default [] j x y lt = absurd (omega arith)
 any_default (z ∷ xs) zero x y lt = refl
 any_default (z ∷ xs) (suc j) x y lt = any_default xs j x y (omega (arith, lt))
 
-pub copied-among : (parts : List TrimPart) (i : ℕ) (part : TrimPart) → i < length parts → part ≡ get_or parts i part → (n : ℕ) → IsCopied (part ∷ []) n → IsCopied parts n
-copied-among parts i part l is n there =
-    let copy : TrimPart = Copy (record { 0 = n }) in
-    let first : there.0 ≡ 0 = omega (arith, there.1) in
-    let same : part ≡ copy = ap (λ (k : ℕ). get_or (part ∷ []) k copy) (sym first) ∙ there.2 in
-    (i, l, any_default parts i copy part l ∙ sym is ∙ same)
-
--- the one lump of a part that copies it
-pub copied-one : (part : TrimPart) (lump : LumpNo) → part ≡ Copy lump → (n : ℕ) → n ≡ lump.0 → IsCopied (part ∷ []) n
-copied-one part lump is n e = (0, omega arith, is ∙ ap (λ (k : ℕ). Copy (record { 0 = k })) (sym e))
+pub copied-among : (parts : List TrimPart) (i : ℕ) (part : TrimPart) (lump : LumpNo) → i < length parts → part ≡ get_or parts i part → part ≡ Copy lump → (n : ℕ) → n ≡ lump.0 → IsCopied parts n
+copied-among parts i part lump l is copy n e =
+    (i, l, any_default parts i (Copy (record { 0 = n })) part l ∙ sym is ∙ copy ∙ ap (λ (k : ℕ). Copy (record { 0 = k })) (sym e))
 
 pub bytes-one : (part : TrimPart) (lump : LumpNo) → part ≡ Copy lump → (bytes : ℕ → List ℕ) → bytes lump.0 ≡ part_bytes bytes part
 unfolding part_bytes
 bytes-one part lump is bytes = ap (part_bytes bytes) (sym is)
+
+-- one that copies none has no bytes
+pub bytes-none : (part : TrimPart) → ((lump : LumpNo) → part ≡ Copy lump → ⊥) → (bytes : ℕ → List ℕ) → part_bytes bytes part ≡ []
+unfolding part_bytes
+bytes-none (Mark name) other bytes = refl
+bytes-none (Label lump) other bytes = refl
+bytes-none (Copy lump) other bytes = absurd (other lump refl)
 
 -- no part has a size
 pub size-none : (lumps : List Lump) → parts_size lumps [] ≡ 0

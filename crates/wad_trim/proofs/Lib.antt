@@ -6,3 +6,4 @@ pub mod NeededLemmas
 pub mod PartLemmas
 pub mod PlanLemmas
 pub mod WriteLemmas
+pub mod CopyLemmas

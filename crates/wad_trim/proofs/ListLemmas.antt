@@ -1,5 +1,5 @@
 -- Lists of lumps by their numbers, and what marks of numbers list.
-use Rattle.art_rules.proofs.Common.{[], All, AllByRecursion, ap, arith, Bool, Contains, filter, get_or, length, List, list_any, list_any-append, nat_tests, range_with_len, refl, same_from_decides, subst, suc, sym, true, zero, ℕ, ◌++◌, ◌<◌, ◌==◌, ◌||◌, ◌↔◌, ◌∙◌, ◌∷◌, ◌≡◌}
+use Rattle.art_rules.proofs.Common.{[], All, AllByRecursion, ap, arith, Bool, filter, get_or, length, List, list_any, list_any-append, range_with_len, refl, subst, suc, sym, zero, ℕ, ◌++◌, ◌<◌, ◌==◌, ◌||◌, ◌∙◌, ◌∷◌, ◌≡◌}
 use Rattle.wad_trim.specs.Rules.{Lump, LumpNo, SectorFlats, flat_lumps, has_flat, picture_lumps}
 use Rattle.texture_build.specs.Views.{is_marked}
 use Rattle.texture_build.proofs.MarkLemmas.{filter_same}

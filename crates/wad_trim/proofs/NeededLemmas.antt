@@ -1,6 +1,6 @@
 -- Each lump that is copied is one that the level needs.
-use Rattle.art_rules.proofs.Common.{[], All-contains, All-from_recursion, AllByRecursion, ap, arith, Bool, bytes_eq, bytes_eq-Decides, cond, eq-eqb, false, filter, inl, inr, length, List, list_any, map, nat_le, nat_tests, None, not, Ok, ok_or, Option, option_and_then, option_map_or, or-true, or_cases, range_with_len, refl, Some, subst, suc, sym, true, zero, ℕ, ⊤, ◌++◌, ◌+◌, ◌<◌, ◌==◌, ◌||◌, ◌∙◌, ◌∷◌, ◌≡◌, ◌≤◌}
-use Rattle.wad_trim.specs.Rules.{COLORMAP, COLORMAP_SIZE, Copy, F_END, F_START, Label, LevelBase, Lump, MAP_LUMPS, Mark, NoMap, PALETTE_SIZE, PLAYPAL, PNAMES, S_END, S_START, SceneArt, SceneValue, TEXTURE1, TEXTURE2, ThingLine, TrimPart, called_lumps, colormap_of, copy_part, fixed_lumps, flat_lumps, group_parts, has_flat, has_name, if_long, is_last, is_list, is_map_lump, is_needed, is_patch_of_any, is_wanted_texture, label_of, label_or_copy, last_list, last_of, listed_last, lump_at, map_of, map_parts, patch_lumps, picture_lumps, playpal_of, trim_parts, trim_plan}
+use Rattle.art_rules.proofs.Common.{[], All-contains, All-from_recursion, AllByRecursion, ap, arith, Bool, bytes_eq, bytes_eq-Decides, cond, eq-eqb, false, filter, inl, inr, length, List, list_any, map, nat_le, nat_tests, None, not, Ok, ok_or, Option, option_and_then, option_map_or, or-true, or_cases, range_with_len, refl, Some, subst, suc, sym, true, zero, ℕ, ⊤, ◌+◌, ◌<◌, ◌==◌, ◌∙◌, ◌∷◌, ◌≡◌, ◌≤◌}
+use Rattle.wad_trim.specs.Rules.{COLORMAP, COLORMAP_SIZE, Copy, F_END, F_START, Label, Lump, MAP_LUMPS, Mark, NoMap, PALETTE_SIZE, PLAYPAL, PNAMES, S_END, S_START, SceneArt, SceneValue, TEXTURE1, TEXTURE2, ThingLine, TrimPart, called_lumps, colormap_of, copy_part, fixed_lumps, flat_lumps, group_parts, has_flat, has_name, if_long, is_last, is_list, is_map_lump, is_needed, is_patch_of_any, is_wanted_texture, label_of, label_or_copy, last_list, last_of, listed_last, lump_at, map_of, map_parts, patch_lumps, picture_lumps, playpal_of, trim_parts, trim_plan}
 use Rattle.sound_scene.specs.Sound.{art_with}
 use Rattle.sound_scene.proofs.NeededLemmas.{for_colormap, for_list, for_map, for_palette, for_patch, for_picture}
 use Rattle.sound_scene.proofs.SceneLemmas.{IsSceneOf, base_parts}

@@ -1,13 +1,13 @@
 -- Calls that read lumps and write bytes, one after the other.
 use Rattle.art_rules.proofs.Common.{[], ap, append_assoc, arith, Err, err_from_is_err_and, IsErrAnd, IsTrue, length, List, Ok, on_err_weaker, on_ok_weaker, OnErr, OnOk, refl, Result, Some, subst, sym, ℕ, ◌++◌, ◌<◌, ◌∙◌, ◌≡◌, ◌≤◌}
-use Rattle.wad_trim.specs.Rules.{Failed, FaultsRose, Grew, GrewByPrefix, Heap, IsLive, ShelfView, Writes, bytes_of, lump_bytes}
+use Rattle.wad_trim.specs.Rules.{Failed, FaultsRose, Grew, GrewByPrefix, Heap, IsInOrder, IsLive, Item, KeepsOrder, ShelfView, Writes, bytes_of, lump_bytes}
 use Rattle.art_rules.proofs.Laws.{grew_more, grew_none, grew_partly, prefix_none, prefix_of_more}
 use Rattle.scene_rules.proofs.Laws.{order_none, order_then}
 use Rattle.texture_build.specs.DirectoryView.{DirectoryView}
 use Rattle.texture_build.specs.CacheFault.{CacheFault}
 use Rattle.texture_build.specs.CacheFault.TheVariants as cache
 use Rattle.texture_build.specs.Caches.{cache_fault, lump_owner}
-use Rattle.texture_build.specs.Calls.{HoldContents, IsFullFor, ReadsLumps}
+use Rattle.texture_build.specs.Calls.{HasAll, HoldContents, IsFullFor, PreservesCache, ReadsLumps}
 use Rattle.texture_build.proofs.CallLemmas.{full_for_earlier, keeps_none, keeps_then, told_later}
 use Rattle.texture_build.proofs.FetchLemmas.{live_faithful}
 use Rattle.wad_trim.specs.declared.fault.TrimWrite.{TrimWrite}
@@ -21,20 +21,25 @@ in_order_at (Err ReadFault) f k = tt
 in_order_at (Err WriteFault) f k = f k
 in_order_at (Err (ZoneFull wanted widest)) f k = k
 
--- nothing was read or written
-pub lumps-none : (view : ShelfView) (dir : DirectoryView) (z : Heap) (written : List ℕ → Type 0) (faults : ℕ) (wants : ℕ → Type 0) →
-    WritesLumps view view dir z z written written faults faults wants (λ bytes. []) (Ok tt)
-lumps-none view dir z written faults wants = record {
-  keeps = keeps_none view dir z;
-  ok = λ contents hold. grew_none written;
+-- nothing was written
+wrote_none : {v w : ShelfView} {dir : DirectoryView} {a b : Heap} {wants : ℕ → Type 0} (p : List ℕ → Type 0) (i : ℕ) → PreservesCache v w dir a b →
+    ((items : List Item) → HasAll items dir wants → IsInOrder items a → KeepsOrder items a b v.taken w.taken) → WritesLumps v w dir a b p p i i wants (λ bytes. []) (Ok tt)
+wrote_none p i keeps order = record {
+  keeps = keeps;
+  ok = λ contents hold. grew_none p;
   err = λ contents hold. tt;
   read_fault = λ e. absurd (cc);
   steady = λ contents hold steady e. cc;
   write_fault = λ e. absurd (cc);
   later_faults = omega arith;
   full = λ wanted widest e. absurd (cc);
-  order = λ items all o. order_none items z view.taken o;
+  order = order;
 }
+
+-- nor was anything read
+pub lumps-none : (view : ShelfView) (dir : DirectoryView) (z : Heap) (written : List ℕ → Type 0) (faults : ℕ) (wants : ℕ → Type 0) →
+    WritesLumps view view dir z z written written faults faults wants (λ bytes. []) (Ok tt)
+lumps-none view dir z written faults wants = wrote_none written faults (keeps_none view dir z) (λ items all o. order_none items z view.taken o)
 
 -- a call, and behind it another, whatever that answers
 pub lumps-then : {v w x : ShelfView} {dir : DirectoryView} {a b c : Heap} {p q r : List ℕ → Type 0} {i j k : ℕ} {early late wants : ℕ → Type 0} {before after : (ℕ → List ℕ) → List ℕ}
@@ -138,25 +143,6 @@ module _ {v w : ShelfView} {dir : DirectoryView} {a b : Heap} {p q r : List ℕ 
       (lumps-stop WriteFault rest expected (lumps-then (Err WriteFault) (λ bytes. before bytes ++ piece) one (put_partly w dir b wants put failed two is) (λ n s. s) (λ n s. s) (λ contents hold. refl)) (λ n s. s)
       (λ contents hold. append_assoc (before (lump_bytes contents dir.lumps)) piece (rest (lump_bytes contents dir.lumps)) ∙ same contents hold))
 
--- a part that failed behind what was written
-pub part-stopped : {v w x : ShelfView} {dir : DirectoryView} {a b c : Heap} {p q r : List ℕ → Type 0} {i j k : ℕ} {some wants : ℕ → Type 0} {before part : (ℕ → List ℕ) → List ℕ} {inner : Result (Unit {0}) TrimWrite}
-    (result : Result (Unit {0}) TrimWrite) (rest expected : (ℕ → List ℕ) → List ℕ) → WritesLumps v w dir a b p q i j wants before (Ok tt) → WritesLumps w x dir b c q r j k some part inner → (fault : TrimWrite) → inner ≡ Err fault →
-    IsErrAnd result (λ above. above ≡ fault) → ((n : ℕ) → some n → wants n) →
-    ((contents : List (List ℕ)) → HoldContents v dir a contents → before (lump_bytes contents dir.lumps) ++ (part (lump_bytes contents dir.lumps) ++ rest (lump_bytes contents dir.lumps)) ≡ expected (lump_bytes contents dir.lumps)) →
-    WritesLumps v x dir a c p r i k wants expected result
-part-stopped {w} {x} {dir} {b} {c} {q} {r} {j} {k} {some} {before} {part} result rest expected one two fault is given among same =
-    lumps-given result fault given
-    (lumps-stop fault rest expected (lumps-then (Err fault) (λ bytes. before bytes ++ part bytes) one (subst (WritesLumps w x dir b c q r j k some part) is two) (λ n s. s) among (λ contents hold. refl)) (λ n s. s)
-    (λ contents hold. append_assoc (before (lump_bytes contents dir.lumps)) (part (lump_bytes contents dir.lumps)) (rest (lump_bytes contents dir.lumps)) ∙ same contents hold))
-
--- a part behind what was written
-pub part-done : {v w x : ShelfView} {dir : DirectoryView} {a b c : Heap} {p q r : List ℕ → Type 0} {i j k : ℕ} {some wants : ℕ → Type 0} {before part : (ℕ → List ℕ) → List ℕ} {inner : Result (Unit {0}) TrimWrite}
-    (expected : (ℕ → List ℕ) → List ℕ) → WritesLumps v w dir a b p q i j wants before (Ok tt) → WritesLumps w x dir b c q r j k some part inner → (unit : Unit {0}) → inner ≡ Ok unit → ((n : ℕ) → some n → wants n) →
-    ((contents : List (List ℕ)) → HoldContents v dir a contents → before (lump_bytes contents dir.lumps) ++ part (lump_bytes contents dir.lumps) ≡ expected (lump_bytes contents dir.lumps)) →
-    WritesLumps v x dir a c p r i k wants expected (Ok tt)
-part-done {w} {x} {dir} {b} {c} {q} {r} {j} {k} {some} {part} expected one two unit is among same =
-    lumps-then (Ok tt) expected one (subst (WritesLumps w x dir b c q r j k some part) is two) (λ n s. s) among same
-
 -- what a fetch answers, as a call that writes lumps
 fetch_answer : Result (Unit {0}) CacheFault → Result (Unit {0}) TrimWrite
 fetch_answer (Ok unit) = Ok tt
@@ -167,17 +153,7 @@ fetch_writes : {v w : ShelfView} {dir : DirectoryView} {a b : Heap} {wants : ℕ
     ReadsLumps cache_fault v w dir a b wants (λ (done : Unit {0}). done) (λ bytes. Ok tt) result →
     WritesLumps v w dir a b p p i i wants (λ bytes. []) (fetch_answer result)
 unfolding fetch_answer
-fetch_writes p i (Ok unit) one = record {
-  keeps = one.keeps;
-  ok = λ contents hold. grew_none p;
-  err = λ contents hold. tt;
-  read_fault = λ e. absurd (cc);
-  steady = λ contents hold steady e. cc;
-  write_fault = λ e. absurd (cc);
-  later_faults = omega arith;
-  full = λ wanted widest e. absurd (cc);
-  order = one.order;
-}
+fetch_writes p i (Ok unit) one = wrote_none p i one.keeps one.order
 fetch_writes p i (Err cache.ReadFault) one = record {
   keeps = one.keeps;
   ok = λ contents hold. tt;

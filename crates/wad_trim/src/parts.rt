@@ -40,7 +40,7 @@ pub(crate) fn list_parts(
     let mut parts = Vec::new(alloc);
     add_group(&mut parts, F_START, &flats, F_END)?;
     add_group(&mut parts, S_START, &pictures, S_END)?;
-    add_map(&mut parts, dir, map, &called)?;
+    add_map(&mut parts, dir, map, has_named(dir, &called, map))?;
     add_called(&mut parts, dir, map, &called)?;
     Ok(parts)
 }
@@ -206,21 +206,19 @@ fn add_group(
 }
 
 // Adds the label of the map and the eight lumps behind it. The label has its bytes where it is
-// found by its name too.
+// called, that is, found by its name too.
 #[tactic(auto, unfolding(trim_rules::specs::Parts::map_parts))]
 fn add_map(
     parts: &mut Vec<TrimPart>,
     dir: &Directory,
     name: &Name8,
-    called: &[LumpNo],
+    called: bool,
 ) -> Result<(), OutOfMemory>
-    requires { All (λ lump. lump.0 < length dir.now.lumps) called.now }
-    ensures { OnOk result (parts.new.items ≡ parts.old.items ++ map_parts
-        (list_any (has_name dir.now.lumps name.now) (lump_numbers called.now))
-        (map_of dir.now.lumps name.now)) }
+    ensures { OnOk result (parts.new.items
+        ≡ parts.old.items ++ map_parts called (map_of dir.now.lumps name.now)) }
 {
     if let Some(label) = dir.map(name) {
-        parts.push(label_part(label, has_named(dir, called, name)))?;
+        parts.push(label_part(label, called))?;
         for i in 0..MAP_LUMP_COUNT {
             parts.push(TrimPart::Copy(LumpNo(label.0 + 1 + i as u16)))?;
         }

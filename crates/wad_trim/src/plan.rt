@@ -8,13 +8,13 @@ ghost use Rattle.wad_trim.specs.Writes.{IsCopied, IsPartThere, WritesLumps};
 use crate::fault::{TrimFault, TrimWrite};
 use crate::parts::list_parts;
 use crate::refuse::trim_refusal;
-use crate::write::write_parts;
+use crate::write::{put_entries, put_header};
 use art_rules::{Name8, Shelf, Sink};
 use sound_scene::SoundScene;
 use sprite_book::SpriteBook;
 use std::alloc::Global;
 use std::marker::Model;
-use texture_build::{Directory, LumpCache};
+use texture_build::{Directory, LumpCache, Tag, live_lump};
 use trim_rules::TrimPart;
 
 /// The parts of a trimmed file, in their order. Contracts see the list of them.
@@ -85,6 +85,16 @@ impl TrimPlan {
             (K.written sink.old) (K.written sink.new) (K.faults sink.old) (K.faults sink.new)
             (IsCopied self.now) (λ bytes. trimmed_file bytes dir.now.lumps self.now) result }
     {
-        write_parts(&self.parts, dir, cache, shelf, sink)
+        let parts: &[TrimPart] = &self.parts;
+        put_header(parts, dir, sink)?;
+        for part in parts {
+            let TrimPart::Copy(lump) = *part else {
+                continue;
+            };
+            cache.fetch(shelf, dir, lump, Tag::Cache)?;
+            sink.put(live_lump(cache, lump))?;
+        }
+        put_entries(parts, dir, sink)?;
+        Ok(())
     }
 }

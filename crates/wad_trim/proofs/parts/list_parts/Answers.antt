@@ -1,5 +1,5 @@
 use Rattle.art_rules.proofs.Common.{ap, option_copied, ◌++◌, ◌∙◌}
-use Rattle.wad_trim.specs.Rules.{book_lumps, called_lumps, flat_lumps, picture_lumps}
+use Rattle.wad_trim.specs.Rules.{book_lumps, called_lumps, flat_lumps, map_of, map_parts, picture_lumps}
 use Rattle.sound_scene.specs.Views.{lump_numbers}
 use Rattle.wad_trim.specs.Plans.{trim_art, layer_lumps}
 use Rattle.wad_trim.proofs.PartLemmas.{all-there, listed-few, parts-are}
@@ -16,7 +16,8 @@ returns c =
     let is = parts-are lumps art c.args.map.now (lump_numbers c.deref.result.now) (lump_numbers c.deref-2.result.now) (lump_numbers c.deref-3.result.now) (lump_numbers c.deref-4.result.now)
     c.new-parts.result.items c.add_group.new.parts.items c.add_group-2.new.parts.items c.add_map.new.parts.items c.add_called.new.parts.items
     flats pictures (ap lump_numbers c.deref-3.ensures.value ∙ called) (ap lump_numbers c.deref-4.ensures.value ∙ called)
-    c.new-parts.ensures.items c.in_ok-add_group.ensures c.in_ok-add_group-2.ensures c.in_ok-add_map.ensures c.in_ok-add_called.ensures in
+    c.new-parts.ensures.items c.in_ok-add_group.ensures c.in_ok-add_group-2.ensures
+    (c.in_ok-add_map.ensures ∙ ap (λ b. c.add_group-2.new.parts.items ++ map_parts b (map_of lumps c.args.map.now)) c.has_named.ensures) c.in_ok-add_called.ensures in
     record {
       parts = is;
       there = all-there lumps art c.args.map.now c.add_called.new.parts.items is;
