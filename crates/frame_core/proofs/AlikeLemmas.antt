@@ -6,23 +6,9 @@ use Rattle.picture_rules.proofs.sprite.MaskedLemmas.{masked_dots-alike}
 
 -- a fragment with nothing where the masked pass does not read
 abbrev pub as_read : Drawseg → Drawseg
-as_read d = record {
-  seg = d.seg;
-  first = d.first;
-  last = d.last;
-  scale1 = d.scale1;
-  scale2 = d.scale2;
-  step = d.step;
-  has_bottom = d.has_bottom;
-  has_top = d.has_top;
-  bottom_height = d.bottom_height;
-  top_height = d.top_height;
+as_read d = record d {
   bottom_clip = λ x. cond (d.has_bottom || d.masked) (d.bottom_clip x) (pos 0);
   top_clip = λ x. cond (d.has_top || d.masked) (d.top_clip x) (pos 0);
-  masked = d.masked;
-  middle = d.middle;
-  mid = d.mid;
-  light = d.light;
   column = λ x. cond d.masked (d.column x) (pos 0);
 }
 

@@ -1,6 +1,6 @@
 -- Laws of a counter: an event that it was given after others, and a whole walk.
-use Rattle.picture_rules.proofs.Common.{[], Err, IfErr, IfErr-weaker, List, Ok, OnOk, refl, Result, Some, subst, sym, take, ℕ, ◌++◌, ◌∙◌, ◌∷◌, ◌≡◌}
-use Rattle.frame_core.specs.Rules.{Event, LevelLists, Limits, OverLimit, SceneValue, ViewValue, steps_over, view_events, view_over, view_steps}
+use Rattle.picture_rules.proofs.Common.{[], ap, Err, IfErr, IfErr-weaker, List, Ok, OnOk, refl, Result, Some, subst, sym, take, ℕ, ◌++◌, ◌∙◌, ◌∷◌, ◌≡◌}
+use Rattle.frame_core.specs.Rules.{Event, Limits, OverLimit, SceneValue, ViewValue, steps_over, view_events, view_over, view_steps}
 use Rattle.node_walk.specs.Visits.{Visits}
 use Rattle.wall_columns.specs.declared.fault.DrawFault.{DrawFault}
 use Rattle.wall_columns.specs.Faults.{limit_of_fault}
@@ -8,17 +8,17 @@ use Rattle.frame_core.specs.declared.bench.Bench.{Bench}
 use Rattle.frame_core.specs.Scenes.{lists_of, scene_of}
 use Rattle.frame_core.specs.Views.{CanCount}
 use Rattle.frame_core.specs.Walked.{CanTake, HasWalked, IsEventIn}
-use Rattle.frame_core.specs.Painters.{CanCountNext, CounterValue, HasCounted, counter_value, limits_in}
-use Rattle.frame_core.proofs.PainterLemmas.{all-ok, longer, view-over, visits-one}
+use Rattle.frame_core.specs.Painters.{CanCountNext, CounterValue, HasCounted, HasCountedView, limits_in}
+use Rattle.frame_core.proofs.PainterLemmas.{all-ok, bench-walked, longer, view-over, visits-one}
 
 all_over : {A E X : Type 0} (P : X → E → Type 0) (result : Result A E) → ((x : X) → IfErr result (P x)) → IfErr result (λ e. (x : X) → P x e)
 all_over P (Ok a) h = tt
 all_over P (Err e) h = h
 
 -- the limit that ended a count, for each way to read lumps
-pub each-count : {A E X : Type 0} (P : X → E → Type 0) (result : Result A E) → IfErr result (λ e. (x : X) → P x e) → (x : X) → IfErr result (P x)
-each-count P (Ok a) h x = tt
-each-count P (Err e) h x = h x
+each_count : {A E X : Type 0} (P : X → E → Type 0) (result : Result A E) → IfErr result (λ e. (x : X) → P x e) → (x : X) → IfErr result (P x)
+each_count P (Ok a) h x = tt
+each_count P (Err e) h x = h x
 
 -- What a call that was given an event says of a counter.
 pub record IsCounted (v : ViewValue) (whole : SceneValue) (p q : CounterValue) (e : Event) (result : Result (Unit {0}) OverLimit) : Type 0 where
@@ -69,8 +69,8 @@ CounterVisits p q events result =
     Visits {A = CounterValue} {E = OverLimit} (CanCountNext p) (CanCountNext q) (λ start es. HasCounted start p es (Ok tt)) (λ start es. HasCounted start q es (Ok tt))
     (λ start es stop. HasCounted start q es (Err stop)) events result
 
-pub counter-visits : {e : Event} (p q : CounterValue) (result : Result (Unit {0}) OverLimit) → IsCounted p.view p.scene p q e result → CounterVisits p q (e ∷ []) result
-counter-visits {e} p q result given =
+counter_visits : {e : Event} (p q : CounterValue) (result : Result (Unit {0}) OverLimit) → IsCounted p.view p.scene p q e result → CounterVisits p q (e ∷ []) result
+counter_visits {e} p q result given =
     visits-one (CanCountNext p) (CanCountNext q) (λ start es. HasCounted start p es (Ok tt)) (λ start es. HasCounted start q es) e result (λ start before stood. counted_more p q start before stood given)
     (λ ok event can. takes_later p q e event (subst (IsCounted p.view p.scene p q e) ok given) can)
 
@@ -94,14 +94,14 @@ counter-walked p q events (Ok unit) walked visits = visits.ok.each p [] (counted
 counter-walked p q events (Err stop) walked visits =
     stopped_all p q visits.err.count events stop (visits.err.each p [] (counted_none p walked))
 
--- an event that a counter was given whose view, scene and name stay
-counts_at : (v : ViewValue) (scene : SceneValue) (name : ℕ) (b c : Bench) (e : Event) (result : Result (Unit {0}) OverLimit) →
-    ((bytes : ℕ → List ℕ) (limits : Limits) (events : List Event) → HasWalked v bytes scene limits events b → OnOk result (HasWalked v bytes scene limits (events ++ e ∷ []) c)) →
-    ((bytes : ℕ → List ℕ) (limits : Limits) (events : List Event) → HasWalked v bytes scene limits events b →
-    IfErr result (λ over. steps_over limits (view_steps v (scene_of bytes scene) (events ++ e ∷ [])) ≡ Some over)) →
-    OnOk result (CanTake v scene c) → limits_in c ≡ limits_in b → CounterVisits (counter_value v scene b name) (counter_value v scene c name) (e ∷ []) result
-counts_at v scene name b c e result walked over takes limits =
-    counter-visits (counter_value v scene b name) (counter_value v scene c name) result (record {
+-- an event that a counter was given, of which nothing but the bench is new
+counts_at : (p : CounterValue) (c : Bench) (e : Event) (result : Result (Unit {0}) OverLimit) →
+    ((bytes : ℕ → List ℕ) (limits : Limits) (events : List Event) → HasWalked p.view bytes p.scene limits events p.bench → OnOk result (HasWalked p.view bytes p.scene limits (events ++ e ∷ []) c)) →
+    ((bytes : ℕ → List ℕ) (limits : Limits) (events : List Event) → HasWalked p.view bytes p.scene limits events p.bench →
+    IfErr result (λ over. steps_over limits (view_steps p.view (scene_of bytes p.scene) (events ++ e ∷ [])) ≡ Some over)) →
+    OnOk result (CanTake p.view p.scene c) → limits_in c ≡ limits_in p.bench → CounterVisits p (record p { bench = c }) (e ∷ []) result
+counts_at p c e result walked over takes limits =
+    counter_visits p (record p { bench = c }) result (record {
       view_before = refl;
       view = refl;
       scene_before = refl;
@@ -114,30 +114,32 @@ counts_at v scene name b c e result walked over takes limits =
     })
 
 -- an event that was counted
-pub counts-passed : (v : ViewValue) (scene : SceneValue) (name : ℕ) (b c : Bench) (e : Event) →
-    ((bytes : ℕ → List ℕ) (limits : Limits) (events : List Event) → HasWalked v bytes scene limits events b → HasWalked v bytes scene limits (events ++ e ∷ []) c) →
-    CanTake v scene c → limits_in c ≡ limits_in b → CounterVisits (counter_value v scene b name) (counter_value v scene c name) (e ∷ []) (Ok tt)
-counts-passed v scene name b c e walked takes limits = counts_at v scene name b c e (Ok tt) walked (λ bytes most events h. tt) takes limits
+pub counts-passed : (p : CounterValue) (c : Bench) (e : Event) →
+    ((bytes : ℕ → List ℕ) (limits : Limits) (events : List Event) → HasWalked p.view bytes p.scene limits events p.bench → HasWalked p.view bytes p.scene limits (events ++ e ∷ []) c) →
+    CanTake p.view p.scene c → limits_in c ≡ limits_in p.bench → CounterVisits p (record p { bench = c }) (e ∷ []) (Ok tt)
+counts-passed p c e walked takes limits = counts_at p c e (Ok tt) walked (λ bytes most events h. tt) takes limits
 
 -- an event at which a limit was passed
-pub counts-stopped : (v : ViewValue) (scene : SceneValue) (name : ℕ) (b c : Bench) (e : Event) (fault : DrawFault) (over : OverLimit) → limit_of_fault fault ≡ Some over →
-    ((bytes : ℕ → List ℕ) (limits : Limits) (events : List Event) → HasWalked v bytes scene limits events b → limit_of_fault fault ≡ steps_over limits (view_steps v (scene_of bytes scene) (events ++ e ∷ []))) →
-    limits_in c ≡ limits_in b → CounterVisits (counter_value v scene b name) (counter_value v scene c name) (e ∷ []) (Err over)
-counts-stopped v scene name b c e fault over is told limits =
-    counts_at v scene name b c e (Err over) (λ bytes most events h. tt) (λ bytes most events h. sym (told bytes most events h) ∙ is) tt limits
-
--- the whole walk of a view, of the lists of its scene
-pub counter-viewed : (p q : CounterValue) (lists : LevelLists) {result : Result (Unit {0}) OverLimit} → lists ≡ lists_of p.scene →
-    ((bytes : ℕ → List ℕ) → HasWalked p.view bytes p.scene (limits_in p.bench) [] p.bench) → CounterVisits p q (view_events p.view lists) result →
-    HasCounted p q (view_events p.view (lists_of p.scene)) result
-counter-viewed p q lists {result} e walked visits =
-    subst (λ (l : LevelLists). HasCounted p q (view_events p.view l) result) e (counter-walked p q (view_events p.view lists) result walked visits)
+pub counts-stopped : (p : CounterValue) (c : Bench) (e : Event) (fault : DrawFault) (over : OverLimit) → limit_of_fault fault ≡ Some over →
+    ((bytes : ℕ → List ℕ) (limits : Limits) (events : List Event) → HasWalked p.view bytes p.scene limits events p.bench → limit_of_fault fault ≡ steps_over limits (view_steps p.view (scene_of bytes p.scene) (events ++ e ∷ []))) →
+    limits_in c ≡ limits_in p.bench → CounterVisits p (record p { bench = c }) (e ∷ []) (Err over)
+counts-stopped p c e fault over is told limits =
+    counts_at p c e (Err over) (λ bytes most events h. tt) (λ bytes most events h. sym (told bytes most events h) ∙ is) tt limits
 
 -- the first limit that it passes is the view's
-pub counted-over : (v : ViewValue) (scene : SceneValue) (limits : Limits) (result : Result (Unit {0}) OverLimit) →
+counted_over : (v : ViewValue) (scene : SceneValue) (limits : Limits) (result : Result (Unit {0}) OverLimit) →
     IfErr result (λ over. (bytes : ℕ → List ℕ) → steps_over limits (view_steps v (scene_of bytes scene) (view_events v (lists_of scene))) ≡ Some over) →
     (bytes : ℕ → List ℕ) → IfErr result (λ over. view_over v (scene_of bytes scene) limits ≡ Some over)
-counted-over v scene limits result told bytes =
+counted_over v scene limits result told bytes =
     IfErr-weaker result (λ over. steps_over limits (view_steps v (scene_of bytes scene) (view_events v (lists_of scene))) ≡ Some over)
     (λ over. view_over v (scene_of bytes scene) limits ≡ Some over) (λ over e. view-over v scene limits bytes over e)
-    (each-count (λ bytes over. steps_over limits (view_steps v (scene_of bytes scene) (view_events v (lists_of scene))) ≡ Some over) result told bytes)
+    (each_count (λ bytes over. steps_over limits (view_steps v (scene_of bytes scene) (view_events v (lists_of scene))) ≡ Some over) result told bytes)
+
+-- what is told of a bench that was lent for the whole walk
+pub counted-view : (p q : CounterValue) (back : Bench) (result : Result (Unit {0}) OverLimit) → HasCounted p q (view_events p.view (lists_of p.scene)) result → back ≡ q.bench →
+    HasCountedView p.view p.scene p.bench back result
+counted-view p q back result h is = record {
+  walked = bench-walked p.view p.scene (limits_in p.bench) back q.bench result is h.limits h.walked;
+  over = counted_over p.view p.scene (limits_in p.bench) result h.over;
+  limits = ap limits_in is ∙ h.limits;
+}

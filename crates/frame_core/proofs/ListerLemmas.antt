@@ -1,5 +1,5 @@
 -- Laws of a lister: an event that it was given after others, and a whole walk.
-use Rattle.std.proofs.Common.{◌≡◌, ℕ, List, [], ◌∷◌, ◌++◌, length, OnOk, Result, Ok, Err, refl, sym, ap, subst, ◌∙◌}
+use Rattle.picture_rules.proofs.Common.{[], ap, Err, err_from_is_err_and, IsErrAnd, length, List, Ok, OnOk, refl, Result, subst, sym, ℕ, ◌++◌, ◌∙◌, ◌∷◌, ◌≡◌}
 use Rattle.frame_core.specs.Rules.{Event, LevelLists, Limits, ListedFragment, ListedPlane, ListedSprite, OverLimit, Plane, Scene, SceneValue, ViewListValue, ViewValue, event_list, event_planes, plane_makers, view_events, view_list}
 use Rattle.picture_rules.proofs.ListLemmas.{plane_makers-count}
 use Rattle.node_walk.specs.Visits.{Visits}
@@ -8,7 +8,7 @@ use Rattle.frame_core.specs.Scenes.{lists_of, scene_of}
 use Rattle.frame_core.specs.Walked.{HasWalked}
 use Rattle.frame_core.specs.Painters.{CanCountNext, CounterValue, HasWalkedView, limits_in}
 use Rattle.frame_core.specs.ViewLists.{HasListed, WalkListValue, listed_planes, listed_sprites, nothing_listed}
-use Rattle.frame_core.specs.Listers.{HasGathered, IsListedView, ListerValue, lister_value}
+use Rattle.frame_core.specs.Listers.{HasGathered, IsListedView, ListerValue}
 use Rattle.frame_core.proofs.CounterLemmas.{CounterVisits, counted_none, stopped_all}
 use Rattle.frame_core.proofs.ViewListLemmas.{listed-none, planes-walked}
 
@@ -19,23 +19,24 @@ ListerVisits p q events result =
     (λ start es stop. HasGathered start q es (Err stop)) events result
 
 -- a list with one event more, wherever the walk began
-abbrev ListsNext : ViewValue → SceneValue → Bench → WalkListValue → WalkListValue → Event → Type 0
-ListsNext v scene b list next e = (bytes : ℕ → List ℕ) (limits : Limits) (events : List Event) → HasWalked v bytes scene limits events b → HasListed v (scene_of bytes scene) events list →
-    HasListed v (scene_of bytes scene) (events ++ e ∷ []) next
+abbrev ListsNext : ViewValue → SceneValue → Bench → Bench → WalkListValue → WalkListValue → Event → Type 0
+ListsNext v scene b c list next e = (bytes : ℕ → List ℕ) (limits : Limits) (events : List Event) → HasWalked v bytes scene limits events b → HasWalked v bytes scene limits (events ++ e ∷ []) c →
+    HasListed v (scene_of bytes scene) events list → HasListed v (scene_of bytes scene) (events ++ e ∷ []) next
 
 -- an event that was listed
-pub lists-passed : (p q : CounterValue) (list next : WalkListValue) (name : ℕ) (e : Event) → CounterVisits p q (e ∷ []) (Ok tt) → ListsNext p.view p.scene p.bench list next e →
-    ListerVisits (lister_value p list name) (lister_value q next name) (e ∷ []) (Ok tt)
-lists-passed p q list next name e visits lists = record {
+pub lists-passed : (p : ListerValue) (q : CounterValue) (next : WalkListValue) (e : Event) → CounterVisits p.counter q (e ∷ []) (Ok tt) →
+    ListsNext p.counter.view p.counter.scene p.counter.bench q.bench p.list next e → ListerVisits p (record p { counter = q; list = next }) (e ∷ []) (Ok tt)
+lists-passed p q next e visits lists = record {
   ok = record {
     each = λ start before stood.
-        let given : ListsNext start.counter.view start.counter.scene p.bench list next e =
-        subst (λ (s : SceneValue). ListsNext start.counter.view s p.bench list next e) stood.counted.scene
-        (subst (λ (v : ViewValue). ListsNext v p.scene p.bench list next e) stood.counted.view lists) in
+        let counted = visits.ok.each start.counter before stood.counted in
+        let given : ListsNext start.counter.view start.counter.scene p.counter.bench q.bench p.list next e =
+        subst (λ (s : SceneValue). ListsNext start.counter.view s p.counter.bench q.bench p.list next e) stood.counted.scene
+        (subst (λ (v : ViewValue). ListsNext v p.counter.scene p.counter.bench q.bench p.list next e) stood.counted.view lists) in
         record {
-          counted = visits.ok.each start.counter before stood.counted;
+          counted = counted;
           name = stood.name;
-          listed = λ bytes. given bytes (limits_in start.counter.bench) before (stood.counted.walked bytes) (stood.listed bytes);
+          listed = λ bytes. given bytes (limits_in start.counter.bench) before (stood.counted.walked bytes) (counted.walked bytes) (stood.listed bytes);
         };
   };
   takes_on = record { each = visits.takes_on.each };
@@ -43,18 +44,20 @@ lists-passed p q list next name e visits lists = record {
 }
 
 -- an event at which a limit was passed
-pub lists-stopped : (p q : CounterValue) (list : WalkListValue) (name : ℕ) (e : Event) (stop : OverLimit) → CounterVisits p q (e ∷ []) (Err stop) →
-    ListerVisits (lister_value p list name) (lister_value q list name) (e ∷ []) (Err stop)
-lists-stopped p q list name e stop visits = record {
-  ok = tt;
-  takes_on = tt;
-  err = record {
-    count = visits.err.count;
-    some = visits.err.some;
-    within = visits.err.within;
-    each = λ start before stood. record { counted = visits.err.each start.counter before stood.counted; name = stood.name; listed = tt };
-  };
-}
+pub lists-stopped : (p : ListerValue) (q : CounterValue) (e : Event) (stop : OverLimit) (result : Result (Unit {0}) OverLimit) → IsErrAnd result (λ over. over ≡ stop) →
+    CounterVisits p.counter q (e ∷ []) (Err stop) → ListerVisits p (record p { counter = q }) (e ∷ []) result
+lists-stopped p q e stop result told visits =
+    let is = err_from_is_err_and result told in
+    subst (ListerVisits p (record p { counter = q }) (e ∷ [])) (sym (is.1 ∙ ap Err is.2)) (record {
+      ok = tt;
+      takes_on = tt;
+      err = record {
+        count = visits.err.count;
+        some = visits.err.some;
+        within = visits.err.within;
+        each = λ start before stood. record { counted = visits.err.each start.counter before stood.counted; name = stood.name; listed = tt };
+      };
+    })
 
 gathered_none : (p : ListerValue) → ((bytes : ℕ → List ℕ) → HasWalked p.counter.view bytes p.counter.scene (limits_in p.counter.bench) [] p.counter.bench) → p.list ≡ nothing_listed → HasGathered p p [] (Ok tt)
 gathered_none p walked empty = record {
@@ -63,19 +66,13 @@ gathered_none p walked empty = record {
   listed = λ bytes. subst (HasListed p.counter.view (scene_of bytes p.counter.scene) []) (sym empty) (listed-none p.counter.view (scene_of bytes p.counter.scene));
 }
 
-lister_walked : (p q : ListerValue) (events : List Event) (result : Result (Unit {0}) OverLimit) →
+-- the whole walk of a view
+pub lister-walked : (p q : ListerValue) (events : List Event) (result : Result (Unit {0}) OverLimit) →
     ((bytes : ℕ → List ℕ) → HasWalked p.counter.view bytes p.counter.scene (limits_in p.counter.bench) [] p.counter.bench) → p.list ≡ nothing_listed → ListerVisits p q events result → HasGathered p q events result
-lister_walked p q events (Ok unit) walked empty visits = visits.ok.each p [] (gathered_none p walked empty)
-lister_walked p q events (Err stop) walked empty visits =
+lister-walked p q events (Ok unit) walked empty visits = visits.ok.each p [] (gathered_none p walked empty)
+lister-walked p q events (Err stop) walked empty visits =
     let h = visits.err.each p [] (gathered_none p walked empty) in
     record { counted = stopped_all p.counter q.counter visits.err.count events stop h.counted; name = h.name; listed = tt }
-
--- the whole walk of a view, of the lists of its scene
-pub lister-viewed : (p q : ListerValue) (lists : LevelLists) {result : Result (Unit {0}) OverLimit} → lists ≡ lists_of p.counter.scene →
-    ((bytes : ℕ → List ℕ) → HasWalked p.counter.view bytes p.counter.scene (limits_in p.counter.bench) [] p.counter.bench) → p.list ≡ nothing_listed → ListerVisits p q (view_events p.counter.view lists) result →
-    HasGathered p q (view_events p.counter.view (lists_of p.counter.scene)) result
-lister-viewed p q lists {result} e walked empty visits =
-    subst (λ (l : LevelLists). HasGathered p q (view_events p.counter.view l) result) e (lister_walked p q (view_events p.counter.view lists) result walked empty visits)
 
 -- a list that was lent for it is the view's
 pub listed-back : (v : ViewValue) (scene : SceneValue) (list now : WalkListValue) (result : Result (Unit {0}) OverLimit) → list ≡ now → OnOk result (IsListedView v scene now) → OnOk result (IsListedView v scene list)

@@ -1,6 +1,6 @@
 -- Laws of a painter: an event that it was given after others, and a whole walk.
 use Rattle.picture_rules.proofs.Common.{[], ap, arith, drop, Err, err_from_is_err_and, IfErr, IfErr-weaker, IfSome, IfSome_then, IsErrAnd, List, None, Ok, on_ok_weaker, OnOk, Option, refl, Result, Some, subst, sym, take, take-append-drop, ℕ, ◌++◌, ◌∙◌, ◌∷◌, ◌≡◌}
-use Rattle.frame_core.specs.Rules.{Dot, Event, FragmentEvent, Heap, LeafEvent, LevelLists, LimitKind, Limits, OverLimit, Painter, Scene, SceneValue, ShelfView, ViewValue, openings_count, planes_count, steps_over, view_events, view_over, view_steps}
+use Rattle.frame_core.specs.Rules.{Dot, Event, FragmentEvent, Heap, LeafEvent, LimitKind, Limits, OverLimit, Painter, Scene, SceneValue, ShelfView, ViewValue, openings_count, planes_count, steps_over, view_events, view_over, view_steps}
 use Rattle.scene_rules.proofs.Laws.{order_none}
 use Rattle.texture_build.specs.DirectoryView.{DirectoryView}
 use Rattle.texture_build.specs.Caches.{KeepsCounts}
@@ -24,7 +24,7 @@ use Rattle.frame_core.specs.Faults.{from_draw, limit_of_view, view_fault}
 use Rattle.frame_core.specs.Scenes.{lists_of, scene_of}
 use Rattle.frame_core.specs.Views.{CanDrawView, PaintsView, ViewScene, held_scene}
 use Rattle.frame_core.specs.Walked.{CanTake, HasWalked, IsEventIn, next_dots}
-use Rattle.frame_core.specs.Painters.{CanPaintNext, HasPainted, HasWalkedView, IsPlacedIn, PainterNames, PainterValue, drawn_walls, limits_in, painter_names, painter_value}
+use Rattle.frame_core.specs.Painters.{CanPaintNext, HasPainted, HasWalkedView, IsPlacedIn, PainterValue, drawn_walls, limits_in}
 use Rattle.frame_core.proofs.PaintLemmas.{can_draw_view-later, placed-later}
 use Rattle.frame_core.proofs.DotLemmas.{drawn_walls-fragment, drawn_walls-leaf, drawn_walls-none}
 use Rattle.frame_core.proofs.StepLemmas.{over-stays}
@@ -158,13 +158,6 @@ painter-walked mark p q events (Ok unit) walked visits = visits.ok.each p [] (pa
 painter-walked mark p q events (Err stop) walked visits =
     stopped_all mark p q visits.err.count events stop (visits.err.each p [] (painted_none mark p walked))
 
--- the whole walk of a view, of the lists of its scene
-pub painter-viewed : {mark : Painter → ℕ → ℕ} (p q : PainterValue) (lists : LevelLists) {result : Result (Unit {0}) ViewFault} → lists ≡ lists_of p.scene.scene →
-    ((bytes : ℕ → List ℕ) → HasWalked p.scene.view bytes p.scene.scene (limits_in p.bench) [] p.bench) → PainterVisits mark p q (view_events p.scene.view lists) result →
-    HasPainted mark p q (view_events p.scene.view (lists_of p.scene.scene)) result
-painter-viewed {mark} p q lists {result} e walked visits =
-    subst (λ (l : LevelLists). HasPainted mark p q (view_events p.scene.view l) result) e (painter-walked mark p q (view_events p.scene.view lists) result walked visits)
-
 -- a bench that was lent for it has the whole walk
 pub bench-walked : {E : Type 0} (v : ViewValue) (scene : SceneValue) (limits : Limits) (b now : Bench) (result : Result (Unit {0}) E) → b ≡ now → limits_in now ≡ limits →
     OnOk result ((bytes : ℕ → List ℕ) → HasWalked v bytes scene limits (view_events v (lists_of scene)) now) → OnOk result (HasWalkedView v scene b)
@@ -220,11 +213,11 @@ paints_fault mark s dots state (ZoneFull wanted widest) is = absurd is
 paints_fault mark s dots state ReadFault is = absurd is
 
 -- a leaf that was entered
-pub leaf-visits : (mark : Painter → ℕ → ℕ) (s : ViewScene) (state : PaintState) (names : PainterNames) (b c : Bench) (n : ℕ) →
-    ((bytes : ℕ → List ℕ) (limits : Limits) (events : List Event) → HasWalked s.view bytes s.scene limits events b → HasWalked s.view bytes s.scene limits (events ++ LeafEvent n ∷ []) c) →
-    CanTake s.view s.scene c → limits_in c ≡ limits_in b → PainterVisits mark (painter_value s b state names) (painter_value s c state names) (LeafEvent n ∷ []) (Ok tt)
-leaf-visits mark s state names b c n walked takes limits =
-    painter-visits {dots = λ events scene. []} (painter_value s b state names) (painter_value s c state names) (Ok tt) (record {
+pub leaf-visits : (mark : Painter → ℕ → ℕ) (p : PainterValue) (c : Bench) (n : ℕ) →
+    ((bytes : ℕ → List ℕ) (limits : Limits) (events : List Event) → HasWalked p.scene.view bytes p.scene.scene limits events p.bench → HasWalked p.scene.view bytes p.scene.scene limits (events ++ LeafEvent n ∷ []) c) →
+    CanTake p.scene.view p.scene.scene c → limits_in c ≡ limits_in p.bench → PainterVisits mark p (record p { bench = c }) (LeafEvent n ∷ []) (Ok tt)
+leaf-visits mark p c n walked takes limits =
+    painter-visits {dots = λ events scene. []} p (record p { bench = c }) (Ok tt) (record {
       before = refl;
       after = refl;
       names = refl;
@@ -232,22 +225,22 @@ leaf-visits mark s state names b c n walked takes limits =
       walked = walked;
       over = λ bytes most events h. tt;
       takes = takes;
-      paints = λ most events h. paints-none state tt;
-      joins = λ events scene. drawn_walls-leaf s.view scene events n;
+      paints = λ most events h. paints-none p.state tt;
+      joins = λ events scene. drawn_walls-leaf p.scene.view scene events n;
       counts = (refl, refl, refl);
-      place = placed-none state.canvas;
+      place = placed-none p.state.canvas;
     })
 
 told_by : (o told : Option OverLimit) → o ≡ told → IfSome o (λ over. told ≡ Some over)
 told_by None told e = tt
 told_by (Some over) told e = sym e
 
-leaf_stop : (mark : Painter → ℕ → ℕ) (s : ViewScene) (state : PaintState) (names : PainterNames) (b c : Bench) (n : ℕ) (fault : DrawFault) → IsLimitFault fault →
-    ((bytes : ℕ → List ℕ) (limits : Limits) (events : List Event) → HasWalked s.view bytes s.scene limits events b →
-    limit_of_fault fault ≡ steps_over limits (view_steps s.view (scene_of bytes s.scene) (events ++ LeafEvent n ∷ []))) →
-    limits_in c ≡ limits_in b → PainterVisits mark (painter_value s b state names) (painter_value s c state names) (LeafEvent n ∷ []) (Err (from_draw fault))
-leaf_stop mark s state names b c n fault is over limits =
-    painter-visits {dots = λ events scene. []} (painter_value s b state names) (painter_value s c state names) (Err (from_draw fault)) (record {
+leaf_stop : (mark : Painter → ℕ → ℕ) (p : PainterValue) (c : Bench) (n : ℕ) (fault : DrawFault) → IsLimitFault fault →
+    ((bytes : ℕ → List ℕ) (limits : Limits) (events : List Event) → HasWalked p.scene.view bytes p.scene.scene limits events p.bench →
+    limit_of_fault fault ≡ steps_over limits (view_steps p.scene.view (scene_of bytes p.scene.scene) (events ++ LeafEvent n ∷ []))) →
+    limits_in c ≡ limits_in p.bench → PainterVisits mark p (record p { bench = c }) (LeafEvent n ∷ []) (Err (from_draw fault))
+leaf_stop mark p c n fault is over limits =
+    painter-visits {dots = λ events scene. []} p (record p { bench = c }) (Err (from_draw fault)) (record {
       before = refl;
       after = refl;
       names = refl;
@@ -255,50 +248,44 @@ leaf_stop mark s state names b c n fault is over limits =
       walked = λ bytes most events h. tt;
       over = λ bytes most events h. told_by (limit_of_view (from_draw fault)) _ (limit-from_draw fault ∙ over bytes most events h);
       takes = tt;
-      paints = λ most events h. paints_fault mark s (λ scene. []) state fault is;
-      joins = λ events scene. drawn_walls-leaf s.view scene events n;
+      paints = λ most events h. paints_fault mark p.scene (λ scene. []) p.state fault is;
+      joins = λ events scene. drawn_walls-leaf p.scene.view scene events n;
       counts = (refl, refl, refl);
-      place = placed-none state.canvas;
+      place = placed-none p.state.canvas;
     })
 
 -- a leaf at which a limit was passed
-pub leaf-visits_stop : (mark : Painter → ℕ → ℕ) (s : ViewScene) (state : PaintState) (names : PainterNames) (b c : Bench) (n : ℕ) (fault : DrawFault) (result : Result (Unit {0}) ViewFault) →
+pub leaf-visits_stop : (mark : Painter → ℕ → ℕ) (p : PainterValue) (c : Bench) (n : ℕ) (fault : DrawFault) (result : Result (Unit {0}) ViewFault) →
     IsErrAnd result (λ e. e ≡ from_draw fault) → IsLimitFault fault →
-    ((bytes : ℕ → List ℕ) (limits : Limits) (events : List Event) → HasWalked s.view bytes s.scene limits events b →
-    limit_of_fault fault ≡ steps_over limits (view_steps s.view (scene_of bytes s.scene) (events ++ LeafEvent n ∷ []))) →
-    limits_in c ≡ limits_in b → PainterVisits mark (painter_value s b state names) (painter_value s c state names) (LeafEvent n ∷ []) result
-leaf-visits_stop mark s state names b c n fault result told is over limits =
+    ((bytes : ℕ → List ℕ) (limits : Limits) (events : List Event) → HasWalked p.scene.view bytes p.scene.scene limits events p.bench →
+    limit_of_fault fault ≡ steps_over limits (view_steps p.scene.view (scene_of bytes p.scene.scene) (events ++ LeafEvent n ∷ []))) →
+    limits_in c ≡ limits_in p.bench → PainterVisits mark p (record p { bench = c }) (LeafEvent n ∷ []) result
+leaf-visits_stop mark p c n fault result told is over limits =
     let e = err_from_is_err_and result told in
-    subst (PainterVisits mark (painter_value s b state names) (painter_value s c state names) (LeafEvent n ∷ [])) (sym (e.1 ∙ ap Err e.2))
-    (leaf_stop mark s state names b c n fault is over limits)
+    subst (PainterVisits mark p (record p { bench = c }) (LeafEvent n ∷ [])) (sym (e.1 ∙ ap Err e.2)) (leaf_stop mark p c n fault is over limits)
 
 -- a fragment that was drawn, or a fault at it
-pub fragment-visits : (mark : Painter → ℕ → ℕ) (s : ViewScene) (old new : PaintState) (names next : PainterNames) (b c : Bench) (seg first last : ℕ) (result : Result (Unit {0}) ViewFault) →
-    next ≡ names → KeepsCounts old.cache new.cache → PlacedAlike old.canvas new.canvas →
-    ((bytes : ℕ → List ℕ) (limits : Limits) (events : List Event) → HasWalked s.view bytes s.scene limits events b →
-    OnOk result (HasWalked s.view bytes s.scene limits (events ++ FragmentEvent seg first last ∷ []) c)) →
-    ((bytes : ℕ → List ℕ) (limits : Limits) (events : List Event) → HasWalked s.view bytes s.scene limits events b →
-    IfErr result (λ fault. IfSome (limit_of_view fault) (λ over. steps_over limits (view_steps s.view (scene_of bytes s.scene) (events ++ FragmentEvent seg first last ∷ [])) ≡ Some over))) →
-    ((limits : Limits) (events : List Event) → ((bytes : ℕ → List ℕ) → HasWalked s.view bytes s.scene limits events b) →
-    PaintsView mark s (λ scene. next_dots s.view scene events seg first last) old new result) →
-    OnOk result (CanTake s.view s.scene c) → limits_in c ≡ limits_in b →
-    PainterVisits mark (painter_value s b old names) (painter_value s c new next) (FragmentEvent seg first last ∷ []) result
-fragment-visits mark s old new names next b c seg first last result same counts place walked over paints takes limits =
-    painter-visits {dots = λ events scene. next_dots s.view scene events seg first last} (painter_value s b old names) (painter_value s c new next) result (record {
+pub fragment-visits : (mark : Painter → ℕ → ℕ) (p : PainterValue) (c : Bench) (new : PaintState) (seg first last : ℕ) (result : Result (Unit {0}) ViewFault) →
+    KeepsCounts p.state.cache new.cache → PlacedAlike p.state.canvas new.canvas →
+    ((bytes : ℕ → List ℕ) (limits : Limits) (events : List Event) → HasWalked p.scene.view bytes p.scene.scene limits events p.bench →
+    OnOk result (HasWalked p.scene.view bytes p.scene.scene limits (events ++ FragmentEvent seg first last ∷ []) c)) →
+    ((bytes : ℕ → List ℕ) (limits : Limits) (events : List Event) → HasWalked p.scene.view bytes p.scene.scene limits events p.bench →
+    IfErr result (λ fault. IfSome (limit_of_view fault) (λ over. steps_over limits (view_steps p.scene.view (scene_of bytes p.scene.scene) (events ++ FragmentEvent seg first last ∷ [])) ≡ Some over))) →
+    ((limits : Limits) (events : List Event) → ((bytes : ℕ → List ℕ) → HasWalked p.scene.view bytes p.scene.scene limits events p.bench) →
+    PaintsView mark p.scene (λ scene. next_dots p.scene.view scene events seg first last) p.state new result) →
+    OnOk result (CanTake p.scene.view p.scene.scene c) → limits_in c ≡ limits_in p.bench →
+    PainterVisits mark p (record p { bench = c; state = new }) (FragmentEvent seg first last ∷ []) result
+fragment-visits mark p c new seg first last result counts place walked over paints takes limits =
+    painter-visits {dots = λ events scene. next_dots p.scene.view scene events seg first last} p (record p { bench = c; state = new }) result (record {
       before = refl;
       after = refl;
-      names = same;
+      names = refl;
       limits = limits;
       walked = walked;
       over = over;
       takes = takes;
       paints = paints;
-      joins = λ events scene. drawn_walls-fragment s.view scene events seg first last;
+      joins = λ events scene. drawn_walls-fragment p.scene.view scene events seg first last;
       counts = counts;
       place = place;
     })
-
--- a painter's references are the same
-pub names-same : {a b c d a' b' c' d' : ℕ} → a' ≡ a → b' ≡ b → c' ≡ c → d' ≡ d → painter_names a' b' c' d' ≡ painter_names a b c d
-names-same {b = b} {c} {d} {a'} {b'} {c'} {d'} e f g h =
-    ap (λ n. painter_names a' b' c' n) h ∙ ap (λ n. painter_names a' b' n d) g ∙ ap (λ n. painter_names a' n c d) f ∙ ap (λ n. painter_names n b c d) e

@@ -1,6 +1,6 @@
 -- Laws of where the dots of walls and planes are: in the view.
-use Rattle.picture_rules.proofs.Common.{[], All, AllByRecursion, and_from, arith, Bool, cond, false, int_lt, ints, le-leb, List, map, nat_le, negsuc, None, Option, pos, range_with_len, recursion_from_All, refl, Some, suc, true, zero, ℕ, ℤ, ◌++◌, ◌+◌, ◌-◌, ◌<ℤ◌, ◌<◌, ◌∷◌, ◌≡◌, ◌≤ℤ◌, ◌≤◌}
-use Rattle.frame_core.specs.Rules.{AreInView, Art, ColumnClip, Dot, Edges, Event, FRAME_HEIGHT, Flat4, FragmentNumbers, Painter, Part, Plane, RowRange, Scene, ViewShape, ViewValue, Wall, WallStrip, bottom_rows, clip_before, column, column_dots, floor_dots, has_texture, holds, holds_row, joined_lists, listed, listed_from, middle_rows, natural, plane_dots, plane_dots_by, planes_dots, planes_from, rows_between, run_dots, sky_dots, strip_dots, strip_of, top_rows, wall_column, wall_column_by, wall_dots, wall_edges, wall_strips, walls_dots, walls_from, walls_of}
+use Rattle.picture_rules.proofs.Common.{[], All, AllByRecursion, and_from, arith, Bool, cond, false, le-leb, List, nat_le, None, Option, recursion_from_All, Some, true, ℕ, ℤ, ◌++◌, ◌+◌, ◌-◌, ◌<◌, ◌∷◌, ◌≡◌, ◌≤◌}
+use Rattle.frame_core.specs.Rules.{AreInView, Art, ColumnClip, Edges, Event, FRAME_HEIGHT, Flat4, FragmentNumbers, Painter, Part, Plane, RowRange, Scene, ViewShape, ViewValue, Wall, WallStrip, bottom_rows, clip_before, column, column_dots, floor_dots, has_texture, holds, holds_row, listed, listed_from, middle_rows, plane_dots, plane_dots_by, planes_dots, planes_from, rows_between, run_dots, sky_dots, strip_dots, strip_of, top_rows, wall_column, wall_column_by, wall_dots, wall_edges, wall_strips, walls_dots, walls_from, walls_of}
 use Rattle.picture_rules.specs.declared.plane.Flat4.TheVariants.{Sky, Lump}
 use Rattle.picture_rules.proofs.FrameLemmas.{in_view-append}
 use Rattle.picture_rules.proofs.InViewLemmas.{in_view-column, in_view-joined, numbers_below, numbers_between, rows_between-in}

@@ -1,5 +1,5 @@
 -- Laws of the steps of a view's events to which one more is added, of the planes and openings after them, and of the first limit that they pass.
-use Rattle.picture_rules.proofs.Common.{[], ap, append-nil, append_assoc, arith, cases_lt, find, find-append, inl, inr, length, length-map, length-take, List, map, map-append, None, Option, option_or, refl, Some, sym, ℕ, ◌++◌, ◌<◌, ◌∙◌, ◌∷◌, ◌≡◌, ◌≤◌}
+use Rattle.picture_rules.proofs.Common.{[], ap, append-nil, append_assoc, arith, cases_lt, find, find-append, inl, inr, length, List, map, map-append, None, Option, option_or, refl, Some, sym, ℕ, ◌++◌, ◌<◌, ◌∙◌, ◌∷◌, ◌≡◌, ◌≤◌}
 use Rattle.frame_core.specs.Rules.{Event, FragmentEvent, LeafEvent, Limits, MAX_DRAWSEGS, OverLimit, Scene, Step, ViewValue, Wall, after_event, after_events, counts_from, drawsegs, fragment_facts, fragment_wall, last_leaf, leaf_fragments, leaf_step, leaf_surface, no_planes, openings_after, openings_counts, openings_past, passes_limit, plane_counts, planes_count, steps_from, steps_of, steps_over, view_steps, walls_of}
 use Rattle.picture_rules.proofs.plane.BuiltLemmas.{after_events-more}
 use Rattle.picture_rules.proofs.CountLemmas.{counts_from-more, openings_after-more}

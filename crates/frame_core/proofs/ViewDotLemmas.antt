@@ -1,15 +1,13 @@
 -- Laws of where the dots of a view are: those of its masked pass lie in it, and with its walls and planes all.
-use Rattle.picture_rules.proofs.Common.{[], All, All-from_recursion, AllByRecursion, AllPass, arith, Bool, cond, false, filter, get_or_from_slice_get, int_le, int_lt, ints, length, List, None, Option, pos, recursion_from_All, refl, slice_get, slice_get_within, Some, subst, suc, true, zero, ℕ, ℤ, ◌&&◌, ◌++◌, ◌+◌, ◌<ℤ◌, ◌<◌, ◌∷◌, ◌≡◌, ◌≤ℤ◌, ◌≤◌}
-use Rattle.frame_core.specs.Rules.{AreInView, Art, ColumnClip, Drawseg, Event, FRAME_HEIGHT, MaskedColumn, Painter, Post, Scene, SpriteEntry, ViewShape, ViewValue, Wall, bottom_clip, clip_of_number, clip_of_some, clip_past, columns_at, draw_order, drawseg_of, drawsegs_from, gives_bottom, gives_top, greatest_clip, greatest_that, least_clip, listed_from, masked_dots, middle_by, middle_column, middle_masked, middles_at, middles_of, minus_one, paints_by, paints_of, picture_top, planes_dots, post_bottom, post_colour, post_dots, post_first, post_last, post_rows, post_top, posts_dots, rows_between, sprite_bottom, sprite_column, sprite_dots, sprite_masked, sprite_step, sprite_top, sprites_from, steps_of, top_clip, view_drawsegs, view_entries, view_events, view_paints, view_planes, view_steps, walls_dots, walls_of}
+use Rattle.picture_rules.proofs.Common.{[], All, All-from_recursion, AllByRecursion, AllPass, arith, Bool, cond, false, filter, get_or_from_slice_get, int_le, int_lt, ints, length, List, None, Option, pos, recursion_from_All, refl, slice_get, slice_get_within, Some, subst, suc, true, zero, ℕ, ℤ, ◌&&◌, ◌+◌, ◌<ℤ◌, ◌<◌, ◌∷◌, ◌≡◌, ◌≤ℤ◌, ◌≤◌}
+use Rattle.frame_core.specs.Rules.{AreInView, Art, ColumnClip, Drawseg, FRAME_HEIGHT, MaskedColumn, Painter, Post, Scene, SpriteEntry, ViewShape, ViewValue, Wall, bottom_clip, clip_of_number, clip_of_some, clip_past, columns_at, drawseg_of, drawsegs_from, gives_bottom, gives_top, greatest_clip, greatest_that, least_clip, listed_from, masked_dots, middle_by, middle_column, middle_masked, middles_at, middles_of, minus_one, picture_top, post_bottom, post_colour, post_dots, post_first, post_last, post_rows, post_top, posts_dots, rows_between, sprite_bottom, sprite_column, sprite_dots, sprite_masked, sprite_step, sprite_top, sprites_from, top_clip, view_drawsegs}
 use Rattle.picture_rules.proofs.FrameLemmas.{in_view-append}
 use Rattle.vissprites.specs.Bounds.{lies_within}
-use Rattle.vissprites.proofs.BoundLemmas.{draw_order-all}
 use Rattle.wall_columns.specs.Built.{IsDrawn}
 use Rattle.wall_columns.specs.Windows.{IsClipIn}
 use Rattle.wall_columns.proofs.ClipLemmas.{clip_before-in}
 use Rattle.masked_draw.proofs.PostLemmas.{post_first-low, post_last-high}
 use Rattle.picture_rules.proofs.InViewLemmas.{in_view-column, in_view-joined, numbers_between, rows_between-in}
-use Rattle.frame_core.proofs.PartDotLemmas.{LiesInView, drawn_walls-in_view, planes-in_view}
 
 -- a fragment of the view's columns, whose clips leave no row outside the view
 pub record IsDrawsegIn (shape : ViewShape) (d : Drawseg) : Type 0 where

@@ -1,5 +1,5 @@
 -- Laws of a whole view: its three parts in order, where its dots lie, what ends it, and the frame that it leaves.
-use Rattle.picture_rules.proofs.Common.{[], All, AllPass, ap, arith, Bor, Err, get_or, IfErr, IfSome, IsErrAnd, length, length-replicate, List, None, Ok, OnOk, Option, refl, replicate, Result, Some, subst, suc, sym, zero, ℕ, ◌++◌, ◌∙◌, ◌≡◌, ◌≤◌}
+use Rattle.picture_rules.proofs.Common.{All, AllPass, ap, arith, Bor, Err, get_or, IfErr, IfSome, IsErrAnd, length, length-replicate, List, None, Ok, OnOk, Option, refl, replicate, Result, Some, subst, suc, sym, zero, ℕ, ◌++◌, ◌∙◌, ◌≡◌, ◌≤◌}
 use Rattle.frame_core.specs.Rules.{AreInView, Dot, FRAME_CELLS, FRAME_HEIGHT, Fault, FaultsRose, FitsFrame, Heap, IsWithinFrame, Limits, OverLimit, Painter, Plane, Scene, SceneValue, ShelfView, SpriteEntry, ViewShape, ViewValue, draw_order, lump_bytes, masked_dots, paints_by, paints_of, picture, planes_dots, planes_of, view_drawsegs, view_entries, view_events, view_over, view_paints, view_planes, view_steps, walls_dots, walls_of}
 use Rattle.pixel_strips.specs.Canvases.{CanvasView, marked_by_colour, placed_at}
 use Rattle.pixel_strips.specs.Dotted.{HasDots}
@@ -18,8 +18,8 @@ use Rattle.frame_core.specs.declared.tools.ViewTools.{ViewTools}
 use Rattle.frame_core.specs.Faults.{limit_of_view}
 use Rattle.frame_core.specs.Scenes.{lists_of, scene_of}
 use Rattle.frame_core.specs.Views.{CanDrawView, PaintsView, ViewScene, held_scene, tools_scene, view_scene}
-use Rattle.frame_core.specs.Walked.{HasWalked, planes_after}
-use Rattle.frame_core.specs.Painters.{HasWalkedView, IsPlacedIn, drawn_walls, limits_in}
+use Rattle.frame_core.specs.Walked.{planes_after}
+use Rattle.frame_core.specs.Painters.{HasWalkedView, IsPlacedIn, drawn_walls}
 use Rattle.frame_core.proofs.FloorLemmas.{floors_of}
 use Rattle.frame_core.proofs.MaskLemmas.{masks_dots}
 use Rattle.frame_core.proofs.PartDotLemmas.{LiesInView, planes-in_view, walls-in_view}
@@ -35,11 +35,6 @@ reads-alike same = (ap (λ (r : Bor ViewValue). r.now) same.1.0, (ap (λ (r : Bo
 
 pub reads-then : {S C : Type 0} (a b c : ViewTools S C) → ReadsAlike a b → ReadsAlike b c → ReadsAlike a c
 reads-then a b c one two = (two.0 ∙ one.0, (two.1.0 ∙ one.1.0, two.1.1 ∙ one.1.1))
-
--- a bench that was started is one that no event has come to, within its own limits
-pub started : (v : ViewValue) (s : SceneValue) (old now : Bench) → limits_in now ≡ limits_in old → ((bytes : ℕ → List ℕ) → HasWalked v bytes s (limits_in old) [] now) →
-    (bytes : ℕ → List ℕ) → HasWalked v bytes s (limits_in now) [] now
-started v s old now same walked = λ bytes. subst (λ (limits : Limits). HasWalked v bytes s limits [] now) (sym same) (walked bytes)
 
 -- the place of a view of that shape
 pub placed-as : (v : ViewValue) (shape : ViewShape) (old now : CanvasView) → shape ≡ v.shape → now ≡ placed_at shape.left shape.top old → now ≡ placed_at v.shape.left v.shape.top old

@@ -51,18 +51,18 @@ unfolding last_leaf
 first_leaf scene = refl
 
 -- a view that is started
-pub walked-none : (v : ViewValue) (bytes : ℕ → List ℕ) (scene : SceneValue) (most : Limits) (planes : PlanesView) (walls : WallsView) (sprites : List SpriteEntry) (entered : List Bool) (sector : ℕ) →
-    IsBuilt v [] no_planes walls [] → planes.planes ≡ [] → limits_of walls planes ≡ most → sprites ≡ [] →
+pub walked-none : (v : ViewValue) (bytes : ℕ → List ℕ) (scene : SceneValue) (planes : PlanesView) (walls : WallsView) (sprites : List SpriteEntry) (entered : List Bool) (sector : ℕ) →
+    IsBuilt v [] no_planes walls [] → planes.planes ≡ [] → sprites ≡ [] →
     ((s : ℕ) → s < length scene.base.level.sectors → has_entered entered s ≡ false) → sector ≡ (leaf_at (lists_of scene) 0).sector →
-    HasWalked v bytes scene most [] (bench_of planes walls sprites entered sector)
-walked-none v bytes scene most planes walls sprites entered sector built none limits no_sprites unset first =
+    HasWalked v bytes scene (limits_of walls planes) [] (bench_of planes walls sprites entered sector)
+walked-none v bytes scene planes walls sprites entered sector built none no_sprites unset first =
     let S = scene_of bytes scene in
     record {
       there = All-nil (IsEventIn v scene);
       built = built_as v [] (walls_of v S []) no_planes (planes_after v S []) walls [] planes.planes (walls-none v S) (planes_after-none v S) none built;
       openings = ap length built.openings ∙ no_openings v ∙ sym (openings-none v S);
-      limits = limits;
-      within = over-none most v S;
+      limits = refl;
+      within = over-none (limits_of walls planes) v S;
       planes = subst (All (IsPlaneIn v.shape scene)) (sym none) (All-nil (IsPlaneIn v.shape scene));
       sprites = no_sprites ∙ no_entries v S;
       columns = subst (AllPass (lies_within v.shape.width)) (sym no_sprites) (All-nil (λ (e : SpriteEntry). lies_within v.shape.width e ≡ true));

@@ -1,7 +1,8 @@
 -- Who lists a view while it is walked: the lister by its values, and what it has made of the events.
 use Rattle.std.specs.Prelude.{◌≡◌, ℕ, List, OnOk, Result}
 use Rattle.frame_core.specs.Rules.{Event, OverLimit, SceneValue, ViewValue, view_events}
-use Rattle.frame_core.specs.Painters.{CounterValue, HasCounted}
+use Rattle.frame_core.specs.declared.lister.ViewLister.{ViewLister}
+use Rattle.frame_core.specs.Painters.{CounterValue, HasCounted, counter_now}
 use Rattle.frame_core.specs.Scenes.{lists_of, scene_of}
 use Rattle.frame_core.specs.ViewLists.{HasListed, WalkListValue}
 
@@ -11,8 +12,8 @@ pub record ListerValue : Type 0 where
   pub list : WalkListValue
   pub name : ℕ
 
-abbrev pub lister_value : CounterValue → WalkListValue → ℕ → ListerValue
-lister_value counter list name = record { counter = counter; list = list; name = name }
+abbrev pub lister_now : ViewLister → ListerValue
+lister_now p = record { counter = counter_now p.counter; list = p.list.now; name = p.list.ghost_name }
 
 -- the list is that of the events, in whatever way lumps are read
 abbrev pub IsListed : ViewValue → SceneValue → List Event → WalkListValue → Type 0

@@ -1,15 +1,17 @@
 -- Who is given the walk of a view: the painter and the counter by their values, and what they have made of the events.
 use Rattle.std.specs.Prelude.{◌≡◌, ℕ, List, [], Some, IfSome, IfErr, length, OnOk, Result}
-use Rattle.frame_core.specs.Rules.{Counts, Dot, Event, Limits, OverLimit, Painter, Scene, SceneValue, ViewValue, steps_over, view_events, view_steps, walls_dots, walls_of}
+use Rattle.frame_core.specs.Rules.{Counts, Dot, Event, Limits, OverLimit, Painter, Scene, SceneValue, ShelfView, ViewValue, steps_over, view_events, view_over, view_steps, walls_dots, walls_of}
 use Rattle.pixel_strips.specs.Canvases.{CanvasView}
 use Rattle.pixel_strips.specs.Standing.{StandsInFrame}
-use Rattle.texture_build.specs.Paints.{PaintState}
+use Rattle.texture_build.specs.Paints.{PaintState, paint_state}
 use Rattle.wall_columns.specs.Built.{limits_of}
 use Rattle.frame_core.specs.declared.bench.Bench.{Bench}
+use Rattle.frame_core.specs.declared.counter.ViewCounter.{ViewCounter}
 use Rattle.frame_core.specs.declared.fault.ViewFault.{ViewFault}
+use Rattle.frame_core.specs.declared.painter.ViewPainter.{ViewPainter}
 use Rattle.frame_core.specs.Faults.{limit_of_view}
 use Rattle.frame_core.specs.Scenes.{lists_of, scene_of}
-use Rattle.frame_core.specs.Views.{CanCount, CanDrawView, PaintsView, ViewScene}
+use Rattle.frame_core.specs.Views.{CanCount, CanDrawView, PaintsView, ViewScene, view_scene}
 use Rattle.frame_core.specs.Walked.{CanTake, HasWalked, IsEventIn}
 
 -- how much a bench has room for
@@ -38,13 +40,13 @@ pub record PainterValue : Type 0 where
   pub state : PaintState
   pub names : PainterNames
 
-abbrev pub painter_names : ℕ → ℕ → ℕ → ℕ → PainterNames
-painter_names bench cache shelf canvas =
-    record { bench = bench; cache = cache; shelf = shelf; canvas = canvas }
-
-abbrev pub painter_value : ViewScene → Bench → PaintState → PainterNames → PainterValue
-painter_value scene bench state names =
-    record { scene = scene; bench = bench; state = state; names = names }
+abbrev pub painter_now : {S C : Type 0} → (S → ShelfView) → (C → CanvasView) → ViewPainter S C → PainterValue
+painter_now shelf canvas p = record {
+  scene = view_scene p.view.now p.scene.now.scene p.dir.now;
+  bench = p.bench.now;
+  state = paint_state (shelf p.shelf.now) p.cache.now (canvas p.canvas.now);
+  names = record { bench = p.bench.ghost_name; cache = p.cache.ghost_name; shelf = p.shelf.ghost_name; canvas = p.canvas.ghost_name };
+}
 
 -- the view stands in the frame where the canvas has it
 abbrev pub IsPlacedIn : ViewValue → CanvasView → Type 0
@@ -81,9 +83,8 @@ pub record CounterValue : Type 0 where
   pub bench : Bench
   pub name : ℕ
 
-abbrev pub counter_value : ViewValue → SceneValue → Bench → ℕ → CounterValue
-counter_value view scene bench name =
-    record { view = view; scene = scene; bench = bench; name = name }
+abbrev pub counter_now : ViewCounter → CounterValue
+counter_now p = record { view = p.view.now; scene = p.scene.now.scene; bench = p.bench.now; name = p.bench.ghost_name }
 
 pub record CanCountNext (p : CounterValue) (e : Event) : Type 0 where
   pub scene : CanCount p.scene
@@ -109,3 +110,10 @@ HasWalkedView v scene b =
 -- nothing of it is, before its first event
 abbrev pub HasWalkedNothing : ViewValue → SceneValue → Bench → Type 0
 HasWalkedNothing v scene b = (bytes : ℕ → List ℕ) → HasWalked v bytes scene (limits_in b) [] b
+
+-- what is told of a bench that was lent for the walk: it has the whole, or a limit is told, the first that the view passes
+pub record HasCountedView (v : ViewValue) (scene : SceneValue) (old new : Bench)
+    (result : Result (Unit {0}) OverLimit) : Type 0 where
+  pub walked : OnOk result (HasWalkedView v scene new)
+  pub over : (bytes : ℕ → List ℕ) → IfErr result (λ over. view_over v (scene_of bytes scene) (limits_in old) ≡ Some over)
+  pub limits : limits_in new ≡ limits_in old

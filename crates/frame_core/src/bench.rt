@@ -15,7 +15,7 @@ ghost use Rattle.frame_core.specs.Entered.{has_entered};
 ghost use Rattle.frame_core.specs.Scenes.{lists_of, scene_of};
 ghost use Rattle.frame_core.specs.Faults.{limit_of_view};
 ghost use Rattle.frame_core.specs.Views.{AreSameViewTools, CanCount, CanDrawTools, PaintsView, tools_scene, tools_state};
-ghost use Rattle.frame_core.specs.Painters.{IsPlacedIn, counts_in};
+ghost use Rattle.frame_core.specs.Painters.{HasWalkedNothing, IsPlacedIn, counts_in};
 ghost use Rattle.frame_core.specs.Walked.{CanTake, HasWalked, IsEventIn, next_dots, with_sector};
 
 use crate::entered::Entered;
@@ -79,8 +79,7 @@ impl Bench {
     /// The original: `R_RenderPlayerView`, r_main.c.
     pub fn start(&mut self, scene: &SoundScene, view: &View<'_>)
         requires { CanCount scene.now.scene }
-        ensures walked { (bytes : ℕ → List ℕ) → HasWalked view.now bytes scene.now.scene
-            (limits_of self.old.walls self.old.planes) [] self.new }
+        ensures walked { HasWalkedNothing view.now scene.now.scene self.new }
         ensures takes { CanTake view.now scene.now.scene self.new }
         ensures limits { limits_of self.new.walls self.new.planes
             ≡ limits_of self.old.walls self.old.planes }

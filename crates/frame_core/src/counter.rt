@@ -1,17 +1,17 @@
 // The walls of a view, counted as they are walked.
 //
 // Rules: `picture_rules`, Counts; `specs/Painters`. This project's own.
-ghost use Rattle.frame_core.specs.Painters.{HasWalkedNothing, HasWalkedView, limits_in};
-ghost use Rattle.frame_core.specs.Scenes.{scene_of};
+ghost use Rattle.std.specs.Prelude.{◌≡◌, ◌≤◌, length};
+ghost use Rattle.frame_core.specs.Entered.{has_entered};
+ghost use Rattle.frame_core.specs.Rules.{MOST_VISPLANES};
+ghost use Rattle.frame_core.specs.Painters.{HasCountedView, HasWalkedNothing};
 ghost use Rattle.frame_core.specs.Views.{CanCount};
 ghost use Rattle.frame_core.specs.Walked.{CanTake};
-ghost use Rattle.picture_rules.specs.Words.{view_over};
-ghost use Rattle.std.specs.Prelude.{◌≡◌, ℕ, List, IfErr, OnOk, Some};
 
 use crate::bench::Bench;
 use crate::fault::over_limit;
-use crate::walked::walked_scene;
-use node_walk::{Cover, Visitor, walk};
+use crate::walked::walk_view;
+use node_walk::Visitor;
 use picture_rules::OverLimit;
 use sound_scene::SoundScene;
 use view_frame::View;
@@ -24,22 +24,34 @@ pub(crate) struct ViewCounter<'a> {
     pub view: &'a View<'a>,
 }
 
+impl<'a> ViewCounter<'a> {
+    /// Whether a sector is entered.
+    pub fn has_entered(&self, sector: u16) -> bool
+        ensures { result ≡ has_entered self.now.bench.now.entered sector }
+    {
+        self.bench.entered.has(sector)
+    }
+
+    /// How many planes there are.
+    pub fn planes(&self) -> u32
+        ensures value { result ≡ length self.now.bench.now.planes.planes }
+        ensures most { result ≤ MOST_VISPLANES }
+    {
+        self.bench.planes.count()
+    }
+}
+
 impl<'a> Visitor for ViewCounter<'a> {
     ghost use Rattle.std.specs.Prelude.{Ok, Err};
-    ghost use Rattle.frame_core.specs.Painters.{CanCountNext, CounterValue, HasCounted, counter_value};
+    ghost use Rattle.frame_core.specs.Painters.{CanCountNext, CounterValue, HasCounted, counter_now};
 
     ghost Start = { CounterValue };
 
-    ghost stands = { λ p start events. HasCounted start
-        (counter_value p.view.now p.scene.now.scene p.bench.now p.bench.ghost_name) events
-        (Ok tt) };
+    ghost stands = { λ p start events. HasCounted start (counter_now p) events (Ok tt) };
 
-    ghost stopped = { λ p start events stop. HasCounted start
-        (counter_value p.view.now p.scene.now.scene p.bench.now p.bench.ghost_name) events
-        (Err stop) };
+    ghost stopped = { λ p start events stop. HasCounted start (counter_now p) events (Err stop) };
 
-    ghost takes = { λ p event. CanCountNext
-        (counter_value p.view.now p.scene.now.scene p.bench.now p.bench.ghost_name) event };
+    ghost takes = { λ p event. CanCountNext (counter_now p) event };
 
     type Stop = OverLimit;
 
@@ -72,13 +84,8 @@ pub(crate) fn count_walls(
     requires scene { CanCount scene.now.scene }
     requires takes { CanTake view.now scene.now.scene bench.old }
     requires walked { HasWalkedNothing view.now scene.now.scene bench.old }
-    ensures walked { OnOk result (HasWalkedView view.now scene.now.scene bench.new) }
-    ensures over { (bytes : ℕ → List ℕ) → IfErr result (λ over.
-        view_over view.now (scene_of bytes scene.now.scene) (limits_in bench.old) ≡ Some over) }
-    ensures limits { limits_in bench.new ≡ limits_in bench.old }
+    ensures { HasCountedView view.now scene.now.scene bench.old bench.new result }
 {
-    let walked = walked_scene(scene);
-    let mut cover = Cover::new(view.shape().width);
     let mut counter = ViewCounter { bench, scene, view };
-    walk(&walked, view, &mut cover, &mut counter)
+    walk_view(scene, view, &mut counter)
 }

@@ -2,20 +2,18 @@
 //
 // Rules: `picture_rules`, Lists; `specs/Listers`. This project's own.
 ghost use Rattle.frame_core.specs.Listers.{IsListedView};
-ghost use Rattle.frame_core.specs.Painters.{HasWalkedNothing, HasWalkedView, limits_in};
-ghost use Rattle.frame_core.specs.Scenes.{scene_of};
+ghost use Rattle.frame_core.specs.Painters.{HasCountedView, HasWalkedNothing};
 ghost use Rattle.frame_core.specs.ViewLists.{nothing_listed};
 ghost use Rattle.frame_core.specs.Views.{CanCount};
 ghost use Rattle.frame_core.specs.Walked.{CanTake};
-ghost use Rattle.picture_rules.specs.Words.{view_over};
-ghost use Rattle.std.specs.Prelude.{◌≡◌, ℕ, List, IfErr, OnOk, Some};
+ghost use Rattle.std.specs.Prelude.{◌≡◌, OnOk};
 
 use crate::bench::{Bench, sector_of};
-use crate::fault::over_limit;
+use crate::counter::ViewCounter;
 use crate::shown::list_entered;
 use crate::walk_list::WalkList;
-use crate::walked::walked_scene;
-use node_walk::{Cover, Visitor, walk};
+use crate::walked::walk_view;
+use node_walk::Visitor;
 use picture_rules::{ListedFragment, OverLimit, PlaneMaker};
 use sound_scene::SoundScene;
 use view_frame::View;
@@ -23,59 +21,43 @@ use view_frame::View;
 /// Counts each leaf and fragment of a view as it comes, and lists it.
 #[derive(Drop)]
 pub(crate) struct ViewLister<'a> {
-    pub bench: &'a mut Bench,
+    pub counter: ViewCounter<'a>,
     pub list: &'a mut WalkList,
-    pub scene: &'a SoundScene,
-    pub view: &'a View<'a>,
 }
 
 impl<'a> Visitor for ViewLister<'a> {
     ghost use Rattle.std.specs.Prelude.{Ok, Err};
-    ghost use Rattle.frame_core.specs.Listers.{HasGathered, ListerValue, lister_value};
-    ghost use Rattle.frame_core.specs.Painters.{CanCountNext, counter_value};
+    ghost use Rattle.frame_core.specs.Listers.{HasGathered, ListerValue, lister_now};
+    ghost use Rattle.frame_core.specs.Painters.{CanCountNext, counter_now};
 
     ghost Start = { ListerValue };
 
-    ghost stands = { λ p start events. HasGathered start (lister_value
-        (counter_value p.view.now p.scene.now.scene p.bench.now p.bench.ghost_name)
-        p.list.now p.list.ghost_name) events (Ok tt) };
+    ghost stands = { λ p start events. HasGathered start (lister_now p) events (Ok tt) };
 
-    ghost stopped = { λ p start events stop. HasGathered start (lister_value
-        (counter_value p.view.now p.scene.now.scene p.bench.now p.bench.ghost_name)
-        p.list.now p.list.ghost_name) events (Err stop) };
+    ghost stopped = { λ p start events stop. HasGathered start (lister_now p) events (Err stop) };
 
-    ghost takes = { λ p event. CanCountNext
-        (counter_value p.view.now p.scene.now.scene p.bench.now p.bench.ghost_name) event };
+    ghost takes = { λ p event. CanCountNext (counter_now p.counter) event };
 
     type Stop = OverLimit;
 
     fn leaf(&mut self, leaf: u16) -> Result<(), OverLimit> {
-        let sector = sector_of(self.scene, leaf);
-        let is_known = self.bench.entered.has(sector);
-        match self.bench.enter_leaf(self.scene, self.view, leaf) {
-            Ok(()) => {
-                let planes = self.bench.planes.count();
-                self.list.add_makers(PlaneMaker::Leaf(leaf), planes);
-                list_entered(self.scene, self.view, self.list, is_known, sector);
-                Ok(())
-            }
-            Err(fault) => Err(over_limit(fault)),
-        }
+        let scene = self.counter.scene;
+        let view = self.counter.view;
+        let sector = sector_of(scene, leaf);
+        let is_known = self.counter.has_entered(sector);
+        self.counter.leaf(leaf)?;
+        let planes = self.counter.planes();
+        self.list.add_makers(PlaneMaker::Leaf(leaf), planes);
+        list_entered(scene, view, self.list, is_known, sector);
+        Ok(())
     }
 
     fn fragment(&mut self, seg: u16, first: u16, last: u16) -> Result<(), OverLimit> {
-        match self
-            .bench
-            .count_fragment(self.scene, self.view, seg, first, last)
-        {
-            Ok(()) => {
-                let planes = self.bench.planes.count();
-                self.list
-                    .add_fragment(ListedFragment { seg, first, last }, planes);
-                Ok(())
-            }
-            Err(fault) => Err(over_limit(fault)),
-        }
+        self.counter.fragment(seg, first, last)?;
+        let planes = self.counter.planes();
+        self.list
+            .add_fragment(ListedFragment { seg, first, last }, planes);
+        Ok(())
     }
 }
 
@@ -92,19 +74,12 @@ pub(crate) fn list_walls(
     requires takes { CanTake view.now scene.now.scene bench.old }
     requires walked { HasWalkedNothing view.now scene.now.scene bench.old }
     requires empty { list.old ≡ nothing_listed }
-    ensures walked { OnOk result (HasWalkedView view.now scene.now.scene bench.new) }
+    ensures counted { HasCountedView view.now scene.now.scene bench.old bench.new result }
     ensures listed { OnOk result (IsListedView view.now scene.now.scene list.new) }
-    ensures over { (bytes : ℕ → List ℕ) → IfErr result (λ over.
-        view_over view.now (scene_of bytes scene.now.scene) (limits_in bench.old) ≡ Some over) }
-    ensures limits { limits_in bench.new ≡ limits_in bench.old }
 {
-    let walked = walked_scene(scene);
-    let mut cover = Cover::new(view.shape().width);
     let mut lister = ViewLister {
-        bench,
+        counter: ViewCounter { bench, scene, view },
         list,
-        scene,
-        view,
     };
-    walk(&walked, view, &mut cover, &mut lister)
+    walk_view(scene, view, &mut lister)
 }

@@ -12,9 +12,9 @@ ghost use Rattle.frame_core.specs.Painters.{HasWalkedNothing, HasWalkedView, IsP
 use crate::bench::Bench;
 use crate::fault::ViewFault;
 use crate::tools::ViewTools;
-use crate::walked::walked_scene;
+use crate::walked::walk_view;
 use art_rules::Shelf;
-use node_walk::{Cover, Visitor, walk};
+use node_walk::Visitor;
 use pixel_strips::Canvas;
 use sound_scene::SoundScene;
 use texture_build::{Directory, LumpCache};
@@ -34,29 +34,17 @@ pub(crate) struct ViewPainter<'b, 'a, S: Shelf, C: Canvas> {
 
 impl<'b, 'a, S: Shelf, C: Canvas> Visitor for ViewPainter<'b, 'a, S, C> {
     ghost use Rattle.std.specs.Prelude.{Ok, Err};
-    ghost use Rattle.texture_build.specs.Paints.{paint_state};
-    ghost use Rattle.frame_core.specs.Views.{view_scene};
-    ghost use Rattle.frame_core.specs.Painters.{CanPaintNext, HasPainted, PainterValue, painter_names, painter_value};
+    ghost use Rattle.frame_core.specs.Painters.{CanPaintNext, HasPainted, PainterValue, painter_now};
 
     ghost Start = { PainterValue };
 
-    ghost stands = { λ p start events. HasPainted C.mark start (painter_value
-        (view_scene p.view.now p.scene.now.scene p.dir.now) p.bench.now
-        (paint_state (S.view p.shelf.now) p.cache.now (C.view p.canvas.now))
-        (painter_names p.bench.ghost_name p.cache.ghost_name p.shelf.ghost_name
-        p.canvas.ghost_name)) events (Ok tt) };
+    ghost stands = { λ p start events. HasPainted C.mark start (painter_now S.view C.view p)
+        events (Ok tt) };
 
-    ghost stopped = { λ p start events stop. HasPainted C.mark start (painter_value
-        (view_scene p.view.now p.scene.now.scene p.dir.now) p.bench.now
-        (paint_state (S.view p.shelf.now) p.cache.now (C.view p.canvas.now))
-        (painter_names p.bench.ghost_name p.cache.ghost_name p.shelf.ghost_name
-        p.canvas.ghost_name)) events (Err stop) };
+    ghost stopped = { λ p start events stop. HasPainted C.mark start
+        (painter_now S.view C.view p) events (Err stop) };
 
-    ghost takes = { λ p event. CanPaintNext (painter_value
-        (view_scene p.view.now p.scene.now.scene p.dir.now) p.bench.now
-        (paint_state (S.view p.shelf.now) p.cache.now (C.view p.canvas.now))
-        (painter_names p.bench.ghost_name p.cache.ghost_name p.shelf.ghost_name
-        p.canvas.ghost_name)) event };
+    ghost takes = { λ p event. CanPaintNext (painter_now S.view C.view p) event };
 
     type Stop = ViewFault;
 
@@ -103,16 +91,15 @@ pub(crate) fn draw_walls<S: Shelf, C: Canvas>(
     ensures limits { limits_in bench.new ≡ limits_in bench.old }
 {
     let view = tools.view;
-    let walked = walked_scene(tools.scene);
-    let mut cover = Cover::new(view.shape().width);
+    let scene = tools.scene;
     let mut painter = ViewPainter {
         bench,
-        scene: tools.scene,
+        scene,
         view,
         dir: tools.dir,
         cache: &mut *tools.cache,
         shelf: &mut *tools.shelf,
         canvas: &mut *tools.canvas,
     };
-    walk(&walked, view, &mut cover, &mut painter)
+    walk_view(scene, view, &mut painter)
 }

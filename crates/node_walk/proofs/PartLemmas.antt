@@ -1,6 +1,6 @@
 -- A part of a walk adds its events behind those that are there, and covers the same columns whatever they are.
 use Rattle.word_rules.proofs.Common.{[], ap, append-nil, append_assoc, arith, Bool, cases_eq, cond, false, inl, inr, List, map, None, Option, refl, replicate, Some, suc, sym, true, zero, ℕ, ◌++◌, ◌+◌, ◌-◌, ◌<◌, ◌==◌, ◌∙◌, ◌∷◌, ◌≡◌, ◌≤◌}
-use Rattle.node_walk.specs.Rules.{Behind, Box4, Child, ColumnRange, Columns, Event, FragmentEvent, Leaf, LeafEvent, LevelLists, Node, Outside, Surface, ViewValue, WalkState, at_columns, at_far, at_leaf, at_leaf_of, at_node, at_range, at_seg, at_seg_of, at_segs, back_of, box_on, box_passes, child_on, cover, covers, enters, eye_side, far_box, far_child, fragments, is_pass, is_solid, leaf_at, middle_of, near_child, node_at, seg_at, seg_range, shows, surface_at, walk_child, walk_start}
+use Rattle.node_walk.specs.Rules.{Behind, Box4, Child, ColumnRange, Columns, Event, FragmentEvent, Leaf, LeafEvent, LevelLists, Node, Outside, Seg, Surface, ViewValue, WalkState, at_columns, at_far, at_leaf, at_leaf_of, at_node, at_range, at_seg, at_seg_of, at_segs, back_of, box_on, box_passes, child_on, cover, covers, enters, eye_side, far_box, far_child, fragments, is_pass, is_solid, leaf_at, middle_of, near_child, node_at, seg_at, seg_range, shows, surface_at, walk_child, walk_start}
 use Rattle.level_rules.specs.declared.Child.TheVariants.{Node as NodeChild, Leaf as LeafChild}
 use Rattle.level_rules.proofs.walk.WalkLemmas.{walk-node, at_segs-more}
 use Rattle.node_walk.specs.Lists.{part_start}
@@ -216,25 +216,26 @@ pub no_part : (solid pass : Bool) (seg first last : ℕ) (columns : List Bool) �
 unfolding at_columns
 no_part solid pass seg first last columns e f = rw (e, f)
 
--- a seg by its range
-pub behind_part : (v : ViewValue) (level : LevelLists) (front : Surface) (n : ℕ) (columns : List Bool) → seg_range v (seg_at level n) ≡ Behind → at_seg v level front n (part_start columns) ≡ part_start columns
-unfolding at_seg at_seg_of at_range
-behind_part v level front n columns e = rw e
+-- a seg that was read, by its range
+module _ (v : ViewValue) (level : LevelLists) (front : Surface) (n : ℕ) (columns : List Bool) (seg : Seg) (is : seg ≡ seg_at level n) where
+  pub behind_part : Behind ≡ seg_range v seg → at_seg v level front n (part_start columns) ≡ part_start columns
+  unfolding at_seg at_seg_of at_range
+  behind_part e = rw (sym is, sym e)
 
-pub outside_part : (v : ViewValue) (level : LevelLists) (front : Surface) (n : ℕ) (columns : List Bool) → seg_range v (seg_at level n) ≡ Outside → at_seg v level front n (part_start columns) ≡ part_start columns
-unfolding at_seg at_seg_of at_range
-outside_part v level front n columns e = rw e
+  pub outside_part : Outside ≡ seg_range v seg → at_seg v level front n (part_start columns) ≡ part_start columns
+  unfolding at_seg at_seg_of at_range
+  outside_part e = rw (sym is, sym e)
 
-pub no_columns_part : (v : ViewValue) (level : LevelLists) (front : Surface) (n x1 x2 : ℕ) (columns : List Bool) → seg_range v (seg_at level n) ≡ Columns x1 x2 → x1 ≡ x2 → at_seg v level front n (part_start columns) ≡ part_start columns
-unfolding at_seg at_seg_of at_range
-no_columns_part v level front n x1 x2 columns e f =
-    let b : (x1 == x2) ≡ true = grind arith in rw (e, b)
+  pub no_columns_part : (x1 x2 : ℕ) → Columns x1 x2 ≡ seg_range v seg → x1 ≡ x2 → at_seg v level front n (part_start columns) ≡ part_start columns
+  unfolding at_seg at_seg_of at_range
+  no_columns_part x1 x2 e f =
+      let b : (x1 == x2) ≡ true = grind arith in rw (sym is, sym e, b)
 
-pub columns_part : (v : ViewValue) (level : LevelLists) (front : Surface) (n x1 x2 : ℕ) (columns : List Bool) → seg_range v (seg_at level n) ≡ Columns x1 x2 → ¬ (x1 ≡ x2) →
-    at_seg v level front n (part_start columns) ≡ at_columns (is_solid front (back_of level (seg_at level n))) (is_pass front (back_of level (seg_at level n)) (middle_of level (seg_at level n))) n x1 (x2 - 1) (part_start columns)
-unfolding at_seg at_seg_of at_range
-columns_part v level front n x1 x2 columns e f =
-    let b : (x1 == x2) ≡ false = grind arith in rw (e, b)
+  pub columns_part : (x1 x2 : ℕ) → Columns x1 x2 ≡ seg_range v seg → ¬ (x1 ≡ x2) →
+      at_seg v level front n (part_start columns) ≡ at_columns (is_solid front (back_of level seg)) (is_pass front (back_of level seg) (middle_of level seg)) n x1 (x2 - 1) (part_start columns)
+  unfolding at_seg at_seg_of at_range
+  columns_part x1 x2 e f =
+      let b : (x1 == x2) ≡ false = grind arith in rw (sym is, sym e, b)
 
 -- the whole walk is the part of the root, where no column is covered
 pub root_part : (v : ViewValue) (lists level : LevelLists) (depth : ℕ) (root : Child) (columns : List Bool) → lists ≡ level → root ≡ lists.root → columns ≡ replicate v.shape.width false →

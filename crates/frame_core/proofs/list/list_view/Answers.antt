@@ -6,28 +6,24 @@ use Rattle.frame_core.specs.ViewLists.{listed_planes}
 use Rattle.frame_core.specs.Workshops.{WorkshopView}
 use Rattle.frame_core.proofs.CountLemmas.{counts-view, few-notes, within-view}
 use Rattle.frame_core.proofs.ListerLemmas.{makers-as_many, view-listed}
-use Rattle.frame_core.proofs.ViewLemmas.{started}
 use Rattle.frame_core.proofs.list.list_view.Goals as goal
-
-pub list_walls-requires-clause-walked : goal.list_walls-requires-clause-walked
-list_walls-requires-clause-walked c = started c.new-view.result c.args.scene.now.scene c.shop.inside.bench c.start.new.self c.start.ensures.limits c.start.ensures.walked
 
 pub list_planes-requires-clause-makers : goal.list_planes-requires-clause-makers
 list_planes-requires-clause-makers c =
-    let many = makers-as_many c.new-view.result c.args.scene.now.scene c.list_walls.new.bench c.list_walls.new.list c.in_ok-list_walls.ensures.walked c.in_ok-list_walls.ensures.listed in
+    let many = makers-as_many c.new-view.result c.args.scene.now.scene c.list_walls.new.bench c.list_walls.new.list c.in_ok-list_walls.ensures.counted.walked c.in_ok-list_walls.ensures.listed in
     omega (arith, many, ap (λ (makers : List PlaneMaker). length makers) c.makers.ensures)
 
 pub counts-counts-requires : goal.counts-counts-requires
-counts-counts-requires c = few-notes c.new-view.result c.args.scene.now.scene c.list_walls.new.bench c.in_ok-list_walls.ensures.walked
+counts-counts-requires c = few-notes c.new-view.result c.args.scene.now.scene c.list_walls.new.bench c.in_ok-list_walls.ensures.counted.walked
 
 pub returns-clause-counts : goal.returns-clause-counts
 returns-clause-counts c =
-    counts-view c.new-view.result _ c.args.scene.now.scene c.list_walls.new.bench c.counts-counts.result c.new-view.ensures c.counts-counts.ensures.value c.in_ok-list_walls.ensures.walked
+    counts-view c.new-view.result _ c.args.scene.now.scene c.list_walls.new.bench c.counts-counts.result c.new-view.ensures c.counts-counts.ensures.value c.in_ok-list_walls.ensures.counted.walked
 
 pub returns-clause-within : goal.returns-clause-within
 returns-clause-within c =
     within-view c.new-view.result _ c.args.scene.now.scene c.list_walls.new.bench _ c.new-view.ensures
-    (c.in_ok-list_walls.ensures.limits ∙ c.start.ensures.limits ∙ ap (λ (w : WorkshopView). w.limits) c.shop.view_is) c.in_ok-list_walls.ensures.walked
+    (c.in_ok-list_walls.ensures.counted.limits ∙ c.start.ensures.limits ∙ ap (λ (w : WorkshopView). w.limits) c.shop.view_is) c.in_ok-list_walls.ensures.counted.walked
 
 pub returns-clause-list : goal.returns-clause-list
 returns-clause-list c = λ bytes.
@@ -37,5 +33,5 @@ returns-clause-list c = λ bytes.
     let planes = c.list_planes.new.listed.items in
     let made : ViewListValue = record { fragments = walk.fragments; planes = planes; sprites = walk.sprites; all_fragments = walk.all_fragments; all_sprites = walk.all_sprites } in
     subst (λ (v : ViewValue). made ≡ view_list v (scene_of bytes scene)) c.new-view.ensures
-    (view-listed c.new-view.result bytes scene bench walk planes c.in_ok-list_walls.ensures.walked c.in_ok-list_walls.ensures.listed
+    (view-listed c.new-view.result bytes scene bench walk planes c.in_ok-list_walls.ensures.counted.walked c.in_ok-list_walls.ensures.listed
     (c.list_planes.ensures.items ∙ ap (listed_planes bench.planes.planes) c.makers.ensures))

@@ -2,11 +2,7 @@
 use Rattle.picture_rules.proofs.Common.{ap, ◌∙◌}
 use Rattle.frame_core.specs.Workshops.{WorkshopView}
 use Rattle.frame_core.proofs.CountLemmas.{counts-view, few-notes, within-view}
-use Rattle.frame_core.proofs.ViewLemmas.{started}
 use Rattle.frame_core.proofs.view.count_view.Goals as goal
-
-pub count_walls-requires-clause-walked : goal.count_walls-requires-clause-walked
-count_walls-requires-clause-walked c = started c.new-view.result c.args.scene.now.scene c.shop.inside.bench c.start.new.self c.start.ensures.limits c.start.ensures.walked
 
 pub counts-requires : goal.counts-requires
 counts-requires c = few-notes c.new-view.result c.args.scene.now.scene c.count_walls.new.bench c.in_ok-count_walls.ensures.walked

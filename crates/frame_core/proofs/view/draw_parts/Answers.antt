@@ -12,7 +12,7 @@ use Rattle.frame_core.proofs.FloorLemmas.{floors_of}
 use Rattle.frame_core.proofs.MaskLemmas.{masks_dots}
 use Rattle.frame_core.proofs.PaintLemmas.{can_draw_view-later, placed-later}
 use Rattle.frame_core.proofs.CountLemmas.{within-walked}
-use Rattle.frame_core.proofs.ViewLemmas.{ReadsAlike, drawable-at, if_err-no_limit, if_err-stop, in_view-walked, paints-placed, part-at, parts-paint, placed-frame, reads-alike, reads-then, started, walked-at}
+use Rattle.frame_core.proofs.ViewLemmas.{ReadsAlike, drawable-at, if_err-no_limit, if_err-stop, in_view-walked, paints-placed, part-at, parts-paint, placed-frame, reads-alike, reads-then, walked-at}
 use Rattle.frame_core.proofs.view.draw_parts.Given.{Over}
 use Rattle.frame_core.proofs.view.draw_parts.Goals as goal
 use Rattle.frame_core.proofs.view.draw_parts.Goals.{After-place, In_ok-draw_floors, In_ok-draw_walls}
@@ -48,10 +48,6 @@ start-requires g c =
 
 pub draw_walls-requires-clause-placed : goal.draw_walls-requires-clause-placed
 draw_walls-requires-clause-placed g c = placed g (goal.at.draw_walls-requires-clause-placed g c).After-place
-
-pub draw_walls-requires-clause-walked : goal.draw_walls-requires-clause-walked
-draw_walls-requires-clause-walked g c =
-    started c.args.tools.now.view.now c.args.tools.now.scene.now.scene c.args.bench.now c.start.new.self c.start.ensures.limits c.start.ensures.walked
 
 pub draw_floors-requires : goal.draw_floors-requires
 draw_floors-requires g c =

@@ -16,7 +16,7 @@ returns-clause-walked c = λ bytes.
     let frame = c.shape.ensures.frame.width in
     let wide : c.args.view.now.shape.width ≤ FRAME_WIDTH = subst (λ (s : ViewShape). s.width ≤ FRAME_WIDTH) c.shape.ensures.value (omega arith) in
     let e : c.sectors.result.now ≡ c.args.scene.now.scene.base.level.sectors = c.sectors.ensures.value ∙ ap (λ (level : LevelValue). level.sectors) c.level.ensures in
-    walked-none c.args.view.now bytes c.args.scene.now.scene _ _ _ _ _ _ (c.start_view.ensures.built c.args.view.now (ap (λ (s : ViewShape). s.height) (sym c.shape.ensures.value)) wide)
-    (search rules) (search rules) c.clear-2.ensures
+    walked-none c.args.view.now bytes c.args.scene.now.scene _ _ _ _ _ (c.start_view.ensures.built c.args.view.now (ap (λ (s : ViewShape). s.height) (sym c.shape.ensures.value)) wide)
+    (search rules) c.clear-2.ensures
     (λ s l. c.clear-3.ensures.below s (subst (λ (xs : List Sector). s < length xs) (sym e) l))
     c.first_sector-self.ensures.value

@@ -6,9 +6,9 @@ use Rattle.frame_core.proofs.counter.ViewCounterVisitor.leaf.Goals as goal
 pub returns-in-Ok : goal.returns-in-Ok
 returns-in-Ok c =
     let e = c.in-Ok.ensures in
-    counts-passed _ _ _ _ _ (LeafEvent c.args.leaf) e.walked e.takes e.limits
+    counts-passed _ _ (LeafEvent c.args.leaf) e.walked e.takes e.limits
 
 pub returns-in-Err : goal.returns-in-Err
 returns-in-Err c =
     let e = c.in-Err.ensures in
-    counts-stopped _ _ _ _ _ (LeafEvent c.args.leaf) c.in-Err.fault c.over_limit.result c.over_limit.ensures e.over e.limits
+    counts-stopped _ _ (LeafEvent c.args.leaf) c.in-Err.fault c.over_limit.result c.over_limit.ensures e.over e.limits
