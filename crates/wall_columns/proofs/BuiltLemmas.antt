@@ -13,7 +13,7 @@ use Rattle.wall_columns.specs.Windows.{WindowsView, window_at}
 use Rattle.wall_columns.specs.Saved.{OpeningsView, columns_saved}
 use Rattle.wall_columns.specs.Places.{places_of}
 use Rattle.wall_columns.specs.Columns.{plane_number, columns_of, column_edges, column_after, clip_along, marks_along, HasMarked, HasSaved, HasTaken}
-use Rattle.wall_columns.specs.Leaves.{now_of, ceiling_check, floor_check}
+use Rattle.wall_columns.specs.Leaves.{now_of, both_checks, ceiling_check, floor_check}
 use Rattle.wall_columns.specs.States.{walls_view}
 use Rattle.wall_columns.specs.Built.{IsDrawn, IsBuilt, with_wall, step_of_wall}
 use Rattle.wall_columns.proofs.SavedLemmas.{columns_saved-lists}
@@ -135,7 +135,7 @@ pub record WallDrawn (v : ViewValue) (walls : List Wall) (s : PlanesNow) (facts 
   pub within : last < v.shape.width
   pub frame : v.shape.width ≤ FRAME_WIDTH
   pub windows : checked.windows ≡ old.windows
-  pub planes : now_of checked between ≡ floor_check (fragment_numbers v facts first last) first last (ceiling_check (fragment_numbers v facts first last) first last s)
+  pub planes : now_of checked between ≡ both_checks (fragment_numbers v facts first last) first last s
   pub taken : HasTaken (fragment_numbers v facts first last) (last + 1 - first) old.openings checked.openings lists
   pub marked : HasMarked (fragment_of v facts first last) (last + 1 - first) checked new between later
   pub saved : HasSaved v (fragment_of v facts first last) lists (last + 1 - first) checked new.openings
@@ -227,7 +227,7 @@ rows_same v ws n facts first last before h = record {
 -- what a fragment that is drawn does with planes, by its own marks
 drawn_event : (f : FragmentValue) (before : ℕ → ColumnClip) (s : PlanesNow) →
     after_event s (Draws (marks_along f before))
-    ≡ wall_marked (marks_along f before) (floor_check f.numbers f.first f.last (ceiling_check f.numbers f.first f.last s))
+    ≡ wall_marked (marks_along f before) (both_checks f.numbers f.first f.last s)
 unfolding after_event floor_checked ceiling_checked floor_check ceiling_check marks_along
 drawn_event f before s = refl
 
@@ -287,7 +287,7 @@ built_wall {v} {walls} {s} {facts} {first} {last} {notes} {note = note} d =
 -- what is built where the columns of the fragment of a seg were drawn, by its value and its numbers
 pub built-range : (v : ViewValue) (facts : WallFacts) (first last : ℕ) (n : FragmentNumbers) (f : FragmentValue) (notes : List FragmentNote) (old checked new : ColumnState) {state : WallsView} (before between later : PlanesView) (places : SavePlaces) (note : FragmentNote)
     {items : List FragmentNote} → f ≡ fragment_of v facts first last → n ≡ f.numbers → first ≤ last → last < v.shape.width → v.shape.width ≤ FRAME_WIDTH → walls_view notes old ≡ state → checked.windows ≡ old.windows →
-    ((s : PlanesNow) → s ≡ now_of old before → now_of checked between ≡ floor_check n first last (ceiling_check n first last s)) → HasTaken n (last + 1 - first) old.openings checked.openings places →
+    ((s : PlanesNow) → s ≡ now_of old before → now_of checked between ≡ both_checks n first last s) → HasTaken n (last + 1 - first) old.openings checked.openings places →
     HasMarked f (columns_of f) checked new between later → HasSaved v f places (columns_of f) checked new.openings →
     ((place : ℕ) → places ≡ places_of f.numbers place (last + 1 - first) → note ≡ note_at v (wall_of v facts first last) place) → items ≡ notes ++ note ∷ [] →
     (walls : List Wall) (s : PlanesNow) → IsBuilt v walls s state before.planes →
@@ -295,7 +295,7 @@ pub built-range : (v : ViewValue) (facts : WallFacts) (first last : ℕ) (n : Fr
 built-range v facts first last n f notes old checked new before between later places note e g ordered within frame view windows planes taken marked saved noted pushed walls s h =
     let numbers : n ≡ fragment_numbers v facts first last = g ∙ ap (λ (f : FragmentValue). f.numbers) e in
     let built = built-inside v walls s notes old before view h in
-    let P : FragmentNumbers → Type 0 = λ n. now_of checked between ≡ floor_check n first last (ceiling_check n first last s) in
+    let P : FragmentNumbers → Type 0 = λ n. now_of checked between ≡ both_checks n first last s in
     let Q : FragmentNumbers → Type 0 = λ n. HasTaken n (last + 1 - first) old.openings checked.openings places in
     let R : FragmentValue → Type 0 = λ f. HasMarked f (columns_of f) checked new between later in
     let S : FragmentValue → Type 0 = λ f. HasSaved v f places (columns_of f) checked new.openings in

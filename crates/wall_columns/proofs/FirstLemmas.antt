@@ -3,9 +3,9 @@ use Rattle.picture_rules.proofs.Common.{[], AllByRecursion, ap, Bool, cond, fals
 use Rattle.wall_columns.specs.Rules.{Art, ColumnClip, Dot, Edges, FragmentNumbers, RowRange, ViewShape, WallStrip, has_texture, joined_lists}
 use Rattle.wall_columns.specs.declared.clips.ColumnPlan.{ColumnPlan}
 use Rattle.wall_columns.specs.declared.paint.ColumnLook.{ColumnLook}
-use Rattle.wall_columns.specs.Painted.{look_dots, strip_with, strips_dots}
-use Rattle.wall_columns.specs.Plans.{HasRowsOf, IsPlanTexture, IsStripTexture, first_strip, has_second, no_rows, plan_of, rows_if, strips_by}
-use Rattle.wall_columns.proofs.PaintedLemmas.{look-none, strips-append}
+use Rattle.wall_columns.specs.Painted.{look_dots, strips_dots}
+use Rattle.wall_columns.specs.Plans.{HasRowsOf, IsPlanTexture, IsStripTexture, bottom_strip, first_strip, has_second, middle_strip, no_rows, plan_of, rows_if, strips_by, top_strip}
+use Rattle.wall_columns.proofs.PaintedLemmas.{look-none}
 
 -- the plan of a fragment has rows of its parts alone
 if_none : (is_there : Bool) (rows : RowRange) → is_there ≡ false →
@@ -39,8 +39,7 @@ pub first-in : (P : WallStrip → Type 0) (n : FragmentNumbers) (plan : ColumnPl
     AllByRecursion P (strips_by n plan) → P (first_strip n plan)
 unfolding first_strip
 first-in P n plan all = go (has_texture n.middle_part) (has_texture n.top_part) where
-  go : (m t : Bool) → P (cond m (record { part = n.middle_part; rows = plan.middle })
-      (cond t (record { part = n.top_part; rows = plan.top }) (record { part = n.bottom_part; rows = plan.bottom })))
+  go : (m t : Bool) → P (cond m (middle_strip n plan) (cond t (top_strip n plan) (bottom_strip n plan)))
   go true t = all.0
   go false true = all.1.0
   go false false = all.1.1.0
@@ -67,64 +66,35 @@ module _ (shape : ViewShape) (art : Art) (look : ColumnLook) where
   behind s xs ys same = ap (λ (ds : List Dot). look_dots shape art look s ++ ds) same
 
   -- the dots of a plan are those of its first strip, and of the second where it is painted
-  strips_alone : (n : FragmentNumbers) (plan : ColumnPlan) → HasRowsOf n plan → has_second n plan ≡ false →
-      strips_dots shape art look (first_strip n plan ∷ [])
+  strips_painted : (n : FragmentNumbers) (plan : ColumnPlan) → HasRowsOf n plan →
+      strips_dots shape art look (first_strip n plan ∷ cond (has_second n plan) (bottom_strip n plan ∷ []) [])
       ≡ strips_dots shape art look (strips_by n plan)
   unfolding first_strip has_second
-  strips_alone n plan rows off =
-      go (has_texture n.middle_part) (has_texture n.top_part) (int_lt plan.bottom.last plan.bottom.first)
-      refl refl refl off where
+  strips_painted n plan rows =
+      go (has_texture n.middle_part) (has_texture n.top_part) (int_lt plan.bottom.last plan.bottom.first) refl refl refl where
         m : WallStrip
-        m = record { part = n.middle_part; rows = plan.middle }
+        m = middle_strip n plan
 
         t : WallStrip
-        t = record { part = n.top_part; rows = plan.top }
+        t = top_strip n plan
 
         b : WallStrip
-        b = record { part = n.bottom_part; rows = plan.bottom }
+        b = bottom_strip n plan
 
         go : (is_middle is_top none : Bool) → has_texture n.middle_part ≡ is_middle → has_texture n.top_part ≡ is_top →
-            int_lt plan.bottom.last plan.bottom.first ≡ none → ((not is_middle && is_top) && not none) ≡ false →
-            strips_dots shape art look (cond is_middle m (cond is_top t b) ∷ [])
+            int_lt plan.bottom.last plan.bottom.first ≡ none →
+            strips_dots shape art look (cond is_middle m (cond is_top t b) ∷ cond ((not is_middle && is_top) && not none) (b ∷ []) [])
             ≡ strips_dots shape art look (m ∷ (t ∷ (b ∷ [])))
-        go true is_top none e f g h = behind m [] (t ∷ (b ∷ [])) (sym (skip t (b ∷ []) (rows.beside_top e) ∙ skip b [] (rows.beside_bottom e)))
-        go false true true e f g h = behind t [] (b ∷ []) (sym (skip b [] g)) ∙ sym (skip m (t ∷ (b ∷ [])) (rows.middle e))
-        go false true false e f g h = cc
-        go false false none e f g h = sym (skip m (t ∷ (b ∷ [])) (rows.middle e) ∙ skip t (b ∷ []) (rows.top f))
+        go true is_top none e f g = behind m [] (t ∷ (b ∷ [])) (sym (skip t (b ∷ []) (rows.beside_top e) ∙ skip b [] (rows.beside_bottom e)))
+        go false true true e f g = behind t [] (b ∷ []) (sym (skip b [] g)) ∙ sym (skip m (t ∷ (b ∷ [])) (rows.middle e))
+        go false true false e f g = sym (skip m (t ∷ (b ∷ [])) (rows.middle e))
+        go false false none e f g = sym (skip m (t ∷ (b ∷ [])) (rows.middle e) ∙ skip t (b ∷ []) (rows.top f))
 
-  strips_both : (n : FragmentNumbers) (plan : ColumnPlan) → HasRowsOf n plan → has_second n plan ≡ true →
-      strips_dots shape art look (first_strip n plan ∷ (record { part = n.bottom_part; rows = plan.bottom } ∷ []))
-      ≡ strips_dots shape art look (strips_by n plan)
-  unfolding first_strip has_second
-  strips_both n plan rows on =
-      go (has_texture n.middle_part) (has_texture n.top_part) (int_lt plan.bottom.last plan.bottom.first) refl on where
-        m : WallStrip
-        m = record { part = n.middle_part; rows = plan.middle }
-
-        t : WallStrip
-        t = record { part = n.top_part; rows = plan.top }
-
-        b : WallStrip
-        b = record { part = n.bottom_part; rows = plan.bottom }
-
-        go : (is_middle is_top none : Bool) → has_texture n.middle_part ≡ is_middle → ((not is_middle && is_top) && not none) ≡ true →
-            strips_dots shape art look (cond is_middle m (cond is_top t b) ∷ (b ∷ []))
-            ≡ strips_dots shape art look (m ∷ (t ∷ (b ∷ [])))
-        go true is_top none e h = cc
-        go false true none e h = sym (skip m (t ∷ (b ∷ [])) (rows.middle e))
-        go false false none e h = cc
-
-  pub first-alone : (n : FragmentNumbers) (plan : ColumnPlan) (s : WallStrip) → s ≡ first_strip n plan → HasRowsOf n plan →
-      has_second n plan ≡ false →
-      strips_dots shape art look (s ∷ []) ≡ strips_dots shape art look (strips_by n plan)
-  first-alone n plan s is rows off =
-      ap (λ (s : WallStrip). strips_dots shape art look (s ∷ [])) is ∙ strips_alone n plan rows off
-
-  pub first-both : (n : FragmentNumbers) (plan : ColumnPlan) (s : WallStrip) → s ≡ first_strip n plan → HasRowsOf n plan →
-      has_second n plan ≡ true →
-      strips_dots shape art look (s ∷ []) ++ strips_dots shape art look (strip_with n.bottom_part plan.bottom ∷ [])
-      ≡ strips_dots shape art look (strips_by n plan)
-  first-both n plan s is rows on =
-      strips-append shape art look (s ∷ []) (strip_with n.bottom_part plan.bottom ∷ [])
-      ∙ ap (λ (s : WallStrip). strips_dots shape art look (s ∷ (strip_with n.bottom_part plan.bottom ∷ []))) is
-      ∙ strips_both n plan rows on
+  -- by the strip that is painted first, and whether there is a second
+  pub first-painted : (n : FragmentNumbers) (plan : ColumnPlan) (s : WallStrip) (second : Bool) → s ≡ first_strip n plan →
+      HasRowsOf n plan → has_second n plan ≡ second →
+      strips_dots shape art look (s ∷ cond second (bottom_strip n plan ∷ []) []) ≡ strips_dots shape art look (strips_by n plan)
+  first-painted n plan s second is rows on =
+      ap (λ (s : WallStrip). strips_dots shape art look (s ∷ cond second (bottom_strip n plan ∷ []) [])) is
+      ∙ ap (λ (b : Bool). strips_dots shape art look (first_strip n plan ∷ cond b (bottom_strip n plan ∷ []) [])) (sym on)
+      ∙ strips_painted n plan rows

@@ -1,12 +1,12 @@
 -- Laws of the planes of a leaf: what finding and checking them one after the other comes to, and what
 -- is told where one passes its room.
 use Rattle.picture_rules.proofs.Common.{ap, arith, Bool, Err, false, IsErr, IsErrAnd, length, List, lt-true, nat_lt, nat_tests, None, Ok, Option, refl, Result, Some, sym, true, ℕ, ◌<◌, ◌∙◌, ◌≡◌, ◌≤◌}
-use Rattle.wall_columns.specs.Rules.{FragmentNumbers, IsAmongPlanes, OverLimit, Plane, PlaneChoice, PlaneKey, PlanesNow, ceiling_found, checked_plane, find, floor_found, openings_count, planes_count, with_ceiling, with_floor}
+use Rattle.wall_columns.specs.Rules.{FragmentNumbers, IsAmongPlanes, OverLimit, Plane, PlaneChoice, PlaneKey, PlanesNow, ceiling_found, checked_plane, find, floor_found, planes_count, with_ceiling, with_floor}
 use Rattle.picture_rules.proofs.plane.PlaneLemmas.{length-find}
 use Rattle.visplanes.specs.Planes.{PlanesView, with_planes}
 use Rattle.wall_columns.specs.declared.fault.DrawFault.{DrawFault}
 use Rattle.wall_columns.specs.Faults.{limit_of_fault, limit_of_result}
-use Rattle.wall_columns.specs.Leaves.{planes_found, number_found, planes_checked, number_checked, ceiling_check, floor_check, planes_over, openings_over, leaf_over, checks_over}
+use Rattle.wall_columns.specs.Leaves.{planes_found, number_found, planes_checked, number_checked, ceiling_check, floor_check, over_room, planes_over, leaf_over, checks_over}
 
 within_test : (room count : ℕ) (t : Bool) → nat_lt room count ≡ t → (room < count → false ≡ true) → t ≡ false
 within_test room count true e h = let l : room < count = grind (arith, nat_tests) in sym (h l)
@@ -20,22 +20,19 @@ pub limit-passed_on : {A : Type 0} (r : Result A DrawFault) (fault : DrawFault) 
 limit-passed_on (Ok value) fault h g = absurd (let t : false ≡ true = h in cc)
 limit-passed_on (Err other) fault h g = ap limit_of_fault g
 
--- openings past the room are told, and others not
-pub openings_over-passed : (room count : ℕ) (next : Option OverLimit) → room < count → openings_over room count next ≡ Some (openings_count count)
-unfolding openings_over
-openings_over-passed room count next l = rw (lt-true room count l) refl
+-- and so the limit of its call, where that is what the fault is
+pub limit-told : {A : Type 0} {over : Option OverLimit} {told : DrawFault} (r : Result A DrawFault) (fault : DrawFault) → IsErr r →
+    IsErrAnd r (λ e. e ≡ fault) → fault ≡ told → over ≡ limit_of_fault told → limit_of_result r ≡ over
+limit-told r fault failed is e h = limit-passed_on r fault failed is ∙ ap limit_of_fault e ∙ sym h
 
-pub openings_over-within : (room count : ℕ) (next : Option OverLimit) → (room < count → false ≡ true) → openings_over room count next ≡ next
-unfolding openings_over
-openings_over-within room count next h = rw (within room count h) refl
+-- a count past the room is told, and no other
+pub over_room-passed : (limit : ℕ → OverLimit) (room count : ℕ) (next : Option OverLimit) → room < count → over_room limit room count next ≡ Some (limit count)
+unfolding over_room
+over_room-passed limit room count next l = rw (lt-true room count l) refl
 
-pub planes_over-passed : (room count : ℕ) (next : Option OverLimit) → room < count → planes_over room count next ≡ Some (planes_count count)
-unfolding planes_over
-planes_over-passed room count next l = rw (lt-true room count l) refl
-
-pub planes_over-within : (room count : ℕ) (next : Option OverLimit) → (room < count → false ≡ true) → planes_over room count next ≡ next
-unfolding planes_over
-planes_over-within room count next h = rw (within room count h) refl
+pub over_room-within : (limit : ℕ → OverLimit) (room count : ℕ) (next : Option OverLimit) → (room < count → false ≡ true) → over_room limit room count next ≡ next
+unfolding over_room
+over_room-within limit room count next h = rw (within room count h) refl
 
 -- the current planes, one after the other
 abbrev now : List Plane → Option ℕ → Option ℕ → PlanesNow
@@ -65,42 +62,34 @@ unfolding with_floor planes_checked number_checked
 with_floor-is None planes floor ceiling = refl
 with_floor-is (Some c) planes floor ceiling = refl
 
+-- a step that leaves the planes of b, with the number that it found
+stepped : {s t : PlanesNow} {found number : Option ℕ} (step : PlanesNow → PlanesNow) (of : List Plane → Option ℕ → PlanesNow) (planes : List Plane) (a b : PlanesView) →
+    s ≡ t → step t ≡ of planes found → b ≡ with_planes planes a → number ≡ found → step s ≡ of b.planes number
+stepped {found = found} step of planes a b e is f g =
+    ap step e ∙ is ∙ ap (λ (ps : List Plane). of ps found) (sym (ap (λ (v : PlanesView). v.planes) f)) ∙ ap (of b.planes) (sym g)
+
 -- the floor is found
 pub enter-floor : (s : PlanesNow) (a b : PlanesView) (key : Option PlaneKey) (floor ceiling number : Option ℕ) → s ≡ now a.planes floor ceiling →
     b ≡ with_planes (planes_found a.planes key) a → number ≡ number_found a.planes key → floor_found key s ≡ now b.planes number ceiling
-enter-floor s a b key floor ceiling number e f g =
-    ap (floor_found key) e ∙ floor_found-is key a.planes floor ceiling
-    ∙ ap (λ (ps : List Plane). now ps (number_found a.planes key) ceiling) (sym (ap (λ (v : PlanesView). v.planes) f))
-    ∙ ap (λ (o : Option ℕ). now b.planes o ceiling) (sym g)
+enter-floor s a b key floor ceiling number e f g = stepped (floor_found key) (λ ps o. now ps o ceiling) _ a b e (floor_found-is key a.planes floor ceiling) f g
 
 -- the ceiling is found
 pub enter-ceiling : (s : PlanesNow) (a b : PlanesView) (key : Option PlaneKey) (floor ceiling number : Option ℕ) → s ≡ now a.planes floor ceiling →
     b ≡ with_planes (planes_found a.planes key) a → number ≡ number_found a.planes key → ceiling_found key s ≡ now b.planes floor number
-enter-ceiling s a b key floor ceiling number e f g =
-    ap (ceiling_found key) e ∙ ceiling_found-is key a.planes floor ceiling
-    ∙ ap (λ (ps : List Plane). now ps floor (number_found a.planes key)) (sym (ap (λ (v : PlanesView). v.planes) f))
-    ∙ ap (λ (o : Option ℕ). now b.planes floor o) (sym g)
+enter-ceiling s a b key floor ceiling number e f g = stepped (ceiling_found key) (λ ps o. now ps floor o) _ a b e (ceiling_found-is key a.planes floor ceiling) f g
 
 -- a plane is checked
 pub check-ceiling : (s : PlanesNow) (a b : PlanesView) (n : FragmentNumbers) (first last : ℕ) (floor ceiling number : Option ℕ) → s ≡ now a.planes floor ceiling →
     b ≡ with_planes (planes_checked a.planes (checked_plane n.ceiling_mark a.planes ceiling first last)) a →
     number ≡ number_checked ceiling (checked_plane n.ceiling_mark a.planes ceiling first last) → ceiling_check n first last s ≡ now b.planes floor number
 unfolding ceiling_check
-check-ceiling s a b n first last floor ceiling number e f g =
-    let c : Option PlaneChoice = checked_plane n.ceiling_mark a.planes ceiling first last in
-    ap (λ (t : PlanesNow). with_ceiling (checked_plane n.ceiling_mark t.planes t.ceiling first last) t) e ∙ with_ceiling-is c a.planes floor ceiling
-    ∙ ap (λ (ps : List Plane). now ps floor (number_checked ceiling c)) (sym (ap (λ (v : PlanesView). v.planes) f))
-    ∙ ap (λ (o : Option ℕ). now b.planes floor o) (sym g)
+check-ceiling s a b n first last floor ceiling number e f g = stepped (ceiling_check n first last) (λ ps o. now ps floor o) _ a b e (with_ceiling-is _ a.planes floor ceiling) f g
 
 pub check-floor : (s : PlanesNow) (a b : PlanesView) (n : FragmentNumbers) (first last : ℕ) (floor ceiling number : Option ℕ) → s ≡ now a.planes floor ceiling →
     b ≡ with_planes (planes_checked a.planes (checked_plane n.floor_mark a.planes floor first last)) a →
     number ≡ number_checked floor (checked_plane n.floor_mark a.planes floor first last) → floor_check n first last s ≡ now b.planes number ceiling
 unfolding floor_check
-check-floor s a b n first last floor ceiling number e f g =
-    let c : Option PlaneChoice = checked_plane n.floor_mark a.planes floor first last in
-    ap (λ (t : PlanesNow). with_floor (checked_plane n.floor_mark t.planes t.floor first last) t) e ∙ with_floor-is c a.planes floor ceiling
-    ∙ ap (λ (ps : List Plane). now ps (number_checked floor c) ceiling) (sym (ap (λ (v : PlanesView). v.planes) f))
-    ∙ ap (λ (o : Option ℕ). now b.planes o ceiling) (sym g)
+check-floor s a b n first last floor ceiling number e f g = stepped (floor_check n first last) (λ ps o. now ps o ceiling) _ a b e (with_floor-is _ a.planes floor ceiling) f g
 
 -- the counts of a leaf, by the planes before each step
 leaf_counts : (room : ℕ) (s : PlanesNow) (floor ceiling : Option PlaneKey) →
@@ -132,9 +121,9 @@ pub record Counts (over : Option OverLimit) (room m n : ℕ) : Type 0 where
 
 two_counts : (over : Option OverLimit) (room m n : ℕ) → over ≡ planes_over room m (planes_over room n None) → Counts over room m n
 two_counts over room m n e = record {
-  first = λ l. e ∙ planes_over-passed room m (planes_over room n None) l;
-  second = λ h l. e ∙ planes_over-within room m (planes_over room n None) h ∙ planes_over-passed room n None l;
-  none = λ h i. e ∙ planes_over-within room m (planes_over room n None) h ∙ planes_over-within room n None i;
+  first = λ l. e ∙ over_room-passed planes_count room m (planes_over room n None) l;
+  second = λ h l. e ∙ over_room-within planes_count room m (planes_over room n None) h ∙ over_room-passed planes_count room n None l;
+  none = λ h i. e ∙ over_room-within planes_count room m (planes_over room n None) h ∙ over_room-within planes_count room n None i;
 }
 
 -- a leaf's counts, where the floor left the planes b

@@ -13,7 +13,7 @@ use Rattle.wall_columns.specs.declared.column_state.ColumnState.{ColumnState}
 use Rattle.wall_edges.specs.Fragments.{FragmentValue, fragment_of}
 use Rattle.wall_columns.specs.States.{walls_view}
 use Rattle.wall_columns.specs.Columns.{plane_number}
-use Rattle.wall_columns.specs.Leaves.{now_of, ceiling_check, floor_check, planes_over, openings_over, leaf_over, checks_over}
+use Rattle.wall_columns.specs.Leaves.{now_of, ceiling_check, floor_check, over_room, openings_over, leaf_over, checks_over}
 use Rattle.wall_columns.specs.Built.{IsBuilt, limits_of, step_over, step_of_leaf, step_of_wall}
 use Rattle.wall_columns.proofs.BuiltLemmas.{built-inside, built-now}
 
@@ -25,7 +25,7 @@ on_ok (Err fault) f h = tt
 -- a leaf's counts
 pub step_over-leaf : (state : WallsView) (planes : PlanesView) (s : PlanesNow) (n : ℕ) (floor ceiling : Option PlaneKey) →
     leaf_over planes.room s floor ceiling ≡ step_over (limits_of state planes) s n (step_of_leaf floor ceiling)
-unfolding leaf_over planes_over passes_limit limit_of openings_counts plane_counts planes_count
+unfolding leaf_over over_room passes_limit limit_of openings_counts plane_counts planes_count
 step_over-leaf state planes s n floor ceiling = refl
 
 -- a fragment's counts
@@ -40,7 +40,7 @@ ends_at v walls k facts first last place =
 wall_over : (v : ViewValue) (walls : List Wall) (facts : WallFacts) (first last : ℕ) (state : WallsView) (planes : PlanesView) (s : PlanesNow) (place : ℕ) →
     openings_over state.room (place + openings_of (wall_of v facts first last)) (checks_over planes.room (fragment_numbers v facts first last) first last s)
     ≡ step_over (limits_of state planes) s place (step_of_wall v walls (wall_of v facts first last))
-unfolding openings_over planes_over checks_over passes_limit limit_of openings_counts plane_counts planes_count openings_count ceiling_checked floor_checked ceiling_check floor_check wall_step plane_wall wall_of
+unfolding over_room checks_over passes_limit limit_of openings_counts plane_counts planes_count openings_count ceiling_checked floor_checked ceiling_check floor_check wall_step plane_wall wall_of
 wall_over v walls facts first last state planes s place = refl
 
 step_over_wall : (v : ViewValue) (walls : List Wall) (facts : WallFacts) (first last : ℕ) (state : WallsView) (planes : PlanesView) (s : PlanesNow) (place : ℕ) →
@@ -57,7 +57,7 @@ some_over false o count next e = cc
 
 pub openings_over-stop : (fault : DrawFault) (room count : ℕ) (next : Option OverLimit) → IsLimitFault fault → limit_of_fault fault ≡ openings_over room count None →
     limit_of_fault fault ≡ openings_over room count next
-unfolding openings_over
+unfolding over_room
 openings_over-stop (Planes n) room count next h e = some_over (nat_lt room count) (planes_count n) count next e
 openings_over-stop (Openings n) room count next h e = some_over (nat_lt room count) (openings_count n) count next e
 openings_over-stop (ZoneFull wanted widest) room count next h e = absurd h
@@ -68,7 +68,7 @@ none_over true count next e = cc
 none_over false count next e = refl
 
 pub openings_over-next : (room count : ℕ) (next : Option OverLimit) → None ≡ openings_over room count None → next ≡ openings_over room count next
-unfolding openings_over
+unfolding over_room
 openings_over-next room count next e = none_over (nat_lt room count) count next e
 
 -- a state with the same current planes

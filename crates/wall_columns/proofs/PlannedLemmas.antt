@@ -61,18 +61,20 @@ abbrev pub look_with : ℕ → ℕ → ℤ → ℤ → ℕ → ColumnLook
 look_with number x column step map =
     record { number = number; x = x; column = to_z w32 (of_z w32 column); step = to_z w32 (of_z w32 step); map = map }
 
--- so a call that paints the strips of a plan with these paints the plan
+-- so a call that paints with these what the strips of a plan have paints the plan
 pub paints-plan : {t : PaintTools} {mark : Painter → ℕ → ℕ} {a b : PaintState} {result : Result (Unit {0}) DrawFault}
-    (v : ViewValue) (number x map : ℕ) (f : FragmentValue) (n : FragmentNumbers) (e : Edges) (plan : ColumnPlan) (column step : ℤ) →
+    (v : ViewValue) (number x map : ℕ) (f : FragmentValue) (n : FragmentNumbers) (e : Edges) (plan : ColumnPlan) (strips : List WallStrip) (column step : ℤ) →
     SFits w32 e.scale → SFits w32 step → SFits w32 column → t.colormap < length t.dir.lumps →
     step ≡ inverse_word (to_z w32 (of_z w32 e.scale)) → map ≡ scale_map v n.light (to_z w32 (of_z w32 e.scale)) →
     ((facts : WallFacts) (first last : ℕ) → f ≡ fragment_of v facts first last → column ≡ texture_column v facts x) →
-    PaintsStrips v.shape t mark (look_with number x column step map) (IsPlanTexture n plan) (strips_by n plan) a b result →
+    ((contents : List (List ℕ)) → strips_dots v.shape (painted_art contents t) (look_with number x column step map) strips
+    ≡ strips_dots v.shape (painted_art contents t) (look_with number x column step map) (strips_by n plan)) →
+    PaintsStrips v.shape t mark (look_with number x column step map) (IsPlanTexture n plan) strips a b result →
     PaintsPlan v t mark number f n x e plan a b result
-paints-plan {t} v number x map f n e plan column step s_fits t_fits c_fits there is_step is_map are one =
+paints-plan {t} v number x map f n e plan strips column step s_fits t_fits c_fits there is_step is_map are same one =
     let look = look_with number x column step map in
     paints-same _
-    (λ contents (q : WallRange) is. strips_by_look v (painted_art contents t) look n.light e.scale (strips_by n plan)
+    (λ contents (q : WallRange) is. same contents ∙ strips_by_look v (painted_art contents t) look n.light e.scale (strips_by n plan)
     (to_z-of_z t_fits ∙ is_step ∙ ap inverse_word (to_z-of_z s_fits)) (is_map ∙ ap (scale_map v n.light) (to_z-of_z s_fits))
     ∙ ap (λ (y : ℤ). joined_lists (strip_dots v (painted_art contents t) number x n.light y e.scale) (strips_by n plan))
     (to_z-of_z c_fits ∙ are q.facts q.first q.last is))

@@ -40,12 +40,18 @@ unfoldable pub floor_check : FragmentNumbers → ℕ → ℕ → PlanesNow → P
 floor_check n first last s =
     with_floor (checked_plane n.floor_mark s.planes s.floor first last) s
 
--- a count of planes, or else of openings, that passes its room
-unfoldable pub planes_over : ℕ → ℕ → Option OverLimit → Option OverLimit
-planes_over room count next = cond (nat_lt room count) (Some (planes_count count)) next
+abbrev pub both_checks : FragmentNumbers → ℕ → ℕ → PlanesNow → PlanesNow
+both_checks n first last s = floor_check n first last (ceiling_check n first last s)
 
-unfoldable pub openings_over : ℕ → ℕ → Option OverLimit → Option OverLimit
-openings_over room count next = cond (nat_lt room count) (Some (openings_count count)) next
+-- a count, of planes or else of openings, that passes its room
+unfoldable pub over_room : (ℕ → OverLimit) → ℕ → ℕ → Option OverLimit → Option OverLimit
+over_room limit room count next = cond (nat_lt room count) (Some (limit count)) next
+
+abbrev pub planes_over : ℕ → ℕ → Option OverLimit → Option OverLimit
+planes_over = over_room planes_count
+
+abbrev pub openings_over : ℕ → ℕ → Option OverLimit → Option OverLimit
+openings_over = over_room openings_count
 
 -- what a leaf's two steps, and what a fragment's three, tell
 unfoldable pub leaf_over : ℕ → PlanesNow → Option PlaneKey → Option PlaneKey → Option OverLimit
@@ -56,5 +62,4 @@ leaf_over room s floor ceiling =
 unfoldable pub checks_over : ℕ → FragmentNumbers → ℕ → ℕ → PlanesNow → Option OverLimit
 checks_over room n first last s =
     planes_over room (length (ceiling_check n first last s).planes)
-    (planes_over room (length (floor_check n first last (ceiling_check n first last s)).planes)
-    None)
+    (planes_over room (length (both_checks n first last s).planes) None)

@@ -29,11 +29,17 @@ plan_of height n clip e = record {
 }
 
 -- the middle, the upper and the lower strip; one that the fragment lacks has no row
+abbrev pub middle_strip : FragmentNumbers → ColumnPlan → WallStrip
+middle_strip n plan = record { part = n.middle_part; rows = plan.middle }
+
+abbrev pub top_strip : FragmentNumbers → ColumnPlan → WallStrip
+top_strip n plan = record { part = n.top_part; rows = plan.top }
+
+abbrev pub bottom_strip : FragmentNumbers → ColumnPlan → WallStrip
+bottom_strip n plan = record { part = n.bottom_part; rows = plan.bottom }
+
 abbrev pub strips_by : FragmentNumbers → ColumnPlan → List WallStrip
-strips_by n plan =
-    record { part = n.middle_part; rows = plan.middle }
-    ∷ (record { part = n.top_part; rows = plan.top }
-    ∷ (record { part = n.bottom_part; rows = plan.bottom } ∷ []))
+strips_by n plan = middle_strip n plan ∷ (top_strip n plan ∷ (bottom_strip n plan ∷ []))
 
 -- A part without a texture has no rows, nor have the two walls where there is a middle.
 pub record HasRowsOf (n : FragmentNumbers) (plan : ColumnPlan) : Type 0 where
@@ -44,9 +50,8 @@ pub record HasRowsOf (n : FragmentNumbers) (plan : ColumnPlan) : Type 0 where
 
 -- the one that is painted first: the middle, or the upper wall, or else the lower one
 unfoldable pub first_strip : FragmentNumbers → ColumnPlan → WallStrip
-first_strip n plan = cond (has_texture n.middle_part) (record { part = n.middle_part; rows = plan.middle })
-    (cond (has_texture n.top_part) (record { part = n.top_part; rows = plan.top })
-    (record { part = n.bottom_part; rows = plan.bottom }))
+first_strip n plan = cond (has_texture n.middle_part) (middle_strip n plan)
+    (cond (has_texture n.top_part) (top_strip n plan) (bottom_strip n plan))
 
 -- whether the lower wall is painted below an upper one
 unfoldable pub has_second : FragmentNumbers → ColumnPlan → Bool
@@ -75,10 +80,8 @@ IsStripTexture s number = HasRows s × (number ≡ s.part.number)
 
 -- a texture of one of the strips of a plan
 abbrev pub IsPlanTexture : FragmentNumbers → ColumnPlan → ℕ → Type 0
-IsPlanTexture n plan number =
-    IsStripTexture (record { part = n.middle_part; rows = plan.middle }) number
-    ⊎ (IsStripTexture (record { part = n.top_part; rows = plan.top }) number
-    ⊎ IsStripTexture (record { part = n.bottom_part; rows = plan.bottom }) number)
+IsPlanTexture n plan number = IsStripTexture (middle_strip n plan) number
+    ⊎ (IsStripTexture (top_strip n plan) number ⊎ IsStripTexture (bottom_strip n plan) number)
 
 -- a texture of one of the parts
 abbrev pub IsPartTexture : FragmentNumbers → ℕ → Type 0

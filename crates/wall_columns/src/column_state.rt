@@ -11,7 +11,7 @@ ghost use Rattle.wall_columns.specs.Plans.{plan_of, AreEdgeWords};
 ghost use Rattle.wall_columns.specs.Saved.{column_saved};
 ghost use Rattle.wall_columns.specs.Places.{places_of};
 ghost use Rattle.wall_columns.specs.Columns.{marked_planes, plane_number, columns_of, AreLeafPlanes, HasMarked, HasSaved, HasTaken, ArePlacesIn};
-ghost use Rattle.wall_columns.specs.Leaves.{now_of, ceiling_check, floor_check, openings_over, leaf_over, checks_over};
+ghost use Rattle.wall_columns.specs.Leaves.{now_of, both_checks, openings_over, leaf_over, checks_over};
 
 use crate::clips::{ColumnPlan, column_plan};
 use crate::columns::{MarkedPlanes, mark_rows, marked_plane};
@@ -129,8 +129,7 @@ impl ColumnState {
         requires within { last < FRAME_WIDTH }
         requires leaf { AreLeafPlanes planes.old.planes self.old }
         ensures ok { (s : PlanesNow) → s ≡ now_of self.old planes.old →
-            OnOk result (now_of self.new planes.new ≡ floor_check numbers.now first last
-            (ceiling_check numbers.now first last s)) }
+            OnOk result (now_of self.new planes.new ≡ both_checks numbers.now first last s) }
         ensures limit { (s : PlanesNow) → s ≡ now_of self.old planes.old →
             limit_of_result result ≡ checks_over planes.old.room numbers.now first last s }
         ensures faults { IfErr result IsPlanesFault }
@@ -158,8 +157,7 @@ impl ColumnState {
         requires within { last < FRAME_WIDTH }
         requires leaf { AreLeafPlanes planes.old.planes self.old }
         ensures ok { (s : PlanesNow) → s ≡ now_of self.old planes.old →
-            OnOk result (now_of self.new planes.new ≡ floor_check numbers.now first last
-            (ceiling_check numbers.now first last s)) }
+            OnOk result (now_of self.new planes.new ≡ both_checks numbers.now first last s) }
         ensures taken { IfOk result
             (HasTaken numbers.now (last + 1 - first) self.old.openings self.new.openings) }
         ensures limit { (s : PlanesNow) → s ≡ now_of self.old planes.old →
@@ -251,11 +249,8 @@ impl ColumnState {
         let marked = self.marked_planes(numbers);
         let mut stepper = Stepper::new(fragment);
         let mut k: u32 = 0;
-        loop {
-            let x = stepper.x;
-            let Some(edges) = stepper.next() else {
-                break;
-            };
+        while let Some(edges) = stepper.next() {
+            let x = stepper.x - 1;
             let plan = self.pass_column(planes, numbers, marked, x, &edges);
             save_column(&mut self.openings, view, fragment, x, k, places, plan.after);
             k += 1;

@@ -101,11 +101,8 @@ impl ColumnState {
         let marked = self.marked_planes(numbers);
         let mut stepper = Stepper::new(fragment);
         let mut k: u32 = 0;
-        loop {
-            let x = stepper.x;
-            let Some(edges) = stepper.next() else {
-                break;
-            };
+        while let Some(edges) = stepper.next() {
+            let x = stepper.x - 1;
             let plan = self.pass_column(tools.planes, numbers, marked, x, &edges);
             paint_plan(tools, fragment, numbers, number, x, &edges, &plan)?;
             save_column(

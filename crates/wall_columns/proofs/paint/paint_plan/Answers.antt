@@ -1,5 +1,5 @@
 -- No strip has rows, or the first is painted, and the lower wall below an upper one.
-use Rattle.std.proofs.Common.{◌≡◌, ℕ, ◌∷◌, [], refl, sym, subst, ◌∙◌, inr, rules}
+use Rattle.std.proofs.Common.{◌≡◌, ℕ, ◌∷◌, [], true, false, refl, sym, subst, ◌∙◌, inr, rules}
 use Rattle.wall_columns.specs.Rules.{FragmentNumbers, WallStrip, texture_column}
 use Rattle.texture_build.specs.Draws.{CanDraw}
 use Rattle.texture_build.specs.Paints.{painted_art}
@@ -8,9 +8,10 @@ use Rattle.wall_edges.specs.Fragments.{fragment_of}
 use Rattle.wall_columns.specs.declared.clips.ColumnPlan.{ColumnPlan}
 use Rattle.wall_columns.specs.Drawn.{WallRange}
 use Rattle.wall_columns.specs.Painted.{PaintsStrips, strip_with}
-use Rattle.wall_columns.specs.Plans.{HasRows, IsInRows, IsPlanTexture}
+use Rattle.wall_columns.specs.Plans.{HasRows, IsInRows, IsPlanTexture, bottom_strip}
 use Rattle.wall_columns.specs.Tools.{wall_state, wall_tools}
-use Rattle.wall_columns.proofs.FirstLemmas.{first-in, first-texture, first-alone, first-both}
+use Rattle.wall_columns.proofs.FirstLemmas.{first-in, first-painted, first-texture}
+use Rattle.wall_columns.proofs.PaintedLemmas.{strips-append}
 use Rattle.wall_columns.proofs.PlannedLemmas.{look_with, paints-plan, plan-none, plan-rows, plan-textures}
 use Rattle.wall_columns.proofs.ToolLemmas.{after-same, before-same}
 use Rattle.wall_columns.proofs.paint.paint_plan.Goals as goal
@@ -59,15 +60,11 @@ returns-in_err-paint_part-clause-paints g c =
 pub returns-then-not-has_second-clause-paints : goal.returns-then-not-has_second-clause-paints
 returns-then-not-has_second-clause-paints g c =
     let tools = c.args.tools.now in
-    let n : FragmentNumbers = c.args.numbers.now in
-    let plan : ColumnPlan = c.args.plan.now in
-    let look = look_with c.args.number c.args.x c.column_at.result c.inverse_word.result c.scale_map.result in
-    paints-plan tools.view.now c.args.number c.args.x c.scale_map.result c.args.fragment.now n c.args.edges.now plan c.column_at.result c.inverse_word.result
+    paints-plan tools.view.now c.args.number c.args.x c.scale_map.result c.args.fragment.now c.args.numbers.now c.args.edges.now c.args.plan.now _ c.column_at.result c.inverse_word.result
     (search rules) (search rules) (search rules) c.requires.colormap c.inverse_word.ensures c.scale_map.ensures c.column_at.ensures
-    (paints-same _
-    (λ contents q is. first-alone tools.view.now.shape (painted_art contents (wall_tools tools)) look n plan _ c.first_strip.ensures
+    (λ contents. first-painted tools.view.now.shape (painted_art contents (wall_tools tools)) _ c.args.numbers.now c.args.plan.now _ false c.first_strip.ensures
     c.requires.rows (sym c.has_second.ensures ∙ c.if-not-has_second.true))
-    (paints-wider (first-texture n plan _ c.first_strip.ensures) (λ (lump : ℕ) h. h) c.in_ok-paint_part.ensures.paints))
+    (paints-wider (first-texture c.args.numbers.now c.args.plan.now _ c.first_strip.ensures) (λ (lump : ℕ) h. h) c.in_ok-paint_part.ensures.paints)
 
 pub returns-clause-paints : goal.returns-clause-paints
 returns-clause-paints g c =
@@ -75,14 +72,14 @@ returns-clause-paints g c =
     let n : FragmentNumbers = c.args.numbers.now in
     let plan : ColumnPlan = c.args.plan.now in
     let look = look_with c.args.number c.args.x c.column_at.result c.inverse_word.result c.scale_map.result in
-    paints-plan tools.view.now c.args.number c.args.x c.scale_map.result c.args.fragment.now n c.args.edges.now plan c.column_at.result c.inverse_word.result
+    paints-plan tools.view.now c.args.number c.args.x c.scale_map.result c.args.fragment.now n c.args.edges.now plan _ c.column_at.result c.inverse_word.result
     (search rules) (search rules) (search rules) c.requires.colormap c.inverse_word.ensures c.scale_map.ensures c.column_at.ensures
-    (paints-same _
-    (λ contents q is. first-both tools.view.now.shape (painted_art contents (wall_tools tools)) look n plan _ c.first_strip.ensures
+    (λ contents. first-painted tools.view.now.shape (painted_art contents (wall_tools tools)) look n plan _ true c.first_strip.ensures
     c.requires.rows (sym c.has_second.ensures ∙ c.if-not-has_second.false))
+    (paints-same _ (λ contents q is. strips-append tools.view.now.shape (painted_art contents (wall_tools tools)) look (_ ∷ []) (bottom_strip n plan ∷ []))
     (paints-then
     (paints-wider (first-texture n plan _ c.first_strip.ensures) (λ (lump : ℕ) h. h) c.in_ok-paint_part.ensures.paints)
-    (before-same c.args.tools.now c.paint_part.new.tools (λ v t. PaintsStrips v.shape t g.C.Canvas.mark look (IsPlanTexture n plan) (strip_with n.bottom_part plan.bottom ∷ [])
+    (before-same c.args.tools.now c.paint_part.new.tools (λ v t. PaintsStrips v.shape t g.C.Canvas.mark look (IsPlanTexture n plan) (bottom_strip n plan ∷ [])
     (wall_state g.S.Shelf.view g.C.Canvas.view c.paint_part.new.tools) (wall_state g.S.Shelf.view g.C.Canvas.view c.paint_second.new.tools) c.paint_second.result)
     c.in_ok-paint_part.ensures.same
     (paints-wider (λ (number : ℕ) h. inr (inr h)) (λ (lump : ℕ) h. h) c.paint_second.ensures.paints))))

@@ -1,11 +1,10 @@
 -- The two planes are checked one after the other, and the first count past the room is told.
-use Rattle.std.proofs.Common.{◌<◌, ◌∙◌, length, ap, sym, refl, arith}
+use Rattle.std.proofs.Common.{◌<◌, length, sym, refl, arith}
 use Rattle.picture_rules.specs.Words.{checked_plane}
 use Rattle.visplanes.specs.Planes.{with_planes}
 use Rattle.wall_columns.specs.Columns.{plane_number}
-use Rattle.wall_columns.specs.Faults.{limit_of_fault}
 use Rattle.wall_columns.specs.Leaves.{planes_checked}
-use Rattle.wall_columns.proofs.LeafLemmas.{limit-passed_on, checks_over-counts, check-ceiling, check-floor}
+use Rattle.wall_columns.proofs.LeafLemmas.{limit-told, checks_over-counts, check-ceiling, check-floor}
 use Rattle.wall_columns.proofs.column_state.ColumnState.check_planes.Goals as goal
 
 pub returns-in_err-self-clause-limit : goal.returns-in_err-self-clause-limit
@@ -15,9 +14,7 @@ returns-in_err-self-clause-limit c = λ s e.
     let ceiling = plane_number c.args.self.now.ceiling in
     let counts = checks_over-counts planes.room s planes n c.args.first c.args.last (plane_number c.args.self.now.floor) ceiling e
     (with_planes (planes_checked planes.planes (checked_plane n.ceiling_mark planes.planes ceiling c.args.first c.args.last)) planes) refl in
-    limit-passed_on c.from_residual.result c.in_err-self.field-0.0 c.from_residual.ensures.0 c.from_residual.ensures.1
-    ∙ ap limit_of_fault c.in_err-self.ensures.fault
-    ∙ sym (counts.first (c.in_err-self.ensures.full.0 refl))
+    limit-told c.from_residual.result _ c.from_residual.ensures.0 c.from_residual.ensures.1 c.in_err-self.ensures.fault (counts.first (c.in_err-self.ensures.full.0 refl))
 
 pub returns-in_err-self-2-clause-limit : goal.returns-in_err-self-2-clause-limit
 returns-in_err-self-2-clause-limit c = λ s e.
@@ -29,9 +26,8 @@ returns-in_err-self-2-clause-limit c = λ s e.
     let room = c.in_ok-self.ensures.room in
     let past : c.check_plane.new.planes.room < length (planes_checked c.check_plane.new.planes.planes (checked_plane n.floor_mark c.check_plane.new.planes.planes floor c.args.first c.args.last)) =
     c.in_err-self-2.ensures.full.0 refl in
-    limit-passed_on c.from_residual-in_err-self-2.result c.in_err-self-2.field-0.0 c.from_residual-in_err-self-2.ensures.0 c.from_residual-in_err-self-2.ensures.1
-    ∙ ap limit_of_fault c.in_err-self-2.ensures.fault
-    ∙ sym (counts.second c.in_ok-self.ensures.full.1 (omega arith))
+    limit-told c.from_residual-in_err-self-2.result _ c.from_residual-in_err-self-2.ensures.0 c.from_residual-in_err-self-2.ensures.1 c.in_err-self-2.ensures.fault
+    (counts.second c.in_ok-self.ensures.full.1 (omega arith))
 
 pub returns-clause-ok : goal.returns-clause-ok
 returns-clause-ok c = λ s e.

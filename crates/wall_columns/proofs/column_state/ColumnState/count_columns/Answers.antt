@@ -1,5 +1,5 @@
 -- A column more is marked and saved.
-use Rattle.std.proofs.Common.{◌≡◌, ◌<◌, ◌+◌, ℕ, length, ap, ◌∙◌, arith}
+use Rattle.std.proofs.Common.{◌≡◌, ◌<◌, ◌+◌, ◌-◌, ℕ, length, ap, ◌∙◌, arith}
 use Rattle.picture_rules.specs.Words.{edges_at, FRAME_WIDTH, texture_column}
 use Rattle.wall_edges.specs.Fragments.{FragmentValue}
 use Rattle.wall_columns.specs.declared.column_state.ColumnState.{ColumnState}
@@ -18,15 +18,15 @@ pub loop-edges-preserved : goal.loop-edges-preserved
 loop-edges-preserved c =
     let f : FragmentValue = c.args.fragment.now in
     let k : ℕ = c.loop-edges.k in
-    let x : ℕ = c.loop-edges.stepper.x in
+    let x : ℕ = c.next.new.self.x - 1 in
     let now : ColumnState = c.loop-edges.self in
     let passed : ColumnState = c.pass_column-plan.new.self in
     let next : ColumnState = record { windows = passed.windows; openings = c.save_column.new.openings; floor = passed.floor; ceiling = passed.ceiling } in
     let at = c.loop-edges.invariant.at in
     let step = c.in-Some.ensures.column f k at in
     let later = step.1 in
-    let is : x ≡ f.first + k = at.x in
     let a = later.x in let b = later.left in let d = at.within in
+    let is : x ≡ f.first + k = omega arith in
     let inside : x < FRAME_WIDTH = omega arith in
     let p = c.pass_column-plan.ensures in
     let passes = passes-as c.args.numbers.now f.numbers x c.in-Some.edges (edges_at f.shape f.numbers k) now next c.loop-edges.planes c.pass_column-plan.new.planes c.pass_column-plan.result.after

@@ -1,5 +1,5 @@
 -- A column more is marked, painted and saved.
-use Rattle.std.proofs.Common.{◌≡◌, ◌<◌, ◌+◌, ℕ, length, Ok, Err, ap, sym, refl, subst, ◌∙◌, arith}
+use Rattle.std.proofs.Common.{◌≡◌, ◌<◌, ◌+◌, ◌-◌, ℕ, length, Ok, Err, ap, sym, refl, subst, ◌∙◌, arith}
 use Rattle.wall_columns.specs.Rules.{ColumnClip, Edges, FRAME_WIDTH, ViewValue, WallFacts, edges_at, texture_column}
 use Rattle.texture_build.specs.Paints.{painted_art}
 use Rattle.texture_build.proofs.PaintLemmas.{paints-none, paints-same, paints-then, paints-then_stop}
@@ -40,16 +40,16 @@ paint_plan-requires-clause-strips g c =
     let start = c.args.tools.now in
     let now = c.loop-edges.tools in
     let later = can_paint-later start.view.now f i.paints c.requires.paints in (
-      strips-in now.view.now c.loop-edges.self.windows.height c.args.numbers.now (window_at c.loop-edges.self.windows c.loop-edges.stepper.x) c.in-Some.edges c.pass_column-plan.result
+      strips-in now.view.now c.loop-edges.self.windows.height c.args.numbers.now (window_at c.loop-edges.self.windows (c.next.new.self.x - 1)) c.in-Some.edges c.pass_column-plan.result
           p.plan height p.most p.rows (subst P (sym step.0) (edges_at-words f.shape f.numbers c.loop-edges.k)),
       strips-drawn now.view.now (wall_tools now) (wall_state g.S.Shelf.view g.C.Canvas.view now) f c.loop-edges.self.windows.height c.args.numbers.now
-          (window_at c.loop-edges.self.windows c.loop-edges.stepper.x) c.in-Some.edges c.pass_column-plan.result p.plan c.requires.numbers
+          (window_at c.loop-edges.self.windows (c.next.new.self.x - 1)) c.in-Some.edges c.pass_column-plan.result p.plan c.requires.numbers
           (after-same c.args.tools.now c.loop-edges.tools (λ v t. CanPaint v t (wall_state g.S.Shelf.view g.C.Canvas.view now) f) i.same later),
     )
 
 pub paint_plan-requires-clause-rows : goal.paint_plan-requires-clause-rows
 paint_plan-requires-clause-rows g c =
-    rows-of c.loop-edges.self.windows.height c.args.numbers.now (window_at c.loop-edges.self.windows c.loop-edges.stepper.x) c.in-Some.edges c.pass_column-plan.result
+    rows-of c.loop-edges.self.windows.height c.args.numbers.now (window_at c.loop-edges.self.windows (c.next.new.self.x - 1)) c.in-Some.edges c.pass_column-plan.result
     c.pass_column-plan.ensures.plan
 
 pub returns-in_err-paint_plan-clause-paints : goal.returns-in_err-paint_plan-clause-paints
@@ -57,14 +57,14 @@ returns-in_err-paint_plan-clause-paints g c =
     let i = c.loop-edges.invariant in
     let f : FragmentValue = c.args.fragment.now in
     let k : ℕ = c.loop-edges.k in
-    let x : ℕ = c.loop-edges.stepper.x in
+    let x : ℕ = c.next.new.self.x - 1 in
     let now = c.loop-edges.tools in
     let after = c.paint_plan.new.tools in
     let window : ℕ → ColumnClip = window_at c.args.self.now.windows in
     let step = c.in-Some.ensures.column f k i.at in
     let later = step.1 in
-    let is : x ≡ f.first + k = i.at.x in
     let a = later.x in let b = later.left in let d = i.at.within in
+    let is : x ≡ f.first + k = omega arith in
     let inside : x < FRAME_WIDTH = omega arith in
     let one = paints-column now.view.now (wall_tools now) g.C.Canvas.mark c.args.number f window x c.loop-edges.self.windows.height c.args.numbers.now
     (window_at c.loop-edges.self.windows x) c.in-Some.edges c.pass_column-plan.result c.pass_column-plan.ensures.plan c.requires.numbers
@@ -76,7 +76,7 @@ returns-in_err-paint_plan-clause-paints g c =
 
 pub returns-in_err-paint_plan-clause-height : goal.returns-in_err-paint_plan-clause-height
 returns-in_err-paint_plan-clause-height g c =
-    height_of c.loop-edges.self.windows c.pass_column-plan.new.self.windows c.loop-edges.stepper.x c.pass_column-plan.result.after c.pass_column-plan.ensures.windows
+    height_of c.loop-edges.self.windows c.pass_column-plan.new.self.windows (c.next.new.self.x - 1) c.pass_column-plan.result.after c.pass_column-plan.ensures.windows
     ∙ c.loop-edges.invariant.marked.height
 
 pub loop-edges-preserved : goal.loop-edges-preserved
@@ -84,7 +84,7 @@ loop-edges-preserved g c =
     let i = c.loop-edges.invariant in
     let f : FragmentValue = c.args.fragment.now in
     let k : ℕ = c.loop-edges.k in
-    let x : ℕ = c.loop-edges.stepper.x in
+    let x : ℕ = c.next.new.self.x - 1 in
     let start = c.args.tools.now in
     let tools = c.loop-edges.tools in
     let state : ColumnState = c.loop-edges.self in
@@ -93,8 +93,8 @@ loop-edges-preserved g c =
     let q = c.in_ok-paint_plan.ensures in
     let step = c.in-Some.ensures.column f k i.at in
     let later = step.1 in
-    let is : x ≡ f.first + k = i.at.x in
     let a = later.x in let b = later.left in let d = i.at.within in
+    let is : x ≡ f.first + k = omega arith in
     let inside : x < FRAME_WIDTH = omega arith in
     let p = c.pass_column-plan.ensures in
     let before = start.planes.now in

@@ -1,10 +1,9 @@
 -- The two planes are found one after the other, and the first count past the room is told.
-use Rattle.std.proofs.Common.{◌<◌, ◌∙◌, length, ap, sym, refl, arith}
+use Rattle.std.proofs.Common.{◌<◌, length, ap, sym, refl, arith}
 use Rattle.visplanes.specs.Planes.{PlanesView, with_planes}
 use Rattle.wall_columns.specs.Columns.{plane_number}
-use Rattle.wall_columns.specs.Faults.{limit_of_fault}
 use Rattle.wall_columns.specs.Leaves.{planes_found}
-use Rattle.wall_columns.proofs.LeafLemmas.{limit-passed_on, leaf_over-counts, enter-floor, enter-ceiling, among-longer, longer_found}
+use Rattle.wall_columns.proofs.LeafLemmas.{limit-told, leaf_over-counts, enter-floor, enter-ceiling, among-longer, longer_found}
 use Rattle.wall_columns.proofs.column_state.ColumnState.enter.Goals as goal
 
 pub returns-in_err-self-clause-limit : goal.returns-in_err-self-clause-limit
@@ -12,9 +11,7 @@ returns-in_err-self-clause-limit c = λ s e.
     let planes = c.args.planes.now in
     let counts = leaf_over-counts planes.room s planes c.args.leaf.floor c.args.leaf.ceiling (plane_number c.args.self.now.floor) (plane_number c.args.self.now.ceiling) e
     (with_planes (planes_found planes.planes c.args.leaf.floor) planes) refl in
-    limit-passed_on c.from_residual.result c.in_err-self.field-0.0 c.from_residual.ensures.0 c.from_residual.ensures.1
-    ∙ ap limit_of_fault c.in_err-self.ensures.fault
-    ∙ sym (counts.first (c.in_err-self.ensures.full.0 refl))
+    limit-told c.from_residual.result _ c.from_residual.ensures.0 c.from_residual.ensures.1 c.in_err-self.ensures.fault (counts.first (c.in_err-self.ensures.full.0 refl))
 
 pub returns-in_err-self-2-clause-limit : goal.returns-in_err-self-2-clause-limit
 returns-in_err-self-2-clause-limit c = λ s e.
@@ -23,9 +20,8 @@ returns-in_err-self-2-clause-limit c = λ s e.
     c.find_plane.new.planes c.in_ok-self.ensures.ok in
     let room = c.in_ok-self.ensures.room in
     let past : c.find_plane.new.planes.room < length (planes_found c.find_plane.new.planes.planes c.args.leaf.ceiling) = c.in_err-self-2.ensures.full.0 refl in
-    limit-passed_on c.from_residual-in_err-self-2.result c.in_err-self-2.field-0.0 c.from_residual-in_err-self-2.ensures.0 c.from_residual-in_err-self-2.ensures.1
-    ∙ ap limit_of_fault c.in_err-self-2.ensures.fault
-    ∙ sym (counts.second c.in_ok-self.ensures.full.1 (omega arith))
+    limit-told c.from_residual-in_err-self-2.result _ c.from_residual-in_err-self-2.ensures.0 c.from_residual-in_err-self-2.ensures.1 c.in_err-self-2.ensures.fault
+    (counts.second c.in_ok-self.ensures.full.1 (omega arith))
 
 pub returns-clause-ok : goal.returns-clause-ok
 returns-clause-ok c = λ s e.

@@ -4,7 +4,7 @@ use Rattle.picture_rules.specs.Words.{openings_count}
 use Rattle.wall_columns.specs.declared.notes.SavePlaces.{SavePlaces}
 use Rattle.wall_columns.specs.Faults.{limit_of_fault}
 use Rattle.wall_columns.specs.Places.{places_of}
-use Rattle.wall_columns.proofs.LeafLemmas.{limit-passed_on, openings_over-passed, openings_over-within}
+use Rattle.wall_columns.proofs.LeafLemmas.{limit-passed_on, over_room-passed, over_room-within}
 use Rattle.wall_columns.proofs.NoteLemmas.{places_of-end, places_of-within}
 use Rattle.wall_columns.proofs.column_state.ColumnState.take_openings.Goals as goal
 
@@ -22,7 +22,7 @@ returns-in_err-extend-clause-limit c =
     limit-passed_on c.from_residual.result c.in_err-extend.field-0.0 c.from_residual.ensures.0 c.from_residual.ensures.1
     ∙ ap limit_of_fault c.in_err-extend.ensures.fault
     ∙ ap (λ (n : ℕ). Some (openings_count n)) e
-    ∙ sym (openings_over-passed room _ None (let l : room < c.save_places-places.result.end = c.in_err-extend.ensures.full.0 refl in omega arith))
+    ∙ sym (over_room-passed openings_count room _ None (let l : room < c.save_places-places.result.end = c.in_err-extend.ensures.full.0 refl in omega arith))
 
 pub returns-clause-taken : goal.returns-clause-taken
 returns-clause-taken c = record {
@@ -38,4 +38,4 @@ returns-clause-limit c =
     let room : ℕ = c.args.self.now.openings.room in
     let e : c.save_places-places.result.end ≡ (places_of c.args.numbers.now (length c.args.self.now.openings.saved) (c.args.last + 1 - c.args.first)).end =
     ap (λ (p : SavePlaces). p.end) c.save_places-places.ensures ∙ ap (λ (n : ℕ). (places_of c.args.numbers.now n (c.args.last + 1 - c.args.first)).end) c.count.ensures.value in
-    sym (openings_over-within room _ None (λ l. c.in_ok-extend.ensures.full.1 (omega arith)))
+    sym (over_room-within openings_count room _ None (λ l. c.in_ok-extend.ensures.full.1 (omega arith)))
