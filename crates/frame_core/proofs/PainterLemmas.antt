@@ -1,6 +1,6 @@
 -- Laws of a painter: an event that it was given after others, and a whole walk.
 use Rattle.picture_rules.proofs.Common.{[], ap, arith, drop, Err, err_from_is_err_and, IfErr, IfErr-weaker, IfSome, IfSome_then, IsErrAnd, List, None, Ok, on_ok_weaker, OnOk, Option, refl, Result, Some, subst, sym, take, take-append-drop, ℕ, ◌++◌, ◌∙◌, ◌∷◌, ◌≡◌}
-use Rattle.frame_core.specs.Rules.{Dot, Event, FragmentEvent, Heap, LeafEvent, LimitKind, Limits, OverLimit, Painter, Scene, SceneValue, ShelfView, ViewValue, openings_count, planes_count, steps_over, view_events, view_over, view_steps}
+use Rattle.frame_core.specs.Rules.{Dot, Event, FragmentEvent, Heap, LeafEvent, LevelLists, LimitKind, Limits, OverLimit, Painter, Scene, SceneValue, ShelfView, ViewValue, openings_count, planes_count, steps_over, view_events, view_over, view_steps}
 use Rattle.scene_rules.proofs.Laws.{order_none}
 use Rattle.texture_build.specs.DirectoryView.{DirectoryView}
 use Rattle.texture_build.specs.Caches.{KeepsCounts}
@@ -152,11 +152,18 @@ stopped_all mark start now n events stop h = record {
   paints = paints-stop refl refl h.paints;
 }
 
-pub painter-walked : (mark : Painter → ℕ → ℕ) (p q : PainterValue) (events : List Event) (result : Result (Unit {0}) ViewFault) →
+painter-walked : (mark : Painter → ℕ → ℕ) (p q : PainterValue) (events : List Event) (result : Result (Unit {0}) ViewFault) →
     ((bytes : ℕ → List ℕ) → HasWalked p.scene.view bytes p.scene.scene (limits_in p.bench) [] p.bench) → PainterVisits mark p q events result → HasPainted mark p q events result
 painter-walked mark p q events (Ok unit) walked visits = visits.ok.each p [] (painted_none mark p walked)
 painter-walked mark p q events (Err stop) walked visits =
     stopped_all mark p q visits.err.count events stop (visits.err.each p [] (painted_none mark p walked))
+
+-- the whole walk of a view, of the lists of its scene
+pub painter-viewed : (mark : Painter → ℕ → ℕ) (p q : PainterValue) (lists : LevelLists) {result : Result (Unit {0}) ViewFault} → lists ≡ lists_of p.scene.scene →
+    ((bytes : ℕ → List ℕ) → HasWalked p.scene.view bytes p.scene.scene (limits_in p.bench) [] p.bench) → PainterVisits mark p q (view_events p.scene.view lists) result →
+    HasPainted mark p q (view_events p.scene.view (lists_of p.scene.scene)) result
+painter-viewed mark p q lists {result} e walked visits =
+    subst (λ (l : LevelLists). HasPainted mark p q (view_events p.scene.view l) result) e (painter-walked mark p q (view_events p.scene.view lists) result walked visits)
 
 -- a bench that was lent for it has the whole walk
 pub bench-walked : {E : Type 0} (v : ViewValue) (scene : SceneValue) (limits : Limits) (b now : Bench) (result : Result (Unit {0}) E) → b ≡ now → limits_in now ≡ limits →

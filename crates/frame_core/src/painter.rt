@@ -12,9 +12,9 @@ ghost use Rattle.frame_core.specs.Painters.{HasWalkedNothing, HasWalkedView, IsP
 use crate::bench::Bench;
 use crate::fault::ViewFault;
 use crate::tools::ViewTools;
-use crate::walked::walk_view;
+use crate::walked::walked_scene;
 use art_rules::Shelf;
-use node_walk::Visitor;
+use node_walk::{Cover, Visitor, walk};
 use pixel_strips::Canvas;
 use sound_scene::SoundScene;
 use texture_build::{Directory, LumpCache};
@@ -92,6 +92,8 @@ pub(crate) fn draw_walls<S: Shelf, C: Canvas>(
 {
     let view = tools.view;
     let scene = tools.scene;
+    let walked = walked_scene(scene);
+    let mut cover = Cover::new(view.shape().width);
     let mut painter = ViewPainter {
         bench,
         scene,
@@ -101,5 +103,5 @@ pub(crate) fn draw_walls<S: Shelf, C: Canvas>(
         shelf: &mut *tools.shelf,
         canvas: &mut *tools.canvas,
     };
-    walk_view(scene, view, &mut painter)
+    walk(&walked, view, &mut cover, &mut painter)
 }
