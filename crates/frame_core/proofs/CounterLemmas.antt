@@ -8,7 +8,7 @@ use Rattle.frame_core.specs.declared.bench.Bench.{Bench}
 use Rattle.frame_core.specs.Scenes.{lists_of, scene_of}
 use Rattle.frame_core.specs.Views.{CanCount}
 use Rattle.frame_core.specs.Walked.{CanTake, HasWalked, IsEventIn}
-use Rattle.frame_core.specs.Painters.{CanCountNext, CounterValue, HasCounted, HasCountedView, limits_in}
+use Rattle.frame_core.specs.Painters.{CanCountNext, CounterValue, HasCounted, HasCountedView, HasWalkedNothing, limits_in}
 use Rattle.frame_core.proofs.PainterLemmas.{all-ok, bench-walked, longer, view-over, visits-one}
 
 all_over : {A E X : Type 0} (P : X → E → Type 0) (result : Result A E) → ((x : X) → IfErr result (P x)) → IfErr result (λ e. (x : X) → P x e)
@@ -75,7 +75,7 @@ counter_visits {e} p q result given =
     (λ ok event can. takes_later p q e event (subst (IsCounted p.view p.scene p q e) ok given) can)
 
 -- a walk of a counter that no event was given
-pub counted_none : (p : CounterValue) → ((bytes : ℕ → List ℕ) → HasWalked p.view bytes p.scene (limits_in p.bench) [] p.bench) → HasCounted p p [] (Ok tt)
+pub counted_none : (p : CounterValue) → HasWalkedNothing p.view p.scene p.bench → HasCounted p p [] (Ok tt)
 counted_none p walked = record { view = refl; scene = refl; name = refl; limits = refl; walked = walked; over = tt }
 
 pub stopped_all : (start now : CounterValue) (n : ℕ) (events : List Event) (stop : OverLimit) → HasCounted start now (take n events) (Err stop) → HasCounted start now events (Err stop)
@@ -89,7 +89,7 @@ stopped_all start now n events stop h = record {
 }
 
 pub counter-walked : (p q : CounterValue) (events : List Event) (result : Result (Unit {0}) OverLimit) →
-    ((bytes : ℕ → List ℕ) → HasWalked p.view bytes p.scene (limits_in p.bench) [] p.bench) → CounterVisits p q events result → HasCounted p q events result
+    HasWalkedNothing p.view p.scene p.bench → CounterVisits p q events result → HasCounted p q events result
 counter-walked p q events (Ok unit) walked visits = visits.ok.each p [] (counted_none p walked)
 counter-walked p q events (Err stop) walked visits =
     stopped_all p q visits.err.count events stop (visits.err.each p [] (counted_none p walked))

@@ -6,7 +6,7 @@ use Rattle.node_walk.specs.Visits.{Visits}
 use Rattle.frame_core.specs.declared.bench.Bench.{Bench}
 use Rattle.frame_core.specs.Scenes.{lists_of, scene_of}
 use Rattle.frame_core.specs.Walked.{HasWalked}
-use Rattle.frame_core.specs.Painters.{CanCountNext, CounterValue, HasWalkedView, limits_in}
+use Rattle.frame_core.specs.Painters.{CanCountNext, CounterValue, HasWalkedNothing, HasWalkedView, limits_in}
 use Rattle.frame_core.specs.ViewLists.{HasListed, WalkListValue, listed_planes, listed_sprites, nothing_listed}
 use Rattle.frame_core.specs.Listers.{HasGathered, IsListedView, ListerValue}
 use Rattle.frame_core.proofs.CounterLemmas.{CounterVisits, counted_none, stopped_all}
@@ -59,7 +59,7 @@ lists-stopped p q e stop result told visits =
       };
     })
 
-gathered_none : (p : ListerValue) → ((bytes : ℕ → List ℕ) → HasWalked p.counter.view bytes p.counter.scene (limits_in p.counter.bench) [] p.counter.bench) → p.list ≡ nothing_listed → HasGathered p p [] (Ok tt)
+gathered_none : (p : ListerValue) → HasWalkedNothing p.counter.view p.counter.scene p.counter.bench → p.list ≡ nothing_listed → HasGathered p p [] (Ok tt)
 gathered_none p walked empty = record {
   counted = counted_none p.counter walked;
   name = refl;
@@ -68,7 +68,7 @@ gathered_none p walked empty = record {
 
 -- the whole walk of a view
 pub lister-walked : (p q : ListerValue) (events : List Event) (result : Result (Unit {0}) OverLimit) →
-    ((bytes : ℕ → List ℕ) → HasWalked p.counter.view bytes p.counter.scene (limits_in p.counter.bench) [] p.counter.bench) → p.list ≡ nothing_listed → ListerVisits p q events result → HasGathered p q events result
+    HasWalkedNothing p.counter.view p.counter.scene p.counter.bench → p.list ≡ nothing_listed → ListerVisits p q events result → HasGathered p q events result
 lister-walked p q events (Ok unit) walked empty visits = visits.ok.each p [] (gathered_none p walked empty)
 lister-walked p q events (Err stop) walked empty visits =
     let h = visits.err.each p [] (gathered_none p walked empty) in

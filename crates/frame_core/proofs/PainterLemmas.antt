@@ -24,7 +24,7 @@ use Rattle.frame_core.specs.Faults.{from_draw, limit_of_view, view_fault}
 use Rattle.frame_core.specs.Scenes.{lists_of, scene_of}
 use Rattle.frame_core.specs.Views.{CanDrawView, PaintsView, ViewScene, held_scene}
 use Rattle.frame_core.specs.Walked.{CanTake, HasWalked, IsEventIn, next_dots}
-use Rattle.frame_core.specs.Painters.{CanPaintNext, HasPainted, HasWalkedView, IsPlacedIn, PainterValue, drawn_walls, limits_in}
+use Rattle.frame_core.specs.Painters.{CanPaintNext, HasPainted, HasWalkedNothing, HasWalkedView, IsPlacedIn, PainterValue, drawn_walls, limits_in}
 use Rattle.frame_core.proofs.PaintLemmas.{can_draw_view-later, placed-later}
 use Rattle.frame_core.proofs.DotLemmas.{drawn_walls-fragment, drawn_walls-leaf, drawn_walls-none}
 use Rattle.frame_core.proofs.StepLemmas.{over-stays}
@@ -124,7 +124,7 @@ painter-visits {mark} {e} {dots} p q result given =
     (λ ok event can. takes_later mark p q e dots event (subst (IsGiven mark p.scene p q e dots) ok given) can)
 
 -- a walk of a painter that no event was given
-painted_none : (mark : Painter → ℕ → ℕ) (p : PainterValue) → ((bytes : ℕ → List ℕ) → HasWalked p.scene.view bytes p.scene.scene (limits_in p.bench) [] p.bench) →
+painted_none : (mark : Painter → ℕ → ℕ) (p : PainterValue) → HasWalkedNothing p.scene.view p.scene.scene p.bench →
     HasPainted mark p p [] (Ok tt)
 painted_none mark p walked = record {
   scene = refl;
@@ -152,8 +152,13 @@ stopped_all mark start now n events stop h = record {
   paints = paints-stop refl refl h.paints;
 }
 
+<<<<<<< HEAD
 painter-walked : (mark : Painter → ℕ → ℕ) (p q : PainterValue) (events : List Event) (result : Result (Unit {0}) ViewFault) →
     ((bytes : ℕ → List ℕ) → HasWalked p.scene.view bytes p.scene.scene (limits_in p.bench) [] p.bench) → PainterVisits mark p q events result → HasPainted mark p q events result
+=======
+pub painter-walked : (mark : Painter → ℕ → ℕ) (p q : PainterValue) (events : List Event) (result : Result (Unit {0}) ViewFault) →
+    HasWalkedNothing p.scene.view p.scene.scene p.bench → PainterVisits mark p q events result → HasPainted mark p q events result
+>>>>>>> h3/main
 painter-walked mark p q events (Ok unit) walked visits = visits.ok.each p [] (painted_none mark p walked)
 painter-walked mark p q events (Err stop) walked visits =
     stopped_all mark p q visits.err.count events stop (visits.err.each p [] (painted_none mark p walked))

@@ -126,49 +126,56 @@ fn judged_row(alloc: Global, kind: Kind, row: &str) -> Judged {
     }
 }
 
-// Rows, each taken, or with a field out of its range in that column.
-fn rows() -> &'static [(Kind, &'static str, Option<u64>)] {
+// Rows that are taken.
+fn rows_within() -> &'static [(Kind, &'static str)] {
     &[
-        (Kind::Things, "0,!!!!,A,0,0,0", None),
-        (Kind::Things, "65535,~~~~,],1,32767,1", None),
-        (Kind::Things, "65536,TREE,A,0,0,0", Some(0)),
-        (Kind::Things, "1,TRE ,A,0,0,0", Some(1)),
-        (Kind::Things, "1,TRE\x7f,A,0,0,0", Some(1)),
-        (Kind::Things, "1,TREE,@,0,0,0", Some(2)),
-        (Kind::Things, "1,TREE,^,0,0,0", Some(2)),
-        (Kind::Things, "1,TREE,A,0,32768,0", Some(4)),
-        (
-            Kind::Path,
-            "-2147483648,-2147483648,-2147483648,0,0,0",
-            None,
-        ),
+        (Kind::Things, "0,!!!!,A,0,0,0"),
+        (Kind::Things, "65535,~~~~,],1,32767,1"),
+        (Kind::Path, "-2147483648,-2147483648,-2147483648,0,0,0"),
         (
             Kind::Path,
             "2147483647,2147483647,2147483647,4294967295,15,32",
-            None,
         ),
-        (Kind::Path, "2147483648,0,0,0,0,0", Some(0)),
-        (Kind::Path, "0,-2147483649,0,0,0,0", Some(1)),
-        (Kind::Path, "0,0,0,4294967296,0,0", Some(3)),
-        (Kind::Path, "0,0,0,0,16,0", Some(4)),
-        (Kind::Path, "0,0,0,0,0,33", Some(5)),
-        (Kind::Weapons, "0,!!!!,A,0,-2147483648,-2147483648", None),
-        (Kind::Weapons, "9999,~~~~,],1,2147483647,2147483647", None),
-        (Kind::Weapons, "10000,TREE,A,0,0,0", Some(0)),
-        (Kind::Weapons, "0,TREE,A,2,0,0", Some(3)),
-        (Kind::Weapons, "0,TREE,A,0,0,2147483648", Some(5)),
+        (Kind::Weapons, "0,!!!!,A,0,-2147483648,-2147483648"),
+        (Kind::Weapons, "9999,~~~~,],1,2147483647,2147483647"),
+    ]
+}
+
+// Rows with a field out of its range, and its column.
+fn rows_past() -> &'static [(Kind, &'static str, u64)] {
+    &[
+        (Kind::Things, "65536,TREE,A,0,0,0", 0),
+        (Kind::Things, "1,TRE ,A,0,0,0", 1),
+        (Kind::Things, "1,TRE\x7f,A,0,0,0", 1),
+        (Kind::Things, "1,TREE,@,0,0,0", 2),
+        (Kind::Things, "1,TREE,^,0,0,0", 2),
+        (Kind::Things, "1,TREE,A,0,32768,0", 4),
+        (Kind::Path, "2147483648,0,0,0,0,0", 0),
+        (Kind::Path, "0,-2147483649,0,0,0,0", 1),
+        (Kind::Path, "0,0,0,4294967296,0,0", 3),
+        (Kind::Path, "0,0,0,0,16,0", 4),
+        (Kind::Path, "0,0,0,0,0,33", 5),
+        (Kind::Weapons, "10000,TREE,A,0,0,0", 0),
+        (Kind::Weapons, "0,TREE,A,2,0,0", 3),
+        (Kind::Weapons, "0,TREE,A,0,0,2147483648", 5),
     ]
 }
 
 #[test]
 fn fields_have_their_ranges(rt: HostRuntime) {
-    let alloc = rt.alloc();
-    for (kind, row, column) in rows() {
-        let expected = match *column {
-            None => Ok(()),
-            Some(column) => Err(Some(CsvRefusal::Range { row: 1, column })),
+    for (kind, row) in rows_within() {
+        assert_eq!(rt; judged_row(rt.alloc(), *kind, row), Ok(()), "{row}");
+    }
+    for (kind, row, column) in rows_past() {
+        let range = CsvRefusal::Range {
+            row: 1,
+            column: *column,
         };
-        assert_eq!(rt; judged_row(alloc, *kind, row), expected, "{row}");
+        assert_eq!(rt;
+            judged_row(rt.alloc(), *kind, row),
+            Err(Some(range)),
+            "{row}"
+        );
     }
 }
 
