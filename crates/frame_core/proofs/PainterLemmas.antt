@@ -152,20 +152,15 @@ stopped_all mark start now n events stop h = record {
   paints = paints-stop refl refl h.paints;
 }
 
-<<<<<<< HEAD
 painter-walked : (mark : Painter → ℕ → ℕ) (p q : PainterValue) (events : List Event) (result : Result (Unit {0}) ViewFault) →
-    ((bytes : ℕ → List ℕ) → HasWalked p.scene.view bytes p.scene.scene (limits_in p.bench) [] p.bench) → PainterVisits mark p q events result → HasPainted mark p q events result
-=======
-pub painter-walked : (mark : Painter → ℕ → ℕ) (p q : PainterValue) (events : List Event) (result : Result (Unit {0}) ViewFault) →
     HasWalkedNothing p.scene.view p.scene.scene p.bench → PainterVisits mark p q events result → HasPainted mark p q events result
->>>>>>> h3/main
 painter-walked mark p q events (Ok unit) walked visits = visits.ok.each p [] (painted_none mark p walked)
 painter-walked mark p q events (Err stop) walked visits =
     stopped_all mark p q visits.err.count events stop (visits.err.each p [] (painted_none mark p walked))
 
 -- the whole walk of a view, of the lists of its scene
 pub painter-viewed : (mark : Painter → ℕ → ℕ) (p q : PainterValue) (lists : LevelLists) {result : Result (Unit {0}) ViewFault} → lists ≡ lists_of p.scene.scene →
-    ((bytes : ℕ → List ℕ) → HasWalked p.scene.view bytes p.scene.scene (limits_in p.bench) [] p.bench) → PainterVisits mark p q (view_events p.scene.view lists) result →
+    HasWalkedNothing p.scene.view p.scene.scene p.bench → PainterVisits mark p q (view_events p.scene.view lists) result →
     HasPainted mark p q (view_events p.scene.view (lists_of p.scene.scene)) result
 painter-viewed mark p q lists {result} e walked visits =
     subst (λ (l : LevelLists). HasPainted mark p q (view_events p.scene.view l) result) e (painter-walked mark p q (view_events p.scene.view lists) result walked visits)
