@@ -1,4 +1,4 @@
-use Rattle.std.proofs.Common.{◌≡◌, ◌∙◌, ◌+◌, ◌<◌, ◌≤◌, ap, sym, subst, ℕ, List, length, Option, None, Some, option_map, Err, true, false, refl, rules, arith, inl, inr}
+use Rattle.std.proofs.Common.{◌≡◌, ◌∙◌, ◌+◌, ◌<◌, ◌≤◌, ap, sym, subst, subst₂, ℕ, List, length, Option, None, Some, option_map, Err, true, false, refl, rules, arith, inl, inr}
 use Rattle.std.specs.Prelude.{All, IfSome, ◌⊎◌, is_some}
 use Rattle.std.proofs.lemmas.Bool.{false≢true, cases_lt}
 use Rattle.std.proofs.lemmas.Result.{err_from_is_err_and}
@@ -11,7 +11,7 @@ use Rattle.lump_cache.proofs.FaithLemmas.{bytes_in, some_bytes, file_stands, fil
 use Rattle.lump_cache.proofs.MissLemmas.{fetch_hit, miss_full, miss_ok, miss_read}
 use Rattle.lump_cache.proofs.fetching.fetch_lump.Given.{Over}
 use Rattle.lump_cache.proofs.fetching.fetch_lump.Goals as goal
-use Rattle.lump_cache.proofs.fetching.fetch_lump.Goals.{After-from_residual, After-read_into, Then-size-eq0}
+use Rattle.lump_cache.proofs.fetching.fetch_lump.Goals.{After-read_into}
 
 -- the slot was live: only the tag changed
 pub returns-in-Some-clause-fetches : goal.returns-in-Some-clause-fetches
@@ -50,18 +50,18 @@ returns-in_err-malloc-clause-fetches g c =
 room : (old : Heap) (size wanted : ℕ) → size ≡ wanted → (All (λ x. total x < block_size size) (gaps old.blocks) → false ≡ true) → All (λ x. total x < block_size wanted) (gaps old.blocks) → ⊥
 room old size wanted is full all = false≢true (full (subst (λ n. All (λ x. total x < block_size n) (gaps old.blocks)) (sym is) all))
 
--- an empty lump
-taken_empty : (g : Over) (c : Then-size-eq0 g) → TakesBlock c.args.zone.now c.malloc.new.self (lump_owner c.args.lump.0) (lump_at c.args.dir.now.lumps c.args.lump.0).size c.args.tag
-taken_empty g c = subst (λ n. TakesBlock c.args.zone.now c.malloc.new.self (lump_owner c.args.lump.0) n c.args.tag) c.size-size.ensures (subst (λ n. TakesBlock c.args.zone.now c.malloc.new.self (owner_at 0 n) c.size-size.result c.args.tag) c.lump_slot-2.ensures c.in_ok-malloc.ensures.ok)
+-- the block that was taken, by the directory's names of the lump and of its size
+taken_is : {old new : Heap} {number lump asked size : ℕ} {tag : Tag} → number ≡ lump → asked ≡ size → TakesBlock old new (owner_at 0 number) asked tag → TakesBlock old new (lump_owner lump) size tag
+taken_is {old} {new} {tag} slot is t = subst₂ (λ n m. TakesBlock old new (owner_at 0 n) m tag) slot is t
 
+-- an empty lump
 pub returns-then-size-eq0-clause-fetches : goal.returns-then-size-eq0-clause-fetches
 returns-then-size-eq0-clause-fetches g c =
-    let d = (goal.at.returns-then-size-eq0-clause-fetches g c).Then-size-eq0 in
     let old = c.args.zone.now in
     let new = c.malloc.new.self in
     let o = lump_owner c.args.lump.0 in
     let view = g.S.Shelf.view c.args.shelf.now in
-    let t = taken_empty g d in
+    let t = taken_is c.lump_slot-2.ensures c.size-size.ensures c.in_ok-malloc.ensures.ok in
     let zero = sym c.size-size.ensures ∙ c.if-size-eq0.true in
     miss_ok c.args.dir.now c.args.lump.0 c.args.tag view old c.requires.sound new (search rules)
     (λ p apart. beside old new p _ (c.in_ok-malloc.ensures.others p (ap (λ n. same_owner (owner_at 0 n) p) c.lump_slot-2.ensures ∙ apart)))
@@ -69,9 +69,9 @@ returns-then-size-eq0-clause-fetches g c =
     (λ contents stand. some_bytes o new.blocks t.bytes _ (ap bytes_in t.block) (nothing_is_lump contents c.args.dir.now.lumps c.args.lump.0 t.bytes (t.len ∙ zero) zero))
     (λ some. absurd (omega (arith, some, zero))) (λ z. refl)
 
--- the block that was taken
+-- one that is read
 taken : (g : Over) (c : After-read_into g) → TakesBlock c.args.zone.now c.malloc.new.self (lump_owner c.args.lump.0) (lump_at c.args.dir.now.lumps c.args.lump.0).size c.args.tag
-taken g c = subst (λ n. TakesBlock c.args.zone.now c.malloc.new.self (lump_owner c.args.lump.0) n c.args.tag) c.size-size.ensures (subst (λ n. TakesBlock c.args.zone.now c.malloc.new.self (owner_at 0 n) c.size-size.result c.args.tag) c.lump_slot-2.ensures c.in_ok-malloc.ensures.ok)
+taken g c = taken_is c.lump_slot-2.ensures c.size-size.ensures c.in_ok-malloc.ensures.ok
 
 others : (g : Over) (c : After-read_into g) (o : Owner) → same_owner (lump_owner c.args.lump.0) o ≡ false → KeptOrPurged (owned_block o c.args.zone.now.blocks) (owned_block o c.read_into.new.zone.blocks)
 others g c o apart =
