@@ -1,16 +1,18 @@
 -- What is told of a part that reads no lump.
 use Rattle.art_rules.proofs.Common.{ap, Err, err_from_is_err_and, List, Ok, Option, refl, Result, subst, sym, true, ℕ, ◌∙◌, ◌≡◌}
-use Rattle.level_audit.specs.Rules.{Fault, Heap, LevelValue, Placed, PreparedTexture, ResultIs, Scene, SceneRefusal, Seg, ShelfView, SideTextures, TextureLists, bad_middle, checked, faces_in, fault_above, from_below, itself, texture_by}
+use Rattle.level_audit.specs.Rules.{AuditRefusal, Faces, Fault, Heap, LevelBase, LevelValue, Placed, PreparedTexture, ResultIs, Scene, SceneRefusal, SceneValue, Seg, ShelfView, SideTextures, TextureLists, ThingLine, bad_middle, checked, faces_in, fault_above, from_below, itself, scene_on, scene_with, texture_by}
 use Rattle.texture_build.specs.DirectoryView.{DirectoryView}
 use Rattle.texture_build.specs.Calls.{ReadsLumps}
-use Rattle.texture_build.proofs.CallLemmas.{result_above, reads_above, reads_known, reads_memory, reads_refused}
+use Rattle.texture_build.proofs.CallLemmas.{result_above, reads_above, reads_known, reads_memory, reads_refused, reads_wider}
 use Rattle.level_scene.specs.declared.fault.SceneFault.{SceneFault}
 use Rattle.level_scene.specs.declared.fault.SceneFault.TheVariants.{Refused, OutOfMemory}
 use Rattle.level_scene.specs.Faults.{scene_fault}
+use Rattle.level_audit.specs.Asked.{IsOfArt, IsOfScene}
 use Rattle.level_audit.specs.Faults.{above_scene}
 use Rattle.art_rules.proofs.Laws.{IsThrough}
 use Rattle.sound_scene.specs.declared.parts.ReadFaces.{ReadFaces}
 use Rattle.sound_scene.specs.Scenes.{faces_of}
+use Rattle.level_audit.proofs.StepLemmas.{scene_on-more}
 
 -- a call of a layer below whose refusal is named here
 through_above : {B R Q : Type 0} (lift : R → Q) (one : Result B (Fault R)) (result : Result B (Fault Q)) → IsThrough (λ e f. f ≡ fault_above lift e) one result → result ≡ result_above (fault_above lift) one
@@ -47,3 +49,11 @@ pub faces_told : (view : ShelfView) (dir : DirectoryView) (z : Heap) (wants : �
     ResultIs scene_fault true faces_of (faces_in dir.lumps name level lent) result → ReadsLumps itself view view dir z z wants faces_of (λ bytes. from_below Scene (faces_in dir.lumps name level lists)) (result_above above_scene result)
 faces_told view dir z wants name level lists lent result e answers =
     tells_part view dir z wants result (subst (λ (l : TextureLists). ResultIs scene_fault true faces_of (faces_in dir.lumps name level l) result) e answers)
+
+-- the art, where the names in the level mean something, is the scene
+pub of_scene : {B : Type 0} {v w : ShelfView} {dir : DirectoryView} {a b : Heap} {value : B → SceneValue} {lines : List ThingLine} {skill : ℕ} {name : List ℕ} {base : LevelBase} {faces : Faces} {lent : TextureLists} {result : Result B (Fault AuditRefusal)} →
+    lent ≡ base.lists → faces_in dir.lumps name base.level lent ≡ Ok faces → ReadsLumps itself v w dir a b (IsOfArt dir.lumps lines skill base faces) value (λ bytes. scene_with bytes dir.lumps lines skill base faces) result →
+    ReadsLumps itself v w dir a b (IsOfScene dir.lumps lines skill name base) value (λ bytes. scene_on bytes dir.lumps lines skill name base) result
+of_scene {dir} {lines} {skill} {name} {base} {faces} {result} same meant art =
+    let are : faces_in dir.lumps name base.level base.lists ≡ Ok faces = subst (λ (lists : TextureLists). faces_in dir.lumps name base.level lists ≡ Ok faces) same meant in
+    reads_wider result (λ lump asked. record { faces = faces; are = are; asked = asked }) (λ bytes. sym (scene_on-more bytes dir.lumps lines skill name base faces (ap (from_below Scene) are))) art

@@ -2,16 +2,15 @@
 //
 // Rules: `scene_rules`, Scenes (`scene_on`); `specs/Scenes`. The original: `P_SetupLevel`,
 // p_setup.c, `R_PrecacheLevel`, r_data.c.
-ghost use Rattle.level_audit.specs.Rules.{IsSkill, MAX_TEXTURES, book_lumps, itself, need_of, scene_on, scene_over, scene_with};
-ghost use Rattle.std.specs.Prelude.{◌≡◌, ◌<◌, ◌≤◌, ◌⊎◌, All, length, map, IfOk, IfSome, OnOk};
+ghost use Rattle.level_audit.specs.Rules.{IsSkill, MAX_TEXTURES, book_lumps, itself, need_of, scene_on, scene_over};
+ghost use Rattle.std.specs.Prelude.{◌≡◌, ◌<◌, ◌≤◌, ◌⊎◌, All, length, map, IfOk, OnOk};
 ghost use Rattle.texture_build.specs.Calls.{ReadsLumps};
 ghost use Rattle.texture_build.specs.Views.{IsPrepared};
 ghost use Rattle.sprite_book.specs.Calls.{IsWanted};
-ghost use Rattle.level_scene.specs.Bounds.{AreBelow};
 ghost use Rattle.sound_scene.specs.Bases.{base_of};
-ghost use Rattle.level_audit.specs.Asked.{IsOfArt, IsOfScene};
+ghost use Rattle.level_audit.specs.Asked.{IsOfScene};
 ghost use Rattle.sound_scene.specs.Scenes.{faces_of, scene_value};
-ghost use Rattle.sound_scene.specs.Whole.{IsMiddleSingle, IsWholeArt, IsWholeScene};
+ghost use Rattle.sound_scene.specs.Whole.{IsMiddleSingle, IsWholeScene};
 
 use crate::AuditFault;
 use crate::art::{prepare_faces, read_book};
@@ -74,33 +73,6 @@ pub fn read_scene<S: Shelf>(
         Ok(faces) => faces,
         Err(fault) => return Err(above_scene(fault)),
     };
-    read_art(alloc, base, faces, request, dir, cache, shelf)
-}
-
-// The scene over a base and the faces of its level.
-fn read_art<S: Shelf>(
-    alloc: Global,
-    base: ReadBase,
-    faces: ReadFaces,
-    request: &MapRequest,
-    dir: &Directory,
-    cache: &mut LumpCache,
-    shelf: &mut S,
-) -> Result<ReadScene, AuditFault>
-    requires slots { length dir.now.lumps ≤ cache.old.lumps }
-    requires skill { IsSkill request.now.skill }
-    requires sides { length faces.sides.items ≡ length base.level.sides }
-    requires below { All (AreBelow (length base.textures.lists.textures)) faces.sides.items }
-    requires sky { IfSome faces.sky (λ tex. tex.0 < length base.textures.lists.textures) }
-    ensures tells { ReadsLumps itself (S.view shelf.old) (S.view shelf.new) dir.now cache.old
-        cache.new (IsOfArt dir.now.lumps request.now.things.now request.now.skill (base_of base)
-        (faces_of faces)) scene_value (λ bytes. scene_with bytes dir.now.lumps
-        request.now.things.now request.now.skill (base_of base) (faces_of faces)) result }
-    ensures base { IfOk result (λ scene. base_of scene.base ≡ base_of base) }
-    ensures faces { IfOk result (λ scene. scene.faces ≡ faces) }
-    ensures art { IfOk result (λ scene. IsWholeArt dir.now.lumps request.now.things.now
-        request.now.skill (scene_value scene)) }
-{
     let mut base = base;
     prepare_faces(
         alloc,

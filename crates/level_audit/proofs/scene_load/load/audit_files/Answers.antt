@@ -29,25 +29,24 @@ returns-in_err-scene g c =
     let level = level_job_value c.args.level.now in
     let files = c.args.files.now in
     let found = value_of files in
-    let fault = c.in_err-scene.field-0.0 in
     let result = c.from_residual.result in
     let was = c.in_err-scene.was in
     let is = c.from_residual.ensures.1 in
     record {
-      answers = λ contents told. scene_stopped _ level found fault result (e.answers contents told) was is;
+      answers = λ contents told. scene_stopped _ level found _ result (e.answers contents told) was is;
       full = λ contents told.
-          same_full (IsFullOver (lump_bytes contents files.dir.lumps) level found) c.audit.result fault result
+          same_full (IsFullOver (lump_bytes contents files.dir.lumps) level found) c.audit.result _ result
           (audit_full contents level files c.audit.result told c.requires.empty c.requires.size e.full e.found e.room e.gap e.enough) was is;
-      audited = none_given _ fault result is;
-      fresh = none_given _ fault result is;
+      audited = none_given _ _ result is;
+      fresh = none_given _ _ result is;
       counts = e.counts;
       faithful = e.faithful;
       order = λ contents expected told accepted order.
           let all = items_all _ level found expected accepted in
           let K = KeepsOrder (loaded_items expected) c.args.cache.now c.audit.new.cache (g.S.Shelf.view c.args.shelf.now).taken (g.S.Shelf.view c.audit.new.shelf).taken in
-          call_order (λ _. K) K K c.audit.result fault result (e.order contents (loaded_items expected) told (λ lump read. all lump (inl read)) order) was is (λ k. k);
+          call_order (λ _. K) K K c.audit.result _ result (e.order contents (loaded_items expected) told (λ lump read. all lump (inl read)) order) was is (λ k. k);
       follows = e.follows;
-      causes = causes_after c.audit.result fault result (omega arith) e.causes was is;
+      causes = causes_after c.audit.result _ result (omega arith) e.causes was is;
     }
 
 pub returns-in_err-weapons : goal.returns-in_err-weapons
@@ -58,31 +57,29 @@ returns-in_err-weapons g c =
     let files = c.args.files.now in
     let found = value_of files in
     let scene = c.in_ok-scene.scene.scene in
-    let fault = c.in_err-weapons.field-0.0 in
     let result = c.from_residual-in_err-weapons.result in
     let was = c.in_err-weapons.was in
     let is = c.from_residual-in_err-weapons.ensures.1 in
     let counts = tells.keeps.counts in
     record {
       answers = λ contents told.
-          layers_stopped _ level found scene fault result (e.answers contents told).ok e.follows.steady (tells.answers contents (told_after e.follows e.faithful contents told)) was is;
+          layers_stopped _ level found scene _ result (e.answers contents told).ok e.follows.steady (tells.answers contents (told_after e.follows e.faithful contents told)) was is;
       full = λ contents told.
-          same_full (IsFullOver (lump_bytes contents files.dir.lumps) level found) c.audit_layers.result fault result
+          same_full (IsFullOver (lump_bytes contents files.dir.lumps) level found) c.audit_layers.result _ result
           (layers_full contents level files scene c.audit_layers.result (e.answers contents told).ok e.colormap (e.rest c.requires.empty) (e.counts.0 ∙ c.requires.size) tells.full) was is;
-      audited = none_given _ fault result is;
-      fresh = none_given _ fault result is;
+      audited = none_given _ _ result is;
+      fresh = none_given _ _ result is;
       counts = (counts.0 ∙ e.counts.0, counts.1 ∙ e.counts.1, counts.2 ∙ e.counts.2);
       faithful = λ contents stand faithful. tells.keeps.faithful contents (all_stand_later _ _ files.dir.files contents e.follows stand) (e.faithful contents stand faithful);
       order = λ contents expected told accepted order.
-          let items = loaded_items expected in
           let all = items_all _ level found expected accepted in
-          let one = e.order contents items told (λ lump read. all lump (inl read)) order in
-          let two = tells.order items (λ lump asked. all lump (inr asked)) one.order in
-          let K = KeepsOrder items c.args.cache.now c.audit_layers.new.cache (g.S.Shelf.view c.args.shelf.now).taken (g.S.Shelf.view c.audit_layers.new.shelf).taken in
-          call_order (λ _. K) K K c.audit_layers.result fault result
+          let one = e.order contents (loaded_items expected) told (λ lump read. all lump (inl read)) order in
+          let two = tells.order (loaded_items expected) (λ lump asked. all lump (inr asked)) one.order in
+          let K = KeepsOrder (loaded_items expected) c.args.cache.now c.audit_layers.new.cache (g.S.Shelf.view c.args.shelf.now).taken (g.S.Shelf.view c.audit_layers.new.shelf).taken in
+          call_order (λ _. K) K K c.audit_layers.result _ result
           (order_after itself c.audit_layers.new.cache (g.S.Shelf.view c.audit_layers.new.shelf).taken c.audit_layers.result one two) was is (λ k. k);
       follows = follows_then e.follows tells.keeps.follows;
-      causes = causes_after c.audit_layers.result fault result e.follows.faults tells.causes was is;
+      causes = causes_after c.audit_layers.result _ result e.follows.faults tells.causes was is;
     }
 
 pub returns : goal.returns
@@ -121,10 +118,9 @@ returns g c =
       counts = (counts.0 ∙ e.counts.0, counts.1 ∙ e.counts.1, counts.2 ∙ e.counts.2);
       faithful = λ contents stand faithful. tells.keeps.faithful contents (all_stand_later _ _ files.dir.files contents e.follows stand) (e.faithful contents stand faithful);
       order = λ contents expected told accepted order.
-          let items = loaded_items expected in
           let all = items_all _ level found expected accepted in
-          let one = e.order contents items told (λ lump read. all lump (inl read)) order in
-          order_then one (tells.order items (λ lump asked. all lump (inr asked)) one.order);
+          let one = e.order contents (loaded_items expected) told (λ lump read. all lump (inl read)) order in
+          order_then one (tells.order (loaded_items expected) (λ lump asked. all lump (inr asked)) one.order);
       follows = follows_then e.follows tells.keeps.follows;
       causes = record { err = tt };
     }

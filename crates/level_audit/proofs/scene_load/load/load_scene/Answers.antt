@@ -19,20 +19,19 @@ returns-in_err-files g c =
     let e = c.read_files.ensures in
     let level = level_job_value c.args.level.now in
     let wads = map (λ (wad : Bor (List ℕ)). wad.now) c.args.wads.now in
-    let fault = c.in_err-files.field-0.0 in
     let result = c.from_residual.result in
     let was = c.in_err-files.was in
     let is = c.from_residual.ensures.1 in
     record {
-      answers = λ files holds. files_stopped level wads files fault result (e.answers files holds) was is;
-      full = λ files holds. files_full (IsFullLoad level wads files) c.read_files.result fault result e.full was is;
-      loaded = none_given _ fault result is;
-      holds = λ files contents holds named. none_given _ fault result is;
+      answers = λ files holds. files_stopped level wads files _ result (e.answers files holds) was is;
+      full = λ files holds. files_full (IsFullLoad level wads files) c.read_files.result _ result e.full was is;
+      loaded = none_given _ _ result is;
+      holds = λ files contents holds named. none_given _ _ result is;
       order = λ files contents expected holds named loads room.
           let read = e.taken_of files contents holds named in
-          files_order _ _ c.read_files.result fault result e.full was is (omega (arith, read));
+          files_order _ _ c.read_files.result _ result e.full was is (omega (arith, read));
       follows = e.follows;
-      causes = causes_after c.read_files.result fault result (omega arith) e.causes was is;
+      causes = causes_after c.read_files.result _ result (omega arith) e.causes was is;
     }
 
 pub returns-in_err-cache : goal.returns-in_err-cache
@@ -40,20 +39,19 @@ returns-in_err-cache g c =
     let e = c.in_ok-files.ensures in
     let level = level_job_value c.args.level.now in
     let wads = map (λ (wad : Bor (List ℕ)). wad.now) c.args.wads.now in
-    let fault = c.in_err-cache.field-0.0 in
     let result = c.from_residual-in_err-cache.result in
     let memory = c.in_err-cache.ensures.memory in
     let is = c.from_residual-in_err-cache.ensures.1 in
     record {
-      answers = λ files holds. memory_agrees _ fault result memory is;
-      full = λ files holds. memory_full (IsFullLoad level wads files) fault result memory is;
-      loaded = none_given _ fault result is;
-      holds = λ files contents holds named. none_given _ fault result is;
+      answers = λ files holds. memory_agrees _ _ result memory is;
+      full = λ files holds. memory_full (IsFullLoad level wads files) _ result memory is;
+      loaded = none_given _ _ result is;
+      holds = λ files contents holds named. none_given _ _ result is;
       order = λ files contents expected holds named loads room.
           let read = e.taken_of files contents holds named in
-          memory_order _ _ fault result memory is (omega (arith, read));
+          memory_order _ _ _ result memory is (omega (arith, read));
       follows = e.follows;
-      causes = memory_causes fault result memory is;
+      causes = memory_causes _ result memory is;
     }
 
 pub returns-in_err-scene : goal.returns-in_err-scene
@@ -61,7 +59,6 @@ returns-in_err-scene g c =
     let e = c.in_ok-files.ensures in
     let later = c.audit_level.ensures in
     let level = level_job_value c.args.level.now in
-    let fault = c.in_err-scene.field-0.0 in
     let result = c.from_residual-in_err-scene.result in
     let was = c.in_err-scene.was in
     let is = c.from_residual-in_err-scene.ensures.1 in
@@ -69,22 +66,22 @@ returns-in_err-scene g c =
       answers = λ files holds.
           let are = (e.answers files holds).ok in
           let told = told_wads level _ files _ are (λ contents named. e.contents files contents holds named) c.in_ok-cache.ensures.faithful in
-          audit_stopped level _ files _ fault result are e.follows.steady (later.answers _ told) was is;
+          audit_stopped level _ files _ _ result are e.follows.steady (later.answers _ told) was is;
       full = λ files holds.
           let are = (e.answers files holds).ok in
           let told = told_wads level _ files _ are (λ contents named. e.contents files contents holds named) c.in_ok-cache.ensures.faithful in
-          load_full level _ files _ c.audit_level.result fault result are (later.full _ told) was is;
-      loaded = none_given _ fault result is;
-      holds = λ files contents holds named. none_given _ fault result is;
+          load_full level _ files _ c.audit_level.result _ result are (later.full _ told) was is;
+      loaded = none_given _ _ result is;
+      holds = λ files contents holds named. none_given _ _ result is;
       order = λ files contents expected holds named loads room.
           let are = (e.answers files holds).ok in
           let told = told_wads level _ files _ are (λ contents named. e.contents files contents holds named) c.in_ok-cache.ensures.faithful in
           let first : IsInOrder (loaded_items expected) c.in_ok-cache.cache = c.in_ok-cache.ensures.order (loaded_items expected) (items_roomy expected level.settings.zone room) in
           let read = e.taken_of files contents holds named in
-          call_order _ _ (KeepsOrder (loaded_items expected) c.in_ok-cache.cache c.audit_level.new.cache (g.S.Shelf.view c.read_files.new.shelf).taken (g.S.Shelf.view c.audit_level.new.shelf).taken) c.audit_level.result fault result
+          call_order _ _ (KeepsOrder (loaded_items expected) c.in_ok-cache.cache c.audit_level.new.cache (g.S.Shelf.view c.read_files.new.shelf).taken (g.S.Shelf.view c.audit_level.new.shelf).taken) c.audit_level.result _ result
           (later.order _ expected told (audited_of level _ files _ expected are loads) first) was is (λ k. omega (arith, read, lumps_taken expected k));
       follows = follows_then e.follows later.follows;
-      causes = causes_after c.audit_level.result fault result e.follows.faults later.causes was is;
+      causes = causes_after c.audit_level.result _ result e.follows.faults later.causes was is;
     }
 
 pub returns : goal.returns
