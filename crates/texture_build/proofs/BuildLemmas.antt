@@ -1,11 +1,11 @@
 -- The steps by which a composite is built, one after another.
 use Rattle.art_rules.proofs.Common.{[], ap, arith, Contains, Err, err_from_is_err_and, false, IfErr, IsErrAnd, List, MatchResult, Ok, refl, Result, subst, sym, ℕ, ◌+◌, ◌<◌, ◌∙◌, ◌∷◌, ◌≡◌, ◌≤◌}
 use Rattle.texture_build.specs.Rules.{FaultsRose, HasCauses, Lump, PlacedPatch, PreparedTexture, ResultIs, ShelfView, lump_at}
-use Rattle.art_rules.proofs.Laws.{all_stand_later, follows_none, follows_then}
+use Rattle.art_rules.proofs.Laws.{all_stand_later, follows_then}
 use Rattle.lump_cache.specs.Zones.{Owner, Heap, owned_block, block_size, same_owner}
 use Rattle.lump_cache.specs.Orders.{Item, KeepsOrder}
 use Rattle.lump_cache.proofs.GapLemmas.{small_all}
-use Rattle.zone_rules.proofs.OrderLemmas.{order_none, order_then}
+use Rattle.zone_rules.proofs.OrderLemmas.{order_then}
 use Rattle.lump_cache.specs.DirectoryView.{DirectoryView}
 use Rattle.lump_cache.specs.declared.fault.CacheFault.{CacheFault}
 use Rattle.lump_cache.specs.declared.fault.CacheFault.TheVariants.{ZoneFull, ReadFault}
@@ -14,7 +14,7 @@ use Rattle.lump_cache.specs.Calls.{IfFull, InOrderAt, HoldContents}
 use Rattle.lump_cache.specs.Sizes.{IsGapBesideTwo}
 use Rattle.texture_build.specs.Asked.{IsGapBesideComposite, size_of}
 use Rattle.texture_build.specs.Builds.{KeepsBuild, IsFullForPatch, PutsPatches}
-use Rattle.texture_build.proofs.FillLemmas.{others_none, others_then}
+use Rattle.texture_build.proofs.FillLemmas.{others_then}
 
 -- an error that goes on is the same
 pub same_error : {B E : Type 0} (result : Result B E) (fault : E) (P : Result B E → Type 0) → IsErrAnd result (λ e. e ≡ fault) → P (Err fault) → P result
@@ -37,17 +37,7 @@ order_after items x y z a b c (Ok done) k next = order_then k next
 order_after items x y z a b c (Err (ZoneFull wanted widest')) k next = next
 order_after items x y z a b c (Err ReadFault) k next = tt
 
--- no step, and one after another
-pub keeps_build_none : (number : ℕ) (view : ShelfView) (dir : DirectoryView) (z : Heap) → KeepsBuild number view view dir z z
-keeps_build_none number view dir z = record {
-  follows = follows_none view;
-  counts = (refl, refl, refl);
-  rest = λ colormap count k. k;
-  faithful = λ contents stand k. k;
-  others = others_none number z;
-  building = λ size k. k;
-}
-
+-- one step after another
 module _ {number : ℕ} {u v w : ShelfView} {dir : DirectoryView} {x y z : Heap} where
   pub keeps_build_then : KeepsBuild number u v dir x y → KeepsBuild number v w dir y z → KeepsBuild number u w dir x z
   keeps_build_then first next = record {

@@ -1,5 +1,5 @@
 -- What a composite that is being built is, where its bytes or other blocks change.
-use Rattle.art_rules.proofs.Common.{[], ap, Bool, cond, cond-true, false, IfSome, IsSome, length, List, map, None, Option, option_and_then, option_map, refl, Some, subst, sym, true, ℕ, ◌==◌, ◌∙◌, ◌∷◌, ◌≡◌}
+use Rattle.art_rules.proofs.Common.{[], ap, Bool, cond, cond-true, false, IsSome, length, List, map, None, Option, option_and_then, option_map, refl, Some, subst, sym, true, ℕ, ◌==◌, ◌∙◌, ◌∷◌, ◌≡◌}
 use Rattle.art_rules.specs.Words.{Lump}
 use Rattle.lump_cache.specs.Tag.TheVariants.{Level}
 use Rattle.lump_cache.specs.Zones.{Owner, Holding, Block, Heap, IsLive, is_held_by, owned_block, bytes_of, same_owner, pins}
@@ -8,7 +8,7 @@ use Rattle.lump_cache.specs.Orders.{Item, IsInOrder, KeepsOrder}
 use Rattle.lump_cache.proofs.OwnerLemmas.{owned_block-map, write_held}
 use Rattle.lump_cache.proofs.OrderChangeLemmas.{order_written}
 use Rattle.lump_cache.specs.Caches.{HasAsked, HasBlock, HasUse, IsAsked, IsAtRestExcept, IsFaithful, IsFilled, IsPinned, KeepsCounts, KeptOrPurged, composite_owner}
-use Rattle.lump_cache.proofs.CallLemmas.{bytes_stay, bytes_then}
+use Rattle.lump_cache.proofs.CallLemmas.{bytes_then}
 use Rattle.lump_cache.proofs.FaithLemmas.{bytes_in}
 use Rattle.lump_cache.proofs.FillLemmas.{filled_others}
 use Rattle.lump_cache.proofs.RestButLemmas.{rest_but_written, written_pinned}
@@ -58,9 +58,6 @@ pub building_same : {number : ℕ} (size : ℕ) {old new : Heap} → owned_block
 building_same size e b = record { pinned = subst IsPinned (sym e) b.pinned; asked = subst (HasAsked size) (sym e) b.asked }
 
 -- the bytes of other composites
-pub others_none : (number : ℕ) (z : Heap) → OthersKeep number z z
-others_none number z = record { at = λ n apart. bytes_stay (bytes_of (composite_owner n) z.blocks) }
-
 pub others_then : {number : ℕ} {x y z : Heap} → OthersKeep number x y → OthersKeep number y z → OthersKeep number x z
 others_then {x} {y} {z} first next = record { at = λ n apart. bytes_then (bytes_of (composite_owner n) x.blocks) (bytes_of (composite_owner n) y.blocks) (bytes_of (composite_owner n) z.blocks) (first.at n apart) (next.at n apart) }
 
