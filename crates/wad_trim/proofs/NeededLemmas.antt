@@ -1,9 +1,10 @@
 -- Each lump that is copied is one that the level needs.
-use Rattle.art_rules.proofs.Common.{[], All-contains, All-from_recursion, AllByRecursion, ap, arith, Bool, bytes_eq, bytes_eq-Decides, cond, eq-eqb, false, filter, inl, inr, length, List, list_any, map, nat_le, nat_tests, None, not, Ok, ok_or, Option, option_and_then, option_map_or, or-true, or_cases, range_with_len, refl, Some, subst, suc, sym, true, zero, ℕ, ⊤, ◌+◌, ◌<◌, ◌==◌, ◌∙◌, ◌∷◌, ◌≡◌, ◌≤◌}
+use Rattle.art_rules.proofs.Common.{[], All-contains, All-from_recursion, AllByRecursion, ap, arith, Bool, bytes_eq, bytes_eq-Decides, cond, eq-eqb, false, filter, inl, inr, length, List, list_any, map, nat_le, nat_tests, None, not, Ok, Option, option_and_then, option_map_or, or-true, or_cases, range_with_len, refl, Some, subst, suc, sym, true, zero, ℕ, ⊤, ◌+◌, ◌<◌, ◌==◌, ◌∙◌, ◌∷◌, ◌≡◌, ◌≤◌}
 use Rattle.wad_trim.specs.Rules.{COLORMAP, COLORMAP_SIZE, Copy, F_END, F_START, Label, Lump, MAP_LUMPS, Mark, NoMap, PALETTE_SIZE, PLAYPAL, PNAMES, S_END, S_START, SceneArt, SceneValue, TEXTURE1, TEXTURE2, ThingLine, TrimPart, called_lumps, colormap_of, copy_part, fixed_lumps, flat_lumps, group_parts, has_flat, has_name, if_long, is_last, is_list, is_map_lump, is_needed, is_patch_of_any, is_wanted_texture, label_of, label_or_copy, last_list, last_of, listed_last, lump_at, map_of, map_parts, patch_lumps, picture_lumps, playpal_of, trim_parts, trim_plan}
 use Rattle.sound_scene.specs.Sound.{art_with}
 use Rattle.sound_scene.proofs.NeededLemmas.{for_colormap, for_list, for_map, for_palette, for_patch, for_picture}
 use Rattle.sound_scene.proofs.SceneLemmas.{IsSceneOf, base_parts}
+use Rattle.trim_rules.proofs.AnswerLemmas.{some_value}
 use Rattle.trim_rules.proofs.CalledLemmas.{IsLastOfName}
 use Rattle.trim_rules.proofs.LastLemmas.{fixed-last, patches-last}
 use Rattle.trim_rules.proofs.MemberLemmas.{is_lump-at}
@@ -151,10 +152,6 @@ module _ (lumps : List Lump) (art : SceneArt) (name : List ℕ)
       (copied (filter (λ n. not (has_name lumps name n)) (called_lumps lumps art.prepared))
       (all-filter IsNeeded (λ n. not (has_name lumps name n)) (called_lumps lumps art.prepared) called))))
 
-some_of : {X E : Type 0} (o : Option X) (e : E) (x : X) → ok_or o e ≡ Ok x → o ≡ Some x
-some_of None e x is = cc
-some_of (Some y) e x is = let same : y ≡ x = cc in ap Some same
-
 long_last : (lumps : List Lump) (size n : ℕ) (o : Option ℕ) → option_and_then (if_long lumps size) o ≡ Some n → o ≡ Some n
 long_last lumps size n None e = absurd (cc)
 long_last lumps size n (Some m) e = long_same (nat_le size (lump_at lumps m).size) e
@@ -165,15 +162,15 @@ long_last lumps size n (Some m) e = long_same (nat_le size (lump_at lumps m).siz
 
 palette_last : (lumps : List Lump) (n : ℕ) → playpal_of lumps ≡ Ok n → last_of lumps PLAYPAL ≡ Some n
 unfolding playpal_of
-palette_last lumps n is = long_last lumps PALETTE_SIZE n (last_of lumps PLAYPAL) (some_of _ _ n is)
+palette_last lumps n is = long_last lumps PALETTE_SIZE n (last_of lumps PLAYPAL) (some_value _ _ n is)
 
 colormap_last : (lumps : List Lump) (n : ℕ) → colormap_of lumps ≡ Ok n → last_of lumps COLORMAP ≡ Some n
 unfolding colormap_of
-colormap_last lumps n is = long_last lumps COLORMAP_SIZE n (last_of lumps COLORMAP) (some_of _ _ n is)
+colormap_last lumps n is = long_last lumps COLORMAP_SIZE n (last_of lumps COLORMAP) (some_value _ _ n is)
 
 label_last : (lumps : List Lump) (name : List ℕ) (n : ℕ) → label_of lumps name ≡ Ok n → map_of lumps name ≡ Some n
 unfolding label_of
-label_last lumps name n is = some_of (map_of lumps name) NoMap n is
+label_last lumps name n is = some_value (map_of lumps name) NoMap n is
 
 -- What is copied of an accepted level is needed.
 pub copied-needed : (bytes : ℕ → List ℕ) (lumps : List Lump) (lines : List ThingLine) (name : List ℕ) (skill : ℕ) (scene : SceneValue) (pictures : List ℕ) (parts : List TrimPart) (n : ℕ)

@@ -18,23 +18,6 @@ parts_below lumps (part ∷ rest) all (suc i) d l = parts_below lumps rest all.1
 pub all-there : (lumps : List Lump) (art : SceneArt) (name : List ℕ) (parts : List TrimPart) → parts ≡ trim_parts lumps art name → All (IsPartThere (length lumps)) parts
 all-there lumps art name parts e = parts_below lumps parts (subst (AllByRecursion (IsThere lumps)) (sym e) (parts-there lumps art name))
 
--- names of marks that are spelled as a directory spells them
-spelled_f_start : name_of F_START ≡ F_START
-unfolding filled
-spelled_f_start = refl
-
-spelled_f_end : name_of F_END ≡ F_END
-unfolding filled
-spelled_f_end = refl
-
-spelled_s_start : name_of S_START ≡ S_START
-unfolding filled
-spelled_s_start = refl
-
-spelled_s_end : name_of S_END ≡ S_END
-unfolding filled
-spelled_s_end = refl
-
 -- a lump more of those behind a label
 pub behind-more : (old now new : List TrimPart) (label i : ℕ) (part : TrimPart) → part ≡ copy_part (label + 1 + i) → now ≡ old ++ map copy_part (range_with_len (suc label) i) → new ≡ now ++ part ∷ [] →
     new ≡ old ++ map copy_part (range_with_len (suc label) (i + 1))
@@ -56,15 +39,15 @@ pub parts-are : (lumps : List Lump) (art : SceneArt) (name : List ℕ) (flats pi
     a ≡ [] → b ≡ a ++ group_parts (name_of F_START) flats (name_of F_END) → c ≡ b ++ group_parts (name_of S_START) pictures (name_of S_END) →
     d ≡ c ++ map_parts (list_any (has_name lumps name) called) (map_of lumps name) → e ≡ d ++ map copy_part (filter (λ n. not (has_name lumps name n)) more) →
     e ≡ trim_parts lumps art name
-unfolding trim_parts
+unfolding trim_parts filled
 parts-are lumps art name flats pictures called more a b c d e f g h i none p q r s =
     let called' = called_lumps lumps art.prepared in
     let one = group_parts F_START (flat_lumps lumps art.flats) F_END in
     let two = group_parts S_START (picture_lumps lumps art.pictures) S_END in
     let three = map_parts (list_any (has_name lumps name) called') (map_of lumps name) in
     let four = map copy_part (filter (λ n. not (has_name lumps name n)) called') in
-    let p' = p ∙ ap (λ (n : List ℕ). a ++ group_parts n flats (name_of F_END)) spelled_f_start ∙ ap (λ (n : List ℕ). a ++ group_parts F_START flats n) spelled_f_end ∙ ap (λ (n : List ℕ). a ++ group_parts F_START n F_END) f in
-    let q' = q ∙ ap (λ (n : List ℕ). b ++ group_parts n pictures (name_of S_END)) spelled_s_start ∙ ap (λ (n : List ℕ). b ++ group_parts S_START pictures n) spelled_s_end ∙ ap (λ (n : List ℕ). b ++ group_parts S_START n S_END) g in
+    let p' = p ∙ ap (λ (n : List ℕ). a ++ group_parts F_START n F_END) f in
+    let q' = q ∙ ap (λ (n : List ℕ). b ++ group_parts S_START n S_END) g in
     let r' = r ∙ ap (λ (n : List ℕ). c ++ map_parts (list_any (has_name lumps name) n) (map_of lumps name)) h in
     s ∙ ap (λ (n : List ℕ). d ++ map copy_part (filter (λ k. not (has_name lumps name k)) n)) i
     ∙ ap (λ (v : List TrimPart). v ++ four) (r' ∙ ap (λ (v : List TrimPart). v ++ three) (q' ∙ ap (λ (v : List TrimPart). v ++ two) (p' ∙ ap (λ (v : List TrimPart). v ++ one) none)))
