@@ -9,7 +9,7 @@ use Rattle.masked_draw.specs.declared.clips.SpriteClips.{SpriteClips}
 use Rattle.masked_draw.specs.declared.scene.MaskScene.{MaskScene}
 use Rattle.masked_draw.specs.Clipped.{AreSpriteRows, TakesRows, row_in}
 use Rattle.masked_draw.specs.Marks.{MarkedTo, MarksBy, is_between, is_passed, unmarked_dots}
-use Rattle.masked_draw.specs.Passes.{PassesSprite}
+use Rattle.masked_draw.specs.Passes.{DrawsSprite}
 use Rattle.masked_draw.specs.Ready.{IsMiddleNumber, IsNotedMiddle}
 use Rattle.masked_draw.specs.Scenes.{PaintsDots, scene_art, scene_drawseg, scene_drawsegs, scene_lists, scene_tools}
 use Rattle.masked_draw.proofs.DownLemmas.{down-end, down-more, down-start, middles_down}
@@ -87,16 +87,22 @@ module _ (s : MaskScene) (notes : List FragmentNote) (es : List SpriteEntry) whe
         marked = marked-pass (scene_drawseg s) notes es (length notes) old new i m d e apart g l il ig marks before.marked;
       }
 
-  pub passes-stop : {A B : Type 0} {mark : Painter → ℕ → ℕ} {f : List (List ℕ) → ⊤ → List Dot} {start a b : PaintState} {part : Result B CacheFault} {fault : CacheFault} {whole : Result A CacheFault} (i m k : ℕ) (d : FragmentNote) (old new : List Bool) → slice_get notes k ≡ Some d →
+  pub passes-stop : {A B : Type 0} {mark : Painter → ℕ → ℕ} {f : List (List ℕ) → ⊤ → List Dot} {start a b : PaintState} {part : Result B CacheFault} {fault : CacheFault} {whole : Result A CacheFault} (e : SpriteEntry) (i m k : ℕ) (d : FragmentNote) (old new : List Bool) → slice_get notes k ≡ Some d →
       part ≡ Err fault → IsErrAnd whole (λ e. e ≡ fault) → PassesMiddles mark i m old start a →
       Paints cache_fault mark (scene_tools s) (IsMiddleNumber (scene_lists s) d) (λ (n : ℕ). ⊥) (λ (q : ⊤). ⊤) f a b part →
-      PassesSprite mark s notes es i new start b whole
-  passes-stop {fault = fault} {whole} i m k d old new e was is before call = record {
-    paints = paints-then_stop was is before.paints (paints-wider (scene-middle (scene_lists s) notes k d e) (λ n e. e) call);
+      DrawsSprite mark s notes es i e new start b whole
+  passes-stop {fault = fault} {whole} e i m k d old new g was is before call = record {
+    paints = paints-then_stop was is (paints-wider (λ n k. k) (λ n k. absurd k) before.paints) (paints-wider (scene-middle (scene_lists s) notes k d g) (λ n k. absurd k) call);
     marked = on_ok_err (MarkedTo (scene_drawseg s) notes es (length notes) (λ k. i + 1) new) fault whole is;
   }
 
-  pub passes-end : {mark : Painter → ℕ → ℕ} {start now : PaintState} (i m : ℕ) (marks : List Bool) → m ≡ 0 → PassesMiddles mark i m marks start now → PassesSprite mark s notes es i marks start now (Ok (tt {0}))
+  -- the columns just before sprite i are painted, and marked
+  pub record PassesSprite (mark : Painter → ℕ → ℕ) (i : ℕ) (marks : List Bool) (start now : PaintState) : Type 0 where
+    pub paints : PaintsDots mark s (IsNotedMiddle (scene_lists s) notes) (λ (n : ℕ). ⊥)
+        (λ art. middles_at s.view.now art (scene_drawsegs s notes) es (Some i) (length notes)) start now (Ok (tt {0}))
+    pub marked : MarkedTo (scene_drawseg s) notes es (length notes) (λ k. i + 1) marks
+
+  pub passes-end : {mark : Painter → ℕ → ℕ} {start now : PaintState} (i m : ℕ) (marks : List Bool) → m ≡ 0 → PassesMiddles mark i m marks start now → PassesSprite mark i marks start now
   passes-end i m marks z h = record {
     paints = paints-same _ (λ contents q is. let art = scene_art contents s in ap (λ (k : ℕ). middles_down s.view.now art (scene_drawsegs s notes) es (Some i) (length notes) (length notes - k)) z ∙ down-end s.view.now art (scene_drawsegs s notes) es (Some i) (length notes)) h.paints;
     marked = marked-turn (scene_drawseg s) notes es (length notes) (turn_at i m) (λ k. i + 1) marks (λ k l. ap (λ (j : ℕ). turn_at i j k) z ∙ turns-end i k) h.marked;

@@ -1,5 +1,5 @@
 -- Laws of the columns of a picture, by its bytes and those of the colormap.
-use Rattle.picture_rules.proofs.Common.{[], ap, append-nil, arith, Bool, cond, false, int_le, int_lt, ints, List, map, map-range_with_len_more, pos, range_with_len, refl, sym, true, ℕ, ℤ, ◌&&◌, ◌++◌, ◌+◌, ◌-◌, ◌∙◌, ◌∷◌, ◌≡◌, ◌≤◌}
+use Rattle.picture_rules.proofs.Common.{[], ap, arith, Bool, cond, false, int_le, int_lt, ints, List, map, pos, range_with_len, refl, sym, true, ℕ, ℤ, ◌&&◌, ◌++◌, ◌+◌, ◌-◌, ◌∙◌, ◌∷◌, ◌≡◌, ◌≤◌}
 use Rattle.masked_draw.specs.Rules.{Dot, LUMP, Lump, MaskedColumn, Painter, Post, SPRITE, SpriteEntry, ViewShape, ViewValue, byte_at, column_place, half_at, joined_lists, listed_from, lump_source, natural, painter_of, picture_column, posts, posts_dots, rows_between, shade}
 use Rattle.picture_rules.proofs.Laws.{joined_lists-next}
 use Rattle.pixel_strips.specs.Canvases.{CanvasView, with_dots, with_painter}

@@ -9,10 +9,11 @@ use Rattle.masked_draw.specs.declared.clips.SpriteClips.{SpriteClips}
 use Rattle.masked_draw.specs.declared.scene.MaskScene.{MaskScene}
 use Rattle.masked_draw.specs.Clipped.{AreSpriteRows, clipped_column, clipped_dots, clipped_masked}
 use Rattle.masked_draw.specs.Marks.{MarkedTo}
-use Rattle.masked_draw.specs.Passes.{DrawsSprite, PassesSprite}
+use Rattle.masked_draw.specs.Passes.{DrawsSprite}
 use Rattle.masked_draw.specs.Scenes.{PaintsDots, scene_art, scene_drawseg, scene_drawsegs}
 use Rattle.masked_draw.proofs.DownLemmas.{marked-skip, step-none}
 use Rattle.masked_draw.proofs.EntryLemmas.{entry-between}
+use Rattle.masked_draw.proofs.LoopLemmas.{PassesSprite}
 use Rattle.masked_draw.proofs.PictureLemmas.{natural_of}
 use Rattle.masked_draw.proofs.SceneLemmas.{scene-length}
 
@@ -74,8 +75,8 @@ module _ (s : MaskScene) (notes : List FragmentNote) (es : List SpriteEntry) (i 
   }
 
   -- the masked columns behind it, and then the sprite
-  pub sprite-then : {A B : Type 0} {a b c : PaintState} {answer : A} {result : Result B CacheFault} (clips : SpriteClips) (first last : ℕ) (now new : List Bool) → e.first ≡ pos first → e.last ≡ pos last →
-      ((x : ℕ) → entry_has e x ≡ true → AreSpriteRows s (scene_drawsegs s notes) e clips x) → new ≡ now → PassesSprite mark s notes es i now a b (Ok answer) →
+  pub sprite-then : {A : Type 0} {a b c : PaintState} {result : Result A CacheFault} (clips : SpriteClips) (first last : ℕ) (now new : List Bool) → e.first ≡ pos first → e.last ≡ pos last →
+      ((x : ℕ) → entry_has e x ≡ true → AreSpriteRows s (scene_drawsegs s notes) e clips x) → new ≡ now → PassesSprite s notes es mark i now a b →
       PaintsDots mark s (λ (n : ℕ). ⊥) (λ (n : ℕ). n ≡ e.lump) (λ art. clipped_dots s.view.now art clips e) b c result → DrawsSprite mark s notes es i e new a c result
   sprite-then {result = result} clips first last now new p q rows same passed sprite = record {
     paints = paints-same _ (λ contents x is. step_by s notes es (scene_art contents s) i e (clipped_dots s.view.now (scene_art contents s) clips e) (clipped-sprite s notes (scene_art contents s) e clips first last p q rows))

@@ -9,9 +9,9 @@ ghost use Rattle.masked_draw.specs.Rules.{AreNoted, SpriteEntry, draw_order, ent
 ghost use Rattle.vissprites.specs.Bounds.{lies_within, has_lump_below};
 ghost use Rattle.pixel_strips.specs.Standing.{StandsInFrame};
 ghost use Rattle.texture_build.specs.Paints.{Paints};
-ghost use Rattle.masked_draw.specs.Clipped.{AreSpriteRows, TakesRows, row_in};
+ghost use Rattle.masked_draw.specs.Clipped.{TakesRows};
 ghost use Rattle.masked_draw.specs.Marks.{MarkedTo, MarksBy, MissesColumns, is_passed, mark_in, unmarked_dots};
-ghost use Rattle.masked_draw.specs.Passes.{DrawsSprite, PassesSprite};
+ghost use Rattle.masked_draw.specs.Passes.{DrawsSprite};
 ghost use Rattle.masked_draw.specs.Ready.{IsListed, IsMiddleNumber, IsNotedMiddle, IsSpriteLump};
 ghost use Rattle.masked_draw.specs.Scenes.{AreSameMaskHands, CanPaintNote, CanPass, PaintsDots, mask_hands, scene_drawseg, scene_drawsegs, scene_lists};
 ghost use Rattle.masked_draw.specs.Tools.{AreSameMaskTools, masked_state, masked_tools, tools_dots, tools_lists};
@@ -141,8 +141,9 @@ fn draw_middles<S: Shelf, C: Canvas>(
     Ok(())
 }
 
-// Draws a sprite, where it has a column, after the masked columns behind it. It is the next of the
-// sprites whose masked columns are painted.
+// Draws a sprite, where it has a column, after the masked columns behind it, within the clips of the
+// fragments in front of it, the last fragment first. It is the next of the sprites whose masked
+// columns are painted.
 fn draw_sprite<S: Shelf, C: Canvas>(
     scene: &MaskScene<'_>,
     hands: &mut MaskHands<'_, S, C>,
@@ -169,42 +170,10 @@ fn draw_sprite<S: Shelf, C: Canvas>(
     let first = column_of(entry.first);
     let last = column_of(entry.last);
     clips.clear(first, last);
-    pass_fragments(scene, hands, notes, entry, clips)?;
-    paint_sprite(scene, hands, clips, entry, first, last)
-}
-
-// Paints the masked columns behind a sprite, and takes the clips of the fragments in front of it,
-// the last fragment first. No clip was taken in the sprite's columns.
-fn pass_fragments<S: Shelf, C: Canvas>(
-    scene: &MaskScene<'_>,
-    hands: &mut MaskHands<'_, S, C>,
-    notes: &[FragmentNote],
-    entry: &SpriteEntry,
-    clips: &mut SpriteClips,
-) -> Result<(), CacheFault>
-    requires ready { CanPass scene.now notes.now (mask_hands S.view C.view hands.old)
-        hands.old.marks.now }
-    requires within { lies_within scene.now.view.now.shape.width entry.now ≡ true }
-    requires ordered { entry.now.first ≤ℤ entry.now.last }
-    requires tops { (x : ℕ) → entry_has entry.now x ≡ true → row_in clips.old.tops x ≡ None }
-    requires bottoms { (x : ℕ) → entry_has entry.now x ≡ true → row_in clips.old.bottoms x ≡ None }
-    ensures same { AreSameMaskHands hands.old hands.new }
-    ensures marks { length hands.new.marks.now ≡ length hands.old.marks.now }
-    ensures ready { OnOk result (CanPass scene.now notes.now (mask_hands S.view C.view
-        hands.new) hands.new.marks.now) }
-    ensures rows { OnOk result ((x : ℕ) → entry_has entry.now x ≡ true →
-        AreSpriteRows scene.now (scene_drawsegs scene.now notes.now) entry.now clips.new x) }
-    ensures passed { (es : List SpriteEntry) (i : ℕ) → i < length es →
-        slice_get es i ≡ Some entry.now →
-        MarkedTo (scene_drawseg scene.now) notes.now es (length notes.now) (λ k. i)
-        hands.old.marks.now →
-        PassesSprite C.mark scene.now notes.now es i hands.new.marks.now
-        (mask_hands S.view C.view hands.old) (mask_hands S.view C.view hands.new) result }
-{
     for k in (0..notes.len()).rev() {
         pass_fragment(scene, hands, &notes[k], k as u16, entry, clips)?;
     }
-    Ok(())
+    paint_sprite(scene, hands, clips, entry, first, last)
 }
 
 // Paints the masked columns of fragment `number` where it is behind a sprite, or else takes its

@@ -4,7 +4,7 @@ ghost use Rattle.masked_draw.specs.Clipped.{HasClipsIn, IsColumnInFrame, PaintsP
 ghost use Rattle.std.specs.Prelude.{◌≡◌, ◌^◌, ◌≤ℤ◌, ◌<ℤ◌, ◌&&◌, pos, true, int_le, int_lt};
 ghost use Rattle.texture_build.specs.Arts.{own_posts};
 
-use crate::posts::{ColumnArt, paint_posts};
+use crate::posts::{ColumnArt, PostLook, paint_posts};
 use art_rules::half_at;
 use patch_columns::column_place;
 use picture_rules::{FRACTION_BITS, MaskedColumn, ViewShape};
@@ -30,7 +30,12 @@ pub fn paint_own<C: Canvas>(
 {
     if is_in_picture(art.bytes, own) {
         let place = column_place(art.bytes, column_of(own));
-        paint_posts(canvas, shape, x, column, art, place);
+        let look = PostLook {
+            shape,
+            x,
+            column: *column,
+        };
+        paint_posts(canvas, &look, art, place);
     }
 }
 

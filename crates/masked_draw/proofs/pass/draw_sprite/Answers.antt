@@ -1,9 +1,12 @@
 -- A sprite without a column, and one behind which the masked columns come first.
-use Rattle.picture_rules.proofs.Common.{and_parts, ap, arith, false, int_lt, ints, leb-true, List, ltb-true, nat_le, nat_lt, None, Option, pos, rules, subst, sym, true, w32, ℕ, ℤ, ◌+◌, ◌<ℤ◌, ◌<◌, ◌^◌, ◌∙◌, ◌≡◌, ◌≤ℤ◌, ◌≤◌}
+use Rattle.picture_rules.proofs.Common.{and_parts, ap, arith, false, int_lt, ints, leb-true, length, List, ltb-true, nat_le, nat_lt, None, Option, pos, refl, rules, subst, sym, true, w32, ℕ, ℤ, ◌+◌, ◌-◌, ◌<ℤ◌, ◌<◌, ◌^◌, ◌∙◌, ◌≡◌, ◌≤ℤ◌, ◌≤◌}
 use Rattle.std.proofs.lemmas.Int.{to_z-of_z}
 use Rattle.masked_draw.specs.Rules.{SpriteEntry, entry_has}
 use Rattle.masked_draw.specs.Clipped.{row_in}
 use Rattle.masked_draw.proofs.EntryLemmas.{entry-between, entry-numbers, entry-within}
+use Rattle.masked_draw.proofs.KeptLemmas.{keeps-more, keeps-start}
+use Rattle.masked_draw.proofs.LoopLemmas.{clips-end, clips-more, clips-start, note-get, passes-end, passes-more, passes-start, passes-stop}
+use Rattle.masked_draw.proofs.SceneLemmas.{can_pass-note, scene-apart, scene-whole}
 use Rattle.masked_draw.proofs.SpriteLemmas.{has-column, sprite-none, sprite-then}
 use Rattle.masked_draw.proofs.pass.draw_sprite.Goals as goal
 
@@ -48,15 +51,39 @@ clear-requires-clause-within g c =
     let l = entry-within e c.args.scene.now.view.now.shape.width _ c.requires.within (sym (to_z-of_z w32 e.last (search rules)) ∙ c.column_of-last.ensures) in
     omega (arith, l, c.requires.ready.paint.placed.columns)
 
-pub pass_fragments-requires-clause-tops : goal.pass_fragments-requires-clause-tops
-pass_fragments-requires-clause-tops g c =
+pub loop-k-init : goal.loop-k-init
+loop-k-init g c =
     let e = c.args.entry.now in
-    rows_in e _ _ _ (sym (to_z-of_z w32 e.first (search rules)) ∙ c.column_of-first.ensures) (sym (to_z-of_z w32 e.last (search rules)) ∙ c.column_of-last.ensures) c.clear.ensures.tops
+    let p = sym (to_z-of_z w32 e.first (search rules)) ∙ c.column_of-first.ensures in
+    let q = sym (to_z-of_z w32 e.last (search rules)) ∙ c.column_of-last.ensures in
+    record {
+      kept = keeps-start c.requires.ready;
+      clips = clips-start c.args.scene.now c.args.notes.now e _ (rows_in e _ _ _ p q c.clear.ensures.tops) (rows_in e _ _ _ p q c.clear.ensures.bottoms);
+      passes = λ es i l f h. passes-start c.args.scene.now c.args.notes.now es g.C.Canvas.mark i _ _ h;
+    }
 
-pub pass_fragments-requires-clause-bottoms : goal.pass_fragments-requires-clause-bottoms
-pass_fragments-requires-clause-bottoms g c =
-    let e = c.args.entry.now in
-    rows_in e _ _ _ (sym (to_z-of_z w32 e.first (search rules)) ∙ c.column_of-first.ensures) (sym (to_z-of_z w32 e.last (search rules)) ∙ c.column_of-last.ensures) c.clear.ensures.bottoms
+pub pass_fragment-requires-clause-note : goal.pass_fragment-requires-clause-note
+pass_fragment-requires-clause-note g c =
+    let below : c.loop-k.k - 1 < length c.args.notes.now = omega arith in
+    can_pass-note (c.loop-k.k - 1) _ c.loop-k.invariant.kept.ready (note-get c.args.notes.now (c.loop-k.k - 1) _ below) below
+
+pub loop-k-preserved : goal.loop-k-preserved
+loop-k-preserved g c =
+    let i = c.loop-k.invariant in
+    let e = c.in_ok-pass_fragment.ensures in
+    let up : c.loop-k.k ≡ c.loop-k.k - 1 + 1 = omega arith in
+    let below : c.loop-k.k - 1 < length c.args.notes.now = omega arith in
+    record {
+      kept = keeps-more i.kept e.same e.marks e.paints;
+      clips = clips-more c.args.scene.now c.args.notes.now c.args.entry.now c.loop-k.k (c.loop-k.k - 1) _ _ _ (scene-whole (c.loop-k.k - 1) _ i.kept.ready.noted (note-get c.args.notes.now (c.loop-k.k - 1) _ below))
+          (note-get c.args.notes.now (c.loop-k.k - 1) _ below) e.rows up i.clips;
+      passes = λ es n l f h.
+          passes-more c.args.scene.now c.args.notes.now es c.args.entry.now n c.loop-k.k (c.loop-k.k - 1) _ _ _ _ (scene-apart i.kept.ready.noted) below (note-get c.args.notes.now (c.loop-k.k - 1) _ below) refl l f up (i.passes es n l f h) e.paints e.marked;
+    }
+
+pub returns-in_err-pass_fragment-clause-sprite : goal.returns-in_err-pass_fragment-clause-sprite
+returns-in_err-pass_fragment-clause-sprite g c = λ es n l f h.
+    passes-stop c.args.scene.now c.args.notes.now es c.args.entry.now n c.loop-k.k (c.loop-k.k - 1) _ _ _ (note-get c.args.notes.now (c.loop-k.k - 1) _ (omega arith)) c.in_err-pass_fragment.was c.from_residual.ensures.1 (c.loop-k.invariant.passes es n l f h) c.pass_fragment.ensures.paints
 
 pub paint_sprite-requires-clause-within : goal.paint_sprite-requires-clause-within
 paint_sprite-requires-clause-within g c =
@@ -66,11 +93,12 @@ paint_sprite-requires-clause-within g c =
 pub paint_sprite-requires-clause-rows : goal.paint_sprite-requires-clause-rows
 paint_sprite-requires-clause-rows g c = λ x l m.
     let e = c.args.entry.now in
-    (c.in_ok-pass_fragments.ensures.rows x (has-column e _ _ x (sym (to_z-of_z w32 e.first (search rules)) ∙ c.column_of-first.ensures) (sym (to_z-of_z w32 e.last (search rules)) ∙ c.column_of-last.ensures) l m)).rows
+    (clips-end c.args.scene.now c.args.notes.now e c.loop-k.k c.loop-k.clips (omega arith) c.loop-k.invariant.clips x (has-column e _ _ x (sym (to_z-of_z w32 e.first (search rules)) ∙ c.column_of-first.ensures) (sym (to_z-of_z w32 e.last (search rules)) ∙ c.column_of-last.ensures) l m)).rows
 
 pub returns-clause-sprite : goal.returns-clause-sprite
 returns-clause-sprite g c = λ es i l f h.
     let e = c.args.entry.now in
     let p = sym (to_z-of_z w32 e.first (search rules)) ∙ c.column_of-first.ensures in
     let q = sym (to_z-of_z w32 e.last (search rules)) ∙ c.column_of-last.ensures in
-    sprite-then c.args.scene.now c.args.notes.now es i e c.pass_fragments.new.clips _ _ _ _ p q c.in_ok-pass_fragments.ensures.rows c.paint_sprite.ensures.marks (c.in_ok-pass_fragments.ensures.passed es i l f h) c.paint_sprite.ensures.paints
+    sprite-then c.args.scene.now c.args.notes.now es i e c.loop-k.clips _ _ _ _ p q (clips-end c.args.scene.now c.args.notes.now e c.loop-k.k c.loop-k.clips (omega arith) c.loop-k.invariant.clips)
+    c.paint_sprite.ensures.marks (passes-end c.args.scene.now c.args.notes.now es i c.loop-k.k _ (omega arith) (c.loop-k.invariant.passes es i l f h)) c.paint_sprite.ensures.paints

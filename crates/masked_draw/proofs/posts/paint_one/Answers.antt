@@ -35,7 +35,7 @@ rows-words shape column post top begin down end far row_first row_last is_top is
 
 pub returns-then-first-last : goal.returns-then-first-last
 returns-then-first-last g c =
-    let rows : ArePostRows c.args.shape c.args.column.now c.args.post c.plus-begin.result c.first_row-first.result c.last_row-last.result =
+    let rows : ArePostRows c.args.look.now.shape c.args.look.now.column c.args.post c.plus-begin.result c.first_row-first.result c.last_row-last.result =
     rows-words _ _ _ c.args.top _ c.times.result c.plus.result c.times-2.result _ _ c.requires.top (search (rules, to_z-of_z)) (search (rules, to_z-of_z))
     (search (rules, to_z-of_z)) (search (rules, to_z-of_z)) (search (rules, to_z-of_z)) (search (rules, to_z-of_z)) in
     let low : pos 0 ≤ℤ c.first_row-first.result = search (rules, to_z-of_z) in
@@ -55,33 +55,33 @@ returns-then-first-last g c =
     ∙ ap (λ (dots : List Dot). with_dots g.C.Canvas.mark dots (g.C.Canvas.view c.args.canvas.now))
     (ap (λ (n : ℕ). column_strip_dots painter n (strip_colour r.source.now r.base r.colormap.now r.map
     r.fraction r.step r.first) r.first r.last) t.x
-    ∙ ap (λ (xs : List ℕ). column_strip_dots painter c.args.x (strip_colour xs r.base r.colormap.now
+    ∙ ap (λ (xs : List ℕ). column_strip_dots painter c.args.look.now.x (strip_colour xs r.base r.colormap.now
     r.map r.fraction r.step r.first) r.first r.last) t.source
-    ∙ ap (λ (xs : List ℕ). column_strip_dots painter c.args.x (strip_colour bytes r.base xs r.map
+    ∙ ap (λ (xs : List ℕ). column_strip_dots painter c.args.look.now.x (strip_colour bytes r.base xs r.map
     r.fraction r.step r.first) r.first r.last) t.colormap
-    ∙ ap (λ (n : ℕ). column_strip_dots painter c.args.x (strip_colour bytes r.base shades n
+    ∙ ap (λ (n : ℕ). column_strip_dots painter c.args.look.now.x (strip_colour bytes r.base shades n
     r.fraction r.step r.first) r.first r.last) t.map
-    ∙ post-strip c.args.shape painter c.args.x c.args.column.now bytes shades m c.args.post
+    ∙ post-strip c.args.look.now.shape painter c.args.look.now.x c.args.look.now.column bytes shades m c.args.post
     c.plus-begin.result r.first r.last r.base r.fraction r.step rows.top t.base t.step
-    (t.fraction ∙ ap (row_fraction c.args.shape.centre_y (minus c.args.column.now.mid
-    (fixed (pos c.args.post.topdelta))) c.args.column.now.iscale) (sym t.first))
+    (t.fraction ∙ ap (row_fraction c.args.look.now.shape.centre_y (minus c.args.look.now.column.mid
+    (fixed (pos c.args.post.topdelta))) c.args.look.now.column.iscale) (sym t.first))
     (by_number r.first c.first_row-first.result first_no low ∙ rows.first)
     (by_number r.last c.last_row-last.result last_no high ∙ rows.last)
-    (subst (λ (z : ℤ). int_lt z (post_first c.args.column.now.top_clip c.plus-begin.result) ≡ false)
+    (subst (λ (z : ℤ). int_lt z (post_first c.args.look.now.column.top_clip c.plus-begin.result) ≡ false)
     rows.last (subst (λ (z : ℤ). int_lt c.last_row-last.result z ≡ false) rows.first
     (in_order c.first_row-first.result c.last_row-last.result ordered))))
 
 pub returns-else-first-last : goal.returns-else-first-last
 returns-else-first-last g c =
-    let rows : ArePostRows c.args.shape c.args.column.now c.args.post c.plus-begin.result c.first_row-first.result c.last_row-last.result =
+    let rows : ArePostRows c.args.look.now.shape c.args.look.now.column c.args.post c.plus-begin.result c.first_row-first.result c.last_row-last.result =
     rows-words _ _ _ c.args.top _ c.times.result c.plus.result c.times-2.result _ _ c.requires.top (search (rules, to_z-of_z)) (search (rules, to_z-of_z))
     (search (rules, to_z-of_z)) (search (rules, to_z-of_z)) (search (rules, to_z-of_z)) (search (rules, to_z-of_z)) in
     let over : c.last_row-last.result <ℤ c.first_row-first.result = search (rules, to_z-of_z) in
     dots_none g.C.Canvas.mark (g.C.Canvas.view c.args.canvas.now)
     ∙ ap (λ (dots : List Dot). with_dots g.C.Canvas.mark dots (g.C.Canvas.view c.args.canvas.now))
-    (post-none c.args.shape (g.C.Canvas.view c.args.canvas.now).painter c.args.x c.args.column.now
+    (post-none c.args.look.now.shape (g.C.Canvas.view c.args.canvas.now).painter c.args.look.now.x c.args.look.now.column
     (byte_at c.args.art.now.bytes.now) (shade c.args.art.now.colormap.now c.args.art.now.map)
     c.args.post c.plus-begin.result rows.top
-    (subst (λ (z : ℤ). int_lt z (post_first c.args.column.now.top_clip c.plus-begin.result) ≡ true)
+    (subst (λ (z : ℤ). int_lt z (post_first c.args.look.now.column.top_clip c.plus-begin.result) ≡ true)
     rows.last (subst (λ (z : ℤ). int_lt c.last_row-last.result z ≡ true) rows.first
     (past c.first_row-first.result c.last_row-last.result over))))

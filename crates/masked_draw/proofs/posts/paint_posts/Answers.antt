@@ -5,6 +5,6 @@ use Rattle.masked_draw.proofs.posts.paint_posts.Goals as goal
 
 pub returns-else-is_open : goal.returns-else-is_open
 returns-else-is_open g c =
-    shut-dots g.C.Canvas.mark c.args.shape c.args.x c.args.column.now (byte_at c.args.art.now.bytes.now)
+    shut-dots g.C.Canvas.mark c.args.look.now.shape c.args.look.now.x c.args.look.now.column (byte_at c.args.art.now.bytes.now)
     (shade c.args.art.now.colormap.now c.args.art.now.map) (posts c.args.art.now.bytes.now c.args.place)
     (g.C.Canvas.view c.args.canvas.now) (omega arith) c.requires.clips (c.is_open.ensures c.if-is_open.false)

@@ -5,7 +5,7 @@ use Rattle.masked_draw.specs.Marks.{MarkedTo}
 use Rattle.masked_draw.specs.Scenes.{mask_hands, scene_drawseg}
 use Rattle.masked_draw.proofs.KeptLemmas.{KeepsPass}
 use Rattle.masked_draw.proofs.LoopLemmas.{ClipsFrom, PassesMiddles}
-use Rattle.masked_draw.proofs.pass.pass_fragments.Given as goal
+use Rattle.masked_draw.proofs.pass.draw_sprite.Given as goal
 
 abbrev pub invariant-loop-k : goal.invariant-loop-k
 invariant-loop-k g l = record {
