@@ -1,7 +1,6 @@
 -- A fragment that misses the sprite, one behind it, and one in front of it.
-use Rattle.picture_rules.proofs.Common.{ap, arith, Bool, false, List, max, min, Option, pos, refl, rules, subst, sym, true, w32, ℕ, ℤ, ◌&&◌, ◌<ℤ◌, ◌^◌, ◌∙◌, ◌≡◌, ◌≤ℤ◌, ◌≤◌}
+use Rattle.picture_rules.proofs.Common.{ap, arith, Bool, false, List, max, min, on_ok_weaker, Option, pos, refl, rules, subst, sym, true, w32, ℕ, ℤ, ◌&&◌, ◌<ℤ◌, ◌^◌, ◌∙◌, ◌≡◌, ◌≤ℤ◌, ◌≤◌}
 use Rattle.std.proofs.lemmas.Int.{to_z-of_z}
-use Rattle.lump_cache.proofs.FillLemmas.{on_ok}
 use Rattle.masked_draw.specs.Rules.{Art, Drawseg, FragmentNote, SpriteEntry, ViewValue, is_behind}
 use Rattle.texture_build.proofs.PaintLemmas.{paints-none, paints-same}
 use Rattle.masked_draw.specs.Clipped.{clips_bottom, clips_top, row_after}
@@ -104,7 +103,7 @@ returns-then-is_behind g c =
     record {
       same = search rules;
       marks = search rules;
-      marked = on_ok c.paint_middle.result (λ h. marks_behind seg both b h) c.paint_middle.ensures.marked;
+      marked = on_ok_weaker c.paint_middle.result (λ h. marks_behind seg both b h) c.paint_middle.ensures.marked;
       rows = λ x t. record { top = behind-top e seg x (seg.top_clip x) _ b; bottom = behind-bottom e seg x (seg.bottom_clip x) _ b };
       paints = paints-same _ (λ contents q is. dots_behind c.args.scene.now.view.now (scene_art contents c.args.scene.now) c.args.number seg c.args.hands.now.marks.now both b) c.paint_middle.ensures.paints;
     }
