@@ -141,8 +141,8 @@ fn draw_middles<S: Shelf, C: Canvas>(
     Ok(())
 }
 
-// Draws a sprite, where it has a column, after the masked columns behind it, within the clips of the
-// fragments in front of it, the last fragment first. It is the next of the sprites whose masked
+// Draws a sprite, where it has a column, after the masked columns behind it and within the clips of
+// the fragments in front of it, the last fragment first. It is the next of the sprites whose masked
 // columns are painted.
 fn draw_sprite<S: Shelf, C: Canvas>(
     scene: &MaskScene<'_>,
