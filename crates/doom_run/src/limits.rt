@@ -38,6 +38,7 @@ pub(crate) fn put_over<K: Sink>(out: &mut K, view: u64, over: &OverLimit) -> Res
 }
 
 // The line of a view's counts.
+#[derive(Drop)]
 pub struct CountLines;
 
 impl ViewLines for CountLines {
