@@ -13,7 +13,6 @@ use std::marker::Model;
 use view_rules::{DISTANCE_STEPS, SCALE_STEPS, Spans, TABLES_BYTES, TablesRefusal, ViewShape};
 
 /// The tables of angles, what views of one size derive from them, and how their spans are stepped.
-#[derive(Drop)]
 pub struct Tables {
     lists: AngleLists,
     size: u8,
@@ -25,6 +24,24 @@ pub struct Tables {
     scales: Vec<i32>,
     scale_lights: Vec<u8>,
     distance_lights: Vec<u8>,
+}
+
+// By hand, so that a drop of one is one call.
+impl Drop for Tables {
+    fn drop(self) {
+        let Tables {
+            lists: _,
+            size: _,
+            spans: _,
+            shape: _,
+            columns: _,
+            angles_from_right: _,
+            rows: _,
+            scales: _,
+            scale_lights: _,
+            distance_lights: _,
+        } = self;
+    }
 }
 
 impl Model for Tables {

@@ -21,10 +21,16 @@ use picture_rules::Eye;
 use std::alloc::{AllocError, Global};
 
 // A scene that is ready to be drawn, with all the memory of drawing.
-#[derive(Drop)]
 pub struct ReadyViews {
     pub loaded: LoadedScene,
     pub shop: Workshop,
+}
+
+// By hand, so that a drop of one is one call.
+impl Drop for ReadyViews {
+    fn drop(self) {
+        let ReadyViews { loaded: _, shop: _ } = self;
+    }
 }
 
 // A loaded scene with the memory to draw it, which is all that a job then takes.

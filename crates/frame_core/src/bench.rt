@@ -35,13 +35,25 @@ use vissprites::Sprites;
 use wall_columns::{DrawFault, LeafPlanes, WallState, WallTools};
 
 /// What a view is built in. `sector` is that of the leaf that was entered last.
-#[derive(Drop)]
 pub(crate) struct Bench {
     pub planes: Planes,
     pub walls: WallState,
     pub sprites: Sprites,
     pub entered: Entered,
     pub sector: u16,
+}
+
+// By hand, so that a drop of one is one call.
+impl Drop for Bench {
+    fn drop(self) {
+        let Bench {
+            planes: _,
+            walls: _,
+            sprites: _,
+            entered: _,
+            sector: _,
+        } = self;
+    }
 }
 
 impl Bench {

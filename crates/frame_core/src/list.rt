@@ -27,10 +27,16 @@ use visplanes::{PlaneNo, Planes};
 /// fragments and vissprites there would be without a limit.
 ///
 /// This project's own.
-#[derive(Drop)]
 pub struct ViewList {
     walk: WalkList,
     planes: Vec<ListedPlane>,
+}
+
+// By hand, so that a drop of one is one call.
+impl Drop for ViewList {
+    fn drop(self) {
+        let ViewList { walk: _, planes: _ } = self;
+    }
 }
 
 impl Model for ViewList {

@@ -13,13 +13,25 @@ use std::marker::Model;
 
 /// The drawn fragments and the kept vissprites of a view as they come, and what made each plane;
 /// and how many fragments and vissprites there would be without a limit.
-#[derive(Drop)]
 pub(crate) struct WalkList {
     fragments: Vec<ListedFragment>,
     makers: Vec<PlaneMaker>,
     sprites: Vec<ListedSprite>,
     all_fragments: u64,
     all_sprites: u64,
+}
+
+// By hand, so that a drop of one is one call.
+impl Drop for WalkList {
+    fn drop(self) {
+        let WalkList {
+            fragments: _,
+            makers: _,
+            sprites: _,
+            all_fragments: _,
+            all_sprites: _,
+        } = self;
+    }
 }
 
 impl Model for WalkList {

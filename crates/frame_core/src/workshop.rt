@@ -15,11 +15,21 @@ use std::marker::Model;
 /// All the memory of drawing, with a frame. Contracts see its limits and its frame.
 ///
 /// The original: the arrays of r_bsp.c, r_plane.c and r_things.c.
-#[derive(Drop)]
 pub struct Workshop {
     pub(crate) bench: Bench,
     pub(crate) marks: Vec<bool>,
     pub(crate) frame: Frame,
+}
+
+// By hand, so that a drop of one is one call.
+impl Drop for Workshop {
+    fn drop(self) {
+        let Workshop {
+            bench: _,
+            marks: _,
+            frame: _,
+        } = self;
+    }
 }
 
 impl Model for Workshop {

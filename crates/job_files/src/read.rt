@@ -18,13 +18,25 @@ use std::alloc::Global;
 
 /// What the files of a job over a level give: the tables of angles, how things look, the views of
 /// the path, the weapon layers where a file of them is named, and the directory of the WADs.
-#[derive(Drop)]
 pub struct SceneFiles {
     pub tables: Tables,
     pub things: ThingTable,
     pub path: PathTable,
     pub weapons: Option<WeaponTable>,
     pub dir: Directory,
+}
+
+// By hand, so that a drop of one is one call.
+impl Drop for SceneFiles {
+    fn drop(self) {
+        let SceneFiles {
+            tables: _,
+            things: _,
+            path: _,
+            weapons: _,
+            dir: _,
+        } = self;
+    }
 }
 
 /// The files of these names, for views of the size that is set, 3 to 11, whose spans are stepped as

@@ -264,11 +264,17 @@ fn empty_groups(alloc: Global, count: usize) -> Result<Vec<Vec<PlacedThing>>, Ou
 ///
 /// It keeps a list a sector, so `of` goes over no thing. The original: `thinglist` of `sector_t`,
 /// r_defs.h.
-#[derive(Drop)]
 pub struct PlacedThings {
     all: Vec<Placed>,
     // for each sector its things, the last of the lump first
     groups: Vec<Vec<PlacedThing>>,
+}
+
+// By hand, so that a drop of one is one call.
+impl Drop for PlacedThings {
+    fn drop(self) {
+        let PlacedThings { all: _, groups: _ } = self;
+    }
 }
 
 impl Model for PlacedThings {

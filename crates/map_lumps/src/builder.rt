@@ -18,7 +18,6 @@ use std::marker::Model;
 ///
 /// It owns them, and keeps no lump's bytes. The original: P_SetupLevel, p_setup.c, which loads the
 /// lumps in a fixed order.
-#[derive(Drop)]
 pub struct LevelBuilder {
     things: Option<Vec<Thing>>,
     lines: Option<Vec<MapLine>>,
@@ -28,6 +27,22 @@ pub struct LevelBuilder {
     leaves: Option<Vec<MapLeaf>>,
     nodes: Option<Vec<Node>>,
     sectors: Option<Vec<Sector>>,
+}
+
+// By hand, so that a drop of one is one call.
+impl Drop for LevelBuilder {
+    fn drop(self) {
+        let LevelBuilder {
+            things: _,
+            lines: _,
+            sides: _,
+            vertexes: _,
+            segs: _,
+            leaves: _,
+            nodes: _,
+            sectors: _,
+        } = self;
+    }
 }
 
 impl Model for LevelBuilder {

@@ -12,7 +12,6 @@ use std::marker::Model;
 /// Each number in it names an entry that is there, and its nodes are a tree at most `MAX_DEPTH`
 /// deep: that is the clause `sound` of each of its calls. It owns its lists, each of at most
 /// `MAX_RECORDS` entries; no call takes memory. The original: the lists of p_setup.c.
-#[derive(Drop)]
 pub struct Level {
     pub(crate) things: Vec<Thing>,
     pub(crate) sides: Vec<Side>,
@@ -21,6 +20,21 @@ pub struct Level {
     pub(crate) nodes: Vec<Node>,
     pub(crate) root: Child,
     pub(crate) sectors: Vec<Sector>,
+}
+
+// By hand, so that a drop of one is one call.
+impl Drop for Level {
+    fn drop(self) {
+        let Level {
+            things: _,
+            sides: _,
+            segs: _,
+            leaves: _,
+            nodes: _,
+            root: _,
+            sectors: _,
+        } = self;
+    }
 }
 
 impl Model for Level {

@@ -14,7 +14,6 @@ use std::alloc::{AllocError, Global};
 use std::marker::Model;
 
 // The records of each lump, as they are read; of none more than `MAX_RECORDS`.
-#[derive(Drop)]
 pub(crate) struct MapLists {
     pub(crate) things: Vec<Thing>,
     pub(crate) lines: Vec<MapLine>,
@@ -24,6 +23,22 @@ pub(crate) struct MapLists {
     pub(crate) leaves: Vec<MapLeaf>,
     pub(crate) nodes: Vec<Node>,
     pub(crate) sectors: Vec<Sector>,
+}
+
+// By hand, so that a drop of one is one call.
+impl Drop for MapLists {
+    fn drop(self) {
+        let MapLists {
+            things: _,
+            lines: _,
+            sides: _,
+            vertexes: _,
+            segs: _,
+            leaves: _,
+            nodes: _,
+            sectors: _,
+        } = self;
+    }
 }
 
 impl Model for MapLists {
@@ -63,10 +78,13 @@ impl MapLists {
         let root = self.root();
         let MapLists {
             things,
+            lines: _,
             sides,
+            vertexes: _,
+            segs: _,
+            leaves: _,
             nodes,
             sectors,
-            ..
         } = self;
         Ok(Level {
             things,

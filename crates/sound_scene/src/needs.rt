@@ -18,10 +18,16 @@ use texture_build::{Directory, LumpNo};
 /// The numbers of the lumps that are needed, ascending, and the sizes of a zone for them, in bytes.
 ///
 /// This project's own.
-#[derive(Drop)]
 pub struct Needed {
     pub lumps: Vec<LumpNo>,
     pub sizes: ZoneSizes,
+}
+
+// By hand, so that a drop of one is one call.
+impl Drop for Needed {
+    fn drop(self) {
+        let Needed { lumps: _, sizes: _ } = self;
+    }
 }
 
 /// What a scene needs, with the pictures of these lumps, and the sizes of a zone for it.

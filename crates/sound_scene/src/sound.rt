@@ -22,12 +22,23 @@ use texture_build::{Directory, LumpNo, TexNo, Textures};
 /// the numbers of the lumps that it needs, and how large a zone has to be for them.
 ///
 /// The original: the globals of p_setup.c, r_data.c and r_things.c.
-#[derive(Drop)]
 pub struct SoundScene {
     scene: ReadScene,
     middles: Vec<u16>,
     surfaces: Vec<Surface>,
     needed: Needed,
+}
+
+// By hand, so that a drop of one is one call.
+impl Drop for SoundScene {
+    fn drop(self) {
+        let SoundScene {
+            scene: _,
+            middles: _,
+            surfaces: _,
+            needed: _,
+        } = self;
+    }
 }
 
 impl Model for SoundScene {

@@ -13,7 +13,6 @@ use patch_columns::place_columns;
 use std::marker::Model;
 
 // A texture with its patches as lumps, and what each of its columns is read from.
-#[derive(Drop)]
 pub(crate) struct PreparedTexture {
     patches: Vec<PlacedPatch>,
     columns: Vec<ColumnLookup>,
@@ -21,6 +20,19 @@ pub(crate) struct PreparedTexture {
     // the mask of its columns, and the bytes of its composite
     mask: u16,
     size: u32,
+}
+
+// By hand, so that a drop of one is one call.
+impl Drop for PreparedTexture {
+    fn drop(self) {
+        let PreparedTexture {
+            patches: _,
+            columns: _,
+            height: _,
+            mask: _,
+            size: _,
+        } = self;
+    }
 }
 
 impl Model for PreparedTexture {

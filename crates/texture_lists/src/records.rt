@@ -10,13 +10,25 @@ use std::alloc::Global;
 use std::marker::Model;
 
 // A texture of the lists, with the mask of its columns.
-#[derive(Drop)]
 pub(crate) struct ListedTexture {
     name: Name8,
     width: u16,
     height: u16,
     mask: u16,
     patches: Vec<TextureEntry>,
+}
+
+// By hand, so that a drop of one is one call.
+impl Drop for ListedTexture {
+    fn drop(self) {
+        let ListedTexture {
+            name: _,
+            width: _,
+            height: _,
+            mask: _,
+            patches: _,
+        } = self;
+    }
 }
 
 impl Model for ListedTexture {

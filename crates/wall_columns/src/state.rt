@@ -33,10 +33,19 @@ use wall_edges::Fragment;
 ///
 /// The original: `drawsegs`, `openings`, `ceilingclip`, `floorclip`, `floorplane` and
 /// `ceilingplane`, r_bsp.c and r_plane.c.
-#[derive(Drop)]
 pub struct WallState {
     notes: Vec<FragmentNote>,
     columns: ColumnState,
+}
+
+// By hand, so that a drop of one is one call.
+impl Drop for WallState {
+    fn drop(self) {
+        let WallState {
+            notes: _,
+            columns: _,
+        } = self;
+    }
 }
 
 impl Model for WallState {

@@ -30,12 +30,23 @@ pub const COMPOSITE_SLOTS: u32 = 32767;
 /// is named.
 ///
 /// The original: the globals that `D_DoomMain`, d_main.c, and `P_SetupLevel`, p_setup.c, set.
-#[derive(Drop)]
 pub struct LoadedScene {
     pub files: SceneFiles,
     pub cache: LumpCache,
     pub scene: SoundScene,
     pub weapons: Option<SpriteBook>,
+}
+
+// By hand, so that a drop of one is one call.
+impl Drop for LoadedScene {
+    fn drop(self) {
+        let LoadedScene {
+            files: _,
+            cache: _,
+            scene: _,
+            weapons: _,
+        } = self;
+    }
 }
 
 /// The files of a job over a level, in these WADs, and its scene in a zone of the size that the
