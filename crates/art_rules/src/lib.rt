@@ -92,7 +92,7 @@ pub const TEXTURE2: [u8; NAME_SIZE] = *b"TEXTURE2";
 /// its number among the names of patches.
 ///
 /// The original: `mappatch_t`, r_data.c.
-#[derive(Clone, Copy, Debug, PartialEq, Eq)]
+#[derive(Clone, Copy)]
 pub struct TextureEntry {
     pub x: i16,
     pub y: i16,
@@ -103,7 +103,7 @@ pub struct TextureEntry {
 /// texels, and its width in columns.
 ///
 /// The original: `texpatch_t`, r_data.c.
-#[derive(Clone, Copy, Debug, PartialEq, Eq)]
+#[derive(Clone, Copy)]
 pub struct PlacedPatch {
     pub lump: u16,
     pub x: i16,
@@ -127,7 +127,7 @@ pub enum ColumnLookup {
 /// byte, `rotation` 0 to 8.
 ///
 /// The original: `R_InstallSpriteLump`, r_things.c.
-#[derive(Clone, Copy, Debug, PartialEq, Eq)]
+#[derive(Clone, Copy)]
 pub struct Mention {
     pub lump: u16,
     pub frame: u8,

@@ -17,7 +17,7 @@ pub struct Need {
 /// columns, and how many texels it lies left of and above its point.
 ///
 /// The original: `spriteframe_t`, r_defs.h, with spritewidth, spriteoffset and spritetopoffset.
-#[derive(Clone, Copy, Debug, PartialEq, Eq)]
+#[derive(Clone, Copy)]
 pub struct Shape {
     pub lump: LumpNo,
     pub flip: bool,
@@ -29,7 +29,7 @@ pub struct Shape {
 /// A frame of a sprite, with its shapes from the eight rotations.
 ///
 /// The original: `spriteframe_t`, r_defs.h.
-#[derive(Clone, Copy, Debug, PartialEq, Eq)]
+#[derive(Clone, Copy)]
 pub struct Frame {
     pub sprite: [u8; SPRITE_LETTERS],
     pub frame: u8,

@@ -1,7 +1,7 @@
 // The simple command as `clap` reads it: a job, options with one value each, and the rest.
 
 ghost use Rattle.std.specs.Prelude.{◌≡◌, ◌≢◌, true, false, [], IfOk, option_map, map, codes, string_bytes};
-ghost use Rattle.clap.specs.Words.{all_of, app_of, fault_of, first_of, found_of, kind_of, matches_of, rows_of, rule_of};
+ghost use Rattle.clap.specs.Words.{all_of, app_of, fault_of, first_of, found_of, kind_of, matches_of, rows_of, rule_of, with_rule};
 ghost use Rattle.command_line.specs.Simple.{bare_command, option_rule, simple_command, with_files, with_limits, with_option, with_settings, with_three};
 
 use crate::fault::CommandFault;
@@ -57,82 +57,116 @@ pub(crate) fn rest<'m, 'a>(found: &'m ArgMatches<'a>) -> Option<&'m [&'a str]>
     found.get_strs("rest")
 }
 
+// The command while its arguments are added. clap's own is large; this one's drop is by hand, so that
+// a step that fails drops it by one call.
+struct Parser<'a> {
+    command: Command<'a>,
+}
+
+impl Drop for Parser<'_> {
+    fn drop(self) {
+        let Parser { command: _ } = self;
+    }
+}
+
 // The command: a job, options, and then words of any number.
 #[tactic(auto, unfolding(crate::specs::Simple::simple_command))]
 fn simple_command<'a>(alloc: Global) -> Result<Command<'a>, AllocError>
     ensures { IfOk result (λ c. app_of c ≡ simple_command) }
 {
-    let command = bare_command(alloc).arg(Arg::new(alloc, "job"))?;
-    let command = with_files(alloc, command)?;
-    let command = with_settings(alloc, command)?;
-    let command = with_limits(alloc, command)?;
-    command.arg(Arg::new(alloc, "rest").action(ArgAction::Append))
+    let parser = bare_parser(alloc).with(Arg::new(alloc, "job"))?;
+    let parser = parser.with_files(alloc)?;
+    let parser = parser.with_settings(alloc)?;
+    let parser = parser.with_limits(alloc)?;
+    let parser = parser.with(Arg::new(alloc, "rest").action(ArgAction::Append))?;
+    Ok(parser.command())
 }
 
 // The command without its arguments.
-fn bare_command<'a>(alloc: Global) -> Command<'a>
-    ensures { app_of result ≡ bare_command }
+fn bare_parser<'a>(alloc: Global) -> Parser<'a>
+    ensures { app_of result.command ≡ bare_command }
 {
-    Command::new(alloc, "doomview")
+    let command = Command::new(alloc, "doomview")
         .no_binary_name(true)
         .disable_help_flag(true)
-        .disable_version_flag(true)
+        .disable_version_flag(true);
+    Parser { command }
 }
 
-// The command with the options of the files.
-#[tactic(auto, unfolding(crate::specs::Simple::with_files))]
-fn with_files<'a>(alloc: Global, command: Command<'a>) -> Result<Command<'a>, AllocError>
-    ensures { IfOk result (λ c. app_of c ≡ with_files (app_of command.entry)) }
-{
-    let command = with_option(alloc, command, "tables")?;
-    let command = with_option(alloc, command, "things")?;
-    let command = with_option(alloc, command, "path")?;
-    with_option(alloc, command, "weapon")
-}
+impl<'a> Parser<'a> {
+    // The command, to which nothing more is added.
+    fn command(self) -> Command<'a>
+        ensures { result ≡ self.entry.command }
+    {
+        let Parser { command } = self;
+        command
+    }
 
-// The command with the options of the picture.
-#[tactic(auto, unfolding(crate::specs::Simple::with_settings))]
-fn with_settings<'a>(alloc: Global, command: Command<'a>) -> Result<Command<'a>, AllocError>
-    ensures { IfOk result (λ c. app_of c ≡ with_settings (app_of command.entry)) }
-{
-    let command = with_three(alloc, command, "format", "skill", "size")?;
-    with_option(alloc, command, "spans")
-}
+    // The command with one more argument.
+    fn with(self, arg: Arg<'a>) -> Result<Parser<'a>, AllocError>
+        requires { arg.global ≡ false }
+        ensures { IfOk result (λ p. app_of p.command
+            ≡ with_rule (app_of self.entry.command) (rule_of arg.entry)) }
+    {
+        match self.command().arg(arg) {
+            Ok(command) => Ok(Parser { command }),
+            Err(fault) => Err(fault),
+        }
+    }
 
-// The command with the options of the limits.
-#[tactic(auto, unfolding(crate::specs::Simple::with_limits))]
-fn with_limits<'a>(alloc: Global, command: Command<'a>) -> Result<Command<'a>, AllocError>
-    ensures { IfOk result (λ c. app_of c ≡ with_limits (app_of command.entry)) }
-{
-    with_three(alloc, command, "zone", "planes", "openings")
-}
+    // The command with the options of the files.
+    #[tactic(auto, unfolding(crate::specs::Simple::with_files))]
+    fn with_files(self, alloc: Global) -> Result<Parser<'a>, AllocError>
+        ensures { IfOk result (λ p. app_of p.command ≡ with_files (app_of self.entry.command)) }
+    {
+        let parser = self.with_option(alloc, "tables")?;
+        let parser = parser.with_option(alloc, "things")?;
+        let parser = parser.with_option(alloc, "path")?;
+        parser.with_option(alloc, "weapon")
+    }
 
-// The command with three more options.
-fn with_three<'a>(
-    alloc: Global,
-    command: Command<'a>,
-    first: &'a str,
-    second: &'a str,
-    third: &'a str,
-) -> Result<Command<'a>, AllocError>
-    ensures { IfOk result (λ c. app_of c
-        ≡ with_three (app_of command.entry) first.entry.now second.entry.now third.entry.now) }
-{
-    let command = with_option(alloc, command, first)?;
-    let command = with_option(alloc, command, second)?;
-    with_option(alloc, command, third)
-}
+    // The command with the options of the picture.
+    #[tactic(auto, unfolding(crate::specs::Simple::with_settings))]
+    fn with_settings(self, alloc: Global) -> Result<Parser<'a>, AllocError>
+        ensures { IfOk result (λ p. app_of p.command ≡ with_settings (app_of self.entry.command)) }
+    {
+        let parser = self.with_three(alloc, "format", "skill", "size")?;
+        parser.with_option(alloc, "spans")
+    }
 
-// The command with one more option.
-#[tactic(auto, unfolding(crate::specs::Simple::with_option))]
-fn with_option<'a>(
-    alloc: Global,
-    command: Command<'a>,
-    name: &'a str,
-) -> Result<Command<'a>, AllocError>
-    ensures { IfOk result (λ c. app_of c ≡ with_option (app_of command.entry) name.entry.now) }
-{
-    command.arg(option(alloc, name))
+    // The command with the options of the limits.
+    #[tactic(auto, unfolding(crate::specs::Simple::with_limits))]
+    fn with_limits(self, alloc: Global) -> Result<Parser<'a>, AllocError>
+        ensures { IfOk result (λ p. app_of p.command ≡ with_limits (app_of self.entry.command)) }
+    {
+        self.with_three(alloc, "zone", "planes", "openings")
+    }
+
+    // The command with three more options.
+    fn with_three(
+        self,
+        alloc: Global,
+        first: &'a str,
+        second: &'a str,
+        third: &'a str,
+    ) -> Result<Parser<'a>, AllocError>
+        ensures { IfOk result (λ p. app_of p.command
+            ≡ with_three (app_of self.entry.command)
+            first.entry.now second.entry.now third.entry.now) }
+    {
+        let parser = self.with_option(alloc, first)?;
+        let parser = parser.with_option(alloc, second)?;
+        parser.with_option(alloc, third)
+    }
+
+    // The command with one more option.
+    #[tactic(auto, unfolding(crate::specs::Simple::with_option))]
+    fn with_option(self, alloc: Global, name: &'a str) -> Result<Parser<'a>, AllocError>
+        ensures { IfOk result (λ p. app_of p.command
+            ≡ with_option (app_of self.entry.command) name.entry.now) }
+    {
+        self.with(option(alloc, name))
+    }
 }
 
 // An option that takes one value.

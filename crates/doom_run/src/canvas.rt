@@ -14,7 +14,7 @@ use pixel_trace::{TraceFrame, put_trace};
 use std::alloc::{AllocError, Global};
 
 // What is written of each view: its frame in a format, or its trace.
-#[derive(Clone, Copy, Debug, PartialEq, Eq)]
+#[derive(Clone, Copy)]
 pub enum ViewForm {
     Frame(Format),
     Trace,

@@ -13,7 +13,7 @@ use refusals::Refusal;
 use std::alloc::Global;
 
 // The files that are read whole.
-#[derive(Clone, Copy, Debug, PartialEq, Eq)]
+#[derive(Clone, Copy)]
 pub enum FileKind {
     Tables,
     Things,

@@ -43,7 +43,7 @@ pub struct ThingRow {
 }
 
 /// A line of a thing table: a type, and how its things look.
-#[derive(Clone, Copy, Debug, PartialEq, Eq)]
+#[derive(Clone, Copy)]
 pub struct ThingLine {
     pub kind: u16,
     pub row: ThingRow,
@@ -164,7 +164,7 @@ pub const BOTTOM_UNPEGGED: u16 = 16;
 /// The numbers of a side's three textures; 0 is none.
 ///
 /// The original: side_t, r_defs.h.
-#[derive(Clone, Copy, Debug, PartialEq, Eq)]
+#[derive(Clone, Copy)]
 pub struct SideTextures {
     pub top: u16,
     pub bottom: u16,
@@ -179,7 +179,7 @@ pub const SKY_FLAT: u32 = 65536;
 /// Heights are map units, 16.16 fixed point; a flat is the number of its lump, or `SKY_FLAT`, so
 /// two flats are the same exactly where their numbers are; light is the sector's, 0 to 255. The
 /// original: sector_t, r_defs.h.
-#[derive(Clone, Copy, Debug, PartialEq, Eq)]
+#[derive(Clone, Copy)]
 pub struct Surface {
     pub floor: i32,
     pub ceiling: i32,

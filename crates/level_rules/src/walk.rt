@@ -15,7 +15,7 @@ use view_rules::Partition;
 pub const MAX_DRAWSEGS: u32 = 256;
 
 /// The two corners between which a box is seen, the left one as seen first, map units 16.16.
-#[derive(Clone, Copy, Debug, PartialEq, Eq)]
+#[derive(Clone, Copy)]
 pub struct Corners {
     pub x1: i32,
     pub y1: i32,

@@ -45,7 +45,7 @@ pub const BEHAVIOR: [u8; NAME_SIZE] = *b"BEHAVIOR";
 pub const BEHAVIOR_AFTER: u16 = 11;
 
 /// The lumps that stand between marks.
-#[derive(Clone, Copy, Debug, PartialEq, Eq)]
+#[derive(Clone, Copy)]
 pub enum Group {
     Flats,
     Sprites,

@@ -8,7 +8,7 @@ use thiserror::Error;
 /// begin at byte `place` of that file. Where `size` is 0, `place` may be anything.
 ///
 /// The original: `lumpinfo_t`, w_wad.h.
-#[derive(Clone, Copy, Debug, PartialEq, Eq)]
+#[derive(Clone, Copy)]
 pub struct Lump {
     pub file: u64,
     pub place: u32,
@@ -20,7 +20,7 @@ pub struct Lump {
 /// beside the file's size in bytes.
 ///
 /// The original: `wadinfo_t`, w_wad.h.
-#[derive(Clone, Copy, Debug, PartialEq, Eq)]
+#[derive(Clone, Copy)]
 pub struct Header {
     pub size: u64,
     pub count: u32,

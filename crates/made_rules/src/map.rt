@@ -1,7 +1,7 @@
 // The sizes and marks of a made level.
 
 /// A rectangle of cells: columns `west` to `east - 1` and rows `south` to `north - 1`.
-#[derive(Clone, Copy, Debug, PartialEq, Eq)]
+#[derive(Clone, Copy)]
 pub struct Part {
     pub west: u32,
     pub east: u32,

@@ -1,7 +1,7 @@
 // The pictures of a made WAD file.
 
 /// A picture in columns: sizes and offsets in texels, and the number from which its bytes count.
-#[derive(Clone, Copy, Debug, PartialEq, Eq)]
+#[derive(Clone, Copy)]
 pub struct Picture {
     pub width: u16,
     pub height: u16,
@@ -18,7 +18,7 @@ pub struct Post {
 }
 
 /// A patch of a wall texture: the texel of its left upper corner, and its number in PNAMES.
-#[derive(Clone, Copy, Debug, PartialEq, Eq)]
+#[derive(Clone, Copy)]
 pub struct PatchPlace {
     pub x: u16,
     pub y: i16,

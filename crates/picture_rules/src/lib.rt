@@ -44,7 +44,7 @@ pub use word_rules::{ANG90, ANG180, FRACTION_BITS, FRACTION_UNIT};
 /// How many planes and openings a view may have.
 ///
 /// The original: `MAXVISPLANES` and `MAXOPENINGS`, r_plane.c.
-#[derive(Clone, Copy, Debug, PartialEq, Eq)]
+#[derive(Clone, Copy)]
 pub struct Limits {
     pub planes: u32,
     pub openings: u32,
@@ -53,7 +53,7 @@ pub struct Limits {
 /// What a view counts: its planes, its openings, its drawn fragments and its kept sprites.
 ///
 /// This project's own: the original keeps these as pointers into its arrays.
-#[derive(Clone, Copy, Debug, PartialEq, Eq)]
+#[derive(Clone, Copy)]
 pub struct Counts {
     pub planes: u32,
     pub openings: u32,
@@ -72,7 +72,7 @@ pub enum LimitKind {
 ///
 /// This project's own: the original ends the program at a plane too many, and tests openings only
 /// after the walk.
-#[derive(Clone, Copy, Debug, PartialEq, Eq)]
+#[derive(Clone, Copy)]
 pub struct OverLimit {
     pub kind: LimitKind,
     pub count: u32,

@@ -10,7 +10,7 @@ pub const MOST_TOLD: u64 = u64::MAX;
 
 /// What made a plane: a leaf that looked for its floor or its ceiling and found no such plane, or a
 /// drawn fragment whose columns were taken in the one that was there.
-#[derive(Clone, Copy, Debug, PartialEq, Eq)]
+#[derive(Clone, Copy)]
 pub enum PlaneMaker {
     /// The number of the leaf among the level's (SSECTORS).
     Leaf(u16),
@@ -19,7 +19,7 @@ pub enum PlaneMaker {
 }
 
 /// A drawn fragment: the number of its seg among the level's (SEGS), and its columns.
-#[derive(Clone, Copy, Debug, PartialEq, Eq)]
+#[derive(Clone, Copy)]
 pub struct ListedFragment {
     pub seg: u16,
     pub first: u16,
@@ -27,7 +27,7 @@ pub struct ListedFragment {
 }
 
 /// A plane: its key, what made it, and in how many columns it has a run.
-#[derive(Clone, Copy, Debug, PartialEq, Eq)]
+#[derive(Clone, Copy)]
 pub struct ListedPlane {
     pub key: PlaneKey,
     pub maker: PlaneMaker,
@@ -36,7 +36,7 @@ pub struct ListedPlane {
 
 /// A vissprite: the number of its thing among the level's (THINGS), the lump of its picture, and
 /// its columns in the view, none where the first is past the last.
-#[derive(Clone, Copy, Debug, PartialEq, Eq)]
+#[derive(Clone, Copy)]
 pub struct ListedSprite {
     pub thing: u16,
     pub lump: u16,

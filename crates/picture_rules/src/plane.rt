@@ -21,7 +21,7 @@ pub const SKY_MID: i32 = 100 << 16;
 pub const SKY_MAP: u8 = 0;
 
 /// The flat of a plane: the sky, or a flat's lump number.
-#[derive(Clone, Copy, Debug, PartialEq, Eq)]
+#[derive(Clone, Copy)]
 pub enum Flat4 {
     Sky,
     Lump(u16),
@@ -31,7 +31,7 @@ pub enum Flat4 {
 ///
 /// `height` is in map units, 16.16 fixed point; `light` is the sector's, 0 to 255. All sky has
 /// height 0 and light 0. The original: `visplane_t`, r_defs.h.
-#[derive(Clone, Copy, Debug, PartialEq, Eq)]
+#[derive(Clone, Copy)]
 pub struct PlaneKey {
     pub height: i32,
     pub flat: Flat4,

@@ -32,7 +32,7 @@ pub const WEAPON_MID: i32 = 100 << 16;
 /// A thing as the view sees it: place in map units 16.16, angle (BAM), light number 0 to 15.
 ///
 /// The original: `mobj_t`, p_mobj.h, with spritelights.
-#[derive(Clone, Copy, Debug, PartialEq, Eq)]
+#[derive(Clone, Copy)]
 pub struct Placed {
     pub x: i32,
     pub y: i32,
@@ -45,7 +45,7 @@ pub struct Placed {
 /// A picture of a sprite: its lump, whether it is flipped, its width and offsets in texels.
 ///
 /// The original: `spriteframe_t`, spritewidth, spriteoffset and spritetopoffset, r_data.c.
-#[derive(Clone, Copy, Debug, PartialEq, Eq)]
+#[derive(Clone, Copy)]
 pub struct Shape5 {
     pub lump: u16,
     pub flip: bool,

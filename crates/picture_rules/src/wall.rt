@@ -9,7 +9,7 @@
 use level_rules::{Seg, Surface};
 
 /// A texture of a side: its number, 0 for none, and its height in texels.
-#[derive(Clone, Copy, Debug, PartialEq, Eq)]
+#[derive(Clone, Copy)]
 pub struct WallTexture {
     pub number: u16,
     pub height: u16,
@@ -23,7 +23,7 @@ pub const HEIGHT_SHIFT: u32 = 4;
 /// `front` is the sector of the leaf that shows the seg, `back` the sector behind the seg; the
 /// offsets are texels, 16.16 fixed point. The original: curline, frontsector, backsector and
 /// sidedef, r_bsp.c.
-#[derive(Clone, Copy, Debug, PartialEq, Eq)]
+#[derive(Clone, Copy)]
 pub struct WallFacts {
     pub seg_no: u16,
     pub seg: Seg,
@@ -54,7 +54,7 @@ pub struct Edges {
 
 /// What is left open of a column: the rows between the two. The original: ceilingclip and
 /// floorclip, r_plane.c.
-#[derive(Clone, Copy, Debug, PartialEq, Eq)]
+#[derive(Clone, Copy)]
 pub struct ColumnClip {
     pub ceiling_clip: i32,
     pub floor_clip: i32,
@@ -70,7 +70,7 @@ pub const SIL_TOP: u8 = 2;
 ///
 /// Map units, 16.16 fixed point; 0 where it does not clip. The original: silhouette, bsilheight
 /// and tsilheight of `drawseg_t`, r_defs.h.
-#[derive(Clone, Copy, Debug, PartialEq, Eq)]
+#[derive(Clone, Copy)]
 pub struct Silhouette {
     pub is_there: bool,
     pub height: i32,
@@ -80,7 +80,7 @@ pub struct Silhouette {
 ///
 /// `mid` is 16.16 fixed point, 0 where there is no texture. The original: toptexture and
 /// rw_toptexturemid and their like, r_segs.c.
-#[derive(Clone, Copy, Debug, PartialEq, Eq)]
+#[derive(Clone, Copy)]
 pub struct Part {
     pub number: u16,
     pub mid: i32,
@@ -90,7 +90,7 @@ pub struct Part {
 pub const MAX_EDGE_FRACTION: i32 = 0xfff;
 
 /// Rows first to last, none where first is past last.
-#[derive(Clone, Copy, Debug, PartialEq, Eq)]
+#[derive(Clone, Copy)]
 pub struct RowRange {
     pub first: i32,
     pub last: i32,
@@ -101,7 +101,7 @@ pub struct RowRange {
 /// Scales and step are 16.16; the four heights are above the viewpoint, map units 16.16; marks,
 /// silhouettes and textures follow; the light number is 0 to 15. The original:
 /// R_StoreWallRange, r_segs.c, which keeps them in globals.
-#[derive(Clone, Copy, Debug, PartialEq, Eq)]
+#[derive(Clone, Copy)]
 pub struct FragmentNumbers {
     pub scale1: i32,
     pub scale2: i32,
@@ -125,7 +125,7 @@ pub struct FragmentNumbers {
 
 /// How a drawn fragment clips sprites behind it: not at all, by one row in every column, or by
 /// rows that are saved from this place among the openings on, one for each column.
-#[derive(Clone, Copy, Debug, PartialEq, Eq)]
+#[derive(Clone, Copy)]
 pub enum Clip {
     Absent,
     Constant(i32),
@@ -142,7 +142,7 @@ pub const MOST_OPENINGS: u32 = 245760;
 /// `silhouette` is `SIL_BOTTOM` and `SIL_TOP`, added; the heights are map units 16.16, 0 without
 /// the silhouette; `masked` is the place of its saved texture columns among the openings. The
 /// original: `drawseg_t`, r_defs.h.
-#[derive(Clone, Copy, Debug, PartialEq, Eq)]
+#[derive(Clone, Copy)]
 pub struct FragmentNote {
     pub seg_no: u16,
     pub first: u16,

@@ -13,7 +13,7 @@
 /// `NO_SOURCE`, `LUMP` or `COMPOSITE`; `source` is the number of the lump or of the texture, or 0.
 ///
 /// This project's own: the original keeps no painter.
-#[derive(Clone, Copy, Debug, PartialEq, Eq)]
+#[derive(Clone, Copy)]
 pub struct Painter {
     pub kind: u8,
     pub number: u16,
@@ -34,7 +34,7 @@ pub struct Post {
 /// Whose bytes a paint reads: the kind of source, and the number of the lump or texture, or 0.
 ///
 /// This project's own.
-#[derive(Clone, Copy, Debug, PartialEq, Eq)]
+#[derive(Clone, Copy)]
 pub struct Source {
     pub kind: u8,
     pub number: u16,
@@ -45,7 +45,7 @@ pub struct Source {
 /// `scale` is in pixels a texel, `iscale` in texels a pixel, `mid` is the texel row at the view's
 /// centre row, all 16.16 fixed point; it is seen in the rows between the two clips. The original:
 /// spryscale, dc_iscale, dc_texturemid, mceilingclip and mfloorclip, r_things.c and r_draw.c.
-#[derive(Clone, Copy, Debug, PartialEq, Eq)]
+#[derive(Clone, Copy)]
 pub struct MaskedColumn {
     pub scale: i32,
     pub mid: i32,

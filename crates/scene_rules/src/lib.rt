@@ -76,7 +76,7 @@ pub const EIGHTH_DEGREES: i16 = 45;
 /// A flat of a sector: the sky, or a lump.
 ///
 /// The original: `skyflatnum`, r_sky.c.
-#[derive(Clone, Copy, Debug, PartialEq, Eq)]
+#[derive(Clone, Copy)]
 pub enum Flat {
     Sky,
     Lump(LumpNo),
@@ -85,7 +85,7 @@ pub enum Flat {
 /// The two flats of a sector.
 ///
 /// The original: `floorpic` and `ceilingpic` of `sector_t`, r_defs.h.
-#[derive(Clone, Copy, Debug, PartialEq, Eq)]
+#[derive(Clone, Copy)]
 pub struct SectorFlats {
     pub floor: Flat,
     pub ceiling: Flat,
@@ -94,7 +94,7 @@ pub struct SectorFlats {
 /// A thing that stands in a level: the number of its sector, how things of its type look, and itself.
 ///
 /// The original: `mobj_t`, p_mobj.h.
-#[derive(Clone, Copy, Debug, PartialEq, Eq)]
+#[derive(Clone, Copy)]
 pub struct Placed {
     pub sector: u16,
     pub row: ThingRow,
@@ -105,7 +105,7 @@ pub struct Placed {
 /// is read twice.
 ///
 /// This project's own.
-#[derive(Clone, Copy, Debug, PartialEq, Eq)]
+#[derive(Clone, Copy)]
 pub struct ZoneSizes {
     pub enough: u64,
     pub roomy: u64,

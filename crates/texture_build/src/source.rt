@@ -13,7 +13,7 @@ use texture_lists::TexNo;
 /// Whose bytes a texture column has: of no patch, of one patch lump, or of the texture's composite.
 ///
 /// The original: `texturecolumnlump`, r_data.c.
-#[derive(Clone, Copy, Debug, PartialEq, Eq)]
+#[derive(Clone, Copy)]
 pub enum ColumnSource {
     Empty,
     Lump(LumpNo),

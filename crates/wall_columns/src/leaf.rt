@@ -10,7 +10,7 @@ use picture_rules::PlaneKey;
 use visplanes::{PlaneNo, Planes};
 
 /// The planes that a leaf finds: None where its floor or its ceiling is not seen.
-#[derive(Clone, Copy, Debug, PartialEq, Eq)]
+#[derive(Clone, Copy)]
 pub struct LeafPlanes {
     pub floor: Option<PlaneKey>,
     pub ceiling: Option<PlaneKey>,

@@ -15,7 +15,7 @@ use picture_rules::Edges;
 /// the edges at `x`, and `step` what each of them gains a column, in the units of `Edges`.
 ///
 /// The original: rw_x, rw_stopx, topfrac and topstep and their like, r_segs.c.
-#[derive(Clone, Copy, Debug, PartialEq, Eq)]
+#[derive(Clone, Copy)]
 pub struct Stepper {
     pub x: u16,
     pub left: u16,

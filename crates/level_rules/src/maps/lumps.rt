@@ -3,7 +3,7 @@
 /// A map lump; they stand in this order behind the map's label.
 ///
 /// The original: ML_THINGS to ML_SECTORS, doomdata.h.
-#[derive(Clone, Copy, Debug, PartialEq, Eq)]
+#[derive(Clone, Copy)]
 pub enum MapLump {
     Things,
     Linedefs,

@@ -3,7 +3,7 @@
 /// A line: its flags, and the numbers of its sides, `NO_SIDE` where one is not there.
 ///
 /// The original: maplinedef_t, doomdata.h.
-#[derive(Clone, Copy, Debug, PartialEq, Eq)]
+#[derive(Clone, Copy)]
 pub struct MapLine {
     pub flags: u16,
     pub front: u16,
@@ -13,7 +13,7 @@ pub struct MapLine {
 /// A vertex: map units, 16.16 fixed point.
 ///
 /// The original: mapvertex_t, doomdata.h.
-#[derive(Clone, Copy, Debug, PartialEq, Eq)]
+#[derive(Clone, Copy)]
 pub struct MapVertex {
     pub x: i32,
     pub y: i32,
@@ -22,7 +22,7 @@ pub struct MapVertex {
 /// A seg: the numbers of its vertices and its line, and which side of the line it is, 0 or 1.
 ///
 /// `angle` is BAM; `offset` is map units, 16.16 fixed point. The original: mapseg_t, doomdata.h.
-#[derive(Clone, Copy, Debug, PartialEq, Eq)]
+#[derive(Clone, Copy)]
 pub struct MapSeg {
     pub start: u16,
     pub end: u16,
@@ -35,7 +35,7 @@ pub struct MapSeg {
 /// A leaf (subsector): `count` segs from number `first` on.
 ///
 /// The original: mapsubsector_t, doomdata.h.
-#[derive(Clone, Copy, Debug, PartialEq, Eq)]
+#[derive(Clone, Copy)]
 pub struct MapLeaf {
     pub count: u16,
     pub first: u16,
