@@ -9,14 +9,14 @@ unfoldable pub other_level_task : Text → Option LevelTask
 other_level_task job =
     cond (bytes_eq job (codes "audit")) (Some Audit)
     (cond (bytes_eq job (codes "limits")) (Some Limits)
-    (cond (bytes_eq job (codes "list")) (Some Lists)
-    (cond (bytes_eq job (codes "trim")) (Some Trim) None)))
+    (cond (bytes_eq job (codes "trim")) (Some Trim) None))
 
--- how spans are stepped is asked of `trace` too, and of no other job that draws no frame
+-- `trace` and `list` take how spans are stepped too (a list is the same for both), the others do not
 unfoldable pub plain_level_task : List Row → Text → Option LevelTask
 plain_level_task rows job =
     cond (bytes_eq job (codes "trace")) (Some Trace)
-    (cond (lacks (codes "spans") rows) (other_level_task job) None)
+    (cond (bytes_eq job (codes "list")) (Some Lists)
+    (cond (lacks (codes "spans") rows) (other_level_task job) None))
 
 -- `render` may have a format, the other jobs over a level have none
 unfoldable pub level_task_in : List Row → Text → Option LevelTask

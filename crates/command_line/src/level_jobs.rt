@@ -27,8 +27,8 @@ pub(crate) fn level_task_in(found: &ArgMatches<'_>, job: &str) -> Option<LevelTa
     plain_level_task(found, job)
 }
 
-// The same of a job without a format: of `render` and `trace` alone it is asked how spans are
-// stepped.
+// The same of a job without a format: `trace` and `list` take how spans are stepped, as `render`
+// does, and the others do not.
 #[tactic(auto, unfolding(crate::specs::LevelJobs::plain_level_task))]
 fn plain_level_task(found: &ArgMatches<'_>, job: &str) -> Option<LevelTask>
     ensures { result ≡ plain_level_task (rows_of (found_of found.now)) job.now }
@@ -36,13 +36,16 @@ fn plain_level_task(found: &ArgMatches<'_>, job: &str) -> Option<LevelTask>
     if job == "trace" {
         return Some(LevelTask::Trace);
     }
+    if job == "list" {
+        return Some(LevelTask::List);
+    }
     if value(found, "spans").is_some() {
         return None;
     }
     other_level_task(job)
 }
 
-// The job over a level of that name, other than `render` and `trace`.
+// The job over a level of that name, other than `render`, `trace` and `list`.
 #[tactic(auto, unfolding(crate::specs::LevelJobs::other_level_task))]
 fn other_level_task(job: &str) -> Option<LevelTask>
     ensures { result ≡ other_level_task job.now }
@@ -50,7 +53,6 @@ fn other_level_task(job: &str) -> Option<LevelTask>
     match job {
         "audit" => Some(LevelTask::Audit),
         "limits" => Some(LevelTask::Limits),
-        "list" => Some(LevelTask::List),
         "trim" => Some(LevelTask::Trim),
         _ => None,
     }
