@@ -1,6 +1,8 @@
 -- The lumps of a file, and of files one after the other.
-use Rattle.word_rules.proofs.Common.{[], add-one, ap, append-nil, append_assoc, arith, Bool, drop, drop-cons, drop_all, Err, err_from_is_err_and, get_or, IsErrAnd, length, List, Ok, refl, Result, suc, sum_by, sum_by-cons, sym, take, true, ℕ, ◌*◌, ◌++◌, ◌+◌, ◌<◌, ◌∙◌, ◌≡◌, ◌≤◌}
-use Rattle.wad_dir.specs.Rules.{DirRefusal, Fault, FaultFits, FileNo, Header, IsLaterShelf, Lump, NameFiles, ResultIs, ShelfView, Stands, directory, entry_count, entry_refusal, file_lumps, file_refusal, header, header_in, header_refusal, listing_size, listing_sizes, lumps_from, lumps_in, refusal_from, unless_refused}
+use Rattle.word_rules.proofs.Common.{[], add-one, ap, append-nil, append_assoc, arith, Bool, drop, drop-cons, drop_all, Err, err_from_is_err_and, false, get_or, IsErrAnd, length, List, nat_lt, nat_tests, Ok, refl, Result, suc, sum_by, sum_by-cons, sym, take, true, ℕ, ◌*◌, ◌++◌, ◌+◌, ◌<◌, ◌∙◌, ◌≡◌, ◌≤◌}
+use Rattle.wad_dir.specs.Rules.{DirRefusal, Fault, FaultFits, FileNo, Header, IsLaterShelf, Lump, NameFiles, ResultIs, ShelfView, Stands, directory, entry_count, entry_refusal, file_lumps, file_refusal, header, header_in, header_refusal, listing_size, listing_sizes, lumps_from, lumps_in, refusal_from, unless_refused, whole_header_refusal}
+use Rattle.outside.specs.Shelf.{IsPieceAt}
+use Rattle.lump_rules.specs.declared.wad.TheConstants.{HEADER_SIZE}
 use Rattle.outside.proofs.ShelfLemmas.{as_many, stands_at}
 use Rattle.lump_rules.proofs.WadLemmas.{unless_refused_ok, file_lumps-length}
 use Rattle.wad_dir.specs.declared.fault.DirFault.{DirFault}
@@ -82,3 +84,11 @@ pub file_taken : (first now later : ShelfView) (files : List FileNo) (contents :
 file_taken first now later files contents i d stand lt follows taken more =
     let many = as_many first files contents stand in
     omega (arith, taken, listing_left contents i (omega (arith, many)), more _ (follows.file _ _ (stands_at first files contents i d stand lt)))
+
+-- what a whole header gives that was read is what the bytes of its file give
+pub header-read : (number before size : ℕ) (bytes head : List ℕ) (found : Result Header DirRefusal) → size ≡ length bytes → HEADER_SIZE ≤ size → length head ≡ HEADER_SIZE → IsPieceAt bytes 0 head →
+    found ≡ unless_refused (whole_header_refusal number before size head) (header_in size head) → unless_refused (header_refusal number before bytes) (header_in (length bytes) (header bytes)) ≡ found
+header-read number before size bytes head found same long whole piece is =
+    let off : nat_lt (length bytes) HEADER_SIZE ≡ false = grind (arith, nat_tests) in
+    let first : head ≡ header bytes = rw whole at piece.bytes in
+    rw (off, ← same, ← first) (sym is)
