@@ -3,8 +3,8 @@
 Crates are proved side by side, each in one of some copies of the sources, since rt lets one command at a
 time into a checkout. The library of a crate that is proved is put into the folder out/ of that crate in the
 other copies and in the repository, where rt finds it built. Of the crates that can go on those with the most
-above them go first; where fewer can go on than there are processors, each gets several. The last crates,
-which stand on all others, are built in the repository itself. The program gets its place, out/doomview, as
+above them go first. Each is proved by one process, since two take half as much processor time again; the last
+crates, which stand on all others, are built in the repository itself, by as many as there are processors. The program gets its place, out/doomview, as
 the last step, so no half-built one is ever run; a build that is interrupted goes on where it was.
 
 A build that fails ends this process with 70, one that a signal stops with 128 and the signal's number."""
@@ -266,24 +266,22 @@ class Build:
                 self.fail(f'the build of {crate} failed', said)
 
     def next_crate(self, order):
-        """The first crate that has not begun, of which all below it are done, with its share of processors, or None."""
+        """The first crate that has not begun, of which all below it are done, or None."""
         with self.turn:
-            ready = [crate for crate in order if crate not in self.begun
-                     and all(it in self.done for it in self.crates[crate])]
-            if not ready:
-                return None
-            running = len(self.begun.keys() - {*self.done})
-            self.begun[ready[0]] = time.time()
-            return ready[0], max(1, self.jobs // (running + len(ready)))
+            ready = (crate for crate in order if crate not in self.begun
+                     and all(below in self.done for below in self.crates[crate]))
+            crate = next(ready, None)
+            if crate:
+                self.begun[crate] = time.time()
+            return crate
 
     def work(self, top, order):
         """Builds crates in a copy as long as some have not begun."""
         try:
             while len(self.begun) < len(order) and not self.ended.is_set():
-                found = self.next_crate(order)
-                if found:
-                    crate, jobs = found
-                    self.make(top, crate, 'lib', '--jobs', str(jobs))
+                crate = self.next_crate(order)
+                if crate:
+                    self.make(top, crate, 'lib', '--jobs', '1')
                 else:
                     self.ended.wait(0.1)
         except OSError as error:

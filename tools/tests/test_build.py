@@ -147,14 +147,14 @@ class Build(unittest.TestCase):
         return calls
 
     def test_first(self):
-        """Each crate is built once, whichever copy builds it; one that goes on alone has all processors."""
+        """Each crate is built once, whichever copy builds it, by one process; those that stand on all others by many."""
         calls = self.builds()
         builds = [line for line in calls if line.startswith('build ')]
         self.assertEqual(sorted(builds), sorted(f'build {it}' for it in [*ORDER, 'program']))
-        jobs = int(re.fullmatch('low: lib --jobs ([0-9]+)', calls[0])[1])
-        self.assertEqual(calls[-3:], [f'doomview: run --jobs {jobs} -- make things', 'build doomview', 'build program'])
-        halves = [f'{crate}: lib --jobs {max(1, jobs // 2)}' for crate in ('left', 'right')]
-        self.assertTrue(set(halves) & set(calls), calls)
+        self.assertLessEqual({f'{crate}: lib --jobs 1' for crate in ('low', 'left', 'right')}, {*calls})
+        jobs = int(re.fullmatch('doomview: run --jobs ([0-9]+) -- make things', calls[-3])[1])
+        self.assertIn(f'high: lib --jobs {jobs}', calls)
+        self.assertEqual(calls[-2:], ['build doomview', 'build program'])
 
     def test_newer_source(self):
         self.builds()
