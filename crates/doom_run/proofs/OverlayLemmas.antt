@@ -19,15 +19,15 @@ use Rattle.level_audit.specs.scene_load.Loads.{LoadedValue, loaded_value, weapon
 use Rattle.level_audit.specs.declared.scene_load.load.LoadedScene.{LoadedScene}
 use Rattle.frame_core.specs.declared.fault.ViewFault.{ViewFault}
 use Rattle.frame_core.specs.Faults.{from_cache, view_fault}
-use Rattle.frame_core.specs.Scenes.{scene_of}
+use Rattle.sound_scene.specs.Pictures.{scene_of}
 use Rattle.frame_core.specs.Views.{IsViewLump, IsViewTexture, PaintsView, placed_for, view_scene}
 use Rattle.texture_build.proofs.PaintLemmas.{on_ok_err, paints-none, paints-same, paints-wider}
 use Rattle.weapon_overlay.specs.Layers.{PaintsLayer}
 use Rattle.weapon_overlay.proofs.InViewLemmas.{layers_dots-in}
 use Rattle.doom_run.specs.Drawn.{DrawsLayered, DrawsLayers, KeepsLoaded, layered_dots, layers_dots, loaded_scene}
-use Rattle.doom_run.specs.Layers.{layers_by, layers_of, layer_light}
+use Rattle.run_verdict.specs.Layers.{layers_by, layers_of, layer_light}
 use Rattle.doom_run.specs.Renders.{IsLayerLump}
-use Rattle.doom_run.proofs.RowLemmas.{rows_dots}
+use Rattle.run_verdict.proofs.RowLemmas.{rows_dots}
 
 -- the dots of the layers of a view, whatever the art
 abbrev view_layers : LoadedScene → ℕ → Eye → Art → List Dot
