@@ -109,9 +109,9 @@ joined_at f views n None below at = absurd (none_within views n below at)
 joined_at f views n (Some v) below at = joined_more f views n v at
 
 -- one frame more
-frames_more : (form : ViewForm) (r : ViewsValue) (n : ℕ) → n < length r.views → frames_of form r (take n r.views) ++ frame_at form r n ≡ frames_of form r (take (n + 1) r.views)
+frame_more : (form : ViewForm) (r : ViewsValue) (n : ℕ) → n < length r.views → frames_of form r (take n r.views) ++ frame_at form r n ≡ frames_of form r (take (n + 1) r.views)
 unfolding frames_of frame_at
-frames_more form r n below = joined_at (view_bytes form r.palette r.scene) r.views n (slice_get r.views n) below refl
+frame_more form r n below = joined_at (view_bytes form r.palette r.scene) r.views n (slice_get r.views n) below refl
 
 within_more : (r : ViewsValue) (n k : ℕ) → ((k : ℕ) → k < n → over_at r k ≡ None) → over_at r n ≡ None → k < n + 1 → over_at r k ≡ None
 within_more r n k within here below = elim (cases_lt k n) [ inl s ↦ within k s | inr s ↦ let same : k ≡ n = omega (arith, s, below) in ap (over_at r) same ∙ here ]
@@ -123,7 +123,7 @@ rendered-more {form} {r} {n} {old} {mid} {new} steady status so_far below ends i
     let now : ViewEnds steady form r n mid new Done = rw is at ends in
     record {
       within = λ k b. within_more r n k so_far.within now.0 b;
-      written = grew_more (frames_of form r (take (n + 1) r.views)) so_far.written now.1 (frames_more form r n below);
+      written = grew_more (frames_of form r (take (n + 1) r.views)) so_far.written now.1 (frame_more form r n below);
     }
 
 -- the last view was written
@@ -144,7 +144,7 @@ stopped_before {form} {r} {n} so_far below none =
 stopped_within : {form : ViewForm} {r : ViewsValue} {n : ℕ} {old mid new : List ℕ → Type 0} → Rendered form r n old mid → n < length r.views → over_at r n ≡ None → GrewByPrefix mid new (frame_at form r n) → GrewByPrefix old new (rendered_bytes form r)
 stopped_within {form} {r} {n} so_far below here part =
     let front = due_front form r (n + 1) (omega (arith, below)) (λ k b. within_more r n k so_far.within here b) in
-    prefix_of_more front.0 (rendered_bytes form r) (grew_partly (frames_of form r (take (n + 1) r.views)) so_far.written part (frames_more form r n below)) front.1
+    prefix_of_more front.0 (rendered_bytes form r) (grew_partly (frames_of form r (take (n + 1) r.views)) so_far.written part (frame_more form r n below)) front.1
 
 -- the n-th view is the first that is over
 stopped_over : {form : ViewForm} {r : ViewsValue} {n : ℕ} {old mid new : List ℕ → Type 0} (steady : Bool) (view : ℕ) (over : OverLimit) → Rendered form r n old mid → n < length r.views → view ≡ n → over_at r n ≡ Some over → Grew mid new [] →
