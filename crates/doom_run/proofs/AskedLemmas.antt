@@ -1,24 +1,27 @@
 -- The list of all that a level needs has what drawing its views may ask for.
-use Rattle.std.proofs.Common.{◌≡◌, ℕ, ℤ, true, List, Some, Ok, inl, inr}
-use Rattle.doom_run.specs.Rules.{File, LevelJobValue, Owner, PreparedTexture, has_item, lump_bytes}
+use Rattle.picture_rules.proofs.Common.{Contains, inl, inr, List, Ok, Option, Some, true, ℕ, ℤ, ◌≡◌, ◌⊎◌}
+use Rattle.doom_run.specs.Rules.{File, Frame, Item, LevelJobValue, Owner, PreparedTexture, ShelfView, has_item, lump_bytes}
 use Rattle.texture_build.specs.Calls.{HasAll}
 use Rattle.texture_build.specs.Asked.{IsAskedByColumn}
 use Rattle.texture_build.specs.Sources.{column_in, column_index}
 use Rattle.texture_build.specs.Views.{AreTexturesOf, IsPrepared, prepared_at, prepared_texture}
 use Rattle.texture_build.proofs.TexelLemmas.{prepared_is}
 use Rattle.texture_build.proofs.ViewLemmas.{textures_columns}
-use Rattle.sound_scene.specs.Sound.{art_with, textures_view}
+use Rattle.sound_scene.specs.Sound.{SoundValue, art_with, textures_view}
 use Rattle.job_files.specs.Sizes.{wad_contents}
 use Rattle.level_audit.specs.scene_load.Loads.{load_in, loaded_pictures, loaded_value, weapon_lumps}
 use Rattle.level_audit.specs.scene_load.Orders.{loaded_items}
 use Rattle.level_audit.proofs.scene_load.OrderLemmas.{items_composite, items_lump}
-use Rattle.frame_core.specs.Views.{IsViewLump}
+use Rattle.frame_core.specs.Views.{IsViewLump, IsViewTexture}
 use Rattle.frame_core.proofs.EnoughLemmas.{IsOfTexture, among_prepared, column_asked, needed_drawn, needed_patch, patch_there}
 use Rattle.doom_run.specs.declared.render.ReadyViews.{ReadyViews}
 use Rattle.doom_run.specs.Renders.{HasReadyAsked, IsLayerLump, IsReady}
 use Rattle.doom_run.proofs.DrawnLemmas.{loaded_textures}
-use Rattle.doom_run.proofs.PictureLemmas.{layer_needed, layer_there}
+use Rattle.run_verdict.proofs.PictureLemmas.{layer_needed, layer_there}
 use Rattle.frame_core.proofs.RowLemmas.{textures_rows}
+use Rattle.texture_build.specs.Draws.{HasTexturesAsked}
+use Rattle.job_files.specs.declared.read.SceneFiles.{SceneFiles}
+use Rattle.doom_run.specs.Frames.{KeepsReady}
 
 module _ (level : LevelJobValue) (wads : List (List ℕ)) (files : List File) (ready : ReadyViews) (is : load_in level wads files ≡ Ok (loaded_value ready.loaded)) (stands : IsReady level ready) where
   -- a flat or a picture
@@ -65,3 +68,23 @@ module _ (level : LevelJobValue) (wads : List (List ℕ)) (files : List File) (r
     lumps = λ lump asked. lumps_asked lump asked;
     layers = λ lump asked. layers_asked lump asked;
   }
+
+layers_for : (items : List Item) (files files' : SceneFiles) (weapons weapons' : Option (List Frame)) → files' ≡ files → weapons' ≡ weapons →
+    HasAll items files.dir (λ lump. Contains (weapon_lumps weapons) lump) → HasAll items files'.dir (λ lump. Contains (weapon_lumps weapons') lump)
+layers_for items files files' weapons weapons' f w asked = rw (f, w) asked
+
+asked_for : (items : List Item) (files files' : SceneFiles) (scene scene' : SoundValue) → files' ≡ files → scene' ≡ scene →
+    HasTexturesAsked items (IsViewTexture scene.scene) files.dir.lumps (textures_view scene.scene) × HasAll items files.dir (IsViewLump files.dir.lumps scene.scene) →
+    HasTexturesAsked items (IsViewTexture scene'.scene) files'.dir.lumps (textures_view scene'.scene) × HasAll items files'.dir (IsViewLump files'.dir.lumps scene'.scene)
+asked_for items files files' scene scene' f s asked = rw (f, s) asked
+
+-- the list has what a view and its layers ask for
+pub both_asked : (ready : ReadyViews) (items : List Item) → HasReadyAsked items ready → HasAll items ready.loaded.files.dir (λ lump. IsViewLump ready.loaded.files.dir.lumps ready.loaded.scene.scene lump ⊎ IsLayerLump ready.loaded lump)
+both_asked ready items asked lump (inl seen) = asked.lumps lump seen
+both_asked ready items asked lump (inr layer) = asked.layers lump layer
+
+-- the list has what later views ask for
+pub asked-later : {a b : ShelfView} {x y : ReadyViews} (items : List Item) → KeepsReady a b x y → HasReadyAsked items x → HasReadyAsked items y
+asked-later {x = x} {y} items keeps asked =
+    let both = asked_for items x.loaded.files y.loaded.files x.loaded.scene y.loaded.scene keeps.files keeps.scene (asked.textures, asked.lumps) in
+    record { textures = both.0; lumps = both.1; layers = layers_for items x.loaded.files y.loaded.files x.loaded.weapons y.loaded.weapons keeps.files keeps.weapons asked.layers }

@@ -9,17 +9,17 @@ use Rattle.pixel_trace.proofs.SeenLemmas.{IsCleared, seen-picture, seen-trace}
 use Rattle.level_audit.specs.scene_load.Loads.{loaded_value}
 use Rattle.frame_core.specs.declared.fault.ViewFault.{ViewFault}
 use Rattle.frame_core.specs.Ends.{EndsOver, EndsWithin}
-use Rattle.frame_core.specs.Scenes.{scene_of}
+use Rattle.sound_scene.specs.Pictures.{scene_of}
 use Rattle.frame_core.specs.Views.{placed_for}
 use Rattle.doom_run.specs.declared.canvas.ViewCanvas.{ViewCanvas}
 use Rattle.doom_run.specs.declared.canvas.ViewCanvas.TheVariants as canvas
-use Rattle.doom_run.specs.declared.canvas.ViewForm.TheVariants as form
+use Rattle.run_verdict.specs.declared.form.ViewForm.TheVariants as form
 use Rattle.doom_run.specs.declared.render.ReadyViews.{ReadyViews}
 use Rattle.doom_run.specs.Drawn.{DrawsLayered}
 use Rattle.doom_run.specs.Frames.{IsDrawnAt}
-use Rattle.doom_run.specs.Layers.{SeenView, layers_of, seen_view}
+use Rattle.run_verdict.specs.Layers.{SeenView, layers_of, seen_view}
 use Rattle.doom_run.specs.Renders.{DrawsAt, ready_bytes, ready_views}
-use Rattle.doom_run.specs.Views.{ViewsValue, view_bytes}
+use Rattle.run_verdict.specs.Views.{ViewsValue, view_bytes}
 use Rattle.doom_run.proofs.FitLemmas.{fits_at}
 use Rattle.doom_run.proofs.FrameLemmas.{over_at-eye, view_get}
 

@@ -1,25 +1,26 @@
 -- A zone that is full while a scene is drawn: for which block, and how small it is.
-use Rattle.picture_rules.proofs.Common.{arith, inl, inr, List, Ok, Some, subst, ℕ, ◌<◌, ◌≡◌, ◌⊎◌}
-use Rattle.doom_run.specs.Rules.{File, LevelJobValue, SceneArt, lump_at, lump_block, zone_sizes}
+use Rattle.picture_rules.proofs.Common.{arith, inl, inr, List, Ok, subst, ℕ, ◌<◌, ◌≡◌}
+use Rattle.doom_run.specs.Rules.{File, LevelJobValue, SceneArt, lump_at, lump_block}
 use Rattle.art_rules.proofs.Laws.{and_then-ok}
-use Rattle.texture_build.specs.Sizes.{IsGapBeside}
 use Rattle.texture_build.specs.Views.{AreTexturesOf}
 use Rattle.sound_scene.specs.Sound.{art_with, textures_view}
-use Rattle.frame_core.proofs.EnoughLemmas.{IsArtFull, full-small, view_full}
+use Rattle.frame_core.proofs.EnoughLemmas.{view_full}
+use Rattle.sound_scene.proofs.FullLemmas.{IsArtFull}
 use Rattle.frame_core.proofs.SceneLemmas.{drawable-whole}
 use Rattle.job_files.specs.Files.{files_in}
 use Rattle.frame_core.specs.Views.{CanDrawView}
 use Rattle.level_audit.specs.declared.scene_load.load.LoadedScene.{LoadedScene}
 use Rattle.level_audit.specs.scene_load.Calls.{IsLoadedScene}
 use Rattle.job_files.specs.Sizes.{wad_contents}
-use Rattle.level_audit.specs.scene_load.Loads.{LoadedValue, load_in, loaded_pictures, loaded_sizes, loaded_value, wad_bytes, weapon_lumps}
+use Rattle.level_audit.specs.scene_load.Loads.{LoadedValue, load_in, loaded_pictures, loaded_value, wad_bytes, weapon_lumps}
 use Rattle.level_audit.proofs.scene_load.ArtLemmas.{scene_textures}
 use Rattle.level_audit.proofs.scene_load.AuditedLemmas.{audited_by}
 use Rattle.level_audit.proofs.scene_load.LoadLemmas.{audited_of}
 use Rattle.doom_run.specs.declared.render.ReadyViews.{ReadyViews}
-use Rattle.doom_run.specs.Fulls.{IsBlockBeside, IsDrawnBlock, IsFullDraw, IsPatchBeside}
+use Rattle.run_verdict.specs.Fulls.{IsFullDraw}
 use Rattle.doom_run.specs.Renders.{IsFullView, IsReady}
-use Rattle.doom_run.proofs.PictureLemmas.{layer_needed, layer_there}
+use Rattle.run_verdict.proofs.PictureLemmas.{layer_needed, layer_there}
+use Rattle.run_verdict.proofs.BlockLemmas.{art_draw}
 
 -- the textures of a scene that is loaded are those of the directory
 pub loaded_textures : (level : LevelJobValue) (wads : List (List ℕ)) (files : List File) (loaded : LoadedValue) → load_in level wads files ≡ Ok loaded → AreTexturesOf (wad_contents wads files) loaded.files.lumps (textures_view loaded.scene)
@@ -38,24 +39,6 @@ drawable level loaded stands = record {
   slots = stands.slots;
   composites = omega (arith, stands.audited.whole.few, stands.composites);
 }
-
--- what a zone that was full for what was loaded had no room for
-module _ (loaded : LoadedValue) (zone wanted widest' : ℕ) where
-  abbrev art_in : SceneArt
-  art_in = art_with loaded.scene (loaded_pictures loaded)
-
-  full_block : IsArtFull loaded.files.lumps art_in zone wanted widest' → IsDrawnBlock loaded wanted
-  full_block (inl f) = record { is = inl (f.lump, f.there, f.needed, f.is) }
-  full_block (inr (inl f)) = record { is = inr (Some f.texture, f.prepared, f.is, f.some) }
-  full_block (inr (inr f)) = record { is = inl (f.patch.lump, f.there, f.needed, f.is) }
-
-  gap_beside : widest' < wanted → IsGapBeside zone (lump_block loaded.files.lumps loaded.scene.base.colormap) widest' → IsBlockBeside loaded zone wanted widest'
-  gap_beside narrow gap = record { small = omega (arith, narrow, gap.1); gap = gap }
-
-  full_beside : widest' < wanted → IsArtFull loaded.files.lumps art_in zone wanted widest' → IsBlockBeside loaded zone wanted widest' ⊎ IsPatchBeside loaded zone wanted widest'
-  full_beside narrow (inl f) = inl (gap_beside narrow f.gap)
-  full_beside narrow (inr (inl f)) = inl (gap_beside narrow f.gap)
-  full_beside narrow (inr (inr f)) = inr (record { texture = f.texture; prepared = f.prepared; patch = f.patch; among = f.among; is = f.is; built = f.built; small = omega (arith, narrow, f.gap.1); gap = f.gap })
 
 -- no gap is as wide as what was wanted
 narrow_of : (ready : ReadyViews) (wanted widest' : ℕ) → IsFullView ready wanted widest' → widest' < wanted
@@ -81,19 +64,6 @@ drawn_full level wads files ready stands is wanted widest' (inr (inr layer)) =
       is = layer.wanted_is;
       gap = layer.gap scene.base.colormap (lump_at lumps scene.base.colormap).size stands.loaded.audited.rest;
     })
-
--- no room for what is needed
-pub art_draw : (level : LevelJobValue) (wads : List (List ℕ)) (files : List File) (loaded : LoadedValue) → load_in level wads files ≡ Ok loaded → (wanted widest' : ℕ) → widest' < wanted →
-    IsArtFull loaded.files.lumps (art_with loaded.scene (loaded_pictures loaded)) level.settings.zone wanted widest' → IsFullDraw level wads files wanted widest'
-unfolding loaded_sizes zone_sizes
-art_draw level wads files loaded is wanted widest' narrow full = record {
-  loaded = loaded;
-  is = is;
-  block = full_block loaded level.settings.zone wanted widest' full;
-  narrow = narrow;
-  beside = full_beside loaded level.settings.zone wanted widest' narrow full;
-  enough = full-small loaded.files.lumps (art_with loaded.scene (loaded_pictures loaded)) level.settings.zone wanted widest' narrow full;
-}
 
 -- no room for a texture or a lump of a view
 pub view_draw : (level : LevelJobValue) (wads : List (List ℕ)) (files : List File) (ready : ReadyViews) → IsReady level ready → load_in level wads files ≡ Ok (loaded_value ready.loaded) → (wanted widest' : ℕ) →

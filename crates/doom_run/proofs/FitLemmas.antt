@@ -1,22 +1,26 @@
--- What the frames that are due are painted from stands beside COLORMAP.
-use Rattle.picture_rules.proofs.Common.{Bool, IfSome, length, List, None, Option, refl, slice_get, Some, subst, sym, unwrap_or, ℕ, ◌<◌, ◌≡◌}
-use Rattle.doom_run.specs.Rules.{Eye, OverLimit, ShelfView, lump_bytes, overlaid_paints, view_of}
+-- What the frames that are due are painted from stands beside COLORMAP, and so the zone is no smaller than the least.
+use Rattle.picture_rules.proofs.Common.{Bool, IfSome, length, List, None, Ok, Option, refl, slice_get, Some, subst, sym, unwrap_or, ℕ, ◌+◌, ◌<◌, ◌≡◌, ◌≤◌}
+use Rattle.doom_run.specs.Rules.{Eye, File, LevelJobValue, OverLimit, ShelfView, lump_at, lump_block, lump_bytes, overlaid_paints, view_of}
 use Rattle.texture_build.specs.Draws.{FitBeside}
 use Rattle.sound_scene.specs.Sound.{SoundValue, textures_view}
-use Rattle.doom_run.specs.declared.canvas.ViewForm.{ViewForm}
+use Rattle.run_verdict.specs.declared.form.ViewForm.{ViewForm}
 use Rattle.job_files.specs.declared.read.SceneFiles.{SceneFiles}
-use Rattle.frame_core.specs.Scenes.{scene_of}
+use Rattle.sound_scene.specs.Pictures.{scene_of}
 use Rattle.job_files.specs.declared.status.Status.{Status}
 use Rattle.job_files.specs.declared.status.Status.TheVariants.{Done, Usage, Refused, ReadFault, WriteFault, Limit, ZoneFull, OutOfMemory}
 use Rattle.doom_run.specs.declared.render.ReadyViews.{ReadyViews}
-use Rattle.doom_run.specs.Ends.{IsEnd}
+use Rattle.run_verdict.specs.Ends.{IsEnd}
 use Rattle.doom_run.specs.Frames.{KeepsReady, ViewEnds}
-use Rattle.doom_run.specs.Renders.{FitsAt, ready_views}
-use Rattle.doom_run.specs.Views.{ViewsValue, first_over, over_at}
-use Rattle.doom_run.specs.Layers.{SeenView, seen_view}
-use Rattle.doom_run.proofs.FrameLemmas.{Rendered, none_over, some_over, view_get}
-use Rattle.level_audit.specs.scene_load.Loads.{loaded_value}
-use Rattle.doom_run.proofs.ReadyLemmas.{views-later}
+use Rattle.doom_run.specs.Renders.{FitDue, FitsAt, IsReady, ready_views}
+use Rattle.run_verdict.specs.Views.{ViewsValue, due_views, first_over, over_at}
+use Rattle.run_verdict.specs.Layers.{SeenView, seen_view}
+use Rattle.doom_run.proofs.FrameLemmas.{Rendered, view_get}
+use Rattle.run_verdict.proofs.DueLemmas.{none_over, some_over}
+use Rattle.level_audit.specs.scene_load.Loads.{load_in, loaded_value, wad_bytes}
+use Rattle.doom_run.proofs.ReadyLemmas.{ready_as, views-later}
+use Rattle.run_verdict.specs.Leasts.{delivery_least, least_over, painted_block}
+use Rattle.run_verdict.specs.Jobs.{Written, drawing}
+use Rattle.run_verdict.proofs.LeastLemmas.{loaded_room, over_room, taken_beside, view_beside}
 
 -- what a viewpoint is painted from is that of the number's view
 pub fits_at : (bytes : ℕ → List ℕ) (count : ℕ) (ready : ReadyViews) (k : ℕ) (eye : Eye) → slice_get ready.loaded.files.path k ≡ Some eye →
@@ -61,3 +65,35 @@ module _ (r : ViewsValue) (Fits : ℕ → Type 0) where
   due_stops {n = n} mid new steady (Limit view kind count) so_far below ends other is fits = due_over n (record { kind = kind; count = count }) below so_far.within ends.1 fits
   due_stops mid new steady (ZoneFull wanted widest) so_far below ends other is fits = absurd is
   due_stops mid new steady OutOfMemory so_far below ends other is fits = absurd is
+
+-- where what the views that are due are painted from stands beside COLORMAP
+pub least_due : (level : LevelJobValue) (wads : List (List ℕ)) (files : List File) (ready : ReadyViews) → load_in level wads files ≡ Ok (loaded_value ready.loaded) → IsReady level ready →
+    FitDue (wad_bytes wads files ready.loaded.files.dir.lumps) (lump_at ready.loaded.files.dir.lumps ready.loaded.scene.scene.base.colormap).size ready →
+    least_over (loaded_value ready.loaded) (ready_views (wad_bytes wads files ready.loaded.files.dir.lumps) ready).scene (due_views (ready_views (wad_bytes wads files ready.loaded.files.dir.lumps) ready)) ≤ level.settings.zone
+unfolding due_views
+least_due level wads files ready is stands fit =
+    let loaded = loaded_value ready.loaded in
+    let r = ready_views (wad_bytes wads files ready.loaded.files.dir.lumps) ready in
+    let within = stands.loaded.audited.fits in
+    let room : lump_block ready.loaded.files.dir.lumps ready.loaded.scene.scene.base.colormap ≤ level.settings.zone = loaded_room level wads files loaded is within in
+    over_room level wads files loaded is within r.scene (due_views r)
+    (taken_beside (painted_block ready.loaded.files.dir.lumps (textures_view ready.loaded.scene.scene) ready.loaded.scene.scene.base.colormap r.scene) (lump_block ready.loaded.files.dir.lumps ready.loaded.scene.scene.base.colormap) level.settings.zone room
+    (unwrap_or (first_over r) (length r.views)) r.views
+    (λ k l. views_beside level ready stands room r (slice_get r.views k) (fit k l)))
+  where
+    views_beside : (level : LevelJobValue) (ready : ReadyViews) → IsReady level ready → lump_block ready.loaded.files.dir.lumps ready.loaded.scene.scene.base.colormap ≤ level.settings.zone → (r : ViewsValue) (o : Option SeenView) →
+        IfSome o (λ v. FitBeside ready.loaded.files.dir.lumps (textures_view ready.loaded.scene.scene) ready.loaded.scene.scene.base.colormap (lump_at ready.loaded.files.dir.lumps ready.loaded.scene.scene.base.colormap).size ready.loaded.cache.size (overlaid_paints v.view r.scene v.layers)) →
+        IfSome o (λ v. lump_block ready.loaded.files.dir.lumps ready.loaded.scene.scene.base.colormap + painted_block ready.loaded.files.dir.lumps (textures_view ready.loaded.scene.scene) ready.loaded.scene.scene.base.colormap r.scene v ≤ level.settings.zone)
+    views_beside level ready stands room r None fits = tt
+    views_beside level ready stands room r (Some v) fits =
+        view_beside ready.loaded.files.dir.lumps (textures_view ready.loaded.scene.scene) ready.loaded.scene.scene.base.colormap level.settings.zone room r.scene v
+        (subst (λ (n : ℕ). FitBeside ready.loaded.files.dir.lumps (textures_view ready.loaded.scene.scene) ready.loaded.scene.scene.base.colormap (lump_at ready.loaded.files.dir.lumps ready.loaded.scene.scene.base.colormap).size n (overlaid_paints v.view r.scene v.layers)) stands.loaded.zone fits)
+
+-- the least of a job that draws these views
+pub least_drawn : (level : LevelJobValue) (wads : List (List ℕ)) (files : List File) (writes : ViewsValue → Written) (ready : ReadyViews) → load_in level wads files ≡ Ok (loaded_value ready.loaded) → IsReady level ready →
+    FitDue (wad_bytes wads files ready.loaded.files.dir.lumps) (lump_at ready.loaded.files.dir.lumps ready.loaded.scene.scene.base.colormap).size ready →
+    delivery_least level (drawing level writes) (wad_bytes wads files ready.loaded.files.dir.lumps) (loaded_value ready.loaded) ≤ level.settings.zone
+unfolding delivery_least
+least_drawn level wads files writes ready is stands fit =
+    subst (λ (r : ViewsValue). least_over (loaded_value ready.loaded) r.scene (due_views r) ≤ level.settings.zone)
+    (sym (ready_as (wad_bytes wads files ready.loaded.files.dir.lumps) level ready stands)) (least_due level wads files ready is stands fit)

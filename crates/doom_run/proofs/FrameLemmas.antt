@@ -1,7 +1,7 @@
 -- One view of a path, and the views one after the other.
-use Rattle.picture_rules.proofs.Common.{[], add-one, ap, append-nil, arith, Bool, cases_lt, drop, Err, get_or, get_or_from_slice_get, IfSome, inl, inr, is_some, IsTrue, length, List, None, Ok, Option, option_and_then, option_map, option_map_or, refl, Result, slice_get, slice_get_within, Some, subst, suc, sym, take, take-suc, true, unwrap_or, zero, ℕ, ◌++◌, ◌+◌, ◌-◌, ◌<◌, ◌∙◌, ◌∷◌, ◌≡◌, ◌≤◌}
-use Rattle.doom_run.specs.Rules.{Eye, Grew, GrewByPrefix, OverLimit, ShelfView, Writes, joined_lists, least, view_of, view_over}
-use Rattle.picture_rules.proofs.Laws.{joined_lists-append, least-is, least-none, least-some}
+use Rattle.picture_rules.proofs.Common.{[], add-one, ap, append-nil, arith, Bool, cases_lt, Err, get_or, get_or_from_slice_get, IfSome, inl, inr, IsTrue, length, List, None, Ok, Option, option_and_then, option_map, option_map_or, refl, Result, slice_get, slice_get_within, Some, subst, suc, sym, take, take-suc, zero, ℕ, ◌++◌, ◌+◌, ◌<◌, ◌∙◌, ◌∷◌, ◌≡◌}
+use Rattle.doom_run.specs.Rules.{Eye, Grew, GrewByPrefix, OverLimit, ShelfView, Writes, joined_lists, view_of, view_over}
+use Rattle.picture_rules.proofs.Laws.{joined_lists-append}
 use Rattle.art_rules.proofs.Laws.{grew_more, grew_none, grew_partly, grew_whole, prefix_of_more}
 use Rattle.texture_build.specs.Draws.{IsNoReadFault}
 use Rattle.sound_scene.specs.Sound.{SoundValue}
@@ -9,19 +9,20 @@ use Rattle.level_audit.specs.scene_load.Loads.{loaded_value}
 use Rattle.frame_core.specs.declared.fault.ViewFault.{ViewFault}
 use Rattle.frame_core.specs.declared.fault.ViewFault.TheVariants as fault
 use Rattle.frame_core.specs.Faults.{limit_of_view, view_fault}
-use Rattle.frame_core.specs.Scenes.{scene_of}
+use Rattle.sound_scene.specs.Pictures.{scene_of}
 use Rattle.job_files.specs.declared.status.Status.{Status}
 use Rattle.job_files.specs.declared.status.Status.TheVariants.{Done, Usage, Refused, ReadFault, WriteFault, Limit, ZoneFull, OutOfMemory}
 use Rattle.doom_run.specs.declared.render.ReadyViews.{ReadyViews}
-use Rattle.doom_run.specs.Ends.{RendersAt}
+use Rattle.run_verdict.specs.Ends.{RendersAt}
 use Rattle.doom_run.specs.declared.canvas.ViewCanvas.{ViewCanvas}
-use Rattle.doom_run.specs.declared.canvas.ViewForm.{ViewForm}
+use Rattle.run_verdict.specs.declared.form.ViewForm.{ViewForm}
 use Rattle.doom_run.specs.Frames.{IsDrawnAt, ViewEnds, canvas_bytes, form_of, frame_at, status_of_view}
-use Rattle.doom_run.specs.Layers.{SeenView, seen_view}
+use Rattle.run_verdict.specs.Layers.{SeenView, seen_view}
 use Rattle.doom_run.specs.Renders.{DrawsAt, HoldsReady, ready_bytes, ready_views}
-use Rattle.doom_run.specs.Jobs.{rendered}
-use Rattle.doom_run.specs.Views.{ViewsValue, due_views, end_at, first_over, limit_at, frames_of, over_at, rendered_bytes, view_bytes}
-use Rattle.doom_run.proofs.SeenLemmas.{seen_at}
+use Rattle.run_verdict.specs.Jobs.{rendered}
+use Rattle.run_verdict.specs.Views.{ViewsValue, end_at, first_over, limit_at, frames_of, over_at, rendered_bytes, view_bytes}
+use Rattle.run_verdict.proofs.SeenLemmas.{seen_at}
+use Rattle.run_verdict.proofs.DueLemmas.{due_by, due_front, none_over, some_over}
 
 none_within : {X : Type 0} (xs : List X) (n : ℕ) → n < length xs → slice_get xs n ≡ None → ⊥
 none_within [] n below e = absurd (omega (arith, below))
@@ -108,9 +109,9 @@ joined_at f views n None below at = absurd (none_within views n below at)
 joined_at f views n (Some v) below at = joined_more f views n v at
 
 -- one frame more
-frames_more : (form : ViewForm) (r : ViewsValue) (n : ℕ) → n < length r.views → frames_of form r (take n r.views) ++ frame_at form r n ≡ frames_of form r (take (n + 1) r.views)
+frame_more : (form : ViewForm) (r : ViewsValue) (n : ℕ) → n < length r.views → frames_of form r (take n r.views) ++ frame_at form r n ≡ frames_of form r (take (n + 1) r.views)
 unfolding frames_of frame_at
-frames_more form r n below = joined_at (view_bytes form r.palette r.scene) r.views n (slice_get r.views n) below refl
+frame_more form r n below = joined_at (view_bytes form r.palette r.scene) r.views n (slice_get r.views n) below refl
 
 within_more : (r : ViewsValue) (n k : ℕ) → ((k : ℕ) → k < n → over_at r k ≡ None) → over_at r n ≡ None → k < n + 1 → over_at r k ≡ None
 within_more r n k within here below = elim (cases_lt k n) [ inl s ↦ within k s | inr s ↦ let same : k ≡ n = omega (arith, s, below) in ap (over_at r) same ∙ here ]
@@ -122,53 +123,8 @@ rendered-more {form} {r} {n} {old} {mid} {new} steady status so_far below ends i
     let now : ViewEnds steady form r n mid new Done = rw is at ends in
     record {
       within = λ k b. within_more r n k so_far.within now.0 b;
-      written = grew_more (frames_of form r (take (n + 1) r.views)) so_far.written now.1 (frames_more form r n below);
+      written = grew_more (frames_of form r (take (n + 1) r.views)) so_far.written now.1 (frame_more form r n below);
     }
-
--- no view is over
-pub none_over : (r : ViewsValue) → ((k : ℕ) → k < length r.views → over_at r k ≡ None) → first_over r ≡ None
-unfolding first_over
-none_over r within = least-none (λ k. is_some (over_at r k)) (length r.views) (λ k below. ap (λ (o : Option OverLimit). is_some o) (within k below))
-
--- the first that is over
-pub some_over : (r : ViewsValue) (n : ℕ) (over : OverLimit) → n < length r.views → ((k : ℕ) → k < n → over_at r k ≡ None) → over_at r n ≡ Some over → first_over r ≡ Some n
-unfolding first_over
-some_over r n over below within is =
-    least-some (λ k. is_some (over_at r k)) (length r.views) n below (ap (λ (o : Option OverLimit). is_some o) is) (λ k b. ap (λ (o : Option OverLimit). is_some o) (within k b))
-
--- the frames that are due, by the first view that is over
-due_by : (form : ViewForm) (r : ViewsValue) (o : Option ℕ) → first_over r ≡ o → frames_of form r (take (unwrap_or o (length r.views)) r.views) ≡ rendered_bytes form r
-unfolding due_views
-due_by form r o is = ap (λ (o : Option ℕ). frames_of form r (take (unwrap_or o (length r.views)) r.views)) (sym is)
-
-not_past : (r : ViewsValue) (n i : ℕ) → ((k : ℕ) → k < n → over_at r k ≡ None) → is_some (over_at r i) ≡ true → n ≤ i
-not_past r n i within passes = elim (cases_lt i n) [ inl s ↦ absurd (let none : over_at r i ≡ None = within i s in cc) | inr s ↦ omega (arith, s) ]
-
-due_past : (r : ViewsValue) (n : ℕ) (o : Option ℕ) → least (λ k. is_some (over_at r k)) (length r.views) ≡ o → n ≤ length r.views → ((k : ℕ) → k < n → over_at r k ≡ None) → n ≤ unwrap_or o (length r.views)
-due_past r n None is few within = few
-due_past r n (Some i) is few within =
-    let found = least-is (λ k. is_some (over_at r k)) (length r.views) i is in
-    not_past r n i within found.1
-
-take_more : (n d m : ℕ) (views : List SeenView) → n + d ≡ m → take n views ++ take d (drop n views) ≡ take m views
-take_more zero d m views e = ap (λ (k : ℕ). take k views) (omega (arith, e))
-take_more (suc n) d zero views e = absurd (omega (arith, e))
-take_more (suc n) zero (suc m) [] e = refl
-take_more (suc n) (suc d) (suc m) [] e = refl
-take_more (suc n) d (suc m) (v ∷ views) e = ap (λ xs. v ∷ xs) (take_more n d m views (omega (arith, e)))
-
-frames_append : (form : ViewForm) (r : ViewsValue) (xs ys : List SeenView) → frames_of form r (xs ++ ys) ≡ frames_of form r xs ++ frames_of form r ys
-unfolding frames_of
-frames_append form r xs ys = joined_lists-append (view_bytes form r.palette r.scene) xs ys
-
--- the frames of views that are not over come first of those that are due
-due_front : (form : ViewForm) (r : ViewsValue) (n : ℕ) → n ≤ length r.views → ((k : ℕ) → k < n → over_at r k ≡ None) →
-    (rest : List ℕ) × (frames_of form r (take n r.views) ++ rest ≡ rendered_bytes form r)
-unfolding first_over due_views
-due_front form r n few within =
-    let m : ℕ = unwrap_or (least (λ k. is_some (over_at r k)) (length r.views)) (length r.views) in
-    let le : n ≤ m = due_past r n _ refl few within in
-    (frames_of form r (take (m - n) (drop n r.views)), sym (frames_append form r (take n r.views) (take (m - n) (drop n r.views))) ∙ ap (frames_of form r) (take_more n (m - n) m r.views (omega (arith, le))))
 
 -- the last view was written
 pub render_done : {form : ViewForm} {r : ViewsValue} {old new : List ℕ → Type 0} (steady : Bool) (n : ℕ) → n ≡ length r.views → Rendered form r n old new → RendersAt steady (rendered form r) old new Done
@@ -188,7 +144,7 @@ stopped_before {form} {r} {n} so_far below none =
 stopped_within : {form : ViewForm} {r : ViewsValue} {n : ℕ} {old mid new : List ℕ → Type 0} → Rendered form r n old mid → n < length r.views → over_at r n ≡ None → GrewByPrefix mid new (frame_at form r n) → GrewByPrefix old new (rendered_bytes form r)
 stopped_within {form} {r} {n} so_far below here part =
     let front = due_front form r (n + 1) (omega (arith, below)) (λ k b. within_more r n k so_far.within here b) in
-    prefix_of_more front.0 (rendered_bytes form r) (grew_partly (frames_of form r (take (n + 1) r.views)) so_far.written part (frames_more form r n below)) front.1
+    prefix_of_more front.0 (rendered_bytes form r) (grew_partly (frames_of form r (take (n + 1) r.views)) so_far.written part (frame_more form r n below)) front.1
 
 -- the n-th view is the first that is over
 stopped_over : {form : ViewForm} {r : ViewsValue} {n : ℕ} {old mid new : List ℕ → Type 0} (steady : Bool) (view : ℕ) (over : OverLimit) → Rendered form r n old mid → n < length r.views → view ≡ n → over_at r n ≡ Some over → Grew mid new [] →

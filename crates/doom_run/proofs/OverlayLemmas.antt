@@ -19,15 +19,15 @@ use Rattle.level_audit.specs.scene_load.Loads.{LoadedValue, loaded_value, weapon
 use Rattle.level_audit.specs.declared.scene_load.load.LoadedScene.{LoadedScene}
 use Rattle.frame_core.specs.declared.fault.ViewFault.{ViewFault}
 use Rattle.frame_core.specs.Faults.{from_cache, view_fault}
-use Rattle.frame_core.specs.Scenes.{scene_of}
+use Rattle.sound_scene.specs.Pictures.{scene_of}
 use Rattle.frame_core.specs.Views.{IsViewLump, IsViewTexture, PaintsView, placed_for, view_scene}
 use Rattle.texture_build.proofs.PaintLemmas.{on_ok_err, paints-none, paints-same, paints-wider}
 use Rattle.weapon_overlay.specs.Layers.{PaintsLayer}
 use Rattle.weapon_overlay.proofs.InViewLemmas.{layers_dots-in}
 use Rattle.doom_run.specs.Drawn.{DrawsLayered, DrawsLayers, KeepsLoaded, layered_dots, layers_dots, loaded_scene}
-use Rattle.doom_run.specs.Layers.{layers_by, layers_of, layer_light}
+use Rattle.run_verdict.specs.Layers.{layers_by, layers_of, layer_light}
 use Rattle.doom_run.specs.Renders.{IsLayerLump}
-use Rattle.doom_run.proofs.RowLemmas.{rows_dots}
+use Rattle.run_verdict.proofs.RowLemmas.{rows_dots}
 
 -- the dots of the layers of a view, whatever the art
 abbrev view_layers : LoadedScene → ℕ → Eye → Art → List Dot
@@ -92,18 +92,18 @@ no_dots : (loaded : LoadedScene) (k : ℕ) (eye : Eye) (art : Art) → layers_of
 unfolding joined_lists
 no_dots loaded k eye art none = ap (joined_lists (weapon_dots (view_of loaded.files.tables eye) art)) none
 
-none_drawn : {mark : Painter → ℕ → ℕ} (k : ℕ) (eye : Eye) (loaded : LoadedScene) (view : ShelfView) (canvas : CanvasView) → layers_of (loaded_value loaded) k eye ≡ [] →
+no_layers-drawn : {mark : Painter → ℕ → ℕ} (k : ℕ) (eye : Eye) (loaded : LoadedScene) (view : ShelfView) (canvas : CanvasView) → layers_of (loaded_value loaded) k eye ≡ [] →
     DrawsLayers {A = Unit {0}} mark k eye view view loaded loaded canvas canvas (Ok tt)
-none_drawn {mark} k eye loaded view canvas none =
+no_layers-drawn {mark} k eye loaded view canvas none =
     layers_drawn k eye loaded loaded (record { files = refl; scene = refl; weapons = refl }) (λ textures. paints-same _ (λ contents q is. sym (no_dots loaded k eye _ none)) (paints-none _ tt))
 
 pub no_table-drawn : {mark : Painter → ℕ → ℕ} (k : ℕ) (eye : Eye) (loaded : LoadedScene) (view : ShelfView) (canvas : CanvasView) → loaded.files.weapons ≡ None →
     DrawsLayers {A = Unit {0}} mark k eye view view loaded loaded canvas canvas (Ok tt)
-no_table-drawn k eye loaded view canvas none = none_drawn k eye loaded view canvas (no_table (loaded_value loaded) k eye none)
+no_table-drawn k eye loaded view canvas none = no_layers-drawn k eye loaded view canvas (no_table (loaded_value loaded) k eye none)
 
 pub no_book-drawn : {mark : Painter → ℕ → ℕ} (k : ℕ) (eye : Eye) (loaded : LoadedScene) (view : ShelfView) (canvas : CanvasView) → loaded.weapons ≡ None →
     DrawsLayers {A = Unit {0}} mark k eye view view loaded loaded canvas canvas (Ok tt)
-no_book-drawn k eye loaded view canvas none = none_drawn k eye loaded view canvas (no_pictures (loaded_value loaded) k eye none)
+no_book-drawn k eye loaded view canvas none = no_layers-drawn k eye loaded view canvas (no_pictures (loaded_value loaded) k eye none)
 
 -- the faults of the cache are those of a view
 same_fault : (e : CacheFault) → view_fault (from_cache e) ≡ fault_above (λ (none : ⊥). absurd none) (cache_fault e)

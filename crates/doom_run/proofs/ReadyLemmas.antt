@@ -1,6 +1,6 @@
 -- What stays while views are drawn.
-use Rattle.picture_rules.proofs.Common.{ap, Bool, Contains, inl, inr, length, List, Option, refl, subst, ℕ, ◌∙◌, ◌≡◌, ◌⊎◌}
-use Rattle.doom_run.specs.Rules.{Frame, Heap, ShelfView, block_size, lump_bytes}
+use Rattle.picture_rules.proofs.Common.{ap, Bool, Contains, inl, inr, length, List, Option, refl, subst, sym, ℕ, ◌∙◌, ◌≡◌, ◌⊎◌}
+use Rattle.doom_run.specs.Rules.{Frame, Heap, LevelJobValue, ShelfView, block_size, lump_bytes}
 use Rattle.art_rules.specs.Words.{Lump}
 use Rattle.picture_rules.specs.declared.Limits.{Limits}
 use Rattle.texture_build.specs.DirectoryView.{DirectoryView}
@@ -17,17 +17,28 @@ use Rattle.job_files.specs.declared.read.SceneFiles.{SceneFiles}
 use Rattle.job_files.specs.Files.{value_of}
 use Rattle.level_audit.specs.Weapons.{AreThere}
 use Rattle.level_audit.specs.scene_load.Loads.{loaded_value, weapon_lumps}
-use Rattle.frame_core.specs.Scenes.{scene_of}
+use Rattle.sound_scene.specs.Pictures.{scene_of}
 use Rattle.frame_core.specs.Views.{CanDrawView, IsViewLump, IsViewTexture}
 use Rattle.frame_core.proofs.PaintLemmas.{can_draw_view-later}
 use Rattle.job_files.specs.declared.status.Status.{Status}
 use Rattle.doom_run.specs.declared.render.ReadyViews.{ReadyViews}
 use Rattle.doom_run.specs.Frames.{KeepsReady, ViewEnds}
-use Rattle.doom_run.specs.Renders.{HoldsReady, IsDrawable, IsFullView, IsLayerLump, ready_bytes, ready_views}
-use Rattle.doom_run.specs.declared.canvas.ViewForm.{ViewForm}
-use Rattle.doom_run.specs.Layers.{seen_view, seen_views}
-use Rattle.doom_run.specs.Views.{ViewsValue}
-use Rattle.doom_run.proofs.SeenLemmas.{seen_from-length}
+use Rattle.doom_run.specs.Renders.{HoldsReady, IsDrawable, IsFullView, IsLayerLump, IsReady, ready_bytes, ready_views}
+use Rattle.run_verdict.specs.declared.form.ViewForm.{ViewForm}
+use Rattle.run_verdict.specs.Layers.{seen_view, seen_views}
+use Rattle.run_verdict.specs.Views.{ViewsValue, views_of}
+use Rattle.run_verdict.proofs.SeenLemmas.{seen_from-length}
+
+-- the views of a ready scene are those of what was loaded
+pub ready_as : (bytes : ℕ → List ℕ) (level : LevelJobValue) (ready : ReadyViews) → IsReady level ready → views_of bytes level.settings (loaded_value ready.loaded) ≡ ready_views bytes ready
+unfolding views_of ready_views
+ready_as bytes level ready stands =
+    ap (λ l. record {
+      scene = (ready_views bytes ready).scene;
+      views = (ready_views bytes ready).views;
+      limits = l;
+      palette = (ready_views bytes ready).palette;
+    }) (sym stands.limits)
 
 -- nothing was drawn
 pub keeps_ready-none : (view : ShelfView) (ready : ReadyViews) → KeepsReady view view ready ready

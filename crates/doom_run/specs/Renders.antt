@@ -8,18 +8,19 @@ use Rattle.level_audit.specs.Weapons.{AreThere}
 use Rattle.level_audit.specs.scene_load.Calls.{IsLoadedScene}
 use Rattle.level_audit.specs.scene_load.Loads.{loaded_value, weapon_lumps}
 use Rattle.level_audit.specs.declared.scene_load.load.LoadedScene.{LoadedScene}
-use Rattle.frame_core.specs.Scenes.{scene_of}
+use Rattle.sound_scene.specs.Pictures.{scene_of}
 use Rattle.frame_core.specs.Views.{CanDrawView, IsViewLump, IsViewTexture}
 use Rattle.frame_core.specs.Faults.{limit_of_view, view_fault}
 use Rattle.frame_core.specs.declared.fault.ViewFault.{ViewFault}
 use Rattle.job_files.specs.declared.status.Status.{Status}
-use Rattle.job_files.specs.declared.status.Status.TheVariants.{Done, Usage, Refused, ReadFault, WriteFault, Limit, ZoneFull, OutOfMemory}
+use Rattle.job_files.specs.declared.status.Status.TheVariants.{ReadFault, WriteFault, ZoneFull}
 use Rattle.doom_run.specs.declared.canvas.ViewCanvas.{ViewCanvas}
 use Rattle.doom_run.specs.declared.render.ReadyViews.{ReadyViews}
 use Rattle.doom_run.specs.Frames.{IsDrawnAt, KeepsReady}
-use Rattle.doom_run.specs.Takes.{InOrderAfter}
-use Rattle.doom_run.specs.Views.{ViewsValue, first_over, limits_of_settings, over_at}
-use Rattle.doom_run.specs.Layers.{seen_views}
+use Rattle.run_verdict.specs.Takes.{InOrderAfter}
+use Rattle.run_verdict.specs.Views.{ViewsValue, first_over, limits_of_settings, over_at}
+use Rattle.run_verdict.specs.Layers.{seen_views}
+use Rattle.run_verdict.specs.Ends.{IsDelivered}
 
 -- the views of a ready scene, whose lumps have these bytes
 unfoldable pub ready_views : (ℕ → List ℕ) → ReadyViews → ViewsValue
@@ -97,17 +98,6 @@ pub record DrawsAt (k : ℕ) (view after : ShelfView) (old new : ReadyViews) (ca
       (λ lump. IsViewLump old.loaded.files.dir.lumps old.loaded.scene.scene lump ⊎ IsLayerLump old.loaded lump)
       view after old.loaded.files.dir (textures_view old.loaded.scene.scene) old.loaded.cache new.loaded.cache result
   pub keeps : KeepsReady view after old new
-
--- a status that delivering frames can come to
-abbrev pub IsDelivered : Status → Type 0
-IsDelivered Done = Unit {0}
-IsDelivered Usage = ⊥
-IsDelivered (Refused refusal) = ⊥
-IsDelivered ReadFault = Unit {0}
-IsDelivered WriteFault = Unit {0}
-IsDelivered (Limit view kind count) = Unit {0}
-IsDelivered (ZoneFull wanted widest) = Unit {0}
-IsDelivered OutOfMemory = ⊥
 
 -- What a call leaves that draws views and writes them, by its status: what it read and whose fault it was; `faults`
 -- and `later` are how often writing had failed before and after.

@@ -1,6 +1,6 @@
 // What the views of a path are drawn on, and how each of them goes out.
 //
-// Rules: `specs/Frames` (`canvas_bytes`), `specs/Views` (`view_bytes`).
+// Rules: `specs/Frames` (`canvas_bytes`); `run_verdict`, Views (`view_bytes`).
 ghost use Rattle.doom_run.specs.Frames.{canvas_bytes, form_of};
 ghost use Rattle.frame_writer.specs.declared.TheConstants.{PALETTE_BYTES};
 ghost use Rattle.art_rules.specs.Words.{Writes};
@@ -11,14 +11,8 @@ use frame_writer::{put_index, put_ppm};
 use job_rules::Format;
 use pixel_strips::Frame;
 use pixel_trace::{TraceFrame, put_trace};
+use run_verdict::ViewForm;
 use std::alloc::{AllocError, Global};
-
-// What is written of each view: its frame in a format, or its trace.
-#[derive(Clone, Copy)]
-pub enum ViewForm {
-    Frame(Format),
-    Trace,
-}
 
 // A canvas for views in one form.
 #[derive(Drop)]

@@ -5,7 +5,7 @@ use Rattle.node_walk.specs.Visits.{Visits}
 use Rattle.wall_columns.specs.declared.fault.DrawFault.{DrawFault}
 use Rattle.wall_columns.specs.Faults.{limit_of_fault}
 use Rattle.frame_core.specs.declared.bench.Bench.{Bench}
-use Rattle.frame_core.specs.Scenes.{lists_of, scene_of}
+use Rattle.sound_scene.specs.Pictures.{lists_of, scene_of}
 use Rattle.frame_core.specs.Views.{CanCount}
 use Rattle.frame_core.specs.Walked.{CanTake, HasWalked, IsEventIn}
 use Rattle.frame_core.specs.Painters.{CanCountNext, CounterValue, HasCounted, HasCountedView, HasWalkedNothing, limits_in}

@@ -5,7 +5,7 @@ use Rattle.frame_core.specs.Rules.{Art, DrawAlike, Event, FragmentNote, Fragment
 use Rattle.picture_rules.proofs.wall.NoteLemmas.{length-saved_by, note-bottom_clip, note-middle_column, note-top_clip}
 use Rattle.sound_scene.specs.Sound.{middles_of, textures_view}
 use Rattle.masked_draw.specs.Lists.{MaskedLists, heights_of, lists_of as lists_by, middle_by, no_sector, note_mid, note_seg, noted_drawseg, noted_drawsegs, saved_column, sector_by, side_by}
-use Rattle.frame_core.specs.Scenes.{scene_of}
+use Rattle.sound_scene.specs.Pictures.{scene_of}
 use Rattle.frame_core.proofs.AlikeLemmas.{as_read, masked_dots-read}
 
 -- the lists of a scene as the masked pass has them

@@ -1,6 +1,6 @@
--- For which block a zone is full while a scene is drawn, and that such a zone is smaller than enough.
+-- For which block a zone is full while a scene is drawn, and that one that is enough for the scene never is.
 use Rattle.picture_rules.proofs.Common.{[], All, All-contains, All-contains_itself, All-filter, All-head, ap, append-nil, arith, Bool, cases_lt, cond, Contains, Contains-get_or, eq-eqb, eq-false_positive, Err, false, false≢true, filter, get_or_past, IfErr, IfSome, inl, inr, IsSome, length, List, list_any, list_any-append, nat_lt, nat_tests, None, Ok, Option, range_with_len, refl, Result, slice_index_or, Some, subst, suc, sym, true, unwrap_or, zero, ℕ, ◌*◌, ◌++◌, ◌+◌, ◌<◌, ◌==◌, ◌||◌, ◌∙◌, ◌∷◌, ◌≡◌, ◌≢◌, ◌≤◌, ◌⊎◌}
-use Rattle.frame_core.specs.Rules.{ColumnLookup, Empty, FaultsRose, HasCauseAt, Heap, Owner, PlacedPatch, PreparedTexture, SceneArt, SceneValue, ShelfView, art_of, block_or_none, block_size, book_lumps, column_lookup, composed_columns, composed_count, composite_block, composite_place, composite_size, enough, greatest_by, has_flat, is_composed, is_needed, is_patch_of, is_patch_of_any, lookup_of, lump_at, lump_block, lump_bytes, patches_in, stands_in}
+use Rattle.frame_core.specs.Rules.{ColumnLookup, Empty, FaultsRose, HasCauseAt, Heap, Owner, PlacedPatch, PreparedTexture, SceneArt, SceneValue, ShelfView, art_of, block_or_none, block_size, book_lumps, column_lookup, composed_columns, composed_count, composite_block, composite_place, composite_size, enough, has_flat, is_composed, is_needed, is_patch_of, is_patch_of_any, lookup_of, lump_at, lump_block, lump_bytes, patches_in, stands_in}
 use Rattle.art_rules.specs.Words.{Lump}
 use Rattle.texture_build.specs.DirectoryView.{DirectoryView}
 use Rattle.texture_build.specs.Caches.{IsAtRest, composite_owner, lump_owner}
@@ -15,23 +15,14 @@ use Rattle.texture_build.specs.Views.{TexturesView, AllThere, ArePatchesThere, A
 use Rattle.texture_build.proofs.TexelLemmas.{prepared_is}
 use Rattle.texture_build.proofs.ViewLemmas.{HasColumns, textures_columns}
 use Rattle.sound_scene.specs.Sound.{art_with, textures_view}
+use Rattle.sound_scene.proofs.FullLemmas.{IsArtFull, full-small}
 use Rattle.sound_scene.proofs.MarkLemmas.{any_passed}
-use Rattle.sound_scene.proofs.MemberLemmas.{among_cases, among_none, any_among}
-use Rattle.sound_scene.proofs.NeededLemmas.{needed_there}
+use Rattle.sound_scene.proofs.MemberLemmas.{any_among}
 use Rattle.frame_core.specs.declared.fault.ViewFault.{ViewFault}
 use Rattle.frame_core.specs.declared.fault.ViewFault.TheVariants.{Limit, ZoneFull, ReadFault}
 use Rattle.frame_core.specs.Faults.{limit_of_view, view_fault}
 use Rattle.frame_core.specs.Views.{CanDrawView, IsViewLump, IsViewTexture}
 use Rattle.frame_core.proofs.RowLemmas.{textures_rows}
-
--- none is greater than the greatest
-contained_greatest : {X : Type 0} (f : X → ℕ) (xs : List X) (x : X) → Contains xs x → f x ≤ greatest_by f xs
-unfolding greatest_by
-contained_greatest f [] x has = among_none x has
-contained_greatest f (y ∷ xs) x has = elim (among_cases y xs x has) [
-  | inl same ↦ let at : f y ≡ f x = ap f same in omega (arith, at)
-  | inr later ↦ omega (arith, contained_greatest f xs x later)
-]
 
 -- a list with an item that passes has an item
 some_of : (p : ℕ → Bool) (xs : List ℕ) → list_any p xs ≡ true → 0 < length xs
@@ -137,54 +128,6 @@ needed_patch lumps art t patch prepared among =
 pub patch_there : (lumps : List Lump) (scene : SceneValue) (t : PreparedTexture) (patch : PlacedPatch) → AllThere lumps (textures_view scene) → Contains scene.prepared (Some t) → Contains t.patches patch → patch.lump < length lumps
 patch_there lumps scene t patch all prepared among =
     All-contains (λ (p : PlacedPatch). p.lump < length lumps) t.patches patch (All-contains (λ (o : Option PreparedTexture). IfSome o (ArePatchesThere lumps)) scene.prepared (Some t) all prepared) among
-
--- A zone is full for a lump that is needed: it does not hold it beside COLORMAP.
-pub record IsLumpFull (lumps : List Lump) (art : SceneArt) (zone wanted widest' : ℕ) : Type 0 where
-  pub lump : ℕ
-  pub there : lump < length lumps
-  pub needed : is_needed lumps art lump ≡ true
-  pub is : wanted ≡ lump_block lumps lump
-  pub gap : IsGapBeside zone (lump_block lumps art.colormap) widest'
-
--- for the composite of a texture
-pub record IsCompositeFull (lumps : List Lump) (art : SceneArt) (zone wanted widest' : ℕ) : Type 0 where
-  pub texture : PreparedTexture
-  pub prepared : Contains art.prepared (Some texture)
-  pub is : wanted ≡ composite_block (Some texture)
-  pub some : wanted ≢ 0
-  pub gap : IsGapBeside zone (lump_block lumps art.colormap) widest'
-
--- for a patch of a texture whose composite is built, which has to stand beside it and COLORMAP
-pub record IsPatchFull (lumps : List Lump) (art : SceneArt) (zone wanted widest' : ℕ) : Type 0 where
-  pub texture : PreparedTexture
-  pub prepared : Contains art.prepared (Some texture)
-  pub patch : PlacedPatch
-  pub among : Contains texture.patches patch
-  pub there : patch.lump < length lumps
-  pub needed : is_needed lumps art patch.lump ≡ true
-  pub is : wanted ≡ lump_block lumps patch.lump
-  pub built : composite_block (Some texture) ≢ 0
-  pub gap : IsGapBesideTwo zone (lump_block lumps art.colormap + composite_block (Some texture)) widest'
-
-abbrev pub IsArtFull : List Lump → SceneArt → ℕ → ℕ → ℕ → Type 0
-IsArtFull lumps art zone wanted widest' =
-    IsLumpFull lumps art zone wanted widest'
-    ⊎ (IsCompositeFull lumps art zone wanted widest' ⊎ IsPatchFull lumps art zone wanted widest')
-
--- it is smaller than enough
-pub full-small : (lumps : List Lump) (art : SceneArt) (zone wanted widest' : ℕ) → widest' < wanted → IsArtFull lumps art zone wanted widest' → zone < enough lumps art
-unfolding enough
-full-small lumps art zone wanted widest' narrow (inl f) = omega (arith, narrow, f.gap.1, f.is, needed_there lumps art f.lump f.needed f.there)
-full-small lumps art zone wanted widest' narrow (inr (inl f)) =
-    omega (arith, narrow, f.gap.1, f.is, contained_greatest composite_block art.prepared (Some f.texture) f.prepared)
-full-small lumps art zone wanted widest' narrow (inr (inr f)) = omega (
-  arith,
-  narrow,
-  f.gap.1,
-  f.is,
-  contained_greatest composite_block art.prepared (Some f.texture) f.prepared,
-  needed_there lumps art f.patch.lump f.needed f.there,
-)
 
 -- the texture of a number that is prepared is among those that are
 pub among_prepared : (prepared : List (Option PreparedTexture)) (number : ℕ) → IsSome (prepared_at prepared number) → Contains prepared (Some (unwrap_or (prepared_at prepared number) unprepared))

@@ -2,7 +2,7 @@
 use Rattle.picture_rules.proofs.Common.{[], All-from_recursion, AllByRecursion, Bool, cond, eq-eqb, false, find, get_or, length, List, list_any, list_any_at, map, nat_lt, None, Option, option_and_then, option_map, recursion_from_All, refl, slice_get, Some, subst, suc, sym, true, zero, ℕ, ◌++◌, ◌<◌, ◌==◌, ◌∷◌, ◌≡◌}
 use Rattle.frame_core.specs.Rules.{Event, Frame, MAX_VISSPRITES, Placed, PlacedThing, SceneValue, Seen, Shape, Shape5, SpriteEntry, ViewValue, add_entry, book_lumps, entry_for, entry_of, entry_within, is_frame, joined_lists, picked, placed_of, project, sectors_entered, shape_lumps, view_entries, with_entry, with_sectors, with_seen, with_shape, with_thing, with_things}
 use Rattle.picture_rules.proofs.Laws.{joined_lists-cons}
-use Rattle.frame_core.specs.Scenes.{drawn_shape, scene_of}
+use Rattle.sound_scene.specs.Pictures.{drawn_shape, scene_of}
 
 -- each number of a list is found in it
 each_found : (xs : List ℕ) → AllByRecursion (λ (n : ℕ). list_any (λ m. m == n) xs ≡ true) xs

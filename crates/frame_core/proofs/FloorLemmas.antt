@@ -18,7 +18,7 @@ use Rattle.sound_scene.specs.Sound.{textures_view}
 use Rattle.frame_core.specs.declared.bench.Bench.{Bench}
 use Rattle.frame_core.specs.declared.fault.ViewFault.{ViewFault}
 use Rattle.frame_core.specs.Faults.{from_cache}
-use Rattle.frame_core.specs.Scenes.{lists_of, scene_of}
+use Rattle.sound_scene.specs.Pictures.{lists_of, scene_of}
 use Rattle.frame_core.specs.Views.{CanDrawView, IsViewLump, IsViewTexture, PaintsView, ViewScene, held_scene}
 use Rattle.frame_core.specs.Walked.{HasWalked, IsFlatOf as IsFlatIn, IsFlatShown, IsPlaneIn, planes_after}
 use Rattle.frame_core.specs.Painters.{HasWalkedView, IsPlacedIn, limits_in}

@@ -19,7 +19,7 @@ use Rattle.wall_columns.specs.Walls.{WallsView}
 use Rattle.frame_core.specs.declared.bench.Bench.{Bench}
 use Rattle.frame_core.specs.declared.fault.ViewFault.{ViewFault}
 use Rattle.frame_core.specs.Faults.{from_draw, limit_of_view, view_fault}
-use Rattle.frame_core.specs.Scenes.{lists_of, scene_of}
+use Rattle.sound_scene.specs.Pictures.{lists_of, scene_of}
 use Rattle.frame_core.specs.Views.{CanDrawView, PaintsView, ViewScene, held_scene, view_tools}
 use Rattle.frame_core.specs.Walked.{HasWalked, next_dots, next_wall, planes_after}
 use Rattle.frame_core.proofs.SceneLemmas.{AreFactsReady, IsNoneOrReady, facts_ready, patches_there}

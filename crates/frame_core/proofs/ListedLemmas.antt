@@ -10,7 +10,7 @@ use Rattle.sound_scene.specs.Whole.{AllColumnsSingle, IsNoneOrSingle}
 use Rattle.masked_draw.specs.Lists.{middle_by, note_seg}
 use Rattle.masked_draw.specs.Ready.{CanDrawMiddle, IsListed, IsNotedMiddle}
 use Rattle.frame_core.specs.Views.{IsDrawable}
-use Rattle.frame_core.specs.Scenes.{scene_of}
+use Rattle.sound_scene.specs.Pictures.{scene_of}
 use Rattle.frame_core.specs.Walked.{IsEventIn}
 use Rattle.frame_core.proofs.DrawsegLemmas.{mask_lists}
 use Rattle.frame_core.proofs.SceneLemmas.{patches_there}

@@ -4,7 +4,7 @@ use Rattle.frame_core.specs.Rules.{Event, LevelLists, Limits, ListedFragment, Li
 use Rattle.picture_rules.proofs.ListLemmas.{plane_makers-count}
 use Rattle.node_walk.specs.Visits.{Visits}
 use Rattle.frame_core.specs.declared.bench.Bench.{Bench}
-use Rattle.frame_core.specs.Scenes.{lists_of, scene_of}
+use Rattle.sound_scene.specs.Pictures.{lists_of, scene_of}
 use Rattle.frame_core.specs.Walked.{HasWalked}
 use Rattle.frame_core.specs.Painters.{CanCountNext, CounterValue, HasWalkedNothing, HasWalkedView, limits_in}
 use Rattle.frame_core.specs.ViewLists.{HasListed, WalkListValue, listed_planes, listed_sprites, nothing_listed}

@@ -17,7 +17,7 @@ use Rattle.masked_draw.specs.Ready.{IsListed, IsNotedMiddle, IsSpriteLump}
 use Rattle.frame_core.specs.declared.bench.Bench.{Bench}
 use Rattle.frame_core.specs.declared.fault.ViewFault.{ViewFault}
 use Rattle.frame_core.specs.Faults.{from_cache}
-use Rattle.frame_core.specs.Scenes.{lists_of, scene_of}
+use Rattle.sound_scene.specs.Pictures.{lists_of, scene_of}
 use Rattle.frame_core.specs.Views.{CanDrawView, IsViewLump, PaintsView, held_scene, view_scene}
 use Rattle.frame_core.specs.Walked.{planes_after}
 use Rattle.frame_core.specs.Painters.{HasWalkedView}

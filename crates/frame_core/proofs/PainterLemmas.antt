@@ -21,7 +21,7 @@ use Rattle.frame_core.specs.declared.bench.Bench.{Bench}
 use Rattle.frame_core.specs.declared.fault.ViewFault.{ViewFault}
 use Rattle.frame_core.specs.declared.fault.ViewFault.TheVariants.{Limit}
 use Rattle.frame_core.specs.Faults.{from_draw, limit_of_view, view_fault}
-use Rattle.frame_core.specs.Scenes.{lists_of, scene_of}
+use Rattle.sound_scene.specs.Pictures.{lists_of, scene_of}
 use Rattle.frame_core.specs.Views.{CanDrawView, PaintsView, ViewScene, held_scene}
 use Rattle.frame_core.specs.Walked.{CanTake, HasWalked, IsEventIn, next_dots}
 use Rattle.frame_core.specs.Painters.{CanPaintNext, HasPainted, HasWalkedNothing, HasWalkedView, IsPlacedIn, PainterValue, drawn_walls, limits_in}

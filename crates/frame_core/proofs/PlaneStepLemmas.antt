@@ -3,7 +3,7 @@ use Rattle.picture_rules.proofs.Common.{All, ap, arith, Bool, cond, false, IfSom
 use Rattle.frame_core.specs.Rules.{FRAME_HEIGHT, Plane, PlaneKey, PlanesNow, SceneValue, Surface, ViewShape, ViewValue, Wall, after_event, ceiling_key, ceiling_marks, ceiling_rows, clip_before, empty_plane, floor_key, floor_marks, floor_rows, is_sky, key_of, leaf_step, plane_wall, surface_at, wall_edges, wall_step, with_run}
 use Rattle.picture_rules.specs.declared.plane.Flat4.TheVariants.{Sky, Lump}
 use Rattle.wall_columns.proofs.ClipLemmas.{ceiling_rows-in, clip_before-in, edges_at-words, floor_rows-in}
-use Rattle.frame_core.specs.Scenes.{lists_of}
+use Rattle.sound_scene.specs.Pictures.{lists_of}
 use Rattle.frame_core.specs.Walked.{IsFlatOf, IsFlatShown, IsPlaneIn}
 use Rattle.frame_core.proofs.AllPlanesLemmas.{IsRunIn, all-draws, all-finds, holds-empty_plane, holds-with_run, marked_rows-in}
 

@@ -9,15 +9,9 @@ use Rattle.texture_build.specs.Views.{ArePatchesThere, IsPrepared, prepared_at, 
 use Rattle.level_scene.specs.Bounds.{AreThere, IsNoneOrBelow, IsThere}
 use Rattle.sound_scene.specs.Sound.{middles_of, textures_view}
 use Rattle.sound_scene.specs.Whole.{IsNoneOrPrepared, IsWholeScene}
-use Rattle.frame_core.specs.Scenes.{lists_of, scene_of}
+use Rattle.sound_scene.specs.Pictures.{lists_of, scene_of}
+use Rattle.sound_scene.proofs.SurfaceLemmas.{surface_counts}
 use Rattle.frame_core.specs.Views.{IsDrawable, ShowsSky}
-
--- there are as many surfaces as sectors
-pub surface_counts : (sectors : List Sector) (flats : List SectorFlats) → length flats ≡ length sectors → length (surfaces_of sectors flats) ≡ length sectors
-unfolding surfaces_of
-surface_counts [] flats e = refl
-surface_counts (sector ∷ sectors) [] e = absurd (omega (arith, e))
-surface_counts (sector ∷ sectors) (both ∷ flats) e = ap suc (surface_counts sectors flats (omega (arith, e)))
 
 -- the surface of a sector
 pub surface_from : (sectors : List Sector) (flats : List SectorFlats) (i : ℕ) (s : Sector) (f : SectorFlats) (d : Surface) → length flats ≡ length sectors → i < length sectors →

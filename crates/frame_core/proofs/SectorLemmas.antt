@@ -1,7 +1,7 @@
 -- Laws of the vissprites after a sector's things: where it was entered before, and where it was not.
 use Rattle.std.proofs.Common.{◌≡◌, ℕ, Bool, true, false, not, List, refl}
 use Rattle.frame_core.specs.Rules.{SceneValue, SpriteEntry, ViewValue, things_of, with_things}
-use Rattle.frame_core.specs.Scenes.{scene_of}
+use Rattle.sound_scene.specs.Pictures.{scene_of}
 use Rattle.frame_core.specs.Walked.{with_sector}
 
 -- not entered before

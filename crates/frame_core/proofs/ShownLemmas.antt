@@ -4,7 +4,7 @@ use Rattle.frame_core.specs.Rules.{AreWide, FRAME_WIDTH, ListedPlane, ListedSpri
 use Rattle.visplanes.specs.Planes.{no_plane, plane_at}
 use Rattle.vissprites.specs.Bounds.{lies_within}
 use Rattle.vissprites.proofs.BoundLemmas.{entry_for-lies_within}
-use Rattle.frame_core.specs.Scenes.{drawn_shape, scene_of}
+use Rattle.sound_scene.specs.Pictures.{drawn_shape, scene_of}
 use Rattle.frame_core.specs.ViewLists.{WalkListValue, listed_planes, seen_sprite, shape_sprite, thing_sprite, with_entered, with_sprite, with_sprites}
 
 -- one thing more, and none left

@@ -3,7 +3,7 @@ use Rattle.picture_rules.proofs.Common.{[], All, ap, arith, at_drop_all, at_drop
 use Rattle.std.proofs.Math.ListN.{get_or-map}
 use Rattle.frame_core.specs.Rules.{Frame, Placed, PlacedThing, Scene, SceneValue, Seen, Shape, Shape5, SpriteEntry, ViewValue, add_entry, book_lumps, is_frame, joined_lists, light_number, picked, placed_of, project, shape_lumps, surface_at, with_seen, with_shape, with_thing, with_things}
 use Rattle.picture_rules.proofs.Laws.{joined_lists-cons}
-use Rattle.frame_core.specs.Scenes.{drawn_shape, lists_of, scene_of}
+use Rattle.sound_scene.specs.Pictures.{drawn_shape, lists_of, scene_of}
 
 -- what is below n
 abbrev AllBelow : ℕ → List ℕ → Type 0

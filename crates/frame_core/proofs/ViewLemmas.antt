@@ -16,7 +16,7 @@ use Rattle.frame_core.specs.declared.bench.Bench.{Bench}
 use Rattle.frame_core.specs.declared.fault.ViewFault.{ViewFault}
 use Rattle.frame_core.specs.declared.tools.ViewTools.{ViewTools}
 use Rattle.frame_core.specs.Faults.{limit_of_view}
-use Rattle.frame_core.specs.Scenes.{lists_of, scene_of}
+use Rattle.sound_scene.specs.Pictures.{lists_of, scene_of}
 use Rattle.frame_core.specs.Views.{CanDrawView, PaintsView, ViewScene, held_scene, tools_scene, view_scene}
 use Rattle.frame_core.specs.Walked.{planes_after}
 use Rattle.frame_core.specs.Painters.{HasWalkedView, IsPlacedIn, drawn_walls}

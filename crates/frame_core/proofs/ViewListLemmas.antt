@@ -5,7 +5,7 @@ use Rattle.picture_rules.proofs.ListLemmas.{all_fragments-fragment, all_fragment
 use Rattle.picture_rules.proofs.ThingLemmas.{view_entries-again, view_entries-fragment, view_entries-new}
 use Rattle.frame_core.specs.declared.bench.Bench.{Bench}
 use Rattle.frame_core.specs.Entered.{has_entered}
-use Rattle.frame_core.specs.Scenes.{lists_of, scene_of}
+use Rattle.sound_scene.specs.Pictures.{lists_of, scene_of}
 use Rattle.frame_core.specs.Walked.{HasWalked, planes_after}
 use Rattle.frame_core.specs.ViewLists.{HasListed, HasSprites, WalkListValue, list_fragment, list_leaf, listed_sprites, nothing_listed, seen_sprite, shape_sprite, thing_sprite, with_entered, with_fragment, with_makers, with_sprite, with_sprites}
 

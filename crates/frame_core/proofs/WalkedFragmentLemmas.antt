@@ -10,7 +10,7 @@ use Rattle.wall_columns.specs.Faults.{limit_of_result}
 use Rattle.wall_columns.specs.Walls.{WallsView}
 use Rattle.wall_columns.specs.declared.fault.DrawFault.{DrawFault}
 use Rattle.frame_core.specs.declared.bench.Bench.{Bench}
-use Rattle.frame_core.specs.Scenes.{lists_of, scene_of}
+use Rattle.sound_scene.specs.Pictures.{lists_of, scene_of}
 use Rattle.frame_core.specs.Walked.{HasWalked, IsEventIn, IsPlaneIn, next_wall, planes_after}
 use Rattle.frame_core.proofs.PlaneStepLemmas.{planes-wall}
 use Rattle.frame_core.proofs.StepLemmas.{one_more-room, planes_after-full, steps-full, walls-full, walls-room}

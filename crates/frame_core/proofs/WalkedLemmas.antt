@@ -11,7 +11,7 @@ use Rattle.wall_columns.specs.Walls.{WallsView}
 use Rattle.wall_columns.specs.declared.fault.DrawFault.{DrawFault}
 use Rattle.frame_core.specs.declared.bench.Bench.{Bench}
 use Rattle.frame_core.specs.Entered.{has_entered}
-use Rattle.frame_core.specs.Scenes.{lists_of, scene_of}
+use Rattle.sound_scene.specs.Pictures.{lists_of, scene_of}
 use Rattle.frame_core.specs.Walked.{HasWalked, IsEventIn, IsPlaneIn, planes_after, with_sector}
 use Rattle.frame_core.proofs.PlaneStepLemmas.{planes-leaf}
 use Rattle.frame_core.proofs.StepLemmas.{OneMore, one_more-leaf, openings-none, over-none, planes_after-none, walls-leaf, walls-none}

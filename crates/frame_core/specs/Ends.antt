@@ -7,7 +7,7 @@ use Rattle.texture_build.specs.Draws.{HoldsArt}
 use Rattle.sound_scene.specs.Sound.{textures_view}
 use Rattle.frame_core.specs.declared.fault.ViewFault.{ViewFault}
 use Rattle.frame_core.specs.Faults.{limit_of_view, view_fault}
-use Rattle.frame_core.specs.Scenes.{scene_of}
+use Rattle.sound_scene.specs.Pictures.{scene_of}
 
 -- Ok comes only where no count of the view passes its limit
 abbrev pub EndsWithin : {A E : Type 0} → ViewValue → SceneValue → Limits → Result A E → Type 0

@@ -1,4 +1,3 @@
-pub mod Scenes
 pub mod Entered
 pub mod Faults
 pub mod Views

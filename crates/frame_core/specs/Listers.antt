@@ -3,7 +3,7 @@ use Rattle.std.specs.Prelude.{◌≡◌, ℕ, List, OnOk, Result}
 use Rattle.frame_core.specs.Rules.{Event, OverLimit, SceneValue, ViewValue, view_events}
 use Rattle.frame_core.specs.declared.lister.ViewLister.{ViewLister}
 use Rattle.frame_core.specs.Painters.{CounterValue, HasCounted, counter_now}
-use Rattle.frame_core.specs.Scenes.{lists_of, scene_of}
+use Rattle.sound_scene.specs.Pictures.{lists_of, scene_of}
 use Rattle.frame_core.specs.ViewLists.{HasListed, WalkListValue}
 
 -- a counter, its list, and the name of the reference to the list

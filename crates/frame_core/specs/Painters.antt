@@ -10,7 +10,7 @@ use Rattle.frame_core.specs.declared.counter.ViewCounter.{ViewCounter}
 use Rattle.frame_core.specs.declared.fault.ViewFault.{ViewFault}
 use Rattle.frame_core.specs.declared.painter.ViewPainter.{ViewPainter}
 use Rattle.frame_core.specs.Faults.{limit_of_view}
-use Rattle.frame_core.specs.Scenes.{lists_of, scene_of}
+use Rattle.sound_scene.specs.Pictures.{lists_of, scene_of}
 use Rattle.frame_core.specs.Views.{CanCount, CanDrawView, PaintsView, ViewScene, view_scene}
 use Rattle.frame_core.specs.Walked.{CanTake, HasWalked, IsEventIn}
 

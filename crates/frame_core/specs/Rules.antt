@@ -37,6 +37,6 @@ pub use Rattle.picture_rules.specs.declared.wall.TheConstants.{MOST_OPENINGS, SI
 pub use Rattle.picture_rules.specs.declared.wall.WallFacts.{WallFacts}
 pub use Rattle.picture_rules.specs.declared.wall.WallTexture.{WallTexture}
 pub use Rattle.scene_rules.specs.Words.{Faces, Heap, Owner, SceneArt, SceneValue, block_size}
-unfoldable pub use Rattle.scene_rules.specs.Words.{art_of, block_or_none, both_flats, composite_block, each_from, each_or, enough, faces_in, flat_named, flat_number, flats_of, found_sky, greatest_by, has_flat, has_sky, is_needed, is_sky_name, lump_block, lump_flat, sector_flats, shows_sky, side_textures, sky_name, sky_texture, surface_of, surfaces_of, things_of, three_textures}
+unfoldable pub use Rattle.scene_rules.specs.Words.{art_of, block_or_none, both_flats, composite_block, each_from, each_or, enough, faces_in, flat_named, flat_number, flats_of, found_sky, has_flat, has_sky, is_needed, is_sky_name, lump_block, lump_flat, sector_flats, shows_sky, side_textures, sky_name, sky_texture, surface_of, surfaces_of, things_of, three_textures}
 pub use Rattle.scene_rules.specs.declared.Flat.{Flat}
 pub use Rattle.scene_rules.specs.declared.SectorFlats.{SectorFlats}

@@ -14,7 +14,7 @@ use Rattle.sound_scene.specs.Whole.{AreSidePrepared, IsMiddleSingle}
 use Rattle.frame_core.specs.declared.fault.ViewFault.{ViewFault}
 use Rattle.frame_core.specs.declared.tools.ViewTools.{ViewTools}
 use Rattle.frame_core.specs.Faults.{view_fault}
-use Rattle.frame_core.specs.Scenes.{scene_of}
+use Rattle.sound_scene.specs.Pictures.{scene_of}
 
 -- a flat is that of a lump that may be there, or the sky
 pub record AreFlatNumbers (surface : Surface) : Type 0 where

@@ -7,7 +7,7 @@ use Rattle.vissprites.specs.Bounds.{lies_within, has_lump_below}
 use Rattle.wall_columns.specs.Built.{IsBuilt, limits_of, with_wall}
 use Rattle.frame_core.specs.declared.bench.Bench.{Bench}
 use Rattle.frame_core.specs.Entered.{has_entered}
-use Rattle.frame_core.specs.Scenes.{lists_of, scene_of}
+use Rattle.sound_scene.specs.Pictures.{lists_of, scene_of}
 
 -- an event names what is there: a leaf, or columns of the view and a seg
 abbrev pub IsEventIn : ViewValue → SceneValue → Event → Type 0

@@ -12,7 +12,7 @@ ghost use Rattle.wall_columns.specs.Faults.{limit_of_result, IsLimitFault};
 ghost use Rattle.texture_build.specs.Caches.{KeepsCounts};
 ghost use Rattle.pixel_strips.specs.Dotted.{PlacedAlike};
 ghost use Rattle.frame_core.specs.Entered.{has_entered};
-ghost use Rattle.frame_core.specs.Scenes.{lists_of, scene_of};
+ghost use Rattle.sound_scene.specs.Pictures.{lists_of, scene_of};
 ghost use Rattle.frame_core.specs.Faults.{limit_of_view};
 ghost use Rattle.frame_core.specs.Views.{AreSameViewTools, CanCount, CanDrawTools, PaintsView, tools_scene, tools_state};
 ghost use Rattle.frame_core.specs.Painters.{HasWalkedNothing, IsPlacedIn, counts_in};

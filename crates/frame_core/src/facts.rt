@@ -1,7 +1,7 @@
 // What a seg is drawn from: rules `picture_rules`, Scene.
 ghost use Rattle.std.specs.Prelude.{◌≡◌, ◌<◌, ℕ, List, length};
 ghost use Rattle.picture_rules.specs.Words.{back_of, facts_of, IsSegIn, IsSound, seg_at, side_at, surface_at, textures_at, wall_texture};
-ghost use Rattle.frame_core.specs.Scenes.{lists_of, scene_of};
+ghost use Rattle.sound_scene.specs.Pictures.{lists_of, scene_of};
 
 use picture_rules::{Seg, Side, SideTextures, Surface, WallFacts, WallTexture};
 use sound_scene::SoundScene;
@@ -11,7 +11,7 @@ use texture_build::TexNo;
 /// (texels, 16.16) and its textures.
 ///
 /// The original: curline, frontsector, backsector and sidedef, r_bsp.c.
-#[tactic(auto, unfolding(picture_rules::specs::Scene::facts_of, crate::specs::Scenes::scene_of))]
+#[tactic(auto, unfolding(picture_rules::specs::Scene::facts_of, sound_scene::specs::Pictures::scene_of))]
 pub fn facts_of(scene: &SoundScene, sector: u16, seg_no: u16) -> WallFacts
     requires sides { length scene.now.scene.faces.sides
         ≡ length scene.now.scene.base.level.sides }
@@ -53,7 +53,7 @@ fn seg_at(scene: &SoundScene, seg_no: u16) -> Seg
 }
 
 // The side of that number.
-#[tactic(auto, unfolding(picture_rules::specs::Scene::side_at, crate::specs::Scenes::scene_of))]
+#[tactic(auto, unfolding(picture_rules::specs::Scene::side_at, sound_scene::specs::Pictures::scene_of))]
 fn side_at(scene: &SoundScene, side: u16) -> &Side
     requires { side < length scene.now.scene.base.level.sides }
     ensures { (bytes : ℕ → List ℕ) → result.now ≡ side_at (scene_of bytes scene.now.scene) side }
@@ -62,7 +62,7 @@ fn side_at(scene: &SoundScene, side: u16) -> &Side
 }
 
 // The textures of the side of that number.
-#[tactic(auto, unfolding(picture_rules::specs::Scene::textures_at, crate::specs::Scenes::scene_of))]
+#[tactic(auto, unfolding(picture_rules::specs::Scene::textures_at, sound_scene::specs::Pictures::scene_of))]
 fn textures_at(scene: &SoundScene, side: u16) -> SideTextures
     requires { side < length scene.now.scene.faces.sides }
     ensures { (bytes : ℕ → List ℕ) → result ≡ textures_at (scene_of bytes scene.now.scene) side }
@@ -71,7 +71,7 @@ fn textures_at(scene: &SoundScene, side: u16) -> SideTextures
 }
 
 // The sector of that number.
-#[tactic(auto, using(crate::proofs::SceneLemmas::surface_counts), unfolding(picture_rules::specs::Words::surface_at))]
+#[tactic(auto, using(sound_scene::proofs::SurfaceLemmas::surface_counts), unfolding(picture_rules::specs::Words::surface_at))]
 pub(crate) fn surface_at(scene: &SoundScene, sector: u16) -> Surface
     requires flats { length scene.now.scene.faces.flats
         ≡ length scene.now.scene.base.level.sectors }
@@ -96,7 +96,7 @@ fn back_of(scene: &SoundScene, seg: Seg) -> Option<Surface>
 }
 
 // A texture of a side, with its height; 0 for a number that is no texture's.
-#[tactic(auto, unfolding(picture_rules::specs::Scene::wall_texture, crate::specs::Scenes::scene_of))]
+#[tactic(auto, unfolding(picture_rules::specs::Scene::wall_texture, sound_scene::specs::Pictures::scene_of))]
 fn wall_texture(scene: &SoundScene, number: u16) -> WallTexture
     ensures { (bytes : ℕ → List ℕ) →
         result ≡ wall_texture (scene_of bytes scene.now.scene) number }

@@ -4,7 +4,7 @@
 ghost use Rattle.std.specs.Prelude.{◌≡◌, None, IfErr};
 ghost use Rattle.picture_rules.specs.Words.{planes_dots, view_events, view_planes, view_steps};
 ghost use Rattle.frame_core.specs.Faults.{limit_of_view};
-ghost use Rattle.frame_core.specs.Scenes.{lists_of};
+ghost use Rattle.sound_scene.specs.Pictures.{lists_of};
 ghost use Rattle.frame_core.specs.Views.{AreSameViewTools, CanDrawTools, PaintsView, tools_scene, tools_state};
 ghost use Rattle.frame_core.specs.Painters.{HasWalkedView, IsPlacedIn};
 

@@ -2,7 +2,7 @@
 //
 // Rules: `picture_rules`, Lists. This project's own.
 ghost use Rattle.frame_core.specs.Ends.{EndsWithin};
-ghost use Rattle.frame_core.specs.Scenes.{scene_of};
+ghost use Rattle.sound_scene.specs.Pictures.{scene_of};
 ghost use Rattle.frame_core.specs.ViewLists.{empty_list, listed_planes};
 ghost use Rattle.frame_core.specs.Views.{CanCount};
 ghost use Rattle.frame_core.specs.Rules.{MOST_VISPLANES, listed_plane, marked_columns, view_counts, view_list, view_of, view_over};

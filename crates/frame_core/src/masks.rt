@@ -3,7 +3,7 @@
 // Rules: `picture_rules`, Masked and Paints. The original: `R_DrawMasked`, r_things.c.
 ghost use Rattle.frame_core.specs.Faults.{limit_of_view};
 ghost use Rattle.frame_core.specs.Painters.{HasWalkedView, IsPlacedIn};
-ghost use Rattle.frame_core.specs.Scenes.{lists_of};
+ghost use Rattle.sound_scene.specs.Pictures.{lists_of};
 ghost use Rattle.frame_core.specs.Views.{AreSameViewTools, CanDrawTools, PaintsView, tools_scene, tools_state};
 ghost use Rattle.picture_rules.specs.Words.{draw_order, masked_dots, view_drawsegs, view_entries, view_events, walls_of};
 ghost use Rattle.std.specs.Prelude.{◌≡◌, ◌≤◌, None, IfErr, length};

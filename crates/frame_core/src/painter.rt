@@ -4,7 +4,7 @@
 ghost use Rattle.std.specs.Prelude.{◌≡◌, OnOk};
 ghost use Rattle.picture_rules.specs.Words.{view_events};
 ghost use Rattle.frame_core.specs.Ends.{EndsOver};
-ghost use Rattle.frame_core.specs.Scenes.{lists_of};
+ghost use Rattle.sound_scene.specs.Pictures.{lists_of};
 ghost use Rattle.frame_core.specs.Views.{AreSameViewTools, CanDrawTools, PaintsView, tools_scene, tools_state};
 ghost use Rattle.frame_core.specs.Walked.{CanTake};
 ghost use Rattle.frame_core.specs.Painters.{HasWalkedNothing, HasWalkedView, IsPlacedIn, drawn_walls, limits_in};

@@ -1,5 +1,5 @@
 // The things of a sector as their vissprites are listed: rules `specs/ViewLists`.
-ghost use Rattle.frame_core.specs.Scenes.{lists_of, scene_of};
+ghost use Rattle.sound_scene.specs.Pictures.{lists_of, scene_of};
 ghost use Rattle.frame_core.specs.ViewLists.{seen_sprite, shape_sprite, thing_sprite, with_entered, with_sprites};
 ghost use Rattle.frame_core.specs.Rules.{FRAME_WIDTH, LIGHT_LEVELS, light_number, listed_sprite, natural, project, surface_at, things_of};
 ghost use Rattle.std.specs.Prelude.{◌≡◌, ◌<◌, ◌≤ℤ◌, ℕ, List, Some, length, pos};

@@ -1,6 +1,6 @@
 // The things of a sector as vissprites: rules `picture_rules`, Things.
 ghost use Rattle.frame_core.specs.Rules.{LIGHT_LEVELS, book_lumps, light_number, project, surface_at, things_of, with_seen, with_thing, with_things};
-ghost use Rattle.frame_core.specs.Scenes.{drawn_shape, lists_of, scene_of};
+ghost use Rattle.sound_scene.specs.Pictures.{drawn_shape, lists_of, scene_of};
 ghost use Rattle.std.specs.List.{AllPass};
 ghost use Rattle.std.specs.Prelude.{◌≡◌, ◌<◌, ℕ, List, All, Some, length, pos};
 ghost use Rattle.vissprites.specs.Bounds.{lies_within, has_lump_below};

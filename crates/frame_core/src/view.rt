@@ -4,7 +4,7 @@
 ghost use Rattle.frame_core.specs.Ends.{EndsComplete, EndsNotFull, EndsOver, EndsWithin, HoldsAgain, HoldsScene};
 ghost use Rattle.frame_core.specs.Faults.{view_fault};
 ghost use Rattle.frame_core.specs.Painters.{limits_in};
-ghost use Rattle.frame_core.specs.Scenes.{scene_of};
+ghost use Rattle.sound_scene.specs.Pictures.{scene_of};
 ghost use Rattle.frame_core.specs.Views.{AreSameViewTools, CanCount, CanDrawTools, CanDrawView, IsViewLump, IsViewTexture, PaintsView, placed_for, tools_scene, tools_state, view_scene};
 ghost use Rattle.frame_core.specs.Rules.{AreInView, IsWithinFrame, lump_bytes, picture, view_counts, view_of, view_over, view_paints};
 ghost use Rattle.sound_scene.specs.Sound.{textures_view};

@@ -1,18 +1,18 @@
 // The walk of a view of a scene.
 //
-// Rules: `specs/Scenes`; `node_walk`, Visits. The original: `R_RenderBSPNode`, r_bsp.c.
+// Rules: `sound_scene`, Pictures; `node_walk`, Visits. The original: `R_RenderBSPNode`, r_bsp.c.
 ghost use Rattle.std.specs.Prelude.{◌≡◌, length};
 ghost use Rattle.node_walk.specs.Lists.{walk_lists};
 ghost use Rattle.node_walk.specs.Visits.{TakesAll, Visits};
 ghost use Rattle.picture_rules.specs.Words.{view_events};
-ghost use Rattle.frame_core.specs.Scenes.{lists_of};
+ghost use Rattle.sound_scene.specs.Pictures.{lists_of};
 
 use node_walk::{Cover, Visitor, WalkScene, walk};
 use sound_scene::SoundScene;
 use view_frame::View;
 
 /// The level of a scene, with its surfaces and middle textures.
-#[tactic(auto, using(crate::proofs::SceneLemmas::surface_counts))]
+#[tactic(auto, using(sound_scene::proofs::SurfaceLemmas::surface_counts))]
 pub(crate) fn walked_scene(scene: &SoundScene) -> WalkScene<'_>
     requires sides { length scene.now.scene.faces.sides
         ≡ length scene.now.scene.base.level.sides }

@@ -4,3 +4,5 @@ pub mod NeededLemmas
 pub mod PictureLemmas
 pub mod SceneLemmas
 pub mod SizeLemmas
+pub mod SurfaceLemmas
+pub mod FullLemmas

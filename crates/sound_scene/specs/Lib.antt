@@ -1,6 +1,7 @@
 pub mod Bases
 pub mod Scenes
 pub mod Sound
+pub mod Pictures
 pub mod Views
 pub mod Whole
 pub mod Rules

@@ -2,10 +2,10 @@
 //! zone has to be for them.
 //!
 //! Rules: `scene_rules`, Scenes and Sizes; what contracts see of a sound scene is in `specs/Sound`,
-//! what drawing asks of it in `specs/Whole`. Proved: what a sound scene lends, which lumps it needs,
-//! and the sizes of a zone for them. `level_audit` makes one of a level's lumps. Tested only: that
-//! memory is found (by the tests of `level_audit`). The original: the globals of p_setup.c, r_data.c
-//! and r_things.c.
+//! what drawing asks of it in `specs/Whole`, what a picture is made from in `specs/Pictures`. Proved:
+//! what a sound scene lends, which lumps it needs, and the sizes of a zone for them. `level_audit`
+//! makes one of a level's lumps. Tested only: that memory is found (by the tests of `level_audit`).
+//! The original: the globals of p_setup.c, r_data.c and r_things.c.
 #![tactic(auto)]
 
 mod marks;

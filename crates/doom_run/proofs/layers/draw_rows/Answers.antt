@@ -4,7 +4,7 @@ use Rattle.std.proofs.lemmas.Int.{to_z-of_z}
 use Rattle.texture_build.specs.Views.{TexturesView}
 use Rattle.texture_build.proofs.PaintLemmas.{paints-none, paints-same, paints-then, paints-then_stop, slots-later}
 use Rattle.weapon_overlay.proofs.LayerLemmas.{stands-later}
-use Rattle.doom_run.proofs.RowLemmas.{rows_dots-all, rows_dots-more, rows_dots-none}
+use Rattle.run_verdict.proofs.RowLemmas.{rows_dots-all, rows_dots-more, rows_dots-none}
 use Rattle.doom_run.proofs.layers.draw_rows.Goals as goal
 
 -- a layer is the same beside any textures

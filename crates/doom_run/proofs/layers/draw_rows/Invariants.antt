@@ -3,7 +3,7 @@ use Rattle.picture_rules.proofs.Common.{Contains, Ok, take}
 use Rattle.art_rules.specs.Words.{book_lumps}
 use Rattle.texture_build.specs.Paints.{paint_state}
 use Rattle.weapon_overlay.specs.Layers.{PaintsLayer}
-use Rattle.doom_run.proofs.RowLemmas.{rows_dots}
+use Rattle.run_verdict.proofs.RowLemmas.{rows_dots}
 use Rattle.doom_run.proofs.layers.draw_rows.Given as goal
 
 abbrev pub invariant-loop-i : goal.invariant-loop-i

@@ -1,7 +1,7 @@
 -- The bench and the list that the view was walked in are counted and listed.
 use Rattle.picture_rules.proofs.Common.{ap, arith, length, List, subst, ◌∙◌, ◌≡◌}
 use Rattle.frame_core.specs.Rules.{PlaneMaker, ViewListValue, ViewValue, view_list}
-use Rattle.frame_core.specs.Scenes.{scene_of}
+use Rattle.sound_scene.specs.Pictures.{scene_of}
 use Rattle.frame_core.specs.ViewLists.{listed_planes}
 use Rattle.frame_core.specs.Workshops.{WorkshopView}
 use Rattle.frame_core.proofs.CountLemmas.{counts-view, few-notes, within-view}

@@ -1,4 +1,4 @@
-use Rattle.frame_core.specs.Scenes.{scene_of}
+use Rattle.sound_scene.specs.Pictures.{scene_of}
 use Rattle.frame_core.proofs.ShownLemmas.{entered-known, entered-new}
 use Rattle.frame_core.proofs.shown.list_entered.Goals as goal
 

@@ -1,7 +1,7 @@
 use Rattle.std.proofs.Common.{List, ℤ, pos, w16, rules, sym, ap, ◌∙◌}
 use Rattle.std.proofs.lemmas.Int.{to_z-of_z}
 use Rattle.picture_rules.specs.Words.{light_number, PlacedThing, Surface}
-use Rattle.frame_core.specs.Scenes.{scene_of}
+use Rattle.sound_scene.specs.Pictures.{scene_of}
 use Rattle.frame_core.specs.ViewLists.{with_sprites}
 use Rattle.frame_core.proofs.ShownLemmas.{sprites_end, sprites_more}
 use Rattle.frame_core.proofs.shown.list_things.Goals as goal

@@ -1,5 +1,5 @@
 use Rattle.std.proofs.Common.{◌≡◌, ℕ, List, drop}
-use Rattle.frame_core.specs.Scenes.{scene_of}
+use Rattle.sound_scene.specs.Pictures.{scene_of}
 use Rattle.frame_core.specs.ViewLists.{with_sprites}
 use Rattle.frame_core.proofs.shown.list_things.Given as goal
 

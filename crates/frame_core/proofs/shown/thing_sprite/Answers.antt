@@ -1,4 +1,4 @@
-use Rattle.frame_core.specs.Scenes.{scene_of}
+use Rattle.sound_scene.specs.Pictures.{scene_of}
 use Rattle.frame_core.proofs.ShownLemmas.{thing_listed, thing_unlisted}
 use Rattle.frame_core.proofs.ThingLemmas.{placed_with}
 use Rattle.frame_core.proofs.shown.thing_sprite.Goals as goal

@@ -1,4 +1,4 @@
-use Rattle.frame_core.specs.Scenes.{scene_of}
+use Rattle.sound_scene.specs.Pictures.{scene_of}
 use Rattle.frame_core.proofs.ThingLemmas.{placed_with, thing_with, thing_without}
 use Rattle.frame_core.proofs.things.add_thing.Goals as goal
 

@@ -1,7 +1,7 @@
 use Rattle.picture_rules.proofs.Common.{All, AllPass, drop, List, ℕ, ◌<◌, ◌≡◌}
 use Rattle.frame_core.specs.Rules.{book_lumps, with_things}
 use Rattle.vissprites.specs.Bounds.{lies_within, has_lump_below}
-use Rattle.frame_core.specs.Scenes.{scene_of}
+use Rattle.sound_scene.specs.Pictures.{scene_of}
 use Rattle.frame_core.proofs.things.add_things.Given as goal
 
 -- what is left of the things gives what all of them give

@@ -3,7 +3,7 @@ use Rattle.picture_rules.proofs.Common.{ap, IfErr, IfSome, length, None, on_ok-a
 use Rattle.frame_core.specs.Rules.{IsWithinFrame, Limits, OverLimit, ViewValue, view_over}
 use Rattle.frame_core.specs.declared.fault.ViewFault.{ViewFault}
 use Rattle.frame_core.specs.Faults.{limit_of_view}
-use Rattle.frame_core.specs.Scenes.{scene_of}
+use Rattle.sound_scene.specs.Pictures.{scene_of}
 use Rattle.frame_core.specs.Views.{CanDrawView, tools_scene}
 use Rattle.frame_core.specs.Painters.{IsPlacedIn, limits_in}
 use Rattle.frame_core.proofs.CanLemmas.{can_count-drawable}

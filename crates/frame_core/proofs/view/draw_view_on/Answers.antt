@@ -1,6 +1,6 @@
 use Rattle.std.proofs.Common.{OnOk, ap, ◌∙◌, rules, subst}
 use Rattle.picture_rules.specs.Words.{AreInView, IsWithinFrame, view_paints, ViewValue}
-use Rattle.frame_core.specs.Scenes.{scene_of}
+use Rattle.sound_scene.specs.Pictures.{scene_of}
 use Rattle.frame_core.specs.Workshops.{WorkshopView}
 use Rattle.texture_build.proofs.DrawLemmas.{holds_art-later}
 use Rattle.frame_core.proofs.EnoughLemmas.{complete-view, enough-view}

@@ -1,7 +1,7 @@
 use Rattle.std.proofs.Common.{refl, ap, ◌∙◌}
 use Rattle.wall_columns.specs.Walls.{WallsView}
 use Rattle.picture_rules.specs.Words.{walls_of}
-use Rattle.frame_core.specs.Scenes.{scene_of}
+use Rattle.sound_scene.specs.Pictures.{scene_of}
 use Rattle.frame_core.specs.Walked.{planes_after}
 use Rattle.frame_core.proofs.WalkedLemmas.{bench_of, enters-leaf, limit-stop, over-leaf, same_limits, walked-leaf}
 use Rattle.frame_core.proofs.bench.Bench.enter_leaf.Goals as goal

@@ -5,7 +5,7 @@ use Rattle.texture_build.specs.Views.{TexturesView}
 use Rattle.texture_build.proofs.DrawLemmas.{IsMapped}
 use Rattle.sound_scene.specs.Sound.{textures_view}
 use Rattle.wall_columns.specs.Faults.{limit_of_result}
-use Rattle.frame_core.specs.Scenes.{lists_of}
+use Rattle.sound_scene.specs.Pictures.{lists_of}
 use Rattle.frame_core.specs.declared.fault.ViewFault.{ViewFault}
 use Rattle.frame_core.specs.Faults.{from_draw}
 use Rattle.frame_core.specs.Views.{PaintsView, tools_scene, tools_state}

@@ -1,0 +1,16 @@
+pub mod Alike
+pub mod Ends
+pub mod Exercises
+pub mod Fulls
+pub mod Jobs
+pub mod Leasts
+pub mod Performs
+pub mod Steps
+pub mod Takes
+pub mod Trims
+pub mod Verdict
+pub mod Layers
+pub mod Lists
+pub mod Views
+pub mod Words
+pub mod Rules
