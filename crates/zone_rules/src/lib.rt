@@ -26,7 +26,7 @@ pub const MAX_ZONE_SIZE: u32 = 536_870_912;
 pub const SLOT_LIMIT: u32 = 16_777_216;
 
 /// How a block may be given up. The original: PU_STATIC, PU_LEVEL and PU_CACHE.
-#[derive(Clone, Copy)]
+#[derive(Clone, Copy, Debug, PartialEq, Eq)]
 pub enum Tag {
     /// Pinned for the whole run. Code 1.
     Static,
