@@ -3,5 +3,6 @@ pub mod LoadLemmas
 pub mod RenderLemmas
 pub mod RunLemmas
 pub mod SceneOfLemmas
+pub mod SpansLemmas
 pub mod StepLemmas
 pub mod TrimmedLemmas

@@ -1,6 +1,6 @@
 -- What a trimmed file is for: rendering it comes to the same as rendering the WADs that it was made of.
 use Rattle.std.specs.Prelude.{◌≡◌, ℕ, List, [], ◌∷◌, Some, Result, Ok}
-use Rattle.run_verdict.specs.Rules.{File, FileNames, Format, LevelJobValue, Render, file_named, level_job}
+use Rattle.run_verdict.specs.Rules.{File, FileNames, Format, LevelJobValue, Render, Spans, file_named, level_job}
 use Rattle.run_verdict.specs.Steps.{RunStop}
 use Rattle.run_verdict.specs.Jobs.{job_of}
 use Rattle.run_verdict.specs.Verdict.{Accepted, job_verdict}
@@ -26,7 +26,12 @@ pub record EndAlike (one other : Result Accepted RunStop) : Type 0 where
 abbrev pub render_verdict : Format → LevelJobValue → List (List ℕ) → List File → Result Accepted RunStop
 render_verdict format level wads files = job_verdict (job_of (level_job (Render format) level wads)) files
 
+-- the same job, with spans that are stepped so
+abbrev pub with_spans : Spans → LevelJobValue → LevelJobValue
+with_spans spans level = record level { settings = record level.settings { spans = spans } }
+
+-- in each format, and whether spans are packed or not
 pub record RendersAlike (level : LevelJobValue) (wads : List (List ℕ)) (files : List File) (bytes : List ℕ) : Type 0 where
-  pub alike : (format : Format) (others : List File) (name : List ℕ) →
+  pub alike : (format : Format) (spans : Spans) (others : List File) (name : List ℕ) →
       StandsForWads level.files bytes name files others →
-      EndAlike (render_verdict format level wads files) (render_verdict format level (name ∷ []) others)
+      EndAlike (render_verdict format (with_spans spans level) wads files) (render_verdict format (with_spans spans level) (name ∷ []) others)

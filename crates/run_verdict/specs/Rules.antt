@@ -18,7 +18,7 @@ pub use Rattle.job_rules.specs.declared.command.LevelTask.TheVariants.{Render}
 pub use Rattle.job_rules.specs.declared.command.MakeJob.TheVariants.{Path, Tables, Things, Wad}
 pub use Rattle.job_rules.specs.declared.command.Settings.{Settings}
 pub use Rattle.job_rules.specs.declared.trim.TrimRefusal.{TrimRefusal}
-pub use Rattle.picture_rules.specs.Words.{Art, COMPOSITE, Dot, Eye, FRAME_CELLS, Full, LUMP, LevelValue, MapBytes, MapLeaf, MapRefusal, Painter, SKY_FLAT, Scene, Sector, Surface, ThingLine, ViewListValue, ViewValue, WeaponLayer, no_surface, sky_flat, view_of}
+pub use Rattle.picture_rules.specs.Words.{Art, COMPOSITE, Dot, Eye, FRAME_CELLS, Full, LUMP, LevelValue, MapBytes, MapLeaf, MapRefusal, Painter, SKY_FLAT, Scene, Sector, Spans, Surface, ThingLine, ViewListValue, ViewValue, WeaponLayer, no_surface, sky_flat, view_of}
 unfoldable pub use Rattle.picture_rules.specs.Words.{frame_dots, joined_leaves, joined_level, joined_lists, least, level_of, listed, map_refusal, no_leaf_refusal, overlaid_paints, overlaid_picture, overlaid_trace, records_of, records_refusal, shade, sizes_refusal, surface_at, unless, view_counts, view_list, view_over, weapon_dots}
 pub use Rattle.picture_rules.specs.declared.Counts.{Counts}
 pub use Rattle.picture_rules.specs.declared.LimitKind.{LimitKind}

@@ -9,13 +9,14 @@ use Rattle.refusals.specs.declared.refusal.Refusal.TheVariants.{Trim}
 use Rattle.sound_scene.specs.Sound.{art_with}
 use Rattle.level_audit.specs.scene_load.Loads.{LoadedValue, load_in, loaded_pictures, loaded_sizes, wad_bytes}
 use Rattle.run_verdict.specs.declared.form.ViewForm.TheVariants as form
-use Rattle.run_verdict.specs.Alike.{RendersAlike, render_verdict}
+use Rattle.run_verdict.specs.Alike.{EndAlike, RendersAlike, StandsForWads, render_verdict, with_spans}
 use Rattle.run_verdict.specs.Jobs.{Written, done, drawing, job_of, level_work, rendered, trimming}
 use Rattle.run_verdict.specs.Steps.{at_step, else_usage}
 use Rattle.run_verdict.specs.Trims.{plan_in}
 use Rattle.run_verdict.specs.Verdict.{Accepted, accepted_in, delivered, job_verdict, verdict, work_verdict}
 use Rattle.run_verdict.specs.Views.{views_of}
 use Rattle.run_verdict.proofs.alike.RenderLemmas.{trimmed-views}
+use Rattle.run_verdict.proofs.alike.SpansLemmas.{load-with, loaded_with}
 use Rattle.run_verdict.proofs.alike.StepLemmas.{below, ok_of}
 
 no_file_ok : {A R : Type 0} (r : Result A R) (x : A) → no_file r ≡ Ok x → r ≡ Ok x
@@ -29,21 +30,29 @@ render_is format level wads files loaded bytes is same =
     ap (λ (l : Result LoadedValue (Stop Refusal)). from_below at_step (and_then {B = Accepted} l (λ x. delivered (drawing level (rendered (form.Frame format))) (wad_bytes wads files x.files.lumps) x))) is
     ∙ ap (λ b. Ok (accepted_in (loaded_sizes loaded).enough (rendered (form.Frame format) (views_of b level.settings loaded)))) same
 
--- The bytes of a trimmed file render as the WADs do.
+-- With the spans of the level, rendering the bytes of a trimmed file comes to what rendering the WADs does.
+trimmed-ends : (format : Format) (level : LevelJobValue) (wads : List (List ℕ)) (files : List File) (loaded : LoadedValue) (parts : List TrimPart) → load_in level wads files ≡ Ok loaded →
+    trim_plan loaded.files.lumps (art_with loaded.scene (loaded_pictures loaded)) level.map_name ≡ Ok parts →
+    (others : List File) (name : List ℕ) → StandsForWads level.files (trimmed_file (wad_bytes wads files loaded.files.lumps) loaded.files.lumps parts) name files others →
+    EndAlike (render_verdict format level wads files) (render_verdict format level (name ∷ []) others)
+trimmed-ends format level wads files loaded parts is plan others name stands =
+    let views = trimmed-views level wads files loaded is parts plan name others stands in
+    record {
+      first = accepted_in (loaded_sizes loaded).enough (rendered (form.Frame format) (views_of (wad_bytes wads files loaded.files.lumps) level.settings loaded));
+      second = accepted_in (loaded_sizes views.moved).enough (rendered (form.Frame format) (views_of views.bytes level.settings views.moved));
+      is = render_is format level wads files loaded (wad_bytes wads files loaded.files.lumps) is refl;
+      is_too = render_is format level (name ∷ []) others views.moved views.bytes views.loads views.same;
+      end = views.end;
+      written = views.rendered format;
+    }
+
+-- The bytes of a trimmed file render as the WADs do, whatever the spans: its parts do not depend on them.
 trimmed-renders : (level : LevelJobValue) (wads : List (List ℕ)) (files : List File) (loaded : LoadedValue) (parts : List TrimPart) → load_in level wads files ≡ Ok loaded →
     trim_plan loaded.files.lumps (art_with loaded.scene (loaded_pictures loaded)) level.map_name ≡ Ok parts →
     RendersAlike level wads files (trimmed_file (wad_bytes wads files loaded.files.lumps) loaded.files.lumps parts)
 trimmed-renders level wads files loaded parts is plan = record {
-  alike = λ format others name stands.
-      let views = trimmed-views level wads files loaded is parts plan name others stands in
-      record {
-        first = accepted_in (loaded_sizes loaded).enough (rendered (form.Frame format) (views_of (wad_bytes wads files loaded.files.lumps) level.settings loaded));
-        second = accepted_in (loaded_sizes views.moved).enough (rendered (form.Frame format) (views_of views.bytes level.settings views.moved));
-        is = render_is format level wads files loaded (wad_bytes wads files loaded.files.lumps) is refl;
-        is_too = render_is format level (name ∷ []) others views.moved views.bytes views.loads views.same;
-        end = views.end;
-        written = views.rendered format;
-      };
+  alike = λ format spans others name stands.
+      trimmed-ends format (with_spans spans level) wads files (loaded_with spans loaded) parts (load-with spans level wads files loaded is) plan others name stands;
 }
 
 -- what is accepted of a job that trims is the bytes of its parts
