@@ -1,5 +1,7 @@
 """Tests the vectors: `doomview vectors` with stand-ins for the programs on a made room, `vectors/check` on frames that
 are made here; and where Freedoom and the program that DOOMVIEW_TESTED names are there, the files of the repository."""
+import hashlib
+import json
 import os
 import shutil
 import signal
@@ -7,10 +9,11 @@ import subprocess
 import sys
 import tempfile
 import unittest
+import xml.etree.ElementTree as xml
 
 import pages_shown
-from made_files import TOP, Tools
-from doomview_tools import original, vectors, wads, weapons
+from made_files import TOOLS, TOP, Tools, wad
+from doomview_tools import original, png, vectors, wads, weapons
 from test_original import DOOMVIEW
 
 # Draws what the stand-in for doomview does, but view 1 of many without zeros behind memory, and with packed spans
@@ -26,7 +29,7 @@ with open(word['-out'], 'wb') as out, open(word['-counts'], 'w') as counts:
         is_ended = len(rows) > 3 and k == 3
         counts.write(f'view {k} error R_FindPlane\\n' if is_ended else f'view {k} planes 1 openings 2\\n')
 '''
-CHECK = os.path.join(TOP, 'vectors', 'check')
+CHECK, CI = (os.path.join(TOP, 'vectors', name) for name in ('check', 'ci'))
 TESTED = os.environ.get('DOOMVIEW_TESTED', '')
 FREEDOOM = {'freedoom1': ['E1M1', 'E4M2'], 'freedoom2': ['MAP01', 'MAP26']}  # files of vectors, and maps to draw again
 MOST_BYTES = 500000
@@ -46,7 +49,8 @@ def changed(data, view, row, column=0):
 
 def vector(view, ours, packed, answer='same', full=None, kind='near', name='MAP01'):
     return vectors.Vector(kind, name, view, 3, 11, '', 65536 * view, 0, 2686976, 0, 0, 0, vectors.sum_of(ours),
-                          vectors.sum_of(packed), answer, vectors.sum_of(full) if full else '', vectors.bands_of(ours))
+                          vectors.sum_of(packed), answer, vectors.sum_of(full) if full else '', vectors.bands_of(ours),
+                          vectors.bands_of(packed))
 
 
 class Check(Tools):
@@ -76,10 +80,42 @@ class Check(Tools):
         self.assertEqual(self.check(*self.ours[:3]), (0, ['MAP01 near same 3', 'all same 3']))
 
     def test_packed(self):
+        """Each kind of spans is right where it is asked for, and wrong where the other is."""
         self.assertEqual(self.check(*self.packed[:3])[0], 1)
-        self.assertIn('--packed takes it as right', self.error)
-        words = ('--maps', 'MAP01', '--packed')
-        self.assertEqual(self.check(words=words), (0, ['MAP01 near packed 3', 'all packed 3']))
+        self.assertIn('--spans packed takes it as right', self.error)
+        for word in (['--spans', 'packed'], ['--packed'], ['--spans', 'either']):
+            self.assertEqual(self.check(words=('--maps', 'MAP01', *word)), (0, ['MAP01 near packed 3', 'all packed 3']))
+        words = ('--maps', 'MAP01', '--spans', 'packed')
+        self.assertEqual(self.check(*self.ours[:2], self.packed[2], words=words),
+                         (1, ['MAP01 near packed 1 full 2', 'all packed 1 full 2']))
+        self.assertIn('--spans full takes it as right', self.error)
+        self.assertEqual(self.check(*self.ours[:2], frame(23), words=words)[1][0], 'MAP01 near full 3')
+        either = ('--maps', 'MAP01', '--spans', 'either')
+        self.assertEqual(self.check(*self.ours[:2], self.packed[2], words=either)[1][0], 'MAP01 near same 2 packed 1')
+
+    def test_asked_first(self):
+        """A frame that is right in the spans that were asked for is so, whatever else it is too."""
+        rows = [vector(0, frame(1), frame(23), 'memory', frame(23)), vector(1, frame(2), frame(2))]
+        self.write('made.csv', vectors.text(rows).encode())
+        lines = ['MAP01 near same 1 original 1', 'all same 1 original 1']
+        self.assertEqual(self.check(frame(23), frame(2)), (0, lines))
+        words = ('--maps', 'MAP01', '--spans', 'packed')
+        self.assertEqual(self.check(words=words), (0, ['MAP01 near packed 2', 'all packed 2']))
+
+    def test_rows_of_packed(self):
+        """The rows that differ are those of the frame that was asked for."""
+        mixed = bytes(320 * 100) + bytes([9]) * (320 * 100)
+        rows = [vector(0, frame(9), mixed)]
+        self.write('made.csv', vectors.text(rows).encode())
+        wrong = changed(mixed, 0, 5)
+        line = '  view 0 wrong at 0,0,2686976,0: rows '
+        self.assertEqual(self.check(wrong)[1][1], f'{line}0-19 20-39 40-59 60-79 80-99')
+        for spans in ('packed', 'either'):
+            self.assertEqual(self.check(words=('--maps', 'MAP01', '--spans', spans))[1][1], f'{line}0-19')
+        old = [row._replace(packedbands='') for row in rows]
+        text = '\n'.join(line.rpartition(',')[0] for line in vectors.text(old).splitlines())
+        self.write('made.csv', text.encode())
+        self.assertEqual(self.check(wrong, words=('--maps', 'MAP01', '--spans', 'packed'))[1][1], line.rstrip())
 
     def test_wrong(self):
         frames = changed(b''.join(self.ours[:3]), 1, 45)
@@ -113,6 +149,36 @@ class Check(Tools):
         self.assertEqual(self.check(frame(0), words=words, place='port/MAP01-sizes.bin')[1][1].split(':')[0],
                          '  view 0 wrong at 0,0,2686976,0 size 5')
 
+    def test_accepted(self):
+        """A known difference is green by its sum, and a new one is red."""
+        wrong = changed(b''.join(self.ours[:3]), 1, 45)
+        words = ('--maps', 'MAP01', '--differences', 'known.csv')
+        self.assertEqual(self.check(wrong, words=words)[0], 1)
+        sum_of_wrong = vectors.sum_of(wrong[FRAME:2 * FRAME])
+        self.assertEqual(self.read('known.csv'), f'map,set,view,sum\nMAP01,near,1,{sum_of_wrong}\n')
+        words = ('--maps', 'MAP01', '--accept', 'known.csv')
+        self.assertEqual(self.check(wrong, words=words), (0, ['MAP01 near same 2 accepted 1', 'all same 2 accepted 1']))
+        self.assertEqual(self.check(changed(wrong, 1, 46), words=words)[1][0], 'MAP01 near same 2 wrong 1')
+        self.assertEqual(self.check(changed(wrong, 0, 46), words=words)[1][0], 'MAP01 near same 1 wrong 1 accepted 1')
+        self.write('other.csv', b'map,view\n')
+        self.assertEqual(self.check(words=(*words[:3], 'other.csv'))[0], 2)
+        self.assertIn('other.csv is no file of accepted differences', self.error)
+
+    def test_reports(self):
+        """JSON and JUnit's XML have each view."""
+        words = ('--maps', 'MAP01', '--json', 'found.json', '--junit', 'found.xml')
+        self.check(changed(b''.join(self.ours[:2]), 1, 45) + frame(99), words=words)
+        found = json.loads(self.read('found.json'))
+        self.assertEqual((found['vectors'], found['spans']), ('made.csv', 'full'))
+        self.assertEqual([(it['map'], it['view'], it['word'], it['wrong'], it['rows']) for it in found['views']],
+                         [('MAP01', 0, 'same', False, []), ('MAP01', 1, 'wrong', True, [[40, 59]]),
+                          ('MAP01', 2, 'departs', False, [])])
+        suite, = xml.fromstring(self.read('found.xml').encode())
+        self.assertEqual(suite.attrib, {'name': 'MAP01 near', 'tests': '3', 'failures': '1', 'skipped': '1'})
+        self.assertEqual([[part.tag for part in case] for case in suite], [[], ['failure'], ['skipped']])
+        self.assertEqual(suite[1][0].get('message'), 'view 1 wrong at 65536,0,2686976,0: rows 40-59')
+        self.assertEqual(self.check(words=(*words[:3], 'absent/found.json', *words[4:]))[0], 2)
+
     def test_path(self):
         reading, writing = os.pipe()
         os.close(reading)
@@ -122,9 +188,56 @@ class Check(Tools):
         status, output, _ = self.run_command(CHECK, 'made.csv', '--path', 'MAP01')
         self.assertEqual((status, output), (0, b'x,y,z,angle\n0,0,2686976,0\n65536,0,2686976,0\n131072,0,2686976,0\n'))
 
+    def test_path_of_a_set(self):
+        """The rows of a set come with what they need besides."""
+        status, output, error = self.run_command(CHECK, 'made.csv', '--path', 'MAP01', '--sets', 'sizes')
+        self.assertEqual((status, output), (0, b'x,y,z,angle\n0,0,2686976,0\n'))
+        self.assertEqual(error, 'check: rows 0 to 0 are drawn with size 5\n')
+
+    def test_paths(self):
+        """A path for each run, with its weapon layers."""
+        rows = [vector(0, frame(1), frame(1), kind='sizes')._replace(size=5),
+                vector(1, frame(1), frame(1), kind='sizes')._replace(size=6),
+                vector(0, frame(1), frame(1), kind='weapons')._replace(weapon='PISG A 0 1 2;PISF A 1 3 4'),
+                vector(1, frame(1), frame(1), kind='weapons')._replace(extralight=2)]
+        self.write('made.csv', vectors.text(rows).encode())
+        status, output, error = self.run_command(CHECK, 'made.csv', '--paths', 'out', '--sets', 'all')
+        self.assertEqual((status, error), (0, ''))
+        self.assertEqual(output.decode().splitlines(), ['MAP01 sizes 3 5 1 MAP01-sizes-0',
+                                                        'MAP01 sizes 3 6 1 MAP01-sizes-1',
+                                                        'MAP01 weapons 3 11 2 MAP01-weapons'])
+        self.assertEqual(self.read('out/MAP01-sizes-1.csv'), 'x,y,z,angle\n65536,0,2686976,0\n')
+        self.assertEqual(self.read('out/MAP01-weapons.csv'),
+                         'x,y,z,angle,extralight,colormap\n0,0,2686976,0,0,0\n65536,0,2686976,0,2,0\n')
+        self.assertEqual(self.read('out/MAP01-weapons.weapon.csv'),
+                         'view,sprite,frame,bright,sx,sy\n0,PISG,A,0,1,2\n0,PISF,A,1,3,4\n')
+        self.assertEqual(sorted(os.listdir(self.at('out'))), ['MAP01-sizes-0.csv', 'MAP01-sizes-1.csv',
+                                                             'MAP01-weapons.csv', 'MAP01-weapons.weapon.csv'])
+
+    def test_wads(self):
+        """A WAD that the vectors are not of is called so, and not the port wrong."""
+        self.write('game.wad', b'IWAD' + bytes(8))
+        self.write('later.wad', b'PWAD' + bytes(8))
+        own, later = (hashlib.sha256(kind + bytes(8)).hexdigest() for kind in (b'IWAD', b'PWAD'))
+        self.write('wads.csv', f'vectors,wad,version,sha256\nmade.csv,game.wad,Game 1.0,{own}\n'
+                               f',game.wad,Game 1.1,{later}\n'.encode())
+        needs = f'made.csv are of game.wad of Game 1.0 (SHA-256 {own})\n'
+        for name, part in (('later.wad', f'later.wad is game.wad of Game 1.1, with the SHA-256 {later}; {needs}'),
+                           ('made.wad', 'made.wad is another WAD, with the SHA-256 ')):
+            status, output, error = self.run_command(CHECK, 'made.csv', 'port', '--wad', name)
+            self.assertEqual((status, output), (3, b''))
+            self.assertTrue(error.startswith(f'check: {part}') and error.endswith(needs), error)
+        self.write('port/MAP01.bin', b''.join(self.ours[:3]))
+        words = ['made.csv', 'port', '--maps', 'MAP01', '--wad', 'game.wad']
+        status, _, error = self.run_command(CHECK, *words)
+        self.assertEqual((status, error), (2, 'check: game.wad is no WAD with a PLAYPAL\n'))
+        self.assertEqual(self.run_command(CHECK, '--wad', 'absent.wad')[0], 2)
+
     def test_trouble(self):
         self.write('other.csv', b'x,y\n1,2\n')
         for part, words in [('cannot read absent.csv', ['absent.csv', 'port']),
+                            ('name a file of vectors, or a WAD by --wad', []),
+                            ("invalid choice: 'half'", ['made.csv', 'port', '--spans', 'half']),
                             ('other.csv is no file of vectors', ['other.csv', 'port']),
                             ('name the folder', ['made.csv']), ('there is no folder absent', ['made.csv', 'absent']),
                             ('has no MAP09; it has MAP01, MAP02', ['made.csv', 'port', '--maps', 'MAP09']),
@@ -133,6 +246,152 @@ class Check(Tools):
             self.assertEqual((status, output), (2, b''))
             self.assertIn(part, error)
             self.assertNotIn('Traceback', error)
+
+
+class Pictures(Tools):
+    """`vectors/check` on pictures, by a palette of which entries 3 and 200 have one colour."""
+
+    def setUp(self):
+        super().setUp()
+        colours = [(i, 255 - i, 7) for i in range(256)]
+        colours[200] = colours[3]
+        self.palette = bytes(part for colour in colours for part in colour)
+        self.write('game.wad', wad([('PLAYPAL', self.palette)]))
+        self.frames = [frame(1), bytes(range(200)) * 320, frame(3)]
+        self.write('made.csv', vectors.text(vector(i, it, frame(9)) for i, it in enumerate(self.frames)).encode())
+        os.makedirs(self.at('port/MAP01'))
+
+    def rgb(self, view):
+        return b''.join(self.palette[3 * it:3 * it + 3] for it in view)
+
+    def check(self, *words):
+        status, output, self.error = self.run_command(CHECK, 'made.csv', 'port', *words)
+        return status, output.decode().splitlines()
+
+    def test_right(self):
+        """PNG files of each kind in the order of their numbers, and PPMs in one file."""
+        self.write('port/MAP01/view2.png', png.png(320, 200, self.rgb(self.frames[0])))
+        self.write('port/MAP01/view9.png', png.indexed_png(320, 200, self.frames[1], self.palette))
+        self.write('port/MAP01/view10.ppm', b'P6\n# made\n320 200 255\n' + self.rgb(frame(200)))
+        self.assertEqual(self.check('--wad', 'game.wad'), (0, ['MAP01 near same 3', 'all same 3']))
+        self.write('port/MAP01.ppm', b''.join(b'P6\n320 200\n255\n' + self.rgb(it) for it in self.frames))
+        self.assertEqual(self.check('--wad', 'game.wad'), (0, ['MAP01 near same 3', 'all same 3']))
+        self.assertEqual(self.check()[0], 2)
+        self.assertIn('the colours of pictures are those of the palette of a WAD; name it by --wad', self.error)
+        self.write('port/MAP01.ppm', b'P6\n640 400\n255\n')
+        self.assertEqual(self.check('--wad', 'game.wad')[0], 2)
+        self.assertIn('does not begin as a PPM of 320 by 200 does', self.error)
+
+    def test_wrong(self):
+        """What is wrong with a picture is said in the line of its view."""
+        strange = bytearray(self.rgb(self.frames[0]))
+        strange[3 * 321:3 * 323] = bytes([1, 1, 1, 2, 2, 2])
+        self.write('port/MAP01/1.png', png.png(320, 200, bytes(strange)))
+        self.write('port/MAP01/2.png', png.png(2, 1, bytes(6)))
+        self.write('port/MAP01/3.png', png.png(320, 200, self.rgb(self.frames[0])))
+        self.write('port/MAP01/4.png', b'')
+        status, lines = self.check('--wad', 'game.wad')
+        self.assertEqual((status, lines[0]), (1, 'MAP01 near wrong 3'))
+        self.assertEqual([line.partition(': ')[2] for line in lines[1:4]], [
+            '2 colours are in no entry of the palette, the first 1,1,1 at row 1 column 1',
+            'port/MAP01/2.png is 2 by 1, or of a kind that is not read: a frame is 320 by 200, of 8 bits a colour',
+            'rows ' + ' '.join(f'{20 * i}-{20 * i + 19}' for i in range(10))])
+        self.assertEqual(lines[4], '  MAP01 has 4 pictures, and there are 3 views')
+        self.assertIn('turn off gamma', self.error)
+
+
+# Draws views of one colour: of the size, of the number of the row's x, of whether there are weapon layers. SKILL 9
+# ends it with an error.
+PORT = '''#!PYTHON
+import os, sys
+env = os.environ
+rows = open(env['ROWS']).read().splitlines()[1:]
+views = [bytes([int(env['SIZE']) + (16 if env['WEAPON'] else 0) + int(row.split(',')[0]) % 7]) * 64000 for row in rows]
+if env['SKILL'] == '2':
+    sys.exit('no such skill')
+if env.get('AS') == 'pictures':
+    sys.path.insert(0, TOOLS)
+    from doomview_tools import png
+    os.mkdir(env['OUT'])
+    for i, view in enumerate(views):
+        png.write_png(f'{env["OUT"]}/{i}.png', 320, 200, bytes(part for _ in view for part in (view[0], 0, 0)))
+else:
+    with open(env['OUT'], 'wb') as out:
+        for view in views:
+            if env.get('AS') == 'ppm':
+                out.write(b'P6\\n320 200\\n255\\n' + bytes(part for _ in view for part in (view[0], 0, 0)))
+            else:
+                out.write(view)
+'''
+
+
+class Ci(Tools):
+    """`vectors/ci`, beside vectors of its own, with a stand-in for a port."""
+
+    def setUp(self):
+        super().setUp()
+        for command in ('rm', 'mkdir', 'mktemp', 'mv', 'head', 'tail', 'sed'):
+            os.symlink(shutil.which(command), self.at('bin', command))
+        left_out = shutil.ignore_patterns('*.csv', '__pycache__')
+        shutil.copytree(os.path.dirname(CHECK), self.at('vectors'), ignore=left_out)
+        self.write('game.wad', wad([('PLAYPAL', bytes(part for i in range(256) for part in (i, 0, 0)))]))
+        kinds = [('near', 11, '', 11), ('near', 11, '', 13), ('sizes', 4, '', 4), ('sizes', 5, '', 6),
+                 ('weapons', 11, '', 27), ('weapons', 11, 'PISG A 0 1 2', 28)]
+        rows = [vector(i, frame(colour), frame(99), kind=kind)._replace(size=size, weapon=weapon)
+                for i, (kind, size, weapon, colour) in enumerate(kinds)]
+        xs = (0, 2, 0, 1, 0, 1)
+        self.rows = [row._replace(x=x, view=i % 2) for i, (x, row) in enumerate(zip(xs, rows))]
+        self.put(self.rows)
+        self.port = self.stand_in('port', PORT.replace('PYTHON', sys.executable).replace('TOOLS', repr(TOOLS)))
+
+    def put(self, rows):
+        self.write('vectors/made.csv', vectors.text(rows).encode())
+        with open(self.at('game.wad'), 'rb') as file:
+            sum_of_wad = hashlib.sha256(file.read()).hexdigest()
+        self.write('vectors/wads.csv', b'vectors,wad,version,sha256\n'
+                                       + f'made.csv,game.wad,Game 1.0,{sum_of_wad}\n'.encode())
+
+    def ci(self, *words, **more):
+        status, output, self.error = self.run_command(self.at('vectors', 'ci'), *words, **{'PORT': './port', **more})
+        return status, output.decode().splitlines()
+
+    def test_green(self):
+        """Frames in one file a run, as indices, PPMs or pictures; each run with its size and weapon."""
+        right = (0, ['MAP01 near same 2', 'MAP01 sizes same 2', 'MAP01 weapons same 2', 'all same 6'])
+        for form in ('indices', 'ppm', 'pictures'):
+            self.assertEqual(self.ci('game.wad', AS=form), right, self.error)
+        self.assertEqual(self.error, 'game.wad is game.wad of Game 1.0; its vectors are in made.csv\n')
+        self.assertEqual(self.ci('game.wad', '--', '--sets', 'sizes')[1], ['MAP01 sizes same 2', 'all same 2'])
+
+    def test_kept(self):
+        """WORK keeps the paths and the frames, REPORTS gets the reports."""
+        self.assertEqual(self.ci('game.wad', WORK=self.at('work'), REPORTS=self.at('reports'))[0], 0)
+        self.assertEqual(sorted(os.listdir(self.at('reports'))), ['made.json', 'made.xml'])
+        self.assertEqual(os.path.getsize(self.at('work/made/MAP01.bin')), 2 * FRAME)
+        self.assertEqual(os.path.getsize(self.at('work/made/MAP01-sizes-1.bin')), FRAME)
+        self.assertTrue(os.path.isfile(self.at('work/made/paths/MAP01-weapons.weapon.csv')))
+
+    def test_red(self):
+        self.put([self.rows[0]._replace(frame='0' * 16), *self.rows[1:]])
+        status, lines = self.ci('game.wad')
+        self.assertEqual((status, lines[0]), (1, 'MAP01 near same 1 wrong 1'))
+        self.assertEqual(self.ci('game.wad', '--', '--spans', 'packed')[0], 1)
+        self.put([self.rows[0]._replace(skill=2), *self.rows[1:]])
+        status, lines = self.ci('game.wad')
+        self.assertEqual((status, lines[0]), (1, 'MAP01 near same 1 missing 1'))
+        said = 'ci: the port ended with 1 at MAP01, set near, skill 2, size 11; it said:\nno such skill'
+        self.assertIn(said, self.error)
+
+    def test_trouble(self):
+        """Nothing is drawn where it cannot begin, or where a WAD is another."""
+        self.assertEqual(self.ci('game.wad', 'made.wad'), (3, []))
+        self.assertIn('check: made.wad is another WAD', self.error)
+        for part, words, more in (('PORT is the command', ['game.wad'], {'PORT': ''}), ('name a WAD', [], {}),
+                                  ('there is no WAD absent.wad', ['absent.wad'], {}),
+                                  ('the command of PORT is not there', ['game.wad'], {'PORT': './absent'}),
+                                  ('has no MAP09', ['game.wad', '--', '--maps', 'MAP09'], {})):
+            self.assertEqual(self.ci(*words, **more)[0], 2, part)
+            self.assertIn(part, self.error)
 
 
 class Made(Tools):
@@ -166,14 +425,30 @@ class Made(Tools):
         self.assertEqual(self.vectors('draw', *words), (0, b'', ''))
         self.assertEqual(sorted(os.listdir(self.at('ours'))), ['MAP01-light.bin', 'MAP01-sizes.bin', 'MAP01-skills.bin',
                                                               'MAP01-weapons.bin', 'MAP01.bin'])
-        status, output, _ = self.run_command(CHECK, 'out/room.csv', 'ours')
-        self.assertEqual((status, output), (0, b'MAP01 near same 20 departs 1\nall same 20 departs 1\n'))
+        self.write('out/room2.wad', self.run_tool('room')[1])
+        status, output, error = self.run_command(CHECK, 'out/room.csv', 'ours', '--wad', 'room.wad')
+        self.assertEqual((status, output), (0, b'MAP01 near same 20 departs 1\nall same 20 departs 1\n'), error)
+        self.vectors('make', 'room.wad', '-o', 'out', '--jobs', '2')
+        self.assertEqual(self.read('out/wads.csv').splitlines(), ['vectors,wad,version,sha256', 'room.csv,room.wad,,'
+                         + hashlib.sha256(self.run_tool('room')[1]).hexdigest()])
+
+    def test_spans(self):
+        """draw draws with the spans that are named, with the WAD and the vectors in either order."""
+        self.write('near.csv', vectors.text([vector(0, frame(1), frame(2))]).encode())
+        spans = self.stand_in('spans', DOOMVIEW.replace('PYTHON', sys.executable).replace(
+            "bytes([sum(map(ord, row)) % 251])", "bytes([sys.argv.index('--spans') and 'packed' in sys.argv])"))
+        for words, colour in (([], 0), (['--spans', 'packed'], 1), (['--spans', 'full'], 0)):
+            done = self.run_tool('vectors', 'draw', 'room.wad', 'near.csv', '-o', 'ours', *words, doomview=spans)
+            self.assertEqual(done, (0, b'', ''))
+            self.assertEqual(self.read('ours/MAP01.bin').encode(), frame(colour))
 
     def test_trouble(self):
         self.write('near.csv', vectors.text([vector(0, frame(1), frame(2))]).encode())
         for part, words in [('make takes one WAD', ['make', 'room.wad', 'room.wad']),
                             ('draw takes a file', ['draw', 'room.wad']),
-                            ('there is no program still', ['make', 'room.wad']),
+                            ("there is no program still; tools/original/build makes it, of Debian's source package of "
+                             'chocolate-doom', ['make', 'room.wad']),
+                            ('make takes no --spans', ['make', 'room.wad', '--spans', 'full']),
                             ('there is no map MAP09', ['make', 'room.wad', '--maps', 'MAP09']),
                             ('there is no set far', ['draw', 'near.csv', 'room.wad', '--sets', 'far']),
                             ('room.wad is no file of vectors', ['draw', 'room.wad', 'room.wad']),
@@ -190,9 +465,14 @@ class Made(Tools):
                          'view,sprite,frame,bright,sx,sy\n0,PISG,A,0,65536,2097152\n')
 
     def test_known(self):
+        """What is the original's in the spans of doomview's frame comes first."""
         found = vector(0, frame(1), frame(2), 'memory', frame(3))
-        self.assertEqual([vectors.known(found, frame(colour)) for colour in (2, 3, 4)],
+        self.assertEqual([vectors.known(found, frame(1), frame(colour)) for colour in (2, 3, 4)],
                          ['packed spans', "the original's frame (memory)", ''])
+        self.assertEqual([vectors.known(found, frame(9), frame(colour)) for colour in (1, 2, 3, 4)],
+                         ['full spans', "the original's frame (memory)", 'full spans', ''])
+        same = vector(0, frame(1), frame(1), 'mark', frame(1))
+        self.assertEqual(vectors.known(same, frame(1), frame(1)), "the original's frame (mark)")
 
 
 class Compare(Tools):
@@ -276,24 +556,56 @@ class Freedoom(unittest.TestCase):
         self.assertEqual((status, lines[-1]), (1, 'all same 41 wrong 1'))
         self.assertRegex(lines[2], r'^  view 4 wrong at \S+: rows 120-139$')
 
+    def originals(self, name, folder, words):
+        """Lets `still` draw all views of a file of vectors into a folder."""
+        still = os.path.join(original.FOLDER, 'still')
+        port = (f'"{still}" -iwad "$WAD" -map "$MAP" -path "$ROWS" -out "$OUT" -skill "$SKILL" -size "$SIZE" '
+                f'${{WEAPON:+-weapon "$WEAPON"}} {words}')
+        env = {**os.environ, 'PORT': port, 'WORK': folder}
+        return subprocess.run([CI, game(name), '--', '--spans', 'either'], env=env, stdout=subprocess.PIPE,
+                              stderr=subprocess.PIPE, text=True)
+
     @unittest.skipIf(original.missing(), 'tools/original/build has not been run')
-    def test_packed_spans(self):
-        for name, maps in FREEDOOM.items():
+    def test_originals(self):
+        """The original's frames of all views, with full and with packed spans, are right where they are asked for, and
+        wrong where the others are, on each map; and rows with a pixel changed are named."""
+        for name in FREEDOOM:
             if not game(name):
                 self.skipTest(f'{name}.wad is not there (package: freedoom)')
-            folder = tempfile.mkdtemp()
-            self.addCleanup(shutil.rmtree, folder)
-            for of_map in maps:
-                done = subprocess.run([CHECK, os.path.join(TOP, 'vectors', f'{name}.csv'), '--path', of_map],
-                                      stdout=subprocess.PIPE, check=True)
-                with open(os.path.join(folder, 'path.csv'), 'wb') as file:
-                    file.write(done.stdout)
-                original.still([os.path.join(original.FOLDER, 'still'), '-iwad', game(name), '-map', of_map, '-path',
-                                'path.csv', '-out', f'{of_map}.bin', *original.PACKED], folder)
-            status, lines = self.check(name, folder, maps, '--packed')
-            self.assertEqual(status, 0)
-            self.assertRegex(lines[-1], '^all (same [0-9]+ )?packed [0-9]+$')
-            self.assertEqual(self.check(name, folder, maps)[0], 1)
+            for spans, words, other in (('full', '', 'packed'), ('packed', '-dosspan', 'full')):
+                folder = tempfile.mkdtemp()
+                self.addCleanup(shutil.rmtree, folder)
+                self.assertEqual(self.originals(name, folder, words).returncode, 0)
+                folder = os.path.join(folder, name)
+                self.both_ways(name, folder, spans, other)
+                self.four_pixels(name, folder, spans)
+
+    def both_ways(self, name, folder, spans, other):
+        vectors_of = os.path.join(TOP, 'vectors', f'{name}.csv')
+        status, lines = self.run_check(vectors_of, folder, '--sets', 'all', '--spans', spans)
+        self.assertEqual(status, 0, lines[-1])
+        right = 'packed [0-9]+' if spans == 'packed' else 'same [0-9]+( original [0-9]+)?'
+        for line in lines:
+            self.assertRegex(line, f'^(all|[A-Z0-9]+ [a-z]+) {right}( departs [0-9]+)?$')
+        status, lines = self.run_check(vectors_of, folder, '--spans', other)
+        self.assertEqual(status, 1)
+        self.assertEqual([line for line in lines if f' {spans if other == "full" else "full"} ' not in line], [])
+
+    def run_check(self, *words):
+        done = subprocess.run([CHECK, *words], stdout=subprocess.PIPE, stderr=subprocess.PIPE, text=True)
+        return done.returncode, done.stdout.splitlines()
+
+    def four_pixels(self, name, folder, spans):
+        """One pixel changed in each of four rows."""
+        path = os.path.join(folder, f'{FREEDOOM[name][0]}.bin')
+        with open(path, 'rb') as file:
+            data = file.read()
+        for row in (5, 47, 121, 199):
+            data = changed(data, 2, row, 100)
+        with open(path, 'wb') as file:
+            file.write(data)
+        lines = self.check(name, folder, FREEDOOM[name][:1], '--spans', spans)[1]
+        self.assertRegex(lines[1], '^  view 2 wrong at .*: rows 0-19 40-59 120-139 180-199$')
 
 
 if __name__ == '__main__':

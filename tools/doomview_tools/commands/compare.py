@@ -167,7 +167,7 @@ class Comparison:
         places = frames.differing(ours, port)
         self.different += 1
         self.pixels += len(places)
-        known = vectors.known(self.known[view], port) if view < len(self.known) else ''
+        known = vectors.known(self.known[view], ours, port) if view < len(self.known) else ''
         line = told(view, ours, port, places) + (f'; {known}' if known else '')
         trace, place_of = self.records(view) if self.options.trace else b'', self.place_of(view)
         if self.different <= self.options.most:
