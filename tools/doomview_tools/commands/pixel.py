@@ -40,6 +40,7 @@ def run(options):
     record = traces.record_at(options.trace, options.view, options.x, options.y)
     files = [wads.find(name) for name in options.wads]
     names = traces.Names(files)
+    names.check(traces.RECORD.pack(*record), options.trace)
     placing = lists.placing_of(options, files, count, names)
     told = traces.told(record, names)
     if placing:
