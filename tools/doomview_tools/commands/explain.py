@@ -2,7 +2,7 @@
 import argparse
 import sys
 
-from .. import cli, explanations, program
+from .. import cli, explanations, jobs, program
 from ..trouble import Trouble
 
 PAGE = cli.Page(
@@ -46,7 +46,8 @@ def run(options):
     if options.words[0].startswith('doomview: '):
         explanations.tell(options.words[0], [])
         return 0
-    done = program.run_whole(options.words)
+    words = jobs.in_order(options.words)
+    done = program.run_whole(words)
     sys.stderr.write(done.said)
-    explanations.tell(done.line, options.words)
+    explanations.tell(done.line, words)
     return done.status
