@@ -205,6 +205,21 @@ def colours(case):
     return f'the port has other colours, always in the same way ({some}): {what}'
 
 
+def of_picture(ours: bytes, found: list, palette: bytes) -> str:
+    """Why the colours of a picture, three bytes a pixel, are in no entry of the palette, or an empty text."""
+    pairs, mapping = collections.Counter(zip(ours, found)), {}
+    for (index, colour), _ in pairs.most_common():
+        mapping.setdefault(index, colour)
+    if not is_cause(SIZE - sum(pairs[pair] for pair in mapping.items()), SIZE):
+        return ''
+    parts = {}
+    is_gamma = all(parts.setdefault(palette[3 * index + part], colour[part]) == colour[part]
+                   for index, colour in mapping.items() for part in range(3))
+    if is_gamma:
+        return 'each brightness is always the same other one: turn off gamma'
+    return 'each colour is always the same other one: the port has another palette'
+
+
 def whole_frames(case: Case) -> typing.List[str]:
     """The mistake that all frames have, as a sentence, or none."""
     if LEAST_PART * before(case) < SIZE * len(case.pairs):

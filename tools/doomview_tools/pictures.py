@@ -5,7 +5,7 @@ import functools
 import importlib.util
 import os
 
-from . import home
+from . import diagnoses, home
 from .frames import SIZE, WIDTH
 from .trouble import Trouble
 
@@ -79,8 +79,10 @@ class Palette:
         missing = next((place for place, colour in enumerate(colours) if colour not in self.entries), None)
         if missing is not None:
             row, column = divmod(missing, WIDTH)
+            why = diagnoses.of_picture(ours, colours, self.palette) if ours else ''
             raise Trouble(f'{name}: the colour {",".join(map(str, colours[missing]))} at row {row} column {column} is '
-                          'in no entry of the palette; turn off what changes colours (gamma, filters, true colour)')
+                          'in no entry of the palette; '
+                          + (why or 'turn off what changes colours (gamma, filters, true colour)'))
         found = [self.entries[colour] for colour in colours]
         self.doubtful.update(tuple(self.entries[colour]) for colour in set(colours) if len(self.entries[colour]) > 1)
         if not ours:

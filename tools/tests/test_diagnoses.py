@@ -3,7 +3,7 @@ import unittest
 
 from made_files import Tools, wad
 from test_compare import FRAME, traced
-from doomview_tools import frames
+from doomview_tools import frames, png
 
 
 def textured(view):
@@ -111,6 +111,19 @@ class WholeFrames(Tools):
             status, output, error = self.compare(damage(self.views))
             self.assertEqual((status, output), (2, b''), name)
             self.assertTrue(error.startswith(f'doomview compare: {sentence}'), f'{name}: {error}')
+
+    def test_pictures(self):
+        """Pictures whose colours are in no entry of the palette: by gamma, by another palette, or by what is not known."""
+        for colour_of, part in (
+                (lambda i: [max(it, it * 3 // 4 + 60) for it in PALETTE[3 * i:3 * i + 3]],
+                 'each brightness is always the same other one: turn off gamma'),
+                (lambda i: [i * 3 % 256, 9, 7], 'each colour is always the same other one: the port has another palette')):
+            rgb = bytes(part for colour in self.views[0] for part in colour_of(colour))
+            self.write('port.png', png.png(320, 200, rgb))
+            self.refuses(f'is in no entry of the palette; {part}', 'compare', 'ours.bin', 'port.png', '--wad', 'names.wad')
+        self.write('port.png', png.png(320, 200, bytes(i * i // 7 % 256 for i in range(3 * FRAME))))
+        self.refuses('turn off what changes colours (gamma, filters, true colour)', 'compare', 'ours.bin', 'port.png',
+                     '--wad', 'names.wad')
 
     def test_window(self):
         """A port that paints where a smaller view has nothing; three times as many views that are no colours."""

@@ -143,7 +143,8 @@ class Compare(Tools):
         status, output, error = self.run_tool('compare', 'ours.bin', 'MAP01.bin', '--vectors', 'made.csv')
         self.assertEqual((status, error), (1, ''))
         known = ['packed spans', "the original's frame (memory)", '']
-        self.assertEqual([line.partition('; ')[2] for line in output.decode().splitlines()], [*known, ''])
+        lines = [line for line in output.decode().splitlines() if line.startswith('view ')]
+        self.assertEqual([line.partition('; ')[2] for line in lines], known)
         self.run_tool('compare', 'ours.bin', 'MAP01.bin', '--vectors', 'made.csv', '--html', 'page.html')
         views = pages_shown.data_of(self.at('page.html'))['views']
         self.assertEqual([view['told'].partition('; ')[2] for view in views], known)
@@ -212,14 +213,36 @@ class Freedoom(unittest.TestCase):
         self.assertEqual((status, lines[-1]), (1, 'all same 41 wrong 1'))
         self.assertRegex(lines[2], r'^  view 4 wrong at \S+: rows 120-139$')
 
-    def originals(self, name, folder, words):
-        """Lets `still` draw all views of a file of vectors into a folder."""
-        still = os.path.join(original.FOLDER, 'still')
-        port = (f'"{still}" -iwad "$WAD" -map "$MAP" -path "$ROWS" -out "$OUT" -skill "$SKILL" -size "$SIZE" '
-                f'${{WEAPON:+-weapon "$WEAPON"}} {words}')
-        env = {**os.environ, 'PORT': port, 'WORK': folder}
-        return subprocess.run([CI, game(name), '--', '--spans', 'either'], env=env, stdout=subprocess.PIPE,
-                              stderr=subprocess.PIPE, text=True)
+    def ci(self, wad, port, *words, folder=''):
+        """The status, the last line and what is said of `vectors/ci` over a WAD."""
+        env = {**os.environ, 'PORT': port, 'WORK': folder, 'DOOMVIEW': TESTED}
+        done = subprocess.run([CI, wad, '--', *words], env=env, stdout=subprocess.PIPE, stderr=subprocess.PIPE, text=True)
+        return done.returncode, (done.stdout.splitlines() or [''])[-1], done.stderr
+
+    @unittest.skipUnless(game('freedoom2'), 'freedoom2.wad is not there (package: freedoom)')
+    def test_wrong_wad(self):
+        """A WAD in which one byte is another is called so, and nothing is drawn."""
+        folder = tempfile.mkdtemp()
+        self.addCleanup(shutil.rmtree, folder)
+        other = os.path.join(folder, 'freedoom2.wad')
+        with open(game('freedoom2'), 'rb') as file, open(other, 'wb') as out:
+            out.write(file.read()[:-1] + b'!')
+        status, line, error = self.ci(other, 'false')
+        self.assertEqual((status, line), (3, ''))
+        self.assertIn('is another WAD, with the SHA-256 ', error)
+
+    @unittest.skipUnless(TESTED and game('freedoom2'), 'the program or freedoom2.wad (package: freedoom) is not there')
+    def test_ci(self):
+        """doomview as a port is right with either kind of spans, and wrong with a byte changed or the other spans."""
+        port = (f'"{os.path.join(TOP, "doomview")}" render "$MAP" "$WAD" --path "$ROWS" -o "$OUT" --skill "$SKILL" '
+                '--size "$SIZE" ${WEAPON:+--weapon "$WEAPON"}')
+        maps = ['--maps', 'MAP07']
+        self.assertEqual(self.ci(game('freedoom2'), port, *maps)[:2], (0, 'all same 85'))
+        near = [*maps, '--sets', 'near', '--spans']
+        self.assertEqual(self.ci(game('freedoom2'), port + ' --spans packed', *near, 'packed')[:2], (0, 'all packed 21'))
+        self.assertEqual(self.ci(game('freedoom2'), port, *near, 'packed')[0], 1)
+        damaged = port + '; printf x | dd of="$OUT" bs=1 seek=70000 conv=notrunc'
+        self.assertEqual(self.ci(game('freedoom2'), damaged, *near, 'full')[:2], (1, 'all same 20 wrong 1'))
 
     @unittest.skipIf(original.missing(), 'tools/original/build has not been run')
     def test_originals(self):
@@ -231,7 +254,10 @@ class Freedoom(unittest.TestCase):
             for spans, words, other in (('full', '', 'packed'), ('packed', '-dosspan', 'full')):
                 folder = tempfile.mkdtemp()
                 self.addCleanup(shutil.rmtree, folder)
-                self.assertEqual(self.originals(name, folder, words).returncode, 0)
+                still = os.path.join(original.FOLDER, 'still')
+                port = (f'"{still}" -iwad "$WAD" -map "$MAP" -path "$ROWS" -out "$OUT" -skill "$SKILL" -size "$SIZE" '
+                        f'${{WEAPON:+-weapon "$WEAPON"}} {words}')
+                self.assertEqual(self.ci(game(name), port, '--spans', spans, folder=folder)[0], 0)
                 folder = os.path.join(folder, name)
                 self.both_ways(name, folder, spans, other)
                 self.four_pixels(name, folder, spans)
