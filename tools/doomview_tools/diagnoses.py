@@ -5,6 +5,7 @@ A mistake is called so if the port's frames are doomview's once it is undone, bu
 is found beside packed spans and the like too."""
 import collections
 import itertools
+import statistics
 import typing
 
 from .frames import HEIGHT, SIZE, WIDTH, window
@@ -12,7 +13,8 @@ from .frames import HEIGHT, SIZE, WIDTH, window
 SAMPLES = 8  # of the views that differ
 FARTHEST_VIEW, FARTHEST_SHIFT = 32, 32  # views, and pixels
 LEAST_PART = 50  # a mistake of whole frames changes one pixel of so many
-MOST_LINES = 40  # rows or columns that differ in every view
+MOST_LINES, MOST_RANGES = 40, 3  # of rows or columns that differ in every view
+FAR_MORE = 8  # times the pixels of the usual row or column
 FULL_SIZE = 11
 
 
@@ -247,16 +249,20 @@ class Everywhere:
         self.in_rows.update(rows)
         self.in_columns.update(columns)
 
-    def lines(self, views, pixels):
-        """The rows or columns that differ in nine of ten views, if they are few and have half of the pixels."""
-        found = sorted(line for line, number in views.items() if 10 * number >= 9 * self.different)
-        is_much = 2 * sum(pixels[line] for line in found) >= self.pixels
-        return found if is_much and len(found) <= MOST_LINES else []
+    def lines(self, views, pixels, count):
+        """The rows or columns that differ in nine of ten views and far more than most, if they are few and have a tenth
+        of the pixels."""
+        usual = statistics.median(pixels[line] for line in range(count))
+        found = sorted(line for line, number in views.items()
+                       if 10 * number >= 9 * self.different and pixels[line] > FAR_MORE * usual)
+        is_much = 10 * sum(pixels[line] for line in found) >= self.pixels
+        return found if is_much and len(found) <= MOST_LINES and ranges(found).count(',') < MOST_RANGES else []
 
     def told(self, count: int) -> typing.List[str]:
         """A sentence on the rows or columns that differ in every view, of so many views, or none."""
-        for word, views, pixels in (('column', self.columns, self.in_columns), ('row', self.rows, self.in_rows)):
-            found = self.lines(views, pixels) if self.different > 1 else []
+        for word, views, pixels, lines in (('column', self.columns, self.in_columns, WIDTH),
+                                           ('row', self.rows, self.in_rows, HEIGHT)):
+            found = self.lines(views, pixels, lines) if self.different > 1 else []
             if found:
                 number, some = min(views[line] for line in found), sum(pixels[line] for line in found)
                 return [f'{word}{"s" if len(found) > 1 else ""} {ranges(found)} in {number} of {count} views: {some} '

@@ -116,9 +116,9 @@ sectors 400 views 30 frames 30 bytes 1920000 sum 110342962
 LEVEL_JOBS = [job.name for job in JOBS.values() if job.words[0] == MAP]
 STATUSES = {
     0: 'the whole output was written',
-    1: 'usage: the words are no job; doomview explain with the same words says what is wrong',
-    2: 'refused CODE A B ..: the bytes of a file are refused; doomview explain says which',
-    3: 'read fault: a file is absent, or could not be read',
+    1: 'usage: the words are no job; a sentence says what is wrong',
+    2: 'refused CODE A B ..: the bytes of a file are refused; sentences say which, and how to mend it',
+    3: 'read fault: a file is absent, or could not be read; a sentence says which',
     4: 'write fault: the output could not be written',
     5: 'limit view V planes N, or openings N: a view has more than --planes or --openings allow',
     6: 'zone full wanted W widest X: --zone is too small',
