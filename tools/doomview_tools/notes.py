@@ -47,11 +47,13 @@ def of_path(words: Words) -> typing.Iterator[str]:
 
 
 def of_wads(words: Words) -> typing.Iterator[str]:
-    """A sentence on each IWAD that comes behind another WAD."""
-    for wad in words.wads[1:]:
-        if head_of(wad) == b'IWAD' and wad != words.wads[0]:
-            yield (f'{wad} is an IWAD and comes behind another WAD, so its maps and pictures count before those of that '
-                   'WAD. Put the IWAD first')
+    """A sentence on each IWAD that comes behind a PWAD."""
+    heads = [head_of(wad) for wad in words.wads]
+    for number, wad in enumerate(words.wads):
+        if heads[number] == b'IWAD' and b'PWAD' in heads[:number]:
+            pwad = words.wads[heads.index(b'PWAD')]
+            yield (f'{wad} is an IWAD and comes behind {pwad}, so its maps and pictures count before those of that WAD. '
+                   'Put the IWAD first')
 
 
 def of_words(words: Words) -> typing.List[str]:

@@ -166,8 +166,7 @@ class Words(Command):
         for folder in ('one', 'two'):
             os.mkdir(self.at(folder))
         self.write('one/doom2.wad', made_wad())
-        for place in ('two/patch.wad', 'made.wad'):
-            self.write(place, b'PWAD' + made_wad()[4:])
+        self.write('two/patch.wad', made_wad())
         env = {'DOOMWADDIR': self.at('one'), 'DOOMWADPATH': f'{self.at("absent")}:{self.at("two")}'}
         for job in jobs.LEVEL_JOBS:
             words = self.hands_on(job, 'MAP01', 'DOOM2', 'patch', 'made.wad', 'nowhere.wad', '--path=p', **env)

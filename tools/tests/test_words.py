@@ -141,11 +141,13 @@ class Warnings(Command):
         """An IWAD behind its PWAD; explain says it too."""
         self.write('mine.wad', b'PWAD' + made_wad()[4:])
         row = (100 * UNIT, 0, 65 * UNIT, 0)
-        self.assertEqual(self.warned([row], 'made.wad', 'mine.wad'), [])
+        self.write('other.wad', made_wad())
+        for wads in (['made.wad', 'mine.wad'], ['made.wad', 'other.wad']):
+            self.assertEqual(self.warned([row], *wads), [])
         said = self.warned([row], 'mine.wad', 'made.wad')
         self.assertEqual(len(said), 1)
-        self.assertTrue(said[0].startswith('doomview: warning: made.wad is an IWAD and comes behind another WAD'))
-        self.assertIn('explain: made.wad is an IWAD and comes behind another WAD',
+        self.assertTrue(said[0].startswith('doomview: warning: made.wad is an IWAD and comes behind mine.wad'))
+        self.assertIn('explain: made.wad is an IWAD and comes behind mine.wad',
                       self.runs('explain', 'render', 'MAP01', 'mine.wad', 'made.wad', '--path', 'path.csv')[2])
 
 
