@@ -170,8 +170,8 @@ def job_page(job):
         parser.add_argument(option.name, metavar=option.value, help=meaning_of(option),
                             required=option.is_needed and not option.default)
     if job.name == 'limits':
-        parser.add_argument('--places', action='store_true', help='adds where each view is: as an editor shows it, and as '
-                            'its row of the path')
+        parser.add_argument('--places', action='store_true', help='adds where each view is: as an editor shows it, and '
+                            'as its row of the path')
     add_output(parser, 'the output')
     add_help(parser)
     return parser.format_help()

@@ -93,7 +93,8 @@ def say_why(done, words, is_job=True):
 def no_such(words):
     """The sentence on words of which the first is no job and no tool."""
     first = jobs.Words(words).job or words[0]
-    return f'there is no job or tool {first}{jobs.meant(first, [*jobs.JOBS, *TOOLS]) or "; doomview --help has them all"}'
+    near = jobs.meant(first, [*jobs.JOBS, *TOOLS])
+    return f'there is no job or tool {first}{near or "; doomview --help has them all"}'
 
 
 def limits_with_places(words):

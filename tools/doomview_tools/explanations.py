@@ -58,8 +58,9 @@ def place_of(words, view):
 
 
 def on_limit(words, view, what, count):
-    return [f'view {view}, row {int(view) + 1} under the header of the path{place_of(words, int(view))}, needs more than '
-            f'{int(count) - 1} {what}, the limit. --{what} N raises it; the job limits names all such views.']
+    where = f'row {int(view) + 1} under the header of the path{place_of(words, int(view))}'
+    return [f'view {view}, {where}, needs more than {int(count) - 1} {what}, the limit. --{what} N raises it; the job '
+            'limits names all such views.']
 
 
 def on_refusal(words, code, numbers):

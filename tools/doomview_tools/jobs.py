@@ -292,7 +292,8 @@ def wrong_words(words):
 def wrong_level(words):
     """The same of a job over a level."""
     job, count = words.job, len(words.plain)
-    missing = [name for name in needed() if name not in words.given]
+    near = {meant(name, needed()) for name in words.given if name not in options()}
+    missing = [name for name in needed() if name not in words.given and f'; did you mean {name}?' not in near]
     tests = [(missing, f'{job} needs {" and ".join(missing)} too'),
              (count < 3, f'{job} needs a map and a WAD, as in {job} MAP01 game.wad'),
              (count - 2 > MOST_WADS, f'{job} takes at most {MOST_WADS} WADs'),

@@ -21,16 +21,16 @@ def of_units(path: str, rows: list) -> typing.Iterator[str]:
                'writes rows of numbers as an editor shows them')
     angles = [row.angle for row in rows]
     if any(angles) and max(angles) < LEAST_ANGLE:
-        yield (f'all angles of {path} are less than {LEAST_ANGLE}: they are BAMs, 2^32 a turn, and no degrees. doomview '
-               'path writes rows of degrees')
+        yield (f'all angles of {path} are less than {LEAST_ANGLE}: they are BAMs, 2^32 a turn, and no degrees. '
+               'doomview path writes rows of degrees')
 
 
 def of_height(path: str, rows: list, level) -> typing.Iterator[str]:
     """A sentence on a path with all eyes on the floor."""
     heights = [row.z - level.floor_at(row.x / UNIT, row.y / UNIT) * UNIT for row in rows]
     if rows and max(map(abs, heights)) <= UNIT:
-        yield (f'all eyes of {path} are on the floor: z is the height of the eye, {EYE_HEIGHT} units above the feet of a '
-               'player who stands')
+        yield (f'all eyes of {path} are on the floor: z is the height of the eye, {EYE_HEIGHT} units above the feet of '
+               'a player who stands')
 
 
 def of_path(words: Words) -> typing.Iterator[str]:
@@ -52,8 +52,8 @@ def of_wads(words: Words) -> typing.Iterator[str]:
     for number, wad in enumerate(words.wads):
         if heads[number] == b'IWAD' and b'PWAD' in heads[:number]:
             pwad = words.wads[heads.index(b'PWAD')]
-            yield (f'{wad} is an IWAD and comes behind {pwad}, so its maps and pictures count before those of that WAD. '
-                   'Put the IWAD first')
+            yield (f'{wad} is an IWAD and comes behind {pwad}, so its maps and pictures count before those of that '
+                   'WAD. Put the IWAD first')
 
 
 def of_words(words: Words) -> typing.List[str]:

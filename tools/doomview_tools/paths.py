@@ -99,8 +99,8 @@ def row_of(text: str, level) -> Row:
             return of_row(words)
         return placed(text, level)
     except ValueError as error:
-        raise Trouble(f'{text.strip()} is no view: X,Y,ANGLE in map units and degrees, X,Y,Z,ANGLE as in a camera path, or '
-                      'the line of idmypos') from error
+        raise Trouble(f'{text.strip()} is no view: X,Y,ANGLE in map units and degrees, X,Y,Z,ANGLE as in a camera path, '
+                      'or the line of idmypos') from error
 
 
 def number_told(value: float) -> str:

@@ -198,6 +198,19 @@ class Check(Tools):
         self.assertEqual(sorted(os.listdir(self.at('out'))), ['MAP01-sizes-0.csv', 'MAP01-sizes-1.csv',
                                                              'MAP01-weapons.csv', 'MAP01-weapons.weapon.csv'])
 
+    def test_end(self):
+        """A view at which the original ends has a run of its own, and no verdict where the port ends there too."""
+        ended = vector(1, frame(1), frame(1), 'ended')._replace(frame='-', packed='-', original='-', bands='-')
+        rows = [vector(0, frame(1), frame(1)), ended, vector(2, frame(3), frame(3))]
+        self.write('made.csv', vectors.text(rows).encode())
+        status, output, _ = self.run_command(CHECK, 'made.csv', '--paths', 'out')
+        self.assertEqual((status, output.decode().splitlines()), (0, [
+            'MAP01 near 3 11 1 MAP01-0', 'MAP01 near 3 11 1 MAP01-1', 'MAP01 near 3 11 1 MAP01-2']))
+        self.write('port/MAP01-0.bin', frame(1))
+        right = (0, ['MAP01 near same 2 departs 1', 'all same 2 departs 1'])
+        self.assertEqual(self.check(frame(3), place='port/MAP01-2.bin'), right)
+        self.assertEqual(self.check(frame(77), place='port/MAP01-1.bin'), right)
+
     def test_wads(self):
         """A WAD that the vectors are not of is called so, and not the port wrong."""
         self.write('game.wad', b'IWAD' + bytes(8))

@@ -7,9 +7,10 @@ from ..trouble import Trouble
 
 PAGE = cli.Page(
     'explain', 'runs a job, and says what is wrong and how to mend it', '''
-Runs a job of doomview with the words, passes on what it writes, and ends with its status, as without explain. Sentences
-on what it said follow on standard error: what the numbers of a refusal mean, by the names of lines, things, lumps and files; and what
-else looks like a mistake, such as an IWAD behind its PWAD, things of types without a row, or extended nodes.
+Runs a job of doomview with the words, passes on what it writes, and ends with its status, as without explain.
+Sentences on what it said follow on standard error: what the numbers of a refusal mean, by the names of lines, things,
+lumps and files; and what else looks like a mistake, such as an IWAD behind its PWAD, things of types without a row, or
+extended nodes.
 
 With a line of doomview as its one word it says what the line means, without the names. With --said it runs nothing:
 FILE has what a run of these words said.

@@ -6,8 +6,8 @@ PAGE = cli.Page(
     'path', 'a camera path: places as an editor or idmypos shows them', '''
 Writes a camera path with a row for each place that is named by --at, in their order.
 
-A place is X,Y,DEGREES: map units, and degrees from east to the left, as a map editor shows them. The eye is 41 above the
-floor there, as that of a player who stands; X,Y,DEGREES,Z puts it at the height Z. Or it is the line that the cheat
+A place is X,Y,DEGREES: map units, and degrees from east to the left, as a map editor shows them. The eye is 41 above
+the floor there, as that of a player who stands; X,Y,DEGREES,Z puts it at the height Z. Or it is the line that the cheat
 idmypos shows in the original and in chocolate-doom: ang=0x40000000;x,y=(0x2000000,0xc00000).
 
 A row is x,y,z,angle: x, y and z in 16.16 map units (65536 a unit), the angle with 2^32 a turn. doomview why-limit takes

@@ -14,8 +14,8 @@ NOT_BUILT = ('doomview picture: the proved program is not built yet, so this pic
              'without proofs (about a minute); doomview --build builds it')
 PAGE = cli.Page(
     'picture', "the view from a map's player start as a PNG; no WAD is needed", '''
-Draws the view from a map's player start as a PNG, or one of a small made level where no WAD is named. --at names another
-place.
+Draws the view from a map's player start as a PNG, or one of a small made level where no WAD is named. --at names
+another place.
 
 The map is the first one of the WAD where none is named. Where the proved program is not built yet, the picture comes
 from a run of its sources without proofs, which takes about a minute; with --proved the program is built first.
@@ -36,8 +36,8 @@ def add_words(parser):
     parser.add_argument('map', metavar='MAP', nargs='?', help='the name of a map; else the first of the WAD')
     parser.add_argument('picture', metavar='OUT.png', help='the picture, whose name ends in .png')
     cli.add_base(parser)
-    parser.add_argument('--at', metavar='PLACE', help='another place than the player start: X,Y,DEGREES in map units, or '
-                        'X,Y,DEGREES,Z with the height of the eye, or the line of idmypos')
+    parser.add_argument('--at', metavar='PLACE', help='another place than the player start: X,Y,DEGREES in map units, '
+                        'or X,Y,DEGREES,Z with the height of the eye, or the line of idmypos')
     parser.add_argument('--proved', action='store_true', help='builds the proved program first, if that is needed')
     cli.add_job_options(parser, 'render', WITHOUT)
 

@@ -39,7 +39,8 @@ def rows_of(options, count):
     """The rows of the path, as many as the trace has views, or none where none is named."""
     rows = paths.rows(options.path) if options.path else []
     if rows and len(rows) != count:
-        raise Trouble(f'{options.path} has {len(rows)} rows, and {options.trace} {count} views; name the path of the run')
+        raise Trouble(f'{options.path} has {len(rows)} rows, and {options.trace} {count} views; name the path of the '
+                      'run')
     return rows
 
 

@@ -75,7 +75,7 @@ def all_of(call, items, jobs):
 def check_originals():
     """A Trouble where a program of the original is missing, with what makes it."""
     if original.missing():
-        raise Trouble(f'there is no program {original.missing()[0]}; tools/original/build makes it, of Debian\'s source '
+        raise Trouble(f"there is no program {original.missing()[0]}; tools/original/build makes it, of Debian's source "
                       'package of chocolate-doom: tools/original/README.md says what it needs. draw needs none of it')
 
 
