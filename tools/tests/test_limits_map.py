@@ -190,20 +190,20 @@ class LimitsMap(Tools):
         self.looked('page.html')
         found = pages_shown.shown(self.at('page.html'), '''
             const text = id => document.getElementById(id).textContent;
-            const all = [colours(canvas), text('which'), text('row'), scale];
+            const all = [colours(canvas), text('which'), text('row'), display.scale];
             hit('2'); all.push(text('which')); hit('d'); all.push(state); hit('1', 'n'); all.push(text('row'));
-            hit('ArrowRight'); all.push(text('told')); hit('+'); all.push(scale); hit('0'); all.push(scale);
+            hit('ArrowRight'); all.push(text('told')); hit('+'); all.push(display.scale); hit('0'); all.push(display.scale);
             await wait(); all.push(document.getElementById('picture').naturalWidth);
             hit('n'); all.push(text('seen'));
-            const overs = now().cells.filter(cell => isOver('planes', number(cell, 0)) && drawnSize(cell) * scale > 2);
-            const isBlack = cell => {
-                const [x, y, size] = square(cell), k = devicePixelRatio;
-                const colour = pen.getImageData((x + size * .15) * k, (y + size * .5) * k, 1, 1).data;
+            const overs = now().places.filter(place => isOver('planes', number(place, 0)) && display.square(place)[2] > 2);
+            const isBlack = place => {
+                const [x, y, size] = display.square(place), k = devicePixelRatio;
+                const colour = display.pen.getImageData((x + size * .15) * k, (y + size * .5) * k, 1, 1).data;
                 return colour[0] + colour[1] + colour[2] < 99;
             };
-            all.push(overs.length, overs.filter(isBlack).length, now().cells.filter(cell => cell.isCut).length);
-            all.push(now().cells.filter(cell => cellAt(cell[X], cell[Y] + .5) === cell).length);
-            const far = now().cells.find(cell => now().views.every(it => it.row.join() !== rowOf(cell, 0).join()));
+            all.push(overs.length, overs.filter(isBlack).length, now().places.filter(place => place.isCut).length);
+            all.push(now().places.filter(place => display.placeAt(place.x, place.y) === place).length);
+            const far = now().places.find(place => now().views.every(it => it.row.join() !== rowOf(place, 0).join()));
             look(far); all.push(text('row'), rowOf(far, 0).join(), text('shown'), find('plain')); return all;''')
         data = pages_shown.data_of(self.at('page.html'))
         rows = [','.join(map(str, view['row'])) for view in data['states'][1]['views']]
