@@ -286,17 +286,20 @@ class Check:
             yield Finding(ODD, 'thing', where, f'type {kind} at {at[0]} is none of the game, and never appears')
 
     def unclosed(self):
-        """Sectors whose lines do not close: at a vertex where an odd number of them end."""
-        ends = collections.Counter()
+        """Sectors whose lines do not close: at a vertex where an odd number of them end, and no line that has one
+        sector on both sides, as of deep water."""
+        ends, tricks = collections.Counter(), set()
         for number, line in enumerate(self.level.lines):
             front, back = self.plan.beside[number]
-            for sector in {front, back} - {None} if front != back else ():
-                for vertex in line[:2]:
-                    ends[sector, self.level.vertexes[vertex]] += 1
+            vertexes = [self.level.vertexes[vertex] for vertex in line[:2]]
+            if front == back:
+                tricks.update(vertexes)
+            else:
+                ends.update((sector, vertex) for sector in {front, back} - {None} for vertex in vertexes)
         found = collections.defaultdict(list)
         for (sector, vertex), count in ends.items():
-            if count % 2:
+            if count % 2 and vertex not in tricks:
                 found[sector].append(vertex)
         for sector, vertexes in sorted(found.items()):
-            some_here = ' and '.join(f'{it.x}, {it.y}' for it in sorted(vertexes)[:2])
+            some_here = ' and '.join(f'{vertex.x}, {vertex.y}' for vertex in sorted(vertexes)[:2])
             yield Finding(FAULT, 'sector', sectors([sector]), f'is not closed: its lines end at {some_here}')
