@@ -9,7 +9,7 @@ import sys
 import textwrap
 import typing
 
-from . import jobs, wads
+from . import jobs, levels, wads
 from .trouble import Trouble
 
 MOST_COLUMNS = 100
@@ -108,6 +108,8 @@ def add_output(parser, what):
 def add_base(parser):
     parser.add_argument('--iwad', metavar='WAD', help='the WAD that a PWAD needs, read before it; else that of the '
                         'variable IWAD')
+    parser.add_argument('--file', metavar='WAD', action='append', default=[], help='a WAD more, such as one with '
+                        'textures; as often as wanted, read in this order after the IWAD and before a PWAD')
 
 
 def add_level(parser):
@@ -119,7 +121,14 @@ def add_level(parser):
 
 def wads_of(options):
     """The WADs of a tool over one WAD, in their order."""
-    return wads.with_base(options.wad, options.iwad)
+    return wads.with_base(options.wad, options.iwad, options.file)
+
+
+def level_of(options, files):
+    """The level of a tool over one map; a Trouble where the map is in no other WAD than the one of --iwad."""
+    level = levels.read(files, options.map)
+    wads.check_own(level.name, level.wad, files, wads.find(options.wad), options.file)
+    return level
 
 
 def number(least, greatest):

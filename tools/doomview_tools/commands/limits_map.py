@@ -159,6 +159,7 @@ def worst_path(states, options):
 def run(options):
     options.files = cli.wads_of(options)
     check(options)
+    wads.check_game(options.files)
     options.limits = {**LIMITS, 'planes': options.planes, 'openings': options.openings}
     progress = Progress('limits-map')
     with tempfile.TemporaryDirectory(prefix='doomview-') as folder:
@@ -173,7 +174,7 @@ def run(options):
 def looked(options, runs, folder, progress):
     """Looks at the map, prints the summary and writes the files; the status."""
     runs.check()
-    level = levels.read(options.files, options.map)
+    level = cli.level_of(options, options.files)
     level.check_whole()
     plan = ground.Plan(level)
     states, doors = states_of(plan, runs, options, folder, progress)

@@ -4,7 +4,7 @@ import re
 import sys
 import tempfile
 
-from .. import checks, cli, explanations, levels, paths, program
+from .. import checks, cli, explanations, paths, program, wads
 from ..files import write_output, write_whole
 from ..findings import COUNTED
 from ..refusals import CHECKS
@@ -76,7 +76,8 @@ def refusal(name, files):
 
 def run(options):
     files = cli.wads_of(options)
-    level = levels.read(files, options.map)
+    wads.check_game(files)
+    level = cli.level_of(options, files)
     level.check_whole()
     found = list(checks.findings(level, files))
     write_output(''.join(line_of(it) + '\n' for it in found))

@@ -2,7 +2,7 @@
 import os
 import tempfile
 
-from .. import cli, ground, levels, lists, paths, program, traces
+from .. import cli, ground, levels, lists, paths, program, traces, wads
 from ..counting import LIMITS, RAISED
 from ..explanations import explained
 from ..files import write_whole
@@ -114,7 +114,8 @@ def counts_of(view):
 
 def run(options):
     files = cli.wads_of(options)
-    level = levels.read(files, options.map)
+    wads.check_game(files)
+    level = cli.level_of(options, files)
     level.check_whole()
     rows = rows_of(options, level)
     with tempfile.TemporaryDirectory(prefix='doomview-') as folder:
