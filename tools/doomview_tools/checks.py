@@ -11,11 +11,11 @@ from . import ground, program, ways
 from .art import Art
 from .findings import ERROR, FAULT, HOLE, ODD, Finding, lines, sectors, several
 from .game_checks import GameCheck
-from .ground import SKY
+from .ground import SKY, TWO_SIDED
 from .levels import PLAYER_1
 
 TALL = 128  # rows of a wall after which its texture begins anew
-UPPER_UNPEGGED, LOWER_UNPEGGED, TWO_SIDED = 8, 16, 4
+UPPER_UNPEGGED, LOWER_UNPEGGED = 8, 16
 PARTS = ('upper', 'lower', 'middle')
 SIDES = ('front', 'back')
 UNDRAWN = {1, 2, 3, 4, 11, 14, 58, 87, 89}  # starts, places of teleports, and what the thing table leaves out

@@ -10,7 +10,7 @@ from .wads import MAP_LUMPS, packed
 HEIGHT, RADIUS, STEP_UP = 56, 16, 24  # of a player, in map units
 STARTS = {1, 2, 3, 4, 11}  # types of things: of players, and of a deathmatch
 BOSS_TAGS = {666, 667}
-BLOCKS = 1  # the flag of a line that nobody passes
+BLOCKS, TWO_SIDED = 1, 4  # flags of a line: nobody passes; there is a sector behind it
 SKY = 'F_SKY1'
 LINTEL = 4  # what a door that is open keeps of its height below the ceiling beside it
 SQUARE = 128

@@ -4,7 +4,7 @@ import os
 import sys
 
 from . import traces
-from .counting import CAPPED, COUNTS
+from .counting import COUNTS
 from .frames import HEIGHT, SIZE, WIDTH
 from .pages import columns, packed, page, picture
 
@@ -73,7 +73,8 @@ class State:
         self.rows, self.order = self.views(most)
         self.traces = self.runs.drawn('trace', self.rows, traces.VIEW_SIZE)
         self.shown = [{'row': row[:4], 'counts': counts, 'seen': trace and seen(trace, names)}
-                      for row, counts, trace in zip(self.rows, self.runs.counts(self.rows), self.traces)]
+                      for row, counts, trace in zip(self.rows, self.runs.listed(self.rows, '', self.grid.is_solid),
+                                                    self.traces)]
         cells = sorted(self.grid.cells, key=lambda it: -it.size)
         return {'label': self.label, 'cells': columns(map(packed_cell, cells)), 'views': self.shown,
                 'order': self.order, 'small': [], 'looked': self.grid.views, 'over': self.grid.over,
@@ -129,7 +130,7 @@ def limits_page(plan, wads, states, palette, options, doors, plain):
     level, names = plan.level, traces.Names(wads)
     grid = states[0].grid
     data = {'title': f'{level.name} of {os.path.basename(level.wad)}', 'wads': list(map(os.path.basename, wads)),
-            'counts': COUNTS, 'limits': options.limits, 'capped': CAPPED, 'directions': grid.directions,
+            'counts': COUNTS, 'limits': options.limits, 'directions': grid.directions,
             'vertexes': columns(level.vertexes), 'sectors': len(level.sectors), 'reached': len(grid.reached),
             'lines': columns([*line[:2], int(plan.is_wall(number))] for number, line in enumerate(level.lines)),
             'doors': sorted(doors), 'noWay': list(grid.wanted), 'doubts': [pair for pair, _ in grid.ground.doubts.most_common(20)],

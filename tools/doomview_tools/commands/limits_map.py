@@ -3,9 +3,9 @@ import json
 import os
 import tempfile
 
-from .. import cli, counting, ground, jobs, levels, paths, wads, ways
+from .. import cli, cli_limits, ground, levels, paths, wads, ways
 from ..cells import Grid
-from ..counting import COUNTS, LIMITS, Progress, Runs
+from ..counting import COUNTS, Progress, Runs
 from ..files import check_target, write_output, write_whole
 from ..limits_page import State, limits_page
 from ..png import GREYS
@@ -55,11 +55,7 @@ def add_words(parser):
     parser.add_argument('--all', action='store_true',
                         help='looks from places to which no way leads from a start, too; the page strikes them through')
     parser.add_argument('--shut', action='store_true', help='leaves the doors shut, and does not count a second time')
-    for name in ('planes', 'openings'):
-        option = jobs.options()[f'--{name}']
-        parser.add_argument(option.name, metavar='N', type=cli.number(option.least, option.greatest),
-                            default=LIMITS[name], help=f'from more {name} on a view is over; {option.least} to '
-                            f'{option.greatest}; else {LIMITS[name]}')
+    cli_limits.add_words(parser)
     parser.add_argument('--step', metavar='N', type=cli.number(LEAST_STEP, MOST_STEP), default=64,
                         help=f'map units between places, a multiple of {LEAST_STEP}; else 64, or more on a large map')
     parser.add_argument('--directions', metavar='N', type=cli.number(1, 64), default=8,
@@ -115,10 +111,9 @@ def summary(found):
     for state in found['states']:
         yield f'doors {state["doors"]}: {state["views"]} views from {state["places"]} places'
         for name, it in state['counts'].items():
-            most = f'{it["most"]} or more' if name in counting.CAPPED and it['most'] >= it['limit'] else it['most']
             over = f'{it["over"]} view{"s" * (it["over"] > 1)} over' if it['over'] else 'none over'
             row = ','.join(map(str, it['row'])) if it['row'] else '-'
-            yield f'  {name:9} most {most} of {it["limit"]}, {over}, row {row}'
+            yield f'  {name:9} most {it["most"]} of {it["limit"]}, {over}, row {row}'
 
 
 def things_told(one):
@@ -160,7 +155,7 @@ def run(options):
     options.files = cli.wads_of(options)
     check(options)
     wads.check_game(options.files)
-    options.limits = {**LIMITS, 'planes': options.planes, 'openings': options.openings}
+    options.limits = cli_limits.limits_of(options)
     progress = Progress('limits-map')
     with tempfile.TemporaryDirectory(prefix='doomview-') as folder:
         runs = Runs(options.map, options.files, cli.job_words(options), folder, options.jobs, progress)
