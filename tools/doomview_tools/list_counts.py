@@ -34,20 +34,24 @@ def is_solid(level, seg, front) -> bool:
 
 def most_ranges(walls) -> int:
     """The most solid ranges at a time in a view, by its solid walls in order: of each the first and last columns of its
-    fragments, from left to right. No two of them share a column (R_ClipSolidWallSegment).
+    fragments, from left to right."""
+    return max(range_counts(walls), default=EDGES)
+
+
+def range_counts(walls):
+    """The number of solid ranges after each solid wall of a view. No two share a column (R_ClipSolidWallSegment).
 
     A wall that touches none makes a range more. One that touches several joins them, and the original moves the rest of
     the array down by one too little: so a wall between two of them takes away none."""
     filled = bytearray(COLUMNS + EDGES)  # of each column, with one more at each edge
     filled[0] = filled[-1] = 1
-    count = most = EDGES
+    count = EDGES
     for fragments in walls:
         touched = filled[fragments[0][0]] + len(fragments) - 1 + filled[fragments[-1][1] + 2]
         count += 2 - touched if touched > 1 else 1 - touched
-        most = max(most, count)
+        yield count
         for first, last in fragments:
             filled[first + 1:last + 2] = bytes((1,)) * (last + 1 - first)
-    return most
 
 
 def ranges_of(text: bytes, is_solid) -> int:

@@ -244,20 +244,17 @@ class Level:
     def blockmap(self):
         """Of each block of 128 map units the lines that touch it: their numbers between a 0 and a -1."""
         columns, rows = (SIDE * len(part) // BLOCK + 1 for part in (self.plan[0], self.plan))
-        lists = [[0, *self.touching(number % columns * BLOCK, number // columns * BLOCK), 0xffff]
-                 for number in range(columns * rows)]
-        first = 4 + len(lists)
-        offsets = [first + sum(map(len, lists[:number])) for number in range(len(lists))]
-        words = [0, 0, columns, rows, *offsets, *(word for one in lists for word in one)]
-        return struct.pack(f'<{len(words)}H', *words)
-
-    def touching(self, x, y):
-        """The numbers of the lines that touch a block."""
+        lists = [[0] for _ in range(columns * rows)]
         points = list(self.vertices)
         for number, ends in enumerate(self.lines):
-            pairs = zip((x, y), *(points[end] for end in ends))
-            if all(min(one, other) <= low + BLOCK and max(one, other) >= low for low, one, other in pairs):
-                yield number
+            xs, ys = zip(*(points[end] for end in ends))
+            for y in range(max(0, (min(ys) - 1) // BLOCK), min(rows, max(ys) // BLOCK + 1)):
+                for x in range(max(0, (min(xs) - 1) // BLOCK), min(columns, max(xs) // BLOCK + 1)):
+                    lists[y * columns + x].append(number)
+        first = 4 + len(lists)
+        offsets = [first + sum(len(one) + 1 for one in lists[:number]) for number in range(len(lists))]
+        words = [0, 0, columns, rows, *offsets, *(word for one in lists for word in (*one, 0xffff))]
+        return struct.pack(f'<{len(words)}H', *words)
 
     def lumps(self):
         return [('MAP01', b''), ('THINGS', self.things()),

@@ -24,10 +24,16 @@ if 'MAP02' in words:
 with open(words[words.index('--path') + 1]) as file:
     rows = [tuple(map(int, line.split(','))) for line in list(file)[1:]]
 for view, (x, y, z, angle) in enumerate(rows):
+    planes = 60 + (x >> 16) // 4 + len([word for word in words if word.endswith('open.wad')])
+    fragments, sprites = abs(y) >> 16, angle >> 28
     if job == 'limits':
-        planes = 60 + (x >> 16) // 4 + len([word for word in words if word.endswith('open.wad')])
-        fragments, sprites = min(256, abs(y) >> 16), angle >> 28
-        print(f'view {view} planes {planes} openings {y >> 16} fragments {fragments} sprites {sprites}')
+        print(f'view {view} planes {planes} openings {y >> 16} fragments {min(256, fragments)} sprites {sprites}')
+    elif job == 'list':
+        for i in range(fragments // 32):
+            print(f'view {view} fragment {i} seg 0 first {5 * i + 5} last {5 * i + 6}')
+            print(f'view {view} fragment {i} seg 1 first {5 * i + 9} last {5 * i + 9}')
+        print(f'view {view} fragments {min(256, fragments)} of {fragments} planes {planes} openings {y >> 16} sprites '
+              f'{sprites} of {sprites}')
     else:
         sys.stdout.buffer.write(bytes(i % 251 for i in range(64000 if job == 'render' else 512000)))
 '''
@@ -62,6 +68,11 @@ def hall():
                                  for tag, it in enumerate(sectors)))]
 
 
+def solids_of(fragments):
+    """The solid ranges of what COUNTING lists for so many fragments: one more for each pair but the first."""
+    return 3 + fragments // 32 if fragments >= 32 else 2
+
+
 class Made:
     """Runs that count by chance, and draw frames that no compression makes smaller."""
 
@@ -71,6 +82,9 @@ class Made:
     def counts(self, rows, what=''):
         return [{'planes': self.chance.randrange(1025), 'openings': self.chance.randrange(245761),
                  'fragments': self.chance.randrange(257), 'sprites': self.chance.randrange(129)} for _ in rows]
+
+    def listed(self, rows, what='', is_solid=None):
+        return [{**counts, 'solids': self.chance.randrange(33)} for counts in self.counts(rows)]
 
     def drawn(self, job, rows, size):
         repeated = 1 if job == 'render' else 64
@@ -114,21 +128,27 @@ class LimitsMap(Tools):
         self.assertEqual((planes['most'], planes['limit'], z), (60 + (x >> 16) // 4, 128, 41 << 16))
         self.assertEqual(opened['counts']['planes']['most'], planes['most'] + 1)
         self.assertGreater(planes['over'], 0)
-        self.assertEqual((fragments['most'], shut['counts']['sprites']['most']), (256, 14))
+        self.assertEqual((fragments['most'], shut['counts']['sprites']['most']), (fragments['row'][1] >> 16, 14))
+        self.assertGreater(fragments['most'], 256)  # past what `limits` counts
+        self.assertEqual(shut['counts']['solids']['most'], 3 + fragments['most'] // 32)
         self.assertEqual(len(self.looked('--shut')[1]['states']), 1)
         self.assertGreater(self.looked('--all', '--shut')[1]['states'][0]['places'], shut['places'])
 
     def test_limits(self):
-        """Raised limits are those of the status; what is counted no further counts as over."""
-        planes = self.looked('--planes', '512')[1]['states'][0]['counts']['planes']
-        self.assertEqual((planes['limit'], planes['over']), (512, 0))
+        """Raised limits are those of the status."""
+        words = ['--planes', '512', '--fragments', '600', '--sprites', '200', '--solids', '50']
+        status, found = self.looked(*words)
+        counts = found['states'][0]['counts']
+        self.assertEqual([(counts[name]['limit'], counts[name]['over']) for name in words[::2] for name in [name[2:]]],
+                         [(512, 0), (600, 0), (200, 0), (50, 0)])
+        self.assertEqual((status, self.looked('--fragments', '300')[1]['states'][0]['counts']['fragments']['limit']), (0, 300))
         words = ['hall.wad', 'MAP01', 'page.html', '--shut', *COARSE]
         status, output, _ = self.run_tool('limits-map', *words, doomview=self.counting)
         self.assertIn(f'<pre id="plain">{output.decode()}</pre>', self.read('page.html'))  # for an old browser
         lines = output.decode().splitlines()
         self.assertEqual((status, lines[0]), (1, 'MAP01 of hall.wad: a player reaches 3 of its 4 sectors'))
         self.assertRegex(lines[1], r'^doors shut: \d+ views from \d+ places$')
-        self.assertRegex(lines[4], r'^  fragments most 256 or more of 256, \d+ views over, row [-\d]+(,[-\d]+){3}$')
+        self.assertRegex(lines[4], r'^  fragments most \d+ of 256, \d+ views over, row [-\d]+(,[-\d]+){3}$')
 
     def test_no_way(self):
         """What a player wants is looked at where no way leads to it, and said."""
@@ -154,9 +174,9 @@ class LimitsMap(Tools):
         for number, state in enumerate(data['states']):
             places = pages_shown.rows_of(state['cells'])
             self.assertIn(0, {place[5] for place in places})
-            for x, y, size, floor, sector, _, planes, _, openings, _, fragments, _, sprites, way in places:
-                counts = 60 + x // 4 + number, y, min(256, abs(y)), way * 16 // data['directions']
-                self.assertEqual((planes, openings, fragments, sprites), counts)
+            for x, y, size, floor, sector, _, planes, _, openings, _, fragments, _, sprites, way, solids, _ in places:
+                counts = 60 + x // 4 + number, y, abs(y), way * 16 // data['directions'], solids_of(abs(y))
+                self.assertEqual((planes, openings, fragments, sprites, solids), counts)
             for view in state['views']:
                 self.assertEqual(view['counts']['planes'], 60 + (view['row'][0] >> 16) // 4 + number)
         rows = self.read('worst.csv').splitlines()
