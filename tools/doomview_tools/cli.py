@@ -112,10 +112,11 @@ def add_base(parser):
                         'textures; as often as wanted, read in this order after the IWAD and before a PWAD')
 
 
-def add_level(parser):
-    """The words of a tool over one map."""
+def add_level(parser, is_needed=True):
+    """The words of a tool over one map, which some need not name."""
     parser.add_argument('wad', metavar='WAD', help=WAD)
-    parser.add_argument('map', metavar='MAP', help='the name of a map, such as MAP01 or E1M1')
+    parser.add_argument('map', metavar='MAP', nargs=None if is_needed else '?', help='the name of a map, such as MAP01 or '
+                        'E1M1')
     add_base(parser)
 
 

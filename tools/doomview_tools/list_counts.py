@@ -8,8 +8,8 @@ import re
 
 from .ground import TWO_SIDED
 
-VIEW = re.compile(rb'view \d+ (?:fragments (\d+) of (\d+) planes (\d+) openings (\d+) sprites (\d+) of (\d+)|'
-                  rb'over (planes|openings) (\d+))\n')
+LAST = re.compile(rb'view \d+ (?:fragments \d+ of (?P<fragments>\d+) planes (?P<planes>\d+) openings (?P<openings>\d+) '
+                  rb'sprites \d+ of (?P<sprites>\d+)|over (?P<over>planes|openings) (?P<count>\d+))\n')
 FRAGMENT = re.compile(rb' seg (\d+) first (\d+) last (\d+)\n')
 EDGES = 2  # ranges at the edges of a view, which are there from the beginning
 COLUMNS = 320
@@ -64,14 +64,27 @@ def ranges_of(text: bytes, is_solid) -> int:
 def counts_of(output: bytes, is_solid=None):
     """The counts of each view of what `list` writes, by name; with the solid ranges where solid segs are given. Of a
     view over a raised limit it is that count alone."""
+    for items, last in views_of(output):
+        found = LAST.fullmatch(last)
+        if found['over']:
+            yield {found['over'].decode(): int(found['count'])}
+            continue
+        counts = {name: int(found[name]) for name in ('planes', 'openings', 'fragments', 'sprites')}
+        if is_solid:
+            counts['solids'] = ranges_of(items, is_solid)
+        yield counts
+
+
+def views_of(output: bytes):
+    """The lines of each view: those of its items, and the last, which has its sums."""
+    if b' over ' in output:
+        lines = output.splitlines(keepends=True)
+        ends = [number for number, line in enumerate(lines, 1) if b' sprites ' in line or b' over ' in line]
+        for begin, end in zip([0, *ends], ends):
+            yield b''.join(lines[begin:end - 1]), lines[end - 1]
+        return
     begin = 0
-    for view in VIEW.finditer(output):
-        if view[7]:
-            yield {view[7].decode(): int(view[8])}
-        else:
-            counts = {'planes': int(view[3]), 'openings': int(view[4]), 'fragments': int(view[2]),
-                      'sprites': int(view[6])}
-            if is_solid:
-                counts['solids'] = ranges_of(output[begin:view.start()], is_solid)
-            yield counts
-        begin = view.end()
+    while (sums := output.find(b' sprites ', begin)) >= 0:
+        last, end = output.rfind(b'\n', begin, sums) + 1 or begin, output.find(b'\n', sums) + 1
+        yield output[begin:last], output[last:end]
+        begin = end

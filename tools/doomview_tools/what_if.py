@@ -65,7 +65,7 @@ def changes_of(level, planes_of, field):
     weights = collections.Counter({value: sum(planes_of[number] for number in numbers)
                                    for value, numbers in having.items() if value != SKY})
     for value, weight in weights.items():
-        for goal in goals_of(weights, value):
+        for goal in goals_of(weights, field, value):
             yield from weighed(level, Change(field, value, goal, tuple(having[value])), weight)
     most = weights.most_common(1)[0][0] if weights else None
     rest = tuple(number for value in weights if value != most for number in having[value])
@@ -73,14 +73,14 @@ def changes_of(level, planes_of, field):
         yield from weighed(level, Change(field, None, most, rest), sum(weights.values()))
 
 
-def goals_of(weights, value):
-    """The values to which a value may be changed: the nearest heights and lights, the flats of most planes; and the
-    light of most."""
+def goals_of(weights, field, value):
+    """The values to which a value of a field may be changed: the nearest heights and lights, the flats of most planes;
+    and the light of most."""
     others = [other for other, _ in weights.most_common() if other != value]
     if isinstance(value, str):
         return others[:GOALS]
     near = sorted(others, key=lambda other: abs(other - value))[:GOALS]
-    return list(dict.fromkeys([*near, *others[:1]]))
+    return near if field in HEIGHTS else list(dict.fromkeys([*near, *others[:1]]))
 
 
 def weighed(level, change, weight):

@@ -7,9 +7,10 @@ from .. import cli, cli_limits, ground, levels, paths, wads, ways
 from ..cells import Grid
 from ..counting import COUNTS, Progress, Runs
 from ..files import check_target, write_output, write_whole
+from ..index_page import index_page
 from ..limits_page import State, limits_page
 from ..png import GREYS
-from ..trouble import Trouble
+from ..trouble import TROUBLE, Trouble
 
 OVER = 1
 LEAST_STEP, MOST_STEP = 8, 1024
@@ -19,7 +20,9 @@ PAGE = cli.Page(
     'limits-map', 'what the views of a whole map count, as a page: planes, openings, fragments, sprites', '''
 Counts what the views of a whole map have: planes, openings, fragments and sprites, as doomview limits counts them,
 and prints of each count the greatest with the row of its view. The original ends at more than 128 planes or 20,480
-openings; 256 fragments and 128 sprites are counted no further, and count as over here, since it draws no more of them.
+openings, and does not draw walls and sprites past 256 fragments and 128 sprites. It ends too at more than 32 solid
+ranges of columns that walls have filled: these are counted by what doomview list says, from each place in the one or two
+directions with the most fragments, and of a view with more than 256 fragments by the first 256.
 
 It looks from places of a grid at which a player can stand: within the lines, 56 units of height, 16 off the walls, in
 sectors to which a way leads from a start, the eye 41 over the floor, in 8 directions. A way leads over steps of up to
@@ -37,6 +40,7 @@ for a path, to copy. Keys and mouse work, and the page says which.
 $ doomview limits-map freedoom2.wad MAP01 map01.html
 $ doomview limits-map --iwad freedoom2.wad mymap.wad MAP01 --json
 $ doomview limits-map freedoom2.wad MAP12 --planes 256 --worst worst.csv --opened open.wad
+$ doomview limits-map --iwad freedoom2.wad mymaps.wad --all-maps pages
 ''', 'the program', '''
  0  no view is over a limit
  1  some are
@@ -46,9 +50,11 @@ $ doomview limits-map freedoom2.wad MAP12 --planes 256 --worst worst.csv --opene
 
 
 def add_words(parser):
-    cli.add_level(parser)
+    cli.add_level(parser, is_needed=False)
     parser.add_argument('page', metavar='OUT.html', nargs='?', help='the page, whose name ends in .html')
-    parser.add_argument('--json', action='store_true', help='prints the numbers as JSON')
+    parser.add_argument('--all-maps', metavar='FOLDER', help='looks at all maps of the WAD, prints a line for each, and '
+                        'writes a page of each and an index.html to FOLDER')
+    parser.add_argument('--json', action='store_true', help='prints the numbers as JSON; with --all-maps each map in a line')
     parser.add_argument('--worst', metavar='FILE', help='writes the worst views of each count as a camera path to FILE')
     parser.add_argument('--opened', metavar='FILE', help='writes the map with its doors open as a WAD to FILE, which goes '
                         'behind the WADs of a job')
@@ -69,6 +75,10 @@ def add_words(parser):
 
 def check(options):
     """A Trouble where the words cannot do, before anything is counted."""
+    if options.all_maps and (options.map or options.worst or options.opened):
+        raise Trouble('--all-maps looks at all maps of a WAD; name no map, page, --worst or --opened beside it')
+    if not options.all_maps and not options.map:
+        raise Trouble('name a map, or a folder for the pages of all maps by --all-maps FOLDER')
     if options.step % LEAST_STEP:
         raise Trouble(f'--step is a multiple of {LEAST_STEP}, and {options.step} is none')
     if options.page is not None and not options.page.endswith('.html'):
@@ -156,6 +166,52 @@ def run(options):
     check(options)
     wads.check_game(options.files)
     options.limits = cli_limits.limits_of(options)
+    if options.all_maps:
+        return run_all(options)
+    found, told = look(options)
+    write_output(json.dumps(found, indent=1) + '\n' if options.json else told)
+    return OVER if found['over'] else 0
+
+
+def run_all(options):
+    """Looks at all maps of the WAD, prints a line for each and writes their pages and an index; the status."""
+    make_folder(options.all_maps)
+    own, found, status = wads.find(options.wad), {}, 0
+    for name in wads.maps_of([own]):
+        options.map, options.page = name, os.path.join(options.all_maps, f'{name}.html')
+        try:
+            found[name], _ = look(options)
+            told, now = line_of(name, found[name]), OVER if found[name]['over'] else 0
+        except Trouble as error:
+            found[name] = str(error) or 'refused'
+            told, now = f'{name} {found[name]}', TROUBLE
+        if options.json:
+            told = json.dumps(found[name] if now != TROUBLE else {'map': name, 'trouble': found[name]})
+        write_output(f'{told}\n')
+        status = max(status, now)
+    index = index_page(os.path.basename(own), found, options.limits)
+    write_whole(os.path.join(options.all_maps, 'index.html'), index)
+    return status
+
+
+def make_folder(path):
+    """A folder for pages; a Trouble where there can be none."""
+    try:
+        os.makedirs(path, exist_ok=True)
+    except OSError as error:
+        raise Trouble(f'cannot make the folder {path}: {error.strerror}') from error
+
+
+def line_of(name, found):
+    """The numbers of a map as one line: the greatest counts with the doors shut, and open."""
+    counts = [[state['counts'][count] for state in found['states']] for count in COUNTS]
+    told = [f'{count} {"/".join(str(one["most"]) for one in of)}{" over" if any(one["over"] for one in of) else ""}'
+            for count, of in zip(COUNTS, counts)]
+    return f'{name} {", ".join(told)}'
+
+
+def look(options):
+    """Looks at a map and writes the files; its numbers, and these as lines."""
     progress = Progress('limits-map')
     with tempfile.TemporaryDirectory(prefix='doomview-') as folder:
         runs = Runs(options.map, options.files, cli.job_words(options), folder, options.jobs, progress)
@@ -167,14 +223,14 @@ def run(options):
 
 
 def looked(options, runs, folder, progress):
-    """Looks at the map, prints the summary and writes the files; the status."""
+    """The same with runs of the program."""
     runs.check()
     level = cli.level_of(options, options.files)
     level.check_whole()
     plan = ground.Plan(level)
     states, doors = states_of(plan, runs, options, folder, progress)
     found = numbers(plan, states, options)
-    told = ''.join(f'{it}\n' for it in summary(found))
+    told = ''.join(f'{line}\n' for line in summary(found))
     progress.tell('drawing the worst views')
     if options.page:
         write_whole(options.page, limits_page(plan, options.files, states, palette_of(options.files), options, doors,
@@ -183,6 +239,4 @@ def looked(options, runs, folder, progress):
         write_whole(options.opened, ground.with_ceilings(plan.level, doors))
     if options.worst:
         write_whole(options.worst, worst_path(states, options).encode())
-    progress.clear()
-    write_output(json.dumps(found, indent=1) + '\n' if options.json else told)
-    return OVER if found['over'] else 0
+    return found, told

@@ -6,14 +6,16 @@ import tempfile
 
 from .. import checks, cli, explanations, paths, program, wads
 from ..files import write_output, write_whole
-from ..findings import COUNTED
+from ..findings import COUNTED, GRADES
 from ..refusals import CHECKS
+from ..trouble import Trouble
 
 FOUND, REFUSED = 1, 2
 PAGE = cli.Page(
     'lint', 'all that looks like a mistake in a map, at once', '''
 Prints a line for each thing in a map that looks like a mistake: how grave it is, what it is about, where, and a
-sentence. The grade says what it does to the status.
+sentence. The grade says what it does to the status. If no map is named, it prints a line for each map of the WAD, with
+the number of lines of each grade.
 
 error, status 1: doomview refuses the map, or the original ends there or reads past the data of the map. Textures, flats
 and patches that there are not, with what may be meant; flats that the original does not find between the last F_START
@@ -37,6 +39,7 @@ lifts, crushers or buttons move at once. Limits of a view: doomview limits-map.
 ''', '''
 $ doomview lint freedoom2.wad MAP01
 $ doomview lint --iwad freedoom2.wad mymap.wad MAP01 --strict
+$ doomview lint --iwad freedoom2.wad --file textures.wad mymaps.wad
 ''', 'Python alone; the program where it is built', '''
  0  there is no error, hole or fault; with --strict nothing odd either
  1  there are some
@@ -45,7 +48,7 @@ $ doomview lint --iwad freedoom2.wad mymap.wad MAP01 --strict
 
 
 def add_words(parser):
-    cli.add_level(parser)
+    cli.add_level(parser, is_needed=False)
     parser.add_argument('--strict', action='store_true', help='what is odd counts for the status too')
 
 
@@ -74,12 +77,40 @@ def refusal(name, files):
     return 0
 
 
-def run(options):
-    files = cli.wads_of(options)
-    wads.check_game(files)
+def counts_told(found) -> str:
+    """How many findings there are of each grade, in words."""
+    return ' '.join(f'{grade} {sum(finding.grade == grade for finding in found)}' for grade in GRADES)
+
+
+def all_maps(options, files):
+    """Prints a line for each map of the WAD; the greatest status."""
+    worst = 0
+    for name in wads.maps_of([wads.find(options.wad)]):
+        options.map = name
+        try:
+            found, status = findings_of(options, files)
+            told = counts_told(found)
+        except Trouble as error:
+            told, status = f'cannot be read: {error}', REFUSED
+        write_output(f'{name} {told}\n')
+        worst = max(worst, status)
+    return worst
+
+
+def findings_of(options, files):
+    """What the checks find in a map, and the status."""
     level = cli.level_of(options, files)
     level.check_whole()
     found = list(checks.findings(level, files))
-    write_output(''.join(line_of(it) + '\n' for it in found))
     status = refusal(level.name, files) if program.is_built() else 0
-    return status or status_of(found, options.strict)
+    return found, status or status_of(found, options.strict)
+
+
+def run(options):
+    files = cli.wads_of(options)
+    wads.check_game(files)
+    if options.map is None:
+        return all_maps(options, files)
+    found, status = findings_of(options, files)
+    write_output(''.join(line_of(finding) + '\n' for finding in found))
+    return status
