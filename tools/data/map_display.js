@@ -5,7 +5,7 @@ the picking of a place by mouse and keys. It needs nothing but the canvas; a pag
 
     vertexes   [x, y] of each, in map units
     lines      [start, end, isWall] of each; start and end are numbers of vertexes
-    point      a function of a place or null: the pointer is over it, or an arrow key went to it
+    point      a function of a place or null, and of the marks near it: the pointer is over it, or an arrow key went to it
     pick       a function of a place or null: it was clicked, or Enter was pressed on it
 
 A place is { x, y, size, isReached }: the middle of a square and its side in map units, and whether a way leads there. A
@@ -18,6 +18,7 @@ page may give its places other fields. show() adds isCut: whether smaller places
     isOver     a function of a count: whether it is over the limit
     dots       [{ x, y, text, isChosen }]: numbered views
     rings      [[x, y]]: small circles
+    marks      [{ x, y, letter, colour }]: small diamonds with a letter, over the places
     eye        { x, y, angle } or null: a cone of 90 degrees; angle is in degrees, counterclockwise from east
     cursor     a place or null: it gets a frame
   display.fit()               takes the size of its canvas anew, as after a change of the window, and draws
@@ -30,18 +31,22 @@ page may give its places other fields. show() adds isCut: whether smaller places
   display.keys                by the name of a key what it does: + - = 0
   display.walkKeys            the same for the arrows and Enter, which a button of a page may want for itself
   MapDisplay.KEYS             what these keys do, in HTML
-  MapDisplay.shade(share)     the colour of a count that is a share of its limit
-  MapDisplay.drawScale(canvas)  fills a canvas with the shades from 0 to the limit */
+  MapDisplay.shade(share)     the colour of a count that is a share of its limit, up to 1
+  MapDisplay.core(share)      of a count over its limit how wide the light core of its black square is, from 0 at the limit
+                              to .6 of the square at four times the limit and more
+  MapDisplay.drawScale(canvas)  fills a canvas with the shades from 0 to the limit, and then cores up to four times it */
 class MapDisplay {
   static KEYS = 'arrows walk from place to place · <kbd>Enter</kbd> picture there · <kbd>+</kbd> <kbd>-</kbd> <kbd>0</kbd> ' +
     'zoom (wheel, drag)';
   // Lighter to darker throughout, so that it reads in black and white too; the lightest is darker than white.
   static STOPS = [[226, 235, 243], [196, 217, 236], [150, 187, 220], [222, 126, 40], [140, 52, 0]];
 
+  static CORE = '#f9f';
+
   constructor(canvas, { vertexes, lines, point, pick }) {
     Object.assign(this, { canvas, vertexes, lines, point, pick });
     this.pen = canvas.getContext('2d');
-    this.shown = { places: [], numberOf: () => 0, limit: 1, isOver: () => false, dots: [], rings: [], eye: null, cursor: null };
+    this.shown = { places: [], numberOf: () => 0, limit: 1, isOver: () => false, dots: [], rings: [], marks: [], eye: null, cursor: null };
     this.scale = 1; this.centre = [0, 0]; this.drag = null;
     const corners = lines.flatMap(line => [vertexes[line[0]], vertexes[line[1]]]);
     this.box = [0, 1].map(k => [Math.min, Math.max].map(least => corners.reduce((a, v) => least(a, v[k]), corners[0][k])));
@@ -58,10 +63,14 @@ class MapDisplay {
     const [low, high] = [MapDisplay.STOPS[i], MapDisplay.STOPS[i + 1]];
     return 'rgb(' + low.map((v, k) => Math.round(v + (high[k] - v) * rest)) + ')';
   }
+  static core(share) { return .6 * Math.min(1, Math.max(0, Math.log2(share) / 2)); }
   static drawScale(canvas) {
-    const pen = canvas.getContext('2d');
-    for (let x = 0; x < canvas.width; x++) {
-      pen.fillStyle = MapDisplay.shade(x / canvas.width); pen.fillRect(x, 0, 1, canvas.height);
+    const pen = canvas.getContext('2d'), { width, height } = canvas, limit = Math.round(width * .65);
+    for (let x = 0; x < limit; x++) { pen.fillStyle = MapDisplay.shade(x / limit); pen.fillRect(x, 0, 1, height); }
+    pen.fillStyle = '#000'; pen.fillRect(limit, 0, width - limit, height);
+    for (let x = limit; x + height <= width; x += height) {
+      const core = height * MapDisplay.core(4 ** ((x - limit) / (width - limit - height)));
+      pen.fillStyle = MapDisplay.CORE; pen.fillRect(x + (height - core) / 2, (height - core) / 2, core, core);
     }
   }
 
@@ -105,11 +114,12 @@ class MapDisplay {
 
   /* Drawing. */
   draw() {
-    const { places, rings, cursor, eye, dots } = this.shown, pen = this.pen;
+    const { places, rings, marks, cursor, eye, dots } = this.shown, pen = this.pen;
     pen.clearRect(0, 0, this.width, this.height);
     places.forEach(place => this.drawPlace(place));
     this.drawLines();
     rings.forEach(([x, y]) => this.circle(...this.at(x, y), 2.2, '#fff'));
+    marks.forEach(mark => this.drawMark(mark));
     if (cursor) { const [x, y, size] = this.square(cursor); pen.strokeStyle = '#06c'; pen.lineWidth = 3; pen.strokeRect(x, y, size, size); }
     if (eye) this.cone(eye);
     dots.filter(dot => !dot.isChosen).concat(dots.filter(dot => dot.isChosen)).forEach(dot => this.drawDot(dot));
@@ -126,7 +136,11 @@ class MapDisplay {
     this.pen.fillRect(x, y, size + .6, size + .6);
     if (!place.isReached) this.stroke(isOver ? '#fff' : '#555', 1, [[[x, y + size], [x + size, y]]]);
     if (isOver && size >= 8) this.cross(x, y, size);
+    if (isOver) this.drawCore(x, y, size, MapDisplay.core(n / this.shown.limit) * size);
     if (size > (isOver ? 48 : 34)) this.label(n, x + size / 2, y + size * (isOver ? .87 : .5), n > this.shown.limit * .7 ? '#fff' : '#000');
+  }
+  drawCore(x, y, size, core) {
+    this.pen.fillStyle = MapDisplay.CORE; this.pen.fillRect(x + (size - core) / 2, y + (size - core) / 2, core, core);
   }
   cross(x, y, size) {
     const a = size * .25, b = size * .75;
@@ -142,6 +156,15 @@ class MapDisplay {
   drawDot({ x, y, text, isChosen }) {
     const middle = this.at(x, y);
     this.circle(...middle, 9, isChosen ? '#06c' : '#fff'); this.label(text, ...middle, isChosen ? '#fff' : '#000');
+  }
+  drawMark({ x, y, letter, colour }) {
+    const [px, py] = this.at(x, y), pen = this.pen;
+    pen.fillStyle = colour; pen.strokeStyle = '#fff'; pen.lineWidth = 1; pen.beginPath();
+    [[0, -8], [8, 0], [0, 8], [-8, 0]].forEach(([dx, dy]) => pen.lineTo(px + dx, py + dy));
+    pen.closePath(); pen.fill(); pen.stroke(); this.label(letter, px, py, '#fff');
+  }
+  marksNear(px, py) {
+    return this.shown.marks.filter(mark => { const [x, y] = this.at(mark.x, mark.y); return Math.hypot(x - px, y - py) < 10; });
   }
   cone({ x, y, angle }) {
     const [px, py] = this.at(x, y), a = -angle * Math.PI / 180;
@@ -175,20 +198,20 @@ class MapDisplay {
     canvas.onpointerdown = event => { this.drag = { start: this.pointed(event), centre: this.centre, isMoved: false }; };
     canvas.onpointermove = event => this.move(event);
     canvas.onpointerup = event => {
-      if (this.drag && !this.drag.isMoved) this.click(this.placeAt(...this.from(...this.pointed(event))));
+      if (this.drag && !this.drag.isMoved) this.click(this.placeAt(...this.from(...this.pointed(event))), this.pointed(event));
       this.drag = null;
     };
     canvas.onwheel = event => { event.preventDefault(); this.zoom(event.deltaY < 0 ? 1.2 : 1 / 1.2, this.pointed(event)); };
   }
   move(event) {
     const p = this.pointed(event), drag = this.drag;
-    if (!drag || !event.buttons) return this.point(this.placeAt(...this.from(...p)));
+    if (!drag || !event.buttons) return this.point(this.placeAt(...this.from(...p)), this.marksNear(...p));
     drag.isMoved ||= Math.hypot(p[0] - drag.start[0], p[1] - drag.start[1]) > 5;
     if (!drag.isMoved) return;
     this.centre = [drag.centre[0] - (p[0] - drag.start[0]) / this.scale, drag.centre[1] + (p[1] - drag.start[1]) / this.scale];
     this.draw();
   }
-  click(place) { this.show({ cursor: place }); this.point(place); this.pick(place); }
+  click(place, pixel) { this.show({ cursor: place }); this.point(place, this.marksNear(...pixel)); this.pick(place); }
   walk(dx, dy) {
     const { places, cursor, eye } = this.shown, start = cursor || eye && this.placeAt(eye.x, eye.y) || places[0];
     let best = start, least = Infinity;
@@ -196,6 +219,6 @@ class MapDisplay {
       const x = place.x - start.x, y = place.y - start.y, along = x * dx + y * dy, aside = Math.abs(x * dy) + Math.abs(y * dx);
       if (along > 0 && aside <= along && along + 2 * aside < least) { least = along + 2 * aside; best = place; }
     }
-    if (best) { this.show({ cursor: best }); this.point(best); }
+    if (best) { this.show({ cursor: best }); this.point(best, this.marksNear(...this.at(best.x, best.y))); }
   }
 }

@@ -57,7 +57,7 @@ class Grid:
         self.is_solid = list_counts.solid_segs(ground.plan.level)
         self.step, places = self.coarse(options.step)
         more = self.in_small_sectors(places)
-        self.small = {(cell.x, cell.y) for cell in more}
+        self.small = {(cell.x, cell.y): cell for cell in more}
         self.cells = self.looked(places + more, 2)
         for cut in range(CUTS):
             places = [place for cell in self.high(self.step >> cut) for place in self.quarters(cell)]
@@ -96,17 +96,18 @@ class Grid:
         most = {name: max((cell.count(name) for cell in self.cells), default=0) for name in COUNTS}
         bars = {name: max(1, FINER * min(self.limits[name], most[name])) for name in COUNTS}
         bars['solids'] = FINER * self.limits['solids']
-        found = [cell for cell in self.cells if cell.size == size
+        found = [cell for cell in self.cells if cell.size == size and (cell.x, cell.y) not in self.small
                  and any(cell.count(name) >= bars[name] for name in COUNTS)]
         return sorted(found, key=lambda it: -max(it.count(name) / self.limits[name] for name in COUNTS))[:MOST_CUT]
 
     def quarters(self, cell):
-        """The places in the quarters of a cell, without those of small sectors."""
+        """The places in the quarters of a cell. One of a small sector in their middle takes the whole quarter."""
         half, away = cell.size // 2, cell.size // 4
-        for j in (-away, away):
-            for i in (-away, away):
-                yield from (place for place in self.place(cell.x + i, math.floor(cell.y) + j + .5, half)
-                            if (place.x, place.y) not in self.small)
+        for x, y in ((cell.x + i, math.floor(cell.y) + j + .5) for j in (-away, away) for i in (-away, away)):
+            if (x, y) in self.small:
+                self.small[x, y].size = half
+            else:
+                yield from self.place(x, y, half)
 
     def looked(self, cells, every):
         """The cells with their counts, in every so many of the directions."""

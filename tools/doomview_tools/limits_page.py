@@ -4,7 +4,9 @@ import os
 import sys
 
 from . import traces
+from .checks import findings
 from .counting import COUNTS
+from .findings import GRADES, places
 from .frames import HEIGHT, SIZE, WIDTH
 from .pages import columns, packed, page, picture
 
@@ -12,6 +14,7 @@ TEMPLATE = 'limits_map.html'
 MOST_BYTES = 3000000
 WORDS = 40  # bytes of a view's words for its pictures
 SMALL_PICTURES = 60
+MOST_MARKS = 500
 PLANE_KINDS = (2, 3)  # of painters: plane and sky
 NO_PLANE = 255
 COUNT_OF = {1: 'fragments', 2: 'planes', 3: 'planes', 4: 'fragments', 5: 'sprites'}  # what a painter's number counts
@@ -125,7 +128,14 @@ def put_in(pictures, room):
         view.update((kind, of_sizes[its]) for kind, of_sizes in found.items())
 
 
-def limits_page(plan, wads, states, palette, options, doors, plain):
+def marks_of(level, wads):
+    """What lint finds in a level and can be shown on its map: places, grade and the line of each, the gravest first."""
+    found = [[finding.grade, f'{finding.what}: {finding.where}: {finding.told}', list(map(list, places(finding, level)))]
+             for finding in findings(level, wads)]
+    return sorted((mark for mark in found if mark[2]), key=lambda mark: list(GRADES).index(mark[0]))[:MOST_MARKS]
+
+
+def limits_page(plan, wads, states, palette, options, doors, plain, before=()):
     """The bytes of the page; `plain` is the summary as text."""
     level, names = plan.level, traces.Names(wads)
     grid = states[0].grid
@@ -133,7 +143,8 @@ def limits_page(plan, wads, states, palette, options, doors, plain):
             'counts': COUNTS, 'limits': options.limits, 'directions': grid.directions,
             'vertexes': columns(level.vertexes), 'sectors': len(level.sectors), 'reached': len(grid.reached),
             'lines': columns([*line[:2], int(plan.is_wall(number))] for number, line in enumerate(level.lines)),
-            'doors': sorted(doors), 'noWay': list(grid.wanted), 'doubts': [pair for pair, _ in grid.ground.doubts.most_common(20)],
+            'doors': sorted(doors), 'noWay': list(grid.wanted), 'before': list(before),
+            'marks': marks_of(level, wads), 'doubts': [pair for pair, _ in grid.ground.doubts.most_common(20)],
             'states': [state.packed(names, options.views) for state in states]}
     pictures = sorted((it for state in states for it in state.pictures(palette)), key=lambda it: it[0])
     put_in([it[1:] for it in pictures], room_in(data, plain) - len(pictures) * WORDS)

@@ -150,6 +150,47 @@ class LimitsMap(Tools):
         self.assertRegex(lines[1], r'^doors shut: \d+ views from \d+ places$')
         self.assertRegex(lines[4], r'^  fragments most \d+ of 256, \d+ views over, row [-\d]+(,[-\d]+){3}$')
 
+    def test_before(self):
+        """An earlier run: what got worse and what better, in the lines, on the page and in the status."""
+        status, found = self.looked('--shut')
+        old = found['states'][0]['counts']
+        self.write('same.json', json.dumps(found, indent=1).encode())
+        for name, more in [('planes', 0), ('fragments', -1), ('sprites', -1)]:
+            old[name]['most'] += more
+        old['fragments']['over'] -= 1
+        old['solids']['most'] += 5
+        self.write('old.json', (json.dumps(found) + '\n').encode())
+        words = ['limits-map', 'hall.wad', 'MAP01', '--shut', *COARSE]
+        status, output, _ = self.run_tool(*words, 'page.html', '--before', 'old.json', doomview=self.counting)
+        told = [line for line in output.decode().splitlines() if line.startswith(('worse', 'better'))]
+        self.assertEqual([line.split(':')[0] + line.split(':')[1].split(' most')[0] for line in told],
+                         ['worse, doors shut fragments', 'worse, doors shut sprites', 'better, doors shut solids'])
+        self.assertEqual((status, pages_shown.data_of(self.at('page.html'))['before']), (1, told))
+        status, output, _ = self.run_tool(*words, '--before', 'same.json', doomview=self.counting)
+        self.assertEqual((status, b'worse' in output), (0, False))  # over a limit as before
+        for text, part in [(b'{', 'is nothing that'), (b'[1]', 'is nothing that'), (b'', 'has no numbers of MAP01'),
+                           (b'{"map": "MAP01", "states": [{"counts": {"planes": {"most": "x"}}}]}', 'is nothing that')]:
+            self.write('bad.json', text)
+            self.refuses(part, *words, '--before', 'bad.json', doomview=self.counting)
+
+    def test_all_maps(self):
+        """All maps in one call: a line and a page each, an index, and the greatest status."""
+        lumps = [lump for label in ('MAP01', 'MAP02', 'MAP03') for lump in [(label, b''), *hall()]]
+        self.write('halls.wad', wad([('PLAYPAL', bytes(range(256)) * 3), *lumps]))
+        words = ['limits-map', 'halls.wad', '--all-maps', 'pages', '--shut', '--step', '512', '--directions', '2']
+        status, output, error = self.run_tool(*words, doomview=self.counting)
+        lines = output.decode().splitlines()
+        self.assertEqual([line[:13] for line in lines], ['MAP01 planes ', 'MAP02 refused', 'MAP03 planes '])
+        self.assertEqual((status, sorted(os.listdir(self.at('pages')))), (2, ['MAP01.html', 'MAP03.html', 'index.html']))
+        self.assertIn('explain: 603', error)
+        self.assertIn('<a href="MAP03.html">MAP03</a>', self.read('pages/index.html'))
+        status, output, _ = self.run_tool('lint', 'halls.wad', doomview=self.stand_in('accepting', '#!/bin/sh\nexit 0\n'))
+        self.assertRegex(output.decode(), r'^(MAP0[123] error [1-9]\d* hole \d+ fault \d+ odd \d+\n){3}$')
+        self.assertEqual(status, 1)
+        for more in (['MAP01'], ['--worst', 'worst.csv']):
+            self.refuses('--all-maps looks at all maps', *words, *more, doomview=self.counting)
+        self.refuses('name a map, or a folder', 'limits-map', 'halls.wad', doomview=self.counting)
+
     def test_no_way(self):
         """What a player wants is looked at where no way leads to it, and said."""
         key = struct.pack('<hhhHH', 2150, 150, 0, 5, 7)
@@ -238,7 +279,11 @@ class LimitsMap(Tools):
             all.push(overs.length, overs.filter(isBlack).length, now().places.filter(place => place.isCut).length);
             all.push(now().places.filter(place => display.placeAt(place.x, place.y) === place).length);
             const far = now().places.find(place => now().views.every(it => it.row.join() !== rowOf(place, 0).join()));
-            look(far); all.push(text('row'), rowOf(far, 0).join(), text('shown'), find('plain')); return all;''')
+            look(far); all.push(text('row'), rowOf(far, 0).join(), text('shown'), find('plain'));
+            const before = colours(canvas); hit('m');
+            const near = display.marksNear(...display.at(marks[0].x, marks[0].y)); tell(null, near);
+            all.push(marks.length, near.includes(marks[0]), text('told'), text('marks'));
+            all.push([1, 2, 4, 9].map(MapDisplay.core), MapDisplay.shade(1)); return all;''')
         data = pages_shown.data_of(self.at('page.html'))
         rows = [','.join(map(str, view['row'])) for view in data['states'][1]['views']]
         self.assertGreater(found[0], 20)
@@ -250,7 +295,13 @@ class LimitsMap(Tools):
         self.assertGreater(found[8], found[9])
         self.assertEqual(found[9], found[3])
         self.assertEqual(found[10], 320)
-        made_of, overs, black, cut, pointed, row, expected, shown, plain = found[11:]
+        made_of, overs, black, cut, pointed, row, expected, shown, plain = found[11:20]
+        marks, is_near, told, button, cores, darkest = found[20:]
+        self.assertGreater(marks, 3)
+        self.assertTrue(is_near)
+        self.assertRegex(told, r'^(error|hole|fault|odd), \w+: ')
+        self.assertRegex(button, r'^what lint finds: error \d+')
+        self.assertEqual((cores, darkest), ([0, .3, .6, .6], 'rgb(140,52,0)'))
         self.assertRegex(made_of, r'^\d+ of the \d+ planes have a pixel in this view: \w+ \d+')
         self.assertGreater(overs, 3)
         self.assertGreater(black, .8 * overs)  # but for lines, dots and the cone over them

@@ -3,7 +3,7 @@ import json
 import os
 import tempfile
 
-from .. import cli, cli_limits, ground, levels, paths, wads, ways
+from .. import cli, cli_limits, earlier, ground, levels, paths, wads, ways
 from ..cells import Grid
 from ..counting import COUNTS, Progress, Runs
 from ..files import check_target, write_output, write_whole
@@ -43,7 +43,7 @@ $ doomview limits-map freedoom2.wad MAP12 --planes 256 --worst worst.csv --opene
 $ doomview limits-map --iwad freedoom2.wad mymaps.wad --all-maps pages
 ''', 'the program', '''
  0  no view is over a limit
- 1  some are
+ 1  some are; with --before, something over a limit got worse
  2  the map is refused, or the tool could not begin; sentences say why
  other statuses are those of doomview limits
 ''')
@@ -55,6 +55,8 @@ def add_words(parser):
     parser.add_argument('--all-maps', metavar='FOLDER', help='looks at all maps of the WAD, prints a line for each, and '
                         'writes a page of each and an index.html to FOLDER')
     parser.add_argument('--json', action='store_true', help='prints the numbers as JSON; with --all-maps each map in a line')
+    parser.add_argument('--before', metavar='OLD.json', help='what --json wrote earlier: says what got worse or better since, '
+                        'also on the page')
     parser.add_argument('--worst', metavar='FILE', help='writes the worst views of each count as a camera path to FILE')
     parser.add_argument('--opened', metavar='FILE', help='writes the map with its doors open as a WAD to FILE, which goes '
                         'behind the WADs of a job')
@@ -124,6 +126,7 @@ def summary(found):
             over = f'{it["over"]} view{"s" * (it["over"] > 1)} over' if it['over'] else 'none over'
             row = ','.join(map(str, it['row'])) if it['row'] else '-'
             yield f'  {name:9} most {it["most"]} of {it["limit"]}, {over}, row {row}'
+    yield from found.get('before', ())
 
 
 def things_told(one):
@@ -166,11 +169,17 @@ def run(options):
     check(options)
     wads.check_game(options.files)
     options.limits = cli_limits.limits_of(options)
+    options.earlier = earlier.numbers_of(options.before) if options.before else {}
     if options.all_maps:
         return run_all(options)
     found, told = look(options)
     write_output(json.dumps(found, indent=1) + '\n' if options.json else told)
-    return OVER if found['over'] else 0
+    return status_of(found)
+
+
+def status_of(found):
+    """The status for the numbers of a map: beside an earlier run, whether something over a limit got worse."""
+    return OVER if found.get('worse', found['over']) else 0
 
 
 def run_all(options):
@@ -181,7 +190,7 @@ def run_all(options):
         options.map, options.page = name, os.path.join(options.all_maps, f'{name}.html')
         try:
             found[name], _ = look(options)
-            told, now = line_of(name, found[name]), OVER if found[name]['over'] else 0
+            told, now = line_of(name, found[name]), status_of(found[name])
         except Trouble as error:
             found[name] = str(error) or 'refused'
             told, now = f'{name} {found[name]}', TROUBLE
@@ -207,7 +216,8 @@ def line_of(name, found):
     counts = [[state['counts'][count] for state in found['states']] for count in COUNTS]
     told = [f'{count} {"/".join(str(one["most"]) for one in of)}{" over" if any(one["over"] for one in of) else ""}'
             for count, of in zip(COUNTS, counts)]
-    return f'{name} {", ".join(told)}'
+    worse = {True: '; worse than before', False: '; no worse than before'}.get(found.get('worse'), '')
+    return f'{name} {", ".join(told)}{worse}'
 
 
 def look(options):
@@ -230,11 +240,16 @@ def looked(options, runs, folder, progress):
     plan = ground.Plan(level)
     states, doors = states_of(plan, runs, options, folder, progress)
     found = numbers(plan, states, options)
+    if options.before and not options.all_maps and level.name not in options.earlier:
+        raise Trouble(f'{options.before} has no numbers of {level.name}')
+    if level.name in options.earlier:
+        different = earlier.differences(options.earlier[level.name], found)
+        found['before'], found['worse'] = [one.told for one in different], any(one.is_worse for one in different)
     told = ''.join(f'{line}\n' for line in summary(found))
     progress.tell('drawing the worst views')
     if options.page:
         write_whole(options.page, limits_page(plan, options.files, states, palette_of(options.files), options, doors,
-                                              told))
+                                              told, found.get('before', [])))
     if options.opened:
         write_whole(options.opened, ground.with_ceilings(plan.level, doors))
     if options.worst:
