@@ -1,16 +1,20 @@
 """A grid over a level: places where a player can stand, and of each the greatest counts in several directions.
 
-Cells with high counts are cut in four, twice, and looked at in twice as many directions. A cell stays where it was
+A sector between the places of the grid has one of its own. Cells with high counts are cut in four, twice, and looked at in twice as many directions. A cell stays where it was
 cut; its quarters lie over it."""
 import math
 
+from . import list_counts
 from .counting import COUNTS, is_over
+from .ground import has_height
 from .levels import EYE_HEIGHT, TURN, UNIT
 from .paths import Row
 
 MOST_PLACES, MOST_CUT = 9000, 700
 CUTS = 2
+MANY = 61  # fragments: a view with fewer has no more than 32 solid ranges, each but the last with a gap behind it
 FINER = .7  # the part of a limit, or of the map's greatest count, from which a cell is cut
+SMALL = 16  # the side of a place in a small sector, so that it hides no other
 APART = 4  # steps between two of the worst views
 
 
@@ -36,15 +40,25 @@ class Cell:
                 self.most[name] = count, direction
 
 
+def most_fragments(look):
+    """Of the views from a place the directions with the most fragments: one, and one more that may have many ranges."""
+    order = sorted(((counts.get('fragments', 0), direction) for direction, counts in look), reverse=True)
+    return [direction for place, (count, direction) in enumerate(order[:2]) if place == 0 or count >= MANY]
+
+
 class Grid:
     """The cells of a level. `directions` is the number of those in which finer cells are looked at."""
 
-    def __init__(self, ground, runs, reached, options, what=''):
-        self.ground, self.runs, self.reached, self.limits, self.what = ground, runs, reached, options.limits, what
+    def __init__(self, ground, runs, reach, options, what=''):
+        self.ground, self.runs, self.limits, self.what = ground, runs, options.limits, what
+        self.reached, self.wanted = reach
         self.everywhere, self.directions = options.all, 2 * options.directions
         self.views, self.over = 0, dict.fromkeys(COUNTS, 0)
+        self.is_solid = list_counts.solid_segs(ground.plan.level)
         self.step, places = self.coarse(options.step)
-        self.cells = self.looked(places, 2)
+        more = self.in_small_sectors(places)
+        self.small = {(cell.x, cell.y): cell for cell in more}
+        self.cells = self.looked(places + more, 2)
         for cut in range(CUTS):
             places = [place for cell in self.high(self.step >> cut) for place in self.quarters(cell)]
             self.cells += self.looked(places, 1)
@@ -62,6 +76,14 @@ class Grid:
                 return step, places
             step *= 2
 
+    def in_small_sectors(self, places):
+        """A cell in each sector that is looked at and has none on the grid, if a player can stand there."""
+        numbers = range(len(self.ground.plan.level.sectors)) if self.everywhere else sorted(self.reached)
+        missing = set(numbers) - {cell.sector for cell in places}
+        found = [self.ground.place_in(number) for number in sorted(missing)
+                 if has_height(self.ground.plan.level.sectors[number])]
+        return [cell for x, y, size in filter(None, found) for cell in self.place(x, y, min(size, SMALL))]
+
     def place(self, x, y, size):
         """The cell of a place at which a player can stand, if it is one that is looked at."""
         sector = self.ground.sector_at(x, y)
@@ -73,16 +95,19 @@ class Grid:
         """The cells of a size that have high counts, the highest first."""
         most = {name: max((cell.count(name) for cell in self.cells), default=0) for name in COUNTS}
         bars = {name: max(1, FINER * min(self.limits[name], most[name])) for name in COUNTS}
-        found = [cell for cell in self.cells if cell.size == size
+        bars['solids'] = FINER * self.limits['solids']
+        found = [cell for cell in self.cells if cell.size == size and (cell.x, cell.y) not in self.small
                  and any(cell.count(name) >= bars[name] for name in COUNTS)]
         return sorted(found, key=lambda it: -max(it.count(name) / self.limits[name] for name in COUNTS))[:MOST_CUT]
 
     def quarters(self, cell):
-        """The places in the quarters of a cell."""
+        """The places in the quarters of a cell. One of a small sector in their middle takes the whole quarter."""
         half, away = cell.size // 2, cell.size // 4
-        for j in (-away, away):
-            for i in (-away, away):
-                yield from self.place(cell.x + i, math.floor(cell.y) + j + .5, half)
+        for x, y in ((cell.x + i, math.floor(cell.y) + j + .5) for j in (-away, away) for i in (-away, away)):
+            if (x, y) in self.small:
+                self.small[x, y].size = half
+            else:
+                yield from self.place(x, y, half)
 
     def looked(self, cells, every):
         """The cells with their counts, in every so many of the directions."""
@@ -90,13 +115,27 @@ class Grid:
         rows = [cell.row(it, self.directions) for cell in cells for it in directions]
         found = iter(self.runs.counts(rows, self.what) if rows else [])
         self.views += len(rows)
-        for cell in cells:
-            for direction in directions:
-                counts = next(found)
-                cell.take(counts, direction)
-                for name, count in counts.items():
-                    self.over[name] += is_over(name, count, self.limits)
+        looks = [[(direction, next(found)) for direction in directions] for _ in cells]
+        for cell, look in zip(cells, looks):
+            for direction, counts in look:
+                self.take(cell, counts, direction)
+        self.count_solids(cells, looks)
         return cells
+
+    def take(self, cell, counts, direction):
+        """Takes the counts of a view."""
+        cell.take(counts, direction)
+        for name, count in counts.items():
+            self.over[name] += is_over(name, count, self.limits)
+
+    def count_solids(self, cells, looks):
+        """Counts the solid ranges of views from cells: of each in the directions with the most fragments, which are one
+        or two."""
+        chosen = [(cell, direction) for cell, look in zip(cells, looks) for direction in most_fragments(look)]
+        rows = [cell.row(direction, self.directions) for cell, direction in chosen]
+        found = self.runs.listed(rows, self.what, self.is_solid) if rows else []
+        for (cell, direction), counts in zip(chosen, found):
+            self.take(cell, {name: count for name, count in counts.items() if name == 'solids'}, direction)
 
     def worst(self, name, most):
         """The views of the greatest counts, no two near each other: pairs of the count and its row."""

@@ -9,7 +9,7 @@ import sys
 import textwrap
 import typing
 
-from . import jobs, wads
+from . import jobs, levels, wads
 from .trouble import Trouble
 
 MOST_COLUMNS = 100
@@ -110,18 +110,28 @@ def add_output(parser, what):
 def add_base(parser):
     parser.add_argument('--iwad', metavar='WAD', help='the WAD that a PWAD needs, read before it; else that of the '
                         'variable IWAD')
+    parser.add_argument('--file', metavar='WAD', action='append', default=[], help='a WAD more, such as one with '
+                        'textures; as often as wanted, read in this order after the IWAD and before a PWAD')
 
 
-def add_level(parser):
-    """The words of a tool over one map."""
+def add_level(parser, is_needed=True):
+    """The words of a tool over one map, which some need not name."""
     parser.add_argument('wad', metavar='WAD', help=WAD)
-    parser.add_argument('map', metavar='MAP', help='the name of a map, such as MAP01 or E1M1')
+    parser.add_argument('map', metavar='MAP', nargs=None if is_needed else '?', help='the name of a map, such as MAP01 or '
+                        'E1M1')
     add_base(parser)
 
 
 def wads_of(options):
     """The WADs of a tool over one WAD, in their order."""
-    return wads.with_base(options.wad, options.iwad)
+    return wads.with_base(options.wad, options.iwad, options.file)
+
+
+def level_of(options, files):
+    """The level of a tool over one map; a Trouble where the map is in no other WAD than the one of --iwad."""
+    level = levels.read(files, options.map)
+    wads.check_own(level.name, level.wad, files, wads.find(options.wad), options.file)
+    return level
 
 
 def number(least, greatest):

@@ -5,23 +5,24 @@ import signal
 import subprocess
 import sys
 
-from . import paths, program
+from . import list_counts, paths, program
 from .explanations import explained
 from .files import write_whole
 from .trouble import Ended
 
-COUNTS = ['planes', 'openings', 'fragments', 'sprites']
-LIMITS = {'planes': 128, 'openings': 20480, 'fragments': 256, 'sprites': 128}  # of the original
-CAPPED = ['fragments', 'sprites']  # which `limits` counts no further than to the original's limit
+COUNTS = ['planes', 'openings', 'fragments', 'sprites', 'solids']
+LIMITS = {'planes': 128, 'openings': 20480, 'fragments': 256, 'sprites': 128, 'solids': 32}  # of the original
+CAPPED = {'fragments': 256, 'sprites': 128}  # which `limits` counts no further
 RAISED = ['--planes', '1024', '--openings', '245760']  # so that what is over the original's limit is counted too
 LEAST_ROWS, PARTS = 400, 3  # rows of a run, and runs for each processor, so that all end at about the same time
+MOST_LISTED = 2000  # rows of a run of `list`, which writes some 10 KB for each
 USAGE, TROUBLE, LIMIT = 1, 2, 5  # statuses
 ENDING = (signal.SIGINT, signal.SIGTERM, signal.SIGHUP)
 
 
 def is_over(name, count, limits):
-    """Whether a count passes its limit; one that is counted no further does so where it comes to it."""
-    return count >= limits[name] if name in CAPPED else count > limits[name]
+    """Whether a count passes its limit."""
+    return count > limits[name]
 
 
 @contextlib.contextmanager
@@ -97,7 +98,7 @@ class Runs:
     def outputs(self, job, rows, what=''):
         """What a job writes of rows, in parts, several runs at a time; none goes on where this ends early."""
         size = max(LEAST_ROWS, -(-len(rows) // (PARTS * self.jobs)))
-        size = min(size, paths.MOST_ROWS)
+        size = min(size, MOST_LISTED if job == 'list' else paths.MOST_ROWS)
         parts, done = [rows[i:i + size] for i in range(0, len(rows), size)], 0
         started = []
         try:
@@ -122,11 +123,21 @@ class Runs:
         self.counts([], 'reading')
 
     def counts(self, rows, what=''):
-        """The counts of each row by name; of a view that is over a raised limit that count alone."""
+        """The counts of each row by name, but for solid ranges; of a view that is over a raised limit that count alone.
+        Views that come to what `limits` counts no further are listed."""
         found = []
         for output in self.outputs('limits', rows, what) if rows else [self.ended(*self.start('limits', []), 'limits')]:
             found += map(counts_of, output.decode().splitlines())
+        capped = [place for place, counts in enumerate(found)
+                  if any(counts.get(name, 0) >= most for name, most in CAPPED.items())]
+        for place, counts in zip(capped, self.listed([rows[place] for place in capped], what)):
+            found[place] = counts
         return found
+
+    def listed(self, rows, what='', is_solid=None):
+        """The counts of each row by name, by what `list` says; with the solid ranges where solid segs are given."""
+        for output in self.outputs('list', rows, what):
+            yield from list_counts.counts_of(output, is_solid)
 
     def drawn(self, job, rows, size):
         """The frame or the trace of each row; None for a view that passes even the raised limits."""

@@ -4,7 +4,9 @@ import os
 import sys
 
 from . import traces
-from .counting import CAPPED, COUNTS
+from .checks import findings
+from .counting import COUNTS
+from .findings import GRADES, places
 from .frames import HEIGHT, SIZE, WIDTH
 from .pages import columns, packed, page, picture
 
@@ -12,6 +14,7 @@ TEMPLATE = 'limits_map.html'
 MOST_BYTES = 3000000
 WORDS = 40  # bytes of a view's words for its pictures
 SMALL_PICTURES = 60
+MOST_MARKS = 500
 PLANE_KINDS = (2, 3)  # of painters: plane and sky
 NO_PLANE = 255
 COUNT_OF = {1: 'fragments', 2: 'planes', 3: 'planes', 4: 'fragments', 5: 'sprites'}  # what a painter's number counts
@@ -73,7 +76,8 @@ class State:
         self.rows, self.order = self.views(most)
         self.traces = self.runs.drawn('trace', self.rows, traces.VIEW_SIZE)
         self.shown = [{'row': row[:4], 'counts': counts, 'seen': trace and seen(trace, names)}
-                      for row, counts, trace in zip(self.rows, self.runs.counts(self.rows), self.traces)]
+                      for row, counts, trace in zip(self.rows, self.runs.listed(self.rows, '', self.grid.is_solid),
+                                                    self.traces)]
         cells = sorted(self.grid.cells, key=lambda it: -it.size)
         return {'label': self.label, 'cells': columns(map(packed_cell, cells)), 'views': self.shown,
                 'order': self.order, 'small': [], 'looked': self.grid.views, 'over': self.grid.over,
@@ -124,15 +128,23 @@ def put_in(pictures, room):
         view.update((kind, of_sizes[its]) for kind, of_sizes in found.items())
 
 
-def limits_page(plan, wads, states, palette, options, doors, plain):
+def marks_of(level, wads):
+    """What lint finds in a level and can be shown on its map: places, grade and the line of each, the gravest first."""
+    found = [[finding.grade, f'{finding.what}: {finding.where}: {finding.told}', list(map(list, places(finding, level)))]
+             for finding in findings(level, wads)]
+    return sorted((mark for mark in found if mark[2]), key=lambda mark: list(GRADES).index(mark[0]))[:MOST_MARKS]
+
+
+def limits_page(plan, wads, states, palette, options, doors, plain, before=()):
     """The bytes of the page; `plain` is the summary as text."""
     level, names = plan.level, traces.Names(wads)
     grid = states[0].grid
     data = {'title': f'{level.name} of {os.path.basename(level.wad)}', 'wads': list(map(os.path.basename, wads)),
-            'counts': COUNTS, 'limits': options.limits, 'capped': CAPPED, 'directions': grid.directions,
+            'counts': COUNTS, 'limits': options.limits, 'directions': grid.directions,
             'vertexes': columns(level.vertexes), 'sectors': len(level.sectors), 'reached': len(grid.reached),
             'lines': columns([*line[:2], int(plan.is_wall(number))] for number, line in enumerate(level.lines)),
-            'doors': sorted(doors), 'doubts': [pair for pair, _ in grid.ground.doubts.most_common(20)],
+            'doors': sorted(doors), 'noWay': list(grid.wanted), 'before': list(before),
+            'marks': marks_of(level, wads), 'doubts': [pair for pair, _ in grid.ground.doubts.most_common(20)],
             'states': [state.packed(names, options.views) for state in states]}
     pictures = sorted((it for state in states for it in state.pictures(palette)), key=lambda it: it[0])
     put_in([it[1:] for it in pictures], room_in(data, plain) - len(pictures) * WORDS)

@@ -2,6 +2,7 @@
 import base64
 import html
 import json
+import re
 
 from . import home
 from .frames import HEIGHT, WIDTH
@@ -10,6 +11,7 @@ from .trouble import Trouble
 
 PLACE = '/*DATA*/null'  # of the data in a template
 PLAIN = '<!--PLAIN-->'  # of the plain text
+SCRIPT = re.compile(r'/\*FILE (\w+\.js)\*/')  # the place of a script that is a file of its own
 DIGITS = ''.join(chr(code) for code in range(35, 127) if chr(code) not in '\\<')  # none that a text has to escape
 
 
@@ -33,16 +35,23 @@ def column(numbers):
                                   for number in numbers for place in places)]
 
 
-def page(template, data, plain=''):
-    """The bytes of a page; `plain` is a text that stands on it where its script cannot run."""
-    path = home.data(template)
+def text_of_file(name):
+    """The text of a file of data/; a Trouble where it is missing."""
+    path = home.data(name)
     try:
         with open(path, encoding='utf-8') as file:
-            text = file.read()
-    except OSError:
-        text = ''
+            return file.read()
+    except OSError as error:
+        raise Trouble(f'{path} is missing or damaged; take the whole folder of doomview anew') from error
+
+
+def page(template, data, plain=''):
+    """The bytes of a page; `plain` is a text that stands on it where its script cannot run. A template names the files
+    that its script has parts in."""
+    text = text_of_file(template)
     if PLACE not in text:
-        raise Trouble(f'{path} is missing or damaged; take the whole folder of doomview anew')
+        raise Trouble(f'{home.data(template)} is missing or damaged; take the whole folder of doomview anew')
+    text = SCRIPT.sub(lambda named: text_of_file(named[1]), text)
     return text.replace(PLAIN, html.escape(plain)).replace(PLACE, packed(data)).encode()
 
 

@@ -1,26 +1,37 @@
-"""Why a view has as many planes as it has, as lines for a terminal."""
+"""Why a view has as many planes, fragments, sprites and solid ranges as it has, as lines for a terminal."""
 import collections
+import itertools
 
-from . import paths
-from .counting import LIMITS
-from .lists import FRONT_AND_BACK, sectors_told
+from . import list_counts, paths
+from .lists import FRONT_AND_BACK, Places, sectors_told, shortened
+from .ways import WANTED
 
 SHOWN = 20  # lines of a table
+SHOWN_PLACES = 6
+SHOWN_CHANGES = 8
 
 Made = collections.namedtuple('Made', 'planes splits columns')
 
 
-def count_told(name, count):
+def count_told(name, count, limit):
     """A count, and how far it is over its limit."""
-    limit = LIMITS[name]
+    name = 'solid ranges' if name == 'solids' else name
     return f'{count} {name}, {count - limit} over {limit}' if count > limit else f'{count} {name} of {limit}'
 
 
-def sums_told(sums):
+def counts_of(view, places) -> dict:
+    """The counts of a view by name; of one over even a raised limit that count alone."""
+    if view.over:
+        return dict([view.over])
+    sums = view.sums
+    return {'planes': sums.planes, 'openings': sums.openings, 'fragments': sums.all_fragments,
+            'sprites': sums.all_sprites, 'solids': max((count for *_, count in ranges(view, places)),
+                                                       default=list_counts.EDGES)}
+
+
+def sums_told(sums, counts, limits):
     """The lines on the sums of a view."""
-    counts = {'planes': sums.planes, 'openings': sums.openings, 'fragments': sums.all_fragments,
-              'sprites': sums.all_sprites}
-    yield '  ' + '; '.join(count_told(name, count) for name, count in counts.items())
+    yield '  ' + '; '.join(count_told(name, count, limits[name]) for name, count in counts.items())
     for name, all_of_them, kept in (('fragments', sums.all_fragments, sums.fragments),
                                     ('sprites', sums.all_sprites, sums.sprites)):
         if all_of_them > kept:
@@ -53,6 +64,72 @@ def by_line(view, places):
     return [(*it, found[it]) for it in order]
 
 
+def sectors_beside(level, line, side):
+    """The sectors in front of a side of a line and behind it; the second is None for a wall."""
+    numbers = [None if number is None else level.sides[number].sector for number in level.lines[line][5:]]
+    return numbers[side], numbers[1 - side]
+
+
+def difference(level, front, back) -> str:
+    """What differs between two sectors, in words."""
+    if back is None:
+        return 'a wall'
+    one, other = level.sectors[front], level.sectors[back]
+    parts = [f'{word} {getattr(one, field)} / {getattr(other, field)}'
+             for word, field in (('floor', 'floor'), ('ceiling', 'ceiling'), ('floor', 'floor_flat'),
+                                 ('ceiling', 'ceiling_flat'), ('light', 'light'))
+             if getattr(one, field) != getattr(other, field)]
+    return ', '.join(parts) or 'nothing'
+
+
+def planes_of_sectors(view, places) -> dict:
+    """How many planes each sector of a view made; 0 for those that are beside its fragments alone."""
+    found = collections.Counter({sector: 0 for fragment in view.fragments for seg in [places.seg(fragment.seg)[0]]
+                                 for sector in sectors_beside(places.level, seg.line, seg.side) if sector is not None})
+    found.update(places.maker_of(view, plane)[0] for plane in view.planes)
+    return found
+
+
+def by_sector(view, places):
+    """The fragments of each sector that has some: pairs of the sector and how many each line has there; the most
+    first."""
+    found = collections.defaultdict(collections.Counter)
+    for fragment in view.fragments:
+        found[places.sector_of_fragment(fragment)][places.seg(fragment.seg)[0].line] += 1
+    return sorted(found.items(), key=lambda pair: (-sum(pair[1].values()), pair[0]))
+
+
+def by_type(view, places):
+    """The things that are drawn, by their types: pairs of the type and the numbers of things; the most first."""
+    found = collections.defaultdict(list)
+    for sprite in view.sprites:
+        found[places.level.things[sprite.thing].type].append(sprite.thing)
+    return sorted(found.items(), key=lambda pair: (-len(pair[1]), pair[0]))
+
+
+def ranges(view, places: Places):
+    """The solid walls of a view in order: of each its line, its first and last column, and how many solid ranges there
+    are after it."""
+    groups = [(seg, list(fragments)) for seg, fragments in itertools.groupby(view.fragments, lambda one: one.seg)
+              if places.is_solid[seg]]
+    counts = list_counts.range_counts([(one.first, one.last) for one in fragments] for _, fragments in groups)
+    for (seg, fragments), count in zip(groups, counts):
+        yield places.level.segs[seg].line, fragments[0].first, fragments[-1].last, count
+
+
+def range_makers(view, places):
+    """The walls that made a solid range more, up to the most: triples of the line and its columns."""
+    walls = list(ranges(view, places))
+    most = max((count for *_, count in walls), default=list_counts.EDGES)
+    before = list_counts.EDGES
+    for line, first, last, count in walls:
+        if count > before:
+            yield line, first, last
+        if count == most:
+            return
+        before = count
+
+
 def group_told(group):
     """What a group of planes is, in a few words."""
     return 'sky' if group.sides == 'sky' else f'{group.sides} {group.key.flat} at {group.key.height:g}'
@@ -73,30 +150,92 @@ def table(rows, is_right):
         yield '  ' + '  '.join(cells).rstrip()
 
 
-def reasons(number, row, view, places, shows_all):
-    """The lines on a view."""
+def reasons(number, row, view, places, shows_all, limits, changes=()):
+    """The lines on a view; `changes` are the results of what-ifs."""
     yield f'view {number}: {paths.told(row)}'
     if view.over:
         yield f'  more than {view.over[1] - 1} {view.over[0]}, the most that doomview counts'
         return
-    yield from sums_told(view.sums)
-    groups, lines = by_group(view, places), by_line(view, places)
+    counts = counts_of(view, places)
+    yield from sums_told(view.sums, counts, limits)
     shown = None if shows_all else SHOWN
-    if groups:
-        rows = [['planes', 'splits', 'columns', 'flat', 'of', 'height', 'light', 'sectors']]
-        rows += [cells_of(group, made) for group, made in groups[:shown]]
+    for part in (plane_table, split_table, fragment_table, sprite_table, range_table):
+        yield from part(view, places, shown)
+    yield from change_table(changes, counts, shows_all)
+
+
+def plane_table(view, places, shown):
+    """The planes by height, flat and light."""
+    groups = by_group(view, places)
+    rows = [cells_of(group, made) for group, made in groups[:shown]]
+    left = groups[len(rows):]
+    yield from lines_of(['planes', 'splits', 'columns', 'flat', 'of', 'height', 'light', 'sectors'], rows,
+                        [True, True, True, False, False, True, True, False])
+    yield from rest(left, sum(made.planes for _, made in left), 'planes')
+
+
+def split_table(view, places, shown):
+    """The splits by line and side, with what differs between the sectors beside it."""
+    found = by_line(view, places)
+    rows = []
+    for line, side, counts in found[:shown]:
+        front, back = sectors_beside(places.level, line, side)
+        what = ', '.join(what + (f' ({count})' if count > 1 else '') for what, count in counts.most_common())
+        rows.append([str(sum(counts.values())), str(line), FRONT_AND_BACK[side], f'{front}' if back is None else
+                     f'{front} | {back}', difference(places.level, front, back), what])
+    left = found[len(rows):]
+    yield from lines_of(['splits', 'line', 'side', 'sectors', 'what differs', 'of'], rows,
+                        [True, True, False, False, False, False])
+    yield from rest(left, sum(sum(counts.values()) for *_, counts in left), 'splits')
+
+
+def fragment_table(view, places, shown):
+    """The fragments by sector and line."""
+    found = by_sector(view, places)
+    rows = [[str(sum(lines.values())), str(sector), shortened(
+        [f'{line} ({count})' if count > 1 else line for line, count in lines.most_common()], SHOWN_PLACES)]
+        for sector, lines in found[:shown]]
+    left = found[len(rows):]
+    yield from lines_of(['fragments', 'sector', 'lines'], rows, [True, True, False])
+    yield from rest(left, sum(sum(lines.values()) for _, lines in left), 'fragments')
+
+
+def sprite_table(view, places, shown):
+    """The sprites by type and place."""
+    found = by_type(view, places)
+    things = places.level.things
+    rows = [[str(len(numbers)), str(kind), WANTED.get(kind, '-'), shortened(
+        [f'thing {number} at {things[number].x},{things[number].y}' for number in numbers], SHOWN_PLACES)]
+        for kind, numbers in found[:shown]]
+    left = found[len(rows):]
+    yield from lines_of(['sprites', 'type', 'what', 'places'], rows, [True, True, False, False])
+    yield from rest(left, sum(len(numbers) for _, numbers in left), 'sprites')
+
+
+def range_table(view, places, shown):
+    """The walls that made solid ranges."""
+    found = list(range_makers(view, places))
+    rows = [[str(line), f'{first} to {last}'] for line, first, last in found[:shown]]
+    yield from lines_of(['solid range of line', 'columns'], rows, [True, False])
+    yield from rest(found[len(rows):], len(found) - len(rows), 'solid ranges')
+
+
+def change_table(results, counts, shows_all):
+    """What the view would count after each of some changes; those alone that save planes or fragments."""
+    names = ['planes', 'fragments']
+    found = [result for result in results if any(result.counts[name] < counts[name] for name in names)]
+    rows = [[cell for name in names for cell in (str(counts[name] - result.counts[name]), str(result.counts[name]))]
+            + [result.change.told(sectors_told(result.change.sectors) if not shows_all or len(result.change.sectors) == 1
+                                  else 'sectors ' + ', '.join(map(str, result.change.sectors)))]
+            for result in found[:None if shows_all else SHOWN_CHANGES]]
+    yield from lines_of(['saves', 'planes', 'saves', 'fragments', 'what if there were'], rows, [True] * 4 + [False])
+
+
+def lines_of(head, rows, is_right):
+    """The lines of a table, after an empty one; none if it has no rows."""
+    if rows:
         yield ''
-        yield from table(rows, [True, True, True, False, False, True, True, False])
-        yield from rest(groups[len(rows) - 1:], sum(made.planes for _, made in groups[len(rows) - 1:]), 'planes')
-    if lines:
-        rows = [['splits', 'line', 'side', 'of']]
-        rows += [[str(sum(counts.values())), str(line), FRONT_AND_BACK[side],
-                  ', '.join(what + (f' ({count})' if count > 1 else '') for what, count in counts.most_common())]
-                 for line, side, counts in lines[:shown]]
-        yield ''
-        yield from table(rows, [True, True, False, False])
-        left = lines[len(rows) - 1:]
-        yield from rest(left, sum(sum(counts.values()) for *_, counts in left), 'splits')
+        yield from table([head, *rows], is_right)
 
 
 def rest(left, count, what):

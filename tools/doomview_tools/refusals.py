@@ -7,6 +7,7 @@ import re
 import struct
 
 from . import checks, home, levels, traces, wads
+from .art import Art
 from .trouble import Trouble, WadError
 
 FIELDS = [['x', 'y', 'angle', 'type', 'options'],
@@ -27,7 +28,6 @@ COLUMNS = {2: [('type', '0 to 65535'), ('sprite', SPRITE), ('frame', FRAME), ('b
            10: [('view', '0 to 9999'), ('sprite', SPRITE), ('frame', FRAME), ('bright', FLAG), ('sx', WORD),
                 ('sy', WORD)]}
 OF_ROWS, OF_COLUMNS = (3, 4, 5, 6, 11, 12), (4, 5)  # codes of a group whose numbers are a row, and a column
-PACKED = (b'PK', b'\x1f\x8b', b'7z')
 MOST_DEPTH = 1024
 NO_MAP = 601
 SHOWN_LINES = 12
@@ -205,8 +205,8 @@ def names(scene, code, numbers):
 
 def packed_file(scene, numbers):
     for wad in scene.wads:
-        if head_of(wad)[:2] in PACKED:
-            yield f'{wad} is a packed file.'
+        if wads.packed_as(head_of(wad)):
+            yield f'{wad} is {wads.packed_as(head_of(wad))}.'
 
 
 def odd_nodes(scene, numbers):
@@ -290,7 +290,7 @@ CHECKS = {901: checks.Check.missing_textures, 903: checks.Check.missing_flats, 9
 def all_wrong(scene, code):
     """Sentences on all that is wrong in the way of a refusal, since a run tells the first alone."""
     try:
-        art = checks.Art(scene.wads)
+        art = Art(scene.wads)
         if art.textures:
             for it in CHECKS[code](checks.Check(scene.level, art)):
                 yield f'{it.where}: {it.told}' + ('' if it.told.endswith('?') else '.')

@@ -15,6 +15,8 @@ FOLDERS = ['/usr/local/share/games/doom', '/usr/share/games/doom', '/usr/local/s
            '/usr/share/games/freedoom']  # of the packages of Linux
 BEHIND_MAP = 12  # a label, its eight lumps, REJECT, BLOCKMAP and BEHAVIOR
 
+PACKED = {b'PK': 'a zip, as a PK3 is', b'7z\xbc\xaf': 'a 7z file, as a PK7 is', b'\x1f\x8b': 'a gzip file'}
+
 Lump = collections.namedtuple('Lump', 'name data')
 
 
@@ -53,10 +55,38 @@ def find(name):
     return found
 
 
-def with_base(name, base=None):
-    """The WAD of a name, and before it the one that it stands on: `base`, or else that of the variable IWAD."""
-    base = base or os.environ.get('IWAD')
-    return [find(it) for it in ([base] if base else []) + [name]]
+def with_base(name, base=None, files=()):
+    """The WAD of a name, before it some files, and before these the WAD that it needs: `base`, or else that of the
+    variable IWAD. An IWAD comes before the files, if no other is named."""
+    base, own, files = base or os.environ.get('IWAD'), find(name), [find(file) for file in files]
+    if base:
+        return [find(base), *files, own]
+    return [own, *files] if kind_of(own) == b'IWAD' else [*files, own]
+
+
+def kind_of(path):
+    """The first four bytes of a file; none where it cannot be read."""
+    try:
+        with open(path, 'rb') as file:
+            return file.read(4)
+    except OSError:
+        return b''
+
+
+def check_game(files):
+    """A Trouble where some WADs are a PWAD without the WAD of a game."""
+    if kind_of(files[0]) == b'PWAD' and not any(lump.name == 'PLAYPAL' for file in files for lump in read(file)):
+        raise Trouble(f'{files[-1]} is a PWAD, and needs the WAD of its game; name that by --iwad, as in --iwad '
+                      'freedoom2.wad')
+
+
+def check_own(name, place, files, own, more):
+    """A Trouble where a map is that of the IWAD, while other WADs are named for it: `place` is the WAD of the map, and
+    `own` the WAD of the call."""
+    if place != own and place == files[0] and place not in map(find, more):
+        maps = ' '.join(map_names(read(own))) or 'none'
+        raise Trouble(f'{name} is in {place} alone; the maps of {own}: {maps}. For that map name its WAD in the place of '
+                      f'{own}, and {own} by --file')
 
 
 def clean(name):
@@ -72,7 +102,7 @@ def read(path):
     except OSError as error:
         raise WadError(f'{path}: {error.strerror}')
     if data[:4] not in (b'IWAD', b'PWAD'):
-        raise WadError(f'{path} is no WAD')
+        raise WadError(f'{path} is {packed_as(data)}' if packed_as(data) else f'{path} is no WAD')
     try:
         count, directory = struct.unpack_from('<II', data, 4)
         entries = [struct.unpack_from('<II8s', data, directory + 16 * i) for i in range(count)]
@@ -82,6 +112,12 @@ def read(path):
         if size and offset + size > len(data):
             raise WadError(f'{path} is cut short: it ends before its lump {clean(name)} does')
     return [Lump(clean(name), data[offset:offset + size]) for offset, size, name in entries]
+
+
+def packed_as(data):
+    """What a file is that packs others, in words, with what to do; nothing for another one."""
+    kind = next((kind for head, kind in PACKED.items() if data.startswith(head)), '')
+    return f'{kind}; unpack it, and name the WAD in it' if kind else ''
 
 
 def packed(lumps, kind=b'IWAD'):

@@ -69,7 +69,7 @@ class Explain(Tools):
         self.write('made.wad', wad([('MAP01', b''), *nodes]))
         self.explains('doomview: refused 603', part='NODES has extended nodes (XNOD)')
         self.write('made.wad', b'PK\3\4')
-        self.explains('doomview: refused 401 0', part='made.wad is a packed file')
+        self.explains('doomview: refused 401 0', part='made.wad is a zip, as a PK3 is; unpack it')
 
     def test_no_nodes(self):
         """A map without nodes is called so; one with GL nodes alone too."""

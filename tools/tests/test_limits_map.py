@@ -11,7 +11,7 @@ import unittest
 
 import pages_shown
 from made_files import COMMAND, Tools, name, wad
-from doomview_tools import cells, counting, ground, levels, limits_page, traces
+from doomview_tools import cells, counting, ground, levels, limits_page, traces, ways
 
 COARSE = ['--step', '256', '--directions', '4']
 TESTED = os.environ.get('DOOMVIEW_TESTED', '')
@@ -24,10 +24,16 @@ if 'MAP02' in words:
 with open(words[words.index('--path') + 1]) as file:
     rows = [tuple(map(int, line.split(','))) for line in list(file)[1:]]
 for view, (x, y, z, angle) in enumerate(rows):
+    planes = 60 + (x >> 16) // 4 + len([word for word in words if word.endswith('open.wad')])
+    fragments, sprites = abs(y) >> 16, angle >> 28
     if job == 'limits':
-        planes = 60 + (x >> 16) // 4 + len([word for word in words if word.endswith('open.wad')])
-        fragments, sprites = min(256, abs(y) >> 16), angle >> 28
-        print(f'view {view} planes {planes} openings {y >> 16} fragments {fragments} sprites {sprites}')
+        print(f'view {view} planes {planes} openings {y >> 16} fragments {min(256, fragments)} sprites {sprites}')
+    elif job == 'list':
+        for i in range(fragments // 32):
+            print(f'view {view} fragment {i} seg 0 first {5 * i + 5} last {5 * i + 6}')
+            print(f'view {view} fragment {i} seg 1 first {5 * i + 9} last {5 * i + 9}')
+        print(f'view {view} fragments {min(256, fragments)} of {fragments} planes {planes} openings {y >> 16} sprites '
+              f'{sprites} of {sprites}')
     else:
         sys.stdout.buffer.write(bytes(i % 251 for i in range(64000 if job == 'render' else 512000)))
 '''
@@ -43,7 +49,7 @@ def hall():
     sides, lines = [], []
     for start, end, front, back in one + doors:
         flags, side = (1, 0xffff) if back is None else (4, len(sides) + 1)
-        lines.append((start, end, flags, 0, 0, len(sides), side))
+        lines.append((start, end, flags, int(back is not None), 0, len(sides), side))  # special 1 opens a door
         sides += [front] if back is None else [front, back]
     first = {sector: next(i for i, it in enumerate(one) if it[2] == sector) for sector in range(4)}
     segs = [(*one[first[sector]][:2], 0, first[sector], 0, 0) for sector in range(4)]
@@ -62,6 +68,11 @@ def hall():
                                  for tag, it in enumerate(sectors)))]
 
 
+def solids_of(fragments):
+    """The solid ranges of what COUNTING lists for so many fragments: one more for each pair but the first."""
+    return 3 + fragments // 32 if fragments >= 32 else 2
+
+
 class Made:
     """Runs that count by chance, and draw frames that no compression makes smaller."""
 
@@ -71,6 +82,9 @@ class Made:
     def counts(self, rows, what=''):
         return [{'planes': self.chance.randrange(1025), 'openings': self.chance.randrange(245761),
                  'fragments': self.chance.randrange(257), 'sprites': self.chance.randrange(129)} for _ in rows]
+
+    def listed(self, rows, what='', is_solid=None):
+        return [{**counts, 'solids': self.chance.randrange(33)} for counts in self.counts(rows)]
 
     def drawn(self, job, rows, size):
         repeated = 1 if job == 'render' else 64
@@ -97,7 +111,7 @@ class LimitsMap(Tools):
         self.assertEqual([place(x, y) for x, y in [(256, 256.5), (800, 256.5), (2150, 150.5)]], [0, 2, 3])
         nowhere = [(544, 256.5), (1500, 100.5), (8, 256.5), (256, 600.5), (-9, 9.5)]
         self.assertEqual([place(x, y) for x, y in nowhere], [None] * 5)
-        self.assertEqual(plan.reached(), {0, 1, 2})
+        self.assertEqual(ways.reach(plan), ({0, 1, 2}, {}))
         self.assertEqual(plan.doors(), {1: 124})
         patch = self.write('open.wad', ground.with_ceilings(plan.level, plan.doors()))
         opened = ground.Plan(levels.read([patch], 'MAP01'))
@@ -114,21 +128,82 @@ class LimitsMap(Tools):
         self.assertEqual((planes['most'], planes['limit'], z), (60 + (x >> 16) // 4, 128, 41 << 16))
         self.assertEqual(opened['counts']['planes']['most'], planes['most'] + 1)
         self.assertGreater(planes['over'], 0)
-        self.assertEqual((fragments['most'], shut['counts']['sprites']['most']), (256, 14))
+        self.assertEqual((fragments['most'], shut['counts']['sprites']['most']), (fragments['row'][1] >> 16, 14))
+        self.assertGreater(fragments['most'], 256)  # past what `limits` counts
+        self.assertEqual(shut['counts']['solids']['most'], 3 + fragments['most'] // 32)
         self.assertEqual(len(self.looked('--shut')[1]['states']), 1)
         self.assertGreater(self.looked('--all', '--shut')[1]['states'][0]['places'], shut['places'])
 
     def test_limits(self):
-        """Raised limits are those of the status; what is counted no further counts as over."""
-        planes = self.looked('--planes', '512')[1]['states'][0]['counts']['planes']
-        self.assertEqual((planes['limit'], planes['over']), (512, 0))
+        """Raised limits are those of the status."""
+        words = ['--planes', '512', '--fragments', '600', '--sprites', '200', '--solids', '50']
+        status, found = self.looked(*words)
+        counts = found['states'][0]['counts']
+        self.assertEqual([(counts[name]['limit'], counts[name]['over']) for name in words[::2] for name in [name[2:]]],
+                         [(512, 0), (600, 0), (200, 0), (50, 0)])
+        self.assertEqual((status, self.looked('--fragments', '300')[1]['states'][0]['counts']['fragments']['limit']), (0, 300))
         words = ['hall.wad', 'MAP01', 'page.html', '--shut', *COARSE]
         status, output, _ = self.run_tool('limits-map', *words, doomview=self.counting)
         self.assertIn(f'<pre id="plain">{output.decode()}</pre>', self.read('page.html'))  # for an old browser
         lines = output.decode().splitlines()
         self.assertEqual((status, lines[0]), (1, 'MAP01 of hall.wad: a player reaches 3 of its 4 sectors'))
         self.assertRegex(lines[1], r'^doors shut: \d+ views from \d+ places$')
-        self.assertRegex(lines[4], r'^  fragments most 256 or more of 256, \d+ views over, row [-\d]+(,[-\d]+){3}$')
+        self.assertRegex(lines[4], r'^  fragments most \d+ of 256, \d+ views over, row [-\d]+(,[-\d]+){3}$')
+
+    def test_before(self):
+        """An earlier run: what got worse and what better, in the lines, on the page and in the status."""
+        status, found = self.looked('--shut')
+        old = found['states'][0]['counts']
+        self.write('same.json', json.dumps(found, indent=1).encode())
+        for name, more in [('planes', 0), ('fragments', -1), ('sprites', -1)]:
+            old[name]['most'] += more
+        old['fragments']['over'] -= 1
+        old['solids']['most'] += 5
+        self.write('old.json', (json.dumps(found) + '\n').encode())
+        words = ['limits-map', 'hall.wad', 'MAP01', '--shut', *COARSE]
+        status, output, _ = self.run_tool(*words, 'page.html', '--before', 'old.json', doomview=self.counting)
+        told = [line for line in output.decode().splitlines() if line.startswith(('worse', 'better'))]
+        self.assertEqual([line.split(':')[0] + line.split(':')[1].split(' most')[0] for line in told],
+                         ['worse, doors shut fragments', 'worse, doors shut sprites', 'better, doors shut solids'])
+        self.assertEqual((status, pages_shown.data_of(self.at('page.html'))['before']), (1, told))
+        status, output, _ = self.run_tool(*words, '--before', 'same.json', doomview=self.counting)
+        self.assertEqual((status, b'worse' in output), (0, False))  # over a limit as before
+        for text, part in [(b'{', 'is nothing that'), (b'[1]', 'is nothing that'), (b'', 'has no numbers of MAP01'),
+                           (b'{"map": "MAP01", "states": [{"counts": {"planes": {"most": "x"}}}]}', 'is nothing that')]:
+            self.write('bad.json', text)
+            self.refuses(part, *words, '--before', 'bad.json', doomview=self.counting)
+
+    def test_all_maps(self):
+        """All maps in one call: a line and a page each, an index, and the greatest status."""
+        lumps = [lump for label in ('MAP01', 'MAP02', 'MAP03') for lump in [(label, b''), *hall()]]
+        self.write('halls.wad', wad([('PLAYPAL', bytes(range(256)) * 3), *lumps]))
+        words = ['limits-map', 'halls.wad', '--all-maps', 'pages', '--shut', '--step', '512', '--directions', '2']
+        status, output, error = self.run_tool(*words, doomview=self.counting)
+        lines = output.decode().splitlines()
+        self.assertEqual([line[:13] for line in lines], ['MAP01 planes ', 'MAP02 refused', 'MAP03 planes '])
+        self.assertEqual((status, sorted(os.listdir(self.at('pages')))), (2, ['MAP01.html', 'MAP03.html', 'index.html']))
+        self.assertIn('explain: 603', error)
+        self.assertIn('<a href="MAP03.html">MAP03</a>', self.read('pages/index.html'))
+        status, output, _ = self.run_tool('lint', 'halls.wad', doomview=self.stand_in('accepting', '#!/bin/sh\nexit 0\n'))
+        self.assertRegex(output.decode(), r'^(MAP0[123] error [1-9]\d* hole \d+ fault \d+ odd \d+\n){3}$')
+        self.assertEqual(status, 1)
+        for more in (['MAP01'], ['--worst', 'worst.csv']):
+            self.refuses('--all-maps looks at all maps', *words, *more, doomview=self.counting)
+        self.refuses('name a map, or a folder', 'limits-map', 'halls.wad', doomview=self.counting)
+
+    def test_no_way(self):
+        """What a player wants is looked at where no way leads to it, and said."""
+        key = struct.pack('<hhhHH', 2150, 150, 0, 5, 7)
+        lumps = {**dict(hall()), 'THINGS': dict(hall())['THINGS'] + key * 5}
+        self.write('hall.wad', wad([('PLAYPAL', bytes(range(256)) * 3), ('MAP01', b''), *lumps.items()]))
+        status, found = self.looked('--shut', 'page.html')
+        self.assertEqual((status, found['reached'], found['no_way'][0]['sector']), (1, 4, 3))
+        self.assertEqual(found['no_way'][0]['things'][0], {'thing': 1, 'what': 'blue keycard'})
+        self.assertEqual(found['states'][0]['places'], self.looked('--shut', '--all')[1]['states'][0]['places'])
+        output = self.run_tool('limits-map', 'hall.wad', 'MAP01', '--shut', *COARSE, doomview=self.counting)[1].decode()
+        self.assertIn('no way was found to sector 3, which is looked at all the same: blue keycard (thing 1), blue '
+                      'keycard (thing 2), blue keycard (thing 3) and 2 more\n', output)
+        self.assertEqual(pages_shown.data_of(self.at('page.html'))['noWay'], [3])
 
     def test_page(self):
         """Each number of the page is that which doomview gave for its row."""
@@ -140,9 +215,9 @@ class LimitsMap(Tools):
         for number, state in enumerate(data['states']):
             places = pages_shown.rows_of(state['cells'])
             self.assertIn(0, {place[5] for place in places})
-            for x, y, size, floor, sector, _, planes, _, openings, _, fragments, _, sprites, way in places:
-                counts = 60 + x // 4 + number, y, min(256, abs(y)), way * 16 // data['directions']
-                self.assertEqual((planes, openings, fragments, sprites), counts)
+            for x, y, size, floor, sector, _, planes, _, openings, _, fragments, _, sprites, way, solids, _ in places:
+                counts = 60 + x // 4 + number, y, abs(y), way * 16 // data['directions'], solids_of(abs(y))
+                self.assertEqual((planes, openings, fragments, sprites, solids), counts)
             for view in state['views']:
                 self.assertEqual(view['counts']['planes'], 60 + (view['row'][0] >> 16) // 4 + number)
         rows = self.read('worst.csv').splitlines()
@@ -162,7 +237,7 @@ class LimitsMap(Tools):
         """A page of as many places and views as there can be is no larger than 3 MB, and the worst have pictures."""
         plan = ground.Plan(levels.read([self.hall], 'MAP01'))
         options = types.SimpleNamespace(limits=counting.LIMITS, all=True, step=8, directions=8, views=20)
-        states = [limits_page.State(label, cells.Grid(ground.Ground(plan), Made(), {0, 1, 2}, options), Made())
+        states = [limits_page.State(label, cells.Grid(ground.Ground(plan), Made(), ways.reach(plan), options), Made())
                   for label in ('shut', 'open')]
         self.assertGreater(min(len(state.grid.cells) for state in states), 9000)
         made = limits_page.limits_page(plan, [self.hall], states, bytes(768), options, {1: 124}, '')
@@ -190,21 +265,25 @@ class LimitsMap(Tools):
         self.looked('page.html')
         found = pages_shown.shown(self.at('page.html'), '''
             const text = id => document.getElementById(id).textContent;
-            const all = [colours(canvas), text('which'), text('row'), scale];
+            const all = [colours(canvas), text('which'), text('row'), display.scale];
             hit('2'); all.push(text('which')); hit('d'); all.push(state); hit('1', 'n'); all.push(text('row'));
-            hit('ArrowRight'); all.push(text('told')); hit('+'); all.push(scale); hit('0'); all.push(scale);
+            hit('ArrowRight'); all.push(text('told')); hit('+'); all.push(display.scale); hit('0'); all.push(display.scale);
             await wait(); all.push(document.getElementById('picture').naturalWidth);
             hit('n'); all.push(text('seen'));
-            const overs = now().cells.filter(cell => isOver('planes', number(cell, 0)) && drawnSize(cell) * scale > 2);
-            const isBlack = cell => {
-                const [x, y, size] = square(cell), k = devicePixelRatio;
-                const colour = pen.getImageData((x + size * .15) * k, (y + size * .5) * k, 1, 1).data;
+            const overs = now().places.filter(place => isOver('planes', number(place, 0)) && display.square(place)[2] > 2);
+            const isBlack = place => {
+                const [x, y, size] = display.square(place), k = devicePixelRatio;
+                const colour = display.pen.getImageData((x + size * .15) * k, (y + size * .5) * k, 1, 1).data;
                 return colour[0] + colour[1] + colour[2] < 99;
             };
-            all.push(overs.length, overs.filter(isBlack).length, now().cells.filter(cell => cell.isCut).length);
-            all.push(now().cells.filter(cell => cellAt(cell[X], cell[Y] + .5) === cell).length);
-            const far = now().cells.find(cell => now().views.every(it => it.row.join() !== rowOf(cell, 0).join()));
-            look(far); all.push(text('row'), rowOf(far, 0).join(), text('shown'), find('plain')); return all;''')
+            all.push(overs.length, overs.filter(isBlack).length, now().places.filter(place => place.isCut).length);
+            all.push(now().places.filter(place => display.placeAt(place.x, place.y) === place).length);
+            const far = now().places.find(place => now().views.every(it => it.row.join() !== rowOf(place, 0).join()));
+            look(far); all.push(text('row'), rowOf(far, 0).join(), text('shown'), find('plain'));
+            const before = colours(canvas); hit('m');
+            const near = display.marksNear(...display.at(marks[0].x, marks[0].y)); tell(null, near);
+            all.push(marks.length, near.includes(marks[0]), text('told'), text('marks'));
+            all.push([1, 2, 4, 9].map(MapDisplay.core), MapDisplay.shade(1)); return all;''')
         data = pages_shown.data_of(self.at('page.html'))
         rows = [','.join(map(str, view['row'])) for view in data['states'][1]['views']]
         self.assertGreater(found[0], 20)
@@ -216,7 +295,13 @@ class LimitsMap(Tools):
         self.assertGreater(found[8], found[9])
         self.assertEqual(found[9], found[3])
         self.assertEqual(found[10], 320)
-        made_of, overs, black, cut, pointed, row, expected, shown, plain = found[11:]
+        made_of, overs, black, cut, pointed, row, expected, shown, plain = found[11:20]
+        marks, is_near, told, button, cores, darkest = found[20:]
+        self.assertGreater(marks, 3)
+        self.assertTrue(is_near)
+        self.assertRegex(told, r'^(error|hole|fault|odd), \w+: ')
+        self.assertRegex(button, r'^what lint finds: error \d+')
+        self.assertEqual((cores, darkest), ([0, .3, .6, .6], 'rgb(140,52,0)'))
         self.assertRegex(made_of, r'^\d+ of the \d+ planes have a pixel in this view: \w+ \d+')
         self.assertGreater(overs, 3)
         self.assertGreater(black, .8 * overs)  # but for lines, dots and the cone over them

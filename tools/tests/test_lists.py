@@ -223,16 +223,27 @@ class WhyLimit(Tools):
         self.assertEqual((status, error), (0, ''))
         self.assertEqual(output.decode(), '''\
 view 0: x -64.5 y 32 eye 41 angle 90, row -4227072,2097152,2686976,1073741824
-  5 planes of 128; 12 openings of 20480; 3 fragments of 256; 1 sprites of 128
+  the place is outside the level: no player sees this view
+  5 planes of 128; 12 openings of 20480; 3 fragments of 256; 1 sprites of 128; 3 solid ranges of 32
 
   planes  splits  columns  flat   of       height  light  sectors
        3       1      340  FLAT1  floor         0    160  sectors 0, 2
        1       0       90  FLAT1  ceiling     128    160  sector 0
        1       0        9  -      sky           -      -  sector 1
 
-  splits  line  side   of
-       1     2  front  floor FLAT1 at 0
+  splits  line  side   sectors  what differs                                            of
+       1     2  front  0 | 1    floor 0 / 24, ceiling 128 / 96, ceiling FLAT1 / F_SKY1  floor FLAT1 at 0
+
+  fragments  sector  lines
+          3       0  0, 1, 2
+
+  sprites  type  what  places
+        1  2028  -     thing 1 at 64,-32
+
+  solid range of line  columns
+                    1  100 to 199
 ''')
+        self.assertNotIn('outside', self.runs('64.5,64,90')[1].decode())
 
     def test_views(self):
         """Views as in an editor, as rows, and by their numbers in a path."""

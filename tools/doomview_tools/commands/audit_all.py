@@ -31,7 +31,8 @@ def add_words(parser):
 
 def run(options):
     files = cli.wads_of(options)
-    names = wads.maps_of(files)
+    wads.check_game(files)
+    names = wads.maps_of([wads.find(options.wad)])
     program.ready()
     status = 0
     with tempfile.TemporaryDirectory(prefix='doomview-') as folder:

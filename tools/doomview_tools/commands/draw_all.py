@@ -76,7 +76,7 @@ def run(options):
         raise Trouble(f'{options.folder} is no folder; name one, or a new one')
     if options.machines and not shutil.which('parallel'):
         raise Trouble('parallel is not installed (package: parallel)')
-    commands = [command(options, files, name) for name in wads.maps_of(files)]
+    commands = [command(options, files, name) for name in wads.maps_of([wads.find(options.wad)])]
     program.ready()
     try:
         os.makedirs(options.folder, exist_ok=True)

@@ -21,11 +21,13 @@ $ doomview explain audit MAP01 freedoom2.wad mymap.wad --path path.csv
 $ doomview explain 'doomview: refused 604 2 7 5'
 ''', 'the program, but for a line or --said', '''
  the status of the job; 0 for a line or --said
-''', ('WORDS OF DOOMVIEW..', "'doomview: LINE'", '--said FILE WORDS OF DOOMVIEW..'))
+''', ('WORDS OF DOOMVIEW..', "'doomview: LINE'", '--said FILE WORDS OF DOOMVIEW..', '--file WAD WORDS OF DOOMVIEW..'))
 
 
 def add_words(parser):
     parser.add_argument('--said', metavar='FILE', help='what a run of the words said, on standard error')
+    parser.add_argument('--file', metavar='WAD', action='append', default=[], help='a WAD more behind those of the job, '
+                        'as often as wanted')
     parser.add_argument('words', metavar='WORDS..', nargs=argparse.REMAINDER,
                         help='the words of a job, or a line of doomview')
 
@@ -41,6 +43,7 @@ def last_line(path):
 def run(options):
     if not options.words:
         raise Trouble('it needs the words of a job, or a line of doomview; doomview explain --help has examples')
+    options.words += options.file
     if options.said:
         explanations.tell(last_line(options.said), options.words)
         return 0

@@ -3,25 +3,32 @@ import json
 import os
 import tempfile
 
-from .. import cli, counting, ground, jobs, levels, paths, wads
+from .. import cli, cli_limits, earlier, ground, levels, paths, wads, ways
 from ..cells import Grid
-from ..counting import COUNTS, LIMITS, Progress, Runs
+from ..counting import COUNTS, Progress, Runs
 from ..files import check_target, write_output, write_whole
+from ..index_page import index_page
 from ..limits_page import State, limits_page
 from ..png import GREYS
-from ..trouble import Trouble
+from ..trouble import TROUBLE, Trouble
 
 OVER = 1
 LEAST_STEP, MOST_STEP = 8, 1024
+SHOWN = 3  # things of a sector
 WITHOUT = ('--path', '--planes', '--openings', '--weapon')  # options of limits that the tool gives itself, or not
 PAGE = cli.Page(
     'limits-map', 'what the views of a whole map count, as a page: planes, openings, fragments, sprites', '''
 Counts what the views of a whole map have: planes, openings, fragments and sprites, as doomview limits counts them,
 and prints of each count the greatest with the row of its view. The original ends at more than 128 planes or 20,480
-openings; 256 fragments and 128 sprites are counted no further, and count as over here, since it draws no more of them.
+openings, and does not draw walls and sprites past 256 fragments and 128 sprites. It ends too at more than 32 solid
+ranges of columns that walls have filled: these are counted by what doomview list says, from each place in the one or two
+directions with the most fragments, and of a view with more than 256 fragments by the first 256.
 
 It looks from places of a grid at which a player can stand: within the lines, 56 units of height, 16 off the walls, in
-sectors to which a way leads from a start, the eye 41 over the floor, in 8 directions. Places with high counts are cut
+sectors to which a way leads from a start, the eye 41 over the floor, in 8 directions. A way leads over steps of up to
+24 units, down falls of any depth, over gaps that a running jump passes (242 units wide to a floor of the same height),
+through what moves, has a tag or a special, and by teleports. A sector with a thing that a player wants (a key, a
+weapon, health) is looked at too though no way to it was found, and is named. Places with high counts are cut
 in four, twice, and looked at in 16. All is counted a second time with the doors open: each sector without height that
 has a tag, or is behind a line with a special, is raised to 4 under the lowest ceiling beside it. A view that was counted
 so has these counts in that map alone, which --opened writes.
@@ -33,29 +40,30 @@ for a path, to copy. Keys and mouse work, and the page says which.
 $ doomview limits-map freedoom2.wad MAP01 map01.html
 $ doomview limits-map --iwad freedoom2.wad mymap.wad MAP01 --json
 $ doomview limits-map freedoom2.wad MAP12 --planes 256 --worst worst.csv --opened open.wad
+$ doomview limits-map --iwad freedoom2.wad mymaps.wad --all-maps pages
 ''', 'the program', '''
  0  no view is over a limit
- 1  some are
+ 1  some are; with --before, something over a limit got worse
  2  the map is refused, or the tool could not begin; sentences say why
  other statuses are those of doomview limits
 ''')
 
 
 def add_words(parser):
-    cli.add_level(parser)
+    cli.add_level(parser, is_needed=False)
     parser.add_argument('page', metavar='OUT.html', nargs='?', help='the page, whose name ends in .html')
-    parser.add_argument('--json', action='store_true', help='prints the numbers as JSON')
+    parser.add_argument('--all-maps', metavar='FOLDER', help='looks at all maps of the WAD, prints a line for each, and '
+                        'writes a page of each and an index.html to FOLDER')
+    parser.add_argument('--json', action='store_true', help='prints the numbers as JSON; with --all-maps each map in a line')
+    parser.add_argument('--before', metavar='OLD.json', help='what --json wrote earlier: says what got worse or better since, '
+                        'also on the page')
     parser.add_argument('--worst', metavar='FILE', help='writes the worst views of each count as a camera path to FILE')
     parser.add_argument('--opened', metavar='FILE', help='writes the map with its doors open as a WAD to FILE, which goes '
                         'behind the WADs of a job')
     parser.add_argument('--all', action='store_true',
                         help='looks from places to which no way leads from a start, too; the page strikes them through')
     parser.add_argument('--shut', action='store_true', help='leaves the doors shut, and does not count a second time')
-    for name in ('planes', 'openings'):
-        option = jobs.options()[f'--{name}']
-        parser.add_argument(option.name, metavar='N', type=cli.number(option.least, option.greatest),
-                            default=LIMITS[name], help=f'from more {name} on a view is over; {option.least} to '
-                            f'{option.greatest}; else {LIMITS[name]}')
+    cli_limits.add_words(parser)
     parser.add_argument('--step', metavar='N', type=cli.number(LEAST_STEP, MOST_STEP), default=64,
                         help=f'map units between places, a multiple of {LEAST_STEP}; else 64, or more on a large map')
     parser.add_argument('--directions', metavar='N', type=cli.number(1, 64), default=8,
@@ -69,6 +77,10 @@ def add_words(parser):
 
 def check(options):
     """A Trouble where the words cannot do, before anything is counted."""
+    if options.all_maps and (options.map or options.worst or options.opened):
+        raise Trouble('--all-maps looks at all maps of a WAD; name no map, page, --worst or --opened beside it')
+    if not options.all_maps and not options.map:
+        raise Trouble('name a map, or a folder for the pages of all maps by --all-maps FOLDER')
     if options.step % LEAST_STEP:
         raise Trouble(f'--step is a multiple of {LEAST_STEP}, and {options.step} is none')
     if options.page is not None and not options.page.endswith('.html'):
@@ -92,35 +104,50 @@ def numbers(plan, states, options):
               'step': state.grid.step, 'counts': {name: of_count(state.grid, name) for name in COUNTS}}
              for state in states]
     return {'map': plan.level.name, 'wad': plan.level.wad, 'sectors': len(plan.level.sectors),
-            'reached': len(states[0].grid.reached), 'over': any(state.grid.is_bad() for state in states),
-            'states': shown}
+            'reached': len(states[0].grid.reached), 'no_way': no_way(plan.level, states[0].grid.wanted),
+            'over': any(state.grid.is_bad() for state in states), 'states': shown}
+
+
+def no_way(level, wanted):
+    """The sectors with things that a player wants and to which no way was found, with these things."""
+    return [{'sector': sector, 'things': [{'thing': number, 'what': ways.WANTED[level.things[number].type]}
+                                          for number in things]} for sector, things in wanted.items()]
 
 
 def summary(found):
     """The numbers as lines for a user."""
     name = os.path.basename(found['wad'])
     yield f'{found["map"]} of {name}: a player reaches {found["reached"]} of its {found["sectors"]} sectors'
+    for one in found['no_way']:
+        yield f'no way was found to sector {one["sector"]}, which is looked at all the same: {things_told(one)}'
     for state in found['states']:
         yield f'doors {state["doors"]}: {state["views"]} views from {state["places"]} places'
         for name, it in state['counts'].items():
-            most = f'{it["most"]} or more' if name in counting.CAPPED and it['most'] >= it['limit'] else it['most']
             over = f'{it["over"]} view{"s" * (it["over"] > 1)} over' if it['over'] else 'none over'
             row = ','.join(map(str, it['row'])) if it['row'] else '-'
-            yield f'  {name:9} most {most} of {it["limit"]}, {over}, row {row}'
+            yield f'  {name:9} most {it["most"]} of {it["limit"]}, {over}, row {row}'
+    yield from found.get('before', ())
+
+
+def things_told(one):
+    """The things of a sector, in words."""
+    shown = [f'{thing["what"]} (thing {thing["thing"]})' for thing in one['things'][:SHOWN]]
+    more = len(one['things']) - SHOWN
+    return ', '.join(shown) + (f' and {more} more' if more > 0 else '')
 
 
 def states_of(plan, runs, options, folder, progress):
     """The map with its doors shut, and open unless that is left out."""
-    reached, doors = plan.reached(), plan.doors()
-    if not reached and not options.all:
+    reach, doors = ways.reach(plan), plan.doors()
+    if not reach.sectors and not options.all:
         raise plan.level.error('has no start of a player; --all looks from all places')
-    found = [State('shut', Grid(ground.Ground(plan), runs, reached, options, 'doors shut, '), runs)]
+    found = [State('shut', Grid(ground.Ground(plan), runs, reach, options, 'doors shut, '), runs)]
     if doors and not options.shut:
         path = os.path.join(folder, 'open.wad')
         write_whole(path, ground.with_ceilings(plan.level, doors))
         opened = ground.Plan(levels.read([path], plan.level.name))
         more = runs.over(options.files, path)
-        found.append(State('open', Grid(ground.Ground(opened), more, reached, options, 'doors open, '), more))
+        found.append(State('open', Grid(ground.Ground(opened), more, reach, options, 'doors open, '), more))
     if not any(state.grid.cells for state in found):
         raise plan.level.error('has no place with room for a player')
     return found, doors
@@ -140,7 +167,61 @@ def worst_path(states, options):
 def run(options):
     options.files = cli.wads_of(options)
     check(options)
-    options.limits = {**LIMITS, 'planes': options.planes, 'openings': options.openings}
+    wads.check_game(options.files)
+    options.limits = cli_limits.limits_of(options)
+    options.earlier = earlier.numbers_of(options.before) if options.before else {}
+    if options.all_maps:
+        return run_all(options)
+    found, told = look(options)
+    write_output(json.dumps(found, indent=1) + '\n' if options.json else told)
+    return status_of(found)
+
+
+def status_of(found):
+    """The status for the numbers of a map: beside an earlier run, whether something over a limit got worse."""
+    return OVER if found.get('worse', found['over']) else 0
+
+
+def run_all(options):
+    """Looks at all maps of the WAD, prints a line for each and writes their pages and an index; the status."""
+    make_folder(options.all_maps)
+    own, found, status = wads.find(options.wad), {}, 0
+    for name in wads.maps_of([own]):
+        options.map, options.page = name, os.path.join(options.all_maps, f'{name}.html')
+        try:
+            found[name], _ = look(options)
+            told, now = line_of(name, found[name]), status_of(found[name])
+        except Trouble as error:
+            found[name] = str(error) or 'refused'
+            told, now = f'{name} {found[name]}', TROUBLE
+        if options.json:
+            told = json.dumps(found[name] if now != TROUBLE else {'map': name, 'trouble': found[name]})
+        write_output(f'{told}\n')
+        status = max(status, now)
+    index = index_page(os.path.basename(own), found, options.limits)
+    write_whole(os.path.join(options.all_maps, 'index.html'), index)
+    return status
+
+
+def make_folder(path):
+    """A folder for pages; a Trouble where there can be none."""
+    try:
+        os.makedirs(path, exist_ok=True)
+    except OSError as error:
+        raise Trouble(f'cannot make the folder {path}: {error.strerror}') from error
+
+
+def line_of(name, found):
+    """The numbers of a map as one line: the greatest counts with the doors shut, and open."""
+    counts = [[state['counts'][count] for state in found['states']] for count in COUNTS]
+    told = [f'{count} {"/".join(str(one["most"]) for one in of)}{" over" if any(one["over"] for one in of) else ""}'
+            for count, of in zip(COUNTS, counts)]
+    worse = {True: '; worse than before', False: '; no worse than before'}.get(found.get('worse'), '')
+    return f'{name} {", ".join(told)}{worse}'
+
+
+def look(options):
+    """Looks at a map and writes the files; its numbers, and these as lines."""
     progress = Progress('limits-map')
     with tempfile.TemporaryDirectory(prefix='doomview-') as folder:
         runs = Runs(options.map, options.files, cli.job_words(options), folder, options.jobs, progress)
@@ -152,22 +233,25 @@ def run(options):
 
 
 def looked(options, runs, folder, progress):
-    """Looks at the map, prints the summary and writes the files; the status."""
+    """The same with runs of the program."""
     runs.check()
-    level = levels.read(options.files, options.map)
+    level = cli.level_of(options, options.files)
     level.check_whole()
     plan = ground.Plan(level)
     states, doors = states_of(plan, runs, options, folder, progress)
     found = numbers(plan, states, options)
-    told = ''.join(f'{it}\n' for it in summary(found))
+    if options.before and not options.all_maps and level.name not in options.earlier:
+        raise Trouble(f'{options.before} has no numbers of {level.name}')
+    if level.name in options.earlier:
+        different = earlier.differences(options.earlier[level.name], found)
+        found['before'], found['worse'] = [one.told for one in different], any(one.is_worse for one in different)
+    told = ''.join(f'{line}\n' for line in summary(found))
     progress.tell('drawing the worst views')
     if options.page:
         write_whole(options.page, limits_page(plan, options.files, states, palette_of(options.files), options, doors,
-                                              told))
+                                              told, found.get('before', [])))
     if options.opened:
         write_whole(options.opened, ground.with_ceilings(plan.level, doors))
     if options.worst:
         write_whole(options.worst, worst_path(states, options).encode())
-    progress.clear()
-    write_output(json.dumps(found, indent=1) + '\n' if options.json else told)
-    return OVER if found['over'] else 0
+    return found, told

@@ -53,13 +53,14 @@ def run(options):
 def draw(options, folder):
     """Draws the view, in a folder for what is needed on the way."""
     if options.wad:
-        files = wads.with_base(options.wad, options.iwad)
+        files = cli.wads_of(options)
+        wads.check_game(files)
     else:
         files = [os.path.join(folder, 'room.wad')]
         write_whole(files[0], room.room())
-    name = options.map or wads.maps_of(files)[0]
+    options.map = name = options.map or wads.maps_of([wads.find(options.wad)] if options.wad else files)[0]
+    level = cli.level_of(options, files) if options.wad else levels.read(files, name)
     path = os.path.join(folder, 'path.csv')
-    level = levels.read(files, name)
     rows = [paths.row_at(options.at, level)] if options.at else paths.turn(level, 1)
     write_whole(path, paths.text(rows).encode())
     words = ['render', name, *files, '--path', path, '--format', 'ppm', *cli.job_words(options)]

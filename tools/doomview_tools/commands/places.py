@@ -1,5 +1,5 @@
 """doomview places: viewpoints all over a map."""
-from .. import cli, levels, paths
+from .. import cli, paths
 from ..files import write_output
 
 MOST = paths.MOST_ROWS - 1
@@ -30,6 +30,6 @@ def add_words(parser):
 
 
 def run(options):
-    level = levels.read(cli.wads_of(options), options.map)
+    level = cli.level_of(options, cli.wads_of(options))
     rows = paths.places(level, options.count, options.seed, options.wild)
     write_output(paths.text(rows), options.output, 'the path')

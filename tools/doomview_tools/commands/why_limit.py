@@ -1,31 +1,40 @@
-"""doomview why-limit: why a view has as many planes as it has."""
+"""doomview why-limit: why a view has as many planes, fragments, sprites and solid ranges as it has."""
 import os
 import tempfile
 
-from .. import cli, ground, levels, lists, paths, program, traces
-from ..counting import LIMITS, RAISED
+from .. import cli, cli_limits, ground, levels, lists, paths, program, reasons, traces, wads, what_if
+from ..counting import RAISED
 from ..explanations import explained
 from ..files import write_whole
-from ..reasons import reasons
+from ..levels import EYE_HEIGHT, TURN, UNIT
 from ..trouble import TROUBLE, Ended, Trouble
 
 OVER = 1
 USAGE = 1  # a status of the program
-WITHOUT = ('--path', '--planes', '--openings', '--weapon', '--spans')  # options of list that the tool gives itself, or not
+WITHOUT = ('--path', '--planes', '--openings', '--weapon', '--spans')  # of list: given by the tool itself, or not at all
+FARTHEST = 32767  # map units
+OUTSIDE = '  the place is outside the level: no player sees this view'
 PAGE = cli.Page(
-    'why-limit', 'why a view has so many planes: by flat, height and light, and the lines that split them', '''
-Says of each view how many planes, openings, fragments and sprites it has, and where its planes come from.
+    'why-limit', 'why a view has so many planes, fragments, sprites or solid ranges, and what would save some', '''
+Says of each view how many planes, openings, fragments, sprites and solid ranges it has, and where they come from.
 
 A plane is made where a leaf needs a floor or ceiling of a height, flat and light that the view has not yet; floors and
 ceilings that are the same in all three share one. It is split, a plane more, where a wall finds that its columns are
 taken in it already. So the first table has a line for each height, flat and light: how many planes share it, how many
 of them are splits, in how many columns they have rows together, and the sectors of the map that have it, first those
-that made one here. The second has the lines whose fragments split them. Fragments past the 256th and sprites past the
-128th are counted.
+that made one here. The second has the lines whose fragments split them, with the sectors in front and behind, and what
+differs between these.
+
+Then come the fragments by sector and line, the sprites by type and place, and the walls that made a solid range. Of a
+view with more than 256 fragments or 128 sprites these tables have the first of them.
+
+Last is a table of what-ifs, the greatest saving of planes first: what the view would count if sectors that made its
+planes had the light, a flat or a height of others. Each is counted by drawing the view with that change. They are tried
+for one view, and of several for those over a limit.
 
 A view is X,Y,ANGLE: map units, and degrees from east to the left, as in a map editor; the eye is 41 over the floor. Or
 it is a row of a camera path, X,Y,Z,ANGLE, as limits-map and its page have it; with --open for a row of the doors open.
-With --path it is the number of a view, and without any all views of the path are told of.
+With --path it is the number of a view, and without any all views of the path are shown.
 ''', '''
 $ doomview why-limit freedoom2.wad MAP12 -2104,-1431.5,45
 $ doomview why-limit freedoom2.wad MAP12 -137887744,-93814784,-3604480,536870912
@@ -46,6 +55,7 @@ def add_words(parser):
     parser.add_argument('--path', metavar='FILE', help='a camera path')
     parser.add_argument('--open', action='store_true', help='opens the doors, as limits-map does when it counts again')
     parser.add_argument('--all', action='store_true', help='shows all lines of a table, and not the first 20')
+    cli_limits.add_words(parser)
     cli.add_job_options(parser, 'list', WITHOUT)
 
 
@@ -82,20 +92,24 @@ def opened(files, level, folder):
     return files + [path], levels.read([path], level.name)
 
 
-def counts_of(view):
-    """The counts of a view by name; of one over even a raised limit that count alone."""
-    if view.over:
-        return dict([view.over])
-    sums = view.sums
-    return {'planes': sums.planes, 'openings': sums.openings, 'fragments': sums.all_fragments,
-            'sprites': sums.all_sprites}
+def is_outside(level, row):
+    """Whether the place of a view is outside the lines of a level."""
+    place = ground.Ground(ground.Plan(level))
+    return all(place.is_void(row.x / UNIT, row.y // UNIT + off) for off in (-.5, .5))
+
+
+def what_ifs(options, files, level, row, view, places, folder):
+    """What a view would count after changes of its sectors."""
+    words = [options.map, *files], cli.job_words(options)
+    return what_if.results(words, level, row, reasons.planes_of_sectors(view, places), folder)
 
 
 def run(options):
     files = cli.wads_of(options)
-    level = levels.read(files, options.map)
+    wads.check_game(files)
+    level = cli.level_of(options, files)
     level.check_whole()
-    rows = rows_of(options, level)
+    rows, limits = rows_of(options, level), cli_limits.limits_of(options)
     with tempfile.TemporaryDirectory(prefix='doomview-') as folder:
         if options.open:
             files, level = opened(files, level, folder)
@@ -104,6 +118,11 @@ def run(options):
         is_bad = False
         for place, (number, row) in enumerate(rows):
             view = found.view(place)
-            print('\n'.join(([''] if place else []) + list(reasons(number, row, view, places, options.all))))
-            is_bad |= any(count > LIMITS[name] for name, count in counts_of(view).items())
+            is_over = any(count > limits[name] for name, count in reasons.counts_of(view, places).items())
+            changes = (what_ifs(options, files, level, row, view, places, folder)
+                       if not view.over and (is_over or len(rows) == 1) else [])
+            lines = list(reasons.reasons(number, row, view, places, options.all, limits, changes))
+            lines[1:1] = [OUTSIDE] if is_outside(level, row) else []
+            print('\n'.join(([''] if place else []) + lines), flush=True)
+            is_bad |= is_over
     return OVER if is_bad else 0

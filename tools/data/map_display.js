@@ -1,0 +1,224 @@
+/* The display of a map on a canvas: its lines, places as squares that are darker for greater counts, numbered dots, and
+the picking of a place by mouse and keys. It needs nothing but the canvas; a page gives it all that it shows.
+
+  const display = new MapDisplay(canvas, { vertexes, lines, point, pick });
+
+    vertexes   [x, y] of each, in map units
+    lines      [start, end, isWall] of each; start and end are numbers of vertexes
+    point      a function of a place or null, and of the marks near it: the pointer is over it, or an arrow key went to it
+    pick       a function of a place or null: it was clicked, or Enter was pressed on it
+
+A place is { x, y, size, isReached }: the middle of a square and its side in map units, and whether a way leads there. A
+page may give its places other fields. show() adds isCut: whether smaller places lie over its quarters.
+
+  display.show(parts)         takes any of these parts, keeps the others, and draws:
+    places     a list of places; the cursor is taken away
+    numberOf   a function of a place: its count, by which it is shaded
+    limit      a count from 1: shades go from 0 to it
+    isOver     a function of a count: whether it is over the limit
+    dots       [{ x, y, text, isChosen }]: numbered views
+    rings      [[x, y]]: small circles
+    marks      [{ x, y, letter, colour }]: small diamonds with a letter, over the places
+    eye        { x, y, angle } or null: a cone of 90 degrees; angle is in degrees, counterclockwise from east
+    cursor     a place or null: it gets a frame
+  display.fit()               takes the size of its canvas anew, as after a change of the window, and draws
+  display.whole()             shows the whole map, and draws
+  display.zoom(factor)        comes nearer for a factor above 1, and draws
+  display.walk(dx, dy)        puts the cursor on the next place in a direction: (1, 0) is east, (0, 1) north
+  display.placeAt(x, y)       the place that is drawn at a point in map units, or null
+  display.square(place)       left, top and side of a place in pixels of the canvas
+  display.scale               pixels for each map unit
+  display.keys                by the name of a key what it does: + - = 0
+  display.walkKeys            the same for the arrows and Enter, which a button of a page may want for itself
+  MapDisplay.KEYS             what these keys do, in HTML
+  MapDisplay.shade(share)     the colour of a count that is a share of its limit, up to 1
+  MapDisplay.core(share)      of a count over its limit how wide the light core of its black square is, from 0 at the limit
+                              to .6 of the square at four times the limit and more
+  MapDisplay.drawScale(canvas)  fills a canvas with the shades from 0 to the limit, and then cores up to four times it */
+class MapDisplay {
+  static KEYS = 'arrows walk from place to place · <kbd>Enter</kbd> picture there · <kbd>+</kbd> <kbd>-</kbd> <kbd>0</kbd> ' +
+    'zoom (wheel, drag)';
+  // Lighter to darker throughout, so that it reads in black and white too; the lightest is darker than white.
+  static STOPS = [[226, 235, 243], [196, 217, 236], [150, 187, 220], [222, 126, 40], [140, 52, 0]];
+
+  static CORE = '#f9f';
+
+  constructor(canvas, { vertexes, lines, point, pick }) {
+    Object.assign(this, { canvas, vertexes, lines, point, pick });
+    this.pen = canvas.getContext('2d');
+    this.shown = { places: [], numberOf: () => 0, limit: 1, isOver: () => false, dots: [], rings: [], marks: [], eye: null, cursor: null };
+    this.scale = 1; this.centre = [0, 0]; this.drag = null;
+    const corners = lines.flatMap(line => [vertexes[line[0]], vertexes[line[1]]]);
+    this.box = [0, 1].map(k => [Math.min, Math.max].map(least => corners.reduce((a, v) => least(a, v[k]), corners[0][k])));
+    this.sizes = this.box.map(([low, high]) => high - low + 64);
+    this.keys = { '+': () => this.zoom(1.3), '=': () => this.zoom(1.3), '-': () => this.zoom(1 / 1.3), 0: () => this.whole() };
+    this.walkKeys = { ArrowLeft: () => this.walk(-1, 0), ArrowRight: () => this.walk(1, 0), ArrowUp: () => this.walk(0, 1),
+      ArrowDown: () => this.walk(0, -1), Enter: () => this.shown.cursor && this.pick(this.shown.cursor) };
+    this.listen();
+    this.measure(); this.whole();
+  }
+
+  static shade(share) {
+    const reach = Math.min(Math.max(share, 0), .9999) * 4, i = Math.floor(reach), rest = reach - i;
+    const [low, high] = [MapDisplay.STOPS[i], MapDisplay.STOPS[i + 1]];
+    return 'rgb(' + low.map((v, k) => Math.round(v + (high[k] - v) * rest)) + ')';
+  }
+  static core(share) { return .6 * Math.min(1, Math.max(0, Math.log2(share) / 2)); }
+  static drawScale(canvas) {
+    const pen = canvas.getContext('2d'), { width, height } = canvas, limit = Math.round(width * .65);
+    for (let x = 0; x < limit; x++) { pen.fillStyle = MapDisplay.shade(x / limit); pen.fillRect(x, 0, 1, height); }
+    pen.fillStyle = '#000'; pen.fillRect(limit, 0, width - limit, height);
+    for (let x = limit; x + height <= width; x += height) {
+      const core = height * MapDisplay.core(4 ** ((x - limit) / (width - limit - height)));
+      pen.fillStyle = MapDisplay.CORE; pen.fillRect(x + (height - core) / 2, (height - core) / 2, core, core);
+    }
+  }
+
+  /* What is shown, and how near. */
+  show(parts) {
+    if (parts.places) { MapDisplay.order(parts.places); this.shown.cursor = null; }
+    Object.assign(this.shown, parts); this.draw();
+  }
+  // Puts places into the order in which they are drawn: those that were cut behind the others.
+  static order(places) {
+    const middles = new Set(places.map(place => [place.size, place.x, place.y].join()));
+    const isThere = (place, i, j) => {
+      const away = place.size / 4;
+      return middles.has([place.size / 2, place.x + i * away, place.y + j * away].join());
+    };
+    places.forEach(place => { place.isCut = [-1, 1].some(i => [-1, 1].some(j => isThere(place, i, j))); });
+    places.sort((a, b) => a.isCut - b.isCut || b.size - a.size);
+  }
+  // As wide as its room on the page, and no higher than the map needs or than the window, or half of one that is narrow.
+  measure() {
+    const ratio = devicePixelRatio || 1, canvas = this.canvas, most = innerWidth > 700 ? innerHeight - 230 : innerHeight / 2;
+    this.width = canvas.clientWidth || 800;
+    this.height = Math.round(Math.max(340, Math.min(most, 1000, this.width * this.sizes[1] / this.sizes[0])));
+    canvas.style.height = this.height + 'px';
+    canvas.width = this.width * ratio; canvas.height = this.height * ratio; this.pen.setTransform(ratio, 0, 0, ratio, 0, 0);
+  }
+  fit() { this.measure(); this.draw(); }
+  whole() {
+    this.scale = Math.min(this.width / this.sizes[0], this.height / this.sizes[1]);
+    this.centre = this.box.map(([low, high]) => (low + high) / 2); this.draw();
+  }
+  zoom(factor, point = [this.width / 2, this.height / 2]) {
+    const before = this.from(...point); this.scale *= factor; const after = this.from(...point);
+    this.centre = this.centre.map((v, k) => v + before[k] - after[k]); this.draw();
+  }
+  // Pixels of the canvas of a point in map units, and the point of some pixels.
+  at(x, y) { return [(x - this.centre[0]) * this.scale + this.width / 2, (this.centre[1] - y) * this.scale + this.height / 2]; }
+  from(px, py) {
+    return [(px - this.width / 2) / this.scale + this.centre[0], this.centre[1] - (py - this.height / 2) / this.scale];
+  }
+
+  /* Drawing. */
+  draw() {
+    const { places, rings, marks, cursor, eye, dots } = this.shown, pen = this.pen;
+    pen.clearRect(0, 0, this.width, this.height);
+    places.forEach(place => this.drawPlace(place));
+    this.drawLines();
+    rings.forEach(([x, y]) => this.circle(...this.at(x, y), 2.2, '#fff'));
+    marks.forEach(mark => this.drawMark(mark));
+    if (cursor) { const [x, y, size] = this.square(cursor); pen.strokeStyle = '#06c'; pen.lineWidth = 3; pen.strokeRect(x, y, size, size); }
+    if (eye) this.cone(eye);
+    dots.filter(dot => !dot.isChosen).concat(dots.filter(dot => dot.isChosen)).forEach(dot => this.drawDot(dot));
+  }
+  // A place that was cut is small in the middle of its quarters, over them, and hides the middle of none.
+  static drawnSize(place) { return place.size / (place.isCut ? 5 : 1); }
+  square(place) {
+    const size = MapDisplay.drawnSize(place) * this.scale, [x, y] = this.at(place.x, place.y);
+    return [x - size / 2, y - size / 2, size];
+  }
+  drawPlace(place) {
+    const [x, y, size] = this.square(place), n = this.shown.numberOf(place), isOver = this.shown.isOver(n);
+    this.pen.fillStyle = isOver ? '#000' : MapDisplay.shade(n / this.shown.limit);
+    this.pen.fillRect(x, y, size + .6, size + .6);
+    if (!place.isReached) this.stroke(isOver ? '#fff' : '#555', 1, [[[x, y + size], [x + size, y]]]);
+    if (isOver && size >= 8) this.cross(x, y, size);
+    if (isOver) this.drawCore(x, y, size, MapDisplay.core(n / this.shown.limit) * size);
+    if (size > (isOver ? 48 : 34)) this.label(n, x + size / 2, y + size * (isOver ? .87 : .5), n > this.shown.limit * .7 ? '#fff' : '#000');
+  }
+  drawCore(x, y, size, core) {
+    this.pen.fillStyle = MapDisplay.CORE; this.pen.fillRect(x + (size - core) / 2, y + (size - core) / 2, core, core);
+  }
+  cross(x, y, size) {
+    const a = size * .25, b = size * .75;
+    this.stroke('#fff', 1.5, [[[x + a, y + a], [x + b, y + b]], [[x + a, y + b], [x + b, y + a]]]);
+  }
+  // Walls with a light edge, so that they show on black places too.
+  drawLines() {
+    const drawn = isWall => this.lines.filter(line => Boolean(line[2]) === isWall)
+      .map(line => [this.at(...this.vertexes[line[0]]), this.at(...this.vertexes[line[1]])]);
+    const walls = drawn(true);
+    this.stroke('#777', .6, drawn(false)); this.stroke('rgba(255,255,255,.7)', 2.6, walls); this.stroke('#000', 1.4, walls);
+  }
+  drawDot({ x, y, text, isChosen }) {
+    const middle = this.at(x, y);
+    this.circle(...middle, 9, isChosen ? '#06c' : '#fff'); this.label(text, ...middle, isChosen ? '#fff' : '#000');
+  }
+  drawMark({ x, y, letter, colour }) {
+    const [px, py] = this.at(x, y), pen = this.pen;
+    pen.fillStyle = colour; pen.strokeStyle = '#fff'; pen.lineWidth = 1; pen.beginPath();
+    [[0, -8], [8, 0], [0, 8], [-8, 0]].forEach(([dx, dy]) => pen.lineTo(px + dx, py + dy));
+    pen.closePath(); pen.fill(); pen.stroke(); this.label(letter, px, py, '#fff');
+  }
+  marksNear(px, py) {
+    return this.shown.marks.filter(mark => { const [x, y] = this.at(mark.x, mark.y); return Math.hypot(x - px, y - py) < 10; });
+  }
+  cone({ x, y, angle }) {
+    const [px, py] = this.at(x, y), a = -angle * Math.PI / 180;
+    const ends = [-1, 1].map(k => [px + 60 * Math.cos(a + k * Math.PI / 4), py + 60 * Math.sin(a + k * Math.PI / 4)]);
+    this.stroke('#06c', 2.5, ends.map(end => [[px, py], end]));
+  }
+  stroke(colour, width, lines) {
+    const pen = this.pen; pen.strokeStyle = colour; pen.lineWidth = width; pen.beginPath();
+    lines.forEach(([from, to]) => { pen.moveTo(...from); pen.lineTo(...to); }); pen.stroke();
+  }
+  circle(x, y, size, colour) {
+    const pen = this.pen; pen.fillStyle = colour; pen.strokeStyle = '#000'; pen.lineWidth = 1;
+    pen.beginPath(); pen.arc(x, y, size, 0, 7); pen.fill(); pen.stroke();
+  }
+  label(text, x, y, colour) {
+    const pen = this.pen; pen.fillStyle = colour; pen.font = 'bold 11px sans-serif'; pen.textAlign = 'center';
+    pen.textBaseline = 'middle'; pen.fillText(text, x, y);
+  }
+
+  /* Picking, by mouse and keys. */
+  placeAt(x, y) {
+    const isIn = place => Math.max(Math.abs(place.x - x), Math.abs(place.y - y)) <= MapDisplay.drawnSize(place) / 2;
+    return this.shown.places.findLast(isIn) || null;
+  }
+  pointed(event) {
+    const box = this.canvas.getBoundingClientRect();
+    return [event.clientX - box.left - 1, event.clientY - box.top - 1];
+  }
+  listen() {
+    const canvas = this.canvas;
+    canvas.onpointerdown = event => { this.drag = { start: this.pointed(event), centre: this.centre, isMoved: false }; };
+    canvas.onpointermove = event => this.move(event);
+    canvas.onpointerup = event => {
+      if (this.drag && !this.drag.isMoved) this.click(this.placeAt(...this.from(...this.pointed(event))), this.pointed(event));
+      this.drag = null;
+    };
+    canvas.onwheel = event => { event.preventDefault(); this.zoom(event.deltaY < 0 ? 1.2 : 1 / 1.2, this.pointed(event)); };
+  }
+  move(event) {
+    const p = this.pointed(event), drag = this.drag;
+    if (!drag || !event.buttons) return this.point(this.placeAt(...this.from(...p)), this.marksNear(...p));
+    drag.isMoved ||= Math.hypot(p[0] - drag.start[0], p[1] - drag.start[1]) > 5;
+    if (!drag.isMoved) return;
+    this.centre = [drag.centre[0] - (p[0] - drag.start[0]) / this.scale, drag.centre[1] + (p[1] - drag.start[1]) / this.scale];
+    this.draw();
+  }
+  click(place, pixel) { this.show({ cursor: place }); this.point(place, this.marksNear(...pixel)); this.pick(place); }
+  walk(dx, dy) {
+    const { places, cursor, eye } = this.shown, start = cursor || eye && this.placeAt(eye.x, eye.y) || places[0];
+    let best = start, least = Infinity;
+    for (const place of places) {
+      const x = place.x - start.x, y = place.y - start.y, along = x * dx + y * dy, aside = Math.abs(x * dy) + Math.abs(y * dx);
+      if (along > 0 && aside <= along && along + 2 * aside < least) { least = along + 2 * aside; best = place; }
+    }
+    if (best) { this.show({ cursor: best }); this.point(best, this.marksNear(...this.at(best.x, best.y))); }
+  }
+}

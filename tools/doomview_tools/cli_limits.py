@@ -1,0 +1,24 @@
+"""The words of a tool that knows the limits of a view: --planes, --openings, --fragments, --sprites, --solids."""
+from . import cli, jobs
+from .counting import COUNTS, LIMITS
+
+MOST = 65535  # of what a port may allow
+
+
+def add_words(parser):
+    """The words for the limits of a port that has others."""
+    for name in COUNTS:
+        least, greatest = range_of(name)
+        parser.add_argument(f'--{name}', metavar='N', type=cli.number(least, greatest), default=LIMITS[name],
+                            help=f'from more {name} on a view is over; {least} to {greatest}; else {LIMITS[name]}')
+
+
+def range_of(name: str) -> tuple:
+    """The least and the greatest limit that a tool takes: those of the job where it has one."""
+    option = jobs.options().get(f'--{name}')
+    return (option.least, option.greatest) if option else (LIMITS[name], MOST)
+
+
+def limits_of(options) -> dict:
+    """The limits that the words give, by name."""
+    return {name: getattr(options, name) for name in COUNTS}

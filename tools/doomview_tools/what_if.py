@@ -1,0 +1,109 @@
+"""What a view would count if some of its sectors were alike: each change is drawn, and counted.
+
+A change gives the sectors of a view that have one value of a field another one, which sectors there have already."""
+import collections
+import os
+import struct
+import typing
+
+from . import list_counts, paths, program
+from .counting import RAISED
+from .files import write_whole
+from .ground import SECTOR, SKY
+from .wads import MAP_LUMPS, packed
+
+FIELDS = {'light': 'light', 'floor_flat': 'floor flat', 'ceiling_flat': 'ceiling flat', 'floor': 'floor height',
+          'ceiling': 'ceiling height'}
+HEIGHTS = {'floor', 'ceiling'}
+GOALS = 2  # values to which a value is changed
+MOST_DRAWN = 40
+
+
+class Change(typing.NamedTuple):
+    """A value of a field that some sectors get; `before` is what they had, or None for several values."""
+
+    field: str
+    before: object
+    after: object
+    sectors: tuple
+
+    def told(self, sectors: str) -> str:
+        """The change in words."""
+        before = 'all others' if self.before is None else self.before
+        return f'{FIELDS[self.field]} {self.after} for {before} in {sectors}'
+
+
+class Result(typing.NamedTuple):
+    """What a view counts after a change."""
+
+    change: Change
+    counts: dict
+
+
+def with_change(level, change: Change) -> bytes:
+    """The bytes of a PWAD of a level alone, with a change."""
+    lumps, data = dict(level.lumps), bytearray(level.lumps['SECTORS'])
+    for number in change.sectors:
+        sector = level.sectors[number]._replace(**{change.field: change.after})
+        struct.pack_into(SECTOR.format, data, SECTOR.size * number, *(
+            value.encode('latin-1') if isinstance(value, str) else value for value in sector))
+    lumps['SECTORS'] = bytes(data)
+    return packed([(level.name, b'')] + [(name, lumps[name]) for name in MAP_LUMPS], b'PWAD')
+
+
+def changes(level, planes_of: dict) -> list:
+    """The changes that may save most, by how many planes of a view each sector made: the most first."""
+    found = [change for field in FIELDS for change in changes_of(level, planes_of, field)]
+    return [change for _, change in sorted(found, key=lambda pair: -pair[0])[:MOST_DRAWN]]
+
+
+def changes_of(level, planes_of, field):
+    """The changes of a field, each with the planes that its sectors made."""
+    having = collections.defaultdict(list)
+    for number in planes_of:
+        having[getattr(level.sectors[number], field)].append(number)
+    weights = collections.Counter({value: sum(planes_of[number] for number in numbers)
+                                   for value, numbers in having.items() if value != SKY})
+    for value, weight in weights.items():
+        for goal in goals_of(weights, field, value):
+            yield from weighed(level, Change(field, value, goal, tuple(having[value])), weight)
+    most = weights.most_common(1)[0][0] if weights else None
+    rest = tuple(number for value in weights if value != most for number in having[value])
+    if rest and field not in HEIGHTS:
+        yield from weighed(level, Change(field, None, most, rest), sum(weights.values()))
+
+
+def goals_of(weights, field, value):
+    """The values to which a value of a field may be changed: the nearest heights and lights, the flats of most planes;
+    and the light of most."""
+    others = [other for other, _ in weights.most_common() if other != value]
+    if isinstance(value, str):
+        return others[:GOALS]
+    near = sorted(others, key=lambda other: abs(other - value))[:GOALS]
+    return near if field in HEIGHTS else list(dict.fromkeys([*near, *others[:1]]))
+
+
+def weighed(level, change, weight):
+    """A change with its weight, of the sectors whose floor stays below their ceiling; none if there are none."""
+    sectors = tuple(number for number in change.sectors for sector in [level.sectors[number]._replace(
+        **{change.field: change.after})] if sector.ceiling > sector.floor or level.sectors[number].ceiling <= sector.floor)
+    if sectors:
+        yield weight, change._replace(sectors=sectors)
+
+
+def count_with(words, level, row, change, folder):
+    """The counts of a view after a change; `words` are those of `list` without its path, up to the last WAD, and the
+    rest."""
+    before, behind = words
+    wad, path = os.path.join(folder, 'changed.wad'), os.path.join(folder, 'changed.csv')
+    write_whole(wad, with_change(level, change))
+    write_whole(path, paths.text([row]).encode())
+    done = program.run(['list', *before, wad, *RAISED, *behind, '--path', path])
+    return next(list_counts.counts_of(done.output), None) if not done.status else None
+
+
+def results(words, level, row, planes_of, folder, by='planes') -> list:
+    """What a view counts after each change that saves something, the greatest saving of a count first."""
+    found = [Result(change, count_with(words, level, row, change, folder)) for change in changes(level, planes_of)]
+    return sorted((result for result in found if result.counts and by in result.counts),
+                  key=lambda result: (result.counts[by], len(result.change.sectors)))

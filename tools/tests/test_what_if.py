@@ -1,0 +1,109 @@
+"""Tests the what-ifs of why-limit, and solid ranges, with the program that DOOMVIEW_TESTED names."""
+import os
+import re
+import unittest
+
+from made_files import Tools
+from made_maps import Map
+from doomview_tools import levels, list_counts, paths, program
+
+TESTED = os.environ.get('DOOMVIEW_TESTED', '')
+LIMIT, SIDE = 128, 20  # planes; squares of a side of a hall
+FIELDS = {'light': 'light', 'floor flat': 'floor_flat', 'ceiling flat': 'ceiling_flat', 'floor height': 'floor',
+          'ceiling height': 'ceiling'}
+CHANGE = re.compile(r'^ +-?\d+ +(\d+) +-?\d+ +\d+  (' + '|'.join(FIELDS) + r') (\S+) for .+ in sectors? ([\d, ]+)$', re.M)
+FLATS = ['TILES', 'MOSS']
+
+
+def lit_hall(x, y):
+    """A hall whose squares have 110 lights, and two flats."""
+    return {'light': 100 + (x + SIDE * y) % 110, 'below': FLATS[(x // 4 + y // 4) % 2]}
+
+
+def stepped_hall(x, y):
+    """A hall with steps and beams too."""
+    return {'light': 100 + (x + SIDE * y) % 60, 'below': FLATS[(x // 2 + y // 2) % 2], 'floor': x // 3 % 2 * 8,
+            'ceiling': 160 - y // 3 % 2 * 8}
+
+
+def hall(look):
+    """A map of one hall, seen from the south."""
+    letters, rows = {}, []
+    for y in range(SIDE):
+        looks = [tuple(look(x, y).items()) for x in range(SIDE)]
+        rows.append(''.join(letters.setdefault(one, chr(0x100 + len(letters))) for one in looks))
+    made = Map(*rows, start=(SIDE + 1, 2 * SIDE + 1), **{letter: dict(one) for one, letter in letters.items()})
+    made.change('THINGS', 0, angle=90)
+    return made
+
+
+@unittest.skipUnless(TESTED, 'no program is named')
+class WhatIf(Tools):
+    def steps(self, made):
+        """The planes of the view from the start, and after each change that the table has first, until it is below the
+        limit."""
+        place = made.records('THINGS')[0]
+        view = f'{place["x"]},{place["y"]},{place["angle"]}'
+        counts = []
+        while True:
+            self.write('hall.wad', made.wad())
+            status, output, _ = self.run_tool('why-limit', 'hall.wad', 'MAP01', view, '--all', doomview=TESTED)
+            counts.append(int(re.search(r' (\d+) planes', output.decode())[1]))
+            self.assertEqual(status, 1 if counts[-1] > LIMIT or ' over ' in output.decode() else 0)
+            found = CHANGE.search(output.decode())
+            if counts[-1] <= LIMIT or len(counts) > 9:
+                return counts
+            value = int(found[3]) if found[3].lstrip('-').isdigit() else found[3]
+            for sector in found[4].split(', '):
+                made.change('SECTORS', int(sector), **{FIELDS[found[2]]: value})
+            self.expected = int(found[1])
+
+    def test_lit_hall(self):
+        """A hall of 324 planes comes below 128 by the first line of the table, which is the light."""
+        self.assertEqual(self.steps(hall(lit_hall)), [324, self.expected])
+
+    def test_stepped_hall(self):
+        """A hall of 299 planes comes below 128 by the first lines of the table, and by no more than four."""
+        counts = self.steps(hall(stepped_hall))
+        self.assertEqual((counts[0], counts[-1]), (299, self.expected))
+        self.assertLessEqual(len(counts), 5)
+        self.assertEqual(counts, sorted(counts, reverse=True))
+        self.assertLessEqual(counts[-1], LIMIT)
+
+    def test_pillars(self):
+        """29 pillars in a row are drawn by Chocolate Doom 3.0.1, and 30 end it: more than 32 solid ranges."""
+        for count, ends in [(29, False), (30, True)]:
+            width = 2 * count + 1
+            rows = ['.' * width] * 6 + ['.#' * count + '.'] + ['.' * width] * (count + 4)
+            made = Map(*rows, start=(2 * (width // 2) + 3, 2 * len(rows) + 1))
+            made.change('THINGS', 0, angle=90)
+            level = levels.read([self.write('pillars.wad', made.wad())], 'MAP01')
+            self.write('path.csv', paths.text(paths.turn(level, 1)).encode())
+            output = self.run_command(TESTED, *program.completed(
+                ['list', 'MAP01', self.at('pillars.wad'), '--path', self.at('path.csv')]))[1]
+            ranges = next(list_counts.counts_of(output, list_counts.solid_segs(level)))['solids']
+            self.assertEqual(ranges > 32, ends, ranges)
+
+
+class Ranges(unittest.TestCase):
+    def test_ranges(self):
+        """Walls that touch none make a range more; one between two takes away none, as in the original."""
+        for walls, most in [([], 2), ([[(100, 110)]], 3), ([[(0, 9)]], 2), ([[(100, 110)], [(120, 130)]], 4),
+                            ([[(100, 110)], [(111, 130)]], 3), ([[(100, 110)], [(120, 130)], [(111, 119)], [(200, 210)]], 5),
+                            ([[(10, 19)], [(30, 39)], [(50, 59)], [(20, 29), (40, 49)], [(100, 101)]], 5)]:
+            self.assertEqual(list_counts.most_ranges(walls), most, walls)
+
+    def test_output(self):
+        """What list writes of views, with more fragments than it lists, and over a raised limit."""
+        text = (b'view 0 fragment 0 seg 0 first 10 last 19\nview 0 fragment 1 seg 1 first 30 last 39\n'
+                b'view 0 plane 0 height 0 flat sky light 0 leaf 0 columns 3\n'
+                b'view 0 fragments 2 of 300 planes 1 openings 7 sprites 0 of 129\nview 1 over planes 1025\n'
+                b'view 2 fragments 0 of 0 planes 0 openings 0 sprites 0 of 0\n')
+        counts = {'planes': 1, 'openings': 7, 'fragments': 300, 'sprites': 129}
+        none = dict.fromkeys(counts, 0)
+        self.assertEqual(list(list_counts.counts_of(text)), [counts, {'planes': 1025}, none])
+        self.assertEqual([found.get('solids') for found in list_counts.counts_of(text, [True, False])], [3, None, 2])
+
+
+if __name__ == '__main__':
+    unittest.main()
