@@ -62,12 +62,13 @@ def version():
 def run_job(words):
     """Runs a job, and says why where it fails; or hands words to the program that are none of this command's. For words
     that are no job nothing is built, since the program's answer is known."""
+    plain = [word for word in words if word != PLACES]
+    if plain != words and jobs.Words(plain).job == 'limits':
+        return limits_with_places(jobs.in_order(plain))
     is_job = jobs.Words(words).job in jobs.JOBS
     if not is_job and not program.is_built():
         return usage(words)
     words = jobs.in_order(words) if is_job else words
-    if PLACES in words and jobs.Words(words).job == 'limits':
-        return limits_with_places([word for word in words if word != PLACES])
     warn(words)
     done = program.run_whole(words) if jobs.Words(words).output else program.pass_on(words)
     sys.stderr.write(done.said)
@@ -100,6 +101,7 @@ def no_such(words):
 def limits_with_places(words):
     """Prints what the job limits does, and behind each line where the view is; its status."""
     given = jobs.Words(words)
+    warn(words)
     done = program.run(given.words)
     sys.stderr.write(done.said)
     if done.status:

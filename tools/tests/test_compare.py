@@ -162,6 +162,10 @@ class Compare(Tools):
             'of nothing, wall, sky, middle, sprite, weapon alone: 127999 of 128000 pixels',
             'view 0 pixels 1 rows 1 to 1 columns 1 to 1 first at row 1 column 1: 6, port 1'])
         self.assertEqual(os.listdir(self.at('out')), ['view00000.png'])
+        self.run_tool(*words, '--only', 'wall', '--html', 'page.html')
+        data = pages_shown.data_of(self.at('page.html'))
+        self.assertIn('of wall alone: 1 of 128000 pixels, elsewhere the port is shown with', data['head'])
+        self.assertEqual([view['view'] for view in data['views']], [0])
         self.assertEqual(self.run_tool(*words, '--but', 'plane,wall')[0], 0)
         for part, more in (('there is no painter floor; there are nothing, wall', ['--only', 'floor']),
                            ('name --only or --but, and not both', ['--only', 'sky', '--but', 'sky'])):

@@ -199,9 +199,10 @@ head -c 192000 /dev/zero
         told = [f'x 100 y 0 eye 65 angle 90, row {100 * UNIT},0,{65 * UNIT},{QUARTER}', 'x 0 y 0.5 eye 0 angle 0, row '
                 f'0,{UNIT // 2},0,0']
         program = self.stand_in('limits', '#!/bin/sh\necho view 0 planes 1\necho view 1 over planes 129\n')
-        words = ['limits', *LEVEL, '--places']
+        words = ['limits', 'made.wad', 'MAP01', '--places', '--path', 'path.csv']
         lines = f'view 0 planes 1; {told[0]}\nview 1 over planes 129; {told[1]}\n'
-        self.assertEqual(self.run_tool(*words, doomview=program), (0, lines.encode(), ''))
+        for order in (words, ['--places', *words[:3], *words[4:]]):
+            self.assertEqual(self.run_tool(*order, doomview=program), (0, lines.encode(), ''))
         self.assertEqual(self.run_tool(*words, '-o', 'out', doomview=program), (0, b'', ''))
         self.assertEqual(self.read('out'), lines)
         self.write('trace.bin', bytes(2 * 512000))

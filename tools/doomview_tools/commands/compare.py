@@ -246,7 +246,10 @@ class Comparison:
         for sentence in self.port.told():
             print(sentence)
         if self.options.html:
-            write_whole(self.options.html, self.page.page(f'{self.options.ours} and {self.options.port}: {last}'))
+            head = f'{self.options.ours} and {self.options.port}: {last}'
+            if self.kinds is not None:
+                head += f'; {self.counted(summary.counted)}, elsewhere the port is shown with the pixels of ours'
+            write_whole(self.options.html, self.page.page(head))
         if self.counts[0] != self.counts[1]:
             print(f'{self.options.ours} has {self.counts[0]} views, {self.options.port} {self.counts[1]}')
         return self.different > 0 or self.counts[0] != self.counts[1]
