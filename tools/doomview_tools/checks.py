@@ -9,7 +9,7 @@ import typing
 
 from . import ground, program, ways
 from .art import Art
-from .findings import ERROR, FAULT, HOLE, ODD, Finding, lines, sectors, several
+from .findings import ERROR, FAULT, HOLE, ODD, Finding, lines, sectors, several, some
 from .game_checks import GameCheck
 from .ground import SKY, TWO_SIDED
 from .levels import PLAYER_1
@@ -152,10 +152,15 @@ class Check:
         for number, sector in enumerate(self.level.sectors):
             for name in (sector.floor_flat, sector.ceiling_flat):
                 used[name].append(number)
-        for name in self.art.lost_flats(self.art.flats & set(used)):
-            yield Finding(ERROR, 'flat', sectors(used[name]), f'{name} is not between the last F_START and the last '
-                          'F_END of the WADs: the original ends there. A PWAD has its own flats between FF_START and '
-                          'F_END, and no F_START')
+        before, behind = self.art.lost_flats(self.art.flats & set(used))
+        marks = [self.art.files[number] for number in self.art.having('F_START')[-1:]]
+        for names, why in ((before, f'before the F_START of {"".join(marks)}, with which the flats of the original begin; '
+                            'call that mark FF_START'),
+                           (behind, 'after the last F_END, with which the flats of the original end; a PWAD has its own '
+                            'between FF_START and F_END')):
+            if names:
+                yield Finding(ERROR, 'flat', sectors(number for name in names for number in used[name]),
+                              f'{some(names)} {"comes" if len(names) == 1 else "come"} {why}. The original ends there')
 
     def odd_lines(self):
         for which in (0, 1):

@@ -60,8 +60,10 @@ class Kinds(Tools):
     def test_flats(self):
         """Flats that doomview draws and the original does not find."""
         made = Map('....', **{'.': {'below': 'MYFLAT'}})
-        self.finds(made, 'error flat: sector 0: BOARDS is not between the last F_START', lumps=own_flat('F_START', 'F_END'))
-        self.finds(made, 'error flat: sector 0: MYFLAT is not between', lumps=own_flat('FF_START', 'FF_END'))
+        self.finds(made, f'error flat: sector 0: BOARDS comes before the F_START of {self.at("made.wad")}, with which',
+                   'call that mark FF_START. The original ends there', lumps=own_flat('F_START', 'F_END'))
+        self.finds(made, 'error flat: sector 0: MYFLAT comes after the last F_END', 'between FF_START and F_END',
+                   lumps=own_flat('FF_START', 'FF_END'))
 
     def test_things(self):
         self.finds(Map('....', things=[(7, 3, 999, 0, 7)]), 'error thing: thing 1: type 999 at 224, 96 is none of the game')
@@ -179,8 +181,9 @@ class Kinds(Tools):
     def test_art(self):
         """Which flats the original does not find: by the last marks and the last lump of a name."""
         game = [('F_START', b''), ('ONE', FLAT), ('F1_END', b''), ('TWO', FLAT), ('F_END', b'')]
-        for own, lost in [([], []), ([('ONE', FLAT)], ['ONE']), (own_flat('F_START', 'F_END'), ['ONE', 'TWO']),
-                          (own_flat('FF_START', 'F_END'), []), (own_flat('FF_START', 'FF_END'), ['MYFLAT'])]:
+        for own, lost in [([], ([], [])), ([('ONE', FLAT)], ([], ['ONE'])),
+                          (own_flat('F_START', 'F_END'), (['ONE', 'TWO'], [])), (own_flat('FF_START', 'F_END'), ([], [])),
+                          (own_flat('FF_START', 'FF_END'), ([], ['MYFLAT']))]:
             files = [self.write('one.wad', wads.packed(game)), self.write('two.wad', wads.packed(own, b'PWAD'))]
             names = {'ONE', 'TWO', 'F_SKY1', *([] if len(own) < 2 else ['MYFLAT'])}
             self.assertEqual(art.Art(files).lost_flats(names), lost, own)
