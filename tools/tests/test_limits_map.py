@@ -378,7 +378,9 @@ class LimitsMap(Tools):
         lines = iter(self.run_tool(*words, doomview=TESTED)[1].decode().splitlines())
         for place in places:
             for i, count in enumerate(names):
-                self.assertIn(f' {count} {place[6 + 2 * i]} ', next(lines) + ' ')
+                line = next(lines) + ' '
+                if count != 'solids':  # which `limits` does not count
+                    self.assertIn(f' {count} {place[6 + 2 * i]} ', line)
 
 
 if __name__ == '__main__':
