@@ -1,7 +1,7 @@
 """A grid over a level: places where a player can stand, and of each the greatest counts in several directions.
 
-A sector between the places of the grid has one of its own. Cells with high counts are cut in four, twice, and looked at in twice as many directions. A cell stays where it was
-cut; its quarters lie over it."""
+A sector between the places of the grid has one of its own. Cells with high counts are cut in four, twice, and looked at
+in twice as many directions. A cell stays where it was cut; its quarters lie over it."""
 import math
 
 from . import list_counts

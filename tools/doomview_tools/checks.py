@@ -112,7 +112,8 @@ class Check:
         for name, places in sorted(found.items()):
             parts = ' '.join(part for part in PARTS if part in {it for _, it in places})
             lines_here = self.lines_with(side for side, _ in places)
-            where = self.lines(lines_here) if lines_here else several('side', (side for side, _ in places)) + ', of no line'
+            of_no_line = several('side', (side for side, _ in places)) + ', of no line'
+            where = self.lines(lines_here) if lines_here else of_no_line
             if name:
                 yield Finding(ERROR, 'texture', where, f'{parts} {name} is in no list of textures'
                               + guess(name, self.art.textures))
@@ -153,11 +154,11 @@ class Check:
             for name in (sector.floor_flat, sector.ceiling_flat):
                 used[name].append(number)
         before, behind = self.art.lost_flats(self.art.flats & set(used))
-        marks = [self.art.files[number] for number in self.art.having('F_START')[-1:]]
-        for names, why in ((before, f'before the F_START of {"".join(marks)}, with which the flats of the original begin; '
-                            'call that mark FF_START'),
-                           (behind, 'after the last F_END, with which the flats of the original end; a PWAD has its own '
-                            'between FF_START and F_END')):
+        file = ''.join(self.art.files[number] for number in self.art.having('F_START')[-1:])
+        for names, why in ((before, f'before the F_START of {file}, with which the flats of the original begin; call '
+                            'that mark FF_START'),
+                           (behind, 'after the last F_END, with which the flats of the original end; a PWAD has its '
+                            'own between FF_START and F_END')):
             if names:
                 yield Finding(ERROR, 'flat', sectors(number for name in names for number in used[name]),
                               f'{some(names)} {"comes" if len(names) == 1 else "come"} {why}. The original ends there')
@@ -178,7 +179,8 @@ class Check:
             if line.flags & TWO_SIDED and back is None and line.back is None:
                 yield Finding(FAULT, 'line', self.lines([number]), 'is two-sided and has no back side')
             if not line.flags & TWO_SIDED and back is not None:
-                yield Finding(ODD, 'line', self.lines([number]), 'has two sides and is not two-sided: it is drawn as a wall')
+                yield Finding(ODD, 'line', self.lines([number]), 'has two sides and is not two-sided: it is drawn as a '
+                              'wall')
 
     def parts(self, number):
         """The wall parts of a line that are seen."""

@@ -141,7 +141,8 @@ class LimitsMap(Tools):
         counts = found['states'][0]['counts']
         self.assertEqual([(counts[name]['limit'], counts[name]['over']) for name in words[::2] for name in [name[2:]]],
                          [(512, 0), (600, 0), (200, 0), (50, 0)])
-        self.assertEqual((status, self.looked('--fragments', '300')[1]['states'][0]['counts']['fragments']['limit']), (0, 300))
+        fragments = self.looked('--fragments', '300')[1]['states'][0]['counts']['fragments']
+        self.assertEqual((status, fragments['limit']), (0, 300))
         words = ['hall.wad', 'MAP01', 'page.html', '--shut', *COARSE]
         status, output, _ = self.run_tool('limits-map', *words, doomview=self.counting)
         self.assertIn(f'<pre id="plain">{output.decode()}</pre>', self.read('page.html'))  # for an old browser
