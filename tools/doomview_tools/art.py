@@ -121,9 +121,10 @@ class Art:
                     found.setdefault(patch, []).append(texture.name)
         return found
 
-    def lost_flats(self, names) -> list:
-        """Of some flats those that the original does not find: it takes them from the last F_START of all WADs to the
-        last F_END (R_InitFlats), and each by the last lump of its name."""
+    def lost_flats(self, names) -> tuple:
+        """Of some flats those that the original does not find, since they come before its flats or after them: it takes
+        them from the last F_START of all WADs to the last F_END (R_InitFlats), and each by the last lump of its name."""
         places = {lump.name: place for place, lump in enumerate(lump for found in self.by_file for lump in found)}
         first, last = places.get('F_START', -1), places.get('F_END', len(places))
-        return sorted(name for name in names if name != SKY and not first < places.get(name, first) < last)
+        known = sorted(name for name in names if name != SKY and name in places)
+        return [name for name in known if places[name] < first], [name for name in known if places[name] > last]

@@ -1,17 +1,18 @@
 """A grid over a level: places where a player can stand, and of each the greatest counts in several directions.
 
-A sector between the places of the grid has one of its own. Cells with high counts are cut in four, twice, and looked at in twice as many directions. A cell stays where it was
-cut; its quarters lie over it."""
+A sector between the places of the grid has one of its own. Cells with high counts are cut in four, twice, and looked at
+in twice as many directions. A cell stays where it was cut; its quarters lie over it."""
 import math
 
 from . import list_counts
-from .counting import COUNTS, is_over
+from .counting import CAPPED, COUNTS, is_over
 from .ground import has_height
 from .levels import EYE_HEIGHT, TURN, UNIT
 from .paths import Row
 
 MOST_PLACES, MOST_CUT = 9000, 700
 CUTS = 2
+FAR = 1.2  # how far a count is past what `limits` counts where most views of its quarters are too
 MANY = 61  # fragments: a view with fewer has no more than 32 solid ranges, each but the last with a gap behind it
 FINER = .7  # the part of a limit, or of the map's greatest count, from which a cell is cut
 SMALL = 16  # the side of a place in a small sector, so that it hides no other
@@ -24,6 +25,7 @@ class Cell:
     def __init__(self, x, y, size, sector, floor, is_reached):
         self.x, self.y, self.size, self.is_reached = x, y, size, is_reached
         self.sector, self.floor = sector, floor
+        self.is_listed = False  # whether its views are likely to have more than `limits` counts
         self.most = {}
 
     def row(self, direction, directions):
@@ -107,20 +109,40 @@ class Grid:
             if (x, y) in self.small:
                 self.small[x, y].size = half
             else:
-                yield from self.place(x, y, half)
+                for place in self.place(x, y, half):
+                    place.is_listed = any(cell.count(name) > FAR * most for name, most in CAPPED.items())
+                    yield place
 
     def looked(self, cells, every):
         """The cells with their counts, in every so many of the directions."""
         directions = range(0, self.directions, every)
-        rows = [cell.row(it, self.directions) for cell in cells for it in directions]
+        self.views += len(cells) * len(directions)
+        self.look([cell for cell in cells if not cell.is_listed], directions)
+        self.look_at_lists([cell for cell in cells if cell.is_listed], directions)
+        return cells
+
+    def look(self, cells, directions):
+        """Counts the views from some cells, and then their solid ranges."""
+        rows = [cell.row(direction, self.directions) for cell in cells for direction in directions]
         found = iter(self.runs.counts(rows, self.what) if rows else [])
-        self.views += len(rows)
         looks = [[(direction, next(found)) for direction in directions] for _ in cells]
         for cell, look in zip(cells, looks):
             for direction, counts in look:
                 self.take(cell, counts, direction)
         self.count_solids(cells, looks)
-        return cells
+
+    def look_at_lists(self, cells, directions):
+        """The same of cells whose views are listed at once, since most would be after they are counted."""
+        rows = [cell.row(direction, self.directions) for cell in cells for direction in directions]
+        found = self.runs.views(rows, self.what) if rows else iter(())
+        for cell in cells:
+            views = {direction: next(found) for direction in directions}
+            for direction, (_, counts) in views.items():
+                self.take(cell, counts, direction)
+            for direction in most_fragments([(direction, counts) for direction, (_, counts) in views.items()]):
+                items, counts = views[direction]
+                ranges = {'solids': list_counts.ranges_of(items, self.is_solid)} if 'fragments' in counts else {}
+                self.take(cell, ranges, direction)
 
     def take(self, cell, counts, direction):
         """Takes the counts of a view."""

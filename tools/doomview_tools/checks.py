@@ -9,7 +9,7 @@ import typing
 
 from . import ground, program, ways
 from .art import Art
-from .findings import ERROR, FAULT, HOLE, ODD, Finding, lines, sectors, several
+from .findings import ERROR, FAULT, HOLE, ODD, Finding, lines, sectors, several, some
 from .game_checks import GameCheck
 from .ground import SKY, TWO_SIDED
 from .levels import PLAYER_1
@@ -112,7 +112,8 @@ class Check:
         for name, places in sorted(found.items()):
             parts = ' '.join(part for part in PARTS if part in {it for _, it in places})
             lines_here = self.lines_with(side for side, _ in places)
-            where = self.lines(lines_here) if lines_here else several('side', (side for side, _ in places)) + ', of no line'
+            of_no_line = several('side', (side for side, _ in places)) + ', of no line'
+            where = self.lines(lines_here) if lines_here else of_no_line
             if name:
                 yield Finding(ERROR, 'texture', where, f'{parts} {name} is in no list of textures'
                               + guess(name, self.art.textures))
@@ -152,10 +153,15 @@ class Check:
         for number, sector in enumerate(self.level.sectors):
             for name in (sector.floor_flat, sector.ceiling_flat):
                 used[name].append(number)
-        for name in self.art.lost_flats(self.art.flats & set(used)):
-            yield Finding(ERROR, 'flat', sectors(used[name]), f'{name} is not between the last F_START and the last '
-                          'F_END of the WADs: the original ends there. A PWAD has its own flats between FF_START and '
-                          'F_END, and no F_START')
+        before, behind = self.art.lost_flats(self.art.flats & set(used))
+        file = ''.join(self.art.files[number] for number in self.art.having('F_START')[-1:])
+        for names, why in ((before, f'before the F_START of {file}, with which the flats of the original begin; call '
+                            'that mark FF_START'),
+                           (behind, 'after the last F_END, with which the flats of the original end; a PWAD has its '
+                            'own between FF_START and F_END')):
+            if names:
+                yield Finding(ERROR, 'flat', sectors(number for name in names for number in used[name]),
+                              f'{some(names)} {"comes" if len(names) == 1 else "come"} {why}. The original ends there')
 
     def odd_lines(self):
         for which in (0, 1):
@@ -173,7 +179,8 @@ class Check:
             if line.flags & TWO_SIDED and back is None and line.back is None:
                 yield Finding(FAULT, 'line', self.lines([number]), 'is two-sided and has no back side')
             if not line.flags & TWO_SIDED and back is not None:
-                yield Finding(ODD, 'line', self.lines([number]), 'has two sides and is not two-sided: it is drawn as a wall')
+                yield Finding(ODD, 'line', self.lines([number]), 'has two sides and is not two-sided: it is drawn as a '
+                              'wall')
 
     def parts(self, number):
         """The wall parts of a line that are seen."""

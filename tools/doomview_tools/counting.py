@@ -139,6 +139,11 @@ class Runs:
         for output in self.outputs('list', rows, what):
             yield from list_counts.counts_of(output, is_solid)
 
+    def views(self, rows, what=''):
+        """Of each row the lines of its items, and its counts, by what `list` says."""
+        for output in self.outputs('list', rows, what):
+            yield from ((items, list_counts.sums_of(last)) for items, last in list_counts.views_of(output))
+
     def drawn(self, job, rows, size):
         """The frame or the trace of each row; None for a view that passes even the raised limits."""
         found = []

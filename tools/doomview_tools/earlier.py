@@ -17,8 +17,7 @@ def numbers_of(path: str) -> dict:
     """The numbers of an earlier run by the names of maps: of one map, or of a map in each line."""
     try:
         with open(path, encoding='utf-8') as file:
-            text = file.read()
-        found = [json.loads(text)] if text.startswith('{\n') else [json.loads(line) for line in text.splitlines()]
+            found = runs_in(file.read().strip())
         for count in (count for numbers in found for state in numbers.get('states', ()) for count in
                       state['counts'].values()):
             parts_of(count)
@@ -27,6 +26,11 @@ def numbers_of(path: str) -> dict:
         raise Trouble(f'cannot read {path}: {error.strerror}') from error
     except (ValueError, KeyError, TypeError, AttributeError) as error:
         raise Trouble(f'{path} is nothing that limits-map --json wrote') from error
+
+
+def runs_in(text: str) -> list:
+    """The numbers of a text: of one map, or of a map in each line."""
+    return [json.loads(text)] if '\n}' in text else [json.loads(line) for line in text.splitlines()]
 
 
 def differences(before: dict, now: dict) -> list:

@@ -77,8 +77,8 @@ class GameCheck:
             found[self.level.lines[number].tag].append(number)
         for tag, numbers in sorted(found.items()):
             if tag:
-                yield Finding(FAULT, 'teleport', lines(numbers, self.level), f'leads to tag {tag}, and no sector of that '
-                              f'has a destination (thing of type {ways.DESTINATION})')
+                yield Finding(FAULT, 'teleport', lines(numbers, self.level), f'leads to tag {tag}, and no sector of '
+                              f'that has a destination (thing of type {ways.DESTINATION})')
 
     def tables(self):
         """What is wrong with REJECT and BLOCKMAP, which doomview does not need."""

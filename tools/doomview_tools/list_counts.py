@@ -65,14 +65,18 @@ def counts_of(output: bytes, is_solid=None):
     """The counts of each view of what `list` writes, by name; with the solid ranges where solid segs are given. Of a
     view over a raised limit it is that count alone."""
     for items, last in views_of(output):
-        found = LAST.fullmatch(last)
-        if found['over']:
-            yield {found['over'].decode(): int(found['count'])}
-            continue
-        counts = {name: int(found[name]) for name in ('planes', 'openings', 'fragments', 'sprites')}
-        if is_solid:
+        counts = sums_of(last)
+        if is_solid and 'fragments' in counts:
             counts['solids'] = ranges_of(items, is_solid)
         yield counts
+
+
+def sums_of(last: bytes) -> dict:
+    """The counts in the last line of a view, without solid ranges."""
+    found = LAST.fullmatch(last)
+    if found['over']:
+        return {found['over'].decode(): int(found['count'])}
+    return {name: int(found[name]) for name in ('planes', 'openings', 'fragments', 'sprites')}
 
 
 def views_of(output: bytes):

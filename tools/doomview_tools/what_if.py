@@ -83,10 +83,15 @@ def goals_of(weights, field, value):
     return near if field in HEIGHTS else list(dict.fromkeys([*near, *others[:1]]))
 
 
+def has_room(sector, change) -> bool:
+    """Whether the floor of a sector stays below its ceiling by a change, or is not below it now."""
+    changed = sector._replace(**{change.field: change.after})
+    return changed.ceiling > changed.floor or sector.ceiling <= sector.floor
+
+
 def weighed(level, change, weight):
     """A change with its weight, of the sectors whose floor stays below their ceiling; none if there are none."""
-    sectors = tuple(number for number in change.sectors for sector in [level.sectors[number]._replace(
-        **{change.field: change.after})] if sector.ceiling > sector.floor or level.sectors[number].ceiling <= sector.floor)
+    sectors = tuple(number for number in change.sectors if has_room(level.sectors[number], change))
     if sectors:
         yield weight, change._replace(sectors=sectors)
 

@@ -141,7 +141,8 @@ class LimitsMap(Tools):
         counts = found['states'][0]['counts']
         self.assertEqual([(counts[name]['limit'], counts[name]['over']) for name in words[::2] for name in [name[2:]]],
                          [(512, 0), (600, 0), (200, 0), (50, 0)])
-        self.assertEqual((status, self.looked('--fragments', '300')[1]['states'][0]['counts']['fragments']['limit']), (0, 300))
+        fragments = self.looked('--fragments', '300')[1]['states'][0]['counts']['fragments']
+        self.assertEqual((status, fragments['limit']), (0, 300))
         words = ['hall.wad', 'MAP01', 'page.html', '--shut', *COARSE]
         status, output, _ = self.run_tool('limits-map', *words, doomview=self.counting)
         self.assertIn(f'<pre id="plain">{output.decode()}</pre>', self.read('page.html'))  # for an old browser
@@ -378,7 +379,9 @@ class LimitsMap(Tools):
         lines = iter(self.run_tool(*words, doomview=TESTED)[1].decode().splitlines())
         for place in places:
             for i, count in enumerate(names):
-                self.assertIn(f' {count} {place[6 + 2 * i]} ', next(lines) + ' ')
+                line = next(lines) + ' '
+                if count != 'solids':  # which `limits` does not count
+                    self.assertIn(f' {count} {place[6 + 2 * i]} ', line)
 
 
 if __name__ == '__main__':

@@ -60,23 +60,26 @@ class Kinds(Tools):
     def test_flats(self):
         """Flats that doomview draws and the original does not find."""
         made = Map('....', **{'.': {'below': 'MYFLAT'}})
-        self.finds(made, 'error flat: sector 0: BOARDS is not between the last F_START', lumps=own_flat('F_START', 'F_END'))
-        self.finds(made, 'error flat: sector 0: MYFLAT is not between', lumps=own_flat('FF_START', 'FF_END'))
+        self.finds(made, f'error flat: sector 0: BOARDS comes before the F_START of {self.at("made.wad")}, with which',
+                   'call that mark FF_START. The original ends there', lumps=own_flat('F_START', 'F_END'))
+        self.finds(made, 'error flat: sector 0: MYFLAT comes after the last F_END', 'between FF_START and F_END',
+                   lumps=own_flat('FF_START', 'FF_END'))
 
     def test_things(self):
-        self.finds(Map('....', things=[(7, 3, 999, 0, 7)]), 'error thing: thing 1: type 999 at 224, 96 is none of the game')
+        self.finds(Map('....', things=[(7, 3, 999, 0, 7)]), 'error thing: thing 1: type 999 at 224, 96 is none of the')
         self.finds(Map('....', things=[(7, 3, 999, 0, 8)]), 'odd thing: thing 1: type 999 ', 'never appears', status=0)
         self.finds(Map('....', things=[(7, 3, 0, 0, 7)]), 'odd thing: thing 1: type 0 ', status=0)
         self.finds(Map('....', things=[(1, 1, LAMP, 0, 8)]), 'fault thing: thing 1: type 2028 at 32, 160 is outside')
 
     def test_specials_of_sectors(self):
         for special in (6, 15, 18, -1):
-            self.finds(Map('..xx', x={'special': special}), f'error sector: sector 1: special {special} is none of the game')
+            self.finds(Map('..xx', x={'special': special}), f'error sector: sector 1: special {special} is none of')
         self.finds(Map('..xx', x={'special': 6, 'floor': 99}), 'odd sector: sector 1: special 6', 'none comes', status=0)
 
     def test_specials_of_lines(self):
         wide = '.' * 33
-        self.finds(with_special(Map(wide), '.', lines=65, special=SCROLL), 'error line: lines 0 1 3 4 6 7 9 10 and 57 more (the first 64,64 to 64,128)', '65 lines')
+        self.finds(with_special(Map(wide), '.', lines=65, special=SCROLL),
+                   'error line: lines 0 1 3 4 6 7 9 10 and 57 more (the first 64,64 to 64,128)', '65 lines')
         self.finds(with_special(Map('..'), '.', lines=1, special=DOOR), 'error door: line 0 (64,64 to 64,128): special 1')
         self.finds(with_special(Map('..x'), '.', 'x', special=LIFT, tag=7), 'fault tag: line ', 'acts on tag 7, which')
         self.finds(with_special(Map('..x'), '.', 'x', special=LIFT), 'fault tag: line ', 'has no tag')
@@ -143,22 +146,25 @@ class Kinds(Tools):
         yield 'a donut', with_special(Map('..r', 'rrt', t={'tag': 4}), '.', lines=1, special=DONUT, tag=4), []
         yield '64 lines that scroll', with_special(Map('.' * 33), '.', lines=64, special=SCROLL), []
         yield 'all specials of sectors', Map('.abcdefghijklmn', **{
-            letter: {'special': special} for letter, special in zip('abcdefghijklmn', [1, 2, 3, 4, 5, 7, 8, 9, 10, 11, 12, 13,
-                                                                                       14, 17])}), []
+            letter: {'special': special} for letter, special in zip(
+                'abcdefghijklmn', [1, 2, 3, 4, 5, 7, 8, 9, 10, 11, 12, 13, 14, 17])}), []
         yield 'GL nodes beside plain ones', Map('....'), gl_nodes
-        yield 'textures of its own, merged', Map('....', **{'.': {'wall': 'MINE'}}), [*lists('MINE'), ('MINE', ART['BRICKS'])]
+        merged = [*lists('MINE'), ('MINE', ART['BRICKS'])]
+        sky = {'.': {'above': 'F_SKY1'}, 's': {'above': 'F_SKY1', 'ceiling': 96}}
+        water, pit = {'floor': -32, 'below': 'MOSS'}, {'floor': -64}
+        yield 'textures of its own, merged', Map('....', **{'.': {'wall': 'MINE'}}), merged
         yield 'flats of its own', Map('....', **{'.': {'below': 'MYFLAT'}}), own_flat('FF_START', 'F_END')
         yield 'a long REJECT', with_lumps(Map('.abc'), REJECT=bytes(99)), []
         yield 'a second player and a voodoo doll', Map('....', things=[(5, 3, 1, 0, 7), (7, 3, 2, 0, 7)]), []
-        yield 'sky over different heights', Map('..s', **{'.': {'above': 'F_SKY1'}, 's': {'above': 'F_SKY1', 'ceiling': 96}}), []
+        yield 'sky over different heights', Map('..s', **sky), []
         yield 'a bars in a window', Map('..w', w={'floor': 32, 'ceiling': 128}), []
         yield 'a pit of water', Map('..w', w={'floor': -64, 'below': 'MOSS', 'special': 7}), []
         yield 'a niche, too low for a player', Map('..n', n={'floor': 40, 'ceiling': 80}), []
         yield 'a sector of two parts', Map('.x..x.'), []
         yield 'a hall that is not reached', Map('..#xx'), []
         yield 'a sector of its own on both sides', self_referencing('.....', '..x#.', '.....'), []
-        yield 'deep water', self_referencing('......', '..xxx#', '..xxx#', '......', x={'floor': -32, 'below': 'MOSS'}), []
-        yield 'a bridge that is not seen', self_referencing('pppppp', '..bb#.', 'pppppp', start=(3, 5), p={'floor': -64}), []
+        yield 'deep water', self_referencing('......', '..xxx#', '..xxx#', '......', x=water), []
+        yield 'a bridge that is not seen', self_referencing('pppppp', '..bb#.', 'pppppp', start=(3, 5), p=pit), []
 
     def test_right(self):
         count = 0
@@ -179,8 +185,9 @@ class Kinds(Tools):
     def test_art(self):
         """Which flats the original does not find: by the last marks and the last lump of a name."""
         game = [('F_START', b''), ('ONE', FLAT), ('F1_END', b''), ('TWO', FLAT), ('F_END', b'')]
-        for own, lost in [([], []), ([('ONE', FLAT)], ['ONE']), (own_flat('F_START', 'F_END'), ['ONE', 'TWO']),
-                          (own_flat('FF_START', 'F_END'), []), (own_flat('FF_START', 'FF_END'), ['MYFLAT'])]:
+        for own, lost in [([], ([], [])), ([('ONE', FLAT)], ([], ['ONE'])),
+                          (own_flat('F_START', 'F_END'), (['ONE', 'TWO'], [])), (own_flat('FF_START', 'F_END'), ([], [])),
+                          (own_flat('FF_START', 'FF_END'), ([], ['MYFLAT']))]:
             files = [self.write('one.wad', wads.packed(game)), self.write('two.wad', wads.packed(own, b'PWAD'))]
             names = {'ONE', 'TWO', 'F_SKY1', *([] if len(own) < 2 else ['MYFLAT'])}
             self.assertEqual(art.Art(files).lost_flats(names), lost, own)

@@ -89,7 +89,8 @@ class Ranges(unittest.TestCase):
     def test_ranges(self):
         """Walls that touch none make a range more; one between two takes away none, as in the original."""
         for walls, most in [([], 2), ([[(100, 110)]], 3), ([[(0, 9)]], 2), ([[(100, 110)], [(120, 130)]], 4),
-                            ([[(100, 110)], [(111, 130)]], 3), ([[(100, 110)], [(120, 130)], [(111, 119)], [(200, 210)]], 5),
+                            ([[(100, 110)], [(111, 130)]], 3),
+                            ([[(100, 110)], [(120, 130)], [(111, 119)], [(200, 210)]], 5),
                             ([[(10, 19)], [(30, 39)], [(50, 59)], [(20, 29), (40, 49)], [(100, 101)]], 5)]:
             self.assertEqual(list_counts.most_ranges(walls), most, walls)
 

@@ -54,9 +54,10 @@ def add_words(parser):
     parser.add_argument('page', metavar='OUT.html', nargs='?', help='the page, whose name ends in .html')
     parser.add_argument('--all-maps', metavar='FOLDER', help='looks at all maps of the WAD, prints a line for each, and '
                         'writes a page of each and an index.html to FOLDER')
-    parser.add_argument('--json', action='store_true', help='prints the numbers as JSON; with --all-maps each map in a line')
-    parser.add_argument('--before', metavar='OLD.json', help='what --json wrote earlier: says what got worse or better since, '
-                        'also on the page')
+    parser.add_argument('--json', action='store_true', help='prints the numbers as JSON; with --all-maps each map in a '
+                        'line')
+    parser.add_argument('--before', metavar='OLD.json', help='what --json wrote earlier: says what got worse or better '
+                        'since, also on the page')
     parser.add_argument('--worst', metavar='FILE', help='writes the worst views of each count as a camera path to FILE')
     parser.add_argument('--opened', metavar='FILE', help='writes the map with its doors open as a WAD to FILE, which goes '
                         'behind the WADs of a job')
