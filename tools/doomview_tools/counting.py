@@ -5,7 +5,7 @@ import signal
 import subprocess
 import sys
 
-from . import paths, program
+from . import paths, program, system
 from .explanations import explained
 from .files import write_whole
 from .trouble import Ended
@@ -16,7 +16,7 @@ CAPPED = ['fragments', 'sprites']  # which `limits` counts no further than to th
 RAISED = ['--planes', '1024', '--openings', '245760']  # so that what is over the original's limit is counted too
 LEAST_ROWS, PARTS = 400, 3  # rows of a run, and runs for each processor, so that all end at about the same time
 USAGE, TROUBLE, LIMIT = 1, 2, 5  # statuses
-ENDING = (signal.SIGINT, signal.SIGTERM, signal.SIGHUP)
+ENDING = system.signals('SIGINT', 'SIGTERM', 'SIGHUP')
 
 
 def is_over(name, count, limits):

@@ -11,7 +11,7 @@ import signal
 import subprocess
 import tempfile
 
-from . import home, tables
+from . import home, system, tables
 from .files import WholeFile, is_terminal, write_whole
 from .jobs import LEVEL_JOBS, USAGE, WRITE_FAULT, Words, wrong_words
 from .trouble import Ended, Trouble
@@ -19,7 +19,7 @@ from .trouble import Ended, Trouble
 NO_PROGRAM = 70  # the status where there is no run
 SECONDS = 300  # that a run of the sources without proofs may take
 SHOWN = 5  # lines of what rt said where there was no run
-IGNORED = (signal.SIGPIPE, signal.SIGXFSZ)  # by Python, and not by the program
+IGNORED = system.signals('SIGPIPE', 'SIGXFSZ')  # by Python, and not by the program
 
 Run = collections.namedtuple('Run', 'status output line said')
 
@@ -203,7 +203,7 @@ def replace(words):
     for number in IGNORED:
         signal.signal(number, signal.SIG_DFL)
     try:
-        if held_files:
+        if held_files or system.IS_WINDOWS:  # which has no process take the place of another
             status = subprocess.run([program, *words], env=environment()).returncode
             return status if status >= 0 else 128 - status
         os.execve(program, [program, *words], environment())
