@@ -39,8 +39,9 @@ class Cell:
 class Grid:
     """The cells of a level. `directions` is the number of those in which finer cells are looked at."""
 
-    def __init__(self, ground, runs, reached, options, what=''):
-        self.ground, self.runs, self.reached, self.limits, self.what = ground, runs, reached, options.limits, what
+    def __init__(self, ground, runs, reach, options, what=''):
+        self.ground, self.runs, self.limits, self.what = ground, runs, options.limits, what
+        self.reached, self.wanted = reach
         self.everywhere, self.directions = options.all, 2 * options.directions
         self.views, self.over = 0, dict.fromkeys(COUNTS, 0)
         self.step, places = self.coarse(options.step)

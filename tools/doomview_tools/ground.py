@@ -1,4 +1,4 @@
-"""Where a player can stand in a level: between its lines, with room, off the walls, and on a way from a start.
+"""Where a player can stand in a level: between its lines, with room, off the walls. Where he gets: ways.
 
 A row is a y between two whole numbers, so that no vertex lies on it."""
 import bisect
@@ -9,7 +9,6 @@ from .wads import MAP_LUMPS, packed
 
 HEIGHT, RADIUS, STEP_UP = 56, 16, 24  # of a player, in map units
 STARTS = {1, 2, 3, 4, 11}  # types of things: of players, and of a deathmatch
-TELEPORTS = {39, 97, 125, 126, 174, 195, 207, 208, 209, 210, 243, 244, 262, 263}  # specials of lines
 BLOCKS = 1  # the flag of a line that nobody passes
 SKY = 'F_SKY1'
 LINTEL = 4  # what a door that is open keeps of its height below the ceiling beside it
@@ -67,33 +66,6 @@ class Plan:
     def is_wall(self, number):
         """Whether a player cannot pass a line, whatever moves beside it."""
         return None in self.beside[number] or bool(self.level.lines[number].flags & BLOCKS)
-
-    def reached(self):
-        """The sectors that a player may come to from a start: rather too many than too few, since what moves, what has
-        a tag and each line with a special lets pass. None where no start leads anywhere."""
-        ways = self.ways()
-        found = {self.level.sector_at(thing.x, thing.y) for thing in self.level.things if thing.type in STARTS}
-        left = list(found)
-        while left:
-            more = ways[left.pop()] - found
-            found |= more
-            left += more
-        return found
-
-    def ways(self):
-        """Of each sector those that a player may step into."""
-        sectors, ways = self.level.sectors, collections.defaultdict(set)
-        moves = {number for number, it in enumerate(sectors) if it.tag or it.ceiling <= it.floor}
-        for number, line in enumerate(self.level.lines):
-            front, back = self.beside[number]
-            if line.special in TELEPORTS and front is not None:
-                ways[front].update(other for other, it in enumerate(sectors) if it.tag == line.tag)
-            if self.is_wall(number):
-                continue
-            for one, other in ((front, back), (back, front)):
-                if line.special or {one, other} & moves or is_step(sectors[one], sectors[other]):
-                    ways[one].add(other)
-        return ways
 
     def doors(self):
         """The ceilings that doors have once they are open, by the least one beside each. A door is a shut sector with a

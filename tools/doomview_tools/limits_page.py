@@ -132,7 +132,7 @@ def limits_page(plan, wads, states, palette, options, doors, plain):
             'counts': COUNTS, 'limits': options.limits, 'capped': CAPPED, 'directions': grid.directions,
             'vertexes': columns(level.vertexes), 'sectors': len(level.sectors), 'reached': len(grid.reached),
             'lines': columns([*line[:2], int(plan.is_wall(number))] for number, line in enumerate(level.lines)),
-            'doors': sorted(doors), 'doubts': [pair for pair, _ in grid.ground.doubts.most_common(20)],
+            'doors': sorted(doors), 'noWay': list(grid.wanted), 'doubts': [pair for pair, _ in grid.ground.doubts.most_common(20)],
             'states': [state.packed(names, options.views) for state in states]}
     pictures = sorted((it for state in states for it in state.pictures(palette)), key=lambda it: it[0])
     put_in([it[1:] for it in pictures], room_in(data, plain) - len(pictures) * WORDS)

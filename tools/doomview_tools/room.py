@@ -1,8 +1,10 @@
 """A WAD of one small level, MAP01: what `doomview picture` draws where no WAD is named.
 
-Level and art are made here, so nothing of a game is in it. A letter of PLAN is a square of 64 map units of the
-floor and ceiling that SQUARES has for it; a # is solid. Each square is a leaf, and lines stand between squares."""
+Level and art are made here, so nothing of a game is in it. A letter of a plan is a square of 64 map units of the
+floor and ceiling that SQUARES has for it; a # is solid. Each square is a leaf, and lines are between squares."""
+import functools
 import struct
+import typing
 
 from .wads import packed
 
@@ -22,13 +24,30 @@ PLAN = ['################',
         '######......####',
         '######......####',
         '################']
-SIDE = 64
-# Of each letter: floor, ceiling, flats of both, light, and the texture of walls around it.
-SQUARES = {'.': (0, 160, 'TILES', 'BOARDS', 176, 'BRICKS'), 's': (0, 208, 'TILES', 'F_SKY1', 232, 'BRICKS'),
-           'w': (-16, 208, 'MOSS', 'F_SKY1', 224, 'BRICKS'), 'l': (0, 80, 'MOSS', 'BOARDS', 96, 'PANELS'),
-           '1': (12, 160, 'BOARDS', 'BOARDS', 184, 'PANELS'), '2': (24, 160, 'BOARDS', 'BOARDS', 192, 'PANELS'),
-           '3': (36, 160, 'BOARDS', 'BOARDS', 200, 'PANELS'), 'p': (48, 160, 'BOARDS', 'BOARDS', 208, 'BRICKS'),
-           'g': (48, 192, 'MOSS', 'F_SKY1', 248, 'BRICKS'), 'k': (72, 72, 'MOSS', 'F_SKY1', 248, 'BRICKS')}
+SIDE, BLOCK = 64, 128  # of a square, and of a block of BLOCKMAP
+
+
+class Square(typing.NamedTuple):
+    """A letter of a plan, whose squares are one sector: heights in map units, light 0 to 255."""
+
+    floor: int
+    ceiling: int
+    below: str  # flat
+    above: str
+    light: int
+    wall: str  # texture of the walls around it
+    special: int = 0
+    tag: int = 0
+
+
+SQUARES = {'.': Square(0, 160, 'TILES', 'BOARDS', 176, 'BRICKS'), 's': Square(0, 208, 'TILES', 'F_SKY1', 232, 'BRICKS'),
+           'w': Square(-16, 208, 'MOSS', 'F_SKY1', 224, 'BRICKS'), 'l': Square(0, 80, 'MOSS', 'BOARDS', 96, 'PANELS'),
+           '1': Square(12, 160, 'BOARDS', 'BOARDS', 184, 'PANELS'),
+           '2': Square(24, 160, 'BOARDS', 'BOARDS', 192, 'PANELS'),
+           '3': Square(36, 160, 'BOARDS', 'BOARDS', 200, 'PANELS'),
+           'p': Square(48, 160, 'BOARDS', 'BOARDS', 208, 'BRICKS'),
+           'g': Square(48, 192, 'MOSS', 'F_SKY1', 248, 'BRICKS'), 'k': Square(72, 72, 'MOSS', 'F_SKY1', 248, 'BRICKS')}
+STAIRS = '123p'  # squares with boards on their steps
 GRATED = {'g', 'p'}  # between these two squares stands a grate
 START, LAMP = 1, 2028  # types of things
 ALWAYS, HARDER = 7, 6  # in every skill; not in skills 1 and 2
@@ -140,42 +159,44 @@ def textures(patches):
 
 
 class Level:
-    """The eight lumps, square by square."""
+    """The lumps of a level, square by square: rows of letters from north to south, what the letters are, and the things
+    with their places in halves of a square, counted from the north-west corner."""
 
-    def __init__(self):
-        self.kinds = list(SQUARES)
-        self.open = [(x, y) for y, row in enumerate(PLAN) for x, letter in enumerate(row) if letter in SQUARES]
+    def __init__(self, plan=PLAN, squares=SQUARES, things=THINGS):
+        self.plan, self.squares, self.placed = plan, squares, things
+        self.kinds = list(squares)
+        self.open = [(x, y) for y, row in enumerate(plan) for x, letter in enumerate(row) if letter in squares]
         self.vertices, self.lines, self.sides, self.segs, self.nodes = {}, {}, [], [], []
         self.leaves = {}
         for square in self.open:
-            self.add_leaf(square)
+            self.add_leaf(square, set(self.open))
         self.add_node(self.open)
 
     def vertex(self, x, y):
-        return self.vertices.setdefault((SIDE * x, SIDE * (len(PLAN) - y)), len(self.vertices))
+        return self.vertices.setdefault((SIDE * x, SIDE * (len(self.plan) - y)), len(self.vertices))
 
     def side(self, here, there):
         """The number of a new side that looks into the square `here`."""
-        kind = PLAN[here[1]][here[0]]
-        wall = SQUARES[kind][5]
+        kind = self.plan[here[1]][here[0]]
+        wall = self.squares[kind].wall
         if there is None:
             parts = '-', '-', wall
         else:
-            other = PLAN[there[1]][there[0]]
-            step = 'PANELS' if other in '123p' else SQUARES[other][5]
+            other = self.plan[there[1]][there[0]]
+            step = 'PANELS' if other in STAIRS else self.squares[other].wall
             parts = wall, step, 'BARS' if {kind, other} == GRATED else '-'
         top, bottom, middle = map(name, parts)
         self.sides.append(struct.pack('<hh8s8s8sH', 0, 0, top, bottom, middle, self.kinds.index(kind)))
         return len(self.sides) - 1
 
-    def add_leaf(self, square):
+    def add_leaf(self, square, others):
         """A leaf with a seg for each edge of the square, clockwise, so that it lies on their right."""
         x, y = square
         corners = [(x, y + 1), (x, y), (x + 1, y), (x + 1, y + 1)]
         first = len(self.segs)
         for edge, (dx, dy) in enumerate([(-1, 0), (0, -1), (1, 0), (0, 1)]):
             there = (x + dx, y + dy)
-            there = there if there in self.open else None
+            there = there if there in others else None
             start, end = self.vertex(*corners[edge]), self.vertex(*corners[(edge + 1) % 4])
             if (end, start) in self.lines:
                 line, direction = self.lines[end, start][0], 1
@@ -190,7 +211,7 @@ class Level:
 
     def box(self, squares):
         columns, rows = [x for x, _ in squares], [y for _, y in squares]
-        height = len(PLAN)
+        height = len(self.plan)
         return [SIDE * (height - min(rows)), SIDE * (height - max(rows) - 1),
                 SIDE * min(columns), SIDE * (max(columns) + 1)]
 
@@ -204,36 +225,67 @@ class Level:
         low = [square for square in squares if square[axis] < cut]
         high = [square for square in squares if square[axis] >= cut]
         if axis == 0:  # the line goes north, and the east is in front
-            front, back, line = high, low, [SIDE * cut, 0, 0, SIDE * len(PLAN)]
+            front, back, line = high, low, [SIDE * cut, 0, 0, SIDE * len(self.plan)]
         else:  # the line goes east, and the south is in front
-            front, back, line = high, low, [0, SIDE * (len(PLAN) - cut), SIDE * len(PLAN[0]), 0]
+            front, back, line = high, low, [0, SIDE * (len(self.plan) - cut), SIDE * len(self.plan[0]), 0]
         children = self.add_node(front), self.add_node(back)
         self.nodes.append(struct.pack('<12h2H', *line, *self.box(front), *self.box(back), *children))
         return len(self.nodes) - 1
 
     def things(self):
-        height = len(PLAN)
+        height = len(self.plan)
         return b''.join(struct.pack('<hhhHH', SIDE * x // 2, SIDE * height - SIDE * y // 2, angle, kind, skills)
-                        for x, y, kind, angle, skills in THINGS)
+                        for x, y, kind, angle, skills in self.placed)
 
     def sectors(self):
-        return b''.join(struct.pack('<hh8s8shhh', floor, ceiling, name(below), name(above), light, 0, 0)
-                        for floor, ceiling, below, above, light, _ in SQUARES.values())
+        return b''.join(struct.pack('<hh8s8shhh', one.floor, one.ceiling, name(one.below), name(one.above), one.light,
+                                    one.special, one.tag) for one in self.squares.values())
+
+    def blockmap(self):
+        """Of each block of 128 map units the lines that touch it: their numbers between a 0 and a -1."""
+        columns, rows = (SIDE * len(part) // BLOCK + 1 for part in (self.plan[0], self.plan))
+        lists = [[0, *self.touching(number % columns * BLOCK, number // columns * BLOCK), 0xffff]
+                 for number in range(columns * rows)]
+        first = 4 + len(lists)
+        offsets = [first + sum(map(len, lists[:number])) for number in range(len(lists))]
+        words = [0, 0, columns, rows, *offsets, *(word for one in lists for word in one)]
+        return struct.pack(f'<{len(words)}H', *words)
+
+    def touching(self, x, y):
+        """The numbers of the lines that touch a block."""
+        points = list(self.vertices)
+        for number, ends in enumerate(self.lines):
+            pairs = zip((x, y), *(points[end] for end in ends))
+            if all(min(one, other) <= low + BLOCK and max(one, other) >= low for low, one, other in pairs):
+                yield number
 
     def lumps(self):
         return [('MAP01', b''), ('THINGS', self.things()),
                 ('LINEDEFS', b''.join(line for _, line in self.lines.values())), ('SIDEDEFS', b''.join(self.sides)),
                 ('VERTEXES', b''.join(struct.pack('<hh', *point) for point in self.vertices)),
                 ('SEGS', b''.join(self.segs)), ('SSECTORS', b''.join(leaf for _, leaf in self.leaves.values())),
-                ('NODES', b''.join(self.nodes)), ('SECTORS', self.sectors())]
+                ('NODES', b''.join(self.nodes)), ('SECTORS', self.sectors()),
+                ('REJECT', bytes((len(self.squares) ** 2 + 7) // 8)), ('BLOCKMAP', self.blockmap())]
 
 
 def room():
     """The bytes of the WAD."""
+    return with_art(Level().lumps())
+
+
+@functools.cache
+def art():
+    """The lumps of the room before its level, and those behind it."""
     patches = [('BRICKS', patch(64, 128, 0, 0, bricks)), ('PANELS', patch(64, 128, 0, 0, panels)),
                ('BARS', patch(64, 128, 0, 0, bars)), ('SKY1', patch(256, 128, 0, 0, sky))]
     flats = [('TILES', flat(tiles(GREY, 32, 12))), ('BOARDS', flat(tiles(WOOD, 16, 14))),
              ('MOSS', flat(tiles(LEAF, 8, 14)))]
-    return packed([('PLAYPAL', palette()), ('COLORMAP', colormap()), *Level().lumps(), *textures(patches), *patches,
-                ('F_START', b''), *flats, ('F_END', b''),
-                ('S_START', b''), ('COLUA0', patch(32, 64, 16, 64, lamp)), ('S_END', b'')])
+    return ([('PLAYPAL', palette()), ('COLORMAP', colormap())],
+            [*textures(patches), *patches, ('F_START', b''), *flats, ('F_END', b''),
+             ('S_START', b''), ('COLUA0', patch(32, 64, 16, 64, lamp)), ('S_END', b'')])
+
+
+def with_art(level):
+    """The bytes of a WAD with the lumps of a level, and the art of the room."""
+    before, behind = art()
+    return packed([*before, *level, *behind])

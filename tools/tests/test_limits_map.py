@@ -11,7 +11,7 @@ import unittest
 
 import pages_shown
 from made_files import COMMAND, Tools, name, wad
-from doomview_tools import cells, counting, ground, levels, limits_page, traces
+from doomview_tools import cells, counting, ground, levels, limits_page, traces, ways
 
 COARSE = ['--step', '256', '--directions', '4']
 TESTED = os.environ.get('DOOMVIEW_TESTED', '')
@@ -97,7 +97,7 @@ class LimitsMap(Tools):
         self.assertEqual([place(x, y) for x, y in [(256, 256.5), (800, 256.5), (2150, 150.5)]], [0, 2, 3])
         nowhere = [(544, 256.5), (1500, 100.5), (8, 256.5), (256, 600.5), (-9, 9.5)]
         self.assertEqual([place(x, y) for x, y in nowhere], [None] * 5)
-        self.assertEqual(plan.reached(), {0, 1, 2})
+        self.assertEqual(ways.reach(plan), ({0, 1, 2}, {}))
         self.assertEqual(plan.doors(), {1: 124})
         patch = self.write('open.wad', ground.with_ceilings(plan.level, plan.doors()))
         opened = ground.Plan(levels.read([patch], 'MAP01'))
@@ -129,6 +129,20 @@ class LimitsMap(Tools):
         self.assertEqual((status, lines[0]), (1, 'MAP01 of hall.wad: a player reaches 3 of its 4 sectors'))
         self.assertRegex(lines[1], r'^doors shut: \d+ views from \d+ places$')
         self.assertRegex(lines[4], r'^  fragments most 256 or more of 256, \d+ views over, row [-\d]+(,[-\d]+){3}$')
+
+    def test_no_way(self):
+        """What a player wants is looked at where no way leads to it, and said."""
+        key = struct.pack('<hhhHH', 2150, 150, 0, 5, 7)
+        lumps = {**dict(hall()), 'THINGS': dict(hall())['THINGS'] + key * 5}
+        self.write('hall.wad', wad([('PLAYPAL', bytes(range(256)) * 3), ('MAP01', b''), *lumps.items()]))
+        status, found = self.looked('--shut', 'page.html')
+        self.assertEqual((status, found['reached'], found['no_way'][0]['sector']), (1, 4, 3))
+        self.assertEqual(found['no_way'][0]['things'][0], {'thing': 1, 'what': 'blue keycard'})
+        self.assertEqual(found['states'][0]['places'], self.looked('--shut', '--all')[1]['states'][0]['places'])
+        output = self.run_tool('limits-map', 'hall.wad', 'MAP01', '--shut', *COARSE, doomview=self.counting)[1].decode()
+        self.assertIn('no way was found to sector 3, which is looked at all the same: blue keycard (thing 1), blue '
+                      'keycard (thing 2), blue keycard (thing 3) and 2 more\n', output)
+        self.assertEqual(pages_shown.data_of(self.at('page.html'))['noWay'], [3])
 
     def test_page(self):
         """Each number of the page is that which doomview gave for its row."""
@@ -162,7 +176,7 @@ class LimitsMap(Tools):
         """A page of as many places and views as there can be is no larger than 3 MB, and the worst have pictures."""
         plan = ground.Plan(levels.read([self.hall], 'MAP01'))
         options = types.SimpleNamespace(limits=counting.LIMITS, all=True, step=8, directions=8, views=20)
-        states = [limits_page.State(label, cells.Grid(ground.Ground(plan), Made(), {0, 1, 2}, options), Made())
+        states = [limits_page.State(label, cells.Grid(ground.Ground(plan), Made(), ways.reach(plan), options), Made())
                   for label in ('shut', 'open')]
         self.assertGreater(min(len(state.grid.cells) for state in states), 9000)
         made = limits_page.limits_page(plan, [self.hall], states, bytes(768), options, {1: 124}, '')

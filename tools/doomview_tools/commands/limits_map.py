@@ -3,7 +3,7 @@ import json
 import os
 import tempfile
 
-from .. import cli, counting, ground, jobs, levels, paths, system, wads
+from .. import cli, counting, ground, jobs, levels, paths, system, wads, ways
 from ..cells import Grid
 from ..counting import COUNTS, LIMITS, Progress, Runs
 from ..files import check_target, write_output, write_whole
@@ -13,6 +13,7 @@ from ..trouble import Trouble
 
 OVER = 1
 LEAST_STEP, MOST_STEP = 8, 1024
+SHOWN = 3  # things of a sector
 WITHOUT = ('--path', '--planes', '--openings', '--weapon')  # options of limits that the tool gives itself, or not
 PAGE = cli.Page(
     'limits-map', 'what the views of a whole map count, as a page: planes, openings, fragments, sprites', '''
@@ -21,7 +22,10 @@ and prints of each count the greatest with the row of its view. The original end
 openings; 256 fragments and 128 sprites are counted no further, and count as over here, since it draws no more of them.
 
 It looks from places of a grid at which a player can stand: within the lines, 56 units of height, 16 off the walls, in
-sectors to which a way leads from a start, the eye 41 over the floor, in 8 directions. Places with high counts are cut
+sectors to which a way leads from a start, the eye 41 over the floor, in 8 directions. A way leads over steps of up to
+24 units, down falls of any depth, over gaps that a running jump passes (242 units wide to a floor of the same height),
+through what moves, has a tag or a special, and by teleports. A sector with a thing that a player wants (a key, a
+weapon, health) is looked at too though no way to it was found, and is named. Places with high counts are cut
 in four, twice, and looked at in 16. All is counted a second time with the doors open: each sector without height that
 has a tag, or is behind a line with a special, is raised to 4 under the lowest ceiling beside it. A view that was counted
 so has these counts in that map alone, which --opened writes.
@@ -92,14 +96,22 @@ def numbers(plan, states, options):
               'step': state.grid.step, 'counts': {name: of_count(state.grid, name) for name in COUNTS}}
              for state in states]
     return {'map': plan.level.name, 'wad': plan.level.wad, 'sectors': len(plan.level.sectors),
-            'reached': len(states[0].grid.reached), 'over': any(state.grid.is_bad() for state in states),
-            'states': shown}
+            'reached': len(states[0].grid.reached), 'no_way': no_way(plan.level, states[0].grid.wanted),
+            'over': any(state.grid.is_bad() for state in states), 'states': shown}
+
+
+def no_way(level, wanted):
+    """The sectors with things that a player wants and to which no way was found, with these things."""
+    return [{'sector': sector, 'things': [{'thing': number, 'what': ways.WANTED[level.things[number].type]}
+                                          for number in things]} for sector, things in wanted.items()]
 
 
 def summary(found):
     """The numbers as lines for a user."""
     name = os.path.basename(found['wad'])
     yield f'{found["map"]} of {name}: a player reaches {found["reached"]} of its {found["sectors"]} sectors'
+    for one in found['no_way']:
+        yield f'no way was found to sector {one["sector"]}, which is looked at all the same: {things_told(one)}'
     for state in found['states']:
         yield f'doors {state["doors"]}: {state["views"]} views from {state["places"]} places'
         for name, it in state['counts'].items():
@@ -109,18 +121,25 @@ def summary(found):
             yield f'  {name:9} most {most} of {it["limit"]}, {over}, row {row}'
 
 
+def things_told(one):
+    """The things of a sector, in words."""
+    shown = [f'{thing["what"]} (thing {thing["thing"]})' for thing in one['things'][:SHOWN]]
+    more = len(one['things']) - SHOWN
+    return ', '.join(shown) + (f' and {more} more' if more > 0 else '')
+
+
 def states_of(plan, runs, options, folder, progress):
     """The map with its doors shut, and open unless that is left out."""
-    reached, doors = plan.reached(), plan.doors()
-    if not reached and not options.all:
+    reach, doors = ways.reach(plan), plan.doors()
+    if not reach.sectors and not options.all:
         raise plan.level.error('has no start of a player; --all looks from all places')
-    found = [State('shut', Grid(ground.Ground(plan), runs, reached, options, 'doors shut, '), runs)]
+    found = [State('shut', Grid(ground.Ground(plan), runs, reach, options, 'doors shut, '), runs)]
     if doors and not options.shut:
         path = os.path.join(folder, 'open.wad')
         write_whole(path, ground.with_ceilings(plan.level, doors))
         opened = ground.Plan(levels.read([path], plan.level.name))
         more = runs.over(options.files, path)
-        found.append(State('open', Grid(ground.Ground(opened), more, reached, options, 'doors open, '), more))
+        found.append(State('open', Grid(ground.Ground(opened), more, reach, options, 'doors open, '), more))
     if not any(state.grid.cells for state in found):
         raise plan.level.error('has no place with room for a player')
     return found, doors
