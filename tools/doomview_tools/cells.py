@@ -1,16 +1,18 @@
 """A grid over a level: places where a player can stand, and of each the greatest counts in several directions.
 
-Cells with high counts are cut in four, twice, and looked at in twice as many directions. A cell stays where it was
+A sector between the places of the grid has one of its own. Cells with high counts are cut in four, twice, and looked at in twice as many directions. A cell stays where it was
 cut; its quarters lie over it."""
 import math
 
 from .counting import COUNTS, is_over
+from .ground import has_height
 from .levels import EYE_HEIGHT, TURN, UNIT
 from .paths import Row
 
 MOST_PLACES, MOST_CUT = 9000, 700
 CUTS = 2
 FINER = .7  # the part of a limit, or of the map's greatest count, from which a cell is cut
+SMALL = 16  # the side of a place in a small sector, so that it hides no other
 APART = 4  # steps between two of the worst views
 
 
@@ -45,7 +47,9 @@ class Grid:
         self.everywhere, self.directions = options.all, 2 * options.directions
         self.views, self.over = 0, dict.fromkeys(COUNTS, 0)
         self.step, places = self.coarse(options.step)
-        self.cells = self.looked(places, 2)
+        more = self.in_small_sectors(places)
+        self.small = {(cell.x, cell.y) for cell in more}
+        self.cells = self.looked(places + more, 2)
         for cut in range(CUTS):
             places = [place for cell in self.high(self.step >> cut) for place in self.quarters(cell)]
             self.cells += self.looked(places, 1)
@@ -63,6 +67,14 @@ class Grid:
                 return step, places
             step *= 2
 
+    def in_small_sectors(self, places):
+        """A cell in each sector that is looked at and has none on the grid, if a player can stand there."""
+        numbers = range(len(self.ground.plan.level.sectors)) if self.everywhere else sorted(self.reached)
+        missing = set(numbers) - {cell.sector for cell in places}
+        found = [self.ground.place_in(number) for number in sorted(missing)
+                 if has_height(self.ground.plan.level.sectors[number])]
+        return [cell for x, y, size in filter(None, found) for cell in self.place(x, y, min(size, SMALL))]
+
     def place(self, x, y, size):
         """The cell of a place at which a player can stand, if it is one that is looked at."""
         sector = self.ground.sector_at(x, y)
@@ -79,11 +91,12 @@ class Grid:
         return sorted(found, key=lambda it: -max(it.count(name) / self.limits[name] for name in COUNTS))[:MOST_CUT]
 
     def quarters(self, cell):
-        """The places in the quarters of a cell."""
+        """The places in the quarters of a cell, without those of small sectors."""
         half, away = cell.size // 2, cell.size // 4
         for j in (-away, away):
             for i in (-away, away):
-                yield from self.place(cell.x + i, math.floor(cell.y) + j + .5, half)
+                yield from (place for place in self.place(cell.x + i, math.floor(cell.y) + j + .5, half)
+                            if (place.x, place.y) not in self.small)
 
     def looked(self, cells, every):
         """The cells with their counts, in every so many of the directions."""

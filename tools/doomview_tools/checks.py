@@ -1,53 +1,38 @@
 """Checks of a map: all that looks like a mistake, and all that doomview refuses a level for, at once.
 
-`findings(level, wads)` gives Findings: `error` is what doomview refuses or the original ends at, `hole` is where
-nothing paints, `odd` is the rest."""
+`findings(level, wads)` gives Findings. What the original makes of specials, tags and tables is in game_checks."""
 import collections
 import csv
 import difflib
-import struct
+import functools
+import typing
 
-from . import ground, program
+from . import ground, program, ways
+from .art import Art
+from .findings import ERROR, FAULT, HOLE, ODD, Finding, lines, sectors, several
+from .game_checks import GameCheck
 from .ground import SKY
 from .levels import PLAYER_1
-from .traces import patch_names
-from .trouble import WadError
-from .wads import clean, read
 
-ERROR, HOLE, ODD = 'error', 'hole', 'odd'
-SHOWN = 8
 TALL = 128  # rows of a wall after which its texture begins anew
 UPPER_UNPEGGED, LOWER_UNPEGGED, TWO_SIDED = 8, 16, 4
 PARTS = ('upper', 'lower', 'middle')
 SIDES = ('front', 'back')
 UNDRAWN = {1, 2, 3, 4, 11, 14, 58, 87, 89}  # starts, places of teleports, and what the thing table leaves out
-LISTS = ('TEXTURE1', 'TEXTURE2')
-
-Finding = collections.namedtuple('Finding', 'grade what where told')
-Texture = collections.namedtuple('Texture', 'name width height patches')  # patches: pairs of a column and a name
-# A part of a wall: whether its texture hangs from above by its own height, and the texel row at its top but for that.
-Part = collections.namedtuple('Part', 'side name texture height hangs start')
+NO_THING = 0  # a type for which ports place nothing
 
 
-def some(numbers):
-    """Numbers in order, not too many."""
-    numbers = sorted(set(numbers))
-    more = f' and {len(numbers) - SHOWN} more' if len(numbers) > SHOWN else ''
-    return ' '.join(map(str, numbers[:SHOWN])) + more
+class Part(typing.NamedTuple):
+    """A part of a wall: whether its texture hangs from above by its own height, the texel row at its top without that,
+    and the row offset of its side."""
 
-
-def several(word, numbers):
-    """Numbers with the word for what they count."""
-    numbers = set(numbers)
-    return f'{word}{"s" if len(numbers) > 1 else ""} {some(numbers)}'
-
-
-def lines(numbers):
-    return several('line', numbers)
-
-
-def sectors(numbers):
-    return several('sector', numbers)
+    side: int
+    name: str
+    texture: str
+    height: int
+    hangs: bool
+    start: int
+    offset: int
 
 
 def guess(name, names):
@@ -56,82 +41,34 @@ def guess(name, names):
     return f'; is it {found[0]}?' if found else ''
 
 
-class Art:
-    """The textures and flats of WADs."""
-
-    def __init__(self, files):
-        self.files = files
-        self.by_file = [read(path) for path in files]
-        self.lumps = {lump.name: lump.data for found in self.by_file for lump in found}
-        self.patches = patch_names(self.lumps.items())
-        self.textures = textures_of(self.lumps)
-        self.flats = {name for found in self.by_file for name in marked(found, 'F')} | {SKY}
-        self.frames = {name[:4] + frame for found in self.by_file for name in marked(found, 'S')
-                       for frame in (name[4:5], name[6:7])}  # of things: four letters and a frame
-
-    def hidden(self, names):
-        """Of some textures those that a list has which the list of a later WAD hides, with both WADs."""
-        having = [i for i, found in enumerate(self.by_file) if 'TEXTURE1' in dict(found)]
-        for i in having[:-1]:
-            for name in sorted(names & set(textures_of(dict(self.by_file[i])))):
-                yield name, self.files[i], self.files[having[-1]]
-
-    def width(self, patch):
-        """The width of a patch by its name."""
-        return int.from_bytes(self.lumps.get(patch, b'')[:2], 'little')
-
-    def counts(self, texture):
-        """How many patches cover each column of a texture."""
-        counts = [0] * texture.width
-        for left, number in texture.patches:
-            width = self.width(self.patches[number]) if number < len(self.patches) else 0
-            for x in range(max(0, left), min(texture.width, left + width)):
-                counts[x] += 1
-        return counts
-
-
-def textures_of(lumps):
-    """The textures of both lists by name, the first of a name; none of a list that is damaged."""
-    found = {}
-    for list_name in LISTS:
-        lump = lumps.get(list_name, bytes(4))
-        try:
-            for offset in struct.unpack_from(f'<{int.from_bytes(lump[:4], "little")}I', lump, 4):
-                width, height = struct.unpack_from('<hh', lump, offset + 12)
-                count, = struct.unpack_from('<H', lump, offset + 20)
-                patches = [struct.unpack_from('<h2xH', lump, offset + 22 + 10 * i) for i in range(count)]
-                name = clean(lump[offset:offset + 8])
-                found.setdefault(name, Texture(name, width, height, patches))
-        except struct.error:
-            raise WadError(f'{list_name} is damaged; doomview explain audit says where')
-    return found
-
-
-def marked(lumps, letter):
-    """The names of the lumps between the marks of flats (F) or of pictures of things (S), of one file."""
-    is_within = False
-    for name, _ in lumps:
-        if name in (f'{letter}_START', 2 * letter + '_START'):
-            is_within = True
-        elif name in (f'{letter}_END', 2 * letter + '_END'):
-            is_within = False
-        elif is_within:
-            yield name
+def first_row(part, texture):
+    """The texel row of a texture at the top of a part, which goes round after TALL rows."""
+    return (part.start + texture.height * part.hangs) % TALL
 
 
 def runs_out(part, texture):
     """Whether rows past the end of a texture show, since it is lower than the rows after which it begins anew."""
-    first = part.start + texture.height * part.hangs
+    first = first_row(part, texture)
     return 0 < texture.height < TALL and any((first + row) % TALL >= texture.height
                                              for row in range(min(part.height, TALL)))
+
+
+def runs_out_told(part, texture):
+    """What is wrong with a part that is higher than the rest of its texture."""
+    first = first_row(part, texture)
+    begins = f', and begins in row {first} (row offset {part.offset})' if part.offset else (
+        f', and begins in row {first}' if first else '')
+    return (f'{part.name} {texture.name} is {texture.height} high and the wall {part.height}{begins}: rows of other '
+            'pictures show')
 
 
 def findings(level, files):
     """All that looks like a mistake."""
     check = Check(level, Art(files))
-    for part in (check.missing_textures, check.missing_flats, check.odd_lines, check.walls, check.middles,
-                 check.sectors, check.pictures, check.things, check.unclosed):
+    for part in (check.missing_textures, check.lists, check.missing_flats, check.lost_flats, check.odd_lines,
+                 check.walls, check.middles, check.sectors, check.pictures, check.things, check.unclosed):
         yield from part()
+    yield from GameCheck(level, check.plan, check.reached).findings()
 
 
 class Check:
@@ -139,10 +76,14 @@ class Check:
 
     def __init__(self, level, art):
         self.level, self.art, self.plan = level, art, ground.Plan(level)
+        self.reached = functools.cache(lambda: ways.reach(self.plan).sectors or set(range(len(level.sectors))))
         self.lines_of = collections.defaultdict(list)
         for number, line in enumerate(level.lines):
             for side in line[5:]:
                 self.lines_of[side].append(number)
+
+    def lines(self, numbers):
+        return lines(numbers, self.level)
 
     def lines_with(self, sides):
         return [line for side in sides for line in self.lines_of[side]]
@@ -171,7 +112,7 @@ class Check:
         for name, places in sorted(found.items()):
             parts = ' '.join(part for part in PARTS if part in {it for _, it in places})
             lines_here = self.lines_with(side for side, _ in places)
-            where = lines(lines_here) if lines_here else several('side', (side for side, _ in places)) + ', of no line'
+            where = self.lines(lines_here) if lines_here else several('side', (side for side, _ in places)) + ', of no line'
             if name:
                 yield Finding(ERROR, 'texture', where, f'{parts} {name} is in no list of textures'
                               + guess(name, self.art.textures))
@@ -180,6 +121,17 @@ class Check:
         for name, file, hiding in self.art.hidden(set(found)):
             yield Finding(ERROR, 'list', hiding, f'its TEXTURE1 hides that of {file}, which has {name}; it needs all '
                                                  'textures of both')
+
+    def lists(self):
+        """What is wrong with the lists of textures: the original looks at all of them when it begins."""
+        hidden = list(self.art.hiding_names())
+        for name, file, hiding, texture, meant, instead in hidden:
+            yield Finding(ERROR, 'list', hiding, f'its PNAMES hides that of {file}, on which {name} counts: {texture} '
+                          f'needs the patch {meant}, and gets {instead}; begin it with all names of the other')
+        for patch, textures in sorted(self.art.missing_patches().items() if not hidden else ()):
+            more = f' and {len(textures) - 1} more' if len(textures) > 1 else ''
+            yield Finding(ERROR, 'patch', patch, f'no WAD has this patch of the texture {textures[0]}{more}: the '
+                          'original ends before it draws anything')
 
     def missing_flats(self):
         found = collections.defaultdict(list)
@@ -194,23 +146,34 @@ class Check:
             yield Finding(ERROR, 'flat', sectors(number for number, _ in places),
                           f'{parts} {name or "(no name)"} is no flat{why}')
 
+    def lost_flats(self):
+        """Flats that doomview draws and the original does not find."""
+        used = collections.defaultdict(list)
+        for number, sector in enumerate(self.level.sectors):
+            for name in (sector.floor_flat, sector.ceiling_flat):
+                used[name].append(number)
+        for name in self.art.lost_flats(self.art.flats & set(used)):
+            yield Finding(ERROR, 'flat', sectors(used[name]), f'{name} is not between the last F_START and the last '
+                          'F_END of the WADs: the original ends there. A PWAD has its own flats between FF_START and '
+                          'F_END, and no F_START')
+
     def odd_lines(self):
         for which in (0, 1):
             lost = [number for number, line in enumerate(self.level.lines)
                     if line[5 + which] is not None and self.plan.beside[number][which] is None]
             if lost:
-                yield Finding(ERROR, 'line', lines(lost),
+                yield Finding(ERROR, 'line', self.lines(lost),
                               f'its {SIDES[which]} side, or the sector of that, is not there')
         for number, line in enumerate(self.level.lines):
             back = self.plan.beside[number][1]
             if line.start == line.end:
-                yield Finding(ODD, 'line', lines([number]), 'has no length')
+                yield Finding(ODD, 'line', self.lines([number]), 'has no length')
             if line.front is None:
-                yield Finding(ERROR, 'line', lines([number]), 'has no front side')
+                yield Finding(ERROR, 'line', self.lines([number]), 'has no front side')
             if line.flags & TWO_SIDED and back is None and line.back is None:
-                yield Finding(ODD, 'line', lines([number]), 'is two-sided and has no back side')
+                yield Finding(FAULT, 'line', self.lines([number]), 'is two-sided and has no back side')
             if not line.flags & TWO_SIDED and back is not None:
-                yield Finding(ODD, 'line', lines([number]), 'has two sides and is not two-sided: it is drawn as a wall')
+                yield Finding(ODD, 'line', self.lines([number]), 'has two sides and is not two-sided: it is drawn as a wall')
 
     def parts(self, number):
         """The wall parts of a line that are seen."""
@@ -220,26 +183,44 @@ class Check:
             if back is None:
                 if high > 0:
                     hangs = bool(flags & LOWER_UNPEGGED)
-                    yield Part(which, 'middle', side.middle, high, hangs, side.y_offset - high * hangs)
+                    yield Part(which, 'middle', side.middle, high, hangs, side.y_offset - high * hangs,
+                               side.y_offset)
                 continue
             if back.ceiling < front.ceiling and not front.ceiling_flat == back.ceiling_flat == SKY:
                 hangs, below = not flags & UPPER_UNPEGGED, front.ceiling - back.ceiling
-                yield Part(which, 'upper', side.upper, min(below, high), hangs, side.y_offset - below * hangs)
+                yield Part(which, 'upper', side.upper, min(below, high), hangs, side.y_offset - below * hangs,
+                           side.y_offset)
             if back.floor > front.floor:
                 start = (front.ceiling - back.floor) * bool(flags & LOWER_UNPEGGED)
                 height = min(back.floor - front.floor, high)
-                yield Part(which, 'lower', side.lower, height, False, side.y_offset + start)
+                yield Part(which, 'lower', side.lower, height, False, side.y_offset + start, side.y_offset)
 
     def walls(self):
         """Parts without a texture, and those past the end of theirs."""
         for number in range(len(self.level.lines)):
             for part in self.parts(number):
-                where, texture = f'{lines([number])} {SIDES[part.side]}', self.art.textures.get(part.texture)
+                texture = self.art.textures.get(part.texture)
                 if part.texture.startswith('-'):
-                    yield Finding(HOLE, 'texture', where, f'needs a texture: {part.name}, {part.height} high')
+                    yield self.hole(number, part)
                 elif texture and runs_out(part, texture):
-                    yield Finding(ODD, 'tutti-frutti', where, f'{part.name} {texture.name} is {texture.height} high '
-                                  f'and the wall {part.height}: rows of other pictures show')
+                    yield Finding(ODD, 'tutti-frutti', self.where(number, part), runs_out_told(part, texture))
+
+    def where(self, number, part):
+        return f'{self.lines([number])} {SIDES[part.side]}'
+
+    def hole(self, number, part):
+        """The Finding of a part without a texture. One is odd in front of which no player can be, though he may see it
+        from afar."""
+        in_front = self.plan.beside[number][part.side]
+        sector = self.level.sectors[in_front]
+        told = f'needs a texture: {part.name}, {part.height} high'
+        if not ground.has_height(sector) and in_front not in self.plan.rising():
+            return Finding(ODD, 'texture', self.where(number, part), f'{told}; seen from afar at most, since sector '
+                           f'{in_front} in front of it is {sector.ceiling - sector.floor} high')
+        if in_front not in self.reached():
+            return Finding(ODD, 'texture', self.where(number, part), f'{told}; seen from afar at most, since no way '
+                           f'leads to sector {in_front} in front of it')
+        return Finding(HOLE, 'texture', self.where(number, part), told)
 
     def medusa(self):
         """The middle textures with several patches, or none, in a column: by name the lines and the first column."""
@@ -256,7 +237,7 @@ class Check:
 
     def middles(self):
         for name, numbers, column, count in self.medusa():
-            yield Finding(ERROR, 'Medusa', lines(numbers), f'middle {name} has {count or "no"} patches in column '
+            yield Finding(ERROR, 'Medusa', self.lines(numbers), f'middle {name} has {count or "no"} patches in column '
                           f'{column}: the Medusa effect; take a texture of one patch a column')
 
     def sectors(self):
@@ -287,25 +268,38 @@ class Check:
         if not any(thing.type == PLAYER_1 for thing in self.level.things):
             yield Finding(ERROR, 'thing', 'map', 'has no start of player 1 (thing of type 1)')
         for (kind, _), numbers in self.things_of(lambda frame: frame is None):
-            yield Finding(ODD, 'thing', several('thing', numbers), f'type {kind} is none that the games draw')
+            yield from self.unknown_things(kind, numbers)
         place = ground.Ground(self.plan)
         for number, thing in enumerate(self.level.things):
             if all(place.is_void(thing.x, thing.y + off) for off in (-.5, .5)):
-                yield Finding(ODD, 'thing', f'thing {number}',
+                yield Finding(FAULT, 'thing', f'thing {number}',
                               f'type {thing.type} at {thing.x}, {thing.y} is outside the level')
 
+    def unknown_things(self, kind, numbers):
+        """Findings of things of a type that there is not: the original ends where it would place one."""
+        placed = [number for number in numbers if kind != NO_THING and self.level.things[number].options & ways.SKILLS]
+        at = [f'{self.level.things[number].x}, {self.level.things[number].y}' for number in numbers[:1]]
+        where = several('thing', placed or numbers)
+        if placed:
+            yield Finding(ERROR, 'thing', where, f'type {kind} at {at[0]} is none of the game: the original ends there')
+        else:
+            yield Finding(ODD, 'thing', where, f'type {kind} at {at[0]} is none of the game, and never appears')
+
     def unclosed(self):
-        """Sectors whose lines do not close: at a vertex where an odd number of them end."""
-        ends = collections.Counter()
+        """Sectors whose lines do not close: at a vertex where an odd number of them end, and no line that has one
+        sector on both sides, as of deep water."""
+        ends, tricks = collections.Counter(), set()
         for number, line in enumerate(self.level.lines):
             front, back = self.plan.beside[number]
-            for sector in {front, back} - {None} if front != back else ():
-                for vertex in line[:2]:
-                    ends[sector, self.level.vertexes[vertex]] += 1
+            vertexes = [self.level.vertexes[vertex] for vertex in line[:2]]
+            if front == back:
+                tricks.update(vertexes)
+            else:
+                ends.update((sector, vertex) for sector in {front, back} - {None} for vertex in vertexes)
         found = collections.defaultdict(list)
         for (sector, vertex), count in ends.items():
-            if count % 2:
+            if count % 2 and vertex not in tricks:
                 found[sector].append(vertex)
         for sector, vertexes in sorted(found.items()):
-            some_here = ' and '.join(f'{it.x}, {it.y}' for it in sorted(vertexes)[:2])
-            yield Finding(ODD, 'sector', sectors([sector]), f'is not closed: its lines end at {some_here}')
+            some_here = ' and '.join(f'{vertex.x}, {vertex.y}' for vertex in sorted(vertexes)[:2])
+            yield Finding(FAULT, 'sector', sectors([sector]), f'is not closed: its lines end at {some_here}')

@@ -9,10 +9,12 @@ from .wads import MAP_LUMPS, packed
 
 HEIGHT, RADIUS, STEP_UP = 56, 16, 24  # of a player, in map units
 STARTS = {1, 2, 3, 4, 11}  # types of things: of players, and of a deathmatch
+BOSS_TAGS = {666, 667}
 BLOCKS = 1  # the flag of a line that nobody passes
 SKY = 'F_SKY1'
 LINTEL = 4  # what a door that is open keeps of its height below the ceiling beside it
 SQUARE = 128
+STEPS = (64, 32, 16, 8)  # of grids on which a place in a sector is looked for
 SECTOR = struct.Struct('<hh8s8shhh')
 
 Crossing = collections.namedtuple('Crossing', 'x left right line')  # the sectors beside it, or None
@@ -27,6 +29,10 @@ class Plan:
             if max(line.start, line.end) >= len(level.vertexes):
                 raise level.error(f'is damaged: a vertex of line {number} is not there')
         self.beside = [tuple(map(self.sector_of_side, line[5:])) for line in level.lines]
+        self.lines_of = collections.defaultdict(list)
+        for number, pair in enumerate(self.beside):
+            for sector in set(pair) - {None}:
+                self.lines_of[sector].append(number)
         self.bands = collections.defaultdict(list)
         for number, line in enumerate(level.lines):
             low, high = sorted(level.vertexes[end].y for end in line[:2])
@@ -45,10 +51,16 @@ class Plan:
 
     def box(self):
         """The least box of all lines: x and y of its corners, the low one first."""
-        used = [vertex for number in range(len(self.level.lines)) for vertex in self.ends(number)]
-        if not used:
+        if not self.level.lines:
             raise self.level.error('has no lines')
-        xs, ys = zip(*used)
+        return self.box_around(range(len(self.level.lines)))
+
+    def box_of(self, sector):
+        """The least box of the lines of a sector."""
+        return self.box_around(self.lines_of[sector])
+
+    def box_around(self, numbers):
+        xs, ys = zip(*(vertex for number in numbers for vertex in self.ends(number)))
         return min(xs), min(ys), max(xs), max(ys)
 
     def crossings(self, y):
@@ -67,22 +79,34 @@ class Plan:
         """Whether a player cannot pass a line, whatever moves beside it."""
         return None in self.beside[number] or bool(self.level.lines[number].flags & BLOCKS)
 
+    def tagged(self):
+        """The sectors on which a line with a special may act by its tag, or the end of a boss."""
+        tags = {line.tag for line in self.level.lines if line.special} - {0} | BOSS_TAGS
+        return {number for number, sector in enumerate(self.level.sectors) if sector.tag in tags}
+
+    def rising(self):
+        """The sectors that may become higher than they are: by their tag, or since they are behind a special."""
+        return self.tagged() | {self.beside[number][1] for number, line in enumerate(self.level.lines) if line.special}
+
     def doors(self):
-        """The ceilings that doors have once they are open, by the least one beside each. A door is a shut sector with a
-        tag, or behind a line with a special, whose ceiling is no sky."""
-        sectors, least = self.level.sectors, {}
-        behind = {self.beside[number][1] for number, line in enumerate(self.level.lines) if line.special}
+        """The ceilings that doors have once they are open, by the least one beside each. A door is a shut sector that may
+        rise, whose ceiling is no sky."""
+        sectors, least, rising = self.level.sectors, {}, self.rising()
         for pair in self.beside:
             for one, other in (pair, pair[::-1]):
                 if None not in pair and is_shut(sectors[one]) and not is_shut(sectors[other]):
                     least[one] = min(least.get(one, sectors[other].ceiling), sectors[other].ceiling)
         return {number: ceiling - LINTEL for number, ceiling in least.items()
-                if (sectors[number].tag or number in behind) and sectors[number].ceiling_flat != SKY
-                and ceiling - LINTEL > sectors[number].floor}
+                if number in rising and sectors[number].ceiling_flat != SKY and ceiling - LINTEL > sectors[number].floor}
 
 
 def is_shut(sector):
     return sector.ceiling <= sector.floor
+
+
+def has_height(sector):
+    """Whether a player can stand in a sector."""
+    return sector.ceiling - sector.floor >= HEIGHT
 
 
 def is_step(one, other):
@@ -156,9 +180,22 @@ class Ground:
 
     def sector_at(self, x, y):
         """The sector at a place at which a player has room, or None."""
-        if self.is_void(x, y):
+        number = self.sector_off_walls(x, y)
+        return number if number is not None and has_height(self.plan.level.sectors[number]) else None
+
+    def sector_off_walls(self, x, y):
+        """The sector at a place that no wall is near to, or None."""
+        if self.is_void(x, y) or self.walls.is_near(x, y):
             return None
-        number = self.plan.level.sector_at(x, y)
-        sector = self.plan.level.sectors[number]
-        has_room = sector.ceiling - sector.floor >= HEIGHT and not self.walls.is_near(x, y)
-        return number if has_room else None
+        return self.plan.level.sector_at(x, y)
+
+    def place_in(self, number):
+        """A place of a sector that no wall is near to, with the step of the grid on which it was found; None if a grid
+        of 8 units has none."""
+        low_x, low_y, high_x, high_y = self.plan.box_of(number)
+        for step in STEPS:
+            for y in range(low_y + step // 2, high_y, step):
+                for x in range(low_x + step // 2, high_x, step):
+                    if self.sector_off_walls(x, y + .5) == number:
+                        return x, y + .5, step
+        return None

@@ -16,6 +16,7 @@ PLAYER_1 = 1  # the type of a thing
 LEAF = 0x8000  # the bit of a child that is a leaf
 NO_SIDE = 0xffff
 EXTENDED = [b'XNOD', b'ZNOD', b'XGLN', b'ZGLN', b'XGL2', b'ZGL2', b'XGL3', b'ZGL3', b'gNd2', b'gNd5']
+TABLES = ['REJECT', 'BLOCKMAP']  # the lumps behind those of a map
 BUILT_LUMPS = ['SEGS', 'SSECTORS', 'NODES']  # what a builder of nodes makes
 LAYOUTS = {'THINGS': '<hhhHH', 'LINEDEFS': '<7H', 'SIDEDEFS': '<hh8s8s8sH', 'VERTEXES': '<hh', 'SEGS': '<6H',
            'SSECTORS': '<HH', 'NODES': '<12h2H', 'SECTORS': '<hh8s8shhh'}  # of the records of a lump
@@ -37,7 +38,7 @@ def records(data, layout):
 
 
 class Level:
-    """A map: its name, the WAD that has it, the bytes of its eight lumps by name, and their records."""
+    """A map: its name, the WAD that has it, the bytes of its lumps by name, and the records of eight of them."""
 
     def __init__(self, name, wad, lumps):
         self.name, self.wad, self.lumps = name, wad, lumps
@@ -208,4 +209,6 @@ def read(wads, name):
     label = map_labels(lumps).get(name)
     if label is None:
         raise no_map(name, places or wads, lumps)
-    return Level(name, places[label], dict(lumps[label + 1:label + 1 + len(MAP_LUMPS)]))
+    behind = label + 1 + len(MAP_LUMPS)
+    tables = [lump for lump, table in zip(lumps[behind:behind + len(TABLES)], TABLES) if lump.name == table]
+    return Level(name, places[label], dict([*lumps[label + 1:behind], *tables]))

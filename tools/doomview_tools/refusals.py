@@ -7,6 +7,7 @@ import re
 import struct
 
 from . import checks, home, levels, traces, wads
+from .art import Art
 from .trouble import Trouble, WadError
 
 FIELDS = [['x', 'y', 'angle', 'type', 'options'],
@@ -290,7 +291,7 @@ CHECKS = {901: checks.Check.missing_textures, 903: checks.Check.missing_flats, 9
 def all_wrong(scene, code):
     """Sentences on all that is wrong in the way of a refusal, since a run tells the first alone."""
     try:
-        art = checks.Art(scene.wads)
+        art = Art(scene.wads)
         if art.textures:
             for it in CHECKS[code](checks.Check(scene.level, art)):
                 yield f'{it.where}: {it.told}' + ('' if it.told.endswith('?') else '.')

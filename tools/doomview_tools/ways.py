@@ -241,8 +241,8 @@ def are_near(one, other, length) -> bool:
 
 
 def moving_sectors(plan) -> set:
-    """The sectors that may move: those with a tag, those that are shut, and what stairs and donuts move without one."""
-    found = {number for number, sector in enumerate(plan.level.sectors) if sector.tag or ground.is_shut(sector)}
+    """The sectors that may move: by their tag, those that are shut, and what stairs and donuts move without a tag."""
+    found = {number for number, sector in enumerate(plan.level.sectors) if ground.is_shut(sector)} | plan.tagged()
     return found | steps_of_stairs(plan, tagged_by(plan, STAIRS)) | beside_sectors(plan, tagged_by(plan, DONUT))
 
 

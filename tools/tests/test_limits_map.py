@@ -43,7 +43,7 @@ def hall():
     sides, lines = [], []
     for start, end, front, back in one + doors:
         flags, side = (1, 0xffff) if back is None else (4, len(sides) + 1)
-        lines.append((start, end, flags, 0, 0, len(sides), side))
+        lines.append((start, end, flags, int(back is not None), 0, len(sides), side))  # special 1 opens a door
         sides += [front] if back is None else [front, back]
     first = {sector: next(i for i, it in enumerate(one) if it[2] == sector) for sector in range(4)}
     segs = [(*one[first[sector]][:2], 0, first[sector], 0, 0) for sector in range(4)]

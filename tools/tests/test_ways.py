@@ -54,7 +54,10 @@ class Ways(Tools):
         self.assertEqual(self.reached('..p', p={'floor': -3000}), '.p')
         self.assertEqual(self.reached('pp..', p=PIT), 'p')
         self.assertEqual(self.reached('..hst', h={'floor': 24}, s={'floor': 48}, t={'floor': 73}), '.hs')
-        self.assertEqual(self.reached('..t', t={'floor': 90, 'tag': 5}), '.t')  # a lift
+        for special, found in [(62, '.t'), (0, '.')]:
+            lift = Map('..t', t={'floor': 90, 'tag': 5})
+            lift.change('LINEDEFS', lift.lines('.')[0], special=special, tag=5)
+            self.assertEqual(self.reach(lift)[0], found)
         self.assertEqual(self.reached('..s', s={'ceiling': 55}), '.')
 
     def test_wanted(self):

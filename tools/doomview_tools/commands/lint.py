@@ -6,31 +6,39 @@ import tempfile
 
 from .. import checks, cli, explanations, levels, paths, program
 from ..files import write_output, write_whole
+from ..findings import COUNTED
 from ..refusals import CHECKS
 
 FOUND, REFUSED = 1, 2
-GRAVE = (checks.ERROR, checks.HOLE)
 PAGE = cli.Page(
     'lint', 'all that looks like a mistake in a map, at once', '''
 Prints a line for each thing in a map that looks like a mistake: how grave it is, what it is about, where, and a
-sentence.
+sentence. The grade says what it does to the status.
 
-error: doomview refuses the map, or the original ends there. Textures and flats that there are not, with what may be
-meant; flats outside their marks; a TEXTURE1 that hides the game's; two-sided middle textures of several patches
-(Medusa); lines without a side; pictures of things that are missing; no start of player 1.
+error, status 1: doomview refuses the map, or the original ends there or reads past the data of the map. Textures, flats
+and patches that there are not, with what may be meant; flats that the original does not find between the last F_START
+and the last F_END; a TEXTURE1 or PNAMES that hides the game's; two-sided middle textures of several patches (Medusa);
+lines without a front side; doors without a back side; things of unknown types, or without their picture; unknown specials
+of sectors that a player enters; more than 64 lines that scroll; a short REJECT, an empty BLOCKMAP; no start of player 1.
 
-hole: a part of a wall that is seen has no texture.
+hole, status 1: a part of a wall that a player can see has no texture.
 
-odd: sectors that are not closed; things outside the level, or of a type that no game draws; walls higher than their
-texture, where rows of other pictures show (tutti-frutti); lines without length, or whose flag and sides do not fit.
+fault, status 1: the map does not do there what it was made for. Sectors that are not closed; things outside the level;
+lines that are two-sided and have no back side; a special whose tag no sector has, or without a tag; a teleport without
+a destination.
+
+odd, status 0, with --strict 1: walls higher than their texture, where rows of other pictures show (tutti-frutti); parts
+without a texture that are seen from afar at most; lines without length, or with two sides that are not two-sided; a
+ceiling below its floor; what there is of the above where no player comes.
 
 Lines, sectors and things are counted from 0, as in map editors. Where the program is built, it audits the map too, and
-what keeps a view from being drawn follows on standard error.
+what keeps a view from being drawn follows on standard error. What the game does while it runs is not looked at: how many
+lifts, crushers or buttons move at once. Limits of a view: doomview limits-map.
 ''', '''
 $ doomview lint freedoom2.wad MAP01
-$ doomview lint --iwad freedoom2.wad mymap.wad MAP01
+$ doomview lint --iwad freedoom2.wad mymap.wad MAP01 --strict
 ''', 'Python alone; the program where it is built', '''
- 0  there is no error and no hole
+ 0  there is no error, hole or fault; with --strict nothing odd either
  1  there are some
  2  the map cannot be read, and a sentence says why
 ''')
@@ -38,6 +46,7 @@ $ doomview lint --iwad freedoom2.wad mymap.wad MAP01
 
 def add_words(parser):
     cli.add_level(parser)
+    parser.add_argument('--strict', action='store_true', help='what is odd counts for the status too')
 
 
 def line_of(finding):
@@ -45,9 +54,9 @@ def line_of(finding):
     return f'{finding.grade} {finding.what}: {finding.where}: {finding.told}'
 
 
-def status_of(found):
+def status_of(found, is_strict=False):
     """The status for what the checks found."""
-    return FOUND if any(it.grade in GRAVE for it in found) else 0
+    return FOUND if any(is_strict or finding.grade in COUNTED for finding in found) else 0
 
 
 def refusal(name, files):
@@ -72,4 +81,4 @@ def run(options):
     found = list(checks.findings(level, files))
     write_output(''.join(line_of(it) + '\n' for it in found))
     status = refusal(level.name, files) if program.is_built() else 0
-    return status or status_of(found)
+    return status or status_of(found, options.strict)

@@ -1,0 +1,94 @@
+"""Checks of what the original's game makes of a map: specials of lines and sectors, their tags, and its two tables.
+
+What the game does while it runs, such as how many lifts, crushers or buttons move at once, is not looked at."""
+import collections
+
+from . import ground, ways
+from .findings import ERROR, FAULT, ODD, Finding, lines, sectors
+
+# Specials of the original, by what they need.
+DOORS = {1, 26, 27, 28, 31, 32, 33, 34, 117, 118}  # of lines: open the sector behind the line
+SCROLLS = 48
+TELEPORTS = {39, 97, 125, 126}
+WITHOUT_TAG = {*DOORS, SCROLLS, 11, 51, 52, 124, 78, 85}  # exits, and two that there are not
+TAGGED = set(range(2, 142)) - WITHOUT_TAG
+OF_SECTORS = {*range(6), *range(7, 15), 16, 17}
+MOST_SCROLLING = 64
+LEAST_BLOCKMAP = 8  # bytes: its head
+
+
+class GameCheck:
+    """The checks of one map, by its level, its plan, and a function that gives the sectors which a player reaches."""
+
+    def __init__(self, level, plan, reached):
+        self.level, self.plan, self.reached, self.place = level, plan, reached, ground.Ground(plan)
+
+    def lines_of(self, wanted):
+        """The numbers of the lines of which something holds."""
+        return [number for number, line in enumerate(self.level.lines) if wanted(number, line)]
+
+    def findings(self):
+        """All that is found."""
+        for part in (self.specials_of_sectors, self.scrolling, self.doors, self.tags, self.teleports, self.tables):
+            yield from part()
+
+    def specials_of_sectors(self):
+        found = collections.defaultdict(list)
+        for number, sector in enumerate(self.level.sectors):
+            if sector.special not in OF_SECTORS:
+                found[sector.special, self.may_enter(number)].append(number)
+        for (special, is_entered), numbers in sorted(found.items()):
+            grade, more = (ERROR, 'the original ends when a player is on its floor') if is_entered else (
+                ODD, 'the original ends when a player is on its floor, but none comes there')
+            yield Finding(grade, 'sector', sectors(numbers), f'special {special} is none of the game: {more}')
+
+    def may_enter(self, number):
+        """Whether a player may come into a sector, maybe once it has risen, and has a place there."""
+        has_height = ground.has_height(self.level.sectors[number]) or number in self.plan.rising()
+        return number in self.reached() and has_height and self.place.place_in(number) is not None
+
+    def scrolling(self):
+        found = self.lines_of(lambda _, line: line.special == SCROLLS)
+        if len(found) > MOST_SCROLLING:
+            yield Finding(ERROR, 'line', lines(found, self.level), f'{len(found)} lines have special {SCROLLS}, which '
+                          f'scrolls a wall: the original ends at more than {MOST_SCROLLING}')
+
+    def doors(self):
+        for number in self.lines_of(lambda number, line: line.special in DOORS and line.back is None):
+            yield Finding(ERROR, 'door', lines([number], self.level), f'special {self.level.lines[number].special} '
+                          'opens the sector behind the line, which has no back side: the original ends when it is used')
+
+    def tags(self):
+        tags = {sector.tag for sector in self.level.sectors}
+        found = collections.defaultdict(list)
+        for number in self.lines_of(lambda _, line: line.special in TAGGED and not (line.tag and line.tag in tags)):
+            found[self.level.lines[number].tag, self.level.lines[number].special].append(number)
+        for (tag, special), numbers in sorted(found.items()):
+            told = (f'special {special} acts on tag {tag}, which no sector has' if tag else
+                    f'special {special} has no tag: it acts on all sectors without one')
+            yield Finding(FAULT, 'tag', lines(numbers, self.level), told)
+
+    def teleports(self):
+        tags = {sector.tag for sector in self.level.sectors}
+        ends = {self.level.sectors[self.level.sector_at(thing.x, thing.y)].tag for thing in self.level.things
+                if thing.type == ways.DESTINATION}
+        found = collections.defaultdict(list)
+        for number in self.lines_of(lambda _, line: line.special in TELEPORTS and line.tag in tags - ends):
+            found[self.level.lines[number].tag].append(number)
+        for tag, numbers in sorted(found.items()):
+            if tag:
+                yield Finding(FAULT, 'teleport', lines(numbers, self.level), f'leads to tag {tag}, and no sector of that '
+                              f'has a destination (thing of type {ways.DESTINATION})')
+
+    def tables(self):
+        """What is wrong with REJECT and BLOCKMAP, which doomview does not need."""
+        needed = (len(self.level.sectors) ** 2 + 7) // 8
+        for name, least, wrong in (('REJECT', needed, f'the original reads past its end; {len(self.level.sectors)} '
+                                    f'sectors need {needed} bytes'),
+                                   ('BLOCKMAP', LEAST_BLOCKMAP, 'nothing stops a player, and the original reads past '
+                                    'its end')):
+            size = len(self.level.lumps.get(name, b''))
+            if name not in self.level.lumps:
+                yield Finding(ERROR, 'table', 'map', f'has no {name}: the original ends there; build it with the nodes')
+            elif size < least:
+                yield Finding(ERROR, 'table', 'map', f'its {name} has {size} bytes: {wrong}; build it with the nodes')
