@@ -52,7 +52,9 @@ class Parser(argparse.ArgumentParser):
         self._positionals.title, self._optionals.title = 'Words', 'Options'
 
     def error(self, message):
-        raise Trouble(f'{message.replace("argument ", "")}; {self.prog} --help shows its words')
+        wrong = message.startswith('unrecognized arguments: ') and message.split()[2].partition('=')[0]
+        near = jobs.meant(wrong, self._option_string_actions) if wrong and wrong.startswith('--') else ''
+        raise Trouble(f'{message.replace("argument ", "")}{near}; {self.prog} --help shows its words')
 
     def format_usage(self):
         """All words, the positional ones first."""
@@ -167,6 +169,9 @@ def job_page(job):
     for option in jobs.options_of(job.name):
         parser.add_argument(option.name, metavar=option.value, help=meaning_of(option),
                             required=option.is_needed and not option.default)
+    if job.name == 'limits':
+        parser.add_argument('--places', action='store_true', help='adds where each view is: as an editor shows it, and as '
+                            'its row of the path')
     add_output(parser, 'the output')
     add_help(parser)
     return parser.format_help()
@@ -184,10 +189,18 @@ def meaning_of(option):
     return '; '.join(parts)
 
 
+def in_order(options):
+    """The words of a tool, a WAD and a map in either order where the words tell."""
+    wad, name = getattr(options, 'wad', None), getattr(options, 'map', None)
+    if isinstance(wad, str) and isinstance(name, str) and jobs.is_wad(name) and not jobs.is_wad(wad):
+        options.wad, options.map = name, wad
+    return options
+
+
 def run(tool, words):
     """Runs a tool with its words; its status."""
     try:
-        return tool.run(parser_of(tool).parse(words)) or 0
+        return tool.run(in_order(parser_of(tool).parse(words))) or 0
     except Trouble as error:
         if str(error):
             print(f'doomview {tool.PAGE.name}: {error}', file=sys.stderr)

@@ -4,10 +4,12 @@ import os
 import signal
 import sys
 
-from . import cli, home, jobs, program, system
+from . import cli, explanations, home, jobs, notes, paths, program, system
+from .files import write_output
 from .trouble import TROUBLE, Trouble
 
-TOOLS = ['picture', 'places', 'turn', 'compare', 'pixel', 'explain', 'lint', 'limits-map', 'why-limit', 'video',
+PLACES = '--places'  # an option of the command for the job limits
+TOOLS = ['picture', 'places', 'turn', 'path', 'compare', 'pixel', 'explain', 'lint', 'limits-map', 'why-limit', 'video',
          'audit-all', 'draw-all', 'maps', 'tables', 'room', 'vectors', 'rest']
 OVERVIEW = '''usage: doomview JOB WORDS.. [OPTIONS]
        doomview TOOL WORDS.. [OPTIONS]
@@ -19,8 +21,10 @@ Tools:
 {tools}
 
 The page of a job or tool, with its words, options and examples:
-  doomview JOB --help
-  doomview TOOL --help
+  doomview help JOB, or doomview JOB --help
+  doomview help TOOL, or doomview TOOL --help
+
+Where a job fails, sentences say why. A map and its WADs may come in either order.
 
 Of the command itself:
   doomview --version   the version, and the logic that the program is proved in
@@ -56,15 +60,53 @@ def version():
 
 
 def run_job(words):
-    """Runs a job, or hands words to the program that are none of this command's. For words that are no job nothing is
-    built, since the program's answer is known."""
-    if jobs.Words(words).job not in jobs.JOBS and not program.is_built():
-        return usage()
-    if not jobs.Words(words).output:
-        return program.replace(words)
-    done = program.run_whole(words)
+    """Runs a job, and says why where it fails; or hands words to the program that are none of this command's. For words
+    that are no job nothing is built, since the program's answer is known."""
+    is_job = jobs.Words(words).job in jobs.JOBS
+    if not is_job and not program.is_built():
+        return usage(words)
+    words = jobs.in_order(words) if is_job else words
+    if PLACES in words and jobs.Words(words).job == 'limits':
+        return limits_with_places([word for word in words if word != PLACES])
+    warn(words)
+    done = program.run_whole(words) if jobs.Words(words).output else program.pass_on(words)
     sys.stderr.write(done.said)
+    if done.status:
+        say_why(done, words, is_job)
     return done.status
+
+
+def warn(words):
+    """Says what will be accepted, and may be a mistake."""
+    for sentence in notes.of_words(jobs.Words(program.completed(words))):
+        print(f'doomview: warning: {sentence}', file=sys.stderr, flush=True)
+
+
+def say_why(done, words, is_job=True):
+    """Says why a run failed, by the line that it ended with."""
+    if is_job:
+        explanations.tell(done.line, words, explanations.on_line)
+    elif done.status == jobs.USAGE:
+        print(f'explain: {no_such(words)}', file=sys.stderr)
+
+
+def no_such(words):
+    """The sentence on words of which the first is no job and no tool."""
+    first = jobs.Words(words).job or words[0]
+    return f'there is no job or tool {first}{jobs.meant(first, [*jobs.JOBS, *TOOLS]) or "; doomview --help has them all"}'
+
+
+def limits_with_places(words):
+    """Prints what the job limits does, and behind each line where the view is; its status."""
+    given = jobs.Words(words)
+    done = program.run(given.words)
+    sys.stderr.write(done.said)
+    if done.status:
+        say_why(done, words)
+        return done.status
+    lines = zip(done.output.decode().splitlines(), paths.rows(given.value('--path')))
+    write_output(''.join(f'{line}; {paths.told(row)}\n' for line, row in lines), given.output)
+    return 0
 
 
 def build():
@@ -80,10 +122,23 @@ def stop(number, _):
     raise SystemExit(128 + number)
 
 
-def usage():
+def usage(words=()):
     """What the program says of words that are no job, and what would be some."""
-    print('doomview: usage', overview(), sep='\n', file=sys.stderr)
+    print('doomview: usage', overview(), *([f'explain: {no_such(words)}'] if words else []), sep='\n', file=sys.stderr)
     return jobs.USAGE
+
+
+def help_of(words):
+    """Prints the page of a job or a tool, or of the command; the status."""
+    if not words:
+        print(overview())
+    elif words[0] in jobs.JOBS:
+        print(cli.job_page(jobs.JOBS[words[0]]), end='')
+    elif words[0] in TOOLS:
+        print(cli.parser_of(tool(words[0])).format_help(), end='')
+    else:
+        raise Trouble(no_such(words), jobs.USAGE)
+    return 0
 
 
 def main(words):
@@ -114,6 +169,8 @@ def answer(words):
     if words in (['--help'], ['-h'], ['--version']):
         print(version() if words == ['--version'] else overview())
         return 0
+    if words[0] == 'help':
+        return help_of(words[1:])
     if words == ['--built']:
         return 0 if program.is_built() else 1
     if words == ['--build']:
@@ -121,6 +178,5 @@ def answer(words):
     if words[0] in TOOLS:
         return cli.run(tool(words[0]), words[1:])
     if words[0] in jobs.JOBS and cli.HELP & {*words}:
-        print(cli.job_page(jobs.JOBS[words[0]]), end='')
-        return 0
+        return help_of(words)
     return run_job(words)

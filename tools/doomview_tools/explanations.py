@@ -6,10 +6,10 @@ import re
 import stat
 import sys
 
-from . import program, system, wads
+from . import notes, paths, program, system, wads
 from .jobs import LEVEL_JOBS, Words, wrong_words
-from .refusals import Scene, head_of, refused
-from .trouble import Ended
+from .refusals import Scene, refused
+from .trouble import Ended, Trouble
 
 SPECTRE = 58
 UNDRAWN = {1, 2, 3, 4, 11, 14}  # starts of players, of a deathmatch, of a teleport: the original draws none either
@@ -40,7 +40,8 @@ def unreadable(words):
 
 
 def on_usage(words):
-    return [f'{sentence}.' for sentence in wrong_words(words)] or ['doomview --help has the jobs and their words.']
+    found = [sentence if sentence.endswith('?') else f'{sentence}.' for sentence in wrong_words(words)]
+    return found or ['doomview --help has the jobs and their words.']
 
 
 def on_read_fault(words):
@@ -48,9 +49,17 @@ def on_read_fault(words):
     return list(unreadable(words)) or [f'a file could not be read to its end; look at the disk that has it: {files}.']
 
 
+def place_of(words, view):
+    """Where a view of the path of a call is, in both forms, in brackets; an empty text where the path cannot tell."""
+    try:
+        return f' ({paths.told(paths.rows(words.value("--path") or "")[view])})'
+    except (Trouble, IndexError):
+        return ''
+
+
 def on_limit(words, view, what, count):
-    return [f'view {view}, row {int(view) + 1} under the header of the path, needs more than {int(count) - 1} {what}, '
-            f'the limit. --{what} N raises it; the job limits names all such views.']
+    return [f'view {view}, row {int(view) + 1} under the header of the path{place_of(words, int(view))}, needs more than '
+            f'{int(count) - 1} {what}, the limit. --{what} N raises it; the job limits names all such views.']
 
 
 def on_refusal(words, code, numbers):
@@ -96,17 +105,14 @@ def undrawn(scene, things):
 def remarks(words, things):
     """Sentences on what is not refused, and may still be a mistake."""
     scene = Scene(words)
-    for wad in scene.wads[1:]:
-        if head_of(wad) == b'IWAD':
-            yield (f'{wad} is an IWAD and comes behind another WAD, so its maps and pictures count before those '
-                   'of that WAD. Put the IWAD first.')
+    yield from (f'{sentence}.' for sentence in notes.of_words(words))
     if scene.file and len(scene.wads) > 1:
         yield f'{scene.map_name} is that of {scene.file}.'
     if os.path.isfile(things):
         yield from undrawn(scene, things)
 
 
-def explain(line, words):
+def on_line(line, words):
     """Sentences on the line that a call with these words ended with."""
     given, is_kept = Words(program.completed(words)), not Words(words).output
     for form, told in LINES:
@@ -115,13 +121,19 @@ def explain(line, words):
             yield from told(given, *found.groups())
     if given.job == 'trim' and is_kept and re.match('doomview: (read fault|write fault|zone full)', line):
         yield 'what was written is no whole WAD; throw it away.'
+
+
+def explain(line, words):
+    """The same, and what else looks like a mistake."""
+    yield from on_line(line, words)
+    given = Words(program.completed(words))
     if given.job in LEVEL_JOBS and given.wads:
         yield from remarks(given, given.value('--things') or '')
 
 
-def tell(line, words):
+def tell(line: str, words: list, sentences=explain) -> None:
     """Prints the sentences on a line."""
-    for sentence in explain(line, words):
+    for sentence in sentences(line, words):
         print(f'explain: {sentence}', file=sys.stderr)
 
 

@@ -6,6 +6,7 @@ from .trouble import Trouble
 
 WIDTH, HEIGHT = 320, 200
 SIZE = WIDTH * HEIGHT
+ROWS_ABOVE_BAR = 168
 PPM_HEAD = b'P6\n320 200\n255\n'
 NONZERO = re.compile(b'[^\\0]')
 
@@ -25,9 +26,19 @@ def count_parts(path, size, form):
     return length // size
 
 
-def differing(ours, port):
-    """The places, in ascending order, at which two frames differ."""
+def window(size: int) -> tuple:
+    """Where the window of a view size is in a frame: left, top, width and height (R_ExecuteSetViewSize)."""
+    if size == 11:
+        return 0, 0, WIDTH, HEIGHT
+    width, height = 32 * size, size * ROWS_ABOVE_BAR // 10 & ~7
+    return (WIDTH - width) // 2, 0 if width == WIDTH else (ROWS_ABOVE_BAR - height) // 2, width, height
+
+
+def differing(ours: bytes, port: bytes, mask: bytes = b'') -> list:
+    """The places, in ascending order, at which two frames differ; with a mask those where it is not 0."""
     both = int.from_bytes(ours, 'big') ^ int.from_bytes(port, 'big')
+    if mask:
+        both &= int.from_bytes(mask, 'big')
     return [match.start() for match in NONZERO.finditer(both.to_bytes(len(ours), 'big'))]
 
 

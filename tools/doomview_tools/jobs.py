@@ -1,15 +1,19 @@
 """The jobs of the proved program, its options (data/options.csv, where they stand once), and the words of a call."""
 import collections
 import csv
+import difflib
 import functools
 import re
+import typing
 
-from . import home, wads
+from . import home, system, wads
 from .trouble import Trouble
 
 MOST_WADS, MOST_LETTERS = 16, 8
 USAGE, WRITE_FAULT = 1, 4  # statuses of the program
 CHOICES = {'--format': ['index', 'ppm'], '--spans': ['full', 'packed']}
+LIKENESS = 0.7  # of a word that may be meant, as difflib has it
+MAP_NAME = re.compile('E[1-9]M[1-9]|MAP[0-9]{2}')
 NUMERAL = re.compile('[0-9]{1,10}')
 
 Option = collections.namedtuple('Option', 'name value jobs is_needed least greatest step default meaning')
@@ -112,9 +116,9 @@ sectors 400 views 30 frames 30 bytes 1920000 sum 110342962
 LEVEL_JOBS = [job.name for job in JOBS.values() if job.words[0] == MAP]
 STATUSES = {
     0: 'the whole output was written',
-    1: 'usage: the words are no job; doomview explain with the same words says what is wrong',
-    2: 'refused CODE A B ..: the bytes of a file are refused; doomview explain says which',
-    3: 'read fault: a file is absent, or could not be read',
+    1: 'usage: the words are no job; a sentence says what is wrong',
+    2: 'refused CODE A B ..: the bytes of a file are refused; sentences say which, and how to mend it',
+    3: 'read fault: a file is absent, or could not be read; a sentence says which',
     4: 'write fault: the output could not be written',
     5: 'limit view V planes N, or openings N: a view has more than --planes or --openings allow',
     6: 'zone full wanted W widest X: --zone is too small',
@@ -224,11 +228,37 @@ class Words:
         return words
 
 
+def meant(word: str, known: typing.Iterable[str]) -> str:
+    """What may be meant by a word that is not known, as the end of a sentence, or an empty text."""
+    near = difflib.get_close_matches(word, list(known), 1, LIKENESS)
+    return f'; did you mean {near[0]}?' if near else ''
+
+
+def is_wad(word: str) -> bool:
+    """Whether a word is the name of a WAD, and of no map."""
+    is_map = MAP_NAME.fullmatch(word.upper())
+    return not is_map and (word.lower().endswith('.wad') or system.has_folder(word) or wads.find_or_none(word) is not None)
+
+
+def in_order(words: list) -> list:
+    """The words of a job with the map, or the flat, before the WADs, where it stands behind one and the words tell."""
+    given = Words(words)
+    others = [word for word in given.plain[1:] if not is_wad(word)]
+    if not given.wads or len(others) != 1 or others[0] == given.plain[1]:
+        return list(words)
+    own = list(given.words)
+    kept = [word for word in given.plain[1:] if is_wad(word)]
+    for place, word in zip(given.places[1:], others + kept):
+        own[place] = word
+    return own if given.output is None else ['-o', given.output, *own]
+
+
 def wrong_option(job, name, values):
     """What is wrong with an option of a job, or None."""
     known = [option.name for option in options_of(job)]
     if job in JOBS and name not in known:
-        return f'{job} takes no {name}' + (f'; its options are {" ".join(known)}' if known else '')
+        near = meant(name, known)
+        return f'{job} takes no {name}' + (near or (f'; its options are {" ".join(known)}' if known else ''))
     if len(values) > 1:
         return f'{name} may come only once'
     if values[0] is None:
@@ -255,7 +285,7 @@ def wrong_words(words):
     found = [wrong_option(words.job, name, values) for name, values in words.given.items()]
     found = [sentence for sentence in found if sentence]
     if words.job not in JOBS:
-        return [f'the first word is a job: {", ".join(JOBS)}', *found]
+        return [f'the first word is a job: {", ".join(JOBS)}{meant(words.job, JOBS)}', *found]
     return found + (wrong_level(words) if words.job in LEVEL_JOBS else [])
 
 

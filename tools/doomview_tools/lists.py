@@ -254,6 +254,13 @@ class Places:
         has_upper = back.ceiling < front.ceiling and not front.ceiling_flat == back.ceiling_flat == SKY
         return [('upper', side.upper)] * has_upper + [('lower', side.lower)] * (back.floor > front.floor)
 
+    def lit(self, fragment, kind):
+        """The sector that lights a wall, in words: that of its leaf, or of a middle texture that of its side."""
+        sector = self.sector_of_fragment(fragment)
+        if kind == MIDDLE:
+            sector = self.level.sides[self.seg(fragment.seg)[1]].sector
+        return f', sector {sector}, light {self.level.sectors[sector].light}'
+
     def wall(self, view, painter, number):
         fragment = self.item(view.fragments, 'fragment', number)
         source = self.names.source(painter)
@@ -264,7 +271,7 @@ class Places:
             raise self.other(f'{where} has no part with {source}, which the trace has of fragment {number}')
         if len({name for _, name in parts}) == 1:
             parts = [(' or '.join(part for part, _ in parts), parts[0][1])]
-        what = ' or '.join(f'{part} texture {name}' for part, name in parts)
+        what = ' or '.join(f'{part} texture {name}' for part, name in parts) + self.lit(fragment, painter.kind)
         is_patch = painter.source_kind != COMPOSITE and (len(parts) > 1 or source != parts[0][1])
         return Placed(where, what, f'fragment {number}, seg {fragment.seg}', f'patch {source}' if is_patch else '')
 

@@ -1,9 +1,11 @@
 """Camera paths: rows of x, y, z in 16.16 map units and an angle, 2^32 a turn; maybe extra light and a colormap.
 
-`rows` reads a file of rows, `text` writes rows; `turn` and `places` choose them. z is the height of the eye."""
+`rows` reads a file of rows, `text` writes rows; `turn` and `places` choose them, `row_of` reads one as an editor or the
+cheat idmypos shows it, and `told` says one in both forms. z is the height of the eye."""
 import collections
 import csv
 import random
+import re
 
 from .levels import EYE_HEIGHT, TURN, UNIT
 from .trouble import Trouble
@@ -13,6 +15,9 @@ LIGHT = ['extralight', 'colormap']
 NEAR = 24 * UNIT
 MARGIN = 64
 MOST_ROWS = 10000
+FARTHEST = 32767  # map units
+IDMYPOS = re.compile(r'ang=(0x[0-9a-f]+);x,y=\((0x[0-9a-f]+),(0x[0-9a-f]+)\)')
+FORMS = 'X,Y,DEGREES or X,Y,DEGREES,Z in map units, or the line of idmypos, ang=0x..;x,y=(0x..,0x..)'
 
 Row = collections.namedtuple('Row', 'x y z angle extralight colormap', defaults=(0, 0))
 
@@ -36,6 +41,78 @@ def text(rows):
     is_lit = any(row.extralight or row.colormap for row in rows)
     lines = [HEADER + LIGHT if is_lit else HEADER] + [row if is_lit else row[:4] for row in rows]
     return ''.join(','.join(map(str, line)) + '\n' for line in lines)
+
+
+def signed(word):
+    """A word of 32 bits as a number with a sign."""
+    return (word + TURN // 2) % TURN - TURN // 2
+
+
+def of_numbers(level, x, y, degrees, z=None):
+    """The row of a place in map units and degrees; the eye is 41 above the floor where z is not given."""
+    if not max(abs(x), abs(y), abs(z or 0)) <= FARTHEST or not abs(degrees) < TURN:
+        raise ValueError
+    z = level.floor_at(x, y) + EYE_HEIGHT if z is None else z
+    return Row(round(x * UNIT), round(y * UNIT), round(z * UNIT), round(degrees * TURN / 360) % TURN)
+
+
+def of_idmypos(level, angle, x, y):
+    """The row of a place by the words of idmypos; the eye is 41 above the floor."""
+    if max(angle, x, y) >= TURN:
+        raise ValueError
+    x, y = signed(x), signed(y)
+    return Row(x, y, (level.floor_at(x / UNIT, y / UNIT) + EYE_HEIGHT) * UNIT, angle)
+
+
+def placed(text, level):
+    """The row of a place; a ValueError where the text is none."""
+    found = IDMYPOS.fullmatch(text.strip().lower())
+    if found:
+        return of_idmypos(level, *(int(number, 16) for number in found.groups()))
+    numbers = [float(word) for word in text.split(',')]
+    if len(numbers) not in (3, 4):
+        raise ValueError
+    return of_numbers(level, *numbers)
+
+
+def of_row(words):
+    """A row of a camera path; a ValueError where its numbers are none."""
+    row = Row(*map(int, words))
+    if any(not -FARTHEST * UNIT <= place <= FARTHEST * UNIT for place in row[:3]) or not 0 <= row.angle < TURN:
+        raise ValueError
+    return row
+
+
+def row_at(text: str, level) -> Row:
+    """The row of a place as an editor shows it, or as the cheat idmypos does; a Trouble where it is none."""
+    try:
+        return placed(text, level)
+    except ValueError as error:
+        raise Trouble(f'{text.strip()} is no place: {FORMS}') from error
+
+
+def row_of(text: str, level) -> Row:
+    """The row of a view that a word names: by a place, or by a row of a camera path."""
+    words = text.split(',')
+    try:
+        if len(words) in (len(HEADER), len(HEADER + LIGHT)) and not IDMYPOS.fullmatch(text.strip().lower()):
+            return of_row(words)
+        return placed(text, level)
+    except ValueError as error:
+        raise Trouble(f'{text.strip()} is no view: X,Y,ANGLE in map units and degrees, X,Y,Z,ANGLE as in a camera path, or '
+                      'the line of idmypos') from error
+
+
+def number_told(value: float) -> str:
+    """A number of map units or degrees, without zeros behind its point."""
+    return f'{value:.3f}'.rstrip('0').rstrip('.')
+
+
+def told(row: Row) -> str:
+    """A place in words: as in an editor, and as a row of a path."""
+    numbers = row.x / UNIT, row.y / UNIT, row.z / UNIT, row.angle * 360 / TURN
+    x, y, eye, angle = map(number_told, numbers)
+    return f'x {x} y {y} eye {eye} angle {angle}, row {",".join(map(str, row[:4]))}'
 
 
 def start_angle(thing):

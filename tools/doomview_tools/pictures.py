@@ -1,177 +1,125 @@
-"""Pictures that ports write, PNG and PCX, as frames of palette indices."""
-import collections
-import os
-import re
-import struct
-import zlib
+"""Pictures that ports write, PNG, PCX and PPM, as frames of palette indices.
 
-from .frames import HEIGHT, SIZE, WIDTH
-from .png import INDEXED, RGB, SIGNATURE
+The reader of pictures is in vectors/pictures.py, where `vectors/check` has it without these tools."""
+import functools
+import importlib.util
+import os
+
+from . import diagnoses, home
+from .frames import SIZE, WIDTH
 from .trouble import Trouble
 
-ENDINGS = ('.png', '.pcx')
-GREY, GREY_ALPHA, RGB_ALPHA = 0, 4, 6  # colour types of a PNG, beside RGB and INDEXED
-PARTS = {GREY: 1, RGB: 3, INDEXED: 1, GREY_ALPHA: 2, RGB_ALPHA: 4}
-PCX_HEAD = struct.Struct('<4B4H')
-PCX_PALETTE, PCX_COLOURS = 769, 12  # bytes of the palette at the end, and the byte before it
-RUN = 0xc0
 
-Picture = collections.namedtuple('Picture', 'parts pixels palette')  # bytes a pixel; a palette where it is one byte
+@functools.lru_cache(maxsize=None)
+def reader():
+    """The module vectors/pictures.py."""
+    path = os.path.join(home.TOP, 'vectors', 'pictures.py')
+    if not os.path.isfile(path):
+        raise Trouble(f'{path} is missing; take the whole folder of doomview anew')
+    spec = importlib.util.spec_from_file_location('vectors_pictures', path)
+    module = importlib.util.module_from_spec(spec)
+    spec.loader.exec_module(module)
+    return module
 
 
-def is_picture(path):
-    return path.lower().endswith(ENDINGS)
+def read(call, *words):
+    """What a call of the reader gives; a Trouble where it refuses."""
+    try:
+        return call(*words)
+    except reader().Refused as error:
+        raise Trouble(str(error)) from error
 
 
-def files_of(path):
+def is_picture(path: str) -> bool:
+    return reader().is_picture(path)
+
+
+def is_ppm(path: str) -> bool:
+    """Whether a file begins as a PPM does that doomview writes."""
+    head = reader().PPM_HEAD
+    if not os.path.isfile(path):
+        return False
+    with open(path, 'rb') as file:
+        return file.read(len(head)) == head
+
+
+def files_of(path: str) -> list:
     """The files that a name means: itself, or those in a folder, its pictures alone if it has some, in the order of the
     numbers in their names."""
     if not os.path.isdir(path):
         return [path]
+    found = reader().of_folder(path)
+    if found:
+        return found
     names = [name for name in os.listdir(path) if name[0] != '.' and os.path.isfile(os.path.join(path, name))]
-    names = [name for name in names if is_picture(name)] or names
     if not names:
-        raise Trouble(f'{path} has no frames, neither pictures whose names end in {" or ".join(ENDINGS)} nor files of '
-                      f'{SIZE} bytes a view')
-    return [os.path.join(path, name) for name in sorted(names, key=in_order)]
-
-
-def in_order(name):
-    return [(part.isdecimal(), int(part) if part.isdecimal() else 0, part) for part in re.split(r'(\d+)', name.lower())]
-
-
-def paeth(left, above, corner):
-    guess = left + above - corner
-    return min((abs(guess - left), 0, left), (abs(guess - above), 1, above), (abs(guess - corner), 2, corner))[2]
-
-
-def unfiltered(kind, line, above, step):
-    """A line of a PNG as it was before its filter."""
-    found = bytearray(line)
-    if kind not in range(5):
-        raise ValueError
-    for i in range(len(found) if kind else 0):
-        left, corner = (found[i - step], above[i - step]) if i >= step else (0, 0)
-        add = {1: left, 2: above[i], 3: (left + above[i]) // 2}.get(kind)
-        found[i] = (found[i] + (paeth(left, above[i], corner) if add is None else add)) & 255
-    return found
-
-
-def spread(line, depth):
-    """The pixels of a line that has several in a byte."""
-    if depth == 8:
-        return bytes(line)
-    return bytes(byte >> shift & (1 << depth) - 1 for byte in line for shift in range(8 - depth, -1, -depth))
-
-
-def chunks(data):
-    at = len(SIGNATURE)
-    while at + 8 <= len(data):
-        size, kind = struct.unpack_from('>I4s', data, at)
-        yield kind, data[at + 8:at + 8 + size]
-        at += 12 + size
-
-
-def read_png(data):
-    """Width, height and the picture of a PNG; a ValueError where it is of another kind, or damaged."""
-    found = collections.defaultdict(bytes)
-    for kind, part in chunks(data):
-        found[kind] += part
-    width, height, depth, colour, _, _, interlaced = struct.unpack('>IIBBBBB', found[b'IHDR'])
-    if interlaced or depth > 8 or depth < 8 and colour != INDEXED or (width, height) != (WIDTH, HEIGHT):
-        return width, height, None
-    parts = PARTS[colour]
-    size = (width * parts * depth + 7) // 8
-    lines, above, packed = [], bytes(size), zlib.decompress(found[b'IDAT'])
-    for row in range(height):
-        at = (size + 1) * row
-        above = unfiltered(packed[at], packed[at + 1:at + 1 + size], above, max(1, parts * depth // 8))
-        lines.append(spread(above, depth)[:width * parts])
-    pixels = b''.join(lines)
-    if colour in (GREY, GREY_ALPHA):
-        pixels, parts = bytes(grey for grey in pixels[::parts] for _ in 'rgb'), 3
-    elif colour == RGB_ALPHA:
-        pixels, parts = bytes(part for i, part in enumerate(pixels) if i % 4 < 3), 3
-    return width, height, Picture(parts, pixels, found[b'PLTE'] if parts == 1 else b'')
-
-
-def read_pcx(data):
-    """The same of a PCX of 8 bits: of one plane with 256 colours, or of three."""
-    maker, _, packs, bits, left, top, right, bottom = PCX_HEAD.unpack_from(data)
-    planes, size = struct.unpack_from('<BH', data, 65)
-    width, height = right - left + 1, bottom - top + 1
-    if maker != 10 or bits != 8 or planes not in (1, 3) or size < width or (width, height) != (WIDTH, HEIGHT):
-        return width, height, None
-    found, at = bytearray(), 128
-    while len(found) < size * planes * height:
-        byte, at = data[at], at + 1
-        if packs and byte >= RUN:
-            found += bytes([data[at]]) * (byte - RUN)
-            at += 1
-        else:
-            found.append(byte)
-    lines = [[found[size * (planes * row + plane):][:width] for plane in range(planes)] for row in range(height)]
-    pixels = bytes(part for line in lines for pixel in zip(*line) for part in pixel)
-    palette = data[-PCX_PALETTE + 1:] if planes == 1 and data[-PCX_PALETTE] == PCX_COLOURS else b''
-    return width, height, Picture(planes, pixels, palette)
-
-
-def read(path):
-    """The picture of a file; a Trouble where it is none, or no frame."""
-    try:
-        with open(path, 'rb') as file:
-            data = file.read()
-        width, height, picture = (read_png if data.startswith(SIGNATURE) else read_pcx)(data)
-        if picture and len(picture.pixels) != picture.parts * SIZE:
-            raise ValueError
-    except OSError as error:
-        raise Trouble(f'cannot read {path}: {error.strerror}')
-    except (ValueError, KeyError, IndexError, struct.error, zlib.error):
-        raise Trouble(f'{path} is no PNG or PCX, or is damaged')
-    if picture is None:
-        raise Trouble(f'{path} is {width} by {height}, or of a kind that is not read: a frame is {WIDTH} by {HEIGHT}, '
-                      'of 8 bits a colour')
-    return picture
+        raise Trouble(f'{path} has no frames, neither pictures whose names end in {", ".join(reader().ENDINGS)} nor '
+                      f'files of {SIZE} bytes a view')
+    return [os.path.join(path, name) for name in sorted(names, key=reader().in_order)]
 
 
 class Palette:
     """The colours of a palette, and of each the entries that have it."""
 
-    def __init__(self, palette):
-        self.palette, self.entries = bytes(palette), collections.defaultdict(list)
-        for entry in range(256):
-            self.entries[self.palette[3 * entry:3 * entry + 3]].append(entry)
+    def __init__(self, palette: bytes):
+        self.palette, self.entries = bytes(palette), reader().entries_of(palette)
         self.doubtful = set()  # entries that were taken where others have the same colour
 
-    def frame(self, path, ours):
-        """The frame of a picture. Where a colour is in two entries that of `ours` is taken, if it is one of them."""
-        picture = read(path)
-        is_ours = picture.palette and self.palette.startswith(picture.palette)
-        if picture.parts == 1 and is_ours and 3 * max(picture.pixels) < len(picture.palette):
+    def is_own(self, picture) -> bool:
+        """Whether the pixels of a picture are entries of this palette."""
+        is_part = picture.palette and self.palette.startswith(picture.palette)
+        return picture.parts == 1 and is_part and 3 * max(picture.pixels) < len(picture.palette)
+
+    def frame(self, picture, name: str, ours: bytes = b'') -> bytes:
+        """The frame of a picture of a file. Where a colour is in two entries that of `ours` is taken, if it is one of
+        them, else the first."""
+        if self.is_own(picture):
             return picture.pixels
-        colours = picture.pixels if picture.parts == 3 else coloured(picture, path)
-        return bytes(self.entry(colours[3 * i:3 * i + 3], ours[i], path, i) for i in range(SIZE))
+        colours = read(reader().colours_of, picture, name)
+        missing = next((place for place, colour in enumerate(colours) if colour not in self.entries), None)
+        if missing is not None:
+            row, column = divmod(missing, WIDTH)
+            why = diagnoses.of_picture(ours, colours, self.palette) if ours else ''
+            raise Trouble(f'{name}: the colour {",".join(map(str, colours[missing]))} at row {row} column {column} is '
+                          'in no entry of the palette; '
+                          + (why or 'turn off what changes colours (gamma, filters, true colour)'))
+        found = [self.entries[colour] for colour in colours]
+        self.doubtful.update(tuple(self.entries[colour]) for colour in set(colours) if len(self.entries[colour]) > 1)
+        if not ours:
+            return bytes(entries[0] for entries in found)
+        return bytes(own if own in entries else entries[0] for own, entries in zip(ours, found))
 
-    def entry(self, colour, ours, path, place):
-        found = self.entries.get(colour)
-        if not found:
-            row, column = divmod(place, WIDTH)
-            raise Trouble(f'{path}: the colour {",".join(map(str, colour))} at row {row} column {column} is in no '
-                          'entry of the palette; turn off what changes colours (gamma, filters, true colour)')
-        if len(found) > 1:
-            self.doubtful.add(tuple(found))
-        return ours if ours in found else found[0]
-
-    def told(self):
+    def told(self) -> list:
         """A sentence on the colours that are in two entries, or none."""
-        if self.doubtful:
-            some = ', '.join(' and '.join(map(str, found)) for found in sorted(self.doubtful))
-            yield (f'entries of the palette with the same colour: {some}; where ours has one of them, the port counts '
-                   'as having it too')
+        if not self.doubtful:
+            return []
+        some = ', '.join(' and '.join(map(str, found)) for found in sorted(self.doubtful))
+        return [f'entries of the palette with the same colour: {some}; where ours has one of them, the port counts as '
+                'having it too']
 
 
-def coloured(picture, path):
-    """The colours of a picture that has a palette of its own."""
-    if len(picture.palette) < 3 * (max(picture.pixels) + 1):
-        raise Trouble(f'{path} has pixels without a colour in its palette')
-    return b''.join(picture.palette[3 * pixel:3 * pixel + 3] for pixel in picture.pixels)
+class OfPictures:
+    """The frames of pictures by a palette: of files with one picture each, or of one file of PPMs."""
+
+    def __init__(self, files: list, palette: bytes):
+        self.files, self.palette = files, Palette(palette)
+        self.size = reader().PPM_SIZE
+        self.is_stream = len(files) == 1 and is_ppm(files[0])
+        if self.is_stream and os.path.getsize(files[0]) % self.size:
+            raise Trouble(f'{files[0]} has {os.path.getsize(files[0])} bytes, and a PPM of doomview {self.size}; name '
+                          'the whole of what it wrote')
+        self.count = os.path.getsize(files[0]) // self.size if self.is_stream else len(files)
+
+    def picture(self, view: int) -> tuple:
+        """The picture of a view, and the name of its file."""
+        if not self.is_stream:
+            return read(reader().read, self.files[view]), self.files[view]
+        with open(self.files[0], 'rb') as file:
+            file.seek(self.size * view)
+            return read(reader().of_bytes, file.read(self.size), self.files[0]), self.files[0]
+
+    def frame(self, view: int, ours: bytes = b'') -> bytes:
+        return self.palette.frame(*self.picture(view), ours)
+
+    def told(self) -> list:
+        return self.palette.told()

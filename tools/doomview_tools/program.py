@@ -7,7 +7,6 @@ import collections
 import contextlib
 import os
 import shutil
-import signal
 import subprocess
 import tempfile
 
@@ -19,7 +18,6 @@ from .trouble import Ended, Trouble
 NO_PROGRAM = 70  # the status where there is no run
 SECONDS = 300  # that a run of the sources without proofs may take
 SHOWN = 5  # lines of what rt said where there was no run
-IGNORED = system.signals('SIGPIPE', 'SIGXFSZ')  # by Python, and not by the program
 
 Run = collections.namedtuple('Run', 'status output line said')
 
@@ -194,21 +192,15 @@ def start(words, **more):
         raise Trouble(f'cannot run {path()}: {error.strerror}', NO_PROGRAM)
 
 
-def replace(words):
-    """Puts a run of the program in the place of this process; or runs it to its end where it needs what this process
-    holds. Gives its status."""
+def pass_on(words: list) -> Run:
+    """Runs the program with its output on the standard output, as it comes; what it said on standard error is kept."""
     words = completed(words)
     guard_terminal(words)
-    program = ready()
-    for number in IGNORED:
-        signal.signal(number, signal.SIG_DFL)
     try:
-        if held_files or system.IS_WINDOWS:  # which has no process take the place of another
-            status = subprocess.run([program, *words], env=environment()).returncode
-            return status if status >= 0 else 128 - status
-        os.execve(program, [program, *words], environment())
+        done = subprocess.run([ready(), *words], env=environment(), stderr=subprocess.PIPE)
     except OSError as error:
-        raise Trouble(f'cannot run {program}: {error.strerror}', NO_PROGRAM)
+        raise Trouble(f'cannot run {path()}: {error.strerror}', NO_PROGRAM) from error
+    return ended(done.returncode, None, done.stderr)
 
 
 def renamed(word, files):

@@ -1,25 +1,13 @@
 """Why a view has as many planes as it has, as lines for a terminal."""
 import collections
 
+from . import paths
 from .counting import LIMITS
-from .levels import TURN, UNIT
 from .lists import FRONT_AND_BACK, sectors_told
 
 SHOWN = 20  # lines of a table
 
 Made = collections.namedtuple('Made', 'planes splits columns')
-
-
-def number_told(value):
-    """A number of map units or degrees, without zeros behind its point."""
-    return f'{value:.3f}'.rstrip('0').rstrip('.')
-
-
-def head(number, row):
-    """The line on where a view is: as in an editor, and as a row of a path."""
-    parts = row.x / UNIT, row.y / UNIT, row.z / UNIT, row.angle * 360 / TURN
-    x, y, eye, angle = map(number_told, parts)
-    return f'view {number}: x {x} y {y} eye {eye} angle {angle}, row {",".join(map(str, row[:4]))}'
 
 
 def count_told(name, count):
@@ -87,7 +75,7 @@ def table(rows, is_right):
 
 def reasons(number, row, view, places, shows_all):
     """The lines on a view."""
-    yield head(number, row)
+    yield f'view {number}: {paths.told(row)}'
     if view.over:
         yield f'  more than {view.over[1] - 1} {view.over[0]}, the most that doomview counts'
         return

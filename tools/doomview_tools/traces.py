@@ -1,5 +1,6 @@
 """Traces: what painted each pixel of the frames, a record of eight bytes a pixel (docs/FORMATS.md, "Traces")."""
 import collections
+import functools
 import struct
 
 from .frames import HEIGHT, SIZE, WIDTH, count_parts
@@ -14,6 +15,7 @@ KINDS = {0: ('nothing', ''), 1: ('wall', 'fragment'), 2: ('plane', 'plane'), 3: 
          4: ('middle', 'fragment'), 5: ('sprite', 'sprite'), 6: ('weapon', 'row')}
 TEXTURED = (1, 3, 4)  # kinds that paint from a texture
 LUMP, COMPOSITE = 1, 2  # kinds of sources
+GROUP_OF = {2: 'flat', 5: 'picture of a sprite', 6: 'picture of a sprite'}  # what kinds paint from
 SHOWN_NUMBERS, SHOWN_TEXTURES, SHOWN_PLACES = 6, 3, 12
 
 Painter = collections.namedtuple('Painter', 'kind source_kind source')
@@ -65,9 +67,39 @@ class Names:
                     self.with_patch[patch].append(name)
         except struct.error:
             raise Trouble('the lists of textures in the WADs are damaged; leave the WADs out')
-        self.palette = dict(lumps).get('PLAYPAL', b'')[:768]
+        self.palette, self.colormaps = dict(lumps).get('PLAYPAL', b'')[:768], dict(lumps).get('COLORMAP', b'')
         if len(self.palette) < 768:
             self.palette = GREYS
+
+    def check(self, record: bytes, path: str) -> None:
+        """A Trouble where a record names a lump or a texture that the WADs do not have, or a lump of another kind."""
+        kind, source_kind, _, source, _, _ = RECORD.unpack(record)
+        if not self.lumps or not source_kind:
+            return
+        names, word = (self.textures, 'texture') if source_kind == COMPOSITE else (self.lumps, 'lump')
+        if source >= len(names):
+            raise self.other(path, f'the WADs have no {word} {source}, and it has')
+        if source_kind == LUMP and source in self.unlike.get(GROUP_OF.get(kind, ''), ()):
+            raise self.other(path, f'lump {source} of the WADs is {names[source]}, which is no {GROUP_OF[kind]}, and a '
+                                   f'{KINDS[kind][0]} has it')
+
+    def other(self, path, what):
+        return Trouble(f'{path} is a trace of other WADs: {what}; name the WADs of the run, in their order')
+
+    @functools.cached_property
+    def unlike(self):
+        """Of flats and pictures of sprites the numbers of the lumps that are none, where the WADs mark any."""
+        found = {}
+        for group, letter in (('flat', 'F'), ('picture of a sprite', 'S')):
+            marks = {f'{letter}_START': 1, f'{2 * letter}_START': 1, f'{letter}_END': 0, f'{2 * letter}_END': 0}
+            is_in, outside = 0, set()
+            for number, name in enumerate(self.lumps):
+                is_in = marks.get(name, is_in)
+                if not is_in:
+                    outside.add(number)
+            if len(outside) < len(self.lumps):
+                found[group] = outside
+        return found
 
     def source(self, painter):
         """The name of what a painter read: of a lump or of a texture."""
@@ -111,14 +143,46 @@ def told(record, names):
     return ', '.join(parts + [f'colour {colour}'])
 
 
-def painters(records, places, names, place_of=None):
-    """Lines on the painters of some places of a view: the most pixels first. `place_of` says of a painter and its
-    number where in the map that is; then the lines under a painter have the pixels of each."""
+def numbers_of(words: str) -> set:
+    """The numbers of kinds of painters that words name, with commas between them; a Trouble where there is no such."""
+    known = {word: kind for kind, (word, _) in KINDS.items()}
+    wrong = [word for word in words.split(',') if word not in known]
+    if wrong:
+        raise Trouble(f'there is no painter {wrong[0]}; there are {", ".join(known)}')
+    return {known[word] for word in words.split(',')}
+
+
+def mask(records: bytes, kinds: set) -> bytes:
+    """Of each pixel of a view 255 where what painted it is of one of some kinds, and else 0."""
+    table = bytes(255 * (kind in kinds) for kind in range(256))
+    return records[::RECORD.size].translate(table)
+
+
+def check_records(records: bytes, places: list, ours: bytes, names: 'Names', path: str) -> None:
+    """A Trouble where the records of a view are not those of doomview's frame, or not over these WADs."""
+    for record in {records[RECORD.size * place:RECORD.size * place + RECORD.size] for place in places}:
+        names.check(record, path)
+    for place in places:
+        colour = records[RECORD.size * place + 6]
+        if colour != ours[place]:
+            row, column = divmod(place, WIDTH)
+            raise Trouble(f'{path} is not the trace of these frames: at row {row} column {column} it has colour '
+                          f'{colour} and the frame {ours[place]}; name what doomview trace wrote for the same words')
+
+
+def pixels_of(records: bytes, places: list) -> dict:
+    """Of each painter of some places of a view how many pixels each of its numbers has."""
     pixels = collections.defaultdict(collections.Counter)
     for record, count in collections.Counter(records[8 * place:8 * place + 8] for place in places).items():
         kind, source_kind, number, source, _, _ = RECORD.unpack(record)
         pixels[Painter(kind, source_kind, source)][number] += count
-    for painter, numbers in sorted(pixels.items(), key=lambda it: -sum(it[1].values())):
+    return pixels
+
+
+def painters(records, places, names, place_of=None):
+    """Lines on the painters of some places of a view: the most pixels first. `place_of` says of a painter and its
+    number where in the map that is; then the lines under a painter have the pixels of each."""
+    for painter, numbers in sorted(pixels_of(records, places).items(), key=lambda it: -sum(it[1].values())):
         word, thing = KINDS.get(painter.kind, (f'kind {painter.kind}', 'number'))
         known = names.known(painter)
         more = f'patch {known.more}' if known.word == 'patch' else known.more

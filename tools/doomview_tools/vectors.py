@@ -28,10 +28,11 @@ PISTOL = (weapons.raised('PISG'),)
 HELD = [PISTOL, (weapons.raised('PUNG'),), (weapons.raised('SHTG', 'B'),), (weapons.raised('PISG', 'B'),
         weapons.raised('PISF', 'A', 1)), (weapons.raised('MISG', 'B'), weapons.raised('MISF', 'B', 1)),
         (weapons.Layer('CHGG', 'A', 0, -700000, 40 * weapons.UNIT + 12345),)]
+WADS, WADS_HEAD = 'wads.csv', 'vectors,wad,version,sha256'  # beside the vectors: which WADs they are of
 NONE = '-'  # the sum where a run ends without the frame
 
 Vector = collections.namedtuple('Vector', 'set map view skill size weapon x y z angle extralight colormap frame packed '
-                                'answer original bands')
+                                'answer original bands packedbands', defaults=('',))
 Group = collections.namedtuple('Group', 'set skill size layers rows')  # views of one run
 
 
@@ -81,8 +82,8 @@ def words_of(group):
     return ['--skill', skill, '--size', size], ['-skill', skill, '-size', size]
 
 
-def run_of(folder, wad, name, group):
-    return original.Run(folder, wad, name, group.rows, *words_of(group), group.layers)
+def run_of(folder, wad, name, group, spans='full'):
+    return original.Run(folder, wad, name, group.rows, *words_of(group), group.layers, spans)
 
 
 def vectors_of(run, group, first):
@@ -92,9 +93,10 @@ def vectors_of(run, group, first):
     for i, row in enumerate(group.rows):
         ours, full = run.ours.get(i, b''), run.port.get(i, b'')
         drawn = b'' if answer[i] in ('ended', 'ranges') else full
+        dos = b'' if i in ended else packed[i]
         yield Vector(group.set, run.name, first + i, group.skill, group.size, weapons.word(group.layers), *row,
-                     sum_of(ours), NONE if i in ended else sum_of(packed[i]), answer[i],
-                     '' if answer[i] == 'same' else sum_of(drawn), bands_of(ours))
+                     sum_of(ours), sum_of(dos), answer[i], '' if answer[i] == 'same' else sum_of(drawn),
+                     bands_of(ours), bands_of(dos))
 
 
 def made(wad, name, places=PLACES):
@@ -117,9 +119,23 @@ def text(vectors):
     return out.getvalue()
 
 
+def wads_text(folder: str, name: str, wad: str) -> str:
+    """The text of a folder's table of WADs with the WAD of the vectors of a name, in the place of an older line."""
+    try:
+        with open(os.path.join(folder, WADS), encoding='utf-8') as file:
+            lines = file.read().splitlines()[1:]
+    except OSError:
+        lines = []
+    with open(wad, 'rb') as file:
+        own = f'{name},{os.path.basename(wad)},,{hashlib.sha256(file.read()).hexdigest()}'
+    kept = [line for line in lines if line.split(',')[0] != name]
+    return '\n'.join([WADS_HEAD, *kept, own]) + '\n'
+
+
 def vector_of(record):
     """The vector of a row of a file, by the names of its columns."""
-    texts = ('set', 'map', 'weapon', 'frame', 'packed', 'answer', 'original', 'bands')
+    texts = ('set', 'map', 'weapon', 'frame', 'packed', 'answer', 'original', 'bands', 'packedbands')
+    record = {**Vector._field_defaults, **record}
     return Vector(**{name: record[name] if name in texts else int(record[name]) for name in Vector._fields})
 
 
@@ -151,13 +167,15 @@ def key_of(vector):
     return vector.set, vector.skill, vector.size, weapons.of_word(vector.weapon)
 
 
-def frames(wad, vectors):
-    """doomview's frames of vectors of one map and set, one after the other; zeros for a view that a run would end."""
+def frames(wad: str, vectors: list, spans: str = 'full') -> bytes:
+    """doomview's frames of vectors of one map and set, one after the other, with full or packed spans; zeros for a view
+    that a run would end."""
     drawn = []
     for key, part in itertools.groupby(vectors, key_of):
         part = list(part)
         with tempfile.TemporaryDirectory(prefix='doomview-') as folder:
-            run = run_of(folder, os.path.abspath(wad), part[0].map, Group(*key, [row_of(it) for it in part]))
+            run = run_of(folder, os.path.abspath(wad), part[0].map, Group(*key, [row_of(row) for row in part]),
+                         spans)
             run.draw({i for i, vector in enumerate(part) if vector.frame == NONE})
             drawn += [run.ours.get(i, bytes(SIZE)) for i in range(len(part))]
     return b''.join(drawn)
@@ -172,11 +190,12 @@ def of_frames(path, frames_path):
     return found
 
 
-def known(vector, frame):
-    """In a word or two what a port's frame that is not doomview's is at a vector, or an empty text."""
-    found = sum_of(frame)
-    if found == vector.packed:
-        return 'packed spans'
-    if vector.answer != 'same' and found == vector.original:
-        return f"the original's frame ({vector.answer})"
-    return ''
+def known(vector: Vector, ours: bytes, frame: bytes) -> str:
+    """In a word or two what a port's frame that is not doomview's is at a vector, or an empty text. What is the
+    original's in the spans of doomview's frame comes first."""
+    original_one = f"the original's frame ({vector.answer})" if vector.answer != 'same' else 'packed spans'
+    if sum_of(ours) == vector.frame:
+        names = {vector.packed: 'packed spans', vector.original: original_one}
+    else:
+        names = {vector.frame: 'full spans', vector.original: 'full spans', vector.packed: original_one}
+    return names.get(sum_of(frame), '')

@@ -60,11 +60,12 @@ class Compare(Tools):
         status, output, error = self.run_tool('compare', 'ours.bin', 'port.bin')
         self.assertEqual((status, error), (1, ''))
         self.assertEqual(output.decode().splitlines(), [
+            '2 of 3 views differ',
             'view 1 pixels 2 rows 3 to 60 columns 2 to 7 first at row 3 column 7: 9, port 5',
             'view 2 pixels 1 rows 199 to 199 columns 319 to 319 first at row 199 column 319: 200, port 5',
             'views 3 same 1 different 2 pixels 3'])
         most = self.run_tool('compare', 'ours.bin', 'port.bin', '--most', '1')[1].decode().splitlines()
-        self.assertEqual([most[0][:6], most[1:]], ['view 1', ['views 3 same 1 different 2 pixels 3']])
+        self.assertEqual([most[1][:6], most[2:]], ['view 1', ['views 3 same 1 different 2 pixels 3']])
 
     def test_fewer_views(self):
         self.write('ours.bin', painted() * 3)
@@ -75,7 +76,7 @@ class Compare(Tools):
 
     def test_painters(self):
         """What painted the pixels, by name, the most pixels first."""
-        self.write('ours.bin', painted((1, 1, 6), (1, 2, 7), (5, 5, 8), (9, 9, 0)))
+        self.write('ours.bin', painted((1, 1, 6), (1, 2, 6), (5, 5, 8), (9, 9, 0)))
         self.write('port.bin', painted())
         wall, sprite = (1, 2, 4, 1, 6, 0), (5, 1, 2, 1, 8, 0)
         self.write('trace.bin', traced((1, 1, wall), (1, 2, wall), (5, 5, sprite)))
@@ -84,20 +85,20 @@ class Compare(Tools):
         words = ['compare', 'ours.bin', 'port.bin', '--trace', 'trace.bin']
         status, output, error = self.run_tool(*words, '--wad', 'names.wad')
         self.assertEqual((status, error), (1, ''))
-        self.assertEqual(output.decode().splitlines()[1:-1], ['  wall     STONE          2  fragment 4',
+        self.assertEqual(output.decode().splitlines()[2:-1], ['  wall     STONE          2  fragment 4',
                                                               '  sprite   TROOA1         1  sprite 2',
                                                               '  nothing  -              1'])
         self.assertIn('  wall     texture 1      2  fragment 4\n', self.run_tool(*words)[1].decode())
 
     def test_pixel(self):
         """The painter of one pixel, by name."""
-        spots = [(1, 7, (1, 2, 4, 1, 6, 0)), (2, 319, (5, 1, 2, 1, 8, 0)), (199, 0, (6, 1, 1, 9, 3, 0))]
+        spots = [(1, 7, (1, 2, 4, 1, 6, 0)), (2, 319, (5, 1, 2, 1, 8, 0)), (199, 0, (6, 1, 1, 1, 3, 0))]
         self.write('trace.bin', traced() + traced(*spots))
         lists = ('TEXTURE1', texture_list(['NONE', 'STONE']))
         self.write('names.wad', wad([('PLAYPAL', bytes(768)), ('TROOA1', b''), lists]))
         for words, told in [('1 7 1', 'wall, fragment 4, texture STONE, colour 6'),
                             ('1 319 2', 'sprite 2, lump TROOA1, colour 8'),
-                            ('1 0 199', 'weapon, row 1, lump 9, colour 3'), ('0 0 0', 'nothing, colour 0')]:
+                            ('1 0 199', 'weapon, row 1, lump TROOA1, colour 3'), ('0 0 0', 'nothing, colour 0')]:
             view, x, y = words.split()
             done = self.run_tool('pixel', view, x, y, 'trace.bin', 'names.wad')
             self.assertEqual(done, (0, f'view {view} column {x} row {y}: {told}\n'.encode(), ''))
@@ -127,7 +128,7 @@ class Compare(Tools):
             done = self.run_tool('pixel', '0', str(x), '0', 'trace.bin', 'names.wad')
             self.assertEqual(done, (0, f'view 0 column {x} row 0: {told}, colour 6\n'.encode(), ''))
         words = ['compare', 'ours.bin', 'port.bin', '--trace', 'trace.bin', '--wad', 'names.wad']
-        self.assertEqual(self.run_tool(*words)[1].decode().splitlines()[1:-1], [
+        self.assertEqual(self.run_tool(*words)[1].decode().splitlines()[2:-1], [
             '  wall     FIREBLU2       1  fragment 4  patch W65B_2',
             '  wall     SHARED         1  fragment 4  patch of ONE, TWO',
             '  wall     SAME           1  fragment 4', '  wall     MANY           1  fragment 4  patch of A, B, C ..',
@@ -146,13 +147,85 @@ class Compare(Tools):
         self.assertEqual([pixels[3 * 320 * k:3 * 320 * k + 3] for k in range(3)],
                          [b'\xff\xff\xff', b'\x05\x05\x05', b'\xff\x00\x00'])
 
+    def test_only(self):
+        """Pixels count, and decide the status, where doomview painted some kinds alone."""
+        wall, plane, sprite = (1, 2, 4, 1, 6, 0), (2, 1, 0, 1, 7, 0), (5, 1, 2, 1, 8, 0)
+        self.write('trace.bin', traced((1, 1, wall), (5, 5, sprite)) + traced((2, 2, plane), (9, 9, sprite)))
+        self.write('ours.bin', painted((1, 1, 6), (5, 5, 8)) + painted((2, 2, 7), (9, 9, 8)))
+        self.write('port.bin', painted((1, 1, 1), (5, 5, 8)) + painted((2, 2, 1), (9, 9, 8)))
+        words = ['compare', 'ours.bin', 'port.bin', '--trace', 'trace.bin']
+        self.assertEqual(self.run_tool(*words, '--only', 'sprite,weapon'),
+                         (0, b'of sprite, weapon alone: 2 of 128000 pixels\nviews 2 same 2 different 0 pixels 0\n', ''))
+        status, output, _ = self.run_tool(*words, '--but', 'plane', '--png', 'out')
+        self.assertEqual((status, output.decode().splitlines()[0]), (1, '1 of 2 views differ'))
+        self.assertEqual(output.decode().splitlines()[1:3], [
+            'of nothing, wall, sky, middle, sprite, weapon alone: 127999 of 128000 pixels',
+            'view 0 pixels 1 rows 1 to 1 columns 1 to 1 first at row 1 column 1: 6, port 1'])
+        self.assertEqual(os.listdir(self.at('out')), ['view00000.png'])
+        self.assertEqual(self.run_tool(*words, '--but', 'plane,wall')[0], 0)
+        for part, more in (('there is no painter floor; there are nothing, wall', ['--only', 'floor']),
+                           ('name --only or --but, and not both', ['--only', 'sky', '--but', 'sky'])):
+            self.refuses(part, *words, *more)
+        self.refuses('--only and --but need the trace', *words[:3], '--only', 'sky')
+
+    def test_every_view(self):
+        """What differs in every view is said once: rows and columns, and painters."""
+        wall, other = (1, 2, 4, 1, 6, 0), (1, 2, 5, 0, 6, 0)
+        self.write('ours.bin', b''.join(painted((row, 100, 6), (row, 7, 6)) for row in range(20, 23)))
+        self.write('port.bin', b''.join(painted((row, 7, 5 + row % 2)) for row in range(20, 23)))
+        self.write('trace.bin', b''.join(traced((row, 100, wall), (row, 7, other)) for row in range(20, 23)))
+        output = self.run_tool('compare', 'ours.bin', 'port.bin', '--trace', 'trace.bin', '--most', '0')[1]
+        self.assertEqual(output.decode().splitlines(), [
+            '3 of 3 views differ', 'column 100 in 3 of 3 views: 3 of the 5 pixels that differ',
+            'in each of these 3 views: wall texture 1, 3 pixels', 'views 3 same 0 different 3 pixels 5'])
+
+    def test_other_traces(self):
+        """A trace of other frames, or of other WADs, is refused where that shows."""
+        self.write('ours.bin', painted((1, 1, 6)))
+        self.write('port.bin', painted())
+        lumps = [('PLAYPAL', bytes(768)), ('S_START', b''), ('TROOA1', b''), ('S_END', b''), ('F_START', b''),
+                 ('FLAT1', b''), ('F_END', b''), ('TEXTURE1', texture_list(['NONE', 'STONE']))]
+        self.write('names.wad', wad(lumps))
+        words = ['compare', 'ours.bin', 'port.bin', '--trace', 'trace.bin', '--wad', 'names.wad']
+        for record, part in (((2, 1, 0, 99, 6, 0), 'the WADs have no lump 99, and it has'),
+                             ((1, 2, 0, 2, 6, 0), 'the WADs have no texture 2'),
+                             ((2, 1, 0, 2, 6, 0), 'lump 2 of the WADs is TROOA1, which is no flat, and a plane has it'),
+                             ((5, 1, 0, 5, 6, 0), 'lump 5 of the WADs is FLAT1, which is no picture of a sprite, and a'),
+                             ((2, 1, 0, 5, 7, 0), 'at row 1 column 1 it has colour 7 and the frame 6; name what')):
+            self.write('trace.bin', traced((1, 1, record)))
+            self.refuses(part, *words)
+            if record[4] == 6:
+                self.refuses('a trace of other WADs', 'pixel', '0', '1', '1', 'trace.bin', 'names.wad')
+        self.write('trace.bin', traced((1, 1, (2, 1, 0, 5, 6, 0))))
+        self.assertEqual(self.run_tool(*words)[0], 1)
+
+    def test_ppm(self):
+        """Both files may be what render --format ppm writes."""
+        palette = bytes(part for i in range(256) for part in (i, i // 2, 9))
+        self.write('names.wad', wad([('PLAYPAL', palette)]))
+        views = [painted(), painted((3, 3, 9))]
+        ppm = b''.join(b'P6\n320 200\n255\n' + b''.join(palette[3 * it:3 * it + 3] for it in view) for view in views)
+        self.write('ours.bin', b''.join(views))
+        self.write('ours.ppm', ppm)
+        self.write('frames', ppm[:192015] + ppm[:192015])
+        same, other = b'views 2 same 2 different 0 pixels 0\n', b'1 of 2 views differ\nview 1 pixels 1 '
+        for ours, port, found in (('ours.ppm', 'ours.bin', same), ('ours.bin', 'ours.ppm', same),
+                                  ('ours.ppm', 'ours.ppm', same), ('ours.bin', 'frames', other)):
+            status, output, error = self.run_tool('compare', ours, port, '--wad', 'names.wad')
+            self.assertEqual((status, error), (int(found is other), ''))
+            self.assertTrue(output.startswith(found), output)
+        self.refuses('name it by --wad', 'compare', 'ours.ppm', 'ours.bin')
+        self.write('ours.ppm', ppm[:-1])
+        self.refuses('ours.ppm has 384029 bytes, and a PPM of doomview 192015', 'compare', 'ours.ppm', 'ours.bin',
+                     '--wad', 'names.wad')
+
     @unittest.skipUnless(pages_shown.BROWSER, 'no Chromium here')
     def test_page(self):
         """The page shows the frames, names the painter of a pixel, and its keys work."""
         self.write('ours.bin', painted() + painted((1, 1, 6), (5, 5, 8)) + painted((9, 9, 7)))
         self.write('port.bin', painted() * 3)
         wall, sprite = (1, 2, 4, 1, 6, 0), (5, 1, 2, 1, 8, 0)
-        self.write('trace.bin', traced() + traced((1, 1, wall), (5, 5, sprite)) + traced((9, 9, sprite)))
+        self.write('trace.bin', traced() + traced((1, 1, wall), (5, 5, sprite)) + traced((9, 9, (*sprite[:4], 7, 0))))
         lists = ('TEXTURE1', texture_list(['NONE', 'STONE']))
         self.write('names.wad', wad([('PLAYPAL', bytes(range(256)) * 3), ('</A>', b''), lists]))
         words = ['ours.bin', 'port.bin', '--wad', 'names.wad', '--trace', 'trace.bin', '--html', 'page.html']
@@ -224,7 +297,7 @@ class Compare(Tools):
         status, output, error = self.run_tool('compare', 'ours.bin', 'shots', '--wad', 'names.wad')
         self.assertEqual((status, error), (1, ''))
         self.assertEqual(output.decode().splitlines(), [
-            'view 3 pixels 1 rows 5 to 5 columns 5 to 5 first at row 5 column 5: 8, port 5',
+            '1 of 4 views differ', 'view 3 pixels 1 rows 5 to 5 columns 5 to 5 first at row 5 column 5: 8, port 5',
             'views 4 same 3 different 1 pixels 1'])
         self.write('one.bin', frame)
         words = ['compare', 'one.bin', 'shots/view2.png']
@@ -237,7 +310,7 @@ class Compare(Tools):
         self.write('wide.png', png.png(2, 1, bytes(6)))
         self.refuses('wide.png is 2 by 1', 'compare', 'one.bin', 'wide.png', '--wad', 'names.wad')
         self.write('cut.png', png.SIGNATURE + chunks[:300])
-        self.refuses('cut.png is no PNG or PCX', 'compare', 'one.bin', 'cut.png', '--wad', 'names.wad')
+        self.refuses('cut.png is no PNG, PCX or PPM', 'compare', 'one.bin', 'cut.png', '--wad', 'names.wad')
 
     def test_full_output(self):
         """What cannot be written is told."""
@@ -260,7 +333,7 @@ class Compare(Tools):
             self.write(f'theirs/{place}', frames)
         status, output, error = self.run_tool('compare', 'ours.bin', 'theirs')
         self.assertEqual((status, error), (1, ''))
-        self.assertRegex(output.decode(), '^view 2 pixels 1 .*: 5, port 1\nviews 4 same 3 different 1 pixels 1\n$')
+        self.assertRegex(output.decode(), '^1 of 4 views differ\nview 2 pixels 1 .*: 5, port 1\nviews 4 same 3 different 1 pixels 1\n$')
         self.write('theirs/3.raw', b'odd')
         self.refuses('theirs/3.raw has 3 bytes, and a view has 64000', 'compare', 'ours.bin', 'theirs')
 
@@ -269,7 +342,7 @@ class Compare(Tools):
         self.write('short.bin', painted()[:-1])
         os.mkdir(self.at('empty'))
         for part, words in [('no file absent', ['absent']), ('has 63999 bytes, and a view has 64000', ['short.bin']),
-                            ('empty has no frames, neither pictures whose names end in .png or .pcx nor', ['empty']),
+                            ('empty has no frames, neither pictures whose names end in .png, .pcx, .ppm nor', ['empty']),
                             ('and a view has 512000', ['ours.bin', '--trace', 'ours.bin']),
                             ('is not the trace of 1 views', ['ours.bin', '--trace', 'trace']),
                             ('is no WAD', ['ours.bin', '--wad', 'ours.bin']), ('--help shows its words', []),

@@ -140,7 +140,7 @@ class Explain(Tools):
         """What is not refused, and may still be a mistake."""
         self.write('patch.wad', b'PWAD' + made_wad()[4:])
         words = ['audit', 'MAP01', 'patch.wad', *MAP[1:]]
-        self.explains('', *words, status=0, part='made.wad is an IWAD and comes behind')
+        self.explains('', *words, status=0, part='made.wad is an IWAD and comes behind patch.wad')
         words[2:4] = words[3:1:-1]
         self.explains('', *words, status=0, part='MAP01 is that of patch.wad')
         self.write('things.csv', THINGS.splitlines(True)[0])

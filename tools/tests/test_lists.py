@@ -111,11 +111,11 @@ class Lists(Tools):
     def test_pixel(self):
         """Line, side and part of a wall; the sectors and the maker of a plane; the thing of a sprite."""
         floors = 'plane, floor of sectors 0, 2 at height 0, flat FLAT1, light 160'
-        spots = [((1, 1, 0, P1), 'wall, line 0, front side, upper texture UP (fragment 0, seg 0), patch P1'),
-                 ((1, 1, 0, P2), 'wall, line 0, front side, lower texture LOW (fragment 0, seg 0), patch P2'),
-                 ((4, 2, 0, 2), 'middle, line 0, front side, middle texture GRATE (fragment 0, seg 0)'),
-                 ((1, 1, 1, P3), 'wall, line 1, front side, middle texture WALL (fragment 1, seg 1), patch P3'),
-                 ((1, 1, 2, P4), 'wall, line 2, front side, upper or lower texture SAME (fragment 2, seg 2), patch P4'),
+        spots = [((1, 1, 0, P1), 'wall, line 0, front side, upper texture UP, sector 0, light 160 (fragment 0, seg 0), patch P1'),
+                 ((1, 1, 0, P2), 'wall, line 0, front side, lower texture LOW, sector 0, light 160 (fragment 0, seg 0), patch P2'),
+                 ((4, 2, 0, 2), 'middle, line 0, front side, middle texture GRATE, sector 0, light 160 (fragment 0, seg 0)'),
+                 ((1, 1, 1, P3), 'wall, line 1, front side, middle texture WALL, sector 0, light 160 (fragment 1, seg 1), patch P3'),
+                 ((1, 1, 2, P4), 'wall, line 2, front side, upper or lower texture SAME, sector 0, light 160 (fragment 2, seg 2), patch P4'),
                  ((2, 1, 0, FLAT), f'{floors} (plane 0, made by leaf 0 of sector 0)'),
                  ((2, 1, 1, FLAT), 'plane, ceiling of sector 0 at height 128, flat FLAT1, light 160 '
                                    '(plane 1, made by leaf 0 of sector 0)'),
@@ -145,9 +145,10 @@ class Lists(Tools):
         status, output, error = self.run_tool(*words, '--list', 'list.txt', '--map', 'map01', '--html', 'page.html')
         self.assertEqual((status, error), (1, ''))
         floors = 'floor of sectors 0, 2 at height 0, flat FLAT1, light 160'
-        places = ['line 1, front side, middle texture WALL', 'line 0, front side, lower texture LOW', floors,
+        places = ['line 1, front side, middle texture WALL, sector 0, light 160',
+                  'line 0, front side, lower texture LOW, sector 0, light 160', floors,
                   'thing 1 of type 2028 at 64,-32, lump COLUA0']
-        self.assertEqual(output.decode().splitlines()[1:-1], [
+        self.assertEqual(output.decode().splitlines()[2:-1], [
             '  wall     P2             3  fragment 0 1  patch of LOW, WALL',
             f'                          2  {places[0]} (fragment 1)',
             f'                          1  {places[1]} (fragment 0)',
@@ -165,7 +166,7 @@ class Lists(Tools):
                 buttons('places')[0].click(); await wait();
                 all.push(picked, document.getElementById('v0').hidden); return all;''')
             self.assertEqual(found[0], 'view 0 column 0 row 0: ours 6, port 5  DIFFERS; painted by wall P2, fragment 1, of LOW, '
-                         'WALL, line 1, front side, middle texture WALL')
+                         'WALL, line 1, front side, middle texture WALL, sector 0, light 160')
             self.assertEqual(found[1], 3)
             self.assertEqual({it.split(':')[0] for it in found[2]}, set(places))
             self.assertEqual(found[3:], [found[2][0].split(':')[0], False])

@@ -8,7 +8,7 @@ import unittest
 
 import constants
 from made_files import TOOLS, TOP
-from doomview_tools import command, home, jobs
+from doomview_tools import cli, command, home, jobs
 
 PAGES = ['README.md', 'CHANGELOG.md', 'tools/original/README.md', 'tools/ports/README.md']
 
@@ -27,6 +27,10 @@ def rows(page, head):
     for table in re.findall(r'^' + re.escape(head) + r'.*\n\|[-|]+\|\n((?:\|.*\n?)+)', read(page), re.M):
         for line in table.splitlines():
             yield [cell.strip().replace('\\|', '|') for cell in re.split(r'(?<!\\)\|', line)[1:-1]]
+
+
+def sentence(text):
+    return text[:1].upper() + text[1:]
 
 
 def anchors(page):
@@ -169,6 +173,9 @@ class Pages(unittest.TestCase):
         told = {re.match(r'`([a-z]+)', job)[1]: job for job, _ in rows('README.md', '| Job | Writes |')}
         manual = read('docs/doomview.1').replace('\\-', '-')
         self.assertEqual(list(told), list(jobs.JOBS))
+        found = [[f'`{" ".join([job.name, *(word for word, _ in job.words)])}`', job.summary] for job in jobs.JOBS.values()]
+        for page in ('README.md', 'docs/JOBS.md'):
+            self.assertEqual(list(rows(page, '| Job | Writes |')), found)
         for job in jobs.JOBS.values():
             words = ' '.join([job.name, *(word for word, _ in job.words)])
             self.assertEqual(told[job.name].strip('`').replace(' ..', '..'), words)
@@ -178,21 +185,17 @@ class Pages(unittest.TestCase):
             self.assertIn(f'"{job}"', code)
 
     def test_pages_of_options(self):
-        """JOBS and the manual have each option with its jobs and numbers, and no other."""
-        cells = {name: (what, value) for cell, what, value in rows('docs/JOBS.md', '| Option | Jobs |')
-                 for name in re.findall(r'--[a-z]+', cell)}
+        """JOBS and the manual have the options as the table of options has them, whole, and PROVED names no other."""
+        found = [(f'`{it.name} {it.value}`', ', '.join(f'`{job}`' for job in it.jobs), cli.meaning_of(it))
+                 for it in jobs.options().values()]
+        self.assertEqual([tuple(cells) for cells in rows('docs/JOBS.md', '| Option | Jobs |')], found)
         manual = read('docs/doomview.1').replace('\\-', '-')
-        found = re.findall(r'^\.TP\n\.BI ?(.*--.*)\n((?:[^.].*\n|\.[BI].*\n)*)', manual, re.M)
-        entries = {name: text for head, text in found for name in re.findall(r'--[a-z]+', head)}
-        self.assertEqual(set(cells), set(jobs.options()))
-        self.assertEqual(set(entries) - {'--iwad'}, set(jobs.options()))
-        for option in jobs.options().values():
-            for text in (cells[option.name][1], entries[option.name]):
-                numbers = re.findall(r'\d+', text)
-                for number in (option.least, option.greatest, option.step):
-                    self.assertTrue(number is None or str(number) in numbers, f'{option.name}: {text}')
-                self.assertTrue(option.least is None or f'else {option.default}' in ' '.join(text.split()), option.name)
-            self.assertEqual('exercise' in cells[option.name][0], 'exercise' in option.jobs, option.name)
+        entries = ''.join(f'.TP\n.BI {it.name} " {it.value}"\n{sentence(cli.meaning_of(it))}. For {", ".join(it.jobs)}.\n'
+                          for it in jobs.options().values())
+        self.assertIn(entries + '.PP\nOf the command alone:', manual)
+        section = manual[manual.index('.SH OPTIONS'):manual.index('.PP\nOf the command alone:')]
+        self.assertEqual(section.count('.TP\n'), len(found))
+        self.assertLessEqual(set(re.findall('--[a-z]+', read('docs/PROVED.md'))), set(jobs.options()))
 
     def test_statuses(self):
         """JOBS, the manual and the help of a job have the same statuses."""
@@ -203,8 +206,14 @@ class Pages(unittest.TestCase):
 
     def test_tools(self):
         """The page of the tools and the manual name each tool."""
-        told = [re.match(r'`([a-z-]+)', tool)[1] for tool, *_ in rows('docs/TOOLS.md', '| Tool | What it does |')]
-        self.assertEqual(told, command.TOOLS)
+        told = {re.match(r'`([a-z-]+)', tool)[1]: tool for tool, *_ in rows('docs/TOOLS.md', '| Tool | What it does |')}
+        self.assertEqual(list(told), command.TOOLS)
+        for name, cell in told.items():
+            tool = command.tool(name)
+            forms = [cli.form_of(action) for action in cli.parser_of(tool)._actions
+                     if not action.option_strings or action.required]
+            if not tool.PAGE.usage or name == 'explain':
+                self.assertEqual(cell.replace('[WAD [MAP]]', '[WAD] [MAP]'), f'`{" ".join([name, *forms])}`')
         manual = read('docs/doomview.1').replace('\\-', '-')
         for tool in command.TOOLS:
             self.assertRegex(manual, rf'\n\.TP\n\.BI? {tool}\b')

@@ -185,7 +185,7 @@ class Compare(Tools):
     def test_same(self):
         status, output, error = self.compare('--views', '2')
         self.assertEqual((status, error), (0, ''), output)
-        self.assertEqual(output.decode().splitlines()[0], 'dsda-doom MAP01 views 2 same 2')
+        self.assertEqual(output.decode().splitlines()[0], 'dsda-doom MAP01 views 2 same 2 same by sprite,sky,weapon 2')
 
     def test_different(self):
         """Pixels that differ are counted by their painters."""
@@ -194,9 +194,19 @@ class Compare(Tools):
         status, output, error = self.compare('--views', '2', '--keep', 'kept', frames=other)
         self.assertEqual((status, error), (1, ''), output)
         lines = output.decode().splitlines()
-        self.assertRegex(lines[0], r'^dsda-doom MAP01 views 2 pixels 0.03 % plane 75.00 % wall 25.00 %')
-        self.assertRegex(lines[-1], r'^\| dsda-doom \| 2 \| 0 \| 0.03 % \|.*\| 75.00 % \| 25.00 % \|')
+        self.assertRegex(lines[0], r'^dsda-doom MAP01 views 2 same by sprite,sky,weapon 2 pixels 0.03 % '
+                                   r'plane 75.00 % wall 25.00 %')
+        self.assertRegex(lines[-1], r'^\| dsda-doom \| 2 \| 0 \| 2 \| 0.03 % \|.*\| 75.00 % \| 25.00 % \|')
         self.assertEqual(os.path.getsize(self.at('kept/dsda-doom-MAP01/port.bin')), 2 * FRAME)
+
+    def test_only(self):
+        """With --only pixels of some painters count alone, and decide the status."""
+        other = [frame[:3 * FRAME - 90] + bytes([1, 254, 0]) * 30 for frame in self.video]
+        status, output, _ = self.compare('--views', '2', '--only', 'sprite,sky,weapon', frames=other)
+        self.assertEqual((status, output.decode().splitlines()[0]),
+                         (0, 'dsda-doom MAP01 views 2 same 2 same by sprite,sky,weapon 2'))
+        self.assertEqual(self.compare('--views', '2', '--only', 'plane', frames=other)[0], 1)
+        self.assertEqual(self.compare('--only', 'floor')[0], 2)
 
     def test_missed(self):
         status, output, error = self.compare('--views', '3')
@@ -228,15 +238,15 @@ class Real(unittest.TestCase):
 
     def test_dsda(self):
         """It differs in planes and walls alone."""
-        self.assertRegex(self.lines('dsda-doom', 1)[0], r'^dsda-doom MAP01 views 1 pixels [0-9.]+ % (packed spans '
-                                                        r'[0-9.]+ % )?plane [0-9.]+ %( wall [0-9.]+ %)?; textures ahead by 1$')
+        self.assertRegex(self.lines('dsda-doom', 1)[0], r'^dsda-doom MAP01 views 1 same by sprite,sky,weapon 1 pixels [0-9.]+ % '
+                                                        r'(packed spans [0-9.]+ % )?plane [0-9.]+ %( wall [0-9.]+ %)?; textures ahead by 1$')
 
     @unittest.skipUnless(os.environ.get('DOOMVIEW_PORTS'), 'it is tried with DOOMVIEW_PORTS=1 alone')
     def test_chocolate(self):
         """It differs by packed spans alone."""
         spans = '' if original.missing() else 'packed spans 100.00 % '
-        self.assertEqual(self.lines('chocolate-doom', 2)[0], f'chocolate-doom MAP01 views 2 pixels 1.00 % {spans}plane '
-                                                             '100.00 %')
+        self.assertEqual(self.lines('chocolate-doom', 2)[0], f'chocolate-doom MAP01 views 2 same by sprite,sky,weapon 2 '
+                                                             f'pixels 1.00 % {spans}plane 100.00 %')
 
 
 if __name__ == '__main__':

@@ -1,8 +1,8 @@
-"""Tests the vectors: `doomview vectors` with stand-ins for the programs on a made room, `vectors/check` on frames that
-are made here; and where Freedoom and the program that DOOMVIEW_TESTED names are there, the files of the repository."""
+"""Tests the vectors: `doomview vectors` with stand-ins for the programs on a made room; and where Freedoom, the original
+or the program that DOOMVIEW_TESTED names are there, the files of the repository."""
+import hashlib
 import os
 import shutil
-import signal
 import subprocess
 import sys
 import tempfile
@@ -26,7 +26,7 @@ with open(word['-out'], 'wb') as out, open(word['-counts'], 'w') as counts:
         is_ended = len(rows) > 3 and k == 3
         counts.write(f'view {k} error R_FindPlane\\n' if is_ended else f'view {k} planes 1 openings 2\\n')
 '''
-CHECK = os.path.join(TOP, 'vectors', 'check')
+CHECK, CI = (os.path.join(TOP, 'vectors', name) for name in ('check', 'ci'))
 TESTED = os.environ.get('DOOMVIEW_TESTED', '')
 FREEDOOM = {'freedoom1': ['E1M1', 'E4M2'], 'freedoom2': ['MAP01', 'MAP26']}  # files of vectors, and maps to draw again
 MOST_BYTES = 500000
@@ -46,93 +46,8 @@ def changed(data, view, row, column=0):
 
 def vector(view, ours, packed, answer='same', full=None, kind='near', name='MAP01'):
     return vectors.Vector(kind, name, view, 3, 11, '', 65536 * view, 0, 2686976, 0, 0, 0, vectors.sum_of(ours),
-                          vectors.sum_of(packed), answer, vectors.sum_of(full) if full else '', vectors.bands_of(ours))
-
-
-class Check(Tools):
-    """`vectors/check`, on four views of a map: the third departs from the original, and the fourth has a size."""
-
-    def setUp(self):
-        super().setUp()
-        self.ours = [frame(colour) for colour in (1, 2, 3, 4)]
-        self.packed = [frame(colour) for colour in (11, 12, 13, 14)]
-        rows = [vector(i, self.ours[i], self.packed[i]) for i in range(2)]
-        rows += [vector(2, self.ours[2], self.packed[2], 'memory', frame(23))]
-        rows += [vector(0, self.ours[3], self.packed[3], kind='sizes')._replace(size=5)]
-        rows += [vector(0, frame(7), frame(8), name='MAP02')]
-        self.write('made.csv', vectors.text(rows).encode())
-        os.mkdir(self.at('port'))
-
-    def check(self, *frames, words=('--maps', 'MAP01'), place='port/MAP01.bin'):
-        """The status and the lines of a check of frames. Where it is not 0, sentences say what to do."""
-        if frames:
-            self.write(place, b''.join(frames))
-        status, output, self.error = self.run_command(CHECK, 'made.csv', 'port', *words)
-        self.assertEqual(bool(self.error), bool(status))
-        self.assertTrue(all(line.startswith('check: ') for line in self.error.splitlines()))
-        return status, output.decode().splitlines()
-
-    def test_same(self):
-        self.assertEqual(self.check(*self.ours[:3]), (0, ['MAP01 near same 3', 'all same 3']))
-
-    def test_packed(self):
-        self.assertEqual(self.check(*self.packed[:3])[0], 1)
-        self.assertIn('--packed takes it as right', self.error)
-        words = ('--maps', 'MAP01', '--packed')
-        self.assertEqual(self.check(words=words), (0, ['MAP01 near packed 3', 'all packed 3']))
-
-    def test_wrong(self):
-        frames = changed(b''.join(self.ours[:3]), 1, 45)
-        self.assertEqual(self.check(frames), (1, ['MAP01 near same 2 wrong 1', '  view 1 wrong at 65536,0,2686976,0: '
-                                                  'rows 40-59', 'all same 2 wrong 1']))
-        self.assertEqual(self.error.count('\n'), 1)
-        self.assertIn('the port draws something else', self.error)
-        both = changed(changed(frames, 1, 199), 0, 0)
-        self.assertEqual(self.check(both)[1][1:3], ['  view 0 wrong at 0,0,2686976,0: rows 0-19',
-                                                    '  view 1 wrong at 65536,0,2686976,0: rows 40-59 180-199'])
-        self.assertEqual(len(self.check(both, words=('--maps', 'MAP01', '--most', '1'))[1]), 3)
-
-    def test_departure(self):
-        """At a view at which doomview departs from the original, the original's frame is right."""
-        self.assertEqual(self.check(*self.ours[:2], frame(23)), (0, ['MAP01 near same 2 original 1',
-                                                                    'all same 2 original 1']))
-        self.assertEqual(self.check(*self.ours[:2], frame(99))[1][0], 'MAP01 near same 2 departs 1')
-
-    def test_missing(self):
-        self.assertEqual(self.check(*self.ours[:2], b'cut'), (1, ['MAP01 near same 2 missing 1',
-                                                                 'all same 2 missing 1']))
-        self.assertEqual(self.check(*self.ours[:3], words=())[1][1:], ['MAP02 near missing 1', 'all same 3 missing 1'])
-        self.assertEqual(self.error, 'check: port lacks views; --maps and --sets say which to check\n')
-        more = self.check(*self.ours)
-        self.assertEqual((more[0], more[1][1]), (1, '  MAP01.bin has 256000 bytes, and 3 views have 192000'))
-
-    def test_sets(self):
-        words = ('--maps', 'MAP01', '--sets', 'sizes')
-        self.assertEqual(self.check(self.ours[3], words=words, place='port/MAP01-sizes.bin'),
-                         (0, ['MAP01 sizes same 1', 'all same 1']))
-        self.assertEqual(self.check(frame(0), words=words, place='port/MAP01-sizes.bin')[1][1].split(':')[0],
-                         '  view 0 wrong at 0,0,2686976,0 size 5')
-
-    def test_path(self):
-        reading, writing = os.pipe()
-        os.close(reading)
-        with open(writing, 'wb') as pipe:  # which nobody reads
-            status, _, error = self.run_command(CHECK, 'made.csv', '--path', 'MAP01', stdout=pipe)
-        self.assertEqual((status, error), (-signal.SIGPIPE, ''))
-        status, output, _ = self.run_command(CHECK, 'made.csv', '--path', 'MAP01')
-        self.assertEqual((status, output), (0, b'x,y,z,angle\n0,0,2686976,0\n65536,0,2686976,0\n131072,0,2686976,0\n'))
-
-    def test_trouble(self):
-        self.write('other.csv', b'x,y\n1,2\n')
-        for part, words in [('cannot read absent.csv', ['absent.csv', 'port']),
-                            ('other.csv is no file of vectors', ['other.csv', 'port']),
-                            ('name the folder', ['made.csv']), ('there is no folder absent', ['made.csv', 'absent']),
-                            ('has no MAP09; it has MAP01, MAP02', ['made.csv', 'port', '--maps', 'MAP09']),
-                            ('has no light', ['made.csv', 'port', '--sets', 'light'])]:
-            status, output, error = self.run_command(CHECK, *words)
-            self.assertEqual((status, output), (2, b''))
-            self.assertIn(part, error)
-            self.assertNotIn('Traceback', error)
+                          vectors.sum_of(packed), answer, vectors.sum_of(full) if full else '', vectors.bands_of(ours),
+                          vectors.bands_of(packed))
 
 
 class Made(Tools):
@@ -166,14 +81,30 @@ class Made(Tools):
         self.assertEqual(self.vectors('draw', *words), (0, b'', ''))
         self.assertEqual(sorted(os.listdir(self.at('ours'))), ['MAP01-light.bin', 'MAP01-sizes.bin', 'MAP01-skills.bin',
                                                               'MAP01-weapons.bin', 'MAP01.bin'])
-        status, output, _ = self.run_command(CHECK, 'out/room.csv', 'ours')
-        self.assertEqual((status, output), (0, b'MAP01 near same 20 departs 1\nall same 20 departs 1\n'))
+        self.write('out/room2.wad', self.run_tool('room')[1])
+        status, output, error = self.run_command(CHECK, 'out/room.csv', 'ours', '--wad', 'room.wad')
+        self.assertEqual((status, output), (0, b'MAP01 near same 20 departs 1\nall same 20 departs 1\n'), error)
+        self.vectors('make', 'room.wad', '-o', 'out', '--jobs', '2')
+        self.assertEqual(self.read('out/wads.csv').splitlines(), ['vectors,wad,version,sha256', 'room.csv,room.wad,,'
+                         + hashlib.sha256(self.run_tool('room')[1]).hexdigest()])
+
+    def test_spans(self):
+        """draw draws with the spans that are named, with the WAD and the vectors in either order."""
+        self.write('near.csv', vectors.text([vector(0, frame(1), frame(2))]).encode())
+        spans = self.stand_in('spans', DOOMVIEW.replace('PYTHON', sys.executable).replace(
+            "bytes([sum(map(ord, row)) % 251])", "bytes([sys.argv.index('--spans') and 'packed' in sys.argv])"))
+        for words, colour in (([], 0), (['--spans', 'packed'], 1), (['--spans', 'full'], 0)):
+            done = self.run_tool('vectors', 'draw', 'room.wad', 'near.csv', '-o', 'ours', *words, doomview=spans)
+            self.assertEqual(done, (0, b'', ''))
+            self.assertEqual(self.read('ours/MAP01.bin').encode(), frame(colour))
 
     def test_trouble(self):
         self.write('near.csv', vectors.text([vector(0, frame(1), frame(2))]).encode())
         for part, words in [('make takes one WAD', ['make', 'room.wad', 'room.wad']),
                             ('draw takes a file', ['draw', 'room.wad']),
-                            ('there is no program still', ['make', 'room.wad']),
+                            ("there is no program still; tools/original/build makes it, of Debian's source package of "
+                             'chocolate-doom', ['make', 'room.wad']),
+                            ('make takes no --spans', ['make', 'room.wad', '--spans', 'full']),
                             ('there is no map MAP09', ['make', 'room.wad', '--maps', 'MAP09']),
                             ('there is no set far', ['draw', 'near.csv', 'room.wad', '--sets', 'far']),
                             ('room.wad is no file of vectors', ['draw', 'room.wad', 'room.wad']),
@@ -190,9 +121,14 @@ class Made(Tools):
                          'view,sprite,frame,bright,sx,sy\n0,PISG,A,0,65536,2097152\n')
 
     def test_known(self):
+        """What is the original's in the spans of doomview's frame comes first."""
         found = vector(0, frame(1), frame(2), 'memory', frame(3))
-        self.assertEqual([vectors.known(found, frame(colour)) for colour in (2, 3, 4)],
+        self.assertEqual([vectors.known(found, frame(1), frame(colour)) for colour in (2, 3, 4)],
                          ['packed spans', "the original's frame (memory)", ''])
+        self.assertEqual([vectors.known(found, frame(9), frame(colour)) for colour in (1, 2, 3, 4)],
+                         ['full spans', "the original's frame (memory)", 'full spans', ''])
+        same = vector(0, frame(1), frame(1), 'mark', frame(1))
+        self.assertEqual(vectors.known(same, frame(1), frame(1)), "the original's frame (mark)")
 
 
 class Compare(Tools):
@@ -207,7 +143,8 @@ class Compare(Tools):
         status, output, error = self.run_tool('compare', 'ours.bin', 'MAP01.bin', '--vectors', 'made.csv')
         self.assertEqual((status, error), (1, ''))
         known = ['packed spans', "the original's frame (memory)", '']
-        self.assertEqual([line.partition('; ')[2] for line in output.decode().splitlines()], [*known, ''])
+        lines = [line for line in output.decode().splitlines() if line.startswith('view ')]
+        self.assertEqual([line.partition('; ')[2] for line in lines], known)
         self.run_tool('compare', 'ours.bin', 'MAP01.bin', '--vectors', 'made.csv', '--html', 'page.html')
         views = pages_shown.data_of(self.at('page.html'))['views']
         self.assertEqual([view['told'].partition('; ')[2] for view in views], known)
@@ -276,24 +213,81 @@ class Freedoom(unittest.TestCase):
         self.assertEqual((status, lines[-1]), (1, 'all same 41 wrong 1'))
         self.assertRegex(lines[2], r'^  view 4 wrong at \S+: rows 120-139$')
 
+    def ci(self, wad, port, *words, folder=''):
+        """The status, the last line and what is said of `vectors/ci` over a WAD."""
+        env = {**os.environ, 'PORT': port, 'WORK': folder, 'DOOMVIEW': TESTED}
+        done = subprocess.run([CI, wad, '--', *words], env=env, stdout=subprocess.PIPE, stderr=subprocess.PIPE, text=True)
+        return done.returncode, (done.stdout.splitlines() or [''])[-1], done.stderr
+
+    @unittest.skipUnless(game('freedoom2'), 'freedoom2.wad is not there (package: freedoom)')
+    def test_wrong_wad(self):
+        """A WAD in which one byte is another is called so, and nothing is drawn."""
+        folder = tempfile.mkdtemp()
+        self.addCleanup(shutil.rmtree, folder)
+        other = os.path.join(folder, 'freedoom2.wad')
+        with open(game('freedoom2'), 'rb') as file, open(other, 'wb') as out:
+            out.write(file.read()[:-1] + b'!')
+        status, line, error = self.ci(other, 'false')
+        self.assertEqual((status, line), (3, ''))
+        self.assertIn('is another WAD, with the SHA-256 ', error)
+
+    @unittest.skipUnless(TESTED and game('freedoom2'), 'the program or freedoom2.wad (package: freedoom) is not there')
+    def test_ci(self):
+        """doomview as a port is right with either kind of spans, and wrong with a byte changed or the other spans."""
+        port = (f'"{os.path.join(TOP, "doomview")}" render "$MAP" "$WAD" --path "$ROWS" -o "$OUT" --skill "$SKILL" '
+                '--size "$SIZE" ${WEAPON:+--weapon "$WEAPON"}')
+        maps = ['--maps', 'MAP07']
+        self.assertEqual(self.ci(game('freedoom2'), port, *maps)[:2], (0, 'all same 85'))
+        near = [*maps, '--sets', 'near', '--spans']
+        self.assertEqual(self.ci(game('freedoom2'), port + ' --spans packed', *near, 'packed')[:2], (0, 'all packed 21'))
+        self.assertEqual(self.ci(game('freedoom2'), port, *near, 'packed')[0], 1)
+        damaged = port + '; printf x | dd of="$OUT" bs=1 seek=70000 conv=notrunc'
+        self.assertEqual(self.ci(game('freedoom2'), damaged, *near, 'full')[:2], (1, 'all same 20 wrong 1'))
+
     @unittest.skipIf(original.missing(), 'tools/original/build has not been run')
-    def test_packed_spans(self):
-        for name, maps in FREEDOOM.items():
+    def test_originals(self):
+        """The original's frames of all views, with full and with packed spans, are right where they are asked for, and
+        wrong where the others are, on each map; and rows with a pixel changed are named."""
+        for name in FREEDOOM:
             if not game(name):
                 self.skipTest(f'{name}.wad is not there (package: freedoom)')
-            folder = tempfile.mkdtemp()
-            self.addCleanup(shutil.rmtree, folder)
-            for of_map in maps:
-                done = subprocess.run([CHECK, os.path.join(TOP, 'vectors', f'{name}.csv'), '--path', of_map],
-                                      stdout=subprocess.PIPE, check=True)
-                with open(os.path.join(folder, 'path.csv'), 'wb') as file:
-                    file.write(done.stdout)
-                original.still([os.path.join(original.FOLDER, 'still'), '-iwad', game(name), '-map', of_map, '-path',
-                                'path.csv', '-out', f'{of_map}.bin', *original.PACKED], folder)
-            status, lines = self.check(name, folder, maps, '--packed')
-            self.assertEqual(status, 0)
-            self.assertRegex(lines[-1], '^all (same [0-9]+ )?packed [0-9]+$')
-            self.assertEqual(self.check(name, folder, maps)[0], 1)
+            for spans, words, other in (('full', '', 'packed'), ('packed', '-dosspan', 'full')):
+                folder = tempfile.mkdtemp()
+                self.addCleanup(shutil.rmtree, folder)
+                still = os.path.join(original.FOLDER, 'still')
+                port = (f'"{still}" -iwad "$WAD" -map "$MAP" -path "$ROWS" -out "$OUT" -skill "$SKILL" -size "$SIZE" '
+                        f'${{WEAPON:+-weapon "$WEAPON"}} {words}')
+                self.assertEqual(self.ci(game(name), port, '--spans', spans, folder=folder)[0], 0)
+                folder = os.path.join(folder, name)
+                self.both_ways(name, folder, spans, other)
+                self.four_pixels(name, folder, spans)
+
+    def both_ways(self, name, folder, spans, other):
+        vectors_of = os.path.join(TOP, 'vectors', f'{name}.csv')
+        status, lines = self.run_check(vectors_of, folder, '--sets', 'all', '--spans', spans)
+        self.assertEqual(status, 0, lines[-1])
+        right = 'packed [0-9]+' if spans == 'packed' else 'same [0-9]+( original [0-9]+)?'
+        for line in lines:
+            self.assertRegex(line, f'^(all|[A-Z0-9]+ [a-z]+) {right}( departs [0-9]+)?$')
+        status, lines = self.run_check(vectors_of, folder, '--spans', other)
+        self.assertEqual(status, 1)
+        self.assertEqual([line for line in lines if f' {spans if other == "full" else "full"} ' not in line], [])
+
+    def run_check(self, *words):
+        done = subprocess.run([CHECK, *words], stdout=subprocess.PIPE, stderr=subprocess.PIPE, text=True)
+        return done.returncode, done.stdout.splitlines()
+
+    def four_pixels(self, name, folder, spans):
+        """One pixel changed in each of four rows."""
+        path = os.path.join(folder, f'{FREEDOOM[name][0]}.bin')
+        with open(path, 'rb') as file:
+            data = file.read()
+        for row in (5, 47, 121, 199):
+            data = changed(data, 2, row, 100)
+        with open(path, 'wb') as file:
+            file.write(data)
+        lines = self.check(name, folder, FREEDOOM[name][:1], '--spans', spans)[1]
+        self.assertRegex(lines[1], '^  view 2 wrong at .*: rows 0-19 40-59 120-139 180-199$')
 
 
 if __name__ == '__main__':

@@ -1,9 +1,10 @@
 """doomview compare: two files of frames beside each other."""
+import collections
 import functools
 import os
 import sys
 
-from .. import cli, frames, lists, pictures, png, traces, vectors, wads
+from .. import cli, diagnoses, frame_files, frames, lists, png, traces, vectors, wads
 from ..compare_page import ComparePage
 from ..files import check_target, write_whole
 from ..frames import HEIGHT, SIZE, WIDTH
@@ -11,13 +12,17 @@ from ..trouble import Trouble
 
 RED = b'\xff\x00\x00'
 DIFFERENT = 1
+MOST_PAINTERS = 5  # that are named because they differ in every view
 PAGE = cli.Page(
     'compare', 'which views of two files of frames differ, where, and in what', '''
-Compares two files of index frames, and says of each view that differs how, where and in what.
+Compares two files of frames, and says of each view that differs how, where and in what.
 
-OURS is what doomview render wrote, PORT what the port drew at the same rows of the camera path: 64,000 bytes a view. A
-line for each view that differs has the number of pixels, their box, and the first of them with both colours. The last
-line counts all views.
+OURS is what doomview render wrote, PORT what the port drew at the same rows of the camera path: 64,000 bytes a view.
+
+The first line says how many views differ. A mistake of whole frames follows in a sentence: upside down, mirrored, some
+rows, columns or views late, another view size, other colours and the like. Where there is none, the rows or columns
+that differ in every view are named, and the painters. Then a line for each view that differs has the number of pixels,
+their box, and the first of them with both colours. The last line counts all views.
 
 With the file that doomview trace wrote for the same words, the lines under it say what doomview painted there: the
 painter's kind, the lump or texture, the pixels, and the numbers of the fragments, planes or sprites in the view. Names
@@ -29,18 +34,24 @@ of each line, side and part of a wall, of each sector's floor or ceiling, and of
 With --vectors a line ends with what is known of the port's frame there: that it has packed spans, or is the original's
 where doomview departs from it (docs/VECTORS.md). PORT is named by the map then, as MAP01.bin or MAP01-sizes.bin.
 
+With --only sprite,sky,weapon pixels count, and decide the status, only where doomview painted these; with --but plane
+only where it painted something else. A line says how many pixels these are. So a port that draws floors or walls by
+other rules can still be right in all else. Pictures and pages show doomview's pixels in the place of the port's others
+then.
+
 --png writes a picture for each view that differs: OURS, PORT and the differences beside each other (red over grey), in
 the palette of the WADs or else in greys. --html writes one page of the views that differ, in most pixels if there are
 many: it names the pixel under the pointer and, with a trace, what painted it, and sorts the differences by painter;
 with a list by lines, sectors and things as well.
 
-PORT may also be a folder of such files, of one view or several each, or of pictures, PNG or PCX of 320 by 200, a view
-each, in the order of the numbers in their names; or one picture. The colours of pictures have to be those of the palette
-of the WADs.
+PORT may also be a folder of such files, of one view or several each, or of pictures, PNG, PCX or PPM of 320 by 200, a
+view each, in the order of the numbers in their names; or one picture. Both may be what doomview render --format ppm
+wrote. The colours of pictures have to be those of the palette of the WADs.
 ''', '''
 $ doomview compare ours.bin port.bin
 $ doomview compare ours.bin port.bin --wad freedoom2.wad --trace trace.bin --png out --most 10
 $ doomview compare ours.bin port.bin --wad freedoom2.wad --trace trace.bin --list list.txt --map MAP01
+$ doomview compare ours.bin port.bin --trace trace.bin --only sprite,sky,weapon
 $ doomview compare ours.bin shots --wad freedoom2.wad --trace trace.bin --html compared.html
 ''', ends='''
  0  all views are the same
@@ -56,6 +67,9 @@ def add_words(parser):
     parser.add_argument('--wad', metavar='WAD', action='append', default=[], help='a WAD of the run; once for each, in '
                         'their order')
     lists.add_words(parser)
+    parser.add_argument('--only', metavar='KINDS', help='counts pixels of these painters alone, of '
+                        + ','.join(word for word, _ in traces.KINDS.values()))
+    parser.add_argument('--but', metavar='KINDS', help='counts no pixels of these painters')
     parser.add_argument('--vectors', metavar='FILE', help='the vectors whose views the files have')
     parser.add_argument('--png', metavar='FOLDER', help='writes a picture of each view that differs into FOLDER')
     parser.add_argument('--html', metavar='OUT.html', help='writes a page of the views that differ')
@@ -86,46 +100,72 @@ def put_picture(folder, view, ours, port, places, palette):
     png.write_png(path, WIDTH * len(pictures), HEIGHT, frames.beside(pictures))
 
 
-class FramesOfFiles:
-    """The frames of a port, one behind the other in each file."""
-
-    def __init__(self, files):
-        self.places = [(path, SIZE * view) for path in files for view in range(frames.count_views(path))]
-        self.count = len(self.places)
-
-    def frame(self, view, ours):
-        path, place = self.places[view]
-        with open(path, 'rb') as file:
-            file.seek(place)
-            return file.read(SIZE)
-
-    def told(self):
-        return []
+def kinds_of(options):
+    """The kinds of painters whose pixels count, or None for all."""
+    if not (options.only or options.but):
+        return None
+    if options.only and options.but:
+        raise Trouble('name --only or --but, and not both')
+    if not options.trace:
+        raise Trouble('--only and --but need the trace of the same words; name it by --trace FILE')
+    named = traces.numbers_of(options.only or options.but)
+    return named if options.only else {*traces.KINDS} - named
 
 
-class FramesOfPictures:
-    """The frames of a port's pictures, by a palette."""
-
-    def __init__(self, files, options, names):
-        self.files, self.palette = files, pictures.Palette(names.palette)
-        self.count = len(self.files)
-        if not options.wad:
-            raise Trouble(f'{options.port}: the colours of pictures are those of the palette of a WAD; name it by '
-                          '--wad')
-
-    def frame(self, view, ours):
-        return self.palette.frame(self.files[view], ours)
-
-    def told(self):
-        return self.palette.told()
+def mixed(ours, port, mask):
+    """The port's frame, with doomview's pixels where a mask is 0."""
+    if not mask:
+        return port
+    ours, port, mask = (int.from_bytes(part, 'big') for part in (ours, port, mask))
+    return (ours ^ (ours ^ port) & mask).to_bytes(SIZE, 'big')
 
 
-def port_of(options, names):
-    """The frames of the port, as they are written."""
-    files = pictures.files_of(options.port)
-    if pictures.is_picture(files[0]) and os.path.isfile(files[0]):
-        return FramesOfPictures(files, options, names)
-    return FramesOfFiles(files)
+class Summary:
+    """What is told of all views that differ, before each of them: how many, mistakes of whole frames, and what differs
+    in every view."""
+
+    def __init__(self, comparison):
+        self.comparison, self.everywhere = comparison, diagnoses.Everywhere()
+        self.painters = collections.defaultdict(collections.Counter)  # views and pixels
+        self.numbers, self.counted = [], 0
+        for view in range(min(comparison.counts)):
+            ours, port, trace, mask = comparison.view(view)
+            self.counted += SIZE - mask.count(0)
+            places = frames.differing(ours, port, mask) if ours != port else []
+            if places:
+                self.take(view, ours, places, trace)
+
+    def take(self, view, ours, places, trace):
+        self.numbers.append(view)
+        self.everywhere.add(places)
+        if trace:
+            traces.check_records(trace, places, ours, self.comparison.names, self.comparison.options.trace)
+            for painter, pixels in traces.pixels_of(trace, places).items():
+                self.painters[painter].update(views=1, pixels=sum(pixels.values()))
+
+    def case(self):
+        """Some of the views that differ, for the mistakes of whole frames."""
+        step = max(1, len(self.numbers) // diagnoses.SAMPLES)
+        ours, port = self.comparison.ours, self.comparison.port
+        pairs = [diagnoses.Pair(view, *self.comparison.both(view)) for view in self.numbers[::step][:diagnoses.SAMPLES]]
+        return diagnoses.Case(pairs, ours.frame, min(ours.count, port.count), self.comparison.names.colormaps)
+
+    def of_every_view(self):
+        """Lines on the painters that differ in every view."""
+        whole = len(self.numbers)
+        found = [it for it in self.painters.items() if it[1]['views'] == whole] if whole > 1 else []
+        for painter, counts in sorted(found, key=lambda it: -it[1]['pixels'])[:MOST_PAINTERS]:
+            word, name = traces.KINDS.get(painter.kind, ('nothing',))[0], self.comparison.names.known(painter).name
+            yield f'in each of these {whole} views: {word} {name}, {counts["pixels"]} pixels'
+
+    def lines(self):
+        count = min(self.comparison.counts)
+        yield f'{len(self.numbers)} of {count} views differ'
+        mistakes = diagnoses.whole_frames(self.case()) if self.comparison.kinds is None else []
+        yield from mistakes
+        if not mistakes:
+            yield from self.everywhere.told(count)
+            yield from self.of_every_view()
 
 
 class Comparison:
@@ -133,11 +173,13 @@ class Comparison:
 
     def __init__(self, options):
         files = [wads.find(name) for name in options.wad]
-        self.options, self.names = options, traces.Names(files)
+        self.options, self.names, self.kinds = options, traces.Names(files), kinds_of(options)
         if options.html:
             check_target(options.html)
-        self.page, self.port = ComparePage(self.names), port_of(options, self.names)
-        self.counts = [frames.count_views(options.ours), self.port.count]
+        self.page = ComparePage(self.names)
+        self.ours, self.port = (frame_files.of_path(path, files, self.names.palette)
+                                for path in (options.ours, options.port))
+        self.counts = [self.ours.count, self.port.count]
         self.known = vectors.of_frames(options.vectors, options.port) if options.vectors else []
         self.different = self.pixels = 0
         if options.trace and traces.count_views(options.trace) != self.counts[0]:
@@ -146,12 +188,17 @@ class Comparison:
         if options.png:
             os.makedirs(options.png, exist_ok=True)
 
-    def views(self):
-        """The number and both frames of each view that both files have."""
-        with open(self.options.ours, 'rb') as file:
-            for view in range(min(self.counts)):
-                ours = file.read(SIZE)
-                yield view, ours, self.port.frame(view, ours)
+    def both(self, view):
+        """Both frames of a view."""
+        ours = self.ours.frame(view)
+        return ours, self.port.frame(view, ours)
+
+    def view(self, number):
+        """Both frames of a view, its trace, and the mask of the pixels that count. Where both are the same the trace is
+        read for the mask alone."""
+        ours, port = self.both(number)
+        trace = self.records(number) if self.options.trace and (ours != port or self.kinds) else b''
+        return ours, port, trace, traces.mask(trace, self.kinds) if self.kinds else b''
 
     def records(self, view):
         with open(self.options.trace, 'rb') as file:
@@ -162,26 +209,37 @@ class Comparison:
         """What says where in the map an item of a view is, or None."""
         return functools.partial(self.placing.places.place, self.placing.view(view)) if self.placing else None
 
-    def take(self, view, ours, port):
+    def take(self, view, ours, port, trace, mask):
         """Tells of a view that differs, and gives it to the page."""
-        places = frames.differing(ours, port)
+        places = frames.differing(ours, port, mask)
         self.different += 1
         self.pixels += len(places)
-        known = vectors.known(self.known[view], port) if view < len(self.known) else ''
+        known = vectors.known(self.known[view], ours, port) if view < len(self.known) else ''
         line = told(view, ours, port, places) + (f'; {known}' if known else '')
-        trace, place_of = self.records(view) if self.options.trace else b'', self.place_of(view)
+        place_of, shown = self.place_of(view), mixed(ours, port, mask)
         if self.different <= self.options.most:
             print('\n'.join([line, *(traces.painters(trace, places, self.names, place_of) if trace else [])]))
             if self.options.png:
-                put_picture(self.options.png, view, ours, port, places, self.names.palette)
+                put_picture(self.options.png, view, ours, shown, places, self.names.palette)
         if self.options.html:
-            self.page.add(view, line, known, (ours, port), places, trace, place_of)
+            self.page.add(view, line, known, (ours, shown), places, trace, place_of)
+
+    def counted(self, pixels):
+        """A line on the pixels that count, where not all do."""
+        words = ', '.join(word for kind, (word, _) in traces.KINDS.items() if kind in self.kinds)
+        whole = SIZE * min(self.counts)
+        return f'of {words} alone: {pixels} of {whole} pixels'
 
     def run(self):
         """Tells of the views that differ; whether there is any, or a view that one file lacks."""
-        for view, ours, port in self.views():
-            if ours != port:
-                self.take(view, ours, port)
+        sentences = frame_files.check_pixels(self.ours, self.port, self.options.port)
+        summary = Summary(self)
+        for line in [*sentences, *(summary.lines() if summary.numbers else [])]:
+            print(line)
+        if self.kinds is not None:
+            print(self.counted(summary.counted))
+        for view in summary.numbers:
+            self.take(view, *self.view(view))
         both = min(self.counts)
         last = f'views {both} same {both - self.different} different {self.different} pixels {self.pixels}'
         print(last)

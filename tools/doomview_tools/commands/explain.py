@@ -2,13 +2,13 @@
 import argparse
 import sys
 
-from .. import cli, explanations, program
+from .. import cli, explanations, jobs, program
 from ..trouble import Trouble
 
 PAGE = cli.Page(
     'explain', 'runs a job, and says what is wrong and how to mend it', '''
-Runs a job of doomview with the words, passes on what it writes, and ends with its status. Sentences on what it said
-follow on standard error: what the numbers of a refusal mean, by the names of lines, things, lumps and files; and what
+Runs a job of doomview with the words, passes on what it writes, and ends with its status, as without explain. Sentences
+on what it said follow on standard error: what the numbers of a refusal mean, by the names of lines, things, lumps and files; and what
 else looks like a mistake, such as an IWAD behind its PWAD, things of types without a row, or extended nodes.
 
 With a line of doomview as its one word it says what the line means, without the names. With --said it runs nothing:
@@ -46,7 +46,8 @@ def run(options):
     if options.words[0].startswith('doomview: '):
         explanations.tell(options.words[0], [])
         return 0
-    done = program.run_whole(options.words)
+    words = jobs.in_order(options.words)
+    done = program.run_whole(words)
     sys.stderr.write(done.said)
-    explanations.tell(done.line, options.words)
+    explanations.tell(done.line, words)
     return done.status

@@ -14,7 +14,8 @@ NOT_BUILT = ('doomview picture: the proved program is not built yet, so this pic
              'without proofs (about a minute); doomview --build builds it')
 PAGE = cli.Page(
     'picture', "the view from a map's player start as a PNG; no WAD is needed", '''
-Draws the view from a map's player start as a PNG, or one of a small made level where no WAD is named.
+Draws the view from a map's player start as a PNG, or one of a small made level where no WAD is named. --at names another
+place.
 
 The map is the first one of the WAD where none is named. Where the proved program is not built yet, the picture comes
 from a run of its sources without proofs, which takes about a minute; with --proved the program is built first.
@@ -22,6 +23,7 @@ from a run of its sources without proofs, which takes about a minute; with --pro
 $ doomview picture first.png
 $ doomview picture freedoom2.wad map01.png
 $ doomview picture --iwad freedoom2.wad mymap.wad MAP07 map07.png --skill 4
+$ doomview picture freedoom2.wad MAP01 there.png --at -192,-160,90
 ''', 'the program, or the command rt of the Rattle kit', '''
  0  the picture is drawn
  2  the tool could not begin
@@ -34,6 +36,8 @@ def add_words(parser):
     parser.add_argument('map', metavar='MAP', nargs='?', help='the name of a map; else the first of the WAD')
     parser.add_argument('picture', metavar='OUT.png', help='the picture, whose name ends in .png')
     cli.add_base(parser)
+    parser.add_argument('--at', metavar='PLACE', help='another place than the player start: X,Y,DEGREES in map units, or '
+                        'X,Y,DEGREES,Z with the height of the eye, or the line of idmypos')
     parser.add_argument('--proved', action='store_true', help='builds the proved program first, if that is needed')
     cli.add_job_options(parser, 'render', WITHOUT)
 
@@ -55,7 +59,9 @@ def draw(options, folder):
         write_whole(files[0], room.room())
     name = options.map or wads.maps_of(files)[0]
     path = os.path.join(folder, 'path.csv')
-    write_whole(path, paths.text(paths.turn(levels.read(files, name), 1)).encode())
+    level = levels.read(files, name)
+    rows = [paths.row_at(options.at, level)] if options.at else paths.turn(level, 1)
+    write_whole(path, paths.text(rows).encode())
     words = ['render', name, *files, '--path', path, '--format', 'ppm', *cli.job_words(options)]
     if options.proved:
         program.ready()

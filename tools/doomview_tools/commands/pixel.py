@@ -14,6 +14,8 @@ has the texture is named too, else the textures that have it.
 With --list, what doomview list wrote for the same words, it names what a map editor shows: of a wall the line, its side
 and the upper, lower or middle texture; of a floor or ceiling the sectors that have it, and what made its plane; of a
 sprite the thing.
+
+With --path, the camera path of the run, a second line says where the view is: as an editor shows it, and as its row.
 ''', '''
 $ doomview trace MAP01 freedoom2.wad --path path.csv -o trace.bin
 $ doomview pixel 0 160 100 trace.bin freedoom2.wad
@@ -29,7 +31,16 @@ def add_words(parser):
     parser.add_argument('y', metavar='Y', type=cli.number(0, HEIGHT - 1), help='the row, 0 to 199 from the top')
     parser.add_argument('trace', metavar='TRACE', help='the file of the trace')
     parser.add_argument('wads', metavar='WAD', nargs='*', help='the WADs of the run, in their order')
+    parser.add_argument('--path', metavar='FILE', help='the camera path of the run: says too where the view is')
     lists.add_words(parser)
+
+
+def rows_of(options, count):
+    """The rows of the path, as many as the trace has views, or none where none is named."""
+    rows = paths.rows(options.path) if options.path else []
+    if rows and len(rows) != count:
+        raise Trouble(f'{options.path} has {len(rows)} rows, and {options.trace} {count} views; name the path of the run')
+    return rows
 
 
 def run(options):
@@ -40,9 +51,13 @@ def run(options):
     record = traces.record_at(options.trace, options.view, options.x, options.y)
     files = [wads.find(name) for name in options.wads]
     names = traces.Names(files)
+    names.check(traces.RECORD.pack(*record), options.trace)
     placing = lists.placing_of(options, files, count, names)
     told = traces.told(record, names)
     if placing:
         word = traces.KINDS.get(record[0], [''])[0]
         told = placing.places.told(placing.view(options.view), record, word) or told
+    rows = rows_of(options, count)
     print(f'view {options.view} column {options.x} row {options.y}: {told}')
+    if rows:
+        print(f'view {options.view}: {paths.told(rows[options.view])}')

@@ -13,7 +13,8 @@ Makes the vectors of a WAD, or draws doomview's own frames of them.
 
 make WAD writes FOLDER/NAME.csv: for viewpoints of each map the sums of doomview's frame, of the original's with packed
 spans, and in one word whether the original with full spans draws the same, or which rule explains that it does not. It
-needs the programs that tools/original/build makes.
+writes the WAD's own sum into FOLDER/wads.csv, by which vectors/check knows the WAD. It needs the programs that
+tools/original/build makes of Debian's source package of chocolate-doom.
 
 draw VECTORS.csv WAD draws the frames of the vectors into FOLDER, a file for each map and set, as a port has to write
 them: MAP01.bin has those of the set near, MAP01-sizes.bin those of the set sizes. So doomview compare can show where a
@@ -24,7 +25,7 @@ $ doomview vectors draw vectors/freedoom2.csv freedoom2.wad -o ours --maps MAP01
 $ vectors/check vectors/freedoom2.csv ours --maps MAP01,MAP07
 ''', 'the program; for make the programs of tools/original', usage=(
         'make WAD [-o FOLDER] [--maps NAMES] [--jobs N]',
-        'draw VECTORS.csv WAD [-o FOLDER] [--maps NAMES] [--sets NAMES] [--jobs N]'))
+        'draw VECTORS.csv WAD [-o FOLDER] [--maps NAMES] [--sets NAMES] [--spans S] [--jobs N]'))
 
 
 def add_words(parser):
@@ -35,6 +36,7 @@ def add_words(parser):
     parser.add_argument('--maps', metavar='NAMES', type=names, help='these maps alone, with commas between them')
     parser.add_argument('--sets', metavar='NAMES', type=names, default=vectors.SETS, help='these sets alone, of '
                         + ','.join(vectors.SETS))
+    parser.add_argument('--spans', metavar='S', choices=list(original.SPANS), help='of draw: full or packed; else full')
     parser.add_argument('--jobs', metavar='N', type=cli.number(1, 1000), default=system.processors(),
                         help='how many maps at a time; else one a processor')
 
@@ -70,24 +72,34 @@ def all_of(call, items, jobs):
                 it.cancel()
 
 
+def check_originals():
+    """A Trouble where a program of the original is missing, with what makes it."""
+    if original.missing():
+        raise Trouble(f'there is no program {original.missing()[0]}; tools/original/build makes it, of Debian\'s source '
+                      'package of chocolate-doom: tools/original/README.md says what it needs. draw needs none of it')
+
+
 def make(options):
     if len(options.files) != 1:
         raise Trouble('make takes one WAD; doomview vectors --help shows its words')
+    if options.spans:
+        raise Trouble('make takes no --spans: vectors have the sums of both')
     wad = os.path.abspath(wads.find(options.files[0]))
     maps = chosen(wads.maps_of([wad]), options.maps, 'map')
-    if original.missing():
-        raise Trouble(f'there is no program {original.missing()[0]}; tools/original/build makes it')
+    check_originals()
     program.ready()
     found = all_of(lambda name: vectors.made(wad, name), maps, options.jobs)
     name = os.path.splitext(os.path.basename(wad))[0]
-    path = os.path.join(folder_of(options), f'{name}.csv')
-    write_whole(path, vectors.text(it for of_map in found for it in of_map).encode())
+    folder = folder_of(options)
+    write_whole(os.path.join(folder, f'{name}.csv'), vectors.text(it for of_map in found for it in of_map).encode())
+    write_whole(os.path.join(folder, vectors.WADS), vectors.wads_text(folder, f'{name}.csv', wad).encode())
 
 
 def draw(options):
     if len(options.files) != 2:
         raise Trouble('draw takes a file of vectors and a WAD; doomview vectors --help shows its words')
-    rows, wad = vectors.read(options.files[0]), wads.find(options.files[1])
+    table, wad = options.files[::-1] if options.files[1].lower().endswith('.csv') else options.files
+    rows, wad = vectors.read(table), wads.find(wad)
     maps = chosen(list(dict.fromkeys(row.map for row in rows)), options.maps, 'map')
     sets = chosen(vectors.SETS, options.sets, 'set')
     program.ready()
@@ -97,7 +109,7 @@ def draw(options):
         of_part = [row for row in rows if (row.map, row.set) == part]
         if of_part:
             with WholeFile(os.path.join(folder, vectors.file_name(*part))) as file:
-                file.write(vectors.frames(wad, of_part))
+                file.write(vectors.frames(wad, of_part, options.spans or 'full'))
     all_of(draw_one, [(name, kind) for name in maps for kind in sets], options.jobs)
 
 

@@ -6,14 +6,12 @@ from .. import cli, ground, levels, lists, paths, program, traces
 from ..counting import LIMITS, RAISED
 from ..explanations import explained
 from ..files import write_whole
-from ..levels import EYE_HEIGHT, TURN, UNIT
 from ..reasons import reasons
 from ..trouble import TROUBLE, Ended, Trouble
 
 OVER = 1
 USAGE = 1  # a status of the program
 WITHOUT = ('--path', '--planes', '--openings', '--weapon')  # options of list that the tool gives itself, or not
-FARTHEST = 32767  # map units
 PAGE = cli.Page(
     'why-limit', 'why a view has so many planes: by flat, height and light, and the lines that split them', '''
 Says of each view how many planes, openings, fragments and sprites it has, and where its planes come from.
@@ -51,31 +49,12 @@ def add_words(parser):
     cli.add_job_options(parser, 'list', WITHOUT)
 
 
-def row_of(text, level):
-    """The row of a view that a word names."""
-    words = text.split(',')
-    try:
-        if len(words) in (len(paths.HEADER), len(paths.HEADER + paths.LIGHT)):
-            row = paths.Row(*map(int, words))
-            if any(not -FARTHEST * UNIT <= place <= FARTHEST * UNIT for place in row[:3]) or not 0 <= row.angle < TURN:
-                raise ValueError
-            return row
-        x, y, angle = map(float, words)
-        if not max(abs(x), abs(y)) <= FARTHEST or not abs(angle) < TURN:
-            raise ValueError
-    except ValueError:
-        raise Trouble(f'{text.strip()} is no view: X,Y,ANGLE in map units and degrees, or X,Y,Z,ANGLE as in a camera '
-                      'path')
-    z = (level.floor_at(x, y) + EYE_HEIGHT) * UNIT
-    return paths.Row(round(x * UNIT), round(y * UNIT), z, round(angle * TURN / 360) % TURN)
-
-
 def rows_of(options, level):
     """The views that the words name: pairs of a number and a row."""
     if not options.path:
         if not options.views:
             raise Trouble('name a view, as in 512,192,90, or a camera path by --path FILE')
-        return [(number, row_of(text, level)) for number, text in enumerate(options.views)]
+        return [(number, paths.row_of(text, level)) for number, text in enumerate(options.views)]
     rows = paths.rows(options.path)
     for text in options.views:
         if not text.isdecimal() or int(text) >= len(rows):

@@ -1,0 +1,281 @@
+"""Mistakes of whole frames: what is wrong with all of a port's frames at once, and what differs in every view, as
+sentences.
+
+A mistake is called so if the port's frames are doomview's once it is undone, but for a quarter of what differed. So it
+is found beside packed spans and the like too."""
+import collections
+import itertools
+import statistics
+import typing
+
+from .frames import HEIGHT, SIZE, WIDTH, window
+
+SAMPLES = 8  # of the views that differ
+FARTHEST_VIEW, FARTHEST_SHIFT = 32, 32  # views, and pixels
+LEAST_PART = 50  # a mistake of whole frames changes one pixel of so many
+MOST_LINES, MOST_RANGES = 40, 3  # of rows or columns that differ in every view
+FAR_MORE = 8  # times the pixels of the usual row or column
+FULL_SIZE = 11
+
+
+class Pair(typing.NamedTuple):
+    """Both frames of a view."""
+
+    view: int
+    ours: bytes
+    port: bytes
+
+
+class Case(typing.NamedTuple):
+    """Views that differ, some of many; doomview's frame of a view by its number; how many views both have; and the
+    colormaps of the WADs, 256 bytes each."""
+
+    pairs: typing.List[Pair]
+    ours: typing.Callable[[int], bytes]
+    count: int
+    colormaps: bytes
+
+
+def count(ours: bytes, port: bytes) -> int:
+    """In how many bytes two frames, or equal parts of frames, differ."""
+    both = int.from_bytes(ours, 'big') ^ int.from_bytes(port, 'big')
+    return len(ours) - both.to_bytes(len(ours), 'big').count(0)
+
+
+def rows_of(frame):
+    return [frame[WIDTH * row:WIDTH * row + WIDTH] for row in range(HEIGHT)]
+
+
+def of_planes(frame):
+    """A frame that was written as four planes, each of every fourth column."""
+    found = bytearray(SIZE)
+    for plane in range(4):
+        found[plane::4] = frame[SIZE // 4 * plane:SIZE // 4 * (plane + 1)]
+    return bytes(found)
+
+
+LAYOUTS = {
+    'upside down': lambda frame: b''.join(reversed(rows_of(frame))),
+    'mirrored, left for right': lambda frame: b''.join(row[::-1] for row in rows_of(frame)),
+    'turned by half a turn': lambda frame: frame[::-1],
+    'written column by column': lambda frame: b''.join(frame[row::HEIGHT] for row in range(HEIGHT)),
+    'written as four planes of every fourth column': of_planes,
+}
+
+
+def before(case):
+    """The pixels that differ as the frames are."""
+    return sum(count(pair.ours, pair.port) for pair in case.pairs)
+
+
+def is_cause(left, whole):
+    """Whether few enough pixels differ once a mistake is undone."""
+    return 4 * left < whole
+
+
+def beside(left):
+    return f'; {left} pixels of the views looked at differ beside that' if left else ''
+
+
+def one_colour(case):
+    """Frames of one colour, such as all black."""
+    colours = {colour for pair in case.pairs for colour in set(pair.port)}
+    if len(colours) > 1 or all(len(set(pair.ours)) == 1 for pair in case.pairs):
+        return ''
+    name = ' (black)' if colours == {0} else ''
+    return f'each of the port\'s frames is all of colour {min(colours)}{name}: nothing was drawn into what it wrote'
+
+
+def nearest_view(case, pair):
+    """The number of doomview's view that is nearest to a port's frame, and the pixels that differ from it."""
+    near = range(max(0, pair.view - FARTHEST_VIEW), min(case.count, pair.view + FARTHEST_VIEW + 1))
+    counts = {view: count(case.ours(view), pair.port) for view in {*near, case.count - 1 - pair.view}}
+    view = min(counts, key=lambda it: (counts[it], it != pair.view, it))
+    return view, counts[view]
+
+
+def order(case):
+    """Views that come late, or in another order."""
+    found = [(pair, *nearest_view(case, pair)) for pair in case.pairs]
+    moved = [(pair.view, view) for pair, view, left in found
+             if view != pair.view and is_cause(left, count(pair.ours, pair.port))]
+    if 4 * len(moved) < 3 * len(found):
+        return ''
+    (step, times), = collections.Counter(number - view for number, view in moved).most_common(1)
+    if 2 * times > len(moved):
+        views = f'{abs(step)} view{"s" if abs(step) > 1 else ""}'
+        word, number = 'late' if step > 0 else 'early', next(number for number, view in moved if number - view == step)
+        return f'the port is {views} {word}: its view {number} is our view {number - step}'
+    if all(number + view == case.count - 1 for number, view in moved):
+        return 'the port has the views in the order from the last to the first'
+    some = ', '.join(f'its view {number} is our view {view}' for number, view in moved[:3])
+    return f'the port has the views in another order: {some}'
+
+
+def layout(case):
+    """Frames that are flipped, or written in another order of pixels."""
+    counts = {name: sum(count(pair.ours, undo(pair.port)) for pair in case.pairs) for name, undo in LAYOUTS.items()}
+    name = min(counts, key=counts.get)
+    if not is_cause(counts[name], before(case)):
+        return ''
+    return f'the port\'s frames are {name}{beside(counts[name])}'
+
+
+def cut(frame, rows, columns):
+    """A frame without so many rows at the top, or at the bottom where the number is negative; and likewise columns."""
+    lines = rows_of(frame)[max(rows, 0):HEIGHT + min(rows, 0)]
+    return b''.join(line[max(columns, 0):WIDTH + min(columns, 0)] for line in lines)
+
+
+def shifted(case, rows, columns):
+    """The pixels that differ where the port is so many rows and columns late."""
+    return sum(count(cut(pair.ours, -rows, -columns), cut(pair.port, rows, columns)) for pair in case.pairs)
+
+
+def shift(case):
+    """Frames that are some rows or columns off."""
+    steps = [step for near in range(1, FARTHEST_SHIFT + 1) for step in (near, -near)]
+    some = case._replace(pairs=case.pairs[:2])
+    rows, columns = min([(step, 0) for step in steps] + [(0, step) for step in steps],
+                        key=lambda it: shifted(some, *it))
+    left = shifted(case, rows, columns)
+    if not is_cause(left, before(case)):
+        return ''
+    step, word, late, early = (rows, 'row', 'late (lower)', 'early (higher)') if rows else \
+        (columns, 'column', 'late (to the right)', 'early (to the left)')
+    return (f'the port\'s picture is {abs(step)} {word}{"s" if abs(step) > 1 else ""} {late if step > 0 else early}'
+            f'{beside(left)}')
+
+
+def is_within(frame, size):
+    """Whether all outside the window of a view size is 0."""
+    left, top, width, height = window(size)
+    rows = rows_of(frame)
+    outside = rows[:top] + rows[top + height:]
+    sides = [part for row in rows[top:top + height] for part in (row[:left], row[left + width:])]
+    return not b''.join(outside + sides).strip(b'\0')
+
+
+def size_of(frames):
+    """The least view size in whose window some frames are."""
+    return next(size for size in range(3, FULL_SIZE + 1) if all(is_within(frame, size) for frame in frames))
+
+
+def view_size(case):
+    """Frames of another view size."""
+    ours, port = size_of([pair.ours for pair in case.pairs]), size_of([pair.port for pair in case.pairs])
+    if ours == port:
+        return ''
+    left, top, width, height = window(min(ours, port))
+    inside = sum(count(*(cut(cut(frame, top, left), top + height - HEIGHT, left + width - WIDTH) for frame in pair[1:]))
+                 for pair in case.pairs)
+    if ours < port and is_cause(inside, before(case)):
+        return (f'the port paints outside the window of view size {ours}, which doomview leaves at 0: a status bar, a '
+                'border or messages')
+    return (f'the port has another view size: its frames are within the window of size {port}, and doomview has size '
+            f'{ours} (--size; screenblocks of the original)')
+
+
+def colour_map(case):
+    """Of each of doomview's colours the colour that the port has most often there; and how many pixels have it."""
+    pairs = collections.Counter()
+    for pair in case.pairs:
+        pairs.update(zip(pair.ours, pair.port))
+    found = {}
+    for (ours, port), number in pairs.most_common():
+        found.setdefault(ours, (port, number))
+    return {ours: port for ours, (port, _) in found.items()}, sum(number for _, number in found.values())
+
+
+def colormap_of(mapping, colormaps):
+    """The number of the colormap that maps colours so, or None."""
+    for number in range(len(colormaps) // 256):
+        if all(colormaps[256 * number + ours] == port for ours, port in mapping.items()):
+            return number
+    return None
+
+
+def colours(case):
+    """Frames in which each colour is always the same other one."""
+    mapping, explained = colour_map(case)
+    if not is_cause(SIZE * len(case.pairs) - explained, before(case)):
+        return ''
+    number = colormap_of(mapping, case.colormaps)
+    some = [f'{ours} is {port}' for ours, port in sorted(mapping.items()) if ours != port]
+    what = f'colormap {number} of COLORMAP' if number is not None else 'another palette, gamma, or a colormap'
+    some = ', '.join(some[:4]) + (' ..' if len(some) > 4 else '')
+    return f'the port has other colours, always in the same way ({some}): {what}'
+
+
+def of_picture(ours: bytes, found: list, palette: bytes) -> str:
+    """Why the colours of a picture, three bytes a pixel, are in no entry of the palette, or an empty text."""
+    pairs, mapping = collections.Counter(zip(ours, found)), {}
+    for (index, colour), _ in pairs.most_common():
+        mapping.setdefault(index, colour)
+    if not is_cause(SIZE - sum(pairs[pair] for pair in mapping.items()), SIZE):
+        return ''
+    parts = {}
+    is_gamma = all(parts.setdefault(palette[3 * index + part], colour[part]) == colour[part]
+                   for index, colour in mapping.items() for part in range(3))
+    if is_gamma:
+        return 'each brightness is always the same other one: turn off gamma'
+    return 'each colour is always the same other one: the port has another palette'
+
+
+def whole_frames(case: Case) -> typing.List[str]:
+    """The mistake that all frames have, as a sentence, or none."""
+    if LEAST_PART * before(case) < SIZE * len(case.pairs):
+        return []
+    found = (find(case) for find in (one_colour, order, layout, shift, view_size, colours))
+    return list(itertools.islice(filter(None, found), 1))
+
+
+class Everywhere:
+    """In which rows and columns of how many views something differs."""
+
+    def __init__(self):
+        self.different = self.pixels = 0
+        self.rows, self.columns = collections.Counter(), collections.Counter()  # views
+        self.in_rows, self.in_columns = collections.Counter(), collections.Counter()  # pixels
+
+    def add(self, places: typing.List[int]) -> None:
+        """Takes the places at which a view differs."""
+        self.different += 1
+        self.pixels += len(places)
+        rows = collections.Counter(place // WIDTH for place in places)
+        columns = collections.Counter(place % WIDTH for place in places)
+        self.rows.update(rows.keys())
+        self.columns.update(columns.keys())
+        self.in_rows.update(rows)
+        self.in_columns.update(columns)
+
+    def lines(self, views, pixels, count):
+        """The rows or columns that differ in nine of ten views and far more than most, if they are few and have a tenth
+        of the pixels."""
+        usual = statistics.median(pixels[line] for line in range(count))
+        found = sorted(line for line, number in views.items()
+                       if 10 * number >= 9 * self.different and pixels[line] > FAR_MORE * usual)
+        is_much = 10 * sum(pixels[line] for line in found) >= self.pixels
+        return found if is_much and len(found) <= MOST_LINES and ranges(found).count(',') < MOST_RANGES else []
+
+    def told(self, count: int) -> typing.List[str]:
+        """A sentence on the rows or columns that differ in every view, of so many views, or none."""
+        for word, views, pixels, lines in (('column', self.columns, self.in_columns, WIDTH),
+                                           ('row', self.rows, self.in_rows, HEIGHT)):
+            found = self.lines(views, pixels, lines) if self.different > 1 else []
+            if found:
+                number, some = min(views[line] for line in found), sum(pixels[line] for line in found)
+                return [f'{word}{"s" if len(found) > 1 else ""} {ranges(found)} in {number} of {count} views: {some} '
+                        f'of the {self.pixels} pixels that differ']
+        return []
+
+
+def ranges(numbers: typing.List[int]) -> str:
+    """Numbers in their order as words, those that follow each other as a range."""
+    parts = []
+    for number in numbers:
+        if parts and parts[-1][1] == number - 1:
+            parts[-1][1] = number
+        else:
+            parts.append([number, number])
+    return ', '.join(str(first) if first == last else f'{first} to {last}' for first, last in parts)
