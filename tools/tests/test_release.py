@@ -14,6 +14,8 @@ import unittest
 
 from made_files import DRAWING, FRAME, TOOLS, TOP, Tools, pixels_of
 from test_pages import anchors, read
+from doomview_tools import home
+from systems import static
 
 TESTED = os.environ.get('DOOMVIEW_TESTED', '')
 HEADING = '## 2.1, 2026\n'
@@ -249,6 +251,8 @@ class Static(Packing):
         """The true program, of the object file of this checkout: it needs no loader, and runs with no variable set."""
         shutil.rmtree(self.at('clone/crates/doomview'))
         os.symlink(os.path.join(TOP, 'crates/doomview'), self.at('clone/crates/doomview'))
+        self.write('clone/tools/data/version', f'version 2.1\nlogic {home.version()["logic"]}\n'.encode())
+        os.utime(self.at('clone/crates.txt'), (1, 1))
         status, output, error = self.run_command(self.at('clone/tools/release'), doomview='', PATH=os.environ['PATH'])
         self.assertEqual((status, error), (0, ''))
         with tarfile.open(output.decode().strip()) as tar:
@@ -258,7 +262,7 @@ class Static(Packing):
         self.assertEqual(sorted(linked), ['LGPL-2.1.txt', 'LINKED.txt', 'doomview.o', 'liblibc_c.a', 'libos_c.a'])
         program = self.at('alone/doomview-2.1/out/doomview')
         with open(program, 'rb') as file:
-            self.assertNotIn(b'ld-linux', file.read())
+            self.assertFalse(static.needs_loader(file.read()))
         for words in (['exercise', '3'], ['make', 'wad', '2'], ['render']):
             runs = [subprocess.run([path, *words], env={}, capture_output=True) for path in (program, TESTED)]
             self.assertEqual(*[(run.returncode, run.stdout, run.stderr) for run in runs])
