@@ -15,6 +15,11 @@ GAMES = [path for path in ('/usr/share/games/doom/freedoom1.wad', '/usr/share/ga
 RAISED = ['--planes', '1024', '--openings', '245760']
 
 
+def first_line(said):
+    """The program's own line of what was said: the command adds sentences."""
+    return said.decode().partition('\n')[0].rstrip('\r')
+
+
 @unittest.skipUnless(EXE and TESTED and check.wine(), 'there is no doomview.exe, no program or no Wine')
 class Exe(unittest.TestCase):
     @classmethod
@@ -32,12 +37,12 @@ class Exe(unittest.TestCase):
         """Status and outputs of doomview.exe."""
         done = subprocess.run([check.wine(), os.path.abspath(EXE), *words], cwd=self.folder, env=self.there.env,
                               stdin=subprocess.DEVNULL, capture_output=True)
-        return done.returncode, done.stdout, done.stderr.decode()
+        return done.returncode, done.stdout, first_line(done.stderr)
 
     def command(self, *words):
         done = subprocess.run([COMMAND, *words], cwd=self.folder, env={**os.environ, 'DOOMVIEW': TESTED},
                               stdin=subprocess.DEVNULL, capture_output=True)
-        return done.returncode, done.stdout, done.stderr.decode()
+        return done.returncode, done.stdout, first_line(done.stderr)
 
     def write(self, name, rows):
         with open(self.at(name), 'w', encoding='utf-8') as file:
