@@ -15,6 +15,8 @@ FOLDER = os.path.join(os.path.dirname(os.path.abspath(__file__)), 'page')
 WORKER = ['shared.js', 'wads.js', 'ground.js', 'ways.js', 'cells.js', 'lists.js', 'refusals.js', 'host.js', 'comparison.js', 'engine.js']
 PAGE = ['shared.js', 'files.js', 'crew.js', 'map_display.js', 'walking.js', 'whole.js', 'main.js']
 MOST_BYTES = 2 << 20
+LIMITS_COUNTS = ['planes', 'openings', 'fragments', 'sprites']  # what a line of the job `limits` has, in its order
+PACKED = (b'PK', b'\x1f\x8b', b'7z')  # the first letters of a zip, a gzip and a 7z
 MARK = re.compile(r'/\*(WORKER|PAGE|FACTS|BUILT|COMPARE)\*/(?:null)?|<!--ABOUT-->')
 ABOUT = ('doomview {version}, made of the proved program: the module from which the kit compiles it, compiled anew for the browser '
          'by LLVM, with glue that nothing proves. So this page is a preview, and no proved program. Trusted anew are: the '
@@ -27,13 +29,13 @@ def facts() -> dict:
     found = {name: getattr(module, name) for module, names in (
         (levels, 'UNIT TURN EYE_HEIGHT LEAF NO_SIDE PLAYER_1 BUILT_LUMPS'), (wads, 'MAP_LUMPS BEHIND_MAP'),
         (ground, 'HEIGHT RADIUS STEP_UP BLOCKS SKY LINTEL SQUARE STEPS'), (cells, 'MOST_PLACES MOST_CUT CUTS FINER APART SMALL'),
-        (counting, 'COUNTS LIMITS CAPPED RAISED'), (ways, 'SPEED THING_RADIUS DESTINATION SKILLS WANTED'), (frames, 'WIDTH'), (traces, 'KINDS TEXTURED SHOWN_TEXTURES'),
+        (counting, 'LIMITS RAISED'), (ways, 'SPEED THING_RADIUS DESTINATION SKILLS WANTED'), (frames, 'WIDTH'), (traces, 'KINDS TEXTURED SHOWN_TEXTURES'),
         (lists, 'SHOWN_SECTORS'), (compare_page, 'MOST_VIEWS'),
         (refusals, 'FIELDS TABLES COLUMNS OF_ROWS OF_COLUMNS MOST_DEPTH NO_MAP')) for name in names.split()}
     found.update({name: sorted(getattr(module, name)) for module, names in (
         (ground, 'STARTS BOSS_TAGS'), (ways, 'TO_THINGS TO_LINES STAIRS DONUT')) for name in names.split()})
-    found.update(FRAME_HEIGHT=frames.HEIGHT, CODES=refusals.codes(),
-                 PACKED=[letters.decode('latin-1') for letters in refusals.PACKED], STATUS_LIMIT=counting.LIMIT,
+    found.update(COUNTS=LIMITS_COUNTS, CAPPED=list(counting.CAPPED), FRAME_HEIGHT=frames.HEIGHT, CODES=refusals.codes(),
+                 PACKED=[letters.decode('latin-1') for letters in PACKED], STATUS_LIMIT=counting.LIMIT,
                  EXTENDED=[letters.decode() for letters in levels.EXTENDED], **chosen())
     return found
 
