@@ -27,6 +27,9 @@ COUNTED = [('freedoom2.wad', name) for name in ('MAP01', 'MAP02', 'MAP07')] + [(
 STEP = os.environ.get('DOOMVIEW_STEP', '128')
 # Refusals for the WADs alone, whatever the thing table has.
 OF_WADS = r'doomview: refused (4..|5..|6..|7..|90[135])( |$)'
+# Gives the worker that reads levels another thing table.
+TAKE_THINGS = '''(async () => crew.first('setUp', { module: await WebAssembly.compile(bytesOf(BUILT.program)),
+tables: bytesOf(BUILT.tables), things: new TextEncoder().encode(%s) }))()'''
 NO_WADS = (401, 402, 403)  # refusals of a file that is no whole WAD, which the page says when it is chosen
 SAID, READY = "find('said').textContent", "document.body.dataset.ready === 'yes'"
 BASE64 = '''(bytes => { let s = ''; for (let i = 0; i < bytes.length; i += 4096) s += String.fromCharCode(...bytes.subarray(i, i + 4096));
@@ -273,6 +276,8 @@ class Wrong(Shown):
         run_.put_files(TESTED, self.folder, chosen)
         os.chdir(self.folder)
         self.addCleanup(os.chdir, TOP)
+        with open(self.at('things.csv'), encoding='utf-8') as file:
+            self.value(TAKE_THINGS % json.dumps(file.read()))
         for case in chosen:
             words = explanations.Words(case.arguments())
             sentences = list(explanations.explain(case.expected.line, case.arguments()))
