@@ -7,6 +7,7 @@ the picking of a place by mouse and keys. It needs nothing but the canvas; a pag
     lines      [start, end, isWall] of each; start and end are numbers of vertexes
     point      a function of a place or null, and of the marks near it: the pointer is over it, or an arrow key went to it
     pick       a function of a place or null: it was clicked, or Enter was pressed on it
+    choose     a function of x and y in map units and the event: a click anywhere; may be left out
 
 A place is { x, y, size, isReached }: the middle of a square and its side in map units, and whether a way leads there. A
 page may give its places other fields. show() adds isCut: whether smaller places lie over its quarters.
@@ -43,8 +44,8 @@ class MapDisplay {
 
   static CORE = '#f9f';
 
-  constructor(canvas, { vertexes, lines, point, pick }) {
-    Object.assign(this, { canvas, vertexes, lines, point, pick });
+  constructor(canvas, { vertexes, lines, point, pick, choose = () => {} }) {
+    Object.assign(this, { canvas, vertexes, lines, point, pick, choose });
     this.pen = canvas.getContext('2d');
     this.shown = { places: [], numberOf: () => 0, limit: 1, isOver: () => false, dots: [], rings: [], marks: [], eye: null, cursor: null };
     this.scale = 1; this.centre = [0, 0]; this.drag = null;
@@ -198,7 +199,10 @@ class MapDisplay {
     canvas.onpointerdown = event => { this.drag = { start: this.pointed(event), centre: this.centre, isMoved: false }; };
     canvas.onpointermove = event => this.move(event);
     canvas.onpointerup = event => {
-      if (this.drag && !this.drag.isMoved) this.click(this.placeAt(...this.from(...this.pointed(event))), this.pointed(event));
+      if (this.drag && !this.drag.isMoved) {
+        const pointed = this.pointed(event), point = this.from(...pointed);
+        this.choose(...point, event); this.click(this.placeAt(...point), pointed);
+      }
       this.drag = null;
     };
     canvas.onwheel = event => { event.preventDefault(); this.zoom(event.deltaY < 0 ? 1.2 : 1 / 1.2, this.pointed(event)); };

@@ -4,7 +4,7 @@ import os
 import signal
 import sys
 
-from . import cli, explanations, home, jobs, notes, paths, program
+from . import cli, explanations, home, jobs, notes, paths, program, system
 from .files import write_output
 from .trouble import TROUBLE, Trouble
 
@@ -146,7 +146,7 @@ def help_of(words):
 
 def main(words):
     """Runs the command; its status."""
-    for number in (signal.SIGTERM, signal.SIGHUP):
+    for number in system.signals('SIGTERM', 'SIGHUP'):
         signal.signal(number, stop)
     try:
         status = answer(words)
@@ -160,7 +160,7 @@ def main(words):
     except OSError as error:
         os.dup2(os.open(os.devnull, os.O_WRONLY), 1)  # what is left to write has no place
         if isinstance(error, BrokenPipeError):
-            return 128 + signal.SIGPIPE
+            return 128 + system.BROKEN_PIPE
         print(f'doomview: {error.filename or "cannot write the output"}: {error.strerror}', file=sys.stderr)
         return TROUBLE
 

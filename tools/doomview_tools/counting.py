@@ -5,7 +5,7 @@ import signal
 import subprocess
 import sys
 
-from . import list_counts, paths, program
+from . import list_counts, paths, program, system
 from .explanations import explained
 from .files import write_whole
 from .trouble import Ended
@@ -17,7 +17,7 @@ RAISED = ['--planes', '1024', '--openings', '245760']  # so that what is over th
 LEAST_ROWS, PARTS = 400, 3  # rows of a run, and runs for each processor, so that all end at about the same time
 MOST_LISTED = 2000  # rows of a run of `list`, which writes some 10 KB for each
 USAGE, TROUBLE, LIMIT = 1, 2, 5  # statuses
-ENDING = (signal.SIGINT, signal.SIGTERM, signal.SIGHUP)
+ENDING = system.signals('SIGINT', 'SIGTERM', 'SIGHUP')
 
 
 def is_over(name, count, limits):

@@ -6,7 +6,7 @@ import re
 import stat
 import sys
 
-from . import notes, paths, program, wads
+from . import notes, paths, program, system, wads
 from .jobs import LEVEL_JOBS, Words, wrong_words
 from .refusals import Scene, refused
 from .trouble import Ended, Trouble
@@ -33,7 +33,7 @@ def unreadable(words):
     """A sentence on each file of a call that cannot be read."""
     for path in words.files:
         wrong = read_error(path)
-        if wrong and path in words.wads and '/' not in path and not os.path.lexists(path):
+        if wrong and path in words.wads and not system.has_folder(path) and not os.path.lexists(path):
             yield f'{wads.not_found(path)}.'
         elif wrong:
             yield f'{path} {wrong}.'

@@ -1,6 +1,7 @@
 """Where the files of doomview are: in the repository, or in a release, which has no crates.txt."""
 import os
 
+from . import system
 from .trouble import Trouble
 
 PACKAGE = os.path.dirname(os.path.abspath(__file__))
@@ -10,7 +11,7 @@ IS_RELEASE = not os.path.exists(os.path.join(TOP, 'crates.txt'))
 DOCS = os.path.join(TOP, 'docs')
 MANUAL = os.path.join(DOCS, 'doomview.1')
 COMMAND = os.path.join(TOP, 'doomview')
-PROGRAM = os.path.join(TOP, 'out', 'doomview')
+PROGRAM = os.path.join(TOP, 'out', system.PROGRAM_NAME)
 
 
 def data(name):

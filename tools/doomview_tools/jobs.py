@@ -6,7 +6,7 @@ import functools
 import re
 import typing
 
-from . import home, wads
+from . import home, system, wads
 from .trouble import Trouble
 
 MOST_WADS, MOST_LETTERS = 16, 8
@@ -237,7 +237,7 @@ def meant(word: str, known: typing.Iterable[str]) -> str:
 def is_wad(word: str) -> bool:
     """Whether a word is the name of a WAD, and of no map."""
     is_map = MAP_NAME.fullmatch(word.upper())
-    return not is_map and (word.lower().endswith('.wad') or '/' in word or wads.find_or_none(word) is not None)
+    return not is_map and (word.lower().endswith('.wad') or system.has_folder(word) or wads.find_or_none(word) is not None)
 
 
 def in_order(words: list) -> list:

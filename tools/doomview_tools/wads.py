@@ -7,6 +7,7 @@ import os
 import re
 import struct
 
+from . import system
 from .files import check_source
 from .trouble import Trouble, WadError
 
@@ -23,7 +24,7 @@ Lump = collections.namedtuple('Lump', 'name data')
 def folders():
     """The folders in which ports look for a WAD, the first first."""
     data = os.environ.get('XDG_DATA_HOME') or os.path.join(os.path.expanduser('~'), '.local', 'share')
-    named = os.environ.get('DOOMWADPATH', '').split(':')
+    named = os.environ.get('DOOMWADPATH', '').split(os.pathsep)
     found = [os.environ.get('DOOMWADDIR', ''), *named, os.path.join(data, 'games', 'doom'), *FOLDERS]
     return [folder for folder in found if folder]
 
@@ -31,7 +32,7 @@ def folders():
 def find_or_none(name):
     """The WAD of a name where ports look for it, or None: as it is named, and then in each of the folders, there also
     in small letters and without `.wad`. A name with a folder in it is a path."""
-    if '/' in name or os.path.lexists(name):
+    if system.has_folder(name) or os.path.lexists(name):
         return name if os.path.exists(name) else None
     small = name.lower()
     for folder in folders():
@@ -49,7 +50,7 @@ def not_found(name):
 def find(name):
     """The WAD of a name; a Trouble where there is none."""
     found = find_or_none(name)
-    if found is None and '/' not in name:
+    if found is None and not system.has_folder(name):
         raise Trouble(not_found(name))
     check_source(found or name)
     return found

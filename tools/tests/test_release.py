@@ -1,6 +1,7 @@
 """Tests the release: what is packed, and that it works alone, without the repository and without a kit.
 
-Where DOOMVIEW_TESTED names the program that is built, the commands of README are run in the release too."""
+Where DOOMVIEW_TESTED names the program that is built, the commands of README are run in the release too. There the program
+is packed as it was built, but for the tests of the static one."""
 import glob
 import hashlib
 import os
@@ -13,6 +14,8 @@ import unittest
 
 from made_files import DRAWING, FRAME, TOOLS, TOP, Tools, pixels_of
 from test_pages import anchors, read
+from doomview_tools import home
+from systems import static
 
 TESTED = os.environ.get('DOOMVIEW_TESTED', '')
 HEADING = '## 2.1, 2026\n'
@@ -22,7 +25,16 @@ PLACES = ['README.md', 'CHANGELOG.md', 'doomview', 'out/doomview', 'bin/doomview
           'crates/doom_run/src/top.rt']
 
 
-class Release(Tools):
+LICENCE = '/usr/share/common-licenses/LGPL-2.1'
+# Kits of stand-ins: a linker that takes the program that is built, and one that makes what needs a loader.
+KIT = '#!/bin/sh\ncase $1 in doc) echo "$(dirname "$0")/../kit/START-HERE.md" ;; *) echo kit logic 0123 ;; esac\n'
+LINKER = '#!/bin/sh\nexec python3 -c "import shutil, sys; shutil.copy({program!r}, sys.argv[-1])" "$@"\n'
+OBJECT = os.path.join(TOP, 'crates/doomview/out/doomview.o')
+
+
+class Packing(Tools):
+    """A clone, in which releases are packed and unpacked."""
+
     def setUp(self):
         super().setUp()
         self.clone()
@@ -31,8 +43,9 @@ class Release(Tools):
             (shutil.copytree if os.path.isdir(os.path.join(TOP, page)) else shutil.copy)(
                 os.path.join(TOP, page), self.at('clone', page))
         shutil.copy(os.path.join(TOOLS, 'original/still.c'), self.at('clone/tools/original'))
-        shutil.rmtree(self.at('clone/crates'))
-        os.symlink(os.path.join(TOP, 'crates'), self.at('clone/crates'))
+        shutil.rmtree(self.at('clone/crates/doomview'))
+        for crate in os.listdir(os.path.join(TOP, 'crates')):
+            os.symlink(os.path.join(TOP, 'crates', crate), self.at('clone/crates', crate))
         os.mkdir(self.at('clone/out'))
         if TESTED:
             shutil.copy(TESTED, self.at('clone/out/doomview'))
@@ -49,8 +62,19 @@ class Release(Tools):
         self.write('clone/tools/data/version', f'version {version}\nlogic 0123\n'.encode())
 
     def pack(self, *words, **more):
-        return self.run_command(self.at('clone/tools/release'), *words, doomview='', **more)
+        return self.run_command(self.at('clone/tools/release'), '--as-built', *words, doomview='', **more)
 
+    def unpacked(self):
+        """The folder of the release, unpacked where nothing else is."""
+        path = self.pack()[1].decode().strip()
+        os.mkdir(self.at('alone'))
+        with tarfile.open(path) as tar:
+            tar.extractall(self.at('alone'))
+        shutil.rmtree(self.at('clone'))
+        return self.at('alone/doomview-2.1')
+
+
+class Release(Packing):
     def test_package(self):
         """The package has program, tools, manual and pages, and the same bytes each time."""
         status, output, error = self.pack()
@@ -62,7 +86,7 @@ class Release(Tools):
                      for it in ('doomview', 'out/doomview', 'README.md')]
         self.assertEqual(modes, [0o755, 0o755, 0o644])
         self.assertEqual([it for it in PLACES if f'doomview-2.1/{it}' not in names], [])
-        odd = 'pycache|/still(-|$)|source$|tools/tests/|build.py|plan.py|weights|/(proofs|out)/.*[.]|crates.txt'
+        odd = 'pycache|/still(-|$)|source$|tools/(tests|systems)/|portable|build.py|plan.py|weights|/(proofs|out)/.*[.]|crates.txt'
         self.assertEqual([name for name in names if re.search(odd, name)], [])
         with open(path, 'rb') as file:
             before = hashlib.sha256(file.read()).digest()
@@ -118,15 +142,6 @@ class Release(Tools):
         status, output, error = self.pack()
         self.assertEqual((status, output), (70, b''))
         self.assertEqual(glob.glob(self.at('clone/out/*.gz')), [])
-
-    def unpacked(self):
-        """The folder of the release, unpacked where nothing else is."""
-        path = self.pack()[1].decode().strip()
-        os.mkdir(self.at('alone'))
-        with tarfile.open(path) as tar:
-            tar.extractall(self.at('alone'))
-        shutil.rmtree(self.at('clone'))
-        return self.at('alone/doomview-2.1')
 
     def alone(self, folder, *words):
         """Status and outputs of the command of a release on a machine without a kit."""
@@ -185,6 +200,72 @@ class Release(Tools):
                  'README.md', '--', os.path.join(folder, 'out/doomview')]
         done = subprocess.run([sys.executable, '-B', *words], cwd=self.folder, capture_output=True, text=True)
         self.assertEqual(done.returncode, 0, done.stdout + done.stderr)
+
+
+class Static(Packing):
+    """The release whose program is linked statically, by a linker that is a stand-in."""
+
+    def setUp(self):
+        super().setUp()
+        os.remove(self.at('clone/crates/doomview'))
+        os.makedirs(self.at('clone/crates/doomview/out'))
+        os.mkdir(self.at('kit'))
+        os.mkdir(self.at('kit/c'))
+        for place in ('kit/START-HERE.md', 'kit/c/libos_c.a', 'kit/c/liblibc_c.a', 'clone/crates/doomview/out/doomview.o'):
+            self.write(place, place.encode())
+        self.stand_in('bin/rt', KIT)
+        self.stand_in('bin/getconf', '#!/bin/sh\necho glibc 9.9\n')
+
+    def release(self, *words):
+        return self.run_command(self.at('clone/tools/release'), *words, doomview='')
+
+    def refused(self, said):
+        status, output, error = self.release()
+        self.assertEqual((status, output), (2, b''))
+        self.assertIn(said, error)
+        self.assertEqual(glob.glob(self.at('clone/out/*.gz')), [])
+
+    def test_refused(self):
+        self.refused('there is no command cc')
+        self.stand_in('bin/cc', '#!/bin/sh\necho cannot find -lc >&2\nexit 1\n')
+        self.refused('cannot find -lc')
+        self.stand_in('bin/cc', '#!/bin/sh\nexec true\n')
+        os.remove(self.at('kit/c/libos_c.a'))
+        self.refused('the kit has no')
+        os.remove(self.at('clone/crates/doomview/out/doomview.o'))
+        self.refused('build the program first')
+        os.remove(self.at('bin/rt'))
+        self.refused('build the program first')
+        self.assertEqual(self.release('--as-built')[0], 0)
+
+    def test_loader(self):
+        """A program that needs a loader is not packed, nor what is no program."""
+        self.stand_in('bin/cc', LINKER.format(program='/bin/sh'))
+        self.refused('made a program that needs a loader')
+        self.stand_in('bin/cc', LINKER.format(program=self.at('bin/rt')))
+        self.refused('wrote no ELF file')
+
+    @unittest.skipUnless(TESTED and os.path.exists(OBJECT) and shutil.which('cc') and shutil.which('rt')
+                         and os.path.exists(LICENCE), 'no object file is built, or there is no cc, rt or licence')
+    def test_static(self):
+        """The true program, of the object file of this checkout: it needs no loader, and runs with no variable set."""
+        shutil.rmtree(self.at('clone/crates/doomview'))
+        os.symlink(os.path.join(TOP, 'crates/doomview'), self.at('clone/crates/doomview'))
+        self.write('clone/tools/data/version', f'version 2.1\nlogic {home.version()["logic"]}\n'.encode())
+        os.utime(self.at('clone/crates.txt'), (1, 1))
+        status, output, error = self.run_command(self.at('clone/tools/release'), doomview='', PATH=os.environ['PATH'])
+        self.assertEqual((status, error), (0, ''))
+        with tarfile.open(output.decode().strip()) as tar:
+            names = tar.getnames()
+            tar.extractall(self.at('alone'))
+        linked = [os.path.basename(name) for name in names if '/out/linked/' in name]
+        self.assertEqual(sorted(linked), ['LGPL-2.1.txt', 'LINKED.txt', 'doomview.o', 'liblibc_c.a', 'libos_c.a'])
+        program = self.at('alone/doomview-2.1/out/doomview')
+        with open(program, 'rb') as file:
+            self.assertFalse(static.needs_loader(file.read()))
+        for words in (['exercise', '3'], ['make', 'wad', '2'], ['render']):
+            runs = [subprocess.run([path, *words], env={}, capture_output=True) for path in (program, TESTED)]
+            self.assertEqual(*[(run.returncode, run.stdout, run.stderr) for run in runs])
 
 
 if __name__ == '__main__':

@@ -6,7 +6,7 @@ import shutil
 import subprocess
 import sys
 
-from .. import cli, home, program, wads
+from .. import cli, home, program, system, wads
 from ..trouble import Trouble
 
 FAILED = 1
@@ -32,7 +32,7 @@ def add_words(parser):
     parser.add_argument('wad', metavar='WAD', help=cli.WAD)
     parser.add_argument('folder', metavar='FOLDER', help='where the pictures go; it is made')
     cli.add_base(parser)
-    parser.add_argument('--jobs', metavar='N', type=cli.number(1, 1000), default=len(os.sched_getaffinity(0)),
+    parser.add_argument('--jobs', metavar='N', type=cli.number(1, 1000), default=system.processors(),
                         help='how many maps at a time; else one a processor')
     parser.add_argument('--machines', metavar='LIST', help='machines to draw on, as GNU parallel takes --sshlogin')
     cli.add_job_options(parser, 'render', WITHOUT)

@@ -3,7 +3,7 @@ import json
 import os
 import tempfile
 
-from .. import cli, cli_limits, earlier, ground, levels, paths, wads, ways
+from .. import cli, cli_limits, earlier, ground, levels, paths, system, wads, ways
 from ..cells import Grid
 from ..counting import COUNTS, Progress, Runs
 from ..files import check_target, write_output, write_whole
@@ -71,7 +71,7 @@ def add_words(parser):
                         help='in how many directions to look; else 8')
     parser.add_argument('--views', metavar='N', type=cli.number(1, 20), default=6,
                         help='how many of the worst views of each count; else 6')
-    parser.add_argument('--jobs', metavar='N', type=cli.number(1, 1000), default=len(os.sched_getaffinity(0)),
+    parser.add_argument('--jobs', metavar='N', type=cli.number(1, 1000), default=system.processors(),
                         help='how many runs at a time; else one a processor')
     cli.add_job_options(parser, 'limits', WITHOUT)
 

@@ -2,7 +2,7 @@
 import concurrent.futures
 import os
 
-from .. import cli, original, program, vectors, wads
+from .. import cli, original, program, system, vectors, wads
 from ..files import WholeFile, write_whole
 from ..trouble import Trouble
 
@@ -37,7 +37,7 @@ def add_words(parser):
     parser.add_argument('--sets', metavar='NAMES', type=names, default=vectors.SETS, help='these sets alone, of '
                         + ','.join(vectors.SETS))
     parser.add_argument('--spans', metavar='S', choices=list(original.SPANS), help='of draw: full or packed; else full')
-    parser.add_argument('--jobs', metavar='N', type=cli.number(1, 1000), default=len(os.sched_getaffinity(0)),
+    parser.add_argument('--jobs', metavar='N', type=cli.number(1, 1000), default=system.processors(),
                         help='how many maps at a time; else one a processor')
 
 

@@ -6,7 +6,7 @@ from .. import cli, cli_limits, ground, levels, lists, paths, program, reasons, 
 from ..counting import RAISED
 from ..explanations import explained
 from ..files import write_whole
-from ..levels import EYE_HEIGHT, TURN, UNIT
+from ..levels import UNIT
 from ..trouble import TROUBLE, Ended, Trouble
 
 OVER = 1

@@ -1,0 +1,180 @@
+/* The worker: holds the files, runs the proved program over them, and answers the page. All that takes time is here, so the
+page never freezes. A message is { id, name, words }: the answer is { id, value } or { id, wrong }, a sentence. While a map is
+counted the worker asks the page for the counts of rows, { id, rows }, which the page has its other workers count. */
+const { RAISED, STATUS_LIMIT, WORST_VIEWS, ZONE } = FACTS;
+const PATH = 'path.csv', TRIMMED = 'level.wad', OPENED = 'open.wad';
+const state = { module: null, base: new Map(), files: [], wads: [], open: null, map: '', words: [], asked: new Map() };
+
+const bytesOfText = words => new TextEncoder().encode(words);
+const rowText = rows => `x,y,z,angle\n${rows.map(row => `${row.join(',')}\n`).join('')}`;
+
+// Runs a job over the level with a path; `out` takes the pieces of its output. Gives its status and line.
+function stream(name, path, more, out, wads = state.wads) {
+  const files = new Map([...state.base, ...wads.map(wad => [wad.name, wad.source]), [PATH, new MemorySource(bytesOfText(path))]]);
+  const words = [name, state.map, ...wads.map(wad => wad.name), '--tables', 'tables.bin', '--things', 'things.csv', '--path', PATH];
+  try {
+    return runProgram(state.module, [...words, ...more], files, out);
+  } catch (error) { // of the browser's engine
+    const why = error instanceof RangeError ? 'the browser gave no more memory' : 'the program failed in this browser';
+    throw new Wrong(`${why} (${error.message}); close other pages, and try again`);
+  }
+}
+// The same with the whole output.
+function job(name, path, more, wads) {
+  const pieces = [], done = stream(name, path, more, piece => pieces.push(piece.slice()), wads);
+  return { ...done, output: joined(pieces) };
+}
+// The same where it has to end well; else a Wrong with the sentences of explain.
+function jobOutput(name, path, more, wads) {
+  const done = job(name, path, more, wads);
+  if (done.status) throw new Wrong(sentencesOn(new Scene(state.files, state.map), done.line).join('\n'));
+  return done.output;
+}
+const textOf = bytes => new TextDecoder('latin1').decode(bytes);
+
+// A file as it was chosen: its name, its source, and its WAD or what is wrong with it.
+function opened(file, number, files) {
+  const isTwice = files.findIndex(other => other.name === file.name) < number;
+  const name = isTwice ? `${number}-${file.name}` : file.name, source = new FileSource(file);
+  try {
+    return { name, source, wad: new Wad(name, source), wrong: '' };
+  } catch (error) {
+    const wrong = error instanceof Wrong ? error.message : `${name} cannot be read; choose it anew`;
+    return { name, source, wad: null, wrong: isPacked(source) ? `${wrong}: it is a packed file, which is to be unpacked first` : wrong };
+  }
+}
+// What a user sees of the maps of some files that may be none.
+function mapsOf(files) {
+  const lumps = files.flatMap(file => file.wad.lumps), labels = mapLabels(lumps);
+  return inOrder(labels.keys()).map(name => ({ name, file: lumps[labels.get(name)].wad.name }));
+}
+function gameBehind(files) {
+  return files.slice(1).filter(file => file.wad.isGame).map(file =>
+    `${file.name} is an IWAD and comes behind another WAD, so its maps and pictures count before those of that WAD. Put the IWAD first.`);
+}
+
+const calls = {
+  setUp({ module, tables, things }) {
+    state.module = module;
+    state.base = new Map([['tables.bin', new MemorySource(tables)], ['things.csv', new MemorySource(things)]]);
+  },
+  // Takes files in their order: what each is, and the maps in them.
+  open(files) {
+    const all = files.map(opened);
+    state.files = all.filter(file => file.wad);
+    return { files: all.map(file => ({ name: file.name, size: file.source.size, isGame: Boolean(file.wad?.isGame), wrong: file.wrong })),
+      maps: mapsOf(state.files), wrong: [...all.map(file => file.wrong).filter(Boolean), ...gameBehind(state.files)] };
+  },
+  // Reads a map: what the page draws of it, and the row at which it begins. What keeps it from being drawn is a Wrong.
+  level({ map, skill }) {
+    Object.assign(state, { map, words: ['--skill', String(skill)], wads: state.files });
+    jobOutput('audit', rowText([]), state.words);
+    readLevel(state.files.map(file => file.wad), map).checkWhole();
+    const small = jobOutput('trim', rowText([]), state.words);
+    this.take({ map, skill, small });
+    const { level, plan } = state, lumps = state.files.flatMap(file => file.wad.lumps);
+    return { vertexes: level.vertexes, lines: level.lines.map((line, i) => [line.start, line.end, plan.isWall(i) ? 1 : 0]),
+      row: startOr(level, plan), palette: lumpBytes(lumps.findLast(lump => lump.name === 'PLAYPAL')).slice(0, 768), small,
+      sectors: level.sectors.length, wad: lumps[mapLabels(lumps).get(map)].wad.name };
+  },
+  // Takes a level as `trim` wrote it: each run over it reads only what its frames need.
+  take({ map, skill, small }) {
+    const wad = wadOfBytes(TRIMMED, small), level = readLevel([wad.wad], map), plan = new Plan(level);
+    Object.assign(state, { map, words: ['--skill', String(skill)], wads: [wad], open: null, level, plan, ground: new Ground(plan),
+      names: new Names(wad.wad.lumps), seenAs: '' });
+    state.zones = zonesOf(state.wads);
+  },
+  // Takes the level with its doors open, in a WAD that comes behind the other.
+  takeOpen(bytes) {
+    state.open = wadOfBytes(OPENED, bytes); state.seenAs = '';
+    state.openZones = zonesOf([...state.wads, state.open]);
+  },
+  // The frame of a place, with its row; null where no sector is.
+  frame({ spans, isOpen, ...place }) {
+    const row = rowAt(place);
+    return row && { row, frame: jobOutput('render', rowText([row]), [...wordsOf(isOpen, 'roomy'), '--spans', spans], wadsOf(isOpen)) };
+  },
+  countsAt({ isOpen, ...place }) {
+    const row = rowAt(place);
+    return row && this.counts({ rows: [row], isOpen })[0];
+  },
+  counts({ rows, isOpen }) {
+    const done = job('limits', rowText(rows), wordsOf(isOpen, 'enough'), wadsOf(isOpen));
+    if (done.status && done.status !== STATUS_LIMIT) throw new Wrong(sentencesOn(new Scene(state.wads, state.map), done.line).join('\n'));
+    return textOf(done.output).trimEnd().split('\n').map(countsOf);
+  },
+  // What painted a pixel of a view, in words.
+  pixel({ row, spans, isOpen, x, y }) {
+    const key = `${row.join()} ${spans} ${isOpen}`;
+    if (state.seenAs !== key) {
+      const trace = jobOutput('trace', rowText([row]), [...wordsOf(isOpen, 'roomy'), '--spans', spans], wadsOf(isOpen));
+      const list = textOf(jobOutput('list', rowText([row]), wordsOf(isOpen, 'enough'), wadsOf(isOpen)));
+      state.seen = new Places(isOpen ? readLevel([state.open.wad], state.map) : state.level, state.names, trace, list);
+      state.seenAs = key;
+    }
+    return state.seen.pixel(x, y);
+  },
+  // Counts the whole map, with its doors shut and open; asks the page for counts, which tell it how far it is.
+  async grid({ id, everywhere, step, directions, wad }) {
+    const { level, plan } = state, doors = plan.doors(), reach = reachOf(plan), states = [];
+    if (!reach.sectors.size && !everywhere) throw level.error('has no start of a player; it can be counted from all places');
+    const plans = [['shut', plan]], options = { everywhere, step, directions };
+    if (doors.length) {
+      this.takeOpen(withCeilings(level, doors));
+      await ask({ id, name: 'takeOpen', bytes: state.open.source.bytes });
+      plans.push(['open', new Plan(readLevel([state.open.wad], level.name))]);
+    }
+    for (const [label, of] of plans) {
+      const counts = rows => ask({ id, name: 'count', isOpen: label === 'open', rows });
+      states.push({ label, grid: await new Grid(new Ground(of), counts, reach, options).look() });
+    }
+    if (!states.some(one => one.grid.cells.length)) throw level.error('has no place with room for a player');
+    return { numbers: { ...numbersOf(plan, states), wad }, states: states.map(stateOf) };
+  },
+  // The frames of a path beside those of a port, as the page of `compare` has them.
+  compare(words) { return comparison(words); },
+};
+// The zones that suffice for some WADs, as the job `audit` says: the smaller one begins a run sooner.
+function zonesOf(wads) {
+  const [, enough, roomy] = /enough (\d+) roomy (\d+)/.exec(textOf(jobOutput('audit', rowText([]), [...state.words, ...RAISED], wads)));
+  const zone = bytes => ['--zone', String(Math.min(ZONE, Math.ceil(Number(bytes) / 4) * 4))];
+  return { enough: zone(enough), roomy: zone(Math.max(Number(roomy), Number(enough))) };
+}
+const wordsOf = (isOpen, zone) => [...state.words, ...RAISED, ...(isOpen && state.open ? state.openZones : state.zones)[zone]];
+// The row of a place: on the floor there where it has no height; null where no sector is.
+function rowAt({ x, y, z, angle }) {
+  if (z === undefined && state.ground.isVoid(x, Math.floor(y) + .5)) return null;
+  return [Math.round(x * UNIT), Math.round(y * UNIT), z ?? (state.level.floorAt(x, y) + EYE_HEIGHT) * UNIT, angle];
+}
+const wadsOf = isOpen => isOpen && state.open ? [...state.wads, state.open] : state.wads;
+function stateOf({ label, grid }) {
+  return { label, step: grid.step, views: grid.views, over: grid.over, directions: grid.directions,
+    worst: Object.fromEntries(COUNTS.map(name => [name, grid.worst(name, WORST_VIEWS)])),
+    places: grid.cells.map(({ x, y, size, sector, floor, isReached, most }) =>
+      ({ x, y, size, sector, floor, isReached, most: COUNTS.map(name => most[name] || [0, 0]) })) };
+}
+function wadOfBytes(name, bytes) {
+  const source = new MemorySource(bytes);
+  return { name, source, wad: new Wad(name, source) };
+}
+function startOr(level, plan) {
+  try { return level.startRow(); } catch { /* a map without a player: the middle of it */ }
+  const [lowX, lowY, highX, highY] = plan.box(), x = Math.round((lowX + highX) / 2), y = Math.round((lowY + highY) / 2);
+  return [x * UNIT, y * UNIT, (level.floorAt(x, y) + EYE_HEIGHT) * UNIT, 0];
+}
+// What the page has its other workers do: counts of rows.
+function ask(question) {
+  return new Promise((done, fail) => { state.asked.set(question.id, { done, fail }); postMessage({ ...question, isAsked: true }); });
+}
+async function answer({ id, name, words }) {
+  try {
+    postMessage({ id, value: await calls[name](name === 'grid' ? { ...words, id } : words) });
+  } catch (error) {
+    postMessage({ id, wrong: error instanceof Wrong ? error.message : `this page failed: ${error.message}`, stack: String(error.stack) });
+  }
+}
+onmessage = ({ data }) => {
+  if (data.name !== 'answer') return answer(data);
+  const { done, fail } = state.asked.get(data.id);
+  if (data.wrong) fail(new Wrong(data.wrong)); else done(data.value);
+};

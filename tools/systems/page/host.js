@@ -1,0 +1,131 @@
+/* What the proved program asks of its system, over files in memory or on disk. Nothing here is proved.
+
+runProgram(module, words, files, out) runs the program once, in a memory of its own, and gives { status, line }: `line` is
+what it said. `files` is a Map of names to sources; `out` takes each piece of the output, which is its for the call alone.
+
+A source is { size, read(at, count) }: the bytes of a file from a place on, as many as there are up to count. */
+const NO_FILE = 2, NO_WRITE = 5, BAD_NUMBER = 9; // Linux's numbers of errors
+const WAYS = { start: 0, here: 1, end: 2 }; // of lseek
+const TYPE_MODE_SIZE = 0x203, READABLE_FILE = 0o100444; // of statx: what is filled in, and of what a file is
+const PLACES = { mask: 0, mode: 28, size: 40 }; // in Linux's struct statx
+
+class MemorySource {
+  constructor(bytes) { this.bytes = bytes; this.size = bytes.length; }
+  read(at, count) { return this.bytes.subarray(at, at + count); }
+}
+// A file of the user, read piece by piece in a worker, so that one that is larger than memory can be read.
+class FileSource {
+  static PIECE = 1 << 20;
+  constructor(file) { this.file = file; this.size = file.size; this.pieces = new Map(); }
+  piece(number) {
+    if (!this.pieces.has(number)) {
+      if (this.pieces.size >= 64) this.pieces.delete(this.pieces.keys().next().value);
+      const from = number * FileSource.PIECE, part = this.file.slice(from, from + FileSource.PIECE);
+      this.pieces.set(number, new Uint8Array(new FileReaderSync().readAsArrayBuffer(part)));
+    }
+    return this.pieces.get(number);
+  }
+  read(at, count) {
+    const found = new Uint8Array(Math.max(0, Math.min(count, this.size - at)));
+    for (let done = 0; done < found.length;) {
+      const place = at + done, piece = this.piece(Math.floor(place / FileSource.PIECE));
+      const from = place % FileSource.PIECE, part = piece.subarray(from, from + found.length - done);
+      if (!part.length) throw new Error('the file has become shorter');
+      found.set(part, done); done += part.length;
+    }
+    return found;
+  }
+}
+
+// The calls of one run, by the names that the module has for them.
+class Host {
+  constructor(words, files, out) {
+    this.words = ['doomview', ...words].map(word => new TextEncoder().encode(word));
+    Object.assign(this, { files, out, said: '', open: [null, null, null], error: 0 });
+  }
+  fails(number) { this.error = number; return -1; }
+  bytes(place, count) { return new Uint8Array(this.memory.buffer, Number(place), Number(count)); }
+  name(place) {
+    const bytes = new Uint8Array(this.memory.buffer, Number(place));
+    return new TextDecoder().decode(bytes.slice(0, bytes.indexOf(0)));
+  }
+  openFile(path, flags) {
+    const source = this.files.get(this.name(path));
+    return flags & 3 || !source ? this.fails(NO_FILE) : this.open.push({ source, at: 0 }) - 1;
+  }
+  close(number) {
+    if (!this.open[number]) return this.fails(BAD_NUMBER);
+    this.open[number] = null;
+    return 0;
+  }
+  read(number, to, count) {
+    const file = this.open[number];
+    if (!file) return this.fails(BAD_NUMBER);
+    let piece;
+    try { piece = file.source.read(file.at, Number(count)); } catch { return this.fails(NO_WRITE); }
+    this.bytes(to, piece.length).set(piece);
+    file.at += piece.length;
+    return piece.length;
+  }
+  seek(number, offset, way) {
+    const file = this.open[number], from = file && { [WAYS.start]: 0, [WAYS.here]: file.at, [WAYS.end]: file.source.size }[way];
+    if (!file || from === undefined) return this.fails(BAD_NUMBER);
+    file.at = from + Number(offset);
+    return file.at;
+  }
+  describe(number, found) {
+    const file = this.open[number];
+    if (!file) return this.fails(BAD_NUMBER);
+    const view = new DataView(this.memory.buffer, Number(found), 256);
+    view.setUint32(PLACES.mask, TYPE_MODE_SIZE, true);
+    view.setUint16(PLACES.mode, READABLE_FILE, true);
+    view.setBigUint64(PLACES.size, BigInt(file.source.size), true);
+    return 0;
+  }
+  write(number, from, count) {
+    const piece = this.bytes(from, count);
+    if (number !== 1 && number !== 2) return this.fails(BAD_NUMBER);
+    try {
+      if (number === 1) this.out(piece); else this.said += new TextDecoder().decode(piece);
+    } catch { return this.fails(NO_WRITE); }
+    return Number(count);
+  }
+  word(number, to, room) {
+    const word = this.words[Number(number)];
+    if (!word) return -1;
+    const most = Number(room);
+    this.bytes(to, Math.min(word.length, most)).set(word.subarray(0, most));
+    return word.length <= most ? word.length : -2;
+  }
+  imports() {
+    const long = call => (...words) => BigInt(call(...words));
+    return { port_open: (path, flags) => this.openFile(path, flags), port_close: number => this.close(number),
+      port_read: long((number, to, count) => this.read(number, to, count)),
+      port_lseek: long((number, offset, way) => this.seek(number, offset, way)),
+      port_statx: (number, path, flags, mask, found) => this.describe(number, found),
+      port_write: long((number, from, count) => this.write(number, from, count)),
+      port___write: long((number, from, count) => this.write(number, from, count)),
+      port_rattle_arg_count: long(() => this.words.length), port_rattle_arg: long((...words) => this.word(...words)),
+      port_rattle_env: long(() => -1), port_rattle_env_at: long(() => -1),
+      port_rattle_errno: () => this.error, port_rattle_set_errno: number => { this.error = number; },
+      port___xpg_strerror_r: () => 0 };
+  }
+}
+
+function runProgram(module, words, files, out) {
+  const host = new Host(words, files, out), instance = new WebAssembly.Instance(module, { env: host.imports() });
+  host.memory = instance.exports.memory;
+  const status = instance.exports.run();
+  return { status, line: host.said.replace(/\n$/, '') };
+}
+// The same, with the whole output in one piece.
+function runWhole(module, words, files) {
+  const pieces = [];
+  const done = runProgram(module, words, files, piece => pieces.push(piece.slice()));
+  return { ...done, output: joined(pieces) };
+}
+function joined(pieces) {
+  const whole = new Uint8Array(pieces.reduce((sum, piece) => sum + piece.length, 0));
+  pieces.reduce((at, piece) => (whole.set(piece, at), at + piece.length), 0);
+  return whole;
+}

@@ -1,0 +1,208 @@
+/* The page: ties the files, the map, the walk, the whole count, a port's frames and what is saved to its elements. */
+const SCRIPT = `'use strict';\nconst FACTS = ${JSON.stringify(FACTS)};\n${find('worker').textContent}`;
+const NO_MEMORY64 = 'This browser has no WebAssembly memory of 64 bits, which this page needs: take Chromium, Chrome or Edge from 133, ' +
+  'or Firefox from 134.';
+const HELPERS = Math.min(8, Math.max(2, navigator.hardwareConcurrency || 4));
+const bytesOf = letters => Uint8Array.from(atob(letters), letter => letter.charCodeAt(0));
+let crew, display = null, level = null, kept = [], opening = 0;
+
+const spans = () => find('spans').value;
+const say = sentence => { find('said').textContent = sentence; };
+const degrees = angle => Math.round(angle / TURN * 3600) / 10;
+
+/* Files and maps. */
+const list = new WadList(find('wads'), async files => {
+  const turn = ++opening, found = await crew.first('open', files), before = find('chosen').value;
+  if (turn !== opening) return; // files have changed again
+  list.show(found.files);
+  find('chosen').replaceChildren(...found.maps.map(map => new Option(map.name, map.name)));
+  find('chosen').disabled = !found.maps.length;
+  if (found.maps.some(map => map.name === before)) find('chosen').value = before;
+  say([...found.wrong, ...found.maps.length || !files.length ? [] : ['There is no map in these files.']].join('\n'));
+  if (found.maps.length) await choose(found.wrong); else leave();
+});
+function leave() { level = null; ['work', 'port'].forEach(id => { find(id).hidden = true; }); }
+// Reads the map that is chosen, and goes to its start.
+async function choose(remarks = []) {
+  const map = find('chosen').value, skill = Number(find('skill').value), turn = ++opening;
+  crew.stop(); find('start').disabled = true;
+  try {
+    const found = await crew.first('level', { map, skill });
+    await crew.all('take', { map, skill, small: found.small });
+    if (turn !== opening) return;
+    level = { ...found, map, skill };
+    say(remarks.join('\n'));
+  } catch (error) {
+    if (turn === opening) { leave(); say([...remarks, `${map}: ${error.message}`].join('\n')); }
+    return;
+  }
+  find('start').disabled = false;
+  whole.clear(); ['work', 'port'].forEach(id => { find(id).hidden = false; }); find('far').textContent = '';
+  display = new MapDisplay(find('map'), { vertexes: level.vertexes, lines: level.lines, point: tell, pick: look, choose: stand });
+  showWhole(); walker.go(level.row, false);
+}
+
+/* The eye. */
+const walker = new Walker(async place => {
+  const words = { ...place, spans: spans() }, [view, counts] = await Promise.all([crew.some('frame', words), crew.some('countsAt', words)]);
+  return view && { ...view, counts };
+}, shown, sentence => say(sentence));
+let drawn = 0;
+function shown(view, place) {
+  drawFrame(find('picture'), view.frame, level.palette); drawn++;
+  showCounts(find('counts'), view.counts);
+  find('row').textContent = view.row.join(','); find('copied').textContent = '';
+  draw();
+}
+// The parts of the map that change with the view.
+function draw() {
+  const { view } = walker;
+  display.show({ eye: view && { x: view.row[0] / UNIT, y: view.row[1] / UNIT, angle: degrees(view.row[3]) }, ...whole.found ? whole.parts(view) : {} });
+}
+// A click: the eye stands there, or with Shift looks there.
+function stand(x, y, event) {
+  if (!walker.view) return;
+  if (event.shiftKey) walker.face(Math.atan2(y - walker.view.row[1] / UNIT, x - walker.view.row[0] / UNIT) * 180 / Math.PI);
+  else if (!whole.found || !display.placeAt(x, y)) walker.stand(x, y);
+}
+function look(place) { if (place && whole.found) walker.go(whole.row(place), whole.isOpen); }
+function tell(place) { find('told').textContent = place && whole.found ? whole.told(place) : ''; }
+
+/* The pixel under the pointer. */
+let pointed = null, isAsking = false;
+async function askPixel() {
+  if (isAsking || !pointed || !walker.view) return;
+  const [x, y] = pointed, { row } = walker.view;
+  pointed = null; isAsking = true;
+  try {
+    find('pixel').textContent = `column ${x} row ${y}: ${await crew.some('pixel', { row, spans: spans(), isOpen: walker.place.isOpen, x, y })}`;
+  } catch (error) { find('pixel').textContent = error.message; }
+  isAsking = false; askPixel();
+}
+function point(event) {
+  const box = find('picture').getBoundingClientRect(), share = (at, size, most) => Math.max(0, Math.min(most - 1, Math.floor(at * most / size)));
+  pointed = [share(event.clientX - box.left, box.width, WIDTH), share(event.clientY - box.top, box.height, FRAME_HEIGHT)]; askPixel();
+}
+
+/* The whole map. */
+const whole = new WholeMap((row, isOpen) => walker.go(row, isOpen));
+async function count() {
+  const isSame = level, began = performance.now();
+  const running = isOn => { find('start').hidden = isOn; find('stop').hidden = !isOn; find('progress').hidden = !isOn; };
+  running(true);
+  try {
+    const found = await crew.wholeMap({ everywhere: find('everywhere').checked, step: Number(find('step').value), directions: FACTS.DIRECTIONS, wad: level.wad },
+      progress);
+    if (level !== isSame) return;
+    whole.take(found); showWhole(); whole.rank = -1; whole.step(1);
+    find('far').textContent = `counted in ${((performance.now() - began) / 1000).toFixed(1)} seconds`;
+  } catch (error) { find('far').textContent = error.message === 'stopped' ? 'stopped' : ''; if (error.message !== 'stopped') say(error.message); }
+  finally { running(false); }
+}
+function progress(done, known) {
+  Object.assign(find('progress'), { max: known, value: done });
+  find('far').textContent = `${withCommas(done)} of ${withCommas(known)} views so far`;
+}
+// Shows squares as they come while a map is counted, and all of it at the end.
+function showWhole() {
+  if (!display) return;
+  const has = Boolean(whole.found);
+  find('found').hidden = find('numbers').hidden = !has;
+  display.show({ places: has ? whole.now().places : [], dots: [], ...has ? whole.parts(walker.view) : {} });
+  find('meaning').textContent = has ? `0 to ${withCommas(LIMITS[whole.name])} ${whole.name}; black, close up with a cross: ` +
+    `${CAPPED.includes(whole.name) ? 'reaches the limit' : 'over the limit'}; / no way leads there` : '';
+  find('scale').hidden = !has; tell(null);
+  if (has) showWorst();
+}
+function showWorst() {
+  const press = (element, isOn) => element.setAttribute('aria-pressed', isOn);
+  find('most').replaceChildren(...COUNTS.map((name, i) => {
+    const [worst] = whole.worst(name), n = worst ? worst[0] : 0, button = document.createElement('button');
+    Object.assign(button, { textContent: `${name} ${countText(name, n)} of ${withCommas(LIMITS[name])}`, className: isOver(name, n) ? 'over' : '', onclick: () => chooseCount(i) });
+    press(button, i === whole.count);
+    return button;
+  }));
+  find('doors').replaceChildren(...whole.states().map((state, i) => {
+    const button = Object.assign(document.createElement('button'), { textContent: `doors ${state.label}`, onclick: () => chooseState(i) });
+    press(button, i === whole.state);
+    return button;
+  }));
+  find('worst').replaceChildren(...whole.worst().map(([n], i) => Object.assign(document.createElement('button'),
+    { textContent: `${i + 1}: ${countText(whole.name, n)}`, className: isOver(whole.name, n) ? 'over' : '', onclick: () => { whole.rank = i; whole.step(0); } })));
+  find('sum').textContent = whole.summary(list.names);
+}
+function chooseCount(i) { whole.count = i; whole.rank = 0; showWhole(); whole.step(0); }
+function chooseState(i) { whole.state = i; whole.rank = 0; showWhole(); whole.step(0); }
+
+/* A port's frames. */
+async function compare() {
+  const [path] = find('portPath').files, [frames] = find('portFrames').files;
+  find('compared').textContent = path && frames ? 'comparing ..' : 'choose both files';
+  if (!path || !frames) return;
+  try {
+    const port = new Uint8Array(await frames.arrayBuffer()), words = { path: await path.text(), port, spans: spans(), name: frames.name, palette: level.palette };
+    const found = await crew.first('compare', words), mark = '/*DATA*/null';
+    compared = COMPARE_PAGE.replace(mark, () => JSON.stringify(found).replaceAll('</', '<\\/'));
+    find('comparison').srcdoc = compared; find('comparison').hidden = find('savePage').hidden = false;
+    find('compared').textContent = found.head;
+  } catch (error) { find('compared').textContent = error.message; }
+}
+let compared = '';
+
+/* What is saved. */
+const pathText = rows => `x,y,z,angle\n${rows.map(row => `${row.join(',')}\n`).join('')}`;
+function keep() { if (walker.view) { kept.push(walker.view.row); find('kept').textContent = kept.length; } }
+function copy() {
+  const done = () => { find('copied').textContent = 'copied'; };
+  const byHand = () => { getSelection().selectAllChildren(find('row')); find('copied').textContent = document.execCommand('copy') ? 'copied' : 'marked: copy it'; };
+  if (navigator.clipboard) navigator.clipboard.writeText(find('row').textContent).then(done, byHand); else byHand();
+}
+const base = () => level.map.toLowerCase();
+const saves = { path: () => save('path.csv', pathText(kept.length ? kept : [walker.view.row]), 'text/csv'),
+  png: () => find('picture').toBlob(picture => save(`${base()}.png`, picture)), trim: () => save(`${base()}.wad`, level.small),
+  worstPath: () => save('worst.csv', pathText(whole.rows()), 'text/csv'),
+  json: () => save(`${base()}.json`, `${JSON.stringify(whole.found.numbers, null, 1)}\n`, 'application/json'),
+  savePage: () => save('compared.html', compared, 'text/html') };
+
+/* Keys, buttons, the window. */
+const keys = { n: () => whole.step(1), p: () => whole.step(-1), k: keep, c: copy,
+  o: () => whole.states().length > 1 && chooseState((whole.state + 1) % whole.states().length) };
+COUNTS.forEach((_, i) => { keys[i + 1] = () => whole.found && chooseCount(i); });
+onkeydown = event => {
+  if (!level || event.ctrlKey || event.metaKey || event.altKey || ['INPUT', 'SELECT'].includes(document.activeElement?.tagName)) return;
+  const act = keys[event.key] || display.keys[event.key];
+  if (act) { event.preventDefault(); act(); } else if (walker.press(event.key)) event.preventDefault();
+};
+onkeyup = event => walker.release(event.key);
+onblur = () => walker.held.clear();
+onresize = () => display && display.fit();
+function listen() {
+  find('files').onchange = ({ target }) => { list.take(target.files); target.value = ''; };
+  find('chosen').onchange = () => choose(); find('skill').onchange = () => level && choose(); find('spans').onchange = () => walker.again();
+  find('picture').onpointermove = find('picture').onpointerdown = point;
+  find('copy').onclick = copy; find('keep').onclick = keep; find('start').onclick = count; find('stop').onclick = () => crew.stop();
+  find('compare').onclick = compare;
+  find('nearer').onclick = () => display.zoom(1.3); find('farther').onclick = () => display.zoom(1 / 1.3); find('all').onclick = () => display.whole();
+  Object.entries(saves).forEach(([id, act]) => { find(id).onclick = act; });
+  document.querySelectorAll('#pads button').forEach(button => {
+    button.onpointerdown = () => walker.press(button.dataset.key);
+    button.onpointerup = button.onpointerleave = button.onpointercancel = () => walker.release(button.dataset.key);
+  });
+  for (const kind of ['dragover', 'dragleave', 'drop']) addEventListener(kind, event => {
+    event.preventDefault(); find('drop').classList.toggle('over', kind === 'dragover');
+    if (kind === 'drop') list.take(event.dataTransfer.files);
+  });
+}
+// Whether this engine has memories of 64 bits: a module with one alone.
+const hasMemory64 = () => WebAssembly.validate(new Uint8Array([0, 97, 115, 109, 1, 0, 0, 0, 5, 3, 1, 4, 1]));
+async function begin() {
+  if (typeof WebAssembly === 'undefined' || !hasMemory64()) { find('files').disabled = true; return say(NO_MEMORY64); }
+  MapDisplay.drawScale(find('scale')); listen();
+  try {
+    crew = new Crew(SCRIPT, HELPERS);
+    const words = { module: await WebAssembly.compile(bytesOf(BUILT.program)), tables: bytesOf(BUILT.tables), things: bytesOf(BUILT.things) };
+    await Promise.all([crew.first('setUp', words), crew.all('setUp', words)]);
+    document.body.dataset.ready = 'yes';
+  } catch (error) { say(`This page could not begin: ${error.message}`); }
+}
+begin();

@@ -1,0 +1,78 @@
+/* Walking: an eye in the level that keys, buttons and clicks move, and the picture and the counts of what it sees. While one
+view is drawn the newest place waits; those between are left out, so that walking follows the keys. */
+const WALK = 360, TURNS = 150, RISE = 200; // map units and degrees a second
+const TAP = .05; // seconds that a key counts as at least
+const MOVES = { ArrowUp: ['ahead', 1], w: ['ahead', 1], ArrowDown: ['ahead', -1], s: ['ahead', -1], ArrowLeft: ['turn', 1],
+  ArrowRight: ['turn', -1], a: ['aside', -1], d: ['aside', 1], PageUp: ['rise', 1], PageDown: ['rise', -1] };
+
+const countText = (name, count) => withCommas(count) + (CAPPED.includes(name) && count >= LIMITS[name] ? ' or more' : '');
+
+class Walker {
+  // `draw` gives in time the view of a place ({ row, frame, counts } or null); `shown` takes each view that is drawn.
+  constructor(draw, shown, wrong) {
+    Object.assign(this, { draw, shown, wrong, place: null, view: null, held: new Map(), isBusy: false, wanted: null, last: 0 });
+  }
+  // Goes to a row of a path; its place is followed from there on the floor.
+  go([x, y, z, angle], isOpen = this.place?.isOpen || false) {
+    this.want({ x: x / UNIT, y: y / UNIT, z, angle: angle / TURN * 360, lift: 0, isOpen });
+  }
+  stand(x, y) { this.want({ ...this.place, x, y, z: undefined, lift: 0 }); }
+  face(angle) { this.want({ ...this.place, angle: ((angle % 360) + 360) % 360 }); }
+  again() { if (this.place) this.want({ ...this.place }); }
+  want(place) { this.wanted = place; if (!this.isBusy) this.next(); }
+  async next() {
+    const place = this.wanted, angle = Math.round(place.angle / 360 * TURN) % TURN;
+    this.wanted = null; this.isBusy = true;
+    try {
+      const view = await this.draw({ ...place, angle });
+      if (view) { this.place = { ...place, z: undefined }; this.view = view; this.place.z = place.z === undefined ? undefined : view.row[2]; this.shown(view, this.place); }
+    } catch (error) { this.wrong(error.message); }
+    this.isBusy = false;
+    if (this.wanted) this.next();
+  }
+  /* Keys that are held, and buttons. */
+  press(key) {
+    if (!MOVES[key] || !this.place) return false;
+    if (!this.held.has(key)) { this.held.set(key, true); this.step(TAP, [MOVES[key]]); if (this.held.size === 1) { this.last = performance.now(); requestAnimationFrame(now => this.tick(now)); } }
+    return true;
+  }
+  release(key) { this.held.delete(key); }
+  tick(now) {
+    if (!this.held.size) return;
+    const seconds = Math.min((now - this.last) / 1000, .25);
+    this.last = now; this.step(seconds, [...this.held.keys()].map(key => MOVES[key]));
+    requestAnimationFrame(later => this.tick(later));
+  }
+  step(seconds, moves) {
+    const from = this.wanted || this.place, to = { ...from };
+    for (const [kind, way] of moves) {
+      const turned = (kind === 'aside' ? from.angle - 90 : from.angle) * Math.PI / 180, far = way * WALK * seconds;
+      if (kind === 'turn') to.angle = (to.angle + way * TURNS * seconds + 360) % 360;
+      else if (kind === 'rise') to.z = Math.round((to.z ?? this.view.row[2]) + way * RISE * seconds * UNIT);
+      else { to.x += far * Math.cos(turned); to.y += far * Math.sin(turned); to.z = undefined; }
+    }
+    this.want(to);
+  }
+}
+
+// Draws a frame of palette indices on a canvas.
+function drawFrame(canvas, frame, palette) {
+  const pen = canvas.getContext('2d'), image = pen.createImageData(WIDTH, FRAME_HEIGHT);
+  for (let i = 0; i < frame.length; i++) {
+    const at = 3 * frame[i];
+    image.data[4 * i] = palette[at]; image.data[4 * i + 1] = palette[at + 1]; image.data[4 * i + 2] = palette[at + 2]; image.data[4 * i + 3] = 255;
+  }
+  pen.putImageData(image, 0, 0);
+}
+// Writes the counts of a view beside their limits, in a table with a row for each.
+function showCounts(table, counts) {
+  table.replaceChildren(...COUNTS.map(name => {
+    const row = document.createElement('tr'), count = counts[name], over = count !== undefined && isOver(name, count);
+    add(row, 'th', name);
+    add(row, 'td', count === undefined ? '-' : countText(name, count), { className: over ? 'over' : '' });
+    add(row, 'td', `of ${withCommas(LIMITS[name])}${over ? CAPPED.includes(name) ? ', FULL' : ', OVER' : ''}`);
+    const bar = add(add(row, 'td', ''), 'meter', '', { max: LIMITS[name], value: count || 0, high: LIMITS[name] * .9 });
+    bar.ariaLabel = `${name} of their limit`;
+    return row;
+  }));
+}

@@ -1,0 +1,159 @@
+"""doomview for Windows and for a browser: the module compiled anew, and linked with glue. All of it is a preview: it rests
+on what no page of the kit says, and no proof is about it."""
+import json
+import os
+import shutil
+import tempfile
+from typing import NamedTuple
+
+from doomview_tools import cli, command, home, jobs, tables
+from doomview_tools.trouble import Trouble
+
+from . import ir, kit, module
+
+GLUE = os.path.join(os.path.dirname(os.path.abspath(__file__)), 'glue')
+WINDOWS_COMPILER = 'x86_64-w64-mingw32-gcc'
+AARCH64, AARCH64_COMPILER = 'aarch64-unknown-linux-gnu', 'aarch64-linux-gnu-gcc'
+STACK = 8 << 20  # bytes, as a Linux program has
+# As `rattle build` calls clang, apart from what is of one target.
+ALWAYS = ('--no-default-config -no-canonical-prefixes -fintegrated-cc1 -fno-crash-diagnostics -Werror -O3 -ffunction-sections '
+          '-fdata-sections -mllvm -no-trap-after-noreturn -mllvm -trap-unreachable -mllvm -disable-machine-licm -mllvm '
+          '-disable-postra-machine-licm -mllvm -sink-common-insts=false').split()
+X86 = '-march=x86-64 -mllvm -no-x86-call-frame-opt -Xclang -fmerge-functions'.split()
+WASM = ['-mcpu=lime1']
+# The names of the files that doomview.exe has in it: none that a file of Windows can have.
+BUILT_IN = {'--tables': '<tables>', '--things': '<things>'}
+OVERVIEW = '''doomview {version} for Windows, a preview: the proved program compiled anew, which no proof covers.
+
+usage: doomview JOB WORDS.. [OPTIONS]
+
+{jobs}
+
+  doomview JOB --help   the page of a job
+  doomview --version
+
+WADs are named by their paths. The tools beside the jobs are a part of the release for Linux.
+'''
+
+
+class Windows(NamedTuple):
+    """The program with the tables built in, and the same with its own words alone, which golden runs try."""
+
+    command: bytes
+    plain: bytes
+
+
+class Workshop:
+    """A folder in which targets are made of the module."""
+
+    def __init__(self, folder: str, data: bytes):
+        self.folder, self.kit = folder, kit.folder()
+        with open(self.at('module.bc'), 'wb') as file:
+            file.write(data)
+        self.clang('-x', 'ir', '-S', '-emit-llvm', '-O0', '-Xclang', '-disable-llvm-passes', self.at('module.bc'), '-o',
+                   self.at('module.ll'))
+        self.text = read(self.at('module.ll'))
+
+    def at(self, name: str) -> str:
+        return os.path.join(self.folder, name)
+
+    def clang(self, *words: str):
+        kit.call([os.path.join(self.kit, 'toolchain', 'bin', 'clang'), *words], 'compiling')
+
+    def object(self, target: str, words: list[str]) -> str:
+        """The path of the module's object file for a target."""
+        text, _ = ir.rewritten(target, self.text, read(os.path.join(GLUE, 'heap.ll')))
+        with open(self.at(f'{target}.ll'), 'w', encoding='utf-8') as file:
+            file.write(text)
+        made = self.at(f'{target}.o')
+        self.clang(f'--target={ir.TARGETS[target].triple}', *ALWAYS, *words, '-c', '-x', 'ir', self.at(f'{target}.ll'), '-o', made)
+        return made
+
+
+def read(path: str) -> str:
+    with open(path, encoding='utf-8', errors='surrogateescape') as file:
+        return file.read()
+
+
+def c_text(words: str) -> str:
+    """A text as C has it: one literal for each line."""
+    return '\n'.join(json.dumps(line, ensure_ascii=True) for line in words.splitlines(True)) or '""'
+
+
+def c_bytes(name: str, data: bytes) -> str:
+    return f'static const unsigned char {name}[] = {{{",".join(map(str, data))}}};\n'
+
+
+def things() -> bytes:
+    return module.bytes_of(home.data('things.csv'))
+
+
+def job_pages() -> str:
+    """The table of jobs in C: name, whether it is over a level, whether it writes what is no text, and its page."""
+    rows = [f'{{"{job.name}", {int(job.name in jobs.LEVEL_JOBS)}, {int(job.is_binary)}, {c_text(cli.job_page(job))}}}'
+            for job in jobs.JOBS.values()]
+    return ('struct job { const char *name; int has_level, writes_bytes; const char *page; };\n'
+            f'static const struct job jobs[] = {{{", ".join(rows)}}};\n')
+
+
+def built_in_header() -> str:
+    """What command.c has from the tools in Python: the tables, and the pages of the jobs."""
+    data = {'--tables': tables.tables(), '--things': things()}
+    rows = [f'{{{{"{BUILT_IN[option]}", {option[2:]}_bytes, sizeof {option[2:]}_bytes}}, "{option}"}}' for option in data]
+    lines = command.table((' '.join([job.name, *(word for word, _ in job.words)]), job.summary) for job in jobs.JOBS.values())
+    named = home.version()['version']
+    return (''.join(c_bytes(f'{option[2:]}_bytes', content) for option, content in data.items()) + job_pages()
+            + 'static const struct { struct built_in file; const char *option; } built_ins[] = {' + ', '.join(rows) + '};\n'
+            + f'static const char overview[] = {c_text(OVERVIEW.format(version=named, jobs=lines))};\n'
+            + f'static const char version[] = "doomview {named}, a preview for Windows";\n')
+
+
+def windows(work: Workshop) -> Windows:
+    """The programs for Windows."""
+    if not shutil.which(WINDOWS_COMPILER):
+        raise Trouble(f'there is no command {WINDOWS_COMPILER} (Debian: mingw-w64)')
+    made = work.object('windows', X86)
+    with open(work.at('built_in.h'), 'w', encoding='utf-8') as file:
+        file.write(built_in_header())
+    found = []
+    for part in ('command', 'plain'):
+        target = work.at(f'{part}.exe')
+        kit.call([WINDOWS_COMPILER, '-O2', '-Wall', '-Wextra', '-Werror', '-static', '-s', '-municode', f'-I{work.folder}',
+                  f'-Wl,--gc-sections,--stack,{STACK},--no-insert-timestamp', made, os.path.join(GLUE, 'windows.c'),
+                  os.path.join(GLUE, f'{part}.c'), '-o', target], 'linking for Windows')
+        found.append(module.bytes_of(target))
+    return Windows(*found)
+
+
+def browser(work: Workshop) -> bytes:
+    """The program for a browser, as WebAssembly with a memory of 64 bits."""
+    made, glue, host, target = work.object('wasm64', WASM), work.at('glue.o'), work.at('host'), work.at('doomview.wasm')
+    triple = f'--target={ir.TARGETS["wasm64"].triple}'
+    work.clang(triple, *WASM, '--no-default-config', '-ffreestanding', '-nostdlibinc', '-O2', '-Wall', '-Wextra', '-c',
+               os.path.join(GLUE, 'wasm.c'), '-o', glue)
+    with open(host, 'w', encoding='utf-8') as file:
+        file.writelines(f'{name}\n' for name in ir.called(work.text))
+    kit.call([os.path.join(work.kit, 'toolchain', 'bin', 'ld.lld'), '-flavor', 'wasm', '-m', 'wasm64', '--no-entry', '--stack-first',
+              '-z', f'stack-size={STACK}', '--gc-sections', f'--allow-undefined-file={host}', '-s', made, glue, '-o', target],
+             'linking for a browser')
+    return module.bytes_of(target)
+
+
+def aarch64() -> bytes:
+    """The program for Linux on aarch64: the object file that the kit documents for it, and C that the kit has for x86-64."""
+    if not shutil.which(AARCH64_COMPILER):
+        raise Trouble(f'there is no command {AARCH64_COMPILER} (Debian: gcc-aarch64-linux-gnu, libc6-dev-arm64-cross)')
+    with tempfile.TemporaryDirectory(prefix='doomview-') as folder:
+        given, target = os.path.join(folder, 'doomview.o'), os.path.join(folder, 'doomview')
+        with open(given, 'wb') as file:
+            file.write(module.object_for(AARCH64))
+        kit.call([AARCH64_COMPILER, '-O2', '-Wall', '-Wextra', '-Werror', '-static', '-s', '-Wl,--gc-sections', given,
+                  os.path.join(GLUE, 'linux.c'), '-o', target], 'linking for aarch64')
+        return module.bytes_of(target)
+
+
+def made(names: list[str]) -> dict:
+    """What is made for some targets, by name: `windows` or `wasm64`."""
+    with tempfile.TemporaryDirectory(prefix='doomview-') as folder:
+        work = Workshop(folder, module.kept())
+        return {name: {'windows': windows, 'wasm64': browser}[name](work) for name in names}

@@ -1,0 +1,383 @@
+"""Tests the page that DOOMVIEW_PAGE names, in Chromium: what it draws, counts and says is what the program DOOMVIEW_TESTED and
+the tools say. tools/portable --check makes a page and runs these tests; a page that is made may be tried alone so:
+
+    DOOMVIEW_PAGE=out/doomview.html DOOMVIEW_TESTED=out/doomview python3 tools/tests/test_page.py"""
+import base64
+import contextlib
+import hashlib
+import io
+import json
+import os
+import random
+import re
+import shutil
+import subprocess
+import sys
+import tempfile
+import unittest
+
+import pages_shown
+from made_files import COMMAND, TOP
+from doomview_tools import explanations, levels, paths, wads
+from systems import check, chromium
+
+PAGE, TESTED = os.environ.get('DOOMVIEW_PAGE', ''), os.environ.get('DOOMVIEW_TESTED', '')
+GAMES = [path for path in ('/usr/share/games/doom/freedoom1.wad', '/usr/share/games/doom/freedoom2.wad') if os.path.exists(path)]
+COUNTED = [('freedoom2.wad', name) for name in ('MAP01', 'MAP02', 'MAP07')] + [('freedoom1.wad', name) for name in ('E1M1', 'E1M6')]
+STEP = os.environ.get('DOOMVIEW_STEP', '128')
+# Refusals for the WADs alone, whatever the thing table has.
+OF_WADS = r'doomview: refused (4..|5..|6..|7..|90[135])( |$)'
+# Gives the worker that reads levels another thing table.
+TAKE_THINGS = '''(async () => crew.first('setUp', { module: await WebAssembly.compile(bytesOf(BUILT.program)),
+tables: bytesOf(BUILT.tables), things: new TextEncoder().encode(%s) }))()'''
+NO_WADS = (401, 402, 403)  # refusals of a file that is no whole WAD, which the page says when it is chosen
+SAID, READY = "find('said').textContent", "document.body.dataset.ready === 'yes'"
+BASE64 = '''(bytes => { let s = ''; for (let i = 0; i < bytes.length; i += 4096) s += String.fromCharCode(...bytes.subarray(i, i + 4096));
+return btoa(s); })'''
+KEYS = {'ArrowUp': 38, 'ArrowLeft': 37, 'ArrowRight': 39, 'ArrowDown': 40}
+
+
+def run(*words, folder=None, status=0):
+    """What the command prints."""
+    env = {**os.environ, 'DOOMVIEW': TESTED}
+    done = subprocess.run([COMMAND, *words], cwd=folder, env=env, stdin=subprocess.DEVNULL, capture_output=True)
+    if done.returncode != status:
+        raise AssertionError(f'{words}: {done.returncode}, {done.stderr.decode()}')
+    return done.stdout
+
+
+@unittest.skipUnless(PAGE and TESTED and chromium.command(), 'there is no page, no program or no Chromium')
+class Shown(unittest.TestCase):
+    """A page in Chromium, with the made room."""
+
+    @classmethod
+    def setUpClass(cls):
+        cls.folder = tempfile.mkdtemp()
+        cls.addClassCleanup(shutil.rmtree, cls.folder)
+        cls.room = cls.at('room.wad')
+        run('room', '-o', cls.room)
+
+    @classmethod
+    def at(cls, name):
+        return os.path.join(cls.folder, name)
+
+    def setUp(self):
+        self.browser = self.enterContext(chromium.Chromium()) if hasattr(self, 'enterContext') else self.entered()
+        self.browser.show(PAGE)
+        self.browser.wait(READY)
+
+    def entered(self):
+        stack = contextlib.ExitStack()
+        self.addCleanup(stack.close)
+        return stack.enter_context(chromium.Chromium())
+
+    def tearDown(self):
+        self.assertEqual(self.browser.errors, [])
+        asked = [address for address in self.browser.requests if not address.startswith(('blob:null/', 'data:', 'about:'))]
+        self.assertEqual(asked, ['file://' + os.path.abspath(PAGE)])
+
+    def value(self, code):
+        return self.browser.value(code)
+
+    def take(self, *files):
+        """Chooses files, and waits for the view from the start of the first map."""
+        self.browser.choose('#files', list(files))
+        self.browser.wait('walker.view && level && !walker.isBusy')
+
+    def choose(self, name):
+        self.value(f"walker.view = null; find('chosen').value = {name!r}; find('chosen').onchange(); 0")
+        self.browser.wait(f"level && level.map === {name!r} && walker.view && !walker.isBusy || {SAID}")
+
+    def frame(self):
+        return base64.b64decode(self.value(f'{BASE64}(walker.view.frame)'))
+
+    def go(self, row):
+        self.value(f'walker.go({json.dumps(list(row[:4]))}); 0')
+        self.browser.wait('!walker.isBusy')
+
+    def native(self, job, wad, name, rows, *more):
+        """What the program writes for rows."""
+        path = self.at('path.csv')
+        with open(path, 'w', encoding='utf-8') as file:
+            file.write(paths.text(rows))
+        return run(job, name, *([wad] if isinstance(wad, str) else wad), '--path', path, *more)
+
+
+class Views(Shown):
+    @unittest.skipUnless(GAMES, 'Freedoom is not installed')
+    def test_starts(self):
+        """Frame and counts from the start of each map of Freedoom are those of the program."""
+        tried = 0
+        for wad in GAMES:
+            self.take(wad)
+            for name in wads.maps_of([wad]):
+                self.choose(name)
+                row = paths.turn(levels.read([wad], name), 1)[0]
+                self.assertEqual(self.value('walker.view.row'), list(row[:4]), name)
+                drawn = self.native('render', wad, name, [row], '--planes', '1024', '--openings', '245760')
+                self.assertEqual(self.frame(), drawn, name)
+                counted = self.native('limits', wad, name, [row], '--planes', '1024', '--openings', '245760').decode()
+                said = ' '.join(f'{key} {value}' for key, value in self.value('walker.view.counts').items())
+                self.assertEqual(counted, f'view 0 {said}\n', name)
+                tried += 1
+            self.value("list.files = []; list.changed([]); 0")
+        self.assertEqual(tried, 32 * ('freedoom2.wad' in GAMES[-1]) + 36 * ('freedoom1.wad' in GAMES[0]))
+
+    def test_walk(self):
+        """Keys, clicks and buttons move the eye; what is shown is what the program draws there."""
+        self.take(self.room)
+        seen = [self.value('walker.view.row')]
+        for key in ('ArrowUp', 'ArrowLeft', 'd', 'PageUp'):
+            self.browser.press(key, KEYS.get(key, 0))
+            self.browser.wait('!walker.isBusy && !walker.held.size')
+            seen.append(self.value('walker.view.row'))
+        self.assertEqual(len(set(map(tuple, seen))), len(seen))
+        box = self.value("(({ left, top, width, height }) => [left, top, width, height])(find('map').getBoundingClientRect())")
+        x, y = self.value('display.at(480, 300)')
+        self.browser.click(box[0] + 1 + x, box[1] + 1 + y)
+        self.browser.wait('!walker.isBusy')
+        place = self.value('walker.view.row.map(v => v / 65536)')
+        self.assertAlmostEqual(place[0], 480, delta=4)
+        self.assertAlmostEqual(place[1], 300, delta=4)
+        x, y = self.value('display.at(480, 800)')
+        self.browser.click(box[0] + 1 + x, box[1] + 1 + y, 8)
+        self.browser.wait('!walker.isBusy')
+        self.assertAlmostEqual(self.value('walker.view.row[3]'), 2 ** 30, delta=2 ** 24)
+        row = self.value('walker.view.row')
+        self.assertEqual(self.frame(), self.native('render', self.room, 'MAP01', [paths.Row(*row)]))
+        self.value("find('spans').value = 'packed'; find('spans').onchange(); 0")
+        self.browser.wait('!walker.isBusy')
+        self.assertEqual(self.frame(), self.native('render', self.room, 'MAP01', [paths.Row(*row)], '--spans', 'packed'))
+
+    def test_picture(self):
+        """The canvas has the colours of the frame."""
+        self.take(self.room)
+        pixels = base64.b64decode(self.value(f"{BASE64}(find('picture').getContext('2d').getImageData(0, 0, 320, 200).data)"))
+        drawn = self.native('render', self.room, 'MAP01', [paths.Row(*self.value('walker.view.row'))], '--format', 'ppm')
+        self.assertEqual(b''.join(pixels[i:i + 3] for i in range(0, len(pixels), 4)), drawn[15:])
+
+    def test_pixels(self):
+        """Of pixels by chance the page says what `pixel --list` says."""
+        chance = random.Random(1)
+        for wad, name in [(self.room, 'MAP01'), *((GAMES[-1], name) for name in ('MAP01', 'MAP18') if GAMES)]:
+            self.take(wad)
+            self.choose(name)
+            row = paths.Row(*self.value('walker.view.row'))
+            trace, found = self.at('trace.bin'), self.at('list.txt')
+            for path, job in ((trace, 'trace'), (found, 'list')):
+                with open(path, 'wb') as file:
+                    file.write(self.native(job, wad, name, [row]))
+            for _ in range(40):
+                x, y = chance.randrange(320), chance.randrange(200)
+                said = run('pixel', '0', str(x), str(y), trace, wad, '--list', found, '--map', name).decode().strip()
+                told = self.value(f"crew.some('pixel', {{ row: walker.view.row, spans: 'full', isOpen: false, x: {x}, y: {y} }})")
+                self.assertEqual(f'view 0 column {x} row {y}: {told}', said)
+            self.value('list.files = []; list.changed([]); 0')
+        self.take(self.room)
+        box = self.value("(({ left, top, width, height }) => [left, top, width, height])(find('picture').getBoundingClientRect())")
+        self.browser.mouse('mouseMoved', box[0] + box[2] / 2, box[1] + box[3] / 2)
+        self.browser.wait("find('pixel').textContent.startsWith('column 160 row 100: ')")
+
+    def test_compare(self):
+        """The comparison with a port's frames is that of `compare --html`."""
+        self.take(self.room)
+        run('places', self.room, 'MAP01', '12', '-o', self.at('port.csv'))
+        words = [self.room, '--path', self.at('port.csv')]
+        for path, job, more in (('ours.bin', 'render', []), ('port.bin', 'render', ['--skill', '1']), ('trace.bin', 'trace', []),
+                                ('list.txt', 'list', [])):
+            run(job, 'MAP01', *words, *more, '-o', self.at(path))
+        run('compare', self.at('ours.bin'), self.at('port.bin'), '--wad', self.room, '--trace', self.at('trace.bin'), '--list',
+            self.at('list.txt'), '--html', self.at('compared.html'), status=1)
+        self.browser.choose('#portPath', [self.at('port.csv')])
+        self.browser.choose('#portFrames', [self.at('port.bin')])
+        self.value("find('compare').click(); 0")
+        self.browser.wait('compared')
+        data = json.loads(self.value('compared.match(/^const data = (.*);$/m)[1]'))
+        theirs = pages_shown.data_of(self.at('compared.html'))
+        self.assertEqual(data['palette'], theirs['palette'])
+        self.assertGreater(len(data['views']), 3)
+        for here, there in zip(data['views'], theirs['views'], strict=True):
+            for part in ('view', 'told', 'first', 'known', 'painters', 'pixels'):
+                self.assertEqual(here[part], there[part], part)
+        self.assertIn('views 13 same', data['head'])
+        self.browser.wait("find('comparison').contentDocument?.querySelectorAll('section').length > 3")
+
+    def test_open(self):
+        """The picture of a worst view with the doors open is that of the map with its doors open."""
+        if not GAMES:
+            self.skipTest('Freedoom is not installed')
+        wad = GAMES[-1]
+        self.take(wad)
+        self.value("find('step').value = '256'; find('start').click(); 0")
+        self.browser.wait('whole.found && !walker.isBusy')
+        self.value("document.querySelectorAll('#doors button')[1].click(); 0")
+        self.browser.wait('whole.isOpen && walker.place.isOpen && !walker.isBusy')
+        run('limits-map', wad, 'MAP01', '--step', '256', '--opened', self.at('open.wad'))
+        row = paths.Row(*self.value('walker.view.row'))
+        self.assertEqual(self.frame(), self.native('render', [wad, self.at('open.wad')], 'MAP01', [row]))
+
+
+class Counts(Shown):
+    @unittest.skipUnless(len(GAMES) == 2, 'Freedoom is not installed')
+    def test_maps(self):
+        """The numbers of whole maps are those of `limits-map --all --json`."""
+        for game, name in COUNTED:
+            wad = next(path for path in GAMES if path.endswith(game))
+            self.value('list.files = []; list.changed([]); 0')
+            self.take(wad)
+            self.choose(name)
+            self.value(f"find('everywhere').checked = true; find('step').value = {STEP!r}; find('start').click(); 0")
+            self.browser.wait("whole.found && !find('start').hidden", 600)
+            done = subprocess.run([COMMAND, 'limits-map', wad, name, '--all', '--json', '--step', STEP], stdin=subprocess.DEVNULL,
+                                  stdout=subprocess.PIPE, env={**os.environ, 'DOOMVIEW': TESTED})
+            native, here = json.loads(done.stdout), self.value('whole.found.numbers')
+            self.assertEqual({**here, 'wad': wad}, native, name)
+
+    def test_room(self):
+        """A whole count shows its squares, worst views and numbers; keys go from view to view, and it can be stopped."""
+        self.take(self.room)
+        self.value("find('start').click(); 0")
+        self.browser.wait('whole.found && !walker.isBusy')
+        self.assertEqual(self.value("document.querySelectorAll('#most button').length"), 4)
+        worst = self.value('whole.worst().map(view => view[1])')
+        self.assertEqual(self.value('walker.view.row'), worst[0])
+        self.browser.press('n')
+        self.browser.wait(f'walker.view.row.join() === {json.dumps(worst[1])}.join()')
+        self.browser.press('3')
+        self.browser.wait("whole.name === 'fragments' && !walker.isBusy")
+        self.assertGreater(self.value("new Set(new Uint32Array(find('map').getContext('2d').getImageData(0, 0, find('map').width, "
+                                      "find('map').height).data.buffer)).size"), 8)
+        rows = self.value('whole.rows()')
+        self.assertEqual(len(rows), len(set(map(tuple, rows))))
+        self.value("find('step').value = '32'; find('start').click(); find('stop').click(); 0")
+        self.browser.wait("find('far').textContent === 'stopped' && !find('start').hidden")
+
+
+class Wrong(Shown):
+    def sentences(self, files, name):
+        """What the page says of a map of files: lines."""
+        self.value('list.files = []; list.changed([]); walker.view = null; 0')
+        self.browser.choose('#files', files)
+        self.browser.wait(f"!find('chosen').disabled || {SAID}")
+        return self.value(f"crew.first('level', {{ map: {name!r}, skill: 3 }}).then(() => '', error => error.message)").split('\n')
+
+    def test_refusals(self):
+        """Of each golden case that is refused for its WADs the page says what explain says, but for lists of all its kind."""
+        run_ = check.golden()
+        cases = {case for table in run_.table_names() for case in run_.read_table(table)
+                 if re.match(OF_WADS, case.expected.line) and re.match(r'audit .* --things things\.csv .*path\d+\.csv$', case.words)}
+        chosen, codes = [], set()
+        for case in sorted(cases, key=lambda it: it.name):
+            code = case.expected.line.split()[2]
+            if [word for word in case.words.split() if word.endswith('.wad')] and code not in codes:
+                codes.add(code)
+                chosen.append(case)
+        self.assertGreater(len(chosen), 10)
+        run_.put_files(TESTED, self.folder, chosen)
+        os.chdir(self.folder)
+        self.addCleanup(os.chdir, TOP)
+        with open(self.at('things.csv'), encoding='utf-8') as file:
+            self.value(TAKE_THINGS % json.dumps(file.read()))
+        for case in chosen:
+            words = explanations.Words(case.arguments())
+            sentences = list(explanations.explain(case.expected.line, case.arguments()))
+            if int(case.expected.line.split()[2]) in NO_WADS:
+                self.value('list.files = []; list.changed([]); 0')
+                self.browser.choose('#files', words.wads)
+                self.browser.wait(SAID)
+                self.assertIn(os.path.basename(words.wads[0]), self.value(SAID), case.words)
+                continue
+            self.assertEqual(self.sentences(words.wads, words.map_name)[0], sentences[0], case.words)
+
+    def test_no_wad(self):
+        """A file that is no WAD is named, and the page goes on with the others."""
+        with open(self.room, 'rb') as file:
+            paths_ = {'notes.txt': b'hello', 'maps.zip': b'PK\3\4', 'short.wad': b'IWAD\1', 'cut.wad': file.read()[:-40]}
+        for name, data in paths_.items():
+            with open(self.at(name), 'wb') as file:
+                file.write(data)
+        self.browser.choose('#files', [self.at(name) for name in paths_])
+        self.browser.wait(f"{SAID}.includes('There is no map')")
+        said = self.value(SAID)
+        for part in ('notes.txt is no WAD', 'maps.zip is no WAD: it is a packed file', 'short.wad is cut short', 'cut.wad is cut short'):
+            self.assertIn(part, said)
+        self.take(self.room)
+        self.assertEqual(self.value('level.map'), 'MAP01')
+        self.assertIn('notes.txt is no WAD', self.value(SAID))
+
+    def test_large(self):
+        """A WAD of 600 MB is read piece by piece."""
+        path = self.at('large.wad')
+        lumps = wads.read(self.room)
+        data = wads.packed(lumps)
+        place, shift = int.from_bytes(data[8:12], 'little'), 600 << 20
+        moved = bytearray(data[:8] + (place + shift).to_bytes(4, 'little'))
+        with open(path, 'wb') as file:
+            file.write(moved)
+            file.seek(12 + shift)
+            file.write(data[12:place])
+            for i in range(len(lumps)):
+                entry = data[place + 16 * i:place + 16 * i + 16]
+                file.write((int.from_bytes(entry[:4], 'little') + shift).to_bytes(4, 'little') + entry[4:])
+        self.addCleanup(os.remove, path)
+        self.take(path)
+        self.assertEqual(hashlib.sha256(self.frame()).hexdigest(), hashlib.sha256(self.native(
+            'render', self.room, 'MAP01', [paths.Row(*self.value('walker.view.row'))])).hexdigest())
+
+    def test_memory(self):
+        """Where the browser gives no memory the page says so, and goes on once there is some."""
+        self.take(self.room)
+        self.value('''window.held = Crew.prototype.call; Crew.prototype.call = function (worker, name, words) {
+            return name === 'frame' ? Promise.reject(new Wrong('the browser gave no more memory (test); close other pages and try again')) :
+            held.call(this, worker, name, words); }; walker.again(); 0''')
+        self.browser.wait(f"{SAID}.includes('no more memory')")
+        self.value('Crew.prototype.call = held; walker.again(); 0')
+        self.browser.wait('!walker.isBusy')
+
+    def test_no_memory64(self):
+        """An engine without memories of 64 bits is told to the user."""
+        with open(PAGE, encoding='utf-8') as file:
+            text = file.read()
+        with open(self.at('old.html'), 'w', encoding='utf-8') as file:
+            file.write(text.replace('WebAssembly.validate(', '!WebAssembly.validate('))
+        self.browser.show(self.at('old.html'))
+        self.browser.wait(SAID)
+        self.assertIn('no WebAssembly memory of 64 bits', self.value(SAID))
+        self.browser.requests.remove('file://' + os.path.abspath(self.at('old.html')))
+
+
+class Looks(Shown):
+    def test_saved(self):
+        """What is saved: the kept views as a path, the picture, a small WAD that draws the same, the numbers."""
+        self.take(self.room)
+        saved = '''(() => { window.saved = {}; save = (name, data) => { saved[name] = data; }; })()'''
+        self.value(saved)
+        self.browser.press('k')
+        self.value("['path', 'trim', 'png'].forEach(id => find(id).click()); 0")
+        self.browser.wait("Object.keys(saved).length === 3")
+        row = self.value('walker.view.row')
+        self.assertEqual(self.value("saved['path.csv']"), paths.text([paths.Row(*row)]))
+        small = base64.b64decode(self.value(f"{BASE64}(saved['map01.wad'])"))
+        with open(self.at('small.wad'), 'wb') as file:
+            file.write(small)
+        self.assertEqual(small, self.native('trim', self.room, 'MAP01', []))
+        rows = [paths.Row(*row)]
+        self.assertEqual(self.native('render', self.at('small.wad'), 'MAP01', rows), self.native('render', self.room, 'MAP01', rows))
+        self.assertEqual(self.value("saved['map01.png'].type"), 'image/png')
+
+    def test_narrow(self):
+        """At 700 pixels nothing is wider than the page, and each control can be reached by the keyboard."""
+        for width in (700, 390):
+            self.browser.call('Emulation.setDeviceMetricsOverride', width=width, height=900, deviceScaleFactor=1, mobile=width < 500)
+            self.browser.show(PAGE)
+            self.browser.wait(READY)
+            self.take(self.room)
+            self.assertLessEqual(self.value('document.documentElement.scrollWidth'), width)
+        named = self.value('''[...document.querySelectorAll('button, select, input, canvas, iframe')].filter(it => it.offsetParent)
+            .filter(it => !(it.textContent.trim() || it.ariaLabel || it.getAttribute('aria-label') || it.title || it.closest('label'))).map(it => it.id)''')
+        self.assertEqual(named, [])
+        self.browser.requests = ['file://' + os.path.abspath(PAGE)]
+
+
+if __name__ == '__main__':
+    unittest.main()

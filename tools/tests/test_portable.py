@@ -1,0 +1,239 @@
+"""Tests what makes doomview for other systems: the text of a module for another target, kits that are not known, the parts of
+the page. What is made is tried by tools/portable --check, which runs the tests of test_page too."""
+import os
+import re
+import unittest
+
+from made_files import TOOLS, Tools
+from doomview_tools.trouble import Trouble
+from systems import ir, kit, module, page, static, targets
+
+# A module with a line of each kind that is changed, and code that is not.
+MODULE = '''; ModuleID = 'module.bc'
+source_filename = "doomview"
+target datalayout = "e-m:e-p270:32:32-p271:32:32-p272:64:64-i64:64-i128:128-f80:128-n8:16:32:64-S128"
+target triple = "x86_64-unknown-linux-gnu"
+
+@name = private constant [6 x i8] c"@read\\00"
+
+define internal i64 @reader(ptr noundef %to) #0 {
+  %n = call i64 @read(i32 3, ptr %to, i64 5)
+  %m = call i64 @reader(ptr %to)
+  ret i64 %n
+}
+
+define i32 @main(i32 %0, ptr %1) #0 {
+  %made = call { i64, i64 } @rattle_alloc(i64 8, i64 8)
+  call void @rattle_dealloc(ptr null)
+  call void @llvm.memcpy.p0.p0.i64(ptr null, ptr null, i64 0, i1 false)
+  ret i32 0
+}
+
+declare noundef i64 @read(i32 noundef, ptr noundef, i64 noundef) #1
+
+declare { i64, i64 } @rattle_alloc(i64 noundef, i64 noundef) #1
+
+declare { i64, i64 } @rattle_realloc(ptr noundef, i64 noundef, i64 noundef, i64 noundef) #1
+
+declare void @rattle_dealloc(ptr noundef) #1
+
+declare i32 @memcmp(ptr, ptr, i64) #1
+
+declare void @llvm.memcpy.p0.p0.i64(ptr noalias, ptr noalias, i64, i1) #2
+
+attributes #0 = { nounwind "probe-stack"="inline-asm" "target-cpu"="x86-64-v2" }
+attributes #1 = { nounwind }
+attributes #2 = { nounwind }
+'''
+HEAP = '; the heap\n'
+RATTLE = '''#!/bin/sh
+for word; do
+    case $last in --toolchain) toolchain=$word ;; -o) target=$word ;; esac
+    last=$word
+done
+cd "$(mktemp -d)" && echo module >{given} && "$toolchain/bin/clang" {given} -o "$target"
+'''
+
+
+class Ir(unittest.TestCase):
+    def changed(self, target, *edits):
+        """The lines of the text for a target that are others: pairs of before and after."""
+        text = MODULE
+        for old, new in edits:
+            self.assertIn(old, text)
+            text = text.replace(old, new)
+        after, counts = ir.rewritten(target, text, HEAP)
+        self.assertTrue(after.endswith(HEAP))
+        return after, counts
+
+    def test_windows(self):
+        after, counts = self.changed('windows')
+        self.assertEqual(counts, {'triple': 1, 'layout': 1, 'attributes': 1, 'heap': 3, 'called': 1, 'main': 1})
+        for line in ('target triple = "x86_64-w64-windows-gnu"', 'define i32 @proved_main(i32 %0, ptr %1) #0 {',
+                     '  %n = call i64 @port_read(i32 3, ptr %to, i64 5)', '  %m = call i64 @reader(ptr %to)',
+                     '  %made = call { i64, i64 } @rattle_alloc(i64 8, i64 8)', 'declare i32 @memcmp(ptr, ptr, i64) #1',
+                     'declare noundef i64 @port_read(i32 noundef, ptr noundef, i64 noundef) #1',
+                     'attributes #0 = { nounwind "target-cpu"="x86-64-v2" }'):
+            self.assertIn(line + '\n', after)
+        self.assertNotRegex(after, r'declare [^\n]*@rattle_|probe-stack|linux')
+
+    def test_browser(self):
+        after, counts = self.changed('wasm64')
+        self.assertEqual(counts['attributes'], 2)
+        self.assertIn('target triple = "wasm64-unknown-unknown"\n', after)
+        self.assertIn('attributes #0 = { nounwind }\n', after)
+        self.assertEqual(ir.called(MODULE), ['port_read'])
+
+    def test_rest(self):
+        """Every other line stays as it is."""
+        before, after = MODULE.splitlines(), self.changed('windows')[0].splitlines()
+        kept = [line for line in before if line in after]
+        self.assertEqual([line for line in after if line in before], kept)
+        self.assertEqual(len(before) - len(kept), 9)
+
+    def test_unknown(self):
+        """A text with anything that is not known is refused, and the line is named."""
+        read, main = 'declare noundef i64 @read(i32 noundef, ptr noundef, i64 noundef) #1', 'define i32 @main(i32 %0, ptr %1) #0 {'
+        for edits, said in [
+                ([('x86_64-unknown-linux-gnu', 'riscv64-unknown-linux-gnu')], 'another target, in line 4'),
+                ([('n8:16:32:64-S128', 'n8:16:32:64')], 'another target, in line 3'),
+                ([(read, read.replace('i64 noundef', 'i32 noundef'))], 'not known as i64 (i32, ptr, i32), in line 21'),
+                ([(read, read.replace('@read', '@mmap')), ('@read(i32 3', '@mmap(i32 3')], 'a function that is called'),
+                ([('ret i64 %n', 'call void asm "nop", ""()\n  ret i64 %n')], 'in line 11 '),
+                ([('  ret i32 0', '  %v = load ptr addrspace(1), ptr null')], 'what only one processor'),
+                ([('"probe-stack"="inline-asm"', '"probe-stack"="__probe"')], 'the attribute probe-stack is __probe'),
+                ([('"target-cpu"="x86-64-v2"', '"tune-cpu"="znver4"')], 'the attribute tune-cpu is znver4'),
+                ([(main, main.replace('i32 @main', 'void @main'))], 'main has another type'),
+                ([(main, main.replace('@main', '@start'))], '0 lines of main'),
+                ([('declare void @rattle_dealloc(ptr noundef) #1\n', '')], '2 lines of heap')]:
+            with self.assertRaises(Trouble) as found:
+                self.changed('windows', *edits)
+            self.assertIn('this kit is not one that tools/portable knows', str(found.exception))
+            self.assertIn(said, str(found.exception))
+            self.assertEqual(found.exception.status, 2)
+
+
+class Kit(Tools):
+    """A kit of stand-ins, in which a module is text."""
+
+    def setUp(self):
+        super().setUp()
+        for folder in ('kit/bin', 'kit/toolchain/bin', 'kit/c', 'top/crates/doomview/src', 'top/crates/doomview/out', 'path'):
+            os.makedirs(self.at(folder))
+        self.write('kit/START-HERE.md', b'')
+        self.stand_in('path/rt', f'#!/bin/sh\necho {self.at("kit/START-HERE.md")!r}\n')
+        self.stand_in('kit/toolchain/bin/clang', '#!/bin/sh\necho compiled >"$3"\n')
+        self.write('top/crates.txt', b'doomview: std below\nbelow: std\n')
+        os.makedirs(self.at('top/crates/below/out/rlib'))
+        self.write('top/crates/doomview/src/main.rt', b'')
+        self.write('top/crates/doomview/out/doomview.o', b'compiled\n')
+        self.put(os.environ, 'PATH', self.at('path') + os.pathsep + os.environ['PATH'])
+        self.put(vars(kit), 'OBJECT', self.at('top/crates/doomview/out/doomview.o'))
+        self.put(vars(kit.home), 'TOP', self.at('top'))
+
+    def put(self, place, name, value):
+        before = place[name]
+        self.addCleanup(place.__setitem__, name, before)
+        place[name] = value
+
+    def rattle(self, given='module.bc'):
+        self.stand_in('kit/bin/rattle', RATTLE.format(given=given))
+
+    def refused(self, said, act=module.kept):
+        with self.assertRaises(Trouble) as found:
+            act()
+        self.assertIn(said, str(found.exception))
+        self.assertEqual(found.exception.status, 2)
+
+    def test_kept(self):
+        """The module is what clang was given, and neither the kit nor the sources are changed."""
+        self.rattle()
+        self.assertEqual(module.kept(), b'module\n')
+        self.assertEqual(os.listdir(self.at('kit/toolchain/bin')), ['clang'])
+        self.assertEqual(os.listdir(self.at('top/crates/doomview/out')), ['doomview.o'])
+
+    def test_unknown_kit(self):
+        self.rattle('other.bc')
+        self.refused('rattle build')
+        self.rattle()
+        self.write('top/crates/doomview/out/doomview.o', b'other\n')
+        self.refused('it makes another object file')
+        os.rmdir(self.at('top/crates/below/out/rlib'))
+        self.refused('build the program first')
+
+    def test_other_target(self):
+        """The object file for another target is made by the kit's own toolchain folder."""
+        self.rattle()
+        self.assertEqual(module.object_for('aarch64-unknown-linux-gnu'), b'compiled\n')
+        words = module.build_words('kit', 'made.o', 'tools', ('--target', 'other'))
+        self.assertEqual(words[-4:], ['--target', 'other', '-o', 'made.o'])
+        self.assertEqual(words[words.index('--toolchain') + 1], 'tools')
+
+    def test_not_built(self):
+        os.utime(self.at('top/crates/doomview/out/doomview.o'), (1, 1))
+        self.refused('is older than the sources')
+        os.remove(self.at('top/crates/doomview/out/doomview.o'))
+        self.refused('build the program first')
+
+    def test_no_kit(self):
+        self.stand_in('path/rt', '#!/bin/sh\nexit 2\n')
+        self.refused('`rt doc` names no page', kit.folder)
+        self.refused('the kit has no', lambda: kit.archives(self.at('kit')))
+
+
+class Static(unittest.TestCase):
+    def test_loader(self):
+        """Python itself needs a loader, an ELF file without program headers none; what is no ELF file is refused."""
+        with open(os.path.realpath('/bin/sh'), 'rb') as file:
+            data = file.read()
+        self.assertTrue(static.needs_loader(data))
+        self.assertFalse(static.needs_loader(data[:56] + b'\0\0' + data[58:]))
+        with self.assertRaises(Trouble):
+            static.needs_loader(b'#!/bin/sh\n')
+
+
+class Page(unittest.TestCase):
+    def test_facts(self):
+        """Each fact that a script of the page names is given to it, and none else."""
+        scripts, given = page.parts([*page.WORKER, *page.PAGE]), page.facts()
+        lists = re.findall(r'const \{([^}]*)\} = FACTS', scripts)
+        named = {name.strip() for part in lists for name in part.split(',')} | set(re.findall(r'FACTS\.(\w+)', scripts))
+        self.assertEqual(named, set(given))
+
+    def test_one_file(self):
+        """The page names nothing that is fetched, its policy forbids to, and it says what it is."""
+        data = page.page(b'program').decode()
+        self.assertNotRegex(data, r'(?:src|href)="(?!data:|#)|@import|https?://|fetch\(|XMLHttpRequest|WebSocket|importScripts')
+        policy = re.search(r'http-equiv="Content-Security-Policy" content="([^"]*)"', data)[1]
+        self.assertIn("default-src 'none'", policy)
+        self.assertIn("connect-src 'none'", policy)
+        self.assertNotIn('http', policy)
+        self.assertIn('preview, and no proved program', data)
+        self.assertIn('from 133, \' +', data)
+        self.assertEqual(len(re.findall('</script>', data)), 2)
+
+    def test_size(self):
+        with self.assertRaises(Trouble):
+            page.page(bytes(page.MOST_BYTES))
+
+    def test_files(self):
+        """No part of the page is longer than 400 lines."""
+        for folder in ('page', 'glue'):
+            for name in os.listdir(os.path.join(TOOLS, 'systems', folder)):
+                with open(os.path.join(TOOLS, 'systems', folder, name), encoding='utf-8') as file:
+                    self.assertLessEqual(len(file.readlines()), 400, name)
+
+
+class Command(unittest.TestCase):
+    def test_built_in(self):
+        """doomview.exe has each job with its page, and both tables."""
+        header = targets.built_in_header()
+        for job in targets.jobs.JOBS.values():
+            self.assertIn(f'{{"{job.name}", {int(job.name in targets.jobs.LEVEL_JOBS)}, ', header)
+        numbers = re.search(r'tables_bytes\[\] = \{([^}]*)\}', header)[1].split(',')
+        self.assertEqual(bytes(map(int, numbers)), targets.tables.tables())
+        self.assertEqual(set(targets.BUILT_IN), {option for option in targets.jobs.needed() if option != '--path'})
+
+
+if __name__ == '__main__':
+    unittest.main()
