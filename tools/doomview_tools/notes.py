@@ -3,7 +3,7 @@ import contextlib
 import os
 import typing
 
-from . import levels, paths, wads
+from . import levels, paths
 from .jobs import LEVEL_JOBS, Words
 from .levels import EYE_HEIGHT, UNIT
 from .refusals import head_of

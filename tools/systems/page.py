@@ -1,7 +1,6 @@
 """The page of one file: the program for a browser, the scripts beside it, and the facts of Doom that these share with the
 tools in Python."""
 import base64
-import json
 import os
 import re
 
