@@ -97,6 +97,15 @@ class Orders(Command):
         self.write('MAP01', b'')
         self.assertEqual(self.hands_on('audit', 'made.wad', 'MAP01', '--path=p')[5:7], ['MAP01', 'made.wad'])
 
+    def test_spans(self):
+        """The same words serve render, trace and list; of other jobs --spans is no option."""
+        for job in ('render', 'trace', 'list'):
+            self.assertEqual(self.hands_on(job, *LEVEL, '--spans', 'packed')[-2:], ['--spans', 'packed'])
+            words = [job, *LEVEL, '--tables', 't', '--things', 't', '--spans', 'packed']
+            self.assertEqual(jobs.wrong_words(jobs.Words(words)), [])
+        self.assertEqual(jobs.wrong_words(jobs.Words(['limits', *LEVEL, '--spans', 'full']))[0].partition(';')[0],
+                         'limits takes no --spans')
+
     def test_tools(self):
         for words in (['places'], ['turn'], ['path', '--at', '0,0,0']):
             both = [self.runs(*words, *order)[:2] for order in (['made.wad', 'MAP01'], ['MAP01', 'made.wad'])]

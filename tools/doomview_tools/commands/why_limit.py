@@ -11,7 +11,7 @@ from ..trouble import TROUBLE, Ended, Trouble
 
 OVER = 1
 USAGE = 1  # a status of the program
-WITHOUT = ('--path', '--planes', '--openings', '--weapon')  # options of list that the tool gives itself, or not
+WITHOUT = ('--path', '--planes', '--openings', '--weapon', '--spans')  # options of list that the tool gives itself, or not
 PAGE = cli.Page(
     'why-limit', 'why a view has so many planes: by flat, height and light, and the lines that split them', '''
 Says of each view how many planes, openings, fragments and sprites it has, and where its planes come from.
