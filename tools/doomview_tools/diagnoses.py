@@ -90,7 +90,7 @@ def nearest_view(case, pair):
     """The number of doomview's view that is nearest to a port's frame, and the pixels that differ from it."""
     near = range(max(0, pair.view - FARTHEST_VIEW), min(case.count, pair.view + FARTHEST_VIEW + 1))
     counts = {view: count(case.ours(view), pair.port) for view in {*near, case.count - 1 - pair.view}}
-    view = min(counts, key=lambda it: (counts[it], it != pair.view, it))
+    view = min(counts, key=lambda number: (counts[number], number != pair.view, number))
     return view, counts[view]
 
 
@@ -137,7 +137,7 @@ def shift(case):
     steps = [step for near in range(1, FARTHEST_SHIFT + 1) for step in (near, -near)]
     some = case._replace(pairs=case.pairs[:2])
     rows, columns = min([(step, 0) for step in steps] + [(0, step) for step in steps],
-                        key=lambda it: shifted(some, *it))
+                        key=lambda both: shifted(some, *both))
     left = shifted(case, rows, columns)
     if not is_cause(left, before(case)):
         return ''
