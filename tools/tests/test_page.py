@@ -18,7 +18,7 @@ import unittest
 
 import pages_shown
 from made_files import COMMAND, TOP
-from doomview_tools import explanations, levels, paths, wads
+from doomview_tools import explanations, levels, lists, paths, traces, wads
 from systems import check, chromium
 
 PAGE, TESTED = os.environ.get('DOOMVIEW_PAGE', ''), os.environ.get('DOOMVIEW_TESTED', '')
@@ -81,6 +81,7 @@ class Shown(unittest.TestCase):
 
     def take(self, *files):
         """Chooses files, and waits for the view from the start of the first map."""
+        self.value('walker.view = null; level = null; 0')
         self.browser.choose('#files', list(files))
         self.browser.wait('walker.view && level && !walker.isBusy')
 
@@ -157,7 +158,7 @@ class Views(Shown):
         self.assertEqual(b''.join(pixels[i:i + 3] for i in range(0, len(pixels), 4)), drawn[15:])
 
     def test_pixels(self):
-        """Of pixels by chance the page says what `pixel --list` says."""
+        """Of pixels by chance the page says what the tool pixel says with a list."""
         chance = random.Random(1)
         for wad, name in [(self.room, 'MAP01'), *((GAMES[-1], name) for name in ('MAP01', 'MAP18') if GAMES)]:
             self.take(wad)
@@ -167,11 +168,14 @@ class Views(Shown):
             for path, job in ((trace, 'trace'), (found, 'list')):
                 with open(path, 'wb') as file:
                     file.write(self.native(job, wad, name, [row]))
+            names, view = traces.Names([wad]), lists.ListFile(found).view(0)
+            places = lists.Places(levels.read([wad], name), names, found)
             for _ in range(40):
                 x, y = chance.randrange(320), chance.randrange(200)
-                said = run('pixel', '0', str(x), str(y), trace, wad, '--list', found, '--map', name).decode().strip()
+                record = traces.record_at(trace, 0, x, y)
+                said = places.told(view, record, traces.KINDS[record[0]][0]) or traces.told(record, names)
                 told = self.value(f"crew.some('pixel', {{ row: walker.view.row, spans: 'full', isOpen: false, x: {x}, y: {y} }})")
-                self.assertEqual(f'view 0 column {x} row {y}: {told}', said)
+                self.assertEqual(told, said, f'{name}: column {x} row {y}')
             self.value('list.files = []; list.changed([]); 0')
         self.take(self.room)
         box = self.value("(({ left, top, width, height }) => [left, top, width, height])(find('picture').getBoundingClientRect())")
