@@ -117,6 +117,9 @@ class Check(Tools):
         self.assertEqual(self.check(*self.ours[:2], frame(23)), (0, ['MAP01 near same 2 original 1',
                                                                     'all same 2 original 1']))
         self.assertEqual(self.check(*self.ours[:2], frame(99))[1][0], 'MAP01 near same 2 departs 1')
+        packed = ('--maps', 'MAP01', '--spans', 'packed')
+        self.assertEqual(self.check(*self.packed[:2], self.ours[2], words=packed),
+                         (0, ['MAP01 near packed 2 departs 1', 'all packed 2 departs 1']))
 
     def test_missing(self):
         self.assertEqual(self.check(*self.ours[:2], b'cut'), (1, ['MAP01 near same 2 missing 1',
