@@ -1,6 +1,7 @@
 -- The layers of a view by the dots that a canvas was given, and the view with its layers.
-use Rattle.picture_rules.proofs.Common.{[], ap, arith, Contains, Err, inl, inr, IsErrAnd, List, None, Ok, Option, refl, Result, Some, subst, sym, ℕ, ℤ, ◌∙◌, ◌≡◌, ◌⊎◌}
-use Rattle.doom_run.specs.Rules.{AreInView, Art, Dot, Eye, Frame, Heap, IsWithinFrame, Painter, ShelfView, ViewValue, book_lumps, fault_above, joined_lists, overlaid_paints, view_of, view_paints, weapon_dots}
+use Rattle.picture_rules.specs.Words.{WeaponLayer}
+use Rattle.picture_rules.proofs.Common.{[], ap, arith, Contains, Err, inl, inr, IsErrAnd, List, None, Ok, Option, refl, Result, Some, subst, sym, ℕ, ℤ, ◌∙◌, ◌≡◌, ◌⊎◌, ◌<◌}
+use Rattle.doom_run.specs.Rules.{AreInView, Art, Dot, Eye, Frame, Heap, IsWithinFrame, Painter, ShelfView, ViewValue, fault_above, joined_lists, overlaid_paints, view_of, view_paints, weapon_dots}
 use Rattle.texture_build.specs.CacheFault.{CacheFault}
 use Rattle.texture_build.specs.CacheFault.TheVariants as cache
 use Rattle.texture_build.specs.Caches.{cache_fault}
@@ -23,11 +24,12 @@ use Rattle.sound_scene.specs.Pictures.{scene_of}
 use Rattle.frame_core.specs.Views.{IsViewLump, IsViewTexture, PaintsView, placed_for, view_scene}
 use Rattle.texture_build.proofs.PaintLemmas.{on_ok_err, paints-none, paints-same, paints-wider}
 use Rattle.weapon_overlay.specs.Layers.{PaintsLayer}
+use Rattle.weapon_overlay.specs.Seen.{IsLayerPicture}
 use Rattle.weapon_overlay.proofs.InViewLemmas.{layers_dots-in}
 use Rattle.doom_run.specs.Drawn.{DrawsLayered, DrawsLayers, KeepsLoaded, layered_dots, layers_dots, loaded_scene}
-use Rattle.run_verdict.specs.Layers.{layers_by, layers_of, layer_light}
+use Rattle.run_verdict.specs.Layers.{layers_by, layers_from, layers_of, layer_light}
 use Rattle.doom_run.specs.Renders.{IsLayerLump}
-use Rattle.run_verdict.proofs.RowLemmas.{rows_dots}
+use Rattle.run_verdict.proofs.RowLemmas.{rows_dots, table_layer-among}
 
 -- the dots of the layers of a view, whatever the art
 abbrev view_layers : LoadedScene → ℕ → Eye → Art → List Dot
@@ -36,7 +38,7 @@ view_layers loaded k eye art = joined_lists (weapon_dots (view_of loaded.files.t
 module _ {mark : Painter → ℕ → ℕ} (k : ℕ) (eye : Eye) (old new : LoadedScene) {view after : ShelfView} {before now : CanvasView} {result : Result (Unit {0}) CacheFault} where
   -- a call that painted the layers of a view drew them
   layers_drawn : KeepsLoaded old new →
-      PaintsLayer mark old.files.dir old.scene.scene.base.colormap (IsLayerLump old) (view_layers old k eye) (paint_state view old.cache before) (paint_state after new.cache now) result →
+      PaintsLayer mark old.files.dir old.scene.scene.base.colormap (IsLayerPicture (view_of old.files.tables eye) (layers_of (loaded_value old) k eye)) (view_layers old k eye) (paint_state view old.cache before) (paint_state after new.cache now) result →
       DrawsLayers mark k eye view after old new before now result
   unfolding scene_of
   layers_drawn keeps all =
@@ -49,29 +51,43 @@ module _ {mark : Painter → ℕ → ℕ} (k : ℕ) (eye : Eye) (old new : Loade
       }
 
 -- they are those of the rows of its table
+rows_are : (loaded : LoadedScene) (k : ℕ) (eye : Eye) (rows : List WeaponRow) (book : List Frame) (light : ℤ) → loaded.files.weapons ≡ Some rows → loaded.weapons ≡ Some book → light ≡ layer_light loaded.scene.scene eye →
+    layers_from book light k 1 rows ≡ layers_of (loaded_value loaded) k eye
+unfolding layers_of
+rows_are loaded k eye rows book light some own lit =
+    ap (λ (z : ℤ). layers_from book z k 1 rows) lit
+    ∙ ap (λ (b : Option (List Frame)). layers_by (Some rows) b (layer_light loaded.scene.scene eye) k) (sym own)
+    ∙ ap (λ (t : Option (List WeaponRow)). layers_by t loaded.weapons (layer_light loaded.scene.scene eye) k) (sym some)
+
 rows_layers : (loaded : LoadedScene) (k : ℕ) (eye : Eye) (rows : List WeaponRow) (book : List Frame) (v : ViewValue) (light : ℤ) (art : Art) → loaded.files.weapons ≡ Some rows → loaded.weapons ≡ Some book →
     v ≡ view_of loaded.files.tables eye → light ≡ layer_light loaded.scene.scene eye → rows_dots v book light k 1 rows art ≡ view_layers loaded k eye art
-unfolding layers_of
 rows_layers loaded k eye rows book v light art some own same lit =
-    let w = view_of loaded.files.tables eye in
     ap (λ (u : ViewValue). rows_dots u book light k 1 rows art) same
-    ∙ ap (λ (z : ℤ). rows_dots w book z k 1 rows art) lit
-    ∙ ap (λ (b : Option (List Frame)). joined_lists (weapon_dots w art) (layers_by (Some rows) b (layer_light loaded.scene.scene eye) k)) (sym own)
-    ∙ ap (λ (t : Option (List WeaponRow)). joined_lists (weapon_dots w art) (layers_by t loaded.weapons (layer_light loaded.scene.scene eye) k)) (sym some)
+    ∙ ap (joined_lists (weapon_dots (view_of loaded.files.tables eye) art)) (rows_are loaded k eye rows book light some own lit)
 
-book_lump : (loaded : LoadedScene) (book : List Frame) → loaded.weapons ≡ Some book → (lump : ℕ) → Contains (book_lumps book) lump → IsLayerLump loaded lump
-book_lump loaded book own lump has = subst (λ (b : Option (List Frame)). Contains (weapon_lumps b) lump) (sym own) has
+-- their pictures are of the book
+by_table : (table : Option (List WeaponRow)) (book : Option (List Frame)) (light : ℤ) (k : ℕ) (layer : WeaponLayer) → Contains (layers_by table book light k) layer → Contains (weapon_lumps book) layer.shape.lump
+by_table None book light k layer has = absurd (let none : has.0 < 0 = has.1 in omega (arith, none))
+by_table (Some rows) None light k layer has = absurd (let none : has.0 < 0 = has.1 in omega (arith, none))
+by_table (Some rows) (Some book) light k layer has = table_layer-among book light k 1 rows layer has
+
+layer_lump : (loaded : LoadedScene) (k : ℕ) (eye : Eye) (lump : ℕ) → IsLayerPicture (view_of loaded.files.tables eye) (layers_of (loaded_value loaded) k eye) lump → IsLayerLump loaded lump
+unfolding layers_of
+layer_lump loaded k eye lump asked =
+    subst (Contains (weapon_lumps loaded.weapons)) (sym asked.is.is) (by_table loaded.files.weapons loaded.weapons (layer_light loaded.scene.scene eye) k asked.layer asked.among)
 
 -- so a call that painted these drew the layers of the view
 pub rows-drawn : {mark : Painter → ℕ → ℕ} (k : ℕ) (eye : Eye) (old new : LoadedScene) {view after : ShelfView} {before now : CanvasView} {result : Result (Unit {0}) CacheFault}
     (rows table : List WeaponRow) (book : List Frame) (v : ViewValue) (light lit : ℤ) (colormap : ℕ) → rows ≡ table → old.files.weapons ≡ Some table → old.weapons ≡ Some book →
     v ≡ view_of old.files.tables eye → lit ≡ light → light ≡ layer_light old.scene.scene eye → colormap ≡ old.scene.scene.base.colormap → KeepsLoaded old new →
-    PaintsLayer mark old.files.dir colormap (Contains (book_lumps book)) (rows_dots v book lit k 1 rows) (paint_state view old.cache before) (paint_state after new.cache now) result →
+    PaintsLayer mark old.files.dir colormap (IsLayerPicture v (layers_from book lit k 1 rows)) (rows_dots v book lit k 1 rows) (paint_state view old.cache before) (paint_state after new.cache now) result →
     DrawsLayers mark k eye view after old new before now result
 rows-drawn {mark} k eye old new {view} {after} {before} {now} {result} rows table book v light lit colormap all some own same at here map keeps one =
-    let with_map = subst (λ (m : ℕ). PaintsLayer mark old.files.dir m (Contains (book_lumps book)) (rows_dots v book lit k 1 rows) (paint_state view old.cache before) (paint_state after new.cache now) result) map one in
+    let with_map = subst (λ (m : ℕ). PaintsLayer mark old.files.dir m (IsLayerPicture v (layers_from book lit k 1 rows)) (rows_dots v book lit k 1 rows) (paint_state view old.cache before) (paint_state after new.cache now) result) map one in
     layers_drawn k eye old new keeps
-    (λ textures. paints-wider (λ number none. none) (book_lump old book own)
+    (λ textures. paints-wider (λ number own_column none. none)
+    (λ lump asked. subst (λ (u : ViewValue). IsLayerPicture u (layers_of (loaded_value old) k eye) lump) same
+    (subst (λ (ls : List WeaponLayer). IsLayerPicture v ls lump) (rows_are old k eye rows book lit (some ∙ ap Some (sym all)) own (at ∙ here)) asked))
     (paints-same _ (λ contents q is. rows_layers old k eye rows book v lit _ (some ∙ ap Some (sym all)) own same (at ∙ here)) (with_map textures)))
 
 -- a view without a table of layers, or without their pictures, has none
@@ -115,12 +131,12 @@ abbrev IsLayeredLump : LoadedScene → ℕ → Type 0
 IsLayeredLump loaded lump = IsViewLump loaded.files.dir.lumps loaded.scene.scene lump ⊎ IsLayerLump loaded lump
 
 -- a call that drew layers, its faults told as those of a view
-layers_above : (old : LoadedScene) {view after : ShelfView} {x y : Heap} (lower : Result (Unit {0}) CacheFault) →
-    DrawsWith cache_fault (λ (n : ℕ). ⊥) (IsLayerLump old) view after old.files.dir (textures_view old.scene.scene) x y lower →
+layers_above : (old : LoadedScene) (k : ℕ) (eye : Eye) {view after : ShelfView} {x y : Heap} (lower : Result (Unit {0}) CacheFault) →
+    DrawsWith cache_fault (λ (n : ℕ) (own : ℤ). ⊥) (IsLayerPicture (view_of old.files.tables eye) (layers_of (loaded_value old) k eye)) view after old.files.dir (textures_view old.scene.scene) x y lower →
     DrawsWith view_fault (IsViewTexture old.scene.scene) (IsLayeredLump old) view after old.files.dir (textures_view old.scene.scene) x y (result_above from_cache lower)
-layers_above old lower one =
+layers_above old k eye lower one =
     draws-above (λ (none : ⊥). absurd none) from_cache same_fault lower
-    (draws-wider {among = IsViewTexture old.scene.scene} {pictures = IsLayeredLump old} (λ number none. absurd none) (λ lump layer. inr layer) one)
+    (draws-wider {among = IsViewTexture old.scene.scene} {pictures = IsLayeredLump old} (λ number own none. absurd none) (λ lump asked. inr (layer_lump old k eye lump asked)) one)
 
 -- what is drawn first: the view, on a canvas that is placed where it lies in the frame
 abbrev pub DrawsFirst : (Painter → ℕ → ℕ) → Eye → LoadedScene → Heap → ShelfView → ShelfView → CanvasView → CanvasView → Type 0
@@ -148,7 +164,7 @@ module _ {mark : Painter → ℕ → ℕ} (k : ℕ) (eye : Eye) (old new : Loade
             (one.fits contents count tt hold tt)
             (subst (λ (n : ℕ). FitBeside old.files.dir.lumps (textures_view old.scene.scene) old.scene.scene.base.colormap count n (layers_dots k eye old (loaded_scene contents old))) one.draws.keeps.counts.0
             (two.fits contents count (holds_art-later one.draws.keeps hold)));
-        draws = draws-then (draws-wider {among = IsViewTexture old.scene.scene} {pictures = IsLayeredLump old} (λ number among. among) (λ lump seen. inl seen) one.draws) (layers_above old (Ok tt) two.draws);
+        draws = draws-then (draws-wider {among = IsViewTexture old.scene.scene} {pictures = IsLayeredLump old} (λ number own among. among) (λ lump seen. inl seen) one.draws) (layers_above old k eye (Ok tt) two.draws);
         keeps = record { files = two.keeps.files; scene = two.keeps.scene; weapons = two.keeps.weapons };
       }
 
@@ -161,7 +177,7 @@ module _ {mark : Painter → ℕ → ℕ} (k : ℕ) (eye : Eye) (old new : Loade
     window = window;
     fits = λ contents count hold.
         on_ok_err (FitBeside old.files.dir.lumps (textures_view old.scene.scene) old.scene.scene.base.colormap count old.cache.size (layered_dots k eye old (loaded_scene contents old))) (from_cache fault) whole is;
-    draws = draws-then (draws-wider {among = IsViewTexture old.scene.scene} {pictures = IsLayeredLump old} (λ number among. among) (λ lump seen. inl seen) one.draws)
-        (draws-stop refl is (layers_above old (Err fault) two.draws));
+    draws = draws-then (draws-wider {among = IsViewTexture old.scene.scene} {pictures = IsLayeredLump old} (λ number own among. among) (λ lump seen. inl seen) one.draws)
+        (draws-stop refl is (layers_above old k eye (Err fault) two.draws));
     keeps = record { files = two.keeps.files; scene = two.keeps.scene; weapons = two.keeps.weapons };
   }

@@ -1,5 +1,5 @@
 -- What stays while views are drawn.
-use Rattle.picture_rules.proofs.Common.{ap, Bool, Contains, inl, inr, length, List, Option, refl, subst, sym, ℕ, ◌∙◌, ◌≡◌, ◌⊎◌}
+use Rattle.picture_rules.proofs.Common.{ap, Bool, Contains, inl, inr, length, List, Option, refl, subst, sym, ℕ, ◌∙◌, ◌≡◌, ◌⊎◌, ℤ}
 use Rattle.doom_run.specs.Rules.{Frame, Heap, LevelJobValue, ShelfView, block_size, lump_bytes}
 use Rattle.art_rules.specs.Words.{Lump}
 use Rattle.picture_rules.specs.declared.Limits.{Limits}
@@ -102,7 +102,7 @@ holds_for files files' scene scene' f s holds = rw (f, s) holds
 pub holds-later : {a b : ShelfView} {x y : ReadyViews} {contents : List (List ℕ)} {count : ℕ} → KeepsReady a b x y → HoldsReady a x contents count → HoldsReady b y contents count
 holds-later {x = x} {y} keeps holds = holds_for x.loaded.files y.loaded.files x.loaded.scene y.loaded.scene keeps.files keeps.scene (holds_art-later keeps.art holds)
 
-full_texture-first : {a b : ShelfView} {dir : DirectoryView} {textures : TexturesView} {y z : Heap} {among : ℕ → Type 0} (wanted widest : ℕ) → KeepsArt a b dir textures y z →
+full_texture-first : {a b : ShelfView} {dir : DirectoryView} {textures : TexturesView} {y z : Heap} {among : ℕ → ℤ → Type 0} (wanted widest : ℕ) → KeepsArt a b dir textures y z →
     IsFullForTexture among dir.lumps textures z wanted widest → IsFullForTexture among dir.lumps textures y wanted widest
 full_texture-first {dir = dir} {textures} wanted widest keeps full = record {
   number = full.number;

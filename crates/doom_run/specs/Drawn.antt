@@ -1,5 +1,6 @@
 -- A view of a path drawn with its weapon layers: what a canvas is given, what is painted from, and what stays.
-use Rattle.std.specs.Prelude.{◌≡◌, ◌⊎◌, ℕ, List, OnOk, Result}
+use Rattle.weapon_overlay.specs.Seen.{IsLayerPicture}
+use Rattle.std.specs.Prelude.{◌≡◌, ◌⊎◌, ℕ, List, OnOk, Result, ℤ}
 use Rattle.doom_run.specs.Rules.{AreInView, Dot, Eye, IsWithinFrame, Painter, Scene, ShelfView, joined_lists, lump_bytes, overlaid_paints, view_of, weapon_dots}
 use Rattle.texture_build.specs.CacheFault.{CacheFault}
 use Rattle.texture_build.specs.Caches.{cache_fault}
@@ -41,7 +42,8 @@ pub record KeepsLoaded (old new : LoadedScene) : Type 0 where
   pub scene : new.scene ≡ old.scene
   pub weapons : new.weapons ≡ old.weapons
 
--- The layers of view number k, seen from that viewpoint: a canvas is given them, in the order of their rows.
+-- The layers of view number k, seen from that viewpoint: a canvas is given them, in the order of their rows, and no
+-- other picture is asked for than those of them that have a column in the view.
 pub record DrawsLayers {A : Type 0} (mark : Painter → ℕ → ℕ) (k : ℕ) (eye : Eye) (view after : ShelfView) (old new : LoadedScene)
     (before now : CanvasView) (result : Result A CacheFault) : Type 0 where
   pub painted : (contents : List (List ℕ)) (count : ℕ) → HoldsLoaded view old contents count →
@@ -49,7 +51,8 @@ pub record DrawsLayers {A : Type 0} (mark : Painter → ℕ → ℕ) (k : ℕ) (
   pub fits : (contents : List (List ℕ)) (count : ℕ) → HoldsLoaded view old contents count →
       OnOk result (FitBeside old.files.dir.lumps (textures_view old.scene.scene) old.scene.scene.base.colormap count
       old.cache.size (layers_dots k eye old (loaded_scene contents old)))
-  pub draws : DrawsWith cache_fault (λ (n : ℕ). ⊥) (IsLayerLump old) view after old.files.dir
+  pub draws : DrawsWith cache_fault (λ (n : ℕ) (own : ℤ). ⊥)
+      (IsLayerPicture (view_of old.files.tables eye) (layers_of (loaded_value old) k eye)) view after old.files.dir
       (textures_view old.scene.scene) old.cache new.cache result
   pub place : PlacedAlike before now
   pub keeps : KeepsLoaded old new

@@ -2,7 +2,7 @@
 //
 // Rules: `run_verdict`, Layers; `picture_rules`, Paints (`overlaid_paints`). The original:
 // `R_DrawPlayerSprites`, r_things.c.
-ghost use Rattle.doom_run.specs.Rules.{book_lumps, joined_lists, view_of, weapon_dots};
+ghost use Rattle.doom_run.specs.Rules.{joined_lists, view_of, weapon_dots};
 ghost use Rattle.csv_tables.specs.declared.weapons.TheConstants.{MAX_WEAPONS};
 ghost use Rattle.doom_run.specs.Drawn.{DrawsLayered, DrawsLayers};
 ghost use Rattle.run_verdict.specs.Layers.{layer_of, layers_from, layer_light};
@@ -10,9 +10,10 @@ ghost use Rattle.doom_run.specs.Renders.{IsDrawable};
 ghost use Rattle.frame_core.specs.Ends.{EndsOver, EndsWithin};
 ghost use Rattle.level_audit.specs.Weapons.{AreThere};
 ghost use Rattle.pixel_strips.specs.Standing.{StandsInFrame};
-ghost use Rattle.std.specs.Prelude.{◌≡◌, ◌<◌, ◌≤◌, ◌∷◌, [], Contains, Some, length, option_map};
+ghost use Rattle.std.specs.Prelude.{◌≡◌, ◌<◌, ◌≤◌, ◌∷◌, [], Some, length, option_map};
 ghost use Rattle.texture_build.specs.Paints.{paint_state};
 ghost use Rattle.weapon_overlay.specs.Layers.{PaintsLayer, layer_value};
+ghost use Rattle.weapon_overlay.specs.Seen.{IsLayerPicture};
 
 use art_rules::Shelf;
 use csv_tables::WeaponRow;
@@ -145,7 +146,8 @@ fn draw_rows<S: Shelf, C: Canvas>(
     requires pictures { AreThere scene.now.dir.now.lumps (Some scene.now.book.now) }
     requires placed { StandsInFrame scene.now.view.now.shape (C.view canvas.old) }
     ensures paints { PaintsLayer C.mark scene.now.dir.now scene.now.colormap.0
-        (Contains (book_lumps scene.now.book.now))
+        (IsLayerPicture scene.now.view.now
+        (layers_from scene.now.book.now light scene.now.number 1 rows.now))
         (λ art. joined_lists (weapon_dots scene.now.view.now art)
         (layers_from scene.now.book.now light scene.now.number 1 rows.now))
         (paint_state (S.view shelf.old) cache.old (C.view canvas.old))
@@ -174,7 +176,8 @@ fn draw_row<S: Shelf, C: Canvas>(
     requires pictures { AreThere scene.now.dir.now.lumps (Some scene.now.book.now) }
     requires placed { StandsInFrame scene.now.view.now.shape (C.view canvas.old) }
     ensures paints { PaintsLayer C.mark scene.now.dir.now scene.now.colormap.0
-        (Contains (book_lumps scene.now.book.now))
+        (IsLayerPicture scene.now.view.now
+        (layers_from scene.now.book.now light scene.now.number place (row.now ∷ [])))
         (λ art. joined_lists (weapon_dots scene.now.view.now art)
         (layers_from scene.now.book.now light scene.now.number place
         (row.now ∷ [])))

@@ -1,5 +1,5 @@
 -- For which block a zone is full while a scene is drawn, and that one that is enough for the scene never is.
-use Rattle.picture_rules.proofs.Common.{[], All, All-contains, All-contains_itself, All-filter, All-head, ap, append-nil, arith, Bool, cases_lt, cond, Contains, Contains-get_or, eq-eqb, eq-false_positive, Err, false, false≢true, filter, get_or_past, IfErr, IfSome, inl, inr, IsSome, length, List, list_any, list_any-append, nat_lt, nat_tests, None, Ok, Option, range_with_len, refl, Result, slice_index_or, Some, subst, suc, sym, true, unwrap_or, zero, ℕ, ◌*◌, ◌++◌, ◌+◌, ◌<◌, ◌==◌, ◌||◌, ◌∙◌, ◌∷◌, ◌≡◌, ◌≢◌, ◌≤◌, ◌⊎◌}
+use Rattle.picture_rules.proofs.Common.{[], All, All-contains, All-contains_itself, All-filter, All-head, ap, append-nil, arith, Bool, cases_lt, cond, Contains, Contains-get_or, eq-eqb, eq-false_positive, Err, false, false≢true, filter, get_or_past, IfErr, IfSome, inl, inr, IsSome, length, List, list_any, list_any-append, nat_lt, nat_tests, None, Ok, Option, range_with_len, refl, Result, slice_index_or, Some, subst, suc, sym, true, unwrap_or, zero, ℕ, ◌*◌, ◌++◌, ◌+◌, ◌<◌, ◌==◌, ◌||◌, ◌∙◌, ◌∷◌, ◌≡◌, ◌≢◌, ◌≤◌, ◌⊎◌, ℤ}
 use Rattle.frame_core.specs.Rules.{ColumnLookup, Empty, FaultsRose, HasCauseAt, Heap, Owner, PlacedPatch, PreparedTexture, SceneArt, SceneValue, ShelfView, art_of, block_or_none, block_size, book_lumps, column_lookup, composed_columns, composed_count, composite_block, composite_place, composite_size, enough, has_flat, is_composed, is_needed, is_patch_of, is_patch_of_any, lookup_of, lump_at, lump_block, lump_bytes, patches_in, stands_in}
 use Rattle.art_rules.specs.Words.{Lump}
 use Rattle.texture_build.specs.DirectoryView.{DirectoryView}
@@ -232,7 +232,7 @@ complete_at before now (ZoneFull wanted widest) full cause none = absurd full
 complete_at before now ReadFault full cause none = absurd (none cause)
 
 -- no gap is as wide as what was wanted
-full_narrow : {among lumps : ℕ → Type 0} {dir : DirectoryView} {textures : TexturesView} {z : Heap} (wanted widest : ℕ) → IsFullForTexture among dir.lumps textures z wanted widest ⊎ IsFullFor lumps dir z wanted widest → widest < wanted
+full_narrow : {among : ℕ → ℤ → Type 0} {lumps : ℕ → Type 0} {dir : DirectoryView} {textures : TexturesView} {z : Heap} (wanted widest : ℕ) → IsFullForTexture among dir.lumps textures z wanted widest ⊎ IsFullFor lumps dir z wanted widest → widest < wanted
 full_narrow wanted widest (inl texture) = texture.full.narrow
 full_narrow wanted widest (inr lump) = lump.narrow
 

@@ -13,13 +13,13 @@ use Rattle.texture_build.specs.Paints.{PaintState, Paints, paint_tools}
 use Rattle.texture_build.specs.Views.{IsPrepared, TexturesView}
 use Rattle.texture_build.proofs.DrawLemmas.{IsMapped}
 use Rattle.texture_build.proofs.PaintLemmas.{paints-asked, paints-mapped, paints-same, paints-wider}
-use Rattle.plane_draw.specs.Planes.{CanDrawPlane, HasFlat, IsFlatOf, IsSky}
+use Rattle.plane_draw.specs.Planes.{CanDrawPlane, HasFlat, IsFlatOf, IsSkyColumn}
 use Rattle.sound_scene.specs.Sound.{textures_view}
 use Rattle.frame_core.specs.declared.bench.Bench.{Bench}
 use Rattle.frame_core.specs.declared.fault.ViewFault.{ViewFault}
 use Rattle.frame_core.specs.Faults.{from_cache}
 use Rattle.sound_scene.specs.Pictures.{lists_of, scene_of}
-use Rattle.frame_core.specs.Views.{CanDrawView, IsViewLump, IsViewTexture, PaintsView, ViewScene, held_scene}
+use Rattle.frame_core.specs.Views.{CanDrawView, IsViewLump, PaintsView, ViewScene, held_scene}
 use Rattle.frame_core.specs.Walked.{HasWalked, IsFlatOf as IsFlatIn, IsFlatShown, IsPlaneIn, planes_after}
 use Rattle.frame_core.specs.Painters.{HasWalkedView, IsPlacedIn, limits_in}
 use Rattle.frame_core.proofs.PaintLemmas.{cache_above}
@@ -94,10 +94,10 @@ unfolding scene_of
 scene_art other bytes scene = refl
 
 -- the sky's texture is one that a view draws with
-sky_prepared : (scene : SceneValue) (sky : Option TexNo) (number : ℕ) → IfSome scene.faces.sky (IsPrepared (textures_view scene)) → IsSkyOf scene sky → IsSky sky number → IsViewTexture scene number
-sky_prepared scene None number prepared is asked = absurd (let t : false ≡ true = asked.1 in cc)
-sky_prepared scene (Some tex) number prepared is asked =
-    subst (IsPrepared (textures_view scene)) (sym asked.0) (subst (λ (o : Option ℕ). IfSome o (IsPrepared (textures_view scene))) (sym is) prepared)
+sky_prepared : (scene : SceneValue) (sky : Option TexNo) (number : ℕ) → IfSome scene.faces.sky (IsPrepared (textures_view scene)) → IsSkyOf scene sky → IsSome sky → IfSome sky (λ tex. number ≡ tex.0) → IsPrepared (textures_view scene) number
+sky_prepared scene None number prepared is some same = absurd (let t : false ≡ true = some in cc)
+sky_prepared scene (Some tex) number prepared is some same =
+    subst (IsPrepared (textures_view scene)) (sym same) (subst (λ (o : Option ℕ). IfSome o (IsPrepared (textures_view scene))) (sym is) prepared)
 
 flat_by : (lump : ℕ) (s : Surface) (sector : Sector) (flats : SectorFlats) → s ≡ surface_of sector flats → IsFlatIn s (flat.Lump lump) → has_flat lump flats ≡ true
 unfolding surface_of has_flat
@@ -127,7 +127,7 @@ flat_lump lumps scene z sky shape planes lump can is all asked =
 -- what the call that draws planes paints, with these textures and this colormap
 abbrev pub PaintsFloors : (Painter → ℕ → ℕ) → ViewScene → TexturesView → ℕ → List Plane → Option TexNo → PaintState → PaintState → Result (Unit {0}) CacheFault → Type 0
 PaintsFloors mark s textures colormap planes sky old new part =
-    Paints cache_fault mark (paint_tools s.dir textures colormap) (IsSky sky) (IsFlatOf planes) (λ (picture : Scene). IfSome sky (λ (tex : TexNo). picture.sky ≡ tex.0))
+    Paints cache_fault mark (paint_tools s.dir textures colormap) (IsSkyColumn s.view sky planes) (IsFlatOf planes) (λ (picture : Scene). IfSome sky (λ (tex : TexNo). picture.sky ≡ tex.0))
     (λ contents picture. planes_dots s.view (record picture { art = view_art (lump_bytes contents s.dir.lumps) textures colormap }) planes) old new part
 
 -- the dots of the planes of a view
@@ -146,7 +146,7 @@ floors-drawn {mark} {s} {old} {new} b sky textures colormap part whole can walke
     (subst (λ (t : TexturesView). PaintsFloors mark s t colormap b.planes.planes sky old new part) e drawn) in
     let some : Scene = scene_of (λ lump. []) s.scene in
     paints-mapped (λ (never : ⊥). absurd never) from_cache cache_above part whole mapped
-    (paints-wider (λ number asked. sky_prepared s.scene sky number can.drawable.sky is asked) (λ lump asked. flat_lump s.dir.lumps s.scene old.cache sky s.view.shape b.planes.planes lump can is all asked)
+    (paints-wider (λ number own asked. sky_prepared s.scene sky number can.drawable.sky is asked.some asked.texture) (λ lump asked. flat_lump s.dir.lumps s.scene old.cache sky s.view.shape b.planes.planes lump can is all asked)
     (paints-same (λ contents q. floors_of s.view s.scene (held_scene contents s))
     (λ contents q asked. ap (λ (picture : Scene). planes_dots s.view picture b.planes.planes) (scene_art (λ lump. []) (lump_bytes contents s.dir.lumps) s.scene)
     ∙ ap (planes_dots s.view (held_scene contents s)) (planes_are s.view (lump_bytes contents s.dir.lumps) s.scene (limits_in b) events b (walked (lump_bytes contents s.dir.lumps))))

@@ -13,9 +13,10 @@ use Rattle.visplanes.specs.Planes.{PlanesView}
 use Rattle.wall_columns.specs.declared.fault.DrawFault.{DrawFault}
 use Rattle.wall_columns.specs.declared.fault.DrawFault.TheVariants.{Planes, Openings, ZoneFull, ReadFault}
 use Rattle.wall_columns.specs.Built.{AreBehind, with_wall}
-use Rattle.wall_columns.specs.Draws.{IsNoPicture, IsUntouched, IsWallTexture}
+use Rattle.wall_columns.specs.Draws.{IsNoPicture, IsSeenOf, IsUntouched, IsWallTexture}
 use Rattle.wall_columns.specs.Faults.{draw_fault, limit_of_fault, limit_of_result}
 use Rattle.wall_columns.specs.Walls.{WallsView}
+use Rattle.wall_columns.proofs.DrawnLemmas.{seen-texture}
 use Rattle.frame_core.specs.declared.bench.Bench.{Bench}
 use Rattle.frame_core.specs.declared.fault.ViewFault.{ViewFault}
 use Rattle.frame_core.specs.Faults.{from_draw, limit_of_view, view_fault}
@@ -117,7 +118,7 @@ pub record StoresFragment (mark : Painter → ℕ → ℕ) (s : ViewScene) (t : 
     (before after : PaintState) (lower : Result (Unit {0}) DrawFault) : Type 0 where
   pub tools : t ≡ view_tools s
   pub takes : TakesFragment s.view s.scene seg first last facts old planes walls (limit_of_result lower)
-  pub paints : Paints draw_fault mark t (IsWallTexture facts) IsNoPicture (AreBehind s.view old.walls old.planes.planes) (λ contents behind. let w : Wall = wall_of s.view facts first last in
+  pub paints : Paints draw_fault mark t (IsSeenOf s.view old.walls facts first last) IsNoPicture (AreBehind s.view old.walls old.planes.planes) (λ contents behind. let w : Wall = wall_of s.view facts first last in
       wall_dots s.view (painted_art contents t) (with_wall behind.0 w) (length behind.0) w) before after lower
   pub past : length old.walls.notes ≡ MAX_DRAWSEGS → (lower ≡ Ok tt) × IsUntouched old.planes planes before.cache after.cache before.shelf after.shelf before.canvas after.canvas
 
@@ -130,7 +131,7 @@ untouched old new is =
 -- what it paints of a view
 paints_lower : (mark : Painter → ℕ → ℕ) (s : ViewScene) (most : Limits) (events : List Event) (seg first last : ℕ) (facts : WallFacts) (old : Bench) (planes : PlanesView) (walls : WallsView) (before after : PaintState)
     (lower : Result (Unit {0}) DrawFault) → StoresFragment mark s (view_tools s) seg first last facts old planes walls before after lower → ((bytes : ℕ → List ℕ) → HasWalked s.view bytes s.scene most events old) →
-    Paints draw_fault mark (view_tools s) (IsWallTexture facts) IsNoPicture (λ (q : Unit {0}). ⊤) (λ contents q. next_dots s.view (held_scene contents s) events seg first last) before after lower
+    Paints draw_fault mark (view_tools s) (IsSeenOf s.view old.walls facts first last) IsNoPicture (λ (q : Unit {0}). ⊤) (λ contents q. next_dots s.view (held_scene contents s) events seg first last) before after lower
 paints_lower mark s most events seg first last facts old planes walls before after lower stores walked =
     let none : ℕ → List ℕ = λ n. [] in
     let ws = walls_of s.view (scene_of none s.scene) events in
@@ -145,7 +146,7 @@ paints_lower mark s most events seg first last facts old planes walls before aft
           (paints-asked (λ (q : Unit {0}). ⊤) (λ q. behind) (λ q asked. ((walked none).built, room)) stores.paints)
       | inr full ↦
           let past = stores.past (notes_full s.view (scene_of none s.scene) events behind.1 old.walls old.planes.planes (walked none).built full) in
-          let P : PaintState → Result (Unit {0}) DrawFault → Type 0 = λ st r. Paints draw_fault mark (view_tools s) (IsWallTexture facts) IsNoPicture (λ (q : Unit {0}). ⊤)
+          let P : PaintState → Result (Unit {0}) DrawFault → Type 0 = λ st r. Paints draw_fault mark (view_tools s) (IsSeenOf s.view old.walls facts first last) IsNoPicture (λ (q : Unit {0}). ⊤)
           (λ contents q. next_dots s.view (held_scene contents s) events seg first last) before st r in
           subst (P after) (sym past.0) (subst (λ st. P st (Ok tt)) (untouched before after past.1)
           (paints-same _ (λ contents (q : Unit {0}) asked. next_full s.view (lump_bytes contents s.dir.lumps) s.scene events seg first last ws (same contents) full) (paints-none before tt)))
@@ -160,4 +161,4 @@ paints-fragment {mark} s most events seg first last facts old planes walls befor
     let own : StoresFragment mark s (view_tools s) seg first last facts old planes walls before after lower =
     subst (λ (t : PaintTools). StoresFragment mark s t seg first last facts old planes walls before after lower) stores.tools stores in
     paints-mapped (λ (o : OverLimit). o) from_draw same_fault lower result mapped
-    (paints-wider (λ number is. (ready_number s.scene facts number ready is).0) (λ lump no. absurd no) (paints_lower mark s most events seg first last facts old planes walls before after lower own walked))
+    (paints-wider (λ number own is. (ready_number s.scene facts number ready (seen-texture s.view old.walls facts first last number own is)).0) (λ lump no. absurd no) (paints_lower mark s most events seg first last facts old planes walls before after lower own walked))

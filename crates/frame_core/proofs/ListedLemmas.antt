@@ -1,5 +1,5 @@
 -- The seg of each note of a view, with its side and its sectors, is among the lists of its scene, and the middle texture of a masked one may be drawn.
-use Rattle.picture_rules.proofs.Common.{[], All, All-from_recursion, AllByRecursion, arith, false, ForSome, get_or, IfSome, inl, inr, IsSome, length, length-map, List, map, None, not, Option, option_map, recursion_from_All, refl, Some, subst, suc, sym, take, true, zero, ℕ, ◌+◌, ◌<◌, ◌==◌, ◌∷◌, ◌≡◌, ◌≤◌, ◌⊎◌}
+use Rattle.picture_rules.proofs.Common.{[], All, All-from_recursion, AllByRecursion, arith, false, ForSome, get_or, IfSome, inl, inr, IsSome, length, length-map, List, map, None, not, Option, option_map, recursion_from_All, refl, Some, subst, suc, sym, take, true, zero, ℕ, ◌+◌, ◌<◌, ◌==◌, ◌∷◌, ◌≡◌, ◌≤◌, ◌⊎◌, ℤ}
 use Rattle.std.proofs.Math.ListN.{get_or-map}
 use Rattle.art_rules.specs.Words.{Lump}
 use Rattle.frame_core.specs.Rules.{Event, FragmentEvent, FragmentNote, Heap, IsSound, LeafEvent, LeafFragment, MAX_DRAWSEGS, SceneValue, SideTextures, Surface, ViewValue, Wall, WallFacts, back_of, drawsegs, facts_of, fragment_facts, fragment_numbers, fragment_wall, is_masked, leaf_fragments, no_seg, no_textures, note_at, notes_from, numbers_by, place_if, room_if, saves_bottom, saves_top, seg_at, surface_at, textures_at, three_textures, view_notes, wall_of, wall_texture, walls_of}
@@ -138,8 +138,8 @@ module _ (lumps : List Lump) (s : SceneValue) (can : IsDrawable lumps s) (sound 
       (listed_from bytes v 0 (drawsegs events) (drawsegs_there v s events there)))
 
 -- the middle texture of a masked note is prepared
-pub middle_prepared : (lumps : List Lump) (s : SceneValue) (z : Heap) (notes : List FragmentNote) (number : ℕ) → All (IsListed lumps (textures_view s) z (mask_lists s)) notes →
-    IsNotedMiddle (mask_lists s) notes number → IsPrepared (textures_view s) number
-middle_prepared lumps s z notes number listed middle =
+pub middle_prepared : (lumps : List Lump) (s : SceneValue) (z : Heap) (openings : List ℤ) (notes : List FragmentNote) (number : ℕ) (own : ℤ) → All (IsListed lumps (textures_view s) z (mask_lists s)) notes →
+    IsNotedMiddle (mask_lists s) openings notes number own → IsPrepared (textures_view s) number
+middle_prepared lumps s z openings notes number own listed middle =
     let one = subst (IsListed lumps (textures_view s) z (mask_lists s)) middle.among.2 (listed middle.among.0 middle.note middle.among.1) in
-    subst (IsPrepared (textures_view s)) (sym middle.is) (one.masked middle.masked).texture.prepared
+    subst (IsPrepared (textures_view s)) (sym middle.is.texture) (one.masked middle.is.masked).texture.prepared

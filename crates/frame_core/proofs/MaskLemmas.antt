@@ -54,7 +54,7 @@ parts-same s b level textures colormap segs sides sectors middles openings notes
 -- what a call of the masked pass with these parts paints
 abbrev pub DrawsMasks : (Painter → ℕ → ℕ) → ViewValue → DirectoryView → List SpriteEntry → MaskParts → PaintState → PaintState → Result (Unit {0}) CacheFault → Type 0
 DrawsMasks mark v dir sprites parts old new result =
-    Paints {Q = Unit {0}} cache_fault mark (paint_tools dir parts.textures parts.colormap) (IsNotedMiddle parts.lists parts.notes) (IsSpriteLump sprites) (λ q. ⊤)
+    Paints {Q = Unit {0}} cache_fault mark (paint_tools dir parts.textures parts.colormap) (IsNotedMiddle parts.lists parts.openings parts.notes) (IsSpriteLump sprites) (λ q. ⊤)
     (λ contents q. masked_dots v (view_art (lump_bytes contents dir.lumps) parts.textures parts.colormap) (noted_drawsegs v parts.textures parts.lists parts.openings parts.notes) (draw_order sprites)) old new result
 
 -- the dots of the masked pass of a view
@@ -106,10 +106,10 @@ module _ {v : ViewValue} {s : SceneValue} {b : Bench} {z : Heap} (dir : Director
       let w = walked no_bytes in
       let P : ℕ → Type 0 = λ (m : ℕ). list_any (λ n. n == m) (book_lumps s.book) ≡ true in
       let found = entry_lump no_bytes v s (view_events v (lists_of s)) b.sprites k.among.0 k.sprite w.sprites k.among.1 in
-      let same : (get_or b.sprites k.among.0 k.sprite).lump ≡ lump = ap (λ (e : SpriteEntry). e.lump) k.among.2 ∙ sym k.is in
+      let same : (get_or b.sprites k.among.0 k.sprite).lump ≡ lump = ap (λ (e : SpriteEntry). e.lump) k.among.2 ∙ sym k.is.0 in
       let below = All-contains (λ (e : SpriteEntry). has_lump_below (length dir.lumps) e ≡ true) b.sprites k.sprite sprites-below k.among in
       record {
-        there = subst (λ (m : ℕ). m < length dir.lumps) (sym k.is) (lump_below (length dir.lumps) k.sprite below);
+        there = subst (λ (m : ℕ). m < length dir.lumps) (sym k.is.0) (lump_below (length dir.lumps) k.sprite below);
         drawn = or_right (list_any (has_flat lump) s.faces.flats) (list_any (λ n. n == lump) (book_lumps s.book)) (subst P same found);
       }
 
@@ -127,5 +127,5 @@ pub masks-above : {mark : Painter → ℕ → ℕ} {v : ViewValue} {s : SceneVal
 masks-above {mark} {v} {s} {b} {dir} {old} {new} {lower} {whole} same sound can walked mapped draws =
     let one : DrawsMasks mark v dir b.sprites (parts_of s b) old new lower = subst (λ (p : MaskParts). DrawsMasks mark v dir b.sprites p old new lower) same draws in
     paints-mapped (λ (never : ⊥). absurd never) from_cache cache_above lower whole mapped
-    (paints-wider (λ number k. middle_prepared dir.lumps s old.cache b.walls.notes number (scene_notes dir sound can walked) k) (λ lump k. sprite_lump dir sound can walked lump k)
+    (paints-wider (λ number own k. middle_prepared dir.lumps s old.cache b.walls.openings b.walls.notes number own (scene_notes dir sound can walked) k) (λ lump k. sprite_lump dir sound can walked lump k)
     (paints-same (λ contents q. masks_dots v s (held_scene contents (view_scene v s dir))) (λ contents q asked. same_dots dir sound can walked (lump_bytes contents dir.lumps)) one))

@@ -1,5 +1,5 @@
 -- Laws of a painter: an event that it was given after others, and a whole walk.
-use Rattle.picture_rules.proofs.Common.{[], ap, arith, drop, Err, err_from_is_err_and, IfErr, IfErr-weaker, IfSome, IfSome_then, IsErrAnd, List, None, Ok, on_ok_weaker, OnOk, Option, refl, Result, Some, subst, sym, take, take-append-drop, ℕ, ◌++◌, ◌∙◌, ◌∷◌, ◌≡◌}
+use Rattle.picture_rules.proofs.Common.{[], ap, arith, drop, Err, err_from_is_err_and, IfErr, IfErr-weaker, IfSome, IfSome_then, IsErrAnd, List, None, Ok, on_ok_weaker, OnOk, Option, refl, Result, Some, subst, sym, take, take-append-drop, ℕ, ◌++◌, ◌∙◌, ◌∷◌, ◌≡◌, ℤ}
 use Rattle.frame_core.specs.Rules.{Dot, Event, FragmentEvent, Heap, LeafEvent, LevelLists, LimitKind, Limits, OverLimit, Painter, Scene, SceneValue, ShelfView, ViewValue, openings_count, planes_count, steps_over, view_events, view_over, view_steps}
 use Rattle.scene_rules.proofs.Laws.{order_none}
 use Rattle.texture_build.specs.DirectoryView.{DirectoryView}
@@ -197,7 +197,7 @@ limit-from_draw (ZoneFull wanted widest) = refl
 limit-from_draw ReadFault = refl
 
 -- a limit that was passed before anything was drawn
-draws_limit : {among pictures : ℕ → Type 0} (view : ShelfView) (dir : DirectoryView) (textures : TexturesView) (z : Heap) (kind : LimitKind) (count : ℕ) →
+draws_limit : {among : ℕ → ℤ → Type 0} {pictures : ℕ → Type 0} (view : ShelfView) (dir : DirectoryView) (textures : TexturesView) (z : Heap) (kind : LimitKind) (count : ℕ) →
     DrawsWith {A = Unit {0}} view_fault among pictures view view dir textures z z (Err (Limit kind count))
 draws_limit view dir textures z kind count = record {
   keeps = keeps_art-none view dir textures z;

@@ -1,5 +1,5 @@
 -- Laws of a whole view: its three parts in order, where its dots lie, what ends it, and the frame that it leaves.
-use Rattle.picture_rules.proofs.Common.{All, AllPass, ap, arith, Bor, Err, get_or, IfErr, IfSome, IsErrAnd, length, length-replicate, List, None, Ok, OnOk, Option, refl, replicate, Result, Some, subst, suc, sym, zero, ℕ, ◌++◌, ◌∙◌, ◌≡◌, ◌≤◌}
+use Rattle.picture_rules.proofs.Common.{All, AllPass, ap, arith, Bor, Err, get_or, IfErr, IfSome, IsErrAnd, length, length-replicate, List, None, Ok, OnOk, Option, refl, replicate, Result, Some, subst, suc, sym, zero, ℕ, ◌++◌, ◌∙◌, ◌≡◌, ◌≤◌, ℤ}
 use Rattle.frame_core.specs.Rules.{AreInView, Dot, FRAME_CELLS, FRAME_HEIGHT, Fault, FaultsRose, FitsFrame, Heap, IsWithinFrame, Limits, OverLimit, Painter, Plane, Scene, SceneValue, ShelfView, SpriteEntry, ViewShape, ViewValue, draw_order, lump_bytes, masked_dots, paints_by, paints_of, picture, planes_dots, planes_of, view_drawsegs, view_entries, view_events, view_over, view_paints, view_planes, view_steps, walls_dots, walls_of}
 use Rattle.pixel_strips.specs.Canvases.{CanvasView, marked_by_colour, placed_at}
 use Rattle.pixel_strips.specs.Dotted.{HasDots}
@@ -72,7 +72,7 @@ pub parts-paint : {mark : Painter → ℕ → ℕ} (s : ViewScene) {a b c d : Pa
 parts-paint s walls planes masks = paints-same (λ contents q. view_paints s.view (held_scene contents s)) (λ contents q asked. view_parts s.view (lump_bytes contents s.dir.lumps) s.scene) (paints-then walls (paints-then planes masks))
 
 -- what was painted from where the view was placed
-pub paints-placed : {A R E Q : Type 0} {fault_of : E → Fault R} {mark : Painter → ℕ → ℕ} {t : PaintTools} {among pictures : ℕ → Type 0} {asked : Q → Type 0} {dots : List (List ℕ) → Q → List Dot} {shelf : ShelfView} {z : Heap} {b : PaintState} {result : Result A E}
+pub paints-placed : {A R E Q : Type 0} {fault_of : E → Fault R} {mark : Painter → ℕ → ℕ} {t : PaintTools} {among : ℕ → ℤ → Type 0} {pictures : ℕ → Type 0} {asked : Q → Type 0} {dots : List (List ℕ) → Q → List Dot} {shelf : ShelfView} {z : Heap} {b : PaintState} {result : Result A E}
     (v : ViewValue) (shape : ViewShape) (old now : CanvasView) → shape ≡ v.shape → now ≡ placed_at shape.left shape.top old → Paints fault_of mark t among pictures asked dots (paint_state shelf z now) b result →
     Paints fault_of mark t among pictures asked dots (paint_state shelf z (placed_at v.shape.left v.shape.top old)) b result
 paints-placed {fault_of = fault_of} {mark} {t} {among} {pictures} {asked} {dots} {shelf} {z} {b} {result} v shape old now same place paint =

@@ -1,5 +1,5 @@
 -- What is drawn in a view, what it is drawn with, and what a part of it paints.
-use Rattle.std.specs.Prelude.{◌≡◌, ◌≤◌, ◌<◌, ◌||◌, ◌==◌, ◌⊎◌, ℕ, true, List, All, IfSome, IsSome, Result, length, ⊤}
+use Rattle.std.specs.Prelude.{◌≡◌, ◌≤◌, ◌<◌, ◌||◌, ◌==◌, ◌⊎◌, ℕ, true, List, All, IfSome, IsSome, Result, length, ⊤, ℤ}
 use Rattle.std.specs.List.{list_any}
 use Rattle.frame_core.specs.Rules.{Dot, Heap, Painter, SKY_FLAT, Scene, SceneValue, SectorFlats, ShelfView, Surface, ViewValue, book_lumps, has_flat, lump_bytes, surfaces_of}
 use Rattle.art_rules.specs.Words.{Lump}
@@ -57,9 +57,9 @@ pub record CanDrawView (lumps : List Lump) (scene : SceneValue) (z : Heap) : Typ
   pub slots : length lumps ≤ z.lumps
   pub composites : length scene.base.lists.textures ≤ z.composites
 
--- the textures of sides and sky, and the lumps of the directory that are flats or pictures of things
-abbrev pub IsViewTexture : SceneValue → ℕ → Type 0
-IsViewTexture scene number = IsPrepared (textures_view scene) number
+-- any column of the textures of sides and sky, and the lumps of the directory that are flats or pictures of things
+abbrev pub IsViewTexture : SceneValue → ℕ → ℤ → Type 0
+IsViewTexture scene number own = IsPrepared (textures_view scene) number
 
 pub record IsViewLump (lumps : List Lump) (scene : SceneValue) (lump : ℕ) : Type 0 where
   pub there : lump < length lumps

@@ -1,5 +1,5 @@
 -- What the loops of the masked pass keep of their hands: the references, the count of the marks, and what each call asks.
-use Rattle.std.proofs.Common.{◌≡◌, ℕ, List, length, Result, refl, ◌∙◌}
+use Rattle.std.proofs.Common.{◌≡◌, ℕ, List, length, Result, refl, ◌∙◌, ℤ}
 use Rattle.masked_draw.specs.Rules.{Dot, FragmentNote, Painter, ShelfView}
 use Rattle.texture_build.specs.CacheFault.{CacheFault}
 use Rattle.texture_build.specs.Caches.{cache_fault}
@@ -33,6 +33,6 @@ pub keeps-start : {S C : Type 0} {shelf : S → ShelfView} {canvas : C → Canva
     CanPass s notes (mask_hands shelf canvas hands) hands.marks.now → KeepsPass shelf canvas s notes hands hands
 keeps-start can = record { hands = keeps-none _; ready = can }
 
-pub keeps-more : {S C A Q : Type 0} {shelf : S → ShelfView} {canvas : C → CanvasView} {mark : Painter → ℕ → ℕ} {s : MaskScene} {notes : List FragmentNote} {among pictures : ℕ → Type 0} {asked : Q → Type 0} {f : List (List ℕ) → Q → List Dot} {result : Result A CacheFault} {a b c : MaskHands S C} →
+pub keeps-more : {S C A Q : Type 0} {shelf : S → ShelfView} {canvas : C → CanvasView} {mark : Painter → ℕ → ℕ} {s : MaskScene} {notes : List FragmentNote} {among : ℕ → ℤ → Type 0} {pictures : ℕ → Type 0} {asked : Q → Type 0} {f : List (List ℕ) → Q → List Dot} {result : Result A CacheFault} {a b c : MaskHands S C} →
     KeepsPass shelf canvas s notes a b → AreSameMaskHands b c → length c.marks.now ≡ length b.marks.now → Paints cache_fault mark (scene_tools s) among pictures asked f (mask_hands shelf canvas b) (mask_hands shelf canvas c) result → KeepsPass shelf canvas s notes a c
 keeps-more one same marks paints = record { hands = keeps-then one.hands same marks; ready = can_pass-later _ _ paints marks one.ready }

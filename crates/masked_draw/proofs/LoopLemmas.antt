@@ -10,7 +10,7 @@ use Rattle.masked_draw.specs.declared.scene.MaskScene.{MaskScene}
 use Rattle.masked_draw.specs.Clipped.{AreSpriteRows, TakesRows, row_in}
 use Rattle.masked_draw.specs.Marks.{MarkedTo, MarksBy, is_between, is_passed, unmarked_dots}
 use Rattle.masked_draw.specs.Passes.{DrawsSprite}
-use Rattle.masked_draw.specs.Ready.{IsMiddleNumber, IsNotedMiddle}
+use Rattle.masked_draw.specs.Ready.{IsMiddleColumn, IsNotedMiddle}
 use Rattle.masked_draw.specs.Scenes.{PaintsDots, scene_art, scene_drawseg, scene_drawsegs, scene_lists, scene_tools}
 use Rattle.masked_draw.proofs.DownLemmas.{down-end, down-more, down-start, middles_down}
 use Rattle.masked_draw.proofs.PassedLemmas.{ApartNotes, left-middles, marked-left, marked-pass, marked-turn, passed-middles, turn-here, turn_at, turns-end, turns-start}
@@ -32,7 +32,7 @@ module _ (s : MaskScene) (notes : List FragmentNote) (es : List SpriteEntry) whe
 
   -- the columns that are left, from fragment m on
   pub record LeavesMiddles (mark : Painter → ℕ → ℕ) (m : ℕ) (marks : List Bool) (start now : PaintState) : Type 0 where
-    pub paints : PaintsDots mark s (IsNotedMiddle (scene_lists s) notes) (λ (n : ℕ). ⊥)
+    pub paints : PaintsDots mark s (IsNotedMiddle (scene_lists s) s.openings.now notes) (λ (n : ℕ). ⊥)
         (λ art. middles_down s.view.now art (scene_drawsegs s notes) es None (length notes) (length notes - m)) start now (Ok (tt {0}))
     pub marked : MarkedTo (scene_drawseg s) notes es m (λ k. length es) marks
 
@@ -44,7 +44,7 @@ module _ (s : MaskScene) (notes : List FragmentNote) (es : List SpriteEntry) whe
 
   pub leaves-more : {A : Type 0} {mark : Painter → ℕ → ℕ} {start a b : PaintState} {answer : A} (from m number : ℕ) (d : FragmentNote) (old new : List Bool) → ApartNotes notes → m < length notes → slice_get notes m ≡ Some d → number ≡ m → from ≡ m + 1 →
       LeavesMiddles mark from old start a →
-      PaintsDots mark s (IsMiddleNumber (scene_lists s) d) (λ (n : ℕ). ⊥) (λ art. unmarked_dots s.view.now art old d (is_between d.first d.last) number (scene_drawseg s d)) a b (Ok answer) →
+      PaintsDots mark s (IsMiddleColumn (scene_lists s) s.openings.now d) (λ (n : ℕ). ⊥) (λ art. unmarked_dots s.view.now art old d (is_between d.first d.last) number (scene_drawseg s d)) a b (Ok answer) →
       MarksBy d (is_between d.first d.last) old new → LeavesMiddles mark m new start b
   leaves-more {mark = mark} {start} {a} from m number d old new apart l g n up later call marks =
       let before : LeavesMiddles mark (m + 1) old start a = subst (λ (k : ℕ). LeavesMiddles mark k old start a) up later in record {
@@ -52,18 +52,18 @@ module _ (s : MaskScene) (notes : List FragmentNote) (es : List SpriteEntry) whe
             (λ contents q is. let art = scene_art contents s in middles_more s.view.now art None m number d (unmarked_dots s.view.now art old d (is_between d.first d.last) number (scene_drawseg s d)) g l n
             (ap (λ (k : ℕ). unmarked_dots s.view.now art old d (is_between d.first d.last) k (scene_drawseg s d)) n
             ∙ left-middles s.view.now art (scene_drawseg s) notes es (m + 1) (λ k. length es) old m d (scene-columns s d) before.marked (omega arith) g refl))
-            (paints-then before.paints (paints-wider (scene-middle (scene_lists s) notes m d g) (λ n e. e) call)));
+            (paints-then before.paints (paints-wider (scene-middle (scene_lists s) s.openings.now notes m d g) (λ n e. e) call)));
         marked = marked-left (scene_drawseg s) notes es (λ k. length es) (is_between d.first d.last) old new m d apart g marks before.marked;
       }
 
   pub leaves-end : {mark : Painter → ℕ → ℕ} {start now : PaintState} (m : ℕ) (marks : List Bool) → m ≡ 0 → LeavesMiddles mark m marks start now →
-      PaintsDots mark s (IsNotedMiddle (scene_lists s) notes) (λ (n : ℕ). ⊥) (λ art. middles_at s.view.now art (scene_drawsegs s notes) es None (length notes)) start now (Ok (tt {0}))
+      PaintsDots mark s (IsNotedMiddle (scene_lists s) s.openings.now notes) (λ (n : ℕ). ⊥) (λ art. middles_at s.view.now art (scene_drawsegs s notes) es None (length notes)) start now (Ok (tt {0}))
   leaves-end m marks z h =
       paints-same _ (λ contents q is. let art = scene_art contents s in ap (λ (k : ℕ). middles_down s.view.now art (scene_drawsegs s notes) es None (length notes) (length notes - k)) z ∙ down-end s.view.now art (scene_drawsegs s notes) es None (length notes)) h.paints
 
   -- the columns just before sprite i, from fragment m on
   pub record PassesMiddles (mark : Painter → ℕ → ℕ) (i m : ℕ) (marks : List Bool) (start now : PaintState) : Type 0 where
-    pub paints : PaintsDots mark s (IsNotedMiddle (scene_lists s) notes) (λ (n : ℕ). ⊥)
+    pub paints : PaintsDots mark s (IsNotedMiddle (scene_lists s) s.openings.now notes) (λ (n : ℕ). ⊥)
         (λ art. middles_down s.view.now art (scene_drawsegs s notes) es (Some i) (length notes) (length notes - m)) start now (Ok (tt {0}))
     pub marked : MarkedTo (scene_drawseg s) notes es (length notes) (turn_at i m) marks
 
@@ -75,7 +75,7 @@ module _ (s : MaskScene) (notes : List FragmentNote) (es : List SpriteEntry) whe
 
   pub passes-more : {A : Type 0} {mark : Painter → ℕ → ℕ} {start a b : PaintState} {answer : A} (e : SpriteEntry) (i from m number : ℕ) (d : FragmentNote) (old new : List Bool) → ApartNotes notes → m < length notes → slice_get notes m ≡ Some d → number ≡ m →
       i < length es → slice_get es i ≡ Some e → from ≡ m + 1 → PassesMiddles mark i from old start a →
-      PaintsDots mark s (IsMiddleNumber (scene_lists s) d) (λ (n : ℕ). ⊥) (λ art. unmarked_dots s.view.now art old d (is_passed e (scene_drawseg s d)) number (scene_drawseg s d)) a b (Ok answer) →
+      PaintsDots mark s (IsMiddleColumn (scene_lists s) s.openings.now d) (λ (n : ℕ). ⊥) (λ art. unmarked_dots s.view.now art old d (is_passed e (scene_drawseg s d)) number (scene_drawseg s d)) a b (Ok answer) →
       MarksBy d (is_passed e (scene_drawseg s d)) old new → PassesMiddles mark i m new start b
   passes-more {mark = mark} {start} {a} e i from m number d old new apart l g n il ig up later call marks =
       let before : PassesMiddles mark i (m + 1) old start a = subst (λ (k : ℕ). PassesMiddles mark i k old start a) up later in record {
@@ -83,22 +83,22 @@ module _ (s : MaskScene) (notes : List FragmentNote) (es : List SpriteEntry) whe
             (λ contents q is. let art = scene_art contents s in middles_more s.view.now art (Some i) m number d (unmarked_dots s.view.now art old d (is_passed e (scene_drawseg s d)) number (scene_drawseg s d)) g l n
             (ap (λ (k : ℕ). unmarked_dots s.view.now art old d (is_passed e (scene_drawseg s d)) k (scene_drawseg s d)) n
             ∙ passed-middles s.view.now art (scene_drawseg s) notes es (length notes) (turn_at i (m + 1)) old m i d e (scene-columns s d) before.marked l g (turn-here i m) il ig))
-            (paints-then before.paints (paints-wider (scene-middle (scene_lists s) notes m d g) (λ n e. e) call)));
+            (paints-then before.paints (paints-wider (scene-middle (scene_lists s) s.openings.now notes m d g) (λ n e. e) call)));
         marked = marked-pass (scene_drawseg s) notes es (length notes) old new i m d e apart g l il ig marks before.marked;
       }
 
   pub passes-stop : {A B : Type 0} {mark : Painter → ℕ → ℕ} {f : List (List ℕ) → ⊤ → List Dot} {start a b : PaintState} {part : Result B CacheFault} {fault : CacheFault} {whole : Result A CacheFault} (e : SpriteEntry) (i m k : ℕ) (d : FragmentNote) (old new : List Bool) → slice_get notes k ≡ Some d →
       part ≡ Err fault → IsErrAnd whole (λ e. e ≡ fault) → PassesMiddles mark i m old start a →
-      Paints cache_fault mark (scene_tools s) (IsMiddleNumber (scene_lists s) d) (λ (n : ℕ). ⊥) (λ (q : ⊤). ⊤) f a b part →
+      Paints cache_fault mark (scene_tools s) (IsMiddleColumn (scene_lists s) s.openings.now d) (λ (n : ℕ). ⊥) (λ (q : ⊤). ⊤) f a b part →
       DrawsSprite mark s notes es i e new start b whole
   passes-stop {fault = fault} {whole} e i m k d old new g was is before call = record {
-    paints = paints-then_stop was is (paints-wider (λ n k. k) (λ n k. absurd k) before.paints) (paints-wider (scene-middle (scene_lists s) notes k d g) (λ n k. absurd k) call);
+    paints = paints-then_stop was is (paints-wider (λ n own k. k) (λ n k. absurd k) before.paints) (paints-wider (scene-middle (scene_lists s) s.openings.now notes k d g) (λ n k. absurd k) call);
     marked = on_ok_err (MarkedTo (scene_drawseg s) notes es (length notes) (λ k. i + 1) new) fault whole is;
   }
 
   -- the columns just before sprite i are painted, and marked
   pub record PassesSprite (mark : Painter → ℕ → ℕ) (i : ℕ) (marks : List Bool) (start now : PaintState) : Type 0 where
-    pub paints : PaintsDots mark s (IsNotedMiddle (scene_lists s) notes) (λ (n : ℕ). ⊥)
+    pub paints : PaintsDots mark s (IsNotedMiddle (scene_lists s) s.openings.now notes) (λ (n : ℕ). ⊥)
         (λ art. middles_at s.view.now art (scene_drawsegs s notes) es (Some i) (length notes)) start now (Ok (tt {0}))
     pub marked : MarkedTo (scene_drawseg s) notes es (length notes) (λ k. i + 1) marks
 

@@ -1,5 +1,5 @@
 -- Laws of the masked column of a fragment: whose bytes it has, and its dots by them.
-use Rattle.picture_rules.proofs.Common.{[], and_le_r, ap, arith, IfSome, ints, IsSome, length, List, negsuc, None, Option, option_map, pos, refl, Some, subst, sym, unsigned_abs, unwrap_or, ℕ, ℤ, ◌<◌, ◌∙◌, ◌∷◌, ◌≡◌, ◌≤ℤ◌, ◌≤◌}
+use Rattle.picture_rules.proofs.Common.{[], and_le_r, ap, arith, IfSome, ints, IsSome, length, List, negsuc, None, Option, option_map, pos, refl, Some, subst, sym, unsigned_abs, unwrap_or, ℕ, ℤ, ◌<◌, ◌∙◌, ◌∷◌, ◌≡◌, ◌≤ℤ◌, ◌≤◌, is_some}
 use Rattle.masked_draw.specs.Rules.{ColumnLookup, Composed, Drawseg, Empty, FragmentNote, LIGHT_LEVELS, LUMP, Lump, MIDDLE, MaskedColumn, Painter, Post, PreparedTexture, ShelfView, Single, ViewShape, ViewValue, bits_of, byte_at, drawseg_scale, joined_lists, light_number, lump_bytes, mask_of, masked_column, middle_column, middle_masked, painter_of, post_colour, post_dots, post_rows, posts, posts_dots, scale_map, seg_light, shade, single_place}
 use Rattle.picture_rules.specs.Words.{middle_by as dots_by}
 use Rattle.picture_rules.proofs.Laws.{clamp_word-high, clamp_word-low}
@@ -19,7 +19,7 @@ use Rattle.masked_draw.specs.declared.middles.Middle.{Middle}
 use Rattle.masked_draw.specs.declared.scene.MaskScene.{MaskScene}
 use Rattle.masked_draw.specs.Clipped.{IsMiddleOf}
 use Rattle.masked_draw.specs.Lists.{middle_by, noted_drawseg, saved_column}
-use Rattle.masked_draw.specs.Ready.{CanDrawMiddle, IsListed, IsSingle}
+use Rattle.masked_draw.specs.Ready.{CanDrawMiddle, IsListed, IsSingle, IsMiddleColumn}
 use Rattle.masked_draw.specs.Scenes.{scene_drawseg, scene_lists}
 
 small_number : (z : ℤ) → pos 0 ≤ℤ z → z ≤ℤ pos 15 → unsigned_abs z < 16
@@ -220,3 +220,16 @@ pub drawseg-column : (s : MaskScene) (d : FragmentNote) (middle : Middle) (x : �
 unfolding noted_drawseg
 drawseg-column s d middle x is =
     ap (λ (m : Option ℕ). saved_column s.openings.now d.first m x) (sym is.place)
+
+-- and one of those that its note saved
+pub middle-column : (s : MaskScene) (d : FragmentNote) (middle : Middle) (x : ℕ) (column : ℤ) → IsMiddleOf s d middle.number middle →
+    d.first ≤ x → x ≤ d.last → column ≡ saved_column s.openings.now d.first (Some middle.place) x →
+    (n : ℕ) (own : ℤ) → (n ≡ middle.tex.0) × (own ≡ column) → IsMiddleColumn (scene_lists s) s.openings.now d n own
+middle-column s d middle x column is first last saved n own same = record {
+  masked = ap is_some is.place;
+  texture = same.0 ∙ is.tex;
+  x = x;
+  first = first;
+  last = last;
+  is = same.1 ∙ saved ∙ ap (λ (m : Option ℕ). saved_column s.openings.now d.first m x) (sym is.place);
+}

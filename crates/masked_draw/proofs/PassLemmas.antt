@@ -10,7 +10,7 @@ use Rattle.vissprites.specs.Bounds.{has_lump_below, lies_within}
 use Rattle.masked_draw.specs.declared.scene.MaskScene.{MaskScene}
 use Rattle.masked_draw.specs.Marks.{AreBefore, MarkedTo, mark_in}
 use Rattle.masked_draw.specs.Passes.{DrawsSprite}
-use Rattle.masked_draw.specs.Ready.{IsNotedMiddle, IsSpriteLump}
+use Rattle.masked_draw.specs.Ready.{IsNotedMiddle, IsPictureOf, IsSpriteLump}
 use Rattle.masked_draw.specs.Scenes.{PaintsDots, scene_art, scene_drawsegs, scene_lists}
 use Rattle.masked_draw.proofs.MomentLemmas.{front-first}
 use Rattle.masked_draw.proofs.SceneLemmas.{scene-length}
@@ -51,7 +51,7 @@ pub sprite-lump : (lumps : ℕ) (sprites : List SpriteEntry) (k : ℕ) (e : Spri
 sprite-lump lumps sprites k e all t = lump_below lumps e (all_drawn (λ e. has_lump_below lumps e ≡ true) sprites k e all t)
 
 -- the picture of the sprite at that turn is the picture of one of the sprites
-pub sprite-among : (sprites : List SpriteEntry) (k : ℕ) (e : SpriteEntry) → (k < length (draw_order sprites)) × (e ≡ get_or (draw_order sprites) k e) → (lump : ℕ) → lump ≡ e.lump → IsSpriteLump sprites lump
+pub sprite-among : (sprites : List SpriteEntry) (k : ℕ) (e : SpriteEntry) → (k < length (draw_order sprites)) × (e ≡ get_or (draw_order sprites) k e) → (lump : ℕ) → IsPictureOf e lump → IsSpriteLump sprites lump
 sprite-among sprites k e t lump is = record { sprite = e; among = all_drawn (Contains sprites) sprites k e (All-contains_itself sprites) t; is = is }
 
 from_none : (s : MaskScene) (notes : List FragmentNote) (es : List SpriteEntry) (art : Art) → [] ≡ sprites_from s.view.now art (scene_drawsegs s notes) es 0 []
@@ -65,21 +65,21 @@ all_dots s notes sprites art = ap (λ (n : ℕ). sprites_from s.view.now art (sc
 
 module _ (s : MaskScene) (notes : List FragmentNote) (sprites : List SpriteEntry) {mark : Painter → ℕ → ℕ} where
   -- no sprite is drawn
-  pub sprites-start : (st : PaintState) → PaintsDots mark s (IsNotedMiddle (scene_lists s) notes) (IsSpriteLump sprites) (λ art. sprites_from s.view.now art (scene_drawsegs s notes) (draw_order sprites) 0 []) st st (Ok (tt {0}))
+  pub sprites-start : (st : PaintState) → PaintsDots mark s (IsNotedMiddle (scene_lists s) s.openings.now notes) (IsSpriteLump sprites) (λ art. sprites_from s.view.now art (scene_drawsegs s notes) (draw_order sprites) 0 []) st st (Ok (tt {0}))
   sprites-start st = paints-same _ (λ contents q is. from_none s notes (draw_order sprites) (scene_art contents s)) (paints-none st (tt {0}))
 
   -- one sprite more
   pub sprites-more : {A : Type 0} {start a b : PaintState} {answer : A} (so_far : List SpriteEntry) (e : SpriteEntry) (new : List Bool) → (length so_far < length (draw_order sprites)) × (e ≡ get_or (draw_order sprites) (length so_far) e) →
-      PaintsDots mark s (IsNotedMiddle (scene_lists s) notes) (IsSpriteLump sprites) (λ art. sprites_from s.view.now art (scene_drawsegs s notes) (draw_order sprites) 0 so_far) start a (Ok (tt {0})) →
+      PaintsDots mark s (IsNotedMiddle (scene_lists s) s.openings.now notes) (IsSpriteLump sprites) (λ art. sprites_from s.view.now art (scene_drawsegs s notes) (draw_order sprites) 0 so_far) start a (Ok (tt {0})) →
       DrawsSprite mark s notes (draw_order sprites) (length so_far) e new a b (Ok answer) →
-      PaintsDots mark s (IsNotedMiddle (scene_lists s) notes) (IsSpriteLump sprites) (λ art. sprites_from s.view.now art (scene_drawsegs s notes) (draw_order sprites) 0 (so_far ++ e ∷ [])) start b (Ok (tt {0}))
+      PaintsDots mark s (IsNotedMiddle (scene_lists s) s.openings.now notes) (IsSpriteLump sprites) (λ art. sprites_from s.view.now art (scene_drawsegs s notes) (draw_order sprites) 0 (so_far ++ e ∷ [])) start b (Ok (tt {0}))
   sprites-more so_far e new t before sprite =
       paints-value (tt {0}) (paints-same _ (λ contents q is. sym (sprites_from-more s.view.now (scene_art contents s) (scene_drawsegs s notes) (draw_order sprites) 0 (length so_far) so_far e (zero_add (length so_far))))
-      (paints-then before (paints-wider (λ n k. k) (sprite-among sprites (length so_far) e t) sprite.paints)))
+      (paints-then before (paints-wider (λ n own k. k) (sprite-among sprites (length so_far) e t) sprite.paints)))
 
   -- the sprites, and the columns that are left
   pub pass-end : {A B : Type 0} {start a b : PaintState} {answer : B} {result : Result A CacheFault} →
-      PaintsDots mark s (IsNotedMiddle (scene_lists s) notes) (IsSpriteLump sprites) (λ art. sprites_from s.view.now art (scene_drawsegs s notes) (draw_order sprites) 0 (draw_order sprites)) start a (Ok answer) →
-      PaintsDots mark s (IsNotedMiddle (scene_lists s) notes) (λ (n : ℕ). ⊥) (λ art. middles_at s.view.now art (scene_drawsegs s notes) (draw_order sprites) None (length notes)) a b result →
-      PaintsDots mark s (IsNotedMiddle (scene_lists s) notes) (IsSpriteLump sprites) (λ art. masked_dots s.view.now art (scene_drawsegs s notes) (draw_order sprites)) start b result
-  pass-end one two = paints-same _ (λ contents q is. all_dots s notes sprites (scene_art contents s)) (paints-then one (paints-wider (λ n k. k) (λ n k. absurd k) two))
+      PaintsDots mark s (IsNotedMiddle (scene_lists s) s.openings.now notes) (IsSpriteLump sprites) (λ art. sprites_from s.view.now art (scene_drawsegs s notes) (draw_order sprites) 0 (draw_order sprites)) start a (Ok answer) →
+      PaintsDots mark s (IsNotedMiddle (scene_lists s) s.openings.now notes) (λ (n : ℕ). ⊥) (λ art. middles_at s.view.now art (scene_drawsegs s notes) (draw_order sprites) None (length notes)) a b result →
+      PaintsDots mark s (IsNotedMiddle (scene_lists s) s.openings.now notes) (IsSpriteLump sprites) (λ art. masked_dots s.view.now art (scene_drawsegs s notes) (draw_order sprites)) start b result
+  pass-end one two = paints-same _ (λ contents q is. all_dots s notes sprites (scene_art contents s)) (paints-then one (paints-wider (λ n own k. k) (λ n k. absurd k) two))

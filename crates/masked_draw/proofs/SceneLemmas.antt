@@ -9,7 +9,7 @@ use Rattle.texture_build.specs.Views.{TexturesView}
 use Rattle.texture_build.proofs.PaintLemmas.{slots-later}
 use Rattle.masked_draw.specs.declared.scene.MaskScene.{MaskScene}
 use Rattle.masked_draw.specs.Lists.{MaskedLists, noted_drawseg, noted_drawsegs}
-use Rattle.masked_draw.specs.Ready.{IsListed, IsMiddleNumber, IsNotedMiddle}
+use Rattle.masked_draw.specs.Ready.{IsListed, IsMiddleColumn, IsNotedMiddle}
 use Rattle.masked_draw.specs.Scenes.{CanPaint, CanPaintNote, CanPass, scene_drawseg, scene_drawsegs, scene_lists, scene_tools}
 use Rattle.masked_draw.proofs.EntryLemmas.{IsSegOf}
 use Rattle.masked_draw.proofs.PassedLemmas.{HasColumnsOf, ApartNotes}
@@ -51,12 +51,11 @@ can_pass-note {s} {notes} {st} k d can e l =
       listed = subst P (get_at notes k d e) (All-get_or P notes k d l can.listed);
     }
 
-pub scene-middle : (lists : MaskedLists) (notes : List FragmentNote) (k : ℕ) (d : FragmentNote) → slice_get notes k ≡ Some d → (n : ℕ) → IsMiddleNumber lists d n → IsNotedMiddle lists notes n
-scene-middle lists notes k d e n is = record {
+pub scene-middle : (lists : MaskedLists) (openings : List ℤ) (notes : List FragmentNote) (k : ℕ) (d : FragmentNote) → slice_get notes k ≡ Some d → (n : ℕ) (own : ℤ) → IsMiddleColumn lists openings d n own → IsNotedMiddle lists openings notes n own
+scene-middle lists openings notes k d e n own is = record {
   note = d;
   among = (k, slice_get_within notes k d e, get_at notes k d e);
-  masked = is.masked;
-  is = is.is;
+  is = is;
 }
 
 -- the lists are asked again after a call
@@ -78,7 +77,7 @@ listed-later counts one = record {
 }
 
 -- what a call asks it may ask again
-module _ {A Q : Type 0} {mark : Painter → ℕ → ℕ} {s : MaskScene} {among pictures : ℕ → Type 0} {asked : Q → Type 0} {f : List (List ℕ) → Q → List Dot} {a b : PaintState} {result : Result A CacheFault} where
+module _ {A Q : Type 0} {mark : Painter → ℕ → ℕ} {s : MaskScene} {among : ℕ → ℤ → Type 0} {pictures : ℕ → Type 0} {asked : Q → Type 0} {f : List (List ℕ) → Q → List Dot} {a b : PaintState} {result : Result A CacheFault} where
   pub can_paint-later : Paints cache_fault mark (scene_tools s) among pictures asked f a b result → CanPaint s a → CanPaint s b
   can_paint-later one can = record {
     slots = slots-later one can.slots;

@@ -1,5 +1,5 @@
 -- Laws of a sprite that is painted by the clips that were taken.
-use Rattle.picture_rules.proofs.Common.{[], ap, arith, Bool, cond, false, int_lt, length, List, map, nat_le, nat_lt, nat_tests, Ok, pos, range_with_len, refl, Result, slice_get, Some, subst, suc, sym, true, zero, ℕ, ℤ, ◌&&◌, ◌++◌, ◌+◌, ◌-◌, ◌<◌, ◌∙◌, ◌≡◌, ◌≤◌}
+use Rattle.picture_rules.proofs.Common.{[], ap, arith, Bool, cond, false, int_lt, length, List, map, nat_le, nat_lt, nat_tests, Ok, pos, range_with_len, refl, Result, slice_get, Some, subst, suc, sym, true, zero, ℕ, ℤ, ◌&&◌, ◌++◌, ◌+◌, ◌-◌, ◌<◌, ◌∙◌, ◌≡◌, ◌≤◌, ◌≤ℤ◌}
 use Rattle.masked_draw.specs.Rules.{Art, Dot, FragmentNote, Painter, SpriteEntry, entry_has, joined_lists, listed_from, middles_at, natural, rows_between, sprite_column, sprite_dots, sprite_masked, sprite_step}
 use Rattle.texture_build.specs.CacheFault.{CacheFault}
 use Rattle.texture_lists.proofs.BesideLemmas.{on_ok}
@@ -75,12 +75,12 @@ module _ (s : MaskScene) (notes : List FragmentNote) (es : List SpriteEntry) (i 
   }
 
   -- the masked columns behind it, and then the sprite
-  pub sprite-then : {A : Type 0} {a b c : PaintState} {result : Result A CacheFault} (clips : SpriteClips) (first last : ℕ) (now new : List Bool) → e.first ≡ pos first → e.last ≡ pos last →
+  pub sprite-then : {A : Type 0} {a b c : PaintState} {result : Result A CacheFault} (clips : SpriteClips) (first last : ℕ) (now new : List Bool) → e.first ≡ pos first → e.last ≡ pos last → e.first ≤ℤ e.last →
       ((x : ℕ) → entry_has e x ≡ true → AreSpriteRows s (scene_drawsegs s notes) e clips x) → new ≡ now → PassesSprite s notes es mark i now a b →
-      PaintsDots mark s (λ (n : ℕ). ⊥) (λ (n : ℕ). n ≡ e.lump) (λ art. clipped_dots s.view.now art clips e) b c result → DrawsSprite mark s notes es i e new a c result
-  sprite-then {result = result} clips first last now new p q rows same passed sprite = record {
+      PaintsDots mark s (λ (n : ℕ) (own : ℤ). ⊥) (λ (n : ℕ). n ≡ e.lump) (λ art. clipped_dots s.view.now art clips e) b c result → DrawsSprite mark s notes es i e new a c result
+  sprite-then {result = result} clips first last now new p q ordered rows same passed sprite = record {
     paints = paints-same _ (λ contents x is. step_by s notes es (scene_art contents s) i e (clipped_dots s.view.now (scene_art contents s) clips e) (clipped-sprite s notes (scene_art contents s) e clips first last p q rows))
-        (paints-then (paints-wider (λ n k. k) (λ n k. absurd k) passed.paints) (paints-wider (λ n k. absurd k) (λ n k. k) sprite));
+        (paints-then (paints-wider (λ n own k. k) (λ n k. absurd k) passed.paints) (paints-wider (λ n own k. absurd k) (λ n same. (same, ordered)) sprite));
     marked = on_ok result
         (subst (MarkedTo (scene_drawseg s) notes es (length notes) (λ k. i + 1)) (sym same) passed.marked);
   }

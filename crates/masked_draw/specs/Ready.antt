@@ -1,11 +1,11 @@
 -- What the masked pass asks of the lists, the textures and the sprites, and which bytes it paints with.
-use Rattle.std.specs.Prelude.{◌≡◌, ◌<◌, ◌≤◌, ℕ, List, Contains, length, IfSome, IsSome}
+use Rattle.std.specs.Prelude.{◌≡◌, ◌<◌, ◌≤◌, ◌≤ℤ◌, ℕ, ℤ, List, Contains, length, IfSome, IsSome}
 use Rattle.masked_draw.specs.Rules.{FragmentNote, Lump, PreparedTexture, SpriteEntry, mask_of, single_place}
 use Rattle.texture_build.specs.Zones.{Heap}
 use Rattle.texture_build.specs.Views.{TexturesView, prepared_texture}
 use Rattle.texture_build.specs.Sources.{own_lookup}
 use Rattle.texture_build.specs.Draws.{CanDraw}
-use Rattle.masked_draw.specs.Lists.{MaskedLists, note_seg, middle_by}
+use Rattle.masked_draw.specs.Lists.{MaskedLists, note_seg, middle_by, saved_column}
 
 -- exactly one patch stands in each column that a texture column can stand for
 abbrev pub IsSingle : PreparedTexture → Type 0
@@ -29,10 +29,14 @@ pub record IsListed (lumps : List Lump) (textures : TexturesView) (z : Heap) (li
   pub middle : (note_seg lists d).side < length lists.middles
   pub masked : IsSome d.masked → CanDrawMiddle lumps textures z lists d
 
--- the middle texture of a note, if it is masked
-pub record IsMiddleNumber (lists : MaskedLists) (d : FragmentNote) (number : ℕ) : Type 0 where
+-- column `own` of a texture is one of the middle texture that a masked note saved for a column of the view
+pub record IsMiddleColumn (lists : MaskedLists) (openings : List ℤ) (d : FragmentNote) (number : ℕ) (own : ℤ) : Type 0 where
   pub masked : IsSome d.masked
-  pub is : number ≡ middle_by lists d
+  pub texture : number ≡ middle_by lists d
+  pub x : ℕ
+  pub first : d.first ≤ x
+  pub last : x ≤ d.last
+  pub is : own ≡ saved_column openings d.first d.masked x
 
 -- the seg of a masked note, with its side and both its sectors, is among the lists
 pub record IsSeenNote (lists : MaskedLists) (d : FragmentNote) : Type 0 where
@@ -43,15 +47,18 @@ pub record IsSeenNote (lists : MaskedLists) (d : FragmentNote) : Type 0 where
   pub some : IsSome (note_seg lists d).back
   pub back : IfSome (note_seg lists d).back (λ back. back < length lists.sectors)
 
--- a texture is the middle of a masked note
-pub record IsNotedMiddle (lists : MaskedLists) (notes : List FragmentNote) (number : ℕ) : Type 0 where
+-- it is one of the notes'
+pub record IsNotedMiddle (lists : MaskedLists) (openings : List ℤ) (notes : List FragmentNote) (number : ℕ) (own : ℤ) : Type 0 where
   pub note : FragmentNote
   pub among : Contains notes note
-  pub masked : IsSome note.masked
-  pub is : number ≡ middle_by lists note
+  pub is : IsMiddleColumn lists openings note number own
 
--- a lump is the picture of a sprite
+-- a lump is the picture of a sprite that has a column in the view
+abbrev pub IsPictureOf : SpriteEntry → ℕ → Type 0
+IsPictureOf e lump = (lump ≡ e.lump) × (e.first ≤ℤ e.last)
+
+-- it is that of one of the sprites
 pub record IsSpriteLump (sprites : List SpriteEntry) (lump : ℕ) : Type 0 where
   pub sprite : SpriteEntry
   pub among : Contains sprites sprite
-  pub is : lump ≡ sprite.lump
+  pub is : IsPictureOf sprite lump

@@ -1,5 +1,5 @@
 -- What stays while the masked pass runs, what a call of it paints, and what each of its calls asks.
-use Rattle.std.specs.Prelude.{◌≡◌, ◌≤◌, ◌<◌, ℕ, Bool, List, All, length, Result, ⊤}
+use Rattle.std.specs.Prelude.{◌≡◌, ◌≤◌, ◌<◌, ℕ, ℤ, Bool, List, All, length, Result, ⊤}
 use Rattle.masked_draw.specs.Rules.{AreNoted, Art, Dot, Drawseg, FragmentNote, IsWholeNote, Painter, ShelfView}
 use Rattle.texture_build.specs.CacheFault.{CacheFault}
 use Rattle.texture_build.specs.Caches.{cache_fault}
@@ -60,8 +60,8 @@ pub record CanPass (s : MaskScene) (notes : List FragmentNote) (st : PaintState)
   pub listed : All (IsListed s.dir.now.lumps s.textures.now st.cache (scene_lists s)) notes
   pub room : length s.openings.now ≤ length marks
 
--- Which dots a call gives the canvas, by the art of the scene, and which textures and lumps it paints with.
-abbrev pub PaintsDots : {A : Type 0} → (Painter → ℕ → ℕ) → MaskScene → (ℕ → Type 0) → (ℕ → Type 0) →
+-- Which dots a call gives the canvas, by the art of the scene, and which columns of textures and which lumps it shows.
+abbrev pub PaintsDots : {A : Type 0} → (Painter → ℕ → ℕ) → MaskScene → (ℕ → ℤ → Type 0) → (ℕ → Type 0) →
     (Art → List Dot) → PaintState → PaintState → Result A CacheFault → Type 0
 PaintsDots mark s among pictures dots old new result =
     Paints cache_fault mark (scene_tools s) among pictures (λ (q : ⊤). ⊤)

@@ -12,7 +12,7 @@ ghost use Rattle.texture_build.specs.Paints.{Paints};
 ghost use Rattle.masked_draw.specs.Clipped.{TakesRows};
 ghost use Rattle.masked_draw.specs.Marks.{MarkedTo, MarksBy, MissesColumns, is_passed, mark_in, unmarked_dots};
 ghost use Rattle.masked_draw.specs.Passes.{DrawsSprite};
-ghost use Rattle.masked_draw.specs.Ready.{IsListed, IsMiddleNumber, IsNotedMiddle, IsSpriteLump};
+ghost use Rattle.masked_draw.specs.Ready.{IsListed, IsMiddleColumn, IsNotedMiddle, IsSpriteLump};
 ghost use Rattle.masked_draw.specs.Scenes.{AreSameMaskHands, CanPaintNote, CanPass, PaintsDots, mask_hands, scene_drawseg, scene_drawsegs, scene_lists};
 ghost use Rattle.masked_draw.specs.Tools.{AreSameMaskTools, masked_state, masked_tools, tools_dots, tools_lists};
 
@@ -29,7 +29,8 @@ use texture_build::CacheFault;
 use vissprites::Sprites;
 
 /// Draws the sprites, the least scale first, each after the masked mid textures that are behind it,
-/// and at last the masked columns that are left. Takes no memory.
+/// and at last the masked columns that are left. Of the middle textures only columns are asked for
+/// that are seen, and only pictures of sprites that have a column in the view. Takes no memory.
 ///
 /// The notes and the openings are those of the view's drawn fragments, at most 256; `marks` has an
 /// entry for each opening, and what it holds does not matter. The segs of the notes, with their
@@ -59,7 +60,8 @@ pub fn draw_masked<S: Shelf, C: Canvas>(
     ensures same { AreSameMaskTools tools.old tools.new }
     ensures marks { length tools.new.marks.now ≡ length tools.old.marks.now }
     ensures paints { Paints cache_fault C.mark (masked_tools tools.old)
-        (IsNotedMiddle (tools_lists tools.old) notes.now) (IsSpriteLump sprites.now) (λ (q : ⊤). ⊤)
+        (IsNotedMiddle (tools_lists tools.old) tools.old.openings.now notes.now)
+        (IsSpriteLump sprites.now) (λ (q : ⊤). ⊤)
         (λ contents q. tools_dots tools.old notes.now sprites.now contents)
         (masked_state S.view C.view tools.old) (masked_state S.view C.view tools.new) result }
 {
@@ -104,7 +106,8 @@ fn draw_sprites<S: Shelf, C: Canvas>(
     ensures marked { OnOk result (MarkedTo (scene_drawseg scene.now) notes.now
         (draw_order sprites.now) (length notes.now) (λ k. length (draw_order sprites.now))
         hands.new.marks.now) }
-    ensures paints { PaintsDots C.mark scene.now (IsNotedMiddle (scene_lists scene.now) notes.now)
+    ensures paints { PaintsDots C.mark scene.now
+        (IsNotedMiddle (scene_lists scene.now) scene.now.openings.now notes.now)
         (IsSpriteLump sprites.now)
         (λ art. sprites_from scene.now.view.now art (scene_drawsegs scene.now notes.now)
         (draw_order sprites.now) 0 (draw_order sprites.now))
@@ -129,7 +132,8 @@ fn draw_middles<S: Shelf, C: Canvas>(
     ensures marks { length hands.new.marks.now ≡ length hands.old.marks.now }
     ensures paints { (es : List SpriteEntry) → MarkedTo (scene_drawseg scene.now) notes.now es
         (length notes.now) (λ k. length es) hands.old.marks.now →
-        PaintsDots C.mark scene.now (IsNotedMiddle (scene_lists scene.now) notes.now) (λ (n : ℕ). ⊥)
+        PaintsDots C.mark scene.now
+        (IsNotedMiddle (scene_lists scene.now) scene.now.openings.now notes.now) (λ (n : ℕ). ⊥)
         (λ art. middles_at scene.now.view.now art (scene_drawsegs scene.now notes.now) es None
         (length notes.now))
         (mask_hands S.view C.view hands.old) (mask_hands S.view C.view hands.new) result }
@@ -197,8 +201,8 @@ fn pass_fragment<S: Shelf, C: Canvas>(
         hands.new.marks.now) }
     ensures rows { (x : ℕ) → entry_has entry.now x ≡ true →
         TakesRows entry.now (scene_drawseg scene.now note.now) clips.old clips.new x }
-    ensures paints { PaintsDots C.mark scene.now (IsMiddleNumber (scene_lists scene.now) note.now)
-        (λ (n : ℕ). ⊥)
+    ensures paints { PaintsDots C.mark scene.now
+        (IsMiddleColumn (scene_lists scene.now) scene.now.openings.now note.now) (λ (n : ℕ). ⊥)
         (λ art. unmarked_dots scene.now.view.now art hands.old.marks.now note.now
         (is_passed entry.now (scene_drawseg scene.now note.now)) number
         (scene_drawseg scene.now note.now))

@@ -1,6 +1,6 @@
 -- What each call that draws planes may take from what it asks.
-use Rattle.picture_rules.proofs.Common.{[], All, All-get_or, and_from, ap, arith, Bool, Contains-get_or, false, false≢true, IfSome, inl, inr, IsSome, le-leb, length, List, nat_le, None, Option, refl, Result, slice_index_or, Some, subst, suc, sym, true, zero, ℕ, ◌<◌, ◌↔◌, ◌∙◌, ◌∷◌, ◌≡◌, ◌≤◌, ◌⊎◌}
-use Rattle.plane_draw.specs.Rules.{Dot, Flat4, Painter, Plane, ViewShape, column, holds, holds_row, is_sky_key, same_flat}
+use Rattle.picture_rules.proofs.Common.{[], All, All-get_or, and_from, ap, arith, Bool, Contains-get_or, false, false≢true, IfSome, inl, inr, IsSome, le-leb, length, List, nat_le, None, Option, refl, Result, slice_index_or, Some, subst, suc, sym, true, zero, ℕ, ℤ, ◌<◌, ◌↔◌, ◌∙◌, ◌∷◌, ◌≡◌, ◌≤◌, ◌⊎◌}
+use Rattle.plane_draw.specs.Rules.{Dot, Flat4, Painter, Plane, ViewShape, ViewValue, column, holds, holds_row, is_sky_key, same_flat, sky_column}
 use Rattle.picture_rules.specs.declared.plane.Flat4.TheVariants as flat
 use Rattle.visplanes.specs.Planes.{no_plane, plane_at}
 use Rattle.visplanes.specs.Spans.{IsSeen}
@@ -10,7 +10,7 @@ use Rattle.texture_build.specs.Draws.{CanDraw}
 use Rattle.texture_build.specs.Paints.{PaintState}
 use Rattle.texture_build.proofs.PaintLemmas.{can_draw-later, slots-later}
 use Rattle.plane_draw.specs.declared.scene.PlaneScene.{PlaneScene}
-use Rattle.plane_draw.specs.Planes.{CanDrawPlane, HasFlat, IsFlatOf, IsMarked, IsSky}
+use Rattle.plane_draw.specs.Planes.{CanDrawPlane, HasFlat, IsFlatOf, IsMarked, IsSkyColumn, ShowsSkyAt}
 use Rattle.plane_draw.specs.Scenes.{CanDrawPlanes, PaintsPlanes}
 
 -- a plane of the scene
@@ -74,8 +74,28 @@ pub sky-can : {s : PlaneScene} {st : PaintState} → CanDrawPlanes s st → (tex
 sky-can {s} {st} can tex is =
     subst (λ (o : Option TexNo). IfSome o (λ tex. CanDraw s.dir.now.lumps s.textures.now st.cache tex.0)) is can.sky
 
-pub sky-among : (o : Option TexNo) (tex : TexNo) → o ≡ Some tex → (n : ℕ) → n ≡ tex.0 → IsSky o n
-sky-among o tex is n same = subst (λ (o : Option TexNo). IsSky o n) (sym is) (same, refl)
+-- a sky plane with rows at a column
+pub sky-shown : (planes : List Plane) (n x first last : ℕ) → n < length planes → (plane_at planes n).key.flat ≡ flat.Sky →
+    Some (first, last) ≡ column (plane_at planes n) x → first ≤ last → ShowsSkyAt planes x
+sky-shown planes n x first last inside sky has ordered = record {
+  plane = plane_at planes n;
+  among = Contains-get_or planes n no_plane inside;
+  sky = sky;
+  run = (first, last);
+  has = sym has;
+  rows = ordered;
+}
+
+-- so the column of the sky's texture is seen there
+pub sky-among : (v : ViewValue) (o : Option TexNo) (planes : List Plane) (tex : TexNo) (x : ℕ) → o ≡ Some tex → ShowsSkyAt planes x →
+    (n : ℕ) (own : ℤ) → (n ≡ tex.0) × (own ≡ sky_column v x) → IsSkyColumn v o planes n own
+sky-among v o planes tex x is shown n own same = record {
+  some = subst (λ (o : Option TexNo). IsSome o) (sym is) refl;
+  texture = subst (λ (o : Option TexNo). IfSome o (λ tex. n ≡ tex.0)) (sym is) same.0;
+  x = x;
+  shown = shown;
+  is = same.1;
+}
 
 -- a number that the sky has is that of its texture
 pub sky-number : (o : Option TexNo) (tex : TexNo) (sky : ℕ) → o ≡ Some tex → IfSome o (λ tex. sky ≡ tex.0) → sky ≡ tex.0

@@ -8,7 +8,7 @@ use Rattle.plane_draw.specs.declared.scene.PlaneScene.{PlaneScene}
 use Rattle.texture_build.specs.CacheFault.{CacheFault}
 use Rattle.texture_build.specs.Caches.{cache_fault}
 use Rattle.texture_build.specs.Paints.{PaintState, Paints}
-use Rattle.plane_draw.specs.Planes.{IsFlatOf, IsSky}
+use Rattle.plane_draw.specs.Planes.{IsFlatOf, IsSkyColumn}
 use Rattle.plane_draw.specs.Scenes.{CanDrawPlanes, HasSky, PaintsPlanes, first_planes, plane_art, plane_tools, with_art}
 use Rattle.texture_build.proofs.PaintLemmas.{paints-asked, paints-none, paints-same, paints-then}
 use Rattle.plane_draw.proofs.CanLemmas.{can_draw_planes-later}
@@ -40,5 +40,5 @@ module _ {S C : Type 0} {shelf : S → ShelfView} {canvas : C → CanvasView} {m
 -- the dots of all planes are those of a picture with the sky's texture
 pub planes-painted : {A : Type 0} {mark : Painter → ℕ → ℕ} (s : PlaneScene) {a b : PaintState} {result : Result A CacheFault} →
     PaintsPlanes mark s (λ contents sky. first_planes s.view.now (plane_art contents s) sky s.planes.now.planes (length s.planes.now.planes)) a b result →
-    Paints cache_fault mark (plane_tools s) (IsSky s.sky) (IsFlatOf s.planes.now.planes) (HasSky s) (λ contents picture. planes_dots s.view.now (with_art contents s picture) s.planes.now.planes) a b result
+    Paints cache_fault mark (plane_tools s) (IsSkyColumn s.view.now s.sky s.planes.now.planes) (IsFlatOf s.planes.now.planes) (HasSky s) (λ contents picture. planes_dots s.view.now (with_art contents s picture) s.planes.now.planes) a b result
 planes-painted s one = paints-same _ (λ contents picture is. planes-end s.view.now (with_art contents s picture) s.planes.now.planes) (paints-asked (HasSky s) (λ picture. picture.sky) (λ picture is. is) one)

@@ -1,5 +1,5 @@
 -- What stays while planes are drawn, what each call asks, and what it paints.
-use Rattle.std.specs.Prelude.{◌≡◌, ◌≤◌, ◌<◌, ◌+◌, ℕ, List, All, IfSome, Option, Result, length}
+use Rattle.std.specs.Prelude.{◌≡◌, ◌≤◌, ◌<◌, ℕ, List, All, IfSome, Option, Result, length}
 use Rattle.plane_draw.specs.Rules.{Art, Dot, Painter, Plane, SKY, Scene, ViewValue, column, joined_lists, listed, lump_bytes, painter_of, plane_dots, run_dots, sky_colour, sky_column}
 use Rattle.texture_build.specs.CacheFault.{CacheFault}
 use Rattle.texture_build.specs.Caches.{cache_fault}
@@ -9,7 +9,7 @@ use Rattle.texture_build.specs.Arts.{view_art}
 use Rattle.texture_build.specs.Draws.{CanDraw}
 use Rattle.texture_build.specs.Paints.{PaintState, PaintTools, Paints, paint_tools}
 use Rattle.plane_draw.specs.declared.scene.PlaneScene.{PlaneScene}
-use Rattle.plane_draw.specs.Planes.{CanDrawPlane, IsSky, IsFlatOf}
+use Rattle.plane_draw.specs.Planes.{CanDrawPlane, IsFlatOf, IsSkyColumn}
 
 -- the art of the scene, where the files have these contents
 abbrev pub plane_art : List (List ℕ) → PlaneScene → Art
@@ -56,9 +56,9 @@ first_columns v art n sky p width =
     joined_lists (λ x. sky_run v art n sky x (column p x)) (listed (λ x. x) width)
 
 -- A call by the dots that it gives the canvas, which are those of the files' contents and of the
--- sky's texture; it paints with that texture and with the flats of planes.
+-- sky's texture; it shows columns of that texture and the flats of planes.
 abbrev pub PaintsPlanes : {A : Type 0} → (Painter → ℕ → ℕ) → PlaneScene →
     (List (List ℕ) → ℕ → List Dot) → PaintState → PaintState → Result A CacheFault → Type 0
-PaintsPlanes mark s dots old new result = Paints cache_fault mark (plane_tools s) (IsSky s.sky)
-    (IsFlatOf s.planes.now.planes) (λ sky. IfSome s.sky (λ tex. sky ≡ tex.0)) dots
+PaintsPlanes mark s dots old new result = Paints cache_fault mark (plane_tools s)
+    (IsSkyColumn s.view.now s.sky s.planes.now.planes) (IsFlatOf s.planes.now.planes) (λ sky. IfSome s.sky (λ tex. sky ≡ tex.0)) dots
     old new result

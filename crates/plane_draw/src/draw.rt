@@ -5,7 +5,7 @@ ghost use Rattle.picture_rules.specs.Words.{plane_dots, planes_dots};
 ghost use Rattle.texture_build.specs.Caches.{cache_fault};
 ghost use Rattle.texture_build.specs.Hands.{AreSameHands, hands_state};
 ghost use Rattle.texture_build.specs.Paints.{Paints};
-ghost use Rattle.plane_draw.specs.Planes.{IsSky, IsFlatOf};
+ghost use Rattle.plane_draw.specs.Planes.{IsFlatOf, IsSkyColumn};
 ghost use Rattle.plane_draw.specs.Scenes.{CanDrawAt, CanDrawPlanes, HasSky, PaintsPlanes, plane_art, plane_tools, with_art};
 ghost use Rattle.visplanes.specs.Planes.{plane_at};
 
@@ -19,7 +19,8 @@ use texture_build::{CacheFault, Hands, LumpNo};
 use visplanes::PlaneNo;
 
 /// Paints all planes, in order of making: a floor or a ceiling by its flat, and the sky by its
-/// texture, column by column. A plane without a marked column asks for nothing. Takes no memory.
+/// texture, column by column. A plane without a marked column asks for nothing, and of the sky's
+/// texture only columns are asked for that are seen. Takes no memory.
 ///
 /// The flats of the planes are lumps of the directory, and if one is sky there is a texture of the
 /// sky, which is prepared; their rows lie in the view. The canvas stands where the view lies in
@@ -36,7 +37,8 @@ pub fn draw_planes<S: Shelf, C: Canvas>(
 ) -> Result<(), CacheFault>
     requires { CanDrawPlanes scene.now (hands_state S.view C.view hands.old) }
     ensures same { AreSameHands hands.old hands.new }
-    ensures paints { Paints cache_fault C.mark (plane_tools scene.now) (IsSky scene.now.sky)
+    ensures paints { Paints cache_fault C.mark (plane_tools scene.now)
+        (IsSkyColumn scene.now.view.now scene.now.sky scene.now.planes.now.planes)
         (IsFlatOf scene.now.planes.now.planes) (HasSky scene.now)
         (λ contents picture. planes_dots scene.now.view.now (with_art contents scene.now picture)
         scene.now.planes.now.planes)

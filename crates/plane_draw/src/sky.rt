@@ -9,6 +9,7 @@ ghost use Rattle.texture_build.specs.Sources.{IsColumnLive, IsColumnThere, colum
 ghost use Rattle.texture_build.specs.Views.{prepared_texture};
 ghost use Rattle.texture_build.specs.Draws.{HoldsArt, FitBeside};
 ghost use Rattle.texture_build.specs.Hands.{AreSameHands, hands_state};
+ghost use Rattle.plane_draw.specs.Planes.{ShowsSkyAt};
 ghost use Rattle.plane_draw.specs.Scenes.{CanDrawAt, CanDrawPlanes, PaintsPlanes, plane_art, sky_run};
 
 use crate::scene::PlaneScene;
@@ -116,6 +117,7 @@ fn draw_sky_column<S: Shelf, C: Canvas>(
     x: u16,
 ) -> Result<(), CacheFault>
     requires ready { CanDrawAt scene.now plane.0 (hands_state S.view C.view hands.old) }
+    requires flat { (plane_at scene.now.planes.now.planes plane.0).key.flat ≡ Sky }
     requires sky { scene.now.sky ≡ Some tex }
     requires column { x < scene.now.view.now.shape.width }
     ensures same { AreSameHands hands.old hands.new }
@@ -148,6 +150,8 @@ fn draw_sky_rows<S: Shelf, C: Canvas>(
     requires column { rows.now.x < scene.now.view.now.shape.width }
     requires rows { rows.now.first ≤ rows.now.last →
         rows.now.last < scene.now.view.now.shape.height }
+    requires shown { rows.now.first ≤ rows.now.last →
+        ShowsSkyAt scene.now.planes.now.planes rows.now.x }
     ensures same { AreSameHands hands.old hands.new }
     ensures paints { PaintsPlanes C.mark scene.now
         (λ contents sky. sky_run scene.now.view.now (plane_art contents scene.now)

@@ -1,5 +1,5 @@
 -- The layers of the rows of a weapon table, one row after the other, and their pictures.
-use Rattle.picture_rules.proofs.Common.{[], ap, append-nil, append_assoc, arith, Bool, cond, Contains, Contains-append_left, Contains-append_right, eq-eqb, false, find, get_or, length, length-take, List, map, ne_eqb, None, Option, option_and_then, option_map, option_to_list, refl, slice_get, Some, subst, suc, sym, take, take-length, take_more, true, zero, ℕ, ℤ, ◌++◌, ◌+◌, ◌<◌, ◌==◌, ◌∙◌, ◌∷◌, ◌≡◌, ◌≢◌}
+use Rattle.picture_rules.proofs.Common.{[], ap, append-nil, append_assoc, arith, Bool, cond, Contains, Contains-append_cases, Contains-append_left, Contains-append_right, eq-eqb, false, find, get_or, inl, inr, length, length-take, List, map, ne_eqb, None, Option, option_and_then, option_map, option_to_list, refl, slice_get, Some, subst, suc, sym, take, take-length, take_more, true, zero, ℕ, ℤ, ◌++◌, ◌+◌, ◌<◌, ◌==◌, ◌∙◌, ◌∷◌, ◌≡◌, ◌≢◌}
 use Rattle.run_verdict.specs.Rules.{Art, Dot, Frame, Shape, ViewValue, WeaponLayer, book_lumps, is_frame, joined_lists, picked, shape_lumps, weapon_dots}
 use Rattle.picture_rules.proofs.Laws.{joined_lists-append, joined_lists-cons}
 use Rattle.csv_tables.specs.declared.weapons.WeaponRow.{WeaponRow}
@@ -129,3 +129,54 @@ layer_from book light n row (Some shape) layer at is =
 pub layer_among : (book : List Frame) (light : ℤ) (n : ℕ) (row : WeaponRow) (layer : WeaponLayer) → Some layer ≡ layer_of book light n row → Contains (book_lumps book) layer.shape.lump
 unfolding layer_of
 layer_among book light n row layer is = layer_from book light n row (picked book row.sprite row.frame 0) layer refl is
+
+-- the layers of row number i of a table are among those of the table
+pub row_layers-among : (book : List Frame) (light : ℤ) (k n i : ℕ) (rows : List WeaponRow) (row : WeaponRow) (layer : WeaponLayer) → i < length rows →
+    Contains (layers_from book light k (n + i) (get_or rows i row ∷ [])) layer → Contains (layers_from book light k n rows) layer
+unfolding layers_from
+row_layers-among book light k n i [] row layer there has = absurd (omega (arith, there))
+row_layers-among book light k n zero (x ∷ xs) row layer there has =
+    let e : n + 0 ≡ n = omega arith in
+    Contains-append_left (row_layers book light k n x) (layers_from book light k (n + 1) xs) layer
+    (subst (λ (ls : List WeaponLayer). Contains ls layer) (append-nil (row_layers book light k n x))
+    (subst (λ (m : ℕ). Contains (row_layers book light k m x ++ []) layer) e has))
+row_layers-among book light k n (suc j) (x ∷ xs) row layer there has =
+    let e : n + suc j ≡ n + 1 + j = omega arith in
+    Contains-append_right (row_layers book light k n x) (layers_from book light k (n + 1) xs) layer
+    (row_layers-among book light k (n + 1) j xs row layer (omega (arith, there))
+    (subst (λ (m : ℕ). Contains (layers_from book light k m (get_or xs j row ∷ [])) layer) e has))
+
+-- that of a row of this view is the row's own
+pub row_layer-own : (book : List Frame) (light lit : ℤ) (k n : ℕ) (row : WeaponRow) (layer : WeaponLayer) → lit ≡ light → row.view ≡ k → Some layer ≡ layer_of book lit n row →
+    Contains (layers_from book light k n (row ∷ [])) layer
+unfolding layers_from
+row_layer-own book light lit k n row layer same own is =
+    subst (λ (ls : List WeaponLayer). Contains (ls ++ []) layer)
+    (ap (λ (o : Option WeaponLayer). cond true (option_to_list o) []) (is ∙ ap (λ (z : ℤ). layer_of book z n row) same)
+    ∙ ap (λ (b : Bool). cond b (option_to_list (layer_of book light n row)) []) (sym (eq-eqb row.view k own)))
+    (among_first layer [])
+
+-- the lump of a layer of a table is one of the book's
+by_row : (book : List Frame) (light : ℤ) (n : ℕ) (row : WeaponRow) (own : Bool) (found : Option WeaponLayer) (layer : WeaponLayer) → found ≡ layer_of book light n row →
+    Contains (cond own (option_to_list found) []) layer → Contains (book_lumps book) layer.shape.lump
+by_row book light n row true None layer is has = absurd (let none : has.0 < 0 = has.1 in omega (arith, none))
+by_row book light n row true (Some one) layer is (zero, within, same) =
+    subst (λ (l : WeaponLayer). Contains (book_lumps book) l.shape.lump) same (layer_among book light n row one is)
+by_row book light n row true (Some one) layer is (suc k, within, same) = absurd (let few : suc k < 1 = within in omega (arith, few))
+by_row book light n row false found layer is has = absurd (let none : has.0 < 0 = has.1 in omega (arith, none))
+
+pub table_layer-among : (book : List Frame) (light : ℤ) (k n : ℕ) (rows : List WeaponRow) (layer : WeaponLayer) → Contains (layers_from book light k n rows) layer → Contains (book_lumps book) layer.shape.lump
+unfolding layers_from
+table_layer-among book light k n [] layer has = absurd (let none : has.0 < 0 = has.1 in omega (arith, none))
+table_layer-among book light k n (x ∷ xs) layer has =
+    elim (Contains-append_cases (row_layers book light k n x) (layers_from book light k (n + 1) xs) layer has) [
+      | inl own ↦ by_row book light n x (x.view == k) (layer_of book light n x) layer refl own
+      | inr later ↦ table_layer-among book light k (n + 1) xs layer later
+    ]
+
+-- those of row number i, whose layers have number i + 1
+pub row_layers-first : (book : List Frame) (light : ℤ) (k i : ℕ) (rows : List WeaponRow) (row : WeaponRow) (layer : WeaponLayer) → i < length rows →
+    Contains (layers_from book light k (i + 1) (get_or rows i row ∷ [])) layer → Contains (layers_from book light k 1 rows) layer
+row_layers-first book light k i rows row layer there has =
+    let e : i + 1 ≡ 1 + i = omega arith in
+    row_layers-among book light k 1 i rows row layer there (subst (λ (m : ℕ). Contains (layers_from book light k m (get_or rows i row ∷ [])) layer) e has)

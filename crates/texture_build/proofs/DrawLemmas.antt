@@ -1,5 +1,5 @@
 -- Laws of calls that draw: none, one after another, one that ends the whole, and a layer above.
-use Rattle.art_rules.proofs.Common.{ap, Err, err_from_is_err_and, inl, inr, IsErrAnd, IsTrue, List, MatchResult, Ok, OnOk, refl, Result, subst, sym, ℕ, ◌∙◌, ◌≡◌, ◌⊎◌}
+use Rattle.art_rules.proofs.Common.{ap, Err, err_from_is_err_and, inl, inr, IsErrAnd, IsTrue, List, MatchResult, Ok, OnOk, refl, Result, subst, sym, ℕ, ℤ, ◌∙◌, ◌≡◌, ◌⊎◌}
 use Rattle.art_rules.specs.Words.{Fault, fault_above, HasCauseAt, OutOfMemory, ReadFault, Refused, ShelfView, ZoneFull}
 use Rattle.art_rules.proofs.Laws.{all_stand_later, follows_none, follows_then}
 use Rattle.lump_cache.specs.Zones.{Heap, block_size}
@@ -63,15 +63,15 @@ holds_art-later {contents = contents} {colormap} {count} keeps hold = record {
 
 -- a zone that was full for a column later was so from the beginning
 full_column-earlier : {a b : ShelfView} {dir : DirectoryView} {textures : TexturesView} {x y : Heap}
-    {among some : ℕ → Type 0} → KeepsArt a b dir textures x y →
-    ((number : ℕ) → some number → among number) → (wanted widest : ℕ) →
+    {among some : ℕ → ℤ → Type 0} → KeepsArt a b dir textures x y →
+    ((number : ℕ) (column : ℤ) → some number column → among number column) → (wanted widest : ℕ) →
     IsFullForTexture some dir.lumps textures y wanted widest →
     IsFullForTexture among dir.lumps textures x wanted widest
 full_column-earlier {dir = dir} {textures} {x} {y} keeps wider wanted widest k =
     let full = k.full in record {
       number = k.number;
       column = k.column;
-      is = wider k.number k.is;
+      is = wider k.number k.column k.is;
       full = record {
         owner = full.owner;
         size = full.size;
@@ -102,8 +102,8 @@ full_lump-earlier keeps wider wanted widest full = record {
 }
 
 full-earlier : {a b : ShelfView} {dir : DirectoryView} {textures : TexturesView} {x y : Heap}
-    {among pictures some lumps : ℕ → Type 0} → KeepsArt a b dir textures x y →
-    ((number : ℕ) → some number → among number) → ((lump : ℕ) → lumps lump → pictures lump) →
+    {among some : ℕ → ℤ → Type 0} {pictures lumps : ℕ → Type 0} → KeepsArt a b dir textures x y →
+    ((number : ℕ) (column : ℤ) → some number column → among number column) → ((lump : ℕ) → lumps lump → pictures lump) →
     (wanted widest : ℕ) →
     (IsFullForTexture some dir.lumps textures y wanted widest ⊎ IsFullFor lumps dir y wanted widest) →
     (IsFullForTexture among dir.lumps textures x wanted widest
@@ -117,7 +117,7 @@ order-then : {R : Type 0} {items : List Item} {x y : Heap} {n m : ℕ} (z : Heap
     InOrderAt fault (KeepsOrder items y z m k) → InOrderAt fault (KeepsOrder items x z n k)
 order-then z k fault one two = order_at fault (λ kept. order_then one kept) two
 
-module _ {A E R : Type 0} {fault_of : E → Fault R} {among pictures : ℕ → Type 0} where
+module _ {A E R : Type 0} {fault_of : E → Fault R} {among : ℕ → ℤ → Type 0} {pictures : ℕ → Type 0} where
   -- an answer of a call that touched nothing
   pub draws-none : (view : ShelfView) (dir : DirectoryView) (textures : TexturesView) (z : Heap)
       (answer : A) →
@@ -193,16 +193,16 @@ module _ {A E R : Type 0} {fault_of : E → Fault R} {among pictures : ℕ → T
         (all_stand_later v w dir.files contents one.keeps.follows stand) within
         (subst IsTrue (sym one.keeps.follows.steady) steady);
     full = full_at (fault_of fault)
-        (full-earlier one.keeps (λ number k. k) (λ lump k. k)) two.full;
+        (full-earlier one.keeps (λ number column k. k) (λ lump k. k)) two.full;
     order = λ items asked all k.
         let k1 = one.order items asked all k in
         order-then z u.taken (fault_of fault) k1 (two.order items asked all k1.order);
   }
 
--- with more textures and more lumps
-pub draws-wider : {A E R : Type 0} {fault_of : E → Fault R} {some among lumps pictures : ℕ → Type 0}
+-- with more columns and more lumps
+pub draws-wider : {A E R : Type 0} {fault_of : E → Fault R} {some among : ℕ → ℤ → Type 0} {lumps pictures : ℕ → Type 0}
     {v w : ShelfView} {dir : DirectoryView} {textures : TexturesView} {x y : Heap}
-    {result : Result A E} → ((number : ℕ) → some number → among number) →
+    {result : Result A E} → ((number : ℕ) (column : ℤ) → some number column → among number column) →
     ((lump : ℕ) → lumps lump → pictures lump) →
     DrawsWith fault_of some lumps v w dir textures x y result →
     DrawsWith fault_of among pictures v w dir textures x y result
@@ -212,7 +212,7 @@ draws-wider {result = Ok answer} wider more one = record {
   steady = λ contents stand within steady. tt;
   full = tt;
   order = λ items asked all k. one.order items
-      (λ number column is. asked number column (wider number is))
+      (λ number column is. asked number column (wider number column is))
       (λ lump is. all lump (more lump is)) k;
 }
 draws-wider {fault_of = fault_of} {v = v} {dir = dir} {textures} {x} {result = Err fault} wider more one =
@@ -222,7 +222,7 @@ draws-wider {fault_of = fault_of} {v = v} {dir = dir} {textures} {x} {result = E
       steady = λ contents stand within steady. one.steady contents stand within steady;
       full = full_at (fault_of fault) (full-earlier (keeps_art-none v dir textures x) wider more) one.full;
       order = λ items asked all k. one.order items
-          (λ number column is. asked number column (wider number is))
+          (λ number column is. asked number column (wider number column is))
           (λ lump is. all lump (more lump is)) k;
     }
 
@@ -256,7 +256,7 @@ order_up P f OutOfMemory k = k
 
 -- a call of the layer below, whose faults this one tells as its own
 pub draws-above : {A E R Q G : Type 0} {fault_of : E → Fault R} {high : G → Fault Q}
-    {among pictures : ℕ → Type 0} {v w : ShelfView} {dir : DirectoryView}
+    {among : ℕ → ℤ → Type 0} {pictures : ℕ → Type 0} {v w : ShelfView} {dir : DirectoryView}
     {textures : TexturesView} {x y : Heap} (f : R → Q) (above : E → G) →
     ((e : E) → high (above e) ≡ fault_above f (fault_of e)) → (result : Result A E) →
     DrawsWith fault_of among pictures v w dir textures x y result →
@@ -292,7 +292,7 @@ mapped-is above (Err e) result is = let s = err_from_is_err_and result is in s.1
 
 -- the same call, its faults told by `map_err`
 pub draws-mapped : {A E R Q G : Type 0} {fault_of : E → Fault R} {high : G → Fault Q}
-    {among pictures : ℕ → Type 0} {v w : ShelfView} {dir : DirectoryView}
+    {among : ℕ → ℤ → Type 0} {pictures : ℕ → Type 0} {v w : ShelfView} {dir : DirectoryView}
     {textures : TexturesView} {x y : Heap} (f : R → Q) (above : E → G) →
     ((e : E) → high (above e) ≡ fault_above f (fault_of e)) → (lower : Result A E)
     (result : Result A G) → IsMapped above lower result →

@@ -38,12 +38,12 @@ full-texture : (lumps : List Lump) (textures : TexturesView) (z : Heap) (number 
     (IsFullForColumn lumps number (prepared_texture textures number)
     (column_in (prepared_texture textures number) column) z)) →
     IfErr result (λ fault. IfFull (cache_fault fault) (λ wanted widest.
-    IsFullForTexture (λ n. n ≡ number) lumps textures z wanted widest ⊎ Q wanted widest))
+    IsFullForTexture (λ n x. (n ≡ number) × (x ≡ column)) lumps textures z wanted widest ⊎ Q wanted widest))
 full-texture lumps textures z number column (Ok done) Q k = tt
 full-texture lumps textures z number column (Err fault) Q k = full_at (cache_fault fault)
-    (λ wanted widest full. inl (record { number = number; column = column; is = refl; full = full })) k
+    (λ wanted widest full. inl (record { number = number; column = column; is = (refl, refl); full = full })) k
 
-full-lump : (lumps : List Lump) (textures : TexturesView) (among : ℕ → Type 0)
+full-lump : (lumps : List Lump) (textures : TexturesView) (among : ℕ → ℤ → Type 0)
     (dir : DirectoryView) (z : Heap) (lump : ℕ) (result : Result (Unit {0}) CacheFault) →
     IfErr result (λ fault. IfFull (cache_fault fault) (IsFullFor (λ number. number ≡ lump) dir z)) →
     IfErr result (λ fault. IfFull (cache_fault fault) (λ wanted widest.
@@ -60,7 +60,7 @@ module _ {view after : ShelfView} {dir : DirectoryView} {textures : TexturesView
       lookup ≡ column_in (prepared_texture textures number) column →
       KeepsArt view after dir textures old new →
       MakesColumnLive number (prepared_texture textures number) lookup view after dir old new result →
-      DrawsWith cache_fault (λ n. n ≡ number) pictures view after dir textures old new result
+      DrawsWith cache_fault (λ n x. (n ≡ number) × (x ≡ column)) pictures view after dir textures old new result
   draws-ready {pictures} number column lookup is keeps r = record {
     keeps = keeps;
     causes = r.causes;
@@ -72,11 +72,11 @@ module _ {view after : ShelfView} {dir : DirectoryView} {textures : TexturesView
     order = λ items asked all k. r.order items
         (subst (λ (l : ColumnLookup).
         HasColumnAsked items dir.lumps number (prepared_texture textures number) l) (sym is)
-        (asked number column refl)) k;
+        (asked number column (refl, refl))) k;
   }
 
   -- a lump was made live, and nothing pinned
-  pub draws-fetch : {among : ℕ → Type 0} (lump : ℕ) → lump < length dir.lumps →
+  pub draws-fetch : {among : ℕ → ℤ → Type 0} (lump : ℕ) → lump < length dir.lumps →
       FetchesLump dir lump Cache view after old new result →
       DrawsWith cache_fault among (λ number. number ≡ lump) view after dir textures old new result
   draws-fetch {among} lump there fetched =

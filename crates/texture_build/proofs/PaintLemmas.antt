@@ -1,5 +1,5 @@
 -- Laws of a call that paints: nothing, one after the other, an error, the same dots by other words, what was made live first.
-use Rattle.std.proofs.Common.{◌≡◌, ◌≤◌, ◌<◌, ◌+◌, ℕ, Bool, true, false, List, ◌++◌, [], length, Result, Ok, Err, IsErrAnd, OnOk, sym, subst}
+use Rattle.std.proofs.Common.{◌≡◌, ◌≤◌, ◌<◌, ◌+◌, ℕ, ℤ, Bool, true, false, List, ◌++◌, [], length, Result, Ok, Err, IsErrAnd, OnOk, sym, subst}
 use Rattle.art_rules.specs.Words.{Dot, Fault, fault_above, Painter, ShelfView}
 use Rattle.lump_cache.specs.Zones.{Heap}
 use Rattle.lump_cache.proofs.FillLemmas.{on_ok}
@@ -28,7 +28,7 @@ pub holds-later : (t : PaintTools) (contents : List (List ℕ)) (count : ℕ) {a
     KeepsArt a b t.dir t.textures x y → Holds t contents count a x → Holds t contents count b y
 holds-later t contents count {a} {b} {x} {y} keeps hold = holds_if-later t.textured t contents count a b x y keeps hold
 
-module _ {R E Q : Type 0} {fault_of : E → Fault R} {mark : Painter → ℕ → ℕ} {t : PaintTools} {among pictures : ℕ → Type 0} {asked : Q → Type 0} where
+module _ {R E Q : Type 0} {fault_of : E → Fault R} {mark : Painter → ℕ → ℕ} {t : PaintTools} {among : ℕ → ℤ → Type 0} {pictures : ℕ → Type 0} {asked : Q → Type 0} where
   -- a call that touched nothing
   pub paints-none : {A : Type 0} (st : PaintState) (answer : A) →
       Paints fault_of mark t among pictures asked (λ contents q. []) st st (Ok answer)
@@ -123,14 +123,14 @@ module _ {R E Q : Type 0} {fault_of : E → Fault R} {mark : Painter → ℕ →
     place = placed-none a;
   }
 
--- with more textures and more lumps
-pub paints-wider : {A R E Q : Type 0} {fault_of : E → Fault R} {mark : Painter → ℕ → ℕ} {t : PaintTools} {some among lumps pictures : ℕ → Type 0} {asked : Q → Type 0} {f : List (List ℕ) → Q → List Dot} {a b : PaintState} {result : Result A E} →
-    ((number : ℕ) → some number → among number) → ((lump : ℕ) → lumps lump → pictures lump) →
+-- with more columns and more lumps
+pub paints-wider : {A R E Q : Type 0} {fault_of : E → Fault R} {mark : Painter → ℕ → ℕ} {t : PaintTools} {some among : ℕ → ℤ → Type 0} {lumps pictures : ℕ → Type 0} {asked : Q → Type 0} {f : List (List ℕ) → Q → List Dot} {a b : PaintState} {result : Result A E} →
+    ((number : ℕ) (column : ℤ) → some number column → among number column) → ((lump : ℕ) → lumps lump → pictures lump) →
     Paints fault_of mark t some lumps asked f a b result → Paints fault_of mark t among pictures asked f a b result
 paints-wider wider more one = record { painted = one.painted; fits = one.fits; draws = draws-wider wider more one.draws; place = one.place }
 
 -- asked of another: by what the first is of the second
-pub paints-asked : {A R E P Q : Type 0} {fault_of : E → Fault R} {mark : Painter → ℕ → ℕ} {t : PaintTools} {among pictures : ℕ → Type 0} {first : P → Type 0} {f : List (List ℕ) → P → List Dot} {a b : PaintState} {result : Result A E}
+pub paints-asked : {A R E P Q : Type 0} {fault_of : E → Fault R} {mark : Painter → ℕ → ℕ} {t : PaintTools} {among : ℕ → ℤ → Type 0} {pictures : ℕ → Type 0} {first : P → Type 0} {f : List (List ℕ) → P → List Dot} {a b : PaintState} {result : Result A E}
     (asked : Q → Type 0) (of : Q → P) → ((q : Q) → asked q → first (of q)) →
     Paints fault_of mark t among pictures first f a b result →
     Paints fault_of mark t among pictures asked (λ contents q. f contents (of q)) a b result
@@ -142,7 +142,7 @@ paints-asked asked of is one = record {
 }
 
 -- the same call, its faults told by `map_err`
-pub paints-mapped : {A R S E G Q : Type 0} {fault_of : E → Fault R} {high : G → Fault S} {mark : Painter → ℕ → ℕ} {t : PaintTools} {among pictures : ℕ → Type 0} {asked : Q → Type 0} {dots : List (List ℕ) → Q → List Dot} {a b : PaintState}
+pub paints-mapped : {A R S E G Q : Type 0} {fault_of : E → Fault R} {high : G → Fault S} {mark : Painter → ℕ → ℕ} {t : PaintTools} {among : ℕ → ℤ → Type 0} {pictures : ℕ → Type 0} {asked : Q → Type 0} {dots : List (List ℕ) → Q → List Dot} {a b : PaintState}
     (f : R → S) (above : E → G) → ((e : E) → high (above e) ≡ fault_above f (fault_of e)) → (lower : Result A E) (result : Result A G) → IsMapped above lower result →
     Paints fault_of mark t among pictures asked dots a b lower → Paints high mark t among pictures asked dots a b result
 paints-mapped {mark = mark} {t} {dots = dots} {a} {b} f above same lower result is one = record {
@@ -153,7 +153,7 @@ paints-mapped {mark = mark} {t} {dots = dots} {a} {b} f above same lower result 
 }
 
 -- what a call asks of the room it may ask again
-module _ {A R E Q : Type 0} {fault_of : E → Fault R} {mark : Painter → ℕ → ℕ} {t : PaintTools} {among pictures : ℕ → Type 0} {asked : Q → Type 0} {f : List (List ℕ) → Q → List Dot} {a b : PaintState} {result : Result A E} where
+module _ {A R E Q : Type 0} {fault_of : E → Fault R} {mark : Painter → ℕ → ℕ} {t : PaintTools} {among : ℕ → ℤ → Type 0} {pictures : ℕ → Type 0} {asked : Q → Type 0} {f : List (List ℕ) → Q → List Dot} {a b : PaintState} {result : Result A E} where
   pub slots-later : {n : ℕ} → Paints fault_of mark t among pictures asked f a b result → n ≤ a.cache.lumps → n ≤ b.cache.lumps
   slots-later one can = rw one.draws.keeps.counts.1 can
 

@@ -68,24 +68,24 @@ pub record CanDraw (lumps : List Lump) (textures : TexturesView) (z : Heap) (num
     pub slot : number < z.composites
     pub there : ArePatchesThere lumps (prepared_texture textures number)
 
--- no gap held what a column of one of these textures asks for
-pub record IsFullForTexture (among : ℕ → Type 0) (lumps : List Lump) (textures : TexturesView)
+-- no gap held what one of these columns of textures asks for
+pub record IsFullForTexture (among : ℕ → ℤ → Type 0) (lumps : List Lump) (textures : TexturesView)
     (z : Heap) (wanted widest : ℕ) : Type 0 where
   pub number : ℕ
   pub column : ℤ
-  pub is : among number
+  pub is : among number column
   pub full : IsFullForColumn lumps number (prepared_texture textures number)
       (column_in (prepared_texture textures number) column) z wanted widest
 
--- a list has all that the columns of these textures ask for
-abbrev pub HasTexturesAsked : List Item → (ℕ → Type 0) → List Lump → TexturesView → Type 0
-HasTexturesAsked items among lumps textures = (number : ℕ) (column : ℤ) → among number →
+-- a list has all that these columns of textures ask for
+abbrev pub HasTexturesAsked : List Item → (ℕ → ℤ → Type 0) → List Lump → TexturesView → Type 0
+HasTexturesAsked items among lumps textures = (number : ℕ) (column : ℤ) → among number column →
     HasColumnAsked items lumps number (prepared_texture textures number)
     (column_in (prepared_texture textures number) column)
 
--- A call that draws with columns of some textures and with some lumps: what it keeps, when a read
--- fails, when the zone is full, and that a cache in order stays so.
-pub record DrawsWith {A R E : Type 0} (fault_of : E → Fault R) (among : ℕ → Type 0)
+-- A call that draws with some columns of textures and with some lumps, those that it shows: what it
+-- keeps, when a read fails, when the zone is full, and that a cache in order stays so.
+pub record DrawsWith {A R E : Type 0} (fault_of : E → Fault R) (among : ℕ → ℤ → Type 0)
     (pictures : ℕ → Type 0) (view after : ShelfView) (dir : DirectoryView)
     (textures : TexturesView) (old new : Heap) (result : Result A E) : Type 0 where
   pub keeps : KeepsArt view after dir textures old new

@@ -1,5 +1,5 @@
 -- A call that paints, by the dots that it gives the canvas.
-use Rattle.std.specs.Prelude.{ℕ, Bool, true, false, List, OnOk, Result}
+use Rattle.std.specs.Prelude.{ℕ, ℤ, Bool, true, false, List, OnOk, Result}
 use Rattle.art_rules.specs.Words.{Art, Dot, Fault, lump_bytes, Painter, ShelfView}
 use Rattle.lump_cache.specs.Zones.{Heap}
 use Rattle.lump_cache.specs.DirectoryView.{DirectoryView}
@@ -54,9 +54,10 @@ abbrev pub FitIn : PaintTools → ℕ → ℕ → List Dot → Type 0
 FitIn t count zone dots = FitBeside t.dir.lumps t.textures t.colormap count zone dots
 
 -- A call by the dots that it gives the canvas, which are those of the files' contents and of what is asked (a sky, a
--- fragment's facts), and by the textures and the lumps that it paints with. What it paints is told by an Ok alone.
+-- fragment's facts), and by what it shows: the columns of textures, each by its texture's number, and the lumps. It asks
+-- the cache for no other. What it paints is said by an Ok alone.
 pub record Paints {A R E Q : Type 0} (fault_of : E → Fault R) (mark : Painter → ℕ → ℕ) (t : PaintTools)
-    (among pictures : ℕ → Type 0) (asked : Q → Type 0) (dots : List (List ℕ) → Q → List Dot) (old new : PaintState)
+    (among : ℕ → ℤ → Type 0) (pictures : ℕ → Type 0) (asked : Q → Type 0) (dots : List (List ℕ) → Q → List Dot) (old new : PaintState)
     (result : Result A E) : Type 0 where
   pub painted : (contents : List (List ℕ)) (count : ℕ) (q : Q) → Holds t contents count old.shelf old.cache →
       asked q → OnOk result (HasDots mark (dots contents q) old.canvas new.canvas)

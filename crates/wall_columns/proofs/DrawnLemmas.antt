@@ -1,5 +1,5 @@
 -- Laws of the columns of a fragment as they are painted one by one.
-use Rattle.picture_rules.proofs.Common.{[], All, AllByRecursion, ap, append-nil, arith, false, inl, inr, ints, length, List, map, map-range_with_len_more, or_parts, pos, range_with_len, recursion_from_All, refl, Result, subst, suc, sym, zero, ℕ, ℤ, ◌++◌, ◌+◌, ◌-◌, ◌<ℤ◌, ◌<◌, ◌||◌, ◌∙◌, ◌∷◌, ◌≡◌, ◌≢◌, ◌≤ℤ◌, ◌≤◌}
+use Rattle.picture_rules.proofs.Common.{[], All, ap, append-nil, arith, false, ints, length, List, map, map-range_with_len_more, or_parts, pos, range_with_len, refl, Result, subst, suc, sym, zero, ℕ, ℤ, ◌++◌, ◌+◌, ◌-◌, ◌<ℤ◌, ◌<◌, ◌||◌, ◌∙◌, ◌∷◌, ◌≡◌, ◌≢◌, ◌≤ℤ◌, ◌≤◌, Contains}
 use Rattle.wall_columns.specs.Rules.{Art, ColumnClip, Dot, Edges, FRAME_HEIGHT, Fault, FragmentNote, FragmentNumbers, Painter, Plane, PlanesNow, ViewValue, Wall, WallFacts, WallStrip, clip_before, edges_at, fragment_numbers, has_texture, joined_lists, listed_from, strip_dots, strip_of, texture_column, wall_column, wall_column_by, wall_dots, wall_edges, wall_of, wall_strips}
 use Rattle.picture_rules.proofs.Laws.{joined_lists-append}
 use Rattle.wall_edges.specs.Fragments.{FragmentValue, fragment_of}
@@ -9,23 +9,23 @@ use Rattle.texture_build.specs.Paints.{PaintState, PaintTools, Paints, painted_a
 use Rattle.texture_build.proofs.PaintLemmas.{can_draw-later, paints-asked, paints-same, paints-wider, slots-later}
 use Rattle.wall_columns.specs.declared.clips.ColumnPlan.{ColumnPlan}
 use Rattle.wall_columns.specs.declared.fault.DrawFault.{DrawFault}
-use Rattle.wall_columns.specs.Draws.{IsNoPicture, IsWallTexture}
+use Rattle.wall_columns.specs.Draws.{IsNoPicture, IsWallTexture, IsSeenOf}
 use Rattle.wall_columns.specs.Faults.{draw_fault}
 use Rattle.wall_columns.specs.Plans.{has_part, IsPartTexture, IsPlanTexture, plan_of, strips_by, HasRows, IsInRows, AreEdgeWords}
 use Rattle.wall_columns.specs.declared.column_state.ColumnState.{ColumnState}
 use Rattle.wall_columns.specs.Built.{AreBehind, IsBuilt, with_wall}
 use Rattle.wall_columns.specs.States.{walls_view}
-use Rattle.wall_columns.specs.Walls.{WallsView}
+use Rattle.wall_columns.specs.Walls.{WallsView, clip_at}
 use Rattle.wall_columns.specs.Windows.{IsClipIn, WindowsView, window_at}
 use Rattle.wall_columns.proofs.BuiltLemmas.{built-count, built-window}
 use Rattle.wall_columns.specs.Columns.{column_edges, columns_of}
-use Rattle.wall_columns.specs.Drawn.{IsDrawnTexture, WallRange, column_painted, dots_along, CanPaint, PaintsColumn, PaintsColumns, PaintsPlan}
-use Rattle.wall_columns.proofs.PlanLemmas.{plan_strips-in, plan_strips-there, plan_strips-dots}
+use Rattle.wall_columns.specs.Drawn.{WallRange, column_painted, dots_along, CanPaint, PaintsColumn, PaintsColumns, PaintsPlan, IsShown, ShowsAt}
+use Rattle.wall_columns.proofs.PlanLemmas.{plan_strips-in, plan_strips-there, plan_strips-dots, plan-shown, wall_strips-there}
 use Rattle.wall_columns.proofs.SightLemmas.{numbers-scale, numbers-light, numbers-texture}
 use Rattle.wall_columns.proofs.ToolLemmas.{stands-later}
 
 -- what may be painted may be painted later
-pub can_paint-later : {R E Q : Type 0} {fault_of : E → Fault R} {mark : Painter → ℕ → ℕ} {t : PaintTools} {among pictures : ℕ → Type 0} {asked : Q → Type 0} {dots : List (List ℕ) → Q → List Dot}
+pub can_paint-later : {R E Q : Type 0} {fault_of : E → Fault R} {mark : Painter → ℕ → ℕ} {t : PaintTools} {among : ℕ → ℤ → Type 0} {pictures : ℕ → Type 0} {asked : Q → Type 0} {dots : List (List ℕ) → Q → List Dot}
     {a b : PaintState} {result : Result (Unit {0}) E} (v : ViewValue) (f : FragmentValue) →
     Paints fault_of mark t among pictures asked dots a b result → CanPaint v t a f → CanPaint v t b f
 can_paint-later v f one can = record {
@@ -84,24 +84,26 @@ by_numbers v art k x f facts before height n clip e plan p q r s =
     ∙ ap (λ (c : ColumnClip). joined_lists (strip_dots v art k x f.numbers.light (texture_column v facts x) e.scale) (wall_strips f.numbers c e)) r
     ∙ ap (λ (e : Edges). joined_lists (strip_dots v art k x f.numbers.light (texture_column v facts x) e.scale) (wall_strips f.numbers (before x) e)) s
 
--- the texture of a strip with rows is of a part that is there
-plan_numbers : (height : ℕ) (n : FragmentNumbers) (clip : ColumnClip) (e : Edges) (plan : ColumnPlan) → plan ≡ plan_of height n clip e → (number : ℕ) → IsPlanTexture n plan number → IsDrawnTexture n number
-plan_numbers height n clip e plan p number h =
-    let P : ColumnPlan → Type 0 = λ plan. AllByRecursion (λ (s : WallStrip). HasRows s → IsDrawnTexture n s.part.number) (strips_by n plan) in
-    let all : P plan = subst P (sym p) (recursion_from_All (λ (s : WallStrip). HasRows s → IsDrawnTexture n s.part.number) (strips_by n (plan_of height n clip e))
-    (plan_strips-there (IsDrawnTexture n) height n clip e (λ number some part. (some, part)))) in
-    let N : ℕ → Type 0 = IsDrawnTexture n in
-    elim h [
-      | inl s ↦ subst N (sym s.1) (all.0 s.0)
-      | inr t ↦ elim t [ inl s ↦ subst N (sym s.1) (all.1.0 s.0) | inr s ↦ subst N (sym s.1) (all.1.1.0 s.0) ]
-    ]
+-- a strip of the plan that has rows is one of the fragment's
+shown_at : (f : FragmentValue) (before : ℕ → ColumnClip) (x height : ℕ) (n : FragmentNumbers) (clip : ColumnClip) (e : Edges) (plan : ColumnPlan) → plan ≡ plan_of height n clip e → n ≡ f.numbers → clip ≡ before x → e ≡ column_edges f x →
+    (number : ℕ) → IsPlanTexture n plan number → ShowsAt f before x number
+shown_at f before x height n clip e plan pl nu cl ed number h =
+    let own : IsPlanTexture n (plan_of height n clip e) number = subst (λ (plan : ColumnPlan). IsPlanTexture n plan number) pl h in
+    let found = plan-shown height n clip e number own in
+    record {
+      strip = found.0;
+      among = subst (λ (n : FragmentNumbers). Contains (wall_strips n (before x) (column_edges f x)) found.0) nu
+          (subst (λ (c : ColumnClip). Contains (wall_strips n c (column_edges f x)) found.0) cl
+          (subst (λ (e : Edges). Contains (wall_strips n clip e) found.0) ed found.1.0));
+      texture = found.1.1;
+    }
 
 -- so what paints the strips of a column's plan paints the column
 pub paints-column : (v : ViewValue) (t : PaintTools) (mark : Painter → ℕ → ℕ) (k : ℕ) (f : FragmentValue) (before : ℕ → ColumnClip) (x : ℕ)
-    (height : ℕ) (n : FragmentNumbers) (clip : ColumnClip) (e : Edges) (plan : ColumnPlan) → plan ≡ plan_of height n clip e → n ≡ f.numbers → clip ≡ before x → e ≡ column_edges f x →
+    (height : ℕ) (n : FragmentNumbers) (clip : ColumnClip) (e : Edges) (plan : ColumnPlan) → f.first ≤ x → x ≤ f.last → plan ≡ plan_of height n clip e → n ≡ f.numbers → clip ≡ before x → e ≡ column_edges f x →
     {a b : PaintState} {result : Result (Unit {0}) DrawFault} → PaintsPlan v t mark k f n x e plan a b result → PaintsColumn v t mark k f before x a b result
-paints-column v t mark k f before x height n clip e plan pl nu cl ed one =
-    paints-wider (λ number h. subst (λ (n : FragmentNumbers). IsDrawnTexture n number) nu (plan_numbers height n clip e plan pl number h)) (λ (lump : ℕ) h. h)
+paints-column v t mark k f before x height n clip e plan from to pl nu cl ed one =
+    paints-wider (λ number own h. record { x = x; from = from; to = to; shows = shown_at f before x height n clip e plan pl nu cl ed number h.0; is = h.1 }) (λ (lump : ℕ) h. h)
     (paints-same (λ contents (q : WallRange). column_painted v (painted_art contents t) k f q.facts before x)
     (λ contents q is. by_numbers v (painted_art contents t) k x f q.facts before height n clip e plan pl nu cl ed) one)
 
@@ -207,20 +209,42 @@ can_paint-of v facts first last t old f is within placed slots shades textures =
       light = numbers-light v facts first last;
     })
 
--- a texture that is drawn is one of the seg's
-drawn_textures : (v : ViewValue) (facts : WallFacts) (first last : ℕ) (f : FragmentValue) → f ≡ fragment_of v facts first last → (number : ℕ) → IsDrawnTexture f.numbers number → IsWallTexture facts number
-drawn_textures v facts first last f is number h =
-    let P : FragmentValue → Type 0 = λ f. IsDrawnTexture f.numbers number in
-    let own : IsDrawnTexture (fragment_numbers v facts first last) number = subst P is h in
-    (own.0, numbers-texture v facts first last number own.0 own.1)
+-- what is shown of the fragment of a seg is seen of it
+shown_seen : (v : ViewValue) (facts : WallFacts) (first last : ℕ) (f : FragmentValue) (notes : List FragmentNote) (columns : ColumnState) (windows : WindowsView) {state : WallsView} → walls_view notes columns ≡ state → windows ≡ columns.windows →
+    f ≡ fragment_of v facts first last → (number : ℕ) (own : ℤ) → IsShown v f (window_at windows) number own → IsSeenOf v state facts first last number own
+unfolding clip_at window_at wall_of wall_edges column_edges
+shown_seen v facts first last f notes columns windows {state} view same is number own h =
+    let P : FragmentValue → Type 0 = λ f. IsShown v f (window_at windows) number own in
+    let s : P (fragment_of v facts first last) = subst P is h in
+    let S : WallsView → Type 0 = λ w. IsSeenOf v w facts first last number own in
+    let W : WindowsView → Type 0 = λ w. Contains (wall_strips (fragment_numbers v facts first last) (window_at w s.x) (edges_at v.shape (fragment_numbers v facts first last) (s.x - first))) s.shows.strip in
+    let range : WallRange = record { facts = facts; first = first; last = last } in
+    subst S view (record {
+      x = s.x;
+      from = s.from;
+      to = s.to;
+      strip = s.shows.strip;
+      among = subst W same s.shows.among;
+      texture = s.shows.texture;
+      is = s.is range refl;
+    })
+
+-- and its texture is one of the seg's
+pub seen-texture : (v : ViewValue) (state : WallsView) (facts : WallFacts) (first last number : ℕ) (own : ℤ) → IsSeenOf v state facts first last number own → IsWallTexture facts number
+unfolding wall_of
+seen-texture v state facts first last number own h =
+    let n = fragment_numbers v facts first last in
+    let there = wall_strips-there n (clip_at state h.x) (wall_edges v.shape (wall_of v facts first last) h.x) h.strip h.among in
+    let some = subst (λ (m : ℕ). m ≢ 0) (sym h.texture.1) there.0 in
+    (some, numbers-texture v facts first last number some (subst (IsPartTexture n) (sym h.texture.1) there.1))
 
 -- what paints the columns of the fragment of a seg paints it behind those that are there
 pub paints-range : (v : ViewValue) (t : PaintTools) (mark : Painter → ℕ → ℕ) (facts : WallFacts) (first last number : ℕ) (f : FragmentValue) (notes : List FragmentNote) (columns : ColumnState) (windows : WindowsView)
     {state : WallsView} (planes : List Plane) → walls_view notes columns ≡ state → windows ≡ columns.windows → f ≡ fragment_of v facts first last → number ≡ length notes → last < v.shape.width →
     {a b : PaintState} {result : Result (Unit {0}) DrawFault} → PaintsColumns v t mark number f (window_at windows) (columns_of f) a b result →
-    Paints draw_fault mark t (IsWallTexture facts) IsNoPicture (AreBehind v state planes)
+    Paints draw_fault mark t (IsSeenOf v state facts first last) IsNoPicture (AreBehind v state planes)
     (λ contents behind. wall_dots v (painted_art contents t) (with_wall behind.0 (wall_of v facts first last)) (length behind.0) (wall_of v facts first last)) a b result
 paints-range v t mark facts first last number f notes columns windows {state} planes view same is count within one =
     let range : WallRange = record { facts = facts; first = first; last = last } in
     paints-same _ (λ contents (behind : List Wall × PlanesNow) are. along_built v (painted_art contents t) behind.0 behind.1 state notes columns windows planes facts first last number f view are.0 same is count within)
-    (paints-wider (drawn_textures v facts first last f is) (λ (lump : ℕ) h. h) (paints-asked (AreBehind v state planes) (λ behind. range) (λ behind are. is) one))
+    (paints-wider (shown_seen v facts first last f notes columns windows view same is) (λ (lump : ℕ) h. h) (paints-asked (AreBehind v state planes) (λ behind. range) (λ behind are. is) one))

@@ -148,7 +148,7 @@ fits-live shape t count zone bytes look part rows lookup is fits =
 
 -- so a call that made a part's column live and painted its strip paints that strip
 pub paints-strip : {shape : ViewShape} {t : PaintTools} {mark : Painter → ℕ → ℕ}
-    {look : ColumnLook} {part : Part} {rows : RowRange} {among : ℕ → Type 0}
+    {look : ColumnLook} {part : Part} {rows : RowRange} {among : ℕ → ℤ → Type 0}
     {u v w : ShelfView} {x y z : Heap} {a b c : CanvasView} (lookup : ColumnLookup) →
     lookup ≡ column_in (prepared_texture t.textures part.number) look.column →
     DrawsWith {A = Unit {0}} draw_fault among IsNoPicture u v t.dir t.textures x y (Ok tt) →
@@ -166,7 +166,7 @@ paints-strip {shape} {t} {mark} {look} {part} {rows} {among} {u} {w = w} {x} {y}
     place same_shelf same_cache))
 
 -- and one that could not make it live paints nothing
-pub paints-failed : {Q : Type 0} {t : PaintTools} {mark : Painter → ℕ → ℕ} {among : ℕ → Type 0}
+pub paints-failed : {Q : Type 0} {t : PaintTools} {mark : Painter → ℕ → ℕ} {among : ℕ → ℤ → Type 0}
     {asked : Q → Type 0} {dots : List (List ℕ) → Q → List Dot} {u v : ShelfView} {x y : Heap}
     {a b : CanvasView} {part whole : Result (Unit {0}) DrawFault} {fault : DrawFault} →
     part ≡ Err fault → IsErrAnd whole (λ e. e ≡ fault) →

@@ -1,11 +1,11 @@
 -- Laws of the plan of a column: its strips are rows of the view, of parts that are there, and have
 -- the dots of the fragment's strips.
-use Rattle.picture_rules.proofs.Common.{[], All, All-cons, All-nil, ap, append-nil, arith, Bool, cond, false, inl, inr, ints, List, nat_tests, not, pos, refl, subst, sym, true, ℕ, ℤ, ◌++◌, ◌<ℤ◌, ◌==◌, ◌∙◌, ◌∷◌, ◌≡◌, ◌≢◌, ◌≤ℤ◌, ◌≤◌}
-use Rattle.wall_columns.specs.Rules.{Art, ColumnClip, Dot, Edges, FRAME_HEIGHT, FragmentNumbers, Part, RowRange, ViewValue, WallStrip, bottom_rows, ceiling_rows, column_dots, floor_rows, has_texture, joined_lists, middle_rows, rows_between, strip_dots, strip_of, top_rows, wall_strips}
+use Rattle.picture_rules.proofs.Common.{[], All, All-cons, All-nil, ap, append-nil, arith, Bool, cond, false, inl, inr, ints, List, nat_tests, not, pos, refl, subst, sym, true, ℕ, ℤ, ◌++◌, ◌<ℤ◌, ◌==◌, ◌∙◌, ◌∷◌, ◌≡◌, ◌≢◌, ◌≤ℤ◌, ◌≤◌, AllByRecursion, All-contains, All-from_recursion, Contains, ◌⊎◌}
+use Rattle.wall_columns.specs.Rules.{Art, ColumnClip, Dot, Edges, FRAME_HEIGHT, FragmentNumbers, Part, RowRange, ViewValue, WallStrip, bottom_rows, ceiling_rows, column_dots, floor_rows, has_texture, joined_lists, middle_rows, rows_between, strip_dots, strip_of, top_rows, wall_strips, minus_one}
 use Rattle.picture_rules.proofs.Laws.{joined_lists-append}
 use Rattle.wall_columns.specs.Windows.{IsClipIn}
 use Rattle.wall_columns.specs.declared.clips.ColumnPlan.{ColumnPlan}
-use Rattle.wall_columns.specs.Plans.{no_rows, rows_if, plan_of, strips_by, HasRows, AreRowsIn, IsInRows, IsPartTexture, AreEdgeWords}
+use Rattle.wall_columns.specs.Plans.{no_rows, rows_if, plan_of, strips_by, HasRows, AreRowsIn, IsInRows, IsPartTexture, AreEdgeWords, IsPlanTexture, IsStripTexture}
 use Rattle.wall_columns.proofs.ClipLemmas.{middle_rows-in, top_rows-in, bottom_rows-in, ceiling_rows-in, floor_rows-in, clip_after-in}
 
 none_in : (height : ℕ) → AreRowsIn height no_rows
@@ -123,3 +123,46 @@ unfolding plan_of
 plan-in {own} {height} n clip e p same s i w =
     subst (IsPlanIn height) (sym (p ∙ ap (λ (h : ℕ). plan_of h n clip e) same))
     (wider height (ceiling_rows clip e) s (ceiling_rows-in height clip e s i w), (wider height (floor_rows clip e) s (floor_rows-in height clip e s i w), clip_after-in height n clip e s i w))
+
+-- a strip of a plan that has rows is one of the fragment's
+shown_by : (m t b : Part) (ms ts bs : RowRange) (has_m has_t has_b : Bool) (number : ℕ) →
+    IsStripTexture (strip m (rows_if has_m ms)) number ⊎ (IsStripTexture (strip t (cond has_m no_rows (rows_if has_t ts))) number
+    ⊎ IsStripTexture (strip b (cond has_m no_rows (rows_if has_b bs))) number) →
+    (s : WallStrip) × (Contains (cond has_m (cond has_m (strip m ms ∷ []) []) (cond has_t (strip t ts ∷ []) [] ++ cond has_b (strip b bs ∷ []) [])) s × IsStripTexture s number)
+shown_by m t b ms ts bs true has_t has_b number (inl k) = (strip m ms, ((0, omega arith, refl), k))
+shown_by m t b ms ts bs true has_t has_b number (inr (inl k)) = absurd (let rows : pos 0 ≤ℤ minus_one = k.0 in omega (arith, ints))
+shown_by m t b ms ts bs true has_t has_b number (inr (inr k)) = absurd (let rows : pos 0 ≤ℤ minus_one = k.0 in omega (arith, ints))
+shown_by m t b ms ts bs false has_t has_b number (inl k) = absurd (let rows : pos 0 ≤ℤ minus_one = k.0 in omega (arith, ints))
+shown_by m t b ms ts bs false true true number (inr (inl k)) = (strip t ts, ((0, omega arith, refl), k))
+shown_by m t b ms ts bs false true false number (inr (inl k)) = (strip t ts, ((0, omega arith, refl), k))
+shown_by m t b ms ts bs false false has_b number (inr (inl k)) = absurd (let rows : pos 0 ≤ℤ minus_one = k.0 in omega (arith, ints))
+shown_by m t b ms ts bs false true true number (inr (inr k)) = (strip b bs, ((1, omega arith, refl), k))
+shown_by m t b ms ts bs false false true number (inr (inr k)) = (strip b bs, ((0, omega arith, refl), k))
+shown_by m t b ms ts bs false has_t false number (inr (inr k)) = absurd (let rows : pos 0 ≤ℤ minus_one = k.0 in omega (arith, ints))
+
+pub plan-shown : (height : ℕ) (n : FragmentNumbers) (clip : ColumnClip) (e : Edges) (number : ℕ) → IsPlanTexture n (plan_of height n clip e) number →
+    (s : WallStrip) × (Contains (wall_strips n clip e) s × IsStripTexture s number)
+unfolding plan_of wall_strips strip_of
+plan-shown height n clip e number h =
+    shown_by n.middle_part n.top_part n.bottom_part (middle_rows clip e) (top_rows clip e) (bottom_rows n clip e)
+    (has_texture n.middle_part) (has_texture n.top_part) (has_texture n.bottom_part) number h
+
+-- and its texture is of a part that is there
+abbrev IsOfPart : FragmentNumbers → WallStrip → Type 0
+IsOfPart n s = (s.part.number ≢ 0) × IsPartTexture n s.part.number
+
+of_parts : (n : FragmentNumbers) (ms ts bs : RowRange) (has_m has_t has_b : Bool) → has_texture n.middle_part ≡ has_m → has_texture n.top_part ≡ has_t → has_texture n.bottom_part ≡ has_b →
+    AllByRecursion (IsOfPart n) (cond has_m (cond has_m (strip n.middle_part ms ∷ []) []) (cond has_t (strip n.top_part ts ∷ []) [] ++ cond has_b (strip n.bottom_part bs ∷ []) []))
+of_parts n ms ts bs true has_t has_b m t b = ((number_there n.middle_part m, inl refl), tt)
+of_parts n ms ts bs false true true m t b = ((number_there n.top_part t, inr (inl refl)), ((number_there n.bottom_part b, inr (inr refl)), tt))
+of_parts n ms ts bs false true false m t b = ((number_there n.top_part t, inr (inl refl)), tt)
+of_parts n ms ts bs false false true m t b = ((number_there n.bottom_part b, inr (inr refl)), tt)
+of_parts n ms ts bs false false false m t b = tt
+
+pub wall_strips-there : (n : FragmentNumbers) (clip : ColumnClip) (e : Edges) (s : WallStrip) → Contains (wall_strips n clip e) s →
+    (s.part.number ≢ 0) × IsPartTexture n s.part.number
+unfolding wall_strips strip_of
+wall_strips-there n clip e s among =
+    All-contains (IsOfPart n) (wall_strips n clip e) s
+    (All-from_recursion (IsOfPart n) (wall_strips n clip e)
+    (of_parts n (middle_rows clip e) (top_rows clip e) (bottom_rows n clip e) (has_texture n.middle_part) (has_texture n.top_part) (has_texture n.bottom_part) refl refl refl)) among

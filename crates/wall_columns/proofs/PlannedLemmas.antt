@@ -6,12 +6,12 @@ use Rattle.texture_build.specs.Zones.{Heap}
 use Rattle.texture_build.specs.Views.{TexturesView}
 use Rattle.texture_build.specs.Draws.{CanDraw}
 use Rattle.texture_build.specs.Paints.{PaintState, PaintTools, painted_art}
-use Rattle.texture_build.proofs.PaintLemmas.{paints-asked, paints-same}
+use Rattle.texture_build.proofs.PaintLemmas.{paints-asked, paints-same, paints-wider}
 use Rattle.wall_edges.specs.Fragments.{FragmentValue, fragment_of}
 use Rattle.wall_columns.specs.declared.clips.ColumnPlan.{ColumnPlan}
 use Rattle.wall_columns.specs.declared.fault.DrawFault.{DrawFault}
 use Rattle.wall_columns.specs.declared.paint.ColumnLook.{ColumnLook}
-use Rattle.wall_columns.specs.Drawn.{PaintsPlan, WallRange}
+use Rattle.wall_columns.specs.Drawn.{IsPlanColumn, PaintsPlan, WallRange}
 use Rattle.wall_columns.specs.Painted.{PaintsStrips, look_colour, look_dots, strips_dots}
 use Rattle.wall_columns.specs.Plans.{HasNoRows, HasRows, IsInRows, IsPlanTexture, strips_by}
 
@@ -61,6 +61,12 @@ abbrev pub look_with : ℕ → ℕ → ℤ → ℤ → ℕ → ColumnLook
 look_with number x column step map =
     record { number = number; x = x; column = to_z w32 (of_z w32 column); step = to_z w32 (of_z w32 step); map = map }
 
+-- so the column of its texture that a fragment shows there
+pub plan-column : (v : ViewValue) (x : ℕ) (f : FragmentValue) (n : FragmentNumbers) (plan : ColumnPlan) (column : ℤ) → SFits w32 column →
+    ((facts : WallFacts) (first last : ℕ) → f ≡ fragment_of v facts first last → column ≡ texture_column v facts x) →
+    (number : ℕ) (own : ℤ) → IsPlanTexture n plan number × (own ≡ to_z w32 (of_z w32 column)) → IsPlanColumn v f n plan x number own
+plan-column v x f n plan column fits are number own h = (h.0, λ q is. h.1 ∙ to_z-of_z fits ∙ are q.facts q.first q.last is)
+
 -- so a call that paints with these what the strips of a plan have paints the plan
 pub paints-plan : {t : PaintTools} {mark : Painter → ℕ → ℕ} {a b : PaintState} {result : Result (Unit {0}) DrawFault}
     (v : ViewValue) (number x map : ℕ) (f : FragmentValue) (n : FragmentNumbers) (e : Edges) (plan : ColumnPlan) (strips : List WallStrip) (column step : ℤ) →
@@ -69,13 +75,14 @@ pub paints-plan : {t : PaintTools} {mark : Painter → ℕ → ℕ} {a b : Paint
     ((facts : WallFacts) (first last : ℕ) → f ≡ fragment_of v facts first last → column ≡ texture_column v facts x) →
     ((contents : List (List ℕ)) → strips_dots v.shape (painted_art contents t) (look_with number x column step map) strips
     ≡ strips_dots v.shape (painted_art contents t) (look_with number x column step map) (strips_by n plan)) →
-    PaintsStrips v.shape t mark (look_with number x column step map) (IsPlanTexture n plan) strips a b result →
+    PaintsStrips v.shape t mark (look_with number x column step map) (λ m own. IsPlanTexture n plan m × (own ≡ to_z w32 (of_z w32 column))) strips a b result →
     PaintsPlan v t mark number f n x e plan a b result
 paints-plan {t} v number x map f n e plan strips column step s_fits t_fits c_fits there is_step is_map are same one =
     let look = look_with number x column step map in
-    paints-same _
+    paints-wider (plan-column v x f n plan column c_fits are) (λ (lump : ℕ) h. h)
+    (paints-same _
     (λ contents (q : WallRange) is. same contents ∙ strips_by_look v (painted_art contents t) look n.light e.scale (strips_by n plan)
     (to_z-of_z t_fits ∙ is_step ∙ ap inverse_word (to_z-of_z s_fits)) (is_map ∙ ap (scale_map v n.light) (to_z-of_z s_fits))
     ∙ ap (λ (y : ℤ). joined_lists (strip_dots v (painted_art contents t) number x n.light y e.scale) (strips_by n plan))
     (to_z-of_z c_fits ∙ are q.facts q.first q.last is))
-    (paints-asked (λ (q : WallRange). f ≡ fragment_of v q.facts q.first q.last) (λ q. tt) (λ q is. there) one)
+    (paints-asked (λ (q : WallRange). f ≡ fragment_of v q.facts q.first q.last) (λ q. tt) (λ q is. there) one))

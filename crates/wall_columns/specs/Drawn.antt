@@ -1,6 +1,6 @@
 -- The columns of a fragment as they are painted one by one.
-use Rattle.std.specs.Prelude.{◌≡◌, ◌≢◌, ◌<◌, ◌≤◌, ◌≤ℤ◌, ◌+◌, ◌-◌, ◌++◌, ℕ, zero, suc, pos, List, [], length, Result}
-use Rattle.wall_columns.specs.Rules.{Art, ColumnClip, Dot, Edges, FragmentNumbers, LIGHT_LEVELS, Painter, ViewValue, WallFacts, edges_at, joined_lists, strip_dots, texture_column, wall_strips}
+use Rattle.std.specs.Prelude.{◌≡◌, ◌≢◌, ◌<◌, ◌≤◌, ◌≤ℤ◌, ◌+◌, ◌-◌, ◌++◌, ℕ, ℤ, zero, suc, pos, Contains, List, [], length, Result}
+use Rattle.wall_columns.specs.Rules.{Art, ColumnClip, Dot, Edges, FragmentNumbers, LIGHT_LEVELS, Painter, ViewValue, WallFacts, WallStrip, edges_at, joined_lists, strip_dots, texture_column, wall_strips}
 use Rattle.wall_edges.specs.Fragments.{FragmentValue, fragment_of}
 use Rattle.pixel_strips.specs.Standing.{StandsInFrame}
 use Rattle.texture_build.specs.Draws.{CanDraw}
@@ -9,12 +9,8 @@ use Rattle.wall_columns.specs.declared.clips.ColumnPlan.{ColumnPlan}
 use Rattle.wall_columns.specs.declared.fault.DrawFault.{DrawFault}
 use Rattle.wall_columns.specs.Draws.{IsNoPicture}
 use Rattle.wall_columns.specs.Faults.{draw_fault}
-use Rattle.wall_columns.specs.Plans.{IsPartTexture, IsPlanTexture, strips_by}
+use Rattle.wall_columns.specs.Plans.{IsPartTexture, IsPlanTexture, IsStripTexture, strips_by}
 use Rattle.wall_columns.specs.Columns.{column_edges}
-
--- a texture of one of the parts that is there
-abbrev pub IsDrawnTexture : FragmentNumbers → ℕ → Type 0
-IsDrawnTexture n number = (number ≢ 0) × IsPartTexture n number
 
 -- the dots of a column of fragment number k, of which this was open
 unfoldable pub column_painted : ViewValue → Art → ℕ → FragmentValue → WallFacts →
@@ -47,10 +43,32 @@ pub record WallRange : Type 0 where
   pub first : ℕ
   pub last : ℕ
 
--- A call that paints a fragment or a part of it, with some textures. Its dots depend on the art and
+-- column `own` of a texture is what a fragment shows at column x of the view, by the facts of its seg
+abbrev pub IsColumnAt : ViewValue → FragmentValue → ℕ → ℤ → Type 0
+IsColumnAt v f x own = (q : WallRange) → f ≡ fragment_of v q.facts q.first q.last → own ≡ texture_column v q.facts x
+
+-- and a strip of a plan that is painted there has that texture, and rows
+abbrev pub IsPlanColumn : ViewValue → FragmentValue → FragmentNumbers → ColumnPlan → ℕ → ℕ → ℤ → Type 0
+IsPlanColumn v f n plan x number own = IsPlanTexture n plan number × IsColumnAt v f x own
+
+-- a strip of a fragment has that texture at column x, and rows, where this was open
+pub record ShowsAt (f : FragmentValue) (before : ℕ → ColumnClip) (x number : ℕ) : Type 0 where
+  pub strip : WallStrip
+  pub among : Contains (wall_strips f.numbers (before x) (column_edges f x)) strip
+  pub texture : IsStripTexture strip number
+
+-- column `own` of a texture is seen at one of its columns
+pub record IsShown (v : ViewValue) (f : FragmentValue) (before : ℕ → ColumnClip) (number : ℕ) (own : ℤ) : Type 0 where
+  pub x : ℕ
+  pub from : f.first ≤ x
+  pub to : x ≤ f.last
+  pub shows : ShowsAt f before x number
+  pub is : IsColumnAt v f x own
+
+-- A call that paints a fragment or a part of it, with some columns of textures. Its dots depend on the art and
 -- on the facts of its seg.
 abbrev pub PaintsFragment : ViewValue → PaintTools → (Painter → ℕ → ℕ) → FragmentValue →
-    (ℕ → Type 0) → (Art → WallFacts → List Dot) → PaintState → PaintState →
+    (ℕ → ℤ → Type 0) → (Art → WallFacts → List Dot) → PaintState → PaintState →
     Result (Unit {0}) DrawFault → Type 0
 PaintsFragment v t mark f among dots old new result =
     Paints draw_fault mark t among IsNoPicture
@@ -62,7 +80,7 @@ abbrev pub PaintsPlan : ViewValue → PaintTools → (Painter → ℕ → ℕ) �
     FragmentNumbers → ℕ → Edges → ColumnPlan → PaintState → PaintState →
     Result (Unit {0}) DrawFault → Type 0
 PaintsPlan v t mark k f n x e plan old new result =
-    PaintsFragment v t mark f (IsPlanTexture n plan)
+    PaintsFragment v t mark f (IsPlanColumn v f n plan x)
     (λ art facts. joined_lists (strip_dots v art k x n.light (texture_column v facts x) e.scale)
     (strips_by n plan)) old new result
 
@@ -70,12 +88,12 @@ PaintsPlan v t mark k f n x e plan old new result =
 abbrev pub PaintsColumn : ViewValue → PaintTools → (Painter → ℕ → ℕ) → ℕ → FragmentValue →
     (ℕ → ColumnClip) → ℕ → PaintState → PaintState → Result (Unit {0}) DrawFault → Type 0
 PaintsColumn v t mark k f before x old new result =
-    PaintsFragment v t mark f (IsDrawnTexture f.numbers)
+    PaintsFragment v t mark f (IsShown v f before)
     (λ art facts. column_painted v art k f facts before x) old new result
 
 -- and one that paints its first n columns
 abbrev pub PaintsColumns : ViewValue → PaintTools → (Painter → ℕ → ℕ) → ℕ → FragmentValue →
     (ℕ → ColumnClip) → ℕ → PaintState → PaintState → Result (Unit {0}) DrawFault → Type 0
 PaintsColumns v t mark k f before n old new result =
-    PaintsFragment v t mark f (IsDrawnTexture f.numbers)
+    PaintsFragment v t mark f (IsShown v f before)
     (λ art facts. dots_along (column_painted v art k f facts before) f.first n) old new result

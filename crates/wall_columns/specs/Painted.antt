@@ -1,11 +1,12 @@
 -- The strips of a fragment in one of its columns, by what they have in common.
-use Rattle.std.specs.Prelude.{◌<◌, ℕ, List, length, Result}
+use Rattle.std.specs.Prelude.{◌≡◌, ◌<◌, ℕ, ℤ, List, length, Result}
 use Rattle.wall_columns.specs.Rules.{Art, Dot, Painter, Part, RowRange, ViewShape, WALL, WallStrip, column_dots, joined_lists, painter_of, row_fraction, rows_between, texel_row}
 use Rattle.texture_build.specs.Paints.{PaintState, PaintTools, Paints, painted_art}
 use Rattle.wall_columns.specs.declared.fault.DrawFault.{DrawFault}
 use Rattle.wall_columns.specs.declared.paint.ColumnLook.{ColumnLook}
 use Rattle.wall_columns.specs.Draws.{IsNoPicture}
 use Rattle.wall_columns.specs.Faults.{draw_fault}
+use Rattle.wall_columns.specs.Plans.{IsStripTexture}
 
 abbrev pub strip_with : Part → RowRange → WallStrip
 strip_with part rows = record { part = part; rows = rows }
@@ -26,9 +27,13 @@ look_dots shape art look s =
 unfoldable pub strips_dots : ViewShape → Art → ColumnLook → List WallStrip → List Dot
 strips_dots shape art look strips = joined_lists (look_dots shape art look) strips
 
--- A call that paints these strips, with columns of some textures.
+-- the column of its texture in which a strip with rows is painted
+abbrev pub IsStripColumn : ColumnLook → WallStrip → ℕ → ℤ → Type 0
+IsStripColumn look s number own = IsStripTexture s number × (own ≡ look.column)
+
+-- A call that paints these strips, with some columns of textures.
 abbrev pub PaintsStrips : ViewShape → PaintTools → (Painter → ℕ → ℕ) → ColumnLook →
-    (ℕ → Type 0) → List WallStrip → PaintState → PaintState → Result (Unit {0}) DrawFault → Type 0
+    (ℕ → ℤ → Type 0) → List WallStrip → PaintState → PaintState → Result (Unit {0}) DrawFault → Type 0
 PaintsStrips shape t mark look among strips old new result =
     Paints draw_fault mark t among IsNoPicture (λ (q : Unit {0}). t.colormap < length t.dir.lumps)
     (λ contents q. strips_dots shape (painted_art contents t) look strips) old new result

@@ -9,7 +9,7 @@ ghost use Rattle.wall_columns.specs.Walls.{WallsView};
 ghost use Rattle.wall_columns.specs.Built.{AreBehind, IsBuilt, with_wall, step_of_wall, step_of_leaf, limits_of, step_over};
 ghost use Rattle.wall_columns.specs.Faults.{draw_fault, limit_of_result, IsPlanesFault, IsLimitFault};
 ghost use Rattle.pixel_strips.specs.Standing.{StandsInFrame};
-ghost use Rattle.wall_columns.specs.Draws.{IsWallTexture, IsNoPicture, IsUntouched};
+ghost use Rattle.wall_columns.specs.Draws.{IsNoPicture, IsSeenOf, IsUntouched, IsWallTexture};
 ghost use Rattle.wall_columns.specs.Noted.{HaveBacks};
 ghost use Rattle.wall_columns.specs.Tools.{AreSameWallTools, range_dots, wall_state, wall_tools};
 
@@ -203,8 +203,8 @@ impl WallState {
             limit_of_result result ≡ step_over (limits_of self.old tools.old.planes.now) s
             (length self.old.openings) (step_of_wall tools.old.view.now walls
             (wall_of tools.old.view.now facts.now first last)) }
-        ensures paints { Paints draw_fault C.mark (wall_tools tools.old) (IsWallTexture facts.now)
-            IsNoPicture (AreBehind tools.old.view.now self.old tools.old.planes.now.planes)
+        ensures paints { Paints draw_fault C.mark (wall_tools tools.old)
+            (IsSeenOf tools.old.view.now self.old facts.now first last) IsNoPicture (AreBehind tools.old.view.now self.old tools.old.planes.now.planes)
             (λ contents behind. range_dots tools.old facts.now first last behind.0 contents)
             (wall_state S.view C.view tools.old) (wall_state S.view C.view tools.new) result }
         ensures past { length self.old.notes ≡ MAX_DRAWSEGS → result ≡ Ok tt }

@@ -1,11 +1,10 @@
 -- A row of another view, one whose frame has no picture, and one of this view.
-use Rattle.picture_rules.proofs.Common.{Contains, rules, Some, subst, sym, w16}
+use Rattle.picture_rules.proofs.Common.{rules, Some, sym, w16}
 use Rattle.std.proofs.lemmas.Int.{to_z-of_z}
-use Rattle.art_rules.specs.Words.{book_lumps}
 use Rattle.texture_build.proofs.PaintLemmas.{paints-none, paints-same, paints-wider}
 use Rattle.weapon_overlay.specs.Layers.{layer_value}
 use Rattle.run_verdict.proofs.PictureLemmas.{layer_there}
-use Rattle.run_verdict.proofs.RowLemmas.{layer_among, row_dots-bare, row_dots-other, row_dots-own}
+use Rattle.run_verdict.proofs.RowLemmas.{layer_among, row_layer-own, row_dots-bare, row_dots-other, row_dots-own}
 use Rattle.doom_run.proofs.layers.draw_row.Goals as goal
 
 pub returns-then-row-scene : goal.returns-then-row-scene
@@ -26,9 +25,10 @@ overlay-requires-clause-picture g c =
 
 pub returns : goal.returns
 returns g c =
-    let among = layer_among c.args.scene.now.book.now _ c.args.place c.args.row.now (layer_value c.in-Some.layer) c.in-Some.ensures in
     let same = to_z-of_z w16 c.args.light (search rules) in
+    let among = row_layer-own c.args.scene.now.book.now c.args.light _ c.args.scene.now.number c.args.place c.args.row.now (layer_value c.in-Some.layer) same c.if-row-scene.false c.in-Some.ensures in
     record {
-      paints = λ textures. paints-wider (λ number none. none) (λ lump is. subst (Contains (book_lumps c.args.scene.now.book.now)) (sym is) among)
+      paints = λ textures. paints-wider (λ number own none. none)
+          (λ lump asked. record { layer = layer_value c.in-Some.layer; among = among; is = asked })
           (paints-same _ (λ contents q is. row_dots-own c.args.scene.now.view.now c.args.scene.now.book.now c.args.light _ c.args.scene.now.number c.args.place c.args.row.now (layer_value c.in-Some.layer) _ same c.if-row-scene.false c.in-Some.ensures) (c.overlay.ensures.paints textures));
     }

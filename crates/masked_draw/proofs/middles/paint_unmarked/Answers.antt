@@ -1,5 +1,5 @@
 -- A column that is marked gets no dots, and another one those of the call.
-use Rattle.std.proofs.Common.{◌≡◌, ◌∙◌, ℕ, ℤ, Bool, true, false, List, [], is_some, to_z, of_z, w32, refl, rules, sym, ap}
+use Rattle.std.proofs.Common.{◌≡◌, ◌∙◌, ℕ, ℤ, Bool, true, false, List, [], to_z, of_z, w32, refl, rules, sym, ap}
 use Rattle.std.proofs.lemmas.Int.{to_z-of_z}
 use Rattle.picture_rules.specs.Words.{Dot, middle_column}
 use Rattle.texture_build.specs.Sources.{column_in}
@@ -9,7 +9,7 @@ use Rattle.texture_build.proofs.LiveLemmas.{draws-ready}
 use Rattle.texture_build.proofs.PaintLemmas.{paints-live, paints-none, paints-same}
 use Rattle.masked_draw.specs.Marks.{if_unmarked, mark_of}
 use Rattle.masked_draw.specs.Scenes.{scene_art, scene_drawseg}
-use Rattle.masked_draw.proofs.MiddleLemmas.{drawseg-column}
+use Rattle.masked_draw.proofs.MiddleLemmas.{drawseg-column, middle-column}
 use Rattle.masked_draw.proofs.middles.paint_unmarked.Goals as goal
 
 where_marked : (marked : Bool) (dots : List Dot) → marked ≡ true → [] ≡ if_unmarked marked dots
@@ -39,7 +39,7 @@ returns-clause-paints g c =
     let lookup = column_in (prepared_texture s.textures.now c.args.middle.tex.0) col in
     paints-same _ (λ contents q is. where_not marked (middle_column s.view.now (scene_art contents s) c.args.middle.number (scene_drawseg s d) c.args.x) c.if-hands-at.false)
     (paints-live tt
-    (draws-wider (λ n e. record { masked = ap is_some c.requires.middle.place; is = e ∙ c.requires.middle.tex }) (λ lump k. k)
+    (draws-wider (middle-column s d c.args.middle c.args.x col c.requires.middle c.requires.first c.requires.last (to_z-of_z w32 c.saved_column-col.result (search rules) ∙ c.saved_column-col.ensures)) (λ lump k. k)
     (draws-ready {pictures = λ (n : ℕ). ⊥} c.args.middle.tex.0 col lookup refl r.keeps r.readies))
     (λ view contents count q hold is. c.paint_ready.ensures.painted view contents count hold)
     (λ view contents count q hold is. c.paint_ready.ensures.fits view contents count hold) c.paint_ready.ensures.place

@@ -37,7 +37,7 @@ pub returns-in_err-paint_middle-clause-paints : goal.returns-in_err-paint_middle
 returns-in_err-paint_middle-clause-paints g c = λ es h.
     let notes = c.args.notes.now in
     paints-then_stop c.in_err-paint_middle.was c.from_residual.ensures.1 (c.loop-k.invariant.leaves es h).paints
-    (paints-wider (scene-middle (scene_lists c.args.scene.now) notes (c.loop-k.k - 1) _ (note-get notes (c.loop-k.k - 1) _ (omega arith))) (λ n e. e) c.paint_middle.ensures.paints)
+    (paints-wider (scene-middle (scene_lists c.args.scene.now) c.args.scene.now.openings.now notes (c.loop-k.k - 1) _ (note-get notes (c.loop-k.k - 1) _ (omega arith))) (λ n e. e) c.paint_middle.ensures.paints)
 
 pub returns-clause-paints : goal.returns-clause-paints
 returns-clause-paints g c = λ es h. leaves-end c.args.scene.now c.args.notes.now es c.loop-k.k _ (omega arith) (c.loop-k.invariant.leaves es h)

@@ -100,5 +100,6 @@ returns-clause-sprite g c = λ es i l f h.
     let e = c.args.entry.now in
     let p = sym (to_z-of_z w32 e.first (search rules)) ∙ c.column_of-first.ensures in
     let q = sym (to_z-of_z w32 e.last (search rules)) ∙ c.column_of-last.ensures in
-    sprite-then c.args.scene.now c.args.notes.now es i e c.loop-k.clips _ _ _ _ p q (clips-end c.args.scene.now c.args.notes.now e c.loop-k.k c.loop-k.clips (omega arith) c.loop-k.invariant.clips)
+    let ordered = ordered_by _ _ e.first e.last (to_z-of_z w32 e.first (search rules)) (to_z-of_z w32 e.last (search rules)) c.if-entry.false in
+    sprite-then c.args.scene.now c.args.notes.now es i e c.loop-k.clips _ _ _ _ p q ordered (clips-end c.args.scene.now c.args.notes.now e c.loop-k.k c.loop-k.clips (omega arith) c.loop-k.invariant.clips)
     c.paint_sprite.ensures.marks (passes-end c.args.scene.now c.args.notes.now es i c.loop-k.k _ (omega arith) (c.loop-k.invariant.passes es i l f h)) c.paint_sprite.ensures.paints

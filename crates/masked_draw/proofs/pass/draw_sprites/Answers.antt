@@ -46,7 +46,7 @@ returns-in_err-draw_sprite-clause-paints g c =
     let i = c.loop-entry.invariant in
     let sprite = c.draw_sprite.ensures.sprite es (length c.loop-entry.yielded) t.0 (sprite-get es (length c.loop-entry.yielded) c.in-Some.entry t) i.marked in
     paints-then_stop c.in_err-draw_sprite.was c.from_residual.ensures.1 i.paints
-    (paints-wider (λ n k. k) (sprite-among c.args.sprites.now (length c.loop-entry.yielded) c.in-Some.entry t) sprite.paints)
+    (paints-wider (λ n own k. k) (sprite-among c.args.sprites.now (length c.loop-entry.yielded) c.in-Some.entry t) sprite.paints)
 
 pub returns-clause-paints : goal.returns-clause-paints
 returns-clause-paints g c =

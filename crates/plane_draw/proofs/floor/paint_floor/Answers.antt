@@ -1,5 +1,5 @@
 -- The bytes that are lent are those of the flat and of the colormap.
-use Rattle.picture_rules.proofs.Common.{List, Option, Some, some-same, sym, ℕ, ◌≡◌}
+use Rattle.picture_rules.proofs.Common.{some-same, sym}
 use Rattle.plane_draw.specs.Rules.{PLANE, lump_bytes, lump_source}
 use Rattle.texture_build.proofs.FetchLemmas.{live_faithful}
 use Rattle.texture_build.proofs.StaticLemmas.{rest_static}

@@ -1,5 +1,5 @@
 -- The column is made live, and then painted.
-use Rattle.picture_rules.proofs.Common.{ap, arith, nat_tests, rules, w32, ◌<◌, ◌∙◌, ◌≡◌}
+use Rattle.picture_rules.proofs.Common.{ap, arith, nat_tests, rules, w32, ◌<◌, ◌∙◌, ◌≡◌, ◌≤◌}
 use Rattle.std.proofs.Common.{to_z-of_z}
 use Rattle.picture_rules.specs.Words.{sky_column}
 use Rattle.texture_build.specs.Sources.{column_in}
@@ -27,8 +27,9 @@ returns-clause-paints g c =
     let is_lookup : c.lookup-lookup.result ≡ column_in (prepared_texture s.textures.now rows.tex.0) (sky_column s.view.now rows.x) =
     c.lookup-lookup.ensures.value
     ∙ ap (column_in (prepared_texture s.textures.now rows.tex.0)) (to_z-of_z {w = w32} {z = c.sky_column-column.result} (search rules) ∙ c.sky_column-column.ensures) in
+    let ordered : rows.first ≤ rows.last = grind (arith, nat_tests) in
     paints-live tt
-    (draws-wider {lumps = IsFlatOf s.planes.now.planes} (sky-among s.sky rows.tex c.requires.sky) (λ lump is. is)
+    (draws-wider {lumps = IsFlatOf s.planes.now.planes} (sky-among s.view.now s.sky s.planes.now.planes rows.tex rows.x c.requires.sky (c.requires.shown ordered)) (λ lump is. is)
     (draws-ready rows.tex.0 (sky_column s.view.now rows.x) c.lookup-lookup.result is_lookup
     r.keeps r.readies))
     (λ view contents count sky hold is. c.paint_sky.ensures.painted view contents count hold) (λ view contents count sky hold is. c.paint_sky.ensures.fits view contents count hold)

@@ -1,5 +1,5 @@
 -- The bytes that are lent are those of the sky's column and of the colormap.
-use Rattle.picture_rules.proofs.Common.{ap, List, Option, Some, some-same, sym, ℕ, ◌+◌, ◌∙◌, ◌≡◌}
+use Rattle.picture_rules.proofs.Common.{ap, List, Some, some-same, sym, ℕ, ◌+◌, ◌∙◌}
 use Rattle.plane_draw.specs.Rules.{SKY, byte_at, lump_bytes, sky_column}
 use Rattle.texture_build.proofs.ColumnLemmas.{single_slot}
 use Rattle.texture_build.proofs.LentLemmas.{colormap_lent, fits-column}

@@ -6,8 +6,7 @@ use Rattle.texture_build.specs.Paints.{painted_art}
 use Rattle.texture_build.specs.Sources.{column_in}
 use Rattle.texture_build.specs.Views.{prepared_texture}
 use Rattle.texture_build.proofs.PaintLemmas.{paints-none, paints-same, paints-wider}
-use Rattle.wall_columns.specs.Painted.{strip_with}
-use Rattle.wall_columns.specs.Plans.{IsStripTexture}
+use Rattle.wall_columns.specs.Painted.{IsStripColumn, strip_with}
 use Rattle.wall_columns.specs.Tools.{wall_state, wall_tools}
 use Rattle.wall_columns.proofs.PaintedLemmas.{PaintsLive, can_draw-counts, paints-failed, paints-strip, strips-empty}
 use Rattle.wall_columns.proofs.ToolLemmas.{after-same, before-same}
@@ -40,7 +39,7 @@ pub returns-in_err-ready_part-clause-paints : goal.returns-in_err-ready_part-cla
 returns-in_err-ready_part-clause-paints g c =
     let tools = c.args.tools.now in
     let ordered : c.args.rows.first ≤ℤ c.args.rows.last = grind (arith, ints) in
-    paints-wider {among = IsStripTexture (strip_with c.args.part c.args.rows)} (λ (number : ℕ) e. (ordered, e)) (λ (lump : ℕ) h. h)
+    paints-wider {among = IsStripColumn c.args.look.now (strip_with c.args.part c.args.rows)} (λ (number : ℕ) (own : ℤ) e. ((ordered, e.0), e.1)) (λ (lump : ℕ) h. h)
     (paints-failed {t = wall_tools tools} refl c.from_residual.ensures.1
     (c.in_err-ready_part.ensures.draws c.args.look.now.column
     (lookup_is (prepared_texture tools.textures.now c.args.part.number) c.args.look.now.column (search rules) c.lookup-lookup.ensures.value))
@@ -59,6 +58,6 @@ returns-clause-paints g c =
     let is_lookup : c.lookup-lookup.result ≡ column_in (prepared_texture tools.textures.now c.args.part.number) c.args.look.now.column =
     lookup_is (prepared_texture tools.textures.now c.args.part.number) c.args.look.now.column (search rules) c.lookup-lookup.ensures.value in
     let ordered : c.args.rows.first ≤ℤ c.args.rows.last = grind (arith, ints) in
-    paints-wider {among = IsStripTexture (strip_with c.args.part c.args.rows)} (λ (number : ℕ) e. (ordered, e)) (λ (lump : ℕ) h. h)
+    paints-wider {among = IsStripColumn c.args.look.now (strip_with c.args.part c.args.rows)} (λ (number : ℕ) (own : ℤ) e. ((ordered, e.0), e.1)) (λ (lump : ℕ) h. h)
     (paints-strip c.lookup-lookup.result is_lookup (c.in_ok-ready_part.ensures.draws c.args.look.now.column is_lookup) live c.paint_live.ensures.place
     (ap g.C.Canvas.view c.in_ok-ready_part.ensures.canvas) (ap g.S.Shelf.view c.paint_live.ensures.shelf) c.paint_live.ensures.cache)

@@ -1,5 +1,5 @@
 -- No strip has rows, or the first is painted, and the lower wall below an upper one.
-use Rattle.std.proofs.Common.{◌≡◌, ℕ, ◌∷◌, [], true, false, refl, sym, subst, ◌∙◌, inr, rules}
+use Rattle.std.proofs.Common.{◌≡◌, ℕ, ℤ, ◌∷◌, [], true, false, refl, sym, subst, ◌∙◌, inr, rules}
 use Rattle.wall_columns.specs.Rules.{FragmentNumbers, WallStrip, texture_column}
 use Rattle.texture_build.specs.Draws.{CanDraw}
 use Rattle.texture_build.specs.Paints.{painted_art}
@@ -12,7 +12,7 @@ use Rattle.wall_columns.specs.Plans.{HasRows, IsInRows, IsPlanTexture, bottom_st
 use Rattle.wall_columns.specs.Tools.{wall_state, wall_tools}
 use Rattle.wall_columns.proofs.FirstLemmas.{first-in, first-painted, first-texture}
 use Rattle.wall_columns.proofs.PaintedLemmas.{strips-append}
-use Rattle.wall_columns.proofs.PlannedLemmas.{look_with, paints-plan, plan-none, plan-rows, plan-textures}
+use Rattle.wall_columns.proofs.PlannedLemmas.{look_with, paints-plan, plan-column, plan-none, plan-rows, plan-textures}
 use Rattle.wall_columns.proofs.ToolLemmas.{after-same, before-same}
 use Rattle.wall_columns.proofs.paint.paint_plan.Goals as goal
 
@@ -55,7 +55,8 @@ pub returns-in_err-paint_part-clause-paints : goal.returns-in_err-paint_part-cla
 returns-in_err-paint_part-clause-paints g c =
     paints-stop refl c.from_residual.ensures.1
     (paints-asked (λ (q : WallRange). c.args.fragment.now ≡ fragment_of c.args.tools.now.view.now q.facts q.first q.last) (λ q. tt) (λ q is. c.requires.colormap)
-    (paints-wider (first-texture c.args.numbers.now c.args.plan.now _ c.first_strip.ensures) (λ (lump : ℕ) h. h) c.in_err-paint_part.ensures.paints))
+    (paints-wider (λ (number : ℕ) (own : ℤ) h. plan-column c.args.tools.now.view.now c.args.x c.args.fragment.now c.args.numbers.now c.args.plan.now c.column_at.result (search rules) c.column_at.ensures number own
+    (first-texture c.args.numbers.now c.args.plan.now _ c.first_strip.ensures number h.0, h.1)) (λ (lump : ℕ) h. h) c.in_err-paint_part.ensures.paints))
 
 pub returns-then-not-has_second-clause-paints : goal.returns-then-not-has_second-clause-paints
 returns-then-not-has_second-clause-paints g c =
@@ -64,7 +65,7 @@ returns-then-not-has_second-clause-paints g c =
     (search rules) (search rules) (search rules) c.requires.colormap c.inverse_word.ensures c.scale_map.ensures c.column_at.ensures
     (λ contents. first-painted tools.view.now.shape (painted_art contents (wall_tools tools)) _ c.args.numbers.now c.args.plan.now _ false c.first_strip.ensures
     c.requires.rows (sym c.has_second.ensures ∙ c.if-not-has_second.true))
-    (paints-wider (first-texture c.args.numbers.now c.args.plan.now _ c.first_strip.ensures) (λ (lump : ℕ) h. h) c.in_ok-paint_part.ensures.paints)
+    (paints-wider (λ (number : ℕ) (own : ℤ) h. (first-texture c.args.numbers.now c.args.plan.now _ c.first_strip.ensures number h.0, h.1)) (λ (lump : ℕ) h. h) c.in_ok-paint_part.ensures.paints)
 
 pub returns-clause-paints : goal.returns-clause-paints
 returns-clause-paints g c =
@@ -78,8 +79,8 @@ returns-clause-paints g c =
     c.requires.rows (sym c.has_second.ensures ∙ c.if-not-has_second.false))
     (paints-same _ (λ contents q is. strips-append tools.view.now.shape (painted_art contents (wall_tools tools)) look (_ ∷ []) (bottom_strip n plan ∷ []))
     (paints-then
-    (paints-wider (first-texture n plan _ c.first_strip.ensures) (λ (lump : ℕ) h. h) c.in_ok-paint_part.ensures.paints)
-    (before-same c.args.tools.now c.paint_part.new.tools (λ v t. PaintsStrips v.shape t g.C.Canvas.mark look (IsPlanTexture n plan) (bottom_strip n plan ∷ [])
+    (paints-wider (λ (number : ℕ) (own : ℤ) h. (first-texture n plan _ c.first_strip.ensures number h.0, h.1)) (λ (lump : ℕ) h. h) c.in_ok-paint_part.ensures.paints)
+    (before-same c.args.tools.now c.paint_part.new.tools (λ v t. PaintsStrips v.shape t g.C.Canvas.mark look (λ number own. IsPlanTexture n plan number × (own ≡ look.column)) (bottom_strip n plan ∷ [])
     (wall_state g.S.Shelf.view g.C.Canvas.view c.paint_part.new.tools) (wall_state g.S.Shelf.view g.C.Canvas.view c.paint_second.new.tools) c.paint_second.result)
     c.in_ok-paint_part.ensures.same
-    (paints-wider (λ (number : ℕ) h. inr (inr h)) (λ (lump : ℕ) h. h) c.paint_second.ensures.paints))))
+    (paints-wider (λ (number : ℕ) (own : ℤ) h. (inr (inr h.0), h.1)) (λ (lump : ℕ) h. h) c.paint_second.ensures.paints))))

@@ -67,7 +67,7 @@ returns-in_err-paint_plan-clause-paints g c =
     let is : x ≡ f.first + k = omega arith in
     let inside : x < FRAME_WIDTH = omega arith in
     let one = paints-column now.view.now (wall_tools now) g.C.Canvas.mark c.args.number f window x c.loop-edges.self.windows.height c.args.numbers.now
-    (window_at c.loop-edges.self.windows x) c.in-Some.edges c.pass_column-plan.result c.pass_column-plan.ensures.plan c.requires.numbers
+    (window_at c.loop-edges.self.windows x) c.in-Some.edges c.pass_column-plan.result (omega arith) (omega arith) c.pass_column-plan.ensures.plan c.requires.numbers
     (window_is f k x c.args.self.now c.loop-edges.self c.args.tools.now.planes.now now.planes.now i.marked is inside) (step.0 ∙ edges_are f k x is)
     c.in_err-paint_plan.ensures.paints in
     paints-then_stop refl c.from_residual.ensures.1 i.paints
@@ -105,7 +105,7 @@ loop-edges-preserved g c =
     p.plan p.windows p.own p.other p.planes p.count p.same_floor p.same_ceiling) in
     let window : ℕ → ColumnClip = window_at c.args.self.now.windows in
     let one = paints-column tools.view.now (wall_tools tools) g.C.Canvas.mark c.args.number f window x state.windows.height c.args.numbers.now
-    (window_at state.windows x) c.in-Some.edges c.pass_column-plan.result p.plan c.requires.numbers
+    (window_at state.windows x) c.in-Some.edges c.pass_column-plan.result (omega arith) (omega arith) p.plan c.requires.numbers
     (window_is f k x c.args.self.now state before between i.marked is inside) (step.0 ∙ edges_are f k x is) q.paints in
     let view = q.same.0 ∙ i.same.0 in
     let M : PlanesView → Type 0 = λ planes. HasMarked f (k + 1) c.args.self.now next before planes in
