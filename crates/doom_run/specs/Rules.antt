@@ -18,3 +18,5 @@ pub use Rattle.scene_rules.specs.Words.{Heap, IsInOrder, IsZoneSize, Item, Keeps
 unfoldable pub use Rattle.scene_rules.specs.Words.{flat_number, lump_block, surface_of, surfaces_of}
 pub use Rattle.scene_rules.specs.declared.Flat.{Flat}
 pub use Rattle.scene_rules.specs.declared.SectorFlats.{SectorFlats}
+pub use Rattle.command_line.specs.Commands.{command_of}
+pub use Rattle.run_verdict.specs.Words.{texts}

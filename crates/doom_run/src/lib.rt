@@ -9,7 +9,7 @@
 //!
 //! Rules: `run_verdict` (what a run determines, and what a status says of it); specs, Renders (a scene
 //! that is ready to be drawn), Frames (one view, drawn and written), Drawn (a view with its weapon
-//! layers).
+//! layers), Exits (the number with which the program ends).
 //! Proved: what `run` writes, each status and its cause, the line for each status, and that a
 //! trimmed file renders as its WADs do. Tested only: that memory is found. The original: none;
 //! `D_DoomMain`, d_main.c, stands in its place there.
@@ -18,6 +18,7 @@
 mod audit;
 mod canvas;
 mod exercise;
+mod exit;
 mod layers;
 mod level;
 mod limits;
@@ -27,6 +28,7 @@ mod render;
 mod top;
 mod trim;
 
+pub use exit::{exit_of, run_to_exit};
 pub use job_files::{Status, put_note};
 pub use picture_rules::LimitKind;
 pub use refusals::{ArtRefusal, Refusal, SceneRefusal};

@@ -148,6 +148,10 @@ pub fn run<S: Shelf, K: Sink, N: Sink>(
         Grew (N.written notes.old) (N.written notes.new) (line_of result) }
     ensures noted_prefix { GrewByPrefix (N.written notes.old) (N.written notes.new)
         (line_of result) }
+
+    // What the command of the words determines, said at once.
+    ensures runs { RunsAs (command_of (texts words.now)) (S.view shelf.old) (S.view shelf.new)
+        (K.written out.old) (K.written out.new) (K.faults out.old) (K.faults out.new) result }
 {
     let status = perform(alloc, words, shelf, out);
     let _ = put_note(notes, &status);

@@ -1,16 +1,18 @@
 //! The program: the words of its command line, the files of the system, and its streams.
 //!
-//! All that it does is `doom_run::run`. Proved: that it is safe and ends, which status stands for words
-//! that cannot be had, and the number of each status. Tested only, by its stored run: that the words
-//! and the files come from the system, and that the output goes there.
+//! All that it does is `doom_run::run_to_exit`. Proved: that it is safe and ends, that words which are no
+//! command end with the number of that status, which status stands for words that cannot be had, and
+//! the number of each status. Tested only, by its stored run: that the words and the files come from
+//! the system, and that the output goes there.
 #![tactic(auto)]
 
-ghost use Rattle.std.specs.Prelude.{◌≡◌};
+ghost use Rattle.std.specs.Prelude.{◌≡◌, ◌⊎◌, None};
 ghost use Rattle.std.specs.Process.{exit_status};
 ghost use Rattle.std.specs.IoError.{error_kind};
+ghost use Rattle.doom_run.specs.Rules.{command_of, texts};
 ghost use Rattle.job_files.specs.Statuses.{code_of};
 
-use doom_run::{Status, put_note, run};
+use doom_run::{Status, exit_of, put_note, run_to_exit};
 use outside::{HostShelf, HostSink};
 use std::alloc::Global;
 use std::io::ErrorKind;
@@ -25,15 +27,17 @@ fn main(rt: HostRuntime) -> ExitCode {
 }
 
 // The run on the files and the streams of the system.
-fn run_here(rt: &HostRuntime, words: &[String]) -> ExitCode {
+fn run_here(rt: &HostRuntime, words: &[String]) -> ExitCode
+    ensures { command_of (texts words.now) ≡ None → (exit_status result ≡ code_of Status.Usage)
+        ⊎ (exit_status result ≡ code_of Status.OutOfMemory) }
+{
     let alloc = rt.alloc();
     let Ok(mut shelf) = HostShelf::new(rt, alloc) else {
         return end(rt, Status::OutOfMemory);
     };
     let mut out = HostSink::new_out(rt);
     let mut notes = HostSink::new_err(rt);
-    let status = run(alloc, words, &mut shelf, &mut out, &mut notes);
-    exit_of(&status)
+    run_to_exit(alloc, words, &mut shelf, &mut out, &mut notes)
 }
 
 // The words after the program's name.
@@ -64,11 +68,4 @@ fn end(rt: &HostRuntime, status: Status) -> ExitCode
     let mut notes = HostSink::new_err(rt);
     let _ = put_note(&mut notes, &status);
     exit_of(&status)
-}
-
-// The number of a status, as the program ends with it.
-fn exit_of(status: &Status) -> ExitCode
-    ensures { exit_status result ≡ code_of status.now }
-{
-    ExitCode::from(status.code())
 }

@@ -1,0 +1,17 @@
+-- How the program ends.
+use Rattle.std.specs.Prelude.{◌≡◌, ℕ, List, Option}
+use Rattle.doom_run.specs.Rules.{FaultsRose, Grew, ShelfView}
+use Rattle.job_files.specs.Lines.{line_of}
+use Rattle.job_files.specs.Statuses.{code_of}
+use Rattle.job_files.specs.declared.status.Status.{Status}
+use Rattle.job_rules.specs.Commands.{CommandValue}
+use Rattle.run_verdict.specs.Performs.{RunsAs}
+
+-- The number is that of the status of a run of the command: by the views of the shelf, what was written to both outputs,
+-- and how often writing had failed, before and after.
+pub record ExitsAs (command : Option CommandValue) (before after : ShelfView) (old new : List ℕ → Type 0) (faults later : ℕ)
+    (notes noted : List ℕ → Type 0) (note_faults note_later : ℕ) (number : ℕ) : Type 0 where
+  pub status : Status
+  pub runs : RunsAs command before after old new faults later status
+  pub line : (FaultsRose note_faults note_later → ⊥) → Grew notes noted (line_of status)
+  pub is : number ≡ code_of status
