@@ -199,22 +199,6 @@ module _ (lumps : List Lump) (lines : List ThingLine) (name : List ℕ) (skill :
     pictures = whole.art.pictures;
   }
 
--- and over each directory that has as many lumps
-pub drawable-as_many : (lumps lumps' : List Lump) (scene : SceneValue) → length lumps' ≡ length lumps → IsDrawable lumps scene → IsDrawable lumps' scene
-drawable-as_many lumps lumps' scene same can = record {
-  sides = can.sides;
-  flats = can.flats;
-  flats_there = subst (λ (n : ℕ). All (AreThere n) scene.faces.flats) (sym same) can.flats_there;
-  below = can.below;
-  listed = can.listed;
-  shown = can.shown;
-  textures = can.textures;
-  sky = can.sky;
-  patches = subst (λ (n : ℕ). All (λ (t : Option PreparedTexture). IfSome t (λ u. All (λ (patch : PlacedPatch). patch.lump < n) u.patches)) (textures_view scene).prepared) (sym same) can.patches;
-  middles = can.middles;
-  pictures = subst (λ (n : ℕ). All (λ lump. lump < n) (book_lumps scene.book)) (sym same) can.pictures;
-}
-
 module _ (lumps : List Lump) (scene : SceneValue) (can : IsDrawable lumps scene) where
   -- there are as many surfaces as sectors, and as many middles as sides
   pub surfaces_as_many : length (surfaces_of scene.base.level.sectors scene.faces.flats) ≡ length scene.base.level.sectors

@@ -225,10 +225,5 @@ length_within (suc depth) side first part p m =
     simp length-append
     (omega (arith, node_count-parts part p e, length_within depth side first (front_part part) front (omega arith), length_within depth side (first + node_count (front_part part)) (back_part part) back (omega arith), node_length side first part)))
 
--- a part of c cells has c - 1 nodes, so a node's number is the number of the nodes before it
-pub part_nodes-length : (side first : ℕ) (part : Part) → IsPart part → length (part_nodes side first part) ≡ NODE_SIZE * node_count part
-unfolding part_nodes
-part_nodes-length side first part p = length_within (width part + height part) side first part p (omega arith)
-
 -- for `grind`: the walk that puts the nodes
 pub ruleset node_parts = (part_nodes-leaf, part_nodes-parts, node_count-parts, node_count-some, node_count-most)

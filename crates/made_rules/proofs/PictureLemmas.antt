@@ -11,8 +11,3 @@ post_length seed x post = simp (length-append, length-listed) (omega arith)
 posts_length : (seed x : ℕ) (posts : List Post) → length (flat_map (post_bytes seed x) posts) ≡ sum_by (λ post. post.length + 4) posts
 posts_length seed x [] = refl
 posts_length seed x (post ∷ posts) = simp length-append (omega (arith, post_length seed x post, posts_length seed x posts, sum_by-cons (λ (p : Post). p.length + 4) post posts))
-
--- each column has as many bytes as the places of the columns say
-pub column_bytes-length : (seed x : ℕ) (posts : List Post) → length (column_bytes seed posts x) ≡ column_size posts
-unfolding column_bytes column_size
-column_bytes-length seed x posts = simp length-append (omega (arith, posts_length seed x posts))

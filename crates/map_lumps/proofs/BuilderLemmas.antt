@@ -8,13 +8,3 @@ abbrev pub with_lumps : MapBytes → BuilderValue
 with_lumps b =
     let four = with_lump (with_lump (with_lump (with_lump empty_builder Things b.things) Linedefs b.lines) Sidedefs b.sides) Vertexes b.vertexes in
     with_lump (with_lump (with_lump (with_lump four Segs b.segs) Ssectors b.leaves) Nodes b.nodes) Sectors b.sectors
-
--- it has all their records
-pub with_lumps-records : (b : MapBytes) → (with_lumps b).map_records ≡ records_of b
-unfolding with_lump with_records empty_builder records_of
-with_lumps-records b = refl
-
--- and all eight are added
-pub with_lumps-added : (b : MapBytes) → (with_lumps b).added ≡ all_added
-unfolding with_lump lump_no empty_builder
-with_lumps-added b = refl

@@ -128,8 +128,3 @@ walls_dots-more v scene walls w =
     walls_last v scene (walls ++ w ∷ []) 0 walls w (length walls) (omega arith)
     ∙ ap (λ (ds : List Dot). ds ++ wall_dots v scene.art (walls ++ w ∷ []) (length walls) w) (walls_front v scene walls (w ∷ []) 0 walls (omega arith))
     ∙ ap (λ (ds : List Dot). walls_dots v scene walls ++ ds) (wall_dots-front v scene.art walls (w ∷ []) (length walls) w (omega arith))
-
--- nothing is painted where nothing is seen
-pub paints_of-empty : (v : ViewValue) (scene : Scene) → paints_of v scene [] ≡ []
-unfolding paints_of paints_by walls_of drawsegs leaf_fragments walls_dots walls_from planes_dots planes_from view_planes steps_of steps_from planes_of after_events masked_dots sprites_from middles_at view_drawsegs drawsegs_from view_entries with_sectors sectors_entered first_mentions leaves_entered draw_order
-paints_of-empty v scene = refl

@@ -126,8 +126,3 @@ frame_of-put_dots shape dots cells f a n z = frame-put_dots shape (λ p k. k) do
 pub trace-colours : (v : ViewValue) (scene : Scene) (layers : List WeaponLayer) → map colour_of (overlaid_trace v scene layers) ≡ overlaid_picture v scene layers
 unfolding overlaid_trace overlaid_picture frame_of
 trace-colours v scene layers = refl
-
--- and without weapons the picture is the view's own
-pub overlaid_picture-none : (v : ViewValue) (scene : Scene) → overlaid_picture v scene [] ≡ picture v scene
-unfolding overlaid_picture picture overlaid_paints joined_lists
-overlaid_picture-none v scene = ap (frame_of v.shape) (append-nil (view_paints v scene))

@@ -210,17 +210,3 @@ trimmed-serves contents lumps art name base wanted listed is prepared =
         texture2 = named-same bytes lumps art name base.label label all TEXTURE2 (texture2-fixed lumps) (record { f_start = refl; f_end = refl; s_start = refl; s_end = refl });
       },
     )
-
--- The base by the trimmed file is the level's, with other numbers for its lumps.
-pub trimmed-base : (contents : List (List ℕ)) (lumps : List Lump) (art : SceneArt) (name : List ℕ) (base : LevelBase) (wanted : ℕ → Bool)
-    → directory contents ≡ Ok lumps → base_in (lump_bytes contents lumps) lumps name ≡ Ok base
-    → prepared_textures (last_of lumps) (lump_bytes contents lumps) base.lists wanted ≡ Ok art.prepared
-    → (c : ℕ) × (p : ℕ)
-    × (base_in (lump_bytes (trimmed_file (lump_bytes contents lumps) lumps (trim_parts lumps art name) ∷ []) (trimmed_lumps (lump_bytes contents lumps) lumps (trim_parts lumps art name)))
-    (trimmed_lumps (lump_bytes contents lumps) lumps (trim_parts lumps art name)) name
-    ≡ Ok (record { colormap = c; playpal = p; palette = base.palette; label = map_place lumps art; level = base.level; lists = base.lists }))
-trimmed-base contents lumps art name base wanted listed is prepared =
-    let serves = trimmed-serves contents lumps art name base wanted listed is prepared in
-    let bytes = lump_bytes contents lumps in
-    let trimmed = trimmed_lumps bytes lumps (trim_parts lumps art name) in
-    (serves.0, serves.1, base-served bytes (lump_bytes (trimmed_file bytes lumps (trim_parts lumps art name) ∷ []) trimmed) lumps trimmed name base serves.0 serves.1 (map_place lumps art) serves.3)

@@ -83,13 +83,3 @@ range_in_front-order v a b x1 x2 s p q h span e =
     let ends = between v _ _ x1 x2 e in
     let order = ends_in_order (clip_angle v.tables v.shape) a b ends.0 ends.1 s.clip p q h span ends.2 ends.3 in
     moved x1 x2 _ _ v.shape.width ends.4 ends.5 (columns_in_order v ends.0 ends.1 s order.0 order.1) (column_within v ends.1)
-
-not_behind : (b : Bool) (r : ColumnRange) (x1 x2 : ℕ) → cond b Behind r ≡ Columns x1 x2 → (b ≡ false) × (r ≡ Columns x1 x2)
-not_behind true r x1 x2 e = cc
-not_behind false r x1 x2 e = (refl, e)
-
-below_half : (span : ℕ) → nat_le ang180 span ≡ false → span < 2 ^ 31
-below_half span e = grind (arith, nat_tests)
-
-turned_below : (a b : ℕ) → turn_back a b < 2 ^ 32
-turned_below a b = omega arith

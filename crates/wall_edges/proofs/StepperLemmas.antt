@@ -54,20 +54,3 @@ at_column f s (suc k) h l =
     let e : k + 1 ≡ suc k = omega arith in
     let P : ℕ → Type 0 = λ n. IsAt f n (next_stepper (stepper_after k s)) in
     subst P e (at_more f k (stepper_after k s) i left)
-
--- its k-th answer, counted from 0, has the edges of column number k
-pub answer_of_column : (f : FragmentValue) (s : Stepper) (k : ℕ) → IsAt f 0 s → f.first + k ≤ f.last → next_edges (stepper_after k s) ≡ Some (edges_at f.shape f.numbers k)
-unfolding next_edges
-answer_of_column f s k h l =
-    let i = at_column f s k h (omega arith) in
-    let left : 0 < (stepper_after k s).left = omega (arith, i.x, i.left) in
-    ap (λ (b : Bool). cond b None (Some (stepper_after k s).now)) (eq-false_positive (stepper_after k s).left left) ∙ ap (λ (e : Edges). Some e) i.now
-
--- and behind the last column it answers nothing
-pub answer_at_end : (f : FragmentValue) (s : Stepper) → IsAt f 0 s → f.first ≤ f.last → next_edges (stepper_after (f.last + 1 - f.first) s) ≡ None
-unfolding next_edges
-answer_at_end f s h l =
-    let k : ℕ = f.last + 1 - f.first in
-    let i = at_column f s k h (omega arith) in
-    let none : (stepper_after k s).left ≡ 0 = omega (arith, i.x, i.left) in
-    ap (λ (n : ℕ). cond (n == 0) None (Some (stepper_after k s).now)) none

@@ -48,9 +48,5 @@ first_refusal-from refusal n (r ∷ rs) (suc k) d v l e before =
     let first : refusal n r ≡ None = rw s at (before zero (omega arith)) in
     rw first (first_refusal-from refusal (n + 1) rs k d v (omega arith) (let t : n + 1 + k ≡ n + suc k = omega arith in rw t e) (λ j m. let t : n + 1 + j ≡ n + suc j = omega arith in rw t (before (suc j) (omega arith))))
 
--- what is refused is the refusal of a record, and of none before it
-pub first_refusal-some : {R : Type 0} (refusal : ℕ → R → Option MapRefusal) (rs : List R) (k : ℕ) (d : R) (v : MapRefusal) → k < length rs → refusal k (get_or rs k d) ≡ Some v → ((j : ℕ) → j < k → refusal j (get_or rs j d) ≡ None) → first_refusal refusal 0 rs ≡ Some v
-first_refusal-some refusal rs k d v l e before = first_refusal-from refusal 0 rs k d v l (let s : 0 + k ≡ k = omega arith in rw s e) (λ j m. let s : 0 + j ≡ j = omega arith in rw s (before j m))
-
 -- for `grind`: a loop over the records
 pub ruleset first_refusals = (first_refusal-found, first_refusal-next, first_refusal-end)

@@ -14,16 +14,6 @@ use Rattle.level_rules.proofs.maps.FirstLemmas.{or_else-five}
 use Rattle.level_rules.proofs.maps.RangeLemmas.{cond-none_else}
 use Rattle.level_rules.proofs.maps.SoundLemmas.{joined_level-sound}
 
--- where no lump is too large, the level is that of the records
-pub level_of-few : (b : MapBytes) → sizes_refusal b ≡ None → level_of b ≡ level_from (records_of b)
-unfolding level_of map_refusal level_from
-level_of-few b e = rw e refl
-
--- the first lump that is too large is refused before all else
-pub level_of-large : (b : MapBytes) (r : MapRefusal) → sizes_refusal b ≡ Some r → level_of b ≡ Err r
-unfolding level_of map_refusal unless
-level_of-large b r e = rw e refl
-
 pub length-records_in : {R : Type 0} (read : List ℕ → R) (size : ℕ) (bytes : List ℕ) → length (records_in read size bytes) ≡ length bytes / size
 unfolding records_in
 length-records_in read size bytes = length-listed _ (length bytes / size)

@@ -21,11 +21,6 @@ in_column_posts shape painter x c byte shade (p ∷ ps) =
     in_column-append x (post_dots shape painter x c byte shade p) (flat_map (post_dots shape painter x c byte shade) ps)
     (in_column-column_dots painter x (post_colour shape c byte shade p) (post_rows shape c p)) (in_column_posts shape painter x c byte shade ps)
 
--- nothing is drawn where there is neither a fragment nor a sprite
-pub masked_dots-empty : (v : ViewValue) (art : Art) → masked_dots v art [] [] ≡ []
-unfolding masked_dots sprites_from middles_at
-masked_dots-empty v art = refl
-
 -- the masked columns of one fragment more come before those of the others
 pub middles_at-more : (v : ViewValue) (art : Art) (ds : List Drawseg) (sprites : List SpriteEntry) (moment : Option ℕ) (k n : ℕ) → k + 1 ≡ n →
     middles_at v art ds sprites moment n ≡ middles_of v art sprites moment k (slice_get ds k) ++ middles_at v art ds sprites moment k

@@ -36,17 +36,6 @@ clip_before-last shape walls zero x = none_before shape walls x
 clip_before-last shape walls (suc k) x =
     by_step shape walls x k (greatest (wall_has walls x) k) (wall_has walls x k) refl (clip_before-last shape walls k x)
 
--- the clip past fragment k, in a column that it has
-pub clip_past-own : (shape : ViewShape) (walls : List Wall) (k x : ℕ) (w : Wall) → slice_get walls k ≡ Some w → has_column w x ≡ true →
-    clip_past shape walls k x ≡ clip_after shape.height w.numbers (clip_before shape walls k x) (wall_edges shape w x)
-unfolding clip_past clip_before past_some
-clip_past-own shape walls k x w e h = rw e (past_wall-own shape x w (clip_before shape walls k x) h)
-
-pub clip_past-other : (shape : ViewShape) (walls : List Wall) (k x : ℕ) (w : Wall) → slice_get walls k ≡ Some w → has_column w x ≡ false →
-    clip_past shape walls k x ≡ clip_before shape walls k x
-unfolding clip_past clip_before past_some
-clip_past-other shape walls k x w e h = rw e (past_wall-other shape x w (clip_before shape walls k x) h)
-
 get_front : (walls more : List Wall) (k : ℕ) → k < length walls → slice_get (walls ++ more) k ≡ slice_get walls k
 get_front [] more k l = absurd (omega arith)
 get_front (w ∷ ws) more zero l = refl
