@@ -7,6 +7,8 @@ import collections
 import dataclasses
 import os
 import re
+import shutil
+import subprocess
 import sys
 import tempfile
 import unittest
@@ -128,6 +130,19 @@ if line and line != '--zone':
         pass
 os._exit(int(status))
 '''
+
+
+class NoProgram(unittest.TestCase):
+    def test_without_a_program_the_runs_fail_with_a_sentence(self):
+        with tempfile.TemporaryDirectory() as top:
+            shutil.copytree(HERE, os.path.join(top, 'tests', 'golden'))
+            os.mkdir(os.path.join(top, 'crates'))
+            open(os.path.join(top, 'crates.txt'), 'w').close()
+            words = [sys.executable, os.path.join(top, 'tests', 'golden', 'run')]
+            for more, said in (([], 'the program is not built'), (['absent'], 'there is no program absent')):
+                done = subprocess.run([*words, *more], capture_output=True, text=True)
+                self.assertEqual(done.returncode, 2)
+                self.assertIn(said, done.stderr)
 
 
 class Pixels(unittest.TestCase):
