@@ -17,6 +17,7 @@ import tempfile
 HERE = os.path.dirname(os.path.abspath(__file__))
 OUT_OF_MEMORY = (7, b'', b'doomview: out of memory\n')
 SECONDS = 60
+WEAPON = b'view,sprite,frame,bright,sx,sy\n0,TREE,A,1,10485760,6553600\n'
 MADE = [('wad', '1'), ('path', '1'), ('things',), ('tables',)]
 
 
@@ -56,7 +57,7 @@ def made_files(folder, program):
 def jobs_of(folder, program):
     """The runs, each by its name and its words."""
     level = ['MAP01', *made_files(folder, program)]
-    armed = [*level, '--weapon', write(folder, 'weapon.csv', b'view,sprite,frame,bright,sx,sy\n0,TREE,A,1,10485760,6553600\n')]
+    armed = [*level, '--weapon', write(folder, 'weapon.csv', WEAPON)]
     return [('flat', ['flat', 'TILE', write(folder, 'tiny.wad', tiny_wad())]),
             ('render', ['render', *level]), ('render --spans packed', ['render', *level, '--spans', 'packed']),
             ('render --format ppm', ['render', *level, '--format', 'ppm']), ('render --weapon', ['render', *armed]),
