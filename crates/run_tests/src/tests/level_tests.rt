@@ -66,7 +66,11 @@ static BANDS: [Band; 3] = [(0, 45, CEILING), (46, 125, WALL), (126, 199, FLOOR)]
 // rows, and those of the ceiling are not painted.
 const SKY: [u8; PAINTER_BYTES] = [3, 1, 0, 0, 7, 0];
 
-static SKY_BANDS: [Band; 3] = [(0, 45, [0; PAINTER_BYTES]), (46, 125, WALL), (126, 199, SKY)];
+static SKY_BANDS: [Band; 3] = [
+    (0, 45, [0; PAINTER_BYTES]),
+    (46, 125, WALL),
+    (126, 199, SKY),
+];
 
 static SMALL_BANDS: [Band; 4] = [
     (0, 29, CEILING),

@@ -9,9 +9,7 @@ ghost use Rattle.std.specs.Prelude.{◌≡◌, ◌≤◌, ◌<◌, ◌^◌, IfOk
 ghost use Rattle.frame_core.specs.Views.{CanDrawView, IsDrawable};
 ghost use Rattle.whole_tests.specs.declared.tests.made.TheConstants.{COMPOSITE_SLOTS};
 
-use crate::tests::made::{
-    FIRST, directory_of, empty_cache, made_angles, shelf_of,
-};
+use crate::tests::made::{FIRST, directory_of, empty_cache, made_angles, shelf_of};
 use csv_tables::ThingTable;
 use frame_core::{Limits, ViewFault, Workshop, draw_view};
 use level_audit::audit;
