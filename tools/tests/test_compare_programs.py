@@ -37,17 +37,17 @@ class Comparisons(unittest.TestCase):
         return path
 
     def compared(self, ours, theirs):
-        done = subprocess.run([sys.executable, COMPARE, ours, theirs, '--sets', '2', '--damaged', '1'],
+        done = subprocess.run([sys.executable, COMPARE, ours, theirs, '--sets', '1', '--damaged', '1'],
                               capture_output=True, text=True)
         return done.returncode, done.stdout.splitlines(), done.stderr
 
     def test_programs_that_agree_are_counted(self):
         self.assertEqual(self.compared(self.program(), self.program()),
-                         (0, ['compare: 4 maps and sets, 40 runs: 40 with status 0; 0 differ'], ''))
+                         (0, ['compare: 2 maps and sets, 22 runs: 22 with status 0; 0 differ'], ''))
 
     def test_another_status_line_and_output_are_told(self):
-        for wrong, differ, first in (('status', 4, 'set 1: list'), ('line', 8, 'set 1: trace'),
-                                     ('trimmed', 4, 'set 1: trimmed render --spans packed')):
+        for wrong, differ, first in (('status', 2, 'set 1: list'), ('line', 4, 'set 1: trace'),
+                                     ('trimmed', 2, 'set 1: trimmed render --spans packed')):
             status, said, _ = self.compared(self.program(), self.program(wrong))
             self.assertEqual((status, len(said)), (1, differ + 1), wrong)
             self.assertTrue(said[0].startswith(f'compare: {first}: status 0, '), said[0])
