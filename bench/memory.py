@@ -1,7 +1,7 @@
 #!/usr/bin/env python3
 """Refuses each request for memory of a run in turn, and prints a table.
 
-memory.py PROGRAM       of flat over a tiny WAD, and of render over the made files of 1
+memory.py PROGRAM       of flat over a tiny WAD, of each job over the made files of 1, of make and exercise
 
 PROGRAM takes doomview's words, and is linked to the GNU C library when it starts. Each run has to end with
 status 7 and its line, and nothing written, or with status 0 and the whole output. The last run of a job is
@@ -17,6 +17,8 @@ import tempfile
 HERE = os.path.dirname(os.path.abspath(__file__))
 OUT_OF_MEMORY = (7, b'', b'doomview: out of memory\n')
 SECONDS = 60
+WEAPON = b'view,sprite,frame,bright,sx,sy\n0,TREE,A,1,10485760,6553600\n'
+MADE = [('wad', '1'), ('path', '1'), ('things',), ('tables',)]
 
 
 def fail(text):
@@ -44,12 +46,24 @@ def tiny_wad():
 def made_files(folder, program):
     """The made files of 1, as words of `render`."""
     paths = {}
-    for what, words in (('wad', ['1']), ('path', ['1']), ('things', []), ('tables', [])):
+    for what, *words in MADE:
         made = subprocess.run([program, 'make', what, *words], stdout=subprocess.PIPE)
         if made.returncode:
             fail(f'status {made.returncode} of {program} make {what}')
         paths[what] = write(folder, what, made.stdout)
     return [paths['wad'], '--tables', paths['tables'], '--things', paths['things'], '--path', paths['path']]
+
+
+def jobs_of(folder, program):
+    """The runs, each by its name and its words."""
+    level = ['MAP01', *made_files(folder, program)]
+    armed = [*level, '--weapon', write(folder, 'weapon.csv', WEAPON)]
+    return [('flat', ['flat', 'TILE', write(folder, 'tiny.wad', tiny_wad())]),
+            ('render', ['render', *level]), ('render --spans packed', ['render', *level, '--spans', 'packed']),
+            ('render --format ppm', ['render', *level, '--format', 'ppm']), ('render --weapon', ['render', *armed]),
+            *((job, [job, *level]) for job in ('trace', 'list', 'limits', 'audit', 'trim')),
+            ('trace --weapon', ['trace', *armed]), ('trim --weapon', ['trim', *armed]),
+            *((f'make {what}', ['make', what, *more]) for what, *more in MADE), ('exercise', ['exercise', '1'])]
 
 
 def compiled(folder):
@@ -106,10 +120,8 @@ def main():
         fail(f'{program} is no program')
     with tempfile.TemporaryDirectory() as folder:
         refusals = Refusals(compiled(folder), folder)
-        jobs = (('flat', ['TILE', write(folder, 'tiny.wad', tiny_wad())]),
-                ('render', ['MAP01', *made_files(folder, program)]))
         print('| Job | Requests | Out of memory | Done | Otherwise |\n|---|---|---|---|---|')
-        well = [refusals.job(name, [program, name, *words]) for name, words in jobs]
+        well = [refusals.job(name, [program, *words]) for name, words in jobs_of(folder, program)]
     sys.exit(not all(well))
 
 

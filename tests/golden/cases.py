@@ -1,6 +1,7 @@
 """The cases: read from the tables, run, and compared with what a run of another program gave."""
 import csv
 import dataclasses
+import functools
 import hashlib
 import io
 import os
@@ -11,6 +12,9 @@ import urllib.parse
 
 HERE = os.path.dirname(os.path.abspath(__file__))
 TABLES = os.path.join(HERE, 'tables')
+PIXELS = os.path.join(HERE, 'pixels.csv')
+PIXEL_HEADER = ['case', 'view', 'column', 'row', 'bytes']
+WIDTH, PIXELS_OF_A_VIEW = 320, 64000
 HEADER = ['case', 'words', 'how', 'status', 'line', 'bytes', 'sha256']
 NOTE = '# Values come from another program written from the same rules, or by hand from the rules; none from doomview.'
 FULL, MAY_BE_FULL, READS = 'full', 'may be full', 'reads '
@@ -23,12 +27,32 @@ SECONDS = 300  # after which a run is given up
 @dataclasses.dataclass(frozen=True)
 class Outcome:
     """How a run ended: its status, its line, and how many bytes it wrote with what sum; of a run whose zone was full
-    also whether it wrote a beginning of what is expected."""
+    also whether it wrote a beginning of what is expected; and what is wrong at pixels that are known by hand."""
     status: str
     line: str
     length: str
     sum: str
     is_part: bool = False
+    wrong: tuple = ()
+
+
+@dataclasses.dataclass(frozen=True)
+class Pixel:
+    """What a case writes of a pixel: the record of a trace, or the colour of a frame."""
+    view: int
+    column: int
+    row: int
+    expected: bytes
+
+    def difference(self, output):
+        """What differs at this pixel of an output, in a few words; nothing where it is as expected."""
+        size = len(self.expected)
+        at = size * (PIXELS_OF_A_VIEW * self.view + WIDTH * self.row + self.column)
+        came = output[at:at + size]
+        if came == self.expected:
+            return []
+        place = f'view {self.view} column {self.column} row {self.row}'
+        return [f'{place}: {self.expected.hex()} expected, {came.hex() or "none"} came']
 
 
 @dataclasses.dataclass(frozen=True)
@@ -40,10 +64,15 @@ class Case:
     words: str
     how: str
     expected: Outcome
+    pixels: tuple = ()
 
     def arguments(self):
         """The words as the program gets them; %FF among them is a byte."""
         return [os.fsdecode(urllib.parse.unquote_to_bytes(word)) for word in shlex.split(self.words)]
+
+    def wrong_pixels(self, output):
+        """What differs at the pixels that are known by hand."""
+        return tuple(line for pixel in self.pixels for line in pixel.difference(output))
 
     def is_of_shell(self):
         return bool(self.how) and self.how not in ZONES and not self.how.startswith(READS)
@@ -60,13 +89,28 @@ def table_names():
     return sorted(name[:-4] for name in os.listdir(TABLES) if name.endswith('.csv'))
 
 
-def read_table(table):
-    with open(os.path.join(TABLES, f'{table}.csv'), encoding='utf-8', newline='') as file:
+def read_rows(path, header):
+    """The rows under the header of a table; lines that begin with # are notes."""
+    with open(path, encoding='utf-8', newline='') as file:
         rows = [row for row in csv.reader(file) if row and not row[0].startswith('#')]
-    if rows[:1] != [HEADER]:
-        raise ValueError(f'the first line of {table}.csv is not {",".join(HEADER)}')
-    padded = [row + [''] * (len(HEADER) - len(row)) for row in rows[1:]]
-    return [Case(table, *row[:3], Outcome(*row[3:])) for row in padded]
+    if rows[:1] != [header]:
+        raise ValueError(f'the first line of {os.path.basename(path)} is not {",".join(header)}')
+    return rows[1:]
+
+
+@functools.lru_cache(maxsize=None)
+def known_pixels():
+    """The pixels that are known by hand, by the name of their case."""
+    pixels = {}
+    for name, view, column, row, expected in read_rows(PIXELS, PIXEL_HEADER):
+        pixels.setdefault(name, []).append(Pixel(int(view), int(column), int(row), bytes.fromhex(expected)))
+    return pixels
+
+
+def read_table(table):
+    rows = read_rows(os.path.join(TABLES, f'{table}.csv'), HEADER)
+    padded = [row + [''] * (len(HEADER) - len(row)) for row in rows]
+    return [Case(table, *row[:3], Outcome(*row[3:]), tuple(known_pixels().get(row[0], ()))) for row in padded]
 
 
 def differences(case, outcome):
@@ -76,7 +120,8 @@ def differences(case, outcome):
         return zone_differences(outcome)
     fields = [('status', expected.status, outcome.status), ('line', expected.line, outcome.line),
               ('bytes', expected.length, outcome.length), ('sum', expected.sum, outcome.sum)]
-    return [f'{name} {want or "none"} expected, {came or "none"} came' for name, want, came in fields if want != came]
+    found = [f'{name} {want or "none"} expected, {came or "none"} came' for name, want, came in fields if want != came]
+    return [*found, *outcome.wrong]
 
 
 def zone_differences(outcome):
@@ -110,7 +155,7 @@ class Runner:
             whole, beginning = self.call([self.program, *without_zone(case.arguments())])
             is_part = whole == case.expected and beginning.startswith(output)
             return dataclasses.replace(outcome, is_part=is_part)
-        return outcome
+        return dataclasses.replace(outcome, wrong=case.wrong_pixels(output))
 
     def expect(self, case):
         """What a table is to have of a case: in a zone that may be full what a run in another zone writes."""

@@ -15,6 +15,7 @@ from wads import beside, wad
 
 FILE_NAME = re.compile(r'(?:^|[=/])([\w-]+\.(?:wad|csv|bin))$')  # at the end of a word
 ABSENT = ('absent.wad', 'absent.csv', 'absent.bin', '-made1.wad')
+SEVERAL_WADS = 'made1.wad other-lists.wad other-map.wad other-flat0.wad'
 COURT_FILES = '--tables angles.bin --things kinds.csv --path court.csv'
 # What the program itself writes for these words.
 WRITTEN = {
@@ -24,6 +25,7 @@ WRITTEN = {
     'trimmed-made10.wad': 'trim MAP01 made10.wad --tables angles.bin --things things.csv --path path10.csv',
     'trimmed-court.wad': f'trim MAP01 art.wad court.wad {COURT_FILES}',
     'trimmed-armed.wad': f'trim MAP01 art.wad court.wad {COURT_FILES} --weapon court-weapons.csv',
+    'trimmed-several.wad': f'trim MAP01 {SEVERAL_WADS} --tables angles.bin --things things.csv --path path2.csv',
 }
 NUMBERED_WRITTEN = {'made.wad': 'make wad', 'path.csv': 'make path'}
 # Files of a kind and a number, as hall64.wad.
@@ -49,6 +51,8 @@ GROUPS = [
     (lambda: {'art.wad': wad(art.art()), 'court-and-art.wad': wad([*art.art(), *levels.court('MAP01')])}, []),
     (odd_levels.court_files, []),
     (odd_levels.room_files, []),
+    (odd_levels.grated_files, []),
+    (odd_levels.hanging_files, []),
     (odd_art.art_files, []),
     (bad_wads.tiny_files, []),
     (bad_wads.large_files, []),

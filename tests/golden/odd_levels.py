@@ -1,8 +1,9 @@
 """WADs with levels: rooms, halls, crowds, courts, and levels whose records are odd and name only what is there."""
 import struct
 
+import art
 from damage import half, put, put_each, put_field, put_in, with_lumps
-from levels import LEAF, ONE_SIDED, TWO_SIDED, Level, Squares, court, hall, room
+from levels import BOTTOM_UNPEGGED, LEAF, ONE_SIDED, TWO_SIDED, Level, Squares, court, hall, room
 from wads import MAP_LUMPS, beside, lump, name8, offset_of
 
 CELLS = 14  # of a side of the made level of 7
@@ -25,6 +26,36 @@ def room_files():
         'things-at-one-place': room('MAP01', 'TILES', 'BOARDS', ['STONE'], things=things),
     }
     return {f'{name}.wad': beside(*lumps) for name, lumps in rooms.items()}
+
+
+def grated_room(*things):
+    """Two squares one behind the other, bright, with a grate across at 128 map units, and trees."""
+    level = Level()
+    cells = {(x, 0): level.sector(0, 128, 'FLAT0', 'FLAT1', 255) for x in range(2)}
+    level.place = lambda x, y: (x - 128, y - 128)
+    Squares(level, cells, 256, lambda here, there: TWO_SIDED if there else ONE_SIDED,
+            lambda here, there: {'middle': 'GRATE' if there else 'WALL1'})
+    for x, y in things:
+        level.thing(x + 128, y + 128, 0, TREE)
+    return beside(*level.lumps('MAP02'))
+
+
+def grated_files():
+    near, far = (64, 0), (192, 0)
+    return {'trees-before-grate.wad': grated_room(near, near),
+            'trees-around-grate.wad': grated_room((64, 12), far),
+            'trees-behind-grate.wad': grated_room(far, far)}
+
+
+def hanging_files():
+    """A room whose walls have a texture of four rows and two patches, the later one two rows above its top; they are
+    drawn from the floor up."""
+    texture = art.texture('HANG', 64, 4, (0, 0, 0), (0, -2, 1))
+    under, over = (art.patch([[(0, texels)]] * 64, 4) for texels in (bytes([11, 12, 13, 14]), b'abcd'))
+    lists = [('PNAMES', art.patch_names(['UNDER', 'OVER'])),
+             ('TEXTURE1', art.texture_list([art.texture('NOTEX', 64, 4, (0, 0, 0)), texture]))]
+    file = beside(*lists, ('UNDER', under), ('OVER', over), *room('MAP02', walls=('HANG',), light=255))
+    return {'hanging-room.wad': put_each(file, 'LINEDEFS', 4, lambda number, line: half(ONE_SIDED | BOTTOM_UNPEGGED))}
 
 
 def hall_file(leaves):

@@ -7,6 +7,8 @@ import collections
 import dataclasses
 import os
 import re
+import shutil
+import subprocess
 import sys
 import tempfile
 import unittest
@@ -15,7 +17,8 @@ sys.dont_write_bytecode = True
 HERE = os.path.dirname(os.path.abspath(__file__))
 sys.path.insert(0, HERE)
 import cases  # noqa: E402
-from cases import FULL, MAY_BE_FULL, ZONE_FULL, ZONES, Case, Outcome, Runner, differences  # noqa: E402
+from cases import FULL, MAY_BE_FULL, ZONE_FULL, ZONES, Case, Outcome, Pixel, Runner, differences  # noqa: E402
+from files import WRITTEN  # noqa: E402
 
 TOP = os.path.dirname(os.path.dirname(HERE))
 LEVEL_JOBS = ('render', 'trace', 'limits', 'list', 'audit', 'trim')
@@ -95,6 +98,11 @@ class Runs(unittest.TestCase):
         self.assertEqual(self.ended('0 long line', f'{cases.READS}3').status, '4')
         self.assertEqual(self.ended('0 long line', f'{cases.READS}3').length, '3')
 
+    def test_a_pixel_that_is_known_is_looked_at(self):
+        for expected, found in ((b'b', []), (b'x', ['view 0 column 1 row 0: 78 expected, 62 came'])):
+            case = Case('table', 'name', '0 abc', '', Outcome('0', '', '3', ABC), (Pixel(0, 1, 0, expected),))
+            self.assertEqual(differences(case, Runner(self.program, self.folder).run(case)), found)
+
     def test_a_full_zone_is_compared_with_a_run_in_another(self):
         whole = Outcome('0', '', '3', ABC)
         self.assertTrue(self.ended('0 abc --zone 2', MAY_BE_FULL, whole).is_part)
@@ -122,6 +130,54 @@ if line and line != '--zone':
         pass
 os._exit(int(status))
 '''
+
+
+class NoProgram(unittest.TestCase):
+    def test_without_a_program_the_runs_fail_with_a_sentence(self):
+        with tempfile.TemporaryDirectory() as top:
+            shutil.copytree(HERE, os.path.join(top, 'tests', 'golden'))
+            os.mkdir(os.path.join(top, 'crates'))
+            open(os.path.join(top, 'crates.txt'), 'w').close()
+            words = [sys.executable, os.path.join(top, 'tests', 'golden', 'run')]
+            for more, said in (([], 'the program is not built'), (['absent'], 'there is no program absent')):
+                done = subprocess.run([*words, *more], capture_output=True, text=True)
+                self.assertEqual(done.returncode, 2)
+                self.assertIn(said, done.stderr)
+
+
+class Pixels(unittest.TestCase):
+    def test_a_pixel_lies_at_its_place_of_the_output(self):
+        output = bytes(8 * 64000) + bytes(8 * (3 * 320 + 2)) + b'\1\2\3\4\5\6\7\0' + bytes(16)
+        self.assertEqual(Pixel(1, 2, 3, b'\1\2\3\4\5\6\7\0').difference(output), [])
+        self.assertEqual(len(Pixel(1, 3, 3, b'\1\2\3\4\5\6\7\0').difference(output)), 1)
+        self.assertEqual(Pixel(2, 0, 0, b'\1').difference(b''), ['view 2 column 0 row 0: 01 expected, none came'])
+
+    def test_each_is_of_a_case_that_ends_well_and_lies_in_its_frame(self):
+        of_cases = {case.name: case for case in all_cases()}
+        for name, pixels in cases.known_pixels().items():
+            self.assertEqual(of_cases[name].expected.status, '0', name)
+            self.assertEqual(of_cases[name].pixels, tuple(pixels))
+            size = {'render': 1, 'trace': 8}[of_cases[name].words.split()[0]]
+            self.assertEqual({len(pixel.expected) for pixel in pixels}, {size}, name)
+            self.assertTrue(all(pixel.column < 320 and pixel.row < 200 for pixel in pixels), name)
+
+
+class TrimmedFiles(unittest.TestCase):
+    """Frames of a trimmed file are those of the WADs that it was made of, with full and with packed spans."""
+
+    def test_their_sums_are_those_of_the_wads(self):
+        sums = {case.words: case.expected.sum for case in all_cases() if case.expected.status == '0'}
+        compared = []
+        for words, total in sums.items():
+            name = next((name for name in WRITTEN if words.startswith(f'render MAP01 {name} ')), '')
+            wads = WRITTEN.get(name, '').partition(' --')[0].removeprefix('trim MAP01 ')
+            if name.startswith('trimmed-') and words.replace(name, wads) in sums:
+                self.assertEqual(total, sums[words.replace(name, wads)], words)
+                compared.append((name, 'packed' in words))
+        for name in WRITTEN:
+            if name.startswith('trimmed-'):
+                self.assertIn((name, True), compared)
+                self.assertIn((name, False), compared)
 
 
 class Tables(unittest.TestCase):

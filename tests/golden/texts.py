@@ -63,6 +63,7 @@ GOOD = {
     'fixed-middle.csv': path([at(0, 0, 41, 0, 0, 5)]),
     'above.csv': path([at(0, 0, 128, 0), at(0, 0, 129, 0), at(0, 0, 0, 0), at(0, 0, -1, 0), at(0, 0, 2000, 90)]),
     'along.csv': path([at(0, 0, 41, 0)]),
+    'nearer.csv': path([at(128, 0, 41, 0)]),
     'along-and-back.csv': path([at(4000, 0, 41, 180), at(0, 0, 41, 0), at(1000, 60, 100, 10)]),
     'no-rows.csv': table(PATH),
     'vertex.csv': table(PATH, '0,0,4718592,536870912'),

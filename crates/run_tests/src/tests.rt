@@ -2,9 +2,9 @@
 //
 // | Test | What it shows |
 // |---|---|
-// | `flat_tests` | the bytes of a tiled flat, what refuses it; the made files; words that are no command |
+// | `flat_tests` | a tiled flat, what refuses it, its calls that fail; the made files; words of no command |
 // | `refusal_tests` | damaged tables and WADs, each with its line |
-// | `level_tests` | a room row by row, its light and its trace; views of too many planes |
+// | `level_tests` | a room row by row, its light and its trace; sky above and below; too many planes |
 // | `zone_tests` | the sizes that an audit tells, frames in zones that are enough, ends in smaller ones |
 // | `frame_tests` | PPMs, odd paths and patches, the art of a second WAD |
 // | `weapon_tests` | what a weapon covers, and that a trace has the colours of the frames |

@@ -8,4 +8,5 @@ mod shelf_tests;
 mod view_frame_tests;
 mod visplanes_tests;
 mod vissprites_tests;
+mod wall_columns_tests;
 mod wall_edges_tests;

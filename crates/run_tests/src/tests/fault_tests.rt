@@ -19,6 +19,8 @@ const IN_ROOMY: &str = "render MAP01 made.wad --zone 46904";
 
 const PPMS: &str = "render MAP01 made.wad --format ppm";
 
+const COUNTS: &str = "limits MAP01 made.wad";
+
 // What fails in a run: a call of the shelf, or a put, which then passes so many bytes.
 #[derive(Clone, Copy)]
 enum Failing {
@@ -100,10 +102,10 @@ fn a_call_that_fails_leaves_a_part_of_the_frames(rt: HostRuntime) -> Result<(), 
     Ok(())
 }
 
-// Each of three frames goes out in one put, as a PPM in six.
+// Each of three frames goes out in one put, as a PPM in six, and the line of its counts in one.
 #[test]
 fn a_put_that_fails_leaves_a_part_of_the_output(rt: HostRuntime) -> Result<(), Fail> {
-    for (words, puts) in [(RENDER, 3), (PPMS, 18)] {
+    for (words, puts) in [(RENDER, 3), (PPMS, 18), (COUNTS, 3)] {
         let whole = written(rt.alloc(), &MADE, words)?;
         for passed in [0, 1000] {
             let last = first_not_made(&rt, words, Failing::Put(passed), 200, &whole)?;

@@ -1,6 +1,7 @@
 // Runs that need no level: a flat that is tiled, the made files, and words that are no command.
 
 use crate::tests::runs::{Written, compare_bytes, compare_text, parts_of, run_words};
+use doom_run::Status;
 use outside::MemoryShelf;
 use std::alloc::{AllocError, Global};
 use std::process::Abort;
@@ -9,6 +10,10 @@ use test_files::{file_of, wad_of};
 
 // The size of the whole WAD.
 const WHOLE: usize = 854;
+
+// The calls for a flat: its file is found and measured, and its header, its directory, a palette and
+// the flat are read.
+const CALLS: u64 = 6;
 
 // The first two pixels, and those of the columns 10 and 64.
 const FLAT: &[(usize, &[u8])] = &[
@@ -71,9 +76,21 @@ fn shelf_of(alloc: Global, length: usize, letter: u8) -> Result<MemoryShelf, All
     if let Some(first) = wad.first_mut() {
         *first = letter;
     }
+    shelf_with(alloc, wad, Vec::new(alloc))
+}
+
+// A shelf of that WAD, whose calls of these numbers fail.
+fn shelf_with(alloc: Global, wad: Vec<u8>, failing: Vec<u64>) -> Result<MemoryShelf, AllocError> {
     let mut files = Vec::with_capacity(alloc, 1)?;
     files.push(file_of(alloc, "tiny.wad", wad)?)?;
-    Ok(MemoryShelf::new(files, Vec::new(alloc)))
+    Ok(MemoryShelf::new(files, failing))
+}
+
+// A shelf of the whole WAD, whose call of that number fails.
+fn failing_shelf(alloc: Global, number: u64) -> Result<MemoryShelf, AllocError> {
+    let mut failing = Vec::new(alloc);
+    failing.push(number)?;
+    shelf_with(alloc, tiny_wad(alloc)?, failing)
 }
 
 fn check_row(
@@ -94,6 +111,19 @@ fn a_flat_and_the_made_files_are_written(rt: HostRuntime) -> Result<(), Fail> {
         let ended = run_words(rt.alloc(), row.0, &mut shelf, Vec::new(rt.alloc()))?;
         compare_bytes(&rt, &ended, row);
     }
+    Ok(())
+}
+
+// A call that is tried again is one more, and one that is not heeded leaves another end.
+#[test]
+fn each_call_for_a_flat_that_fails_ends_the_run(rt: HostRuntime) -> Result<(), Fail> {
+    for number in 1..=CALLS {
+        let mut shelf = failing_shelf(rt.alloc(), number)?;
+        check_row(&rt, &mut shelf, "flat TILE tiny.wad => read fault")?;
+    }
+    let mut shelf = failing_shelf(rt.alloc(), CALLS + 1)?;
+    let ended = run_words(rt.alloc(), WRITTEN[0].0, &mut shelf, Vec::new(rt.alloc()))?;
+    assert_eq!(rt; ended.status, Status::Done);
     Ok(())
 }
 

@@ -62,6 +62,16 @@ const FLOOR: [u8; PAINTER_BYTES] = [2, 1, 0, 0, 9, 0];
 
 static BANDS: [Band; 3] = [(0, 45, CEILING), (46, 125, WALL), (126, 199, FLOOR)];
 
+// The one plane of a room whose floor and ceiling are sky, with the patch of SKY1: it has the floor's
+// rows, and those of the ceiling are not painted.
+const SKY: [u8; PAINTER_BYTES] = [3, 1, 0, 0, 7, 0];
+
+static SKY_BANDS: [Band; 3] = [
+    (0, 45, [0; PAINTER_BYTES]),
+    (46, 125, WALL),
+    (126, 199, SKY),
+];
+
 static SMALL_BANDS: [Band; 4] = [
     (0, 29, CEILING),
     (30, 109, WALL),
@@ -69,8 +79,12 @@ static SMALL_BANDS: [Band; 4] = [
     (168, 199, [0; PAINTER_BYTES]),
 ];
 
+const FLATS: &[u8; 16] = b"FLAT0\0\0\0FLAT1\0\0\0";
+
+const SKIES: &[u8; 16] = b"F_SKY1\0\0F_SKY1\0\0";
+
 fn made_room(alloc: Global) -> Result<Vec<u8>, AllocError> {
-    room_wad(alloc, b"FLAT0\0\0\0FLAT1\0\0\0")
+    room_wad(alloc, FLATS)
 }
 
 #[test]
@@ -98,9 +112,14 @@ fn has_band(trace: &[u8], column: usize, band: &Band) -> bool {
     (*first..=*last).all(|row| painter_at(trace, row, column) == Some(painter.as_slice()))
 }
 
-// How many columns from 1 on are not painted by these bands.
-fn other_columns(alloc: Global, words: &str, bands: &[Band]) -> Result<usize, Fail> {
-    let more = made_room(alloc)?;
+// How many columns from 1 on of a room with these flats are not painted by these bands.
+fn other_columns(
+    alloc: Global,
+    flats: &[u8; 16],
+    words: &str,
+    bands: &[Band],
+) -> Result<usize, Fail> {
+    let more = room_wad(alloc, flats)?;
     let trace = written(alloc, &beside(&more), words)?;
     let is_other = |column: &usize| !bands.iter().all(|band| has_band(&trace, *column, band));
     Ok((1..WIDTH).filter(is_other).count())
@@ -108,9 +127,16 @@ fn other_columns(alloc: Global, words: &str, bands: &[Band]) -> Result<usize, Fa
 
 #[test]
 fn each_column_of_a_room_has_ceiling_wall_and_floor(rt: HostRuntime) -> Result<(), Fail> {
-    let others = other_columns(rt.alloc(), TRACE, &BANDS)?;
-    let small_others = other_columns(rt.alloc(), SMALL_TRACE, &SMALL_BANDS)?;
+    let others = other_columns(rt.alloc(), FLATS, TRACE, &BANDS)?;
+    let small_others = other_columns(rt.alloc(), FLATS, SMALL_TRACE, &SMALL_BANDS)?;
     assert_eq!(rt; (others, small_others), (0, 0));
+    Ok(())
+}
+
+#[test]
+fn sky_above_and_below_is_one_plane(rt: HostRuntime) -> Result<(), Fail> {
+    let others = other_columns(rt.alloc(), SKIES, TRACE, &SKY_BANDS)?;
+    assert_eq!(rt; others, 0);
     Ok(())
 }
 

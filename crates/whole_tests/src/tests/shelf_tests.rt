@@ -7,29 +7,25 @@
 // one call drops: one that owns many where it may return takes minutes to prove.
 ghost use Rattle.std.specs.Prelude.{◌≡◌, ◌≤◌, ◌<◌, ◌^◌, IfOk, length};
 ghost use Rattle.frame_core.specs.Views.{CanDrawView, IsDrawable};
-ghost use Rattle.whole_tests.specs.declared.tests.shelf_tests.TheConstants.{COMPOSITE_SLOTS};
+ghost use Rattle.whole_tests.specs.declared.tests.made.TheConstants.{COMPOSITE_SLOTS};
 
-use crate::tests::made::{FIRST, made_angles};
+use crate::tests::made::{FIRST, directory_of, empty_cache, made_angles, shelf_of};
 use csv_tables::ThingTable;
 use frame_core::{Limits, ViewFault, Workshop, draw_view};
 use level_audit::audit;
 use level_maker::{make_things, make_wad};
-use lump_cache::{Directory, LumpCache, MemoryShelf, Name8, Shelf, Tag};
+use lump_cache::{Directory, LumpCache, MemoryShelf, Name8, Tag};
 use pixel_strips::FLAT_BYTES;
 use sound_scene::SoundScene;
 use std::alloc::Global;
 use std::test::Fail;
-use test_files::{file_of, sum_of};
+use test_files::sum_of;
 use view_frame::Tables;
 
 const FIRST_SUM: u64 = 0x2b08_c9ba_b7db_3cb6;
 
 // The sum over the other texels.
 const OTHER_SUM: u64 = 0x212f_4047_28bc_b877;
-
-const ZONE: u32 = 6_291_456;
-
-const COMPOSITE_SLOTS: u32 = 32767;
 
 const LIMITS: Limits = Limits {
     planes: 128,
@@ -48,12 +44,16 @@ fn turn(bytes: &mut [u8], first: u64, count: u64) {
     }
 }
 
-// Turns the texels of a patch that begins at `start`, whose columns have one post each.
-fn turn_patch(bytes: &mut [u8], start: u64, columns: u16, rows: u8) {
+// Turns the texels of a patch that begins at `start`, whose columns have as many posts each, all of
+// so many rows.
+fn turn_patch(bytes: &mut [u8], start: u64, columns: u16, posts: u8, rows: u8) {
     let head = start.wrapping_add(8 + 4 * columns as u64);
     for x in 0..columns {
-        let post = (rows as u64 + 5) * x as u64 + 3;
-        turn(bytes, head.wrapping_add(post), rows as u64);
+        let column = ((rows as u64 + 4) * posts as u64 + 1) * x as u64;
+        for post in 0..posts {
+            let texels = column + (rows as u64 + 4) * post as u64 + 3;
+            turn(bytes, head.wrapping_add(texels), rows as u64);
+        }
     }
 }
 
@@ -63,40 +63,17 @@ fn place_of(dir: &Directory, name: &str) -> Option<u64> {
     Some(dir.place(lump) as u64)
 }
 
-// Turns the texels of the made WAD: those of its flats, of its walls and sky, and of its thing.
+// Turns the texels of the made WAD: those of its flats, of its walls, grate and sky, and of its thing.
 fn turn_texels(dir: &Directory, bytes: &mut [u8]) -> Option<()> {
     for name in ["FLAT0", "FLAT1", "FLAT2", "FLAT3"] {
         turn(bytes, place_of(dir, name)?, FLAT_BYTES as u64);
     }
-    turn_patch(bytes, place_of(dir, "WPATA")?, 64, 128);
-    turn_patch(bytes, place_of(dir, "WPATB")?, 32, 128);
-    turn_patch(bytes, place_of(dir, "SKYP")?, 256, 128);
-    turn_patch(bytes, place_of(dir, "TREEA0")?, 32, 64);
+    turn_patch(bytes, place_of(dir, "WPATA")?, 64, 1, 128);
+    turn_patch(bytes, place_of(dir, "WPATB")?, 32, 1, 128);
+    turn_patch(bytes, place_of(dir, "GRATP")?, 64, 2, 32);
+    turn_patch(bytes, place_of(dir, "SKYP")?, 256, 1, 128);
+    turn_patch(bytes, place_of(dir, "TREEA0")?, 32, 1, 64);
     Some(())
-}
-
-// A shelf of a WAD.
-fn shelf_of(alloc: Global, wad: Vec<u8>) -> Result<Box<MemoryShelf>, Fail> {
-    let mut files = Vec::with_capacity(alloc, 1)?;
-    files.push(file_of(alloc, "made.wad", wad)?)?;
-    Ok(Box::new(alloc, MemoryShelf::new(files, Vec::new(alloc)))?)
-}
-
-// The directory of the shelf's WAD.
-fn directory_of(alloc: Global, shelf: &mut MemoryShelf) -> Result<Box<Directory>, Fail>
-    ensures { IfOk result (λ dir. length dir.value.lumps < 2 ^ 16) }
-{
-    let made = shelf.find("made.wad")?;
-    Ok(Box::new(alloc, Directory::load(alloc, shelf, &[made])?)?)
-}
-
-// A cache in which nothing is live.
-fn empty_cache(alloc: Global, dir: &Directory) -> Result<Box<LumpCache>, Fail>
-    requires { length dir.now.lumps ≤ 2 ^ 16 }
-    ensures slots { IfOk result (λ cache. length dir.now.lumps ≤ cache.value.lumps) }
-    ensures composites { IfOk result (λ cache. cache.value.composites ≡ COMPOSITE_SLOTS) }
-{
-    Ok(Box::new(alloc, LumpCache::new(alloc, dir, ZONE, COMPOSITE_SLOTS)?)?)
 }
 
 // The scene of the made map.

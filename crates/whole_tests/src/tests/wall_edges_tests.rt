@@ -8,7 +8,7 @@ use std::test::Fail;
 use view_frame::{ColumnRange, View};
 use wall_edges::{Edges, Fragment, Stepper, WallFacts, WallTexture};
 
-const ROOM: Surface = Surface {
+pub(super) const ROOM: Surface = Surface {
     floor: 0,
     ceiling: 128 << 16,
     floor_flat: 1,
@@ -35,7 +35,7 @@ const EAST: Seg = Seg {
     back: None,
 };
 
-const BARE: WallTexture = WallTexture {
+pub(super) const BARE: WallTexture = WallTexture {
     number: 0,
     height: 0,
 };
@@ -45,7 +45,7 @@ const BRICK: WallTexture = WallTexture {
     height: 128,
 };
 
-const WALL: WallFacts = WallFacts {
+pub(super) const WALL: WallFacts = WallFacts {
     seg_no: 0,
     seg: EAST,
     front: ROOM,
@@ -82,6 +82,9 @@ fn look_at_wall(rt: &impl Abort, view: &View<'_>) {
     let scales = (fragment.scale1, fragment.scale2, fragment.step);
     assert_eq!(rt; scales, (40928, 40928, 0));
     assert_eq!(rt; fragment.column_at(view, 160), 255);
+    let light = fragment.numbers().light;
+    assert!(rt; light == 11);
+    assert_eq!(rt; view.scale_map(light, 40928), 12);
     let mut stepper = Stepper::new(&fragment);
     for _ in 0..319 {
         assert_eq!(rt; wall_rows(stepper.next()), Some((46, 125)));

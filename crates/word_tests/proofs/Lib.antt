@@ -1,0 +1,2 @@
+pub mod CodeRows
+pub mod TableRows
