@@ -7,7 +7,10 @@ import unittest
 
 TOP = os.path.dirname(os.path.dirname(os.path.dirname(os.path.abspath(__file__))))
 PROGRAM = 'crates/doomview/out/doomview'
-RT = f'#!/bin/sh\n[ "$*" = ci ] || exit 9\n[ -z "$LEAVES" ] || {{ mkdir -p crates/doomview/out; : >{PROGRAM}; chmod +x {PROGRAM}; }}\n'
+LEAVE = 'mkdir -p out; : >out/doomview; chmod +x out/doomview'
+RT = (f'#!/bin/sh\ncase "$1" in\n'
+      f'ci) [ "$LEAVES" != ci ] || {{ mkdir -p crates/doomview; cd crates/doomview; {LEAVE}; }};;\n'
+      f'run) [ "$LEAVES" != run ] || {{ {LEAVE}; }};;\n*) exit 9;;\nesac\n')
 CHECK = '#!/bin/sh\necho "check $*"\nexit "$CHECKED"\n'
 
 
@@ -16,8 +19,8 @@ class Gate(unittest.TestCase):
         folder = tempfile.TemporaryDirectory()
         self.addCleanup(folder.cleanup)
         self.top, self.bin = folder.name, os.path.join(folder.name, 'bin')
-        for name in ('.ci', 'tools', 'bin'):
-            os.mkdir(os.path.join(self.top, name))
+        for name in ('.ci', 'tools', 'bin', 'crates/doomview'):
+            os.makedirs(os.path.join(self.top, name))
         shutil.copy(os.path.join(TOP, '.ci', 'run'), os.path.join(self.top, '.ci'))
         for name in ('bash', 'sh', 'env', 'dirname', 'mkdir', 'chmod', 'python3'):
             os.symlink(shutil.which(name), os.path.join(self.bin, name))
@@ -29,7 +32,7 @@ class Gate(unittest.TestCase):
             file.write(text)
         os.chmod(path, 0o755)
 
-    def run_gate(self, proved=0, leaves='yes', checked=0):
+    def run_gate(self, proved=0, leaves='ci', checked=0):
         self.put('bin/rt', f'{RT}exit {proved}\n')
         env = {'PATH': self.bin, 'LEAVES': leaves, 'CHECKED': str(checked)}
         done = subprocess.run([os.path.join(self.top, '.ci', 'run')], env=env, cwd='/', capture_output=True, text=True)
@@ -51,7 +54,10 @@ class Gate(unittest.TestCase):
     def test_it_fails_where_no_program_was_left(self):
         status, out, said = self.run_gate(leaves='')
         self.assertEqual((status, out), (1, ''))
-        self.assertIn('left no program', said)
+        self.assertIn('neither rt ci nor rt run left the program', said)
+
+    def test_it_runs_the_program_where_the_proof_left_none(self):
+        self.assertEqual(self.run_gate(leaves='run'), (0, f'check {PROGRAM}\n', ''))
 
 
 if __name__ == '__main__':
