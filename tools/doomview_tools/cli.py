@@ -17,19 +17,24 @@ UNBROKEN = '\N{NO-BREAK SPACE}'
 HELP = {'--help', '-h'}
 WAD = 'a WAD, found as ports find it (see doomview --help)'
 MINUS_ROW = re.compile(r'-[\d.]+,')  # the beginning of a row that would be taken for an option
+PYTHON = 'Python alone'
+FLAG = {'action': 'store_true'}
 JOB_OPTION = 'job '  # before the names of options that are handed on
 
 
 class Page(typing.NamedTuple):
-    """The parts of a help page. `usage` has the forms of a call, where they cannot be told from its words."""
+    """The parts of a help page. `usage` has the forms of a call, and `forms` the short ones for a table, where they cannot
+    be told from its words; `more` is the page in docs that says more."""
 
     name: str
     summary: str
     text: str
     examples: str
-    needs: str = 'Python alone'
+    needs: str = PYTHON
     ends: str = ' 0  all is well\n 2  it could not be done, and a sentence says why'
     usage: tuple = ()
+    forms: tuple = ()
+    more: str = ''
 
 
 def columns():
@@ -97,8 +102,9 @@ def filled(text):
 
 
 def last_parts(page):
-    """The examples of a page, how it ends, and what it needs."""
-    parts = [('Examples', page.examples), ('Ends with', page.ends), ('Needs', page.needs + '.')]
+    """The examples of a page, how it ends, what it needs, and where more is."""
+    parts = [('Examples', page.examples), ('Ends with', page.ends), ('Needs', page.needs + '.'),
+             ('More in', page.more and f'docs/{page.more}')]
     return '\n\n'.join(f'{title}:\n' + textwrap.indent(text.strip('\n'), '  ') for title, text in parts if text)
 
 
@@ -143,6 +149,12 @@ def number(least, greatest):
     return read
 
 
+def forms_of(tool) -> typing.List[str]:
+    """A tool with its plain words and those that it needs, once for each way of calling it."""
+    needed = [form_of(action) for action in parser_of(tool)._actions if not action.option_strings or action.required]
+    return [f'{tool.PAGE.name} {form}' for form in tool.PAGE.forms] or [' '.join([tool.PAGE.name, *needed])]
+
+
 def add_job_options(parser, job, without=()):
     """The options of a job that a tool hands on to it."""
     for option in jobs.options_of(job):
@@ -171,7 +183,7 @@ def add_help(parser):
 
 def job_page(job):
     """The help page of a job, by the table of options."""
-    ends = '\n'.join(f'{status:2}  {meaning}' for status, meaning in jobs.STATUSES.items())
+    ends = '\n'.join(f'{number:2}  {": ".join(filter(None, status))}' for number, status in jobs.STATUSES.items())
     parser = Parser(Page(job.name, job.summary, job.text, job.examples, 'the program; it is built at the first call',
                          ends))
     for metavar, meaning in job.words:
@@ -179,10 +191,9 @@ def job_page(job):
     for option in jobs.options_of(job.name):
         parser.add_argument(option.name, metavar=option.value, help=meaning_of(option),
                             required=option.is_needed and not option.default)
-    if job.name == 'limits':
-        parser.add_argument('--places', action='store_true', help='adds where each view is: as an editor shows it, and '
-                            'as its row of the path')
-    add_output(parser, 'the output')
+    for own in jobs.OWN_OPTIONS:
+        if own.jobs in ('all', job.name):
+            parser.add_argument(own.name, help=own.meaning, **({'metavar': own.value} if own.value else FLAG))
     add_help(parser)
     return parser.format_help()
 

@@ -8,7 +8,6 @@ from . import cli, explanations, home, jobs, notes, paths, program, system
 from .files import write_output
 from .trouble import TROUBLE, Trouble
 
-PLACES = '--places'  # an option of the command for the job limits
 TOOLS = ['picture', 'places', 'turn', 'path', 'compare', 'pixel', 'explain', 'lint', 'limits-map', 'why-limit', 'video',
          'audit-all', 'draw-all', 'maps', 'tables', 'room', 'vectors', 'rest']
 OVERVIEW = '''usage: doomview JOB WORDS.. [OPTIONS]
@@ -27,9 +26,7 @@ The page of a job or tool, with its words, options and examples:
 Where a job fails, sentences say why. A map and its WADs may come in either order.
 
 Of the command itself:
-  doomview --version   the version, and the logic that the program is proved in
-  doomview --build     builds the program, if that is needed; every job does so too
-  doomview --built     ends with 0 where the program is built, else with 1
+{own}
 
 WADs are found as ports find them: as they are named, in the folders of DOOMWADDIR
 and DOOMWADPATH, and in those of the packages (/usr/share/games/doom and its kin),
@@ -49,9 +46,10 @@ def table(lines):
 
 def overview():
     """What `doomview --help` prints."""
-    job_lines = [(' '.join([job.name, *(word for word, _ in job.words)]), job.summary) for job in jobs.JOBS.values()]
+    job_lines = [(job.form, job.summary) for job in jobs.JOBS.values()]
     tool_lines = [(name, tool(name).PAGE.summary) for name in TOOLS]
-    return OVERVIEW.format(jobs=table(job_lines), tools=table(tool_lines), manual=home.MANUAL)
+    own_lines = [(f'doomview {option.name}', option.meaning) for option in jobs.OWN_OPTIONS if not option.jobs]
+    return OVERVIEW.format(jobs=table(job_lines), tools=table(tool_lines), own=table(own_lines), manual=home.MANUAL)
 
 
 def version():
@@ -62,7 +60,7 @@ def version():
 def run_job(words):
     """Runs a job, and says why where it fails; or hands words to the program that are none of this command's. For words
     that are no job nothing is built, since the program's answer is known."""
-    plain = [word for word in words if word != PLACES]
+    plain = [word for word in words if word != jobs.PLACES]
     if plain != words and jobs.Words(plain).job == 'limits':
         return limits_with_places(jobs.in_order(plain))
     is_job = jobs.Words(words).job in jobs.JOBS

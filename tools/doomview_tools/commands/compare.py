@@ -14,7 +14,7 @@ RED = b'\xff\x00\x00'
 DIFFERENT = 1
 MOST_PAINTERS = 5  # that are named because they differ in every view
 PAGE = cli.Page(
-    'compare', 'which views of two files of frames differ, where, and in what', '''
+    'compare', 'which views of two files of frames differ, where, and with a trace in what; as lines or as a page', '''
 Compares two files of frames, and says of each view that differs how, where and in what.
 
 OURS is what doomview render wrote, PORT what the port drew at the same rows of the camera path: 64,000 bytes a view.
@@ -57,7 +57,7 @@ $ doomview compare ours.bin shots --wad freedoom2.wad --trace trace.bin --html c
  0  all views are the same
  1  some differ
  2  the files cannot be compared
-''')
+''', more='PORT.md#reading-a-comparison')
 
 
 def add_words(parser):

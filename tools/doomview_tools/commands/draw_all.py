@@ -12,7 +12,7 @@ from ..trouble import Trouble
 FAILED = 1
 WITHOUT = ('--tables', '--things', '--path', '--format')
 PAGE = cli.Page(
-    'draw-all', 'draws every map of a WAD', '''
+    'draw-all', 'draws every map of a WAD, several at a time', '''
 Draws every map of a WAD from its player start to FOLDER/MAP.png, several at a time.
 
 With --machines they are drawn by GNU parallel on other machines, which are reached by ssh: 8/one,8/two draws eight at a

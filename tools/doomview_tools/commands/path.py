@@ -3,7 +3,7 @@ from .. import cli, levels, paths
 from ..files import write_output
 
 PAGE = cli.Page(
-    'path', 'a camera path: places as an editor or idmypos shows them', '''
+    'path', 'a camera path: places as an editor or the cheat idmypos shows them', '''
 Writes a camera path with a row for each place that is named by --at, in their order.
 
 A place is X,Y,DEGREES: map units, and degrees from east to the left, as a map editor shows them. The eye is 41 above

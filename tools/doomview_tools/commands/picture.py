@@ -13,7 +13,7 @@ WITHOUT = ('--tables', '--things', '--path', '--format')  # options of render th
 NOT_BUILT = ('doomview picture: the proved program is not built yet, so this picture comes from a run of its sources '
              'without proofs (about a minute); doomview --build builds it')
 PAGE = cli.Page(
-    'picture', "the view from a map's player start as a PNG; no WAD is needed", '''
+    'picture', "the view from a map's player start as a PNG; of a made room if no WAD is named", '''
 Draws the view from a map's player start as a PNG, or one of a small made level where no WAD is named. --at names
 another place.
 
@@ -28,7 +28,7 @@ $ doomview picture freedoom2.wad MAP01 there.png --at -192,-160,90
  0  the picture is drawn
  2  the tool could not begin
  other statuses are those of doomview render, and no picture is written
-''')
+''', forms=('[WAD [MAP]] OUT.png',))
 
 
 def add_words(parser):

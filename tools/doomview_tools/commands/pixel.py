@@ -5,7 +5,7 @@ from ..frames import HEIGHT, WIDTH
 from ..trouble import Trouble
 
 PAGE = cli.Page(
-    'pixel', 'what painted a pixel', '''
+    'pixel', 'what painted a pixel; with a list which line, sector or thing of the map', '''
 Tells what painted a pixel, with the name of its lump or texture.
 
 TRACE is what doomview trace wrote. Names need the WADs of the run, in their order. Of a patch that one texture alone

@@ -8,7 +8,7 @@ from ..trouble import Trouble
 
 PAUSED = 50
 PAGE = cli.Page(
-    'rest', 'files that put a map at rest in a port, to compare true frames', '''
+    'rest', 'files that put a map at rest in an installed port, to compare its frames', '''
 Writes into FOLDER what makes an installed port show a map at rest, as doomview draws it: still.wad (the map without
 specials, with demons for spectres), still.deh (each thing stays in its first frame), still.lmp (a demo that stands
 still until the weapon is up, and pauses at each of the views, which are a turn on the spot).
@@ -19,7 +19,7 @@ pause), path.csv (the views) and weapon.csv (the pistol).
 $ doomview rest freedoom2.wad MAP01 out
 $ chocolate-doom -iwad freedoom2.wad -file out/still.wad -deh out/still.deh -playdemo out/still
 $ doomview render MAP01 freedoom2.wad out/shown.wad --path out/path.csv --weapon out/weapon.csv -o ours.bin
-''')
+''', more='TOOLS.md#a-game-at-rest')
 
 
 def place(text):

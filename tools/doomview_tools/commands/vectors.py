@@ -8,7 +8,7 @@ from ..trouble import Trouble
 
 MAKE, DRAW = 'make', 'draw'
 PAGE = cli.Page(
-    'vectors', 'sums of the right frames of a WAD, for ports to check themselves by', '''
+    'vectors', 'sums of the right frames of a WAD, for ports to check themselves by; or these frames', '''
 Makes the vectors of a WAD, or draws doomview's own frames of them.
 
 make WAD writes FOLDER/NAME.csv: for viewpoints of each map the sums of doomview's frame, of the original's with packed
@@ -25,7 +25,8 @@ $ doomview vectors draw vectors/freedoom2.csv freedoom2.wad -o ours --maps MAP01
 $ vectors/check vectors/freedoom2.csv ours --maps MAP01,MAP07
 ''', 'the program; for make the programs of tools/original', usage=(
         'make WAD [-o FOLDER] [--maps NAMES] [--jobs N]',
-        'draw VECTORS.csv WAD [-o FOLDER] [--maps NAMES] [--sets NAMES] [--spans S] [--jobs N]'))
+        'draw VECTORS.csv WAD [-o FOLDER] [--maps NAMES] [--sets NAMES] [--spans S] [--jobs N]'),
+    forms=('make WAD', 'draw VECTORS.csv WAD'), more='VECTORS.md')
 
 
 def add_words(parser):
