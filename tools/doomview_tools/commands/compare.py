@@ -4,7 +4,7 @@ import functools
 import os
 import sys
 
-from .. import cli, diagnoses, frame_files, frames, lists, png, traces, vectors, wads
+from .. import cli, diagnoses, frame_files, frames, lights, lists, png, traces, vectors, wads
 from ..compare_page import ComparePage
 from ..files import check_target, write_whole
 from ..frames import HEIGHT, SIZE, WIDTH
@@ -26,7 +26,8 @@ their box, and the first of them with both colours. The last line counts all vie
 
 With the file that doomview trace wrote for the same words, the lines under it say what doomview painted there: the
 painter's kind, the lump or texture, the pixels, and the numbers of the fragments, planes or sprites in the view. Names
-need the WADs of the run. A texture of one patch is named where no other texture has the patch.
+need the WADs of the run. A texture of one patch is named where no other texture has the patch. Where the port has a
+fragment, a plane or a sprite as under another light, a line says how much lighter or darker that is.
 
 With --list, what doomview list wrote for the same words, the lines under those say where in the map that is: the pixels
 of each line, side and part of a wall, of each sector's floor or ceiling, and of each thing.
@@ -176,7 +177,7 @@ class Comparison:
         self.options, self.names, self.kinds = options, traces.Names(files), kinds_of(options)
         if options.html:
             check_target(options.html)
-        self.page = ComparePage(self.names)
+        self.page, self.lights = ComparePage(self.names), lights.Lights(self.names.colormaps)
         self.ours, self.port = (frame_files.of_path(path, files, self.names.palette)
                                 for path in (options.ours, options.port))
         self.counts = [self.ours.count, self.port.count]
@@ -218,11 +219,15 @@ class Comparison:
         line = told(view, ours, port, places) + (f'; {known}' if known else '')
         place_of, shown = self.place_of(view), mixed(ours, port, mask)
         if self.different <= self.options.most:
-            print('\n'.join([line, *(traces.painters(trace, places, self.names, place_of) if trace else [])]))
+            print(*[line, *(self.of_painters(ours, port, places, trace, place_of) if trace else [])], sep='\n')
             if self.options.png:
                 put_picture(self.options.png, view, ours, shown, places, self.names.palette)
         if self.options.html:
             self.page.add(view, line, known, (ours, shown), places, trace, place_of)
+
+    def of_painters(self, ours: bytes, port: bytes, places: list, trace: bytes, place_of) -> list:
+        """Lines on what doomview painted where a view differs, and on what differs by its light alone."""
+        return [*traces.painters(trace, places, self.names, place_of), *self.lights.told(trace, places, ours, port)]
 
     def counted(self, pixels):
         """A line on the pixels that count, where not all do."""
