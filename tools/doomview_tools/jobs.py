@@ -233,7 +233,9 @@ class Words:
 
     def __init__(self, words: typing.Iterable[str]):
         self.words, self.output = take_output(list(words)) if {*words} & {*JOBS} else (list(words), None)
-        self.plain, self.places, self.given = [], [], {}
+        self.plain: typing.List[str] = []
+        self.places: typing.List[int] = []
+        self.given: typing.Dict[str, typing.List[typing.Optional[str]]] = {}
         words, at, are_plain = self.words, 0, False
         while at < len(words):
             word = words[at]
@@ -241,10 +243,8 @@ class Words:
                 are_plain = True
             elif word.startswith('--') and not are_plain:
                 name, equal, value = word.partition('=')
-                if not equal:
-                    at += 1
-                    value = words[at] if at < len(words) else None
-                self.given.setdefault(name, []).append(value)
+                at += not equal
+                self.given.setdefault(name, []).append(value if equal else words[at] if at < len(words) else None)
             else:
                 self.plain.append(word)
                 self.places.append(at)
@@ -272,7 +272,7 @@ class Words:
     def writes_bytes(self) -> bool:
         """Whether what the job writes is no text."""
         job = JOBS.get(self.job)
-        return bool(job) and job.is_binary and self.plain[:2] not in (['make', 'path'], ['make', 'things'])
+        return job is not None and job.is_binary and self.plain[:2] not in (['make', 'path'], ['make', 'things'])
 
     def value(self, name: str) -> typing.Optional[str]:
         """The first value of an option, or None."""
@@ -329,7 +329,7 @@ def wrong_value(option: Option, value: str) -> typing.Optional[str]:
     choices = CHOICES.get(option.name)
     if choices and value not in choices:
         return f'{option.name} is {" or ".join(choices)}, and not {value}'
-    if option.least is None:
+    if option.least is None or option.greatest is None:
         return None
     if not NUMERAL.fullmatch(value) or not option.least <= int(value) <= option.greatest:
         return f'{option.name} is a number from {option.least} to {option.greatest}, and not {value}'
@@ -340,8 +340,8 @@ def wrong_value(option: Option, value: str) -> typing.Optional[str]:
 
 def wrong_words(words: Words) -> typing.List[str]:
     """Sentences on what is wrong with the words of a call, as far as it can be told."""
-    found = [wrong_option(words.job, name, values) for name, values in words.given.items()]
-    found = [sentence for sentence in found if sentence]
+    tried = (wrong_option(words.job, name, values) for name, values in words.given.items())
+    found = [sentence for sentence in tried if sentence]
     if words.job not in JOBS:
         return [f'the first word is a job: {", ".join(JOBS)}{meant(words.job, JOBS)}', *found]
     return found + (wrong_level(words) if words.job in LEVEL_JOBS else [])

@@ -1,8 +1,10 @@
 """doomview compare: two files of frames beside each other."""
+import argparse
 import collections
 import functools
 import os
 import sys
+import typing
 
 from .. import cli, diagnoses, frame_files, frames, lights, lists, png, traces, vectors, wads
 from ..compare_page import ComparePage
@@ -13,6 +15,8 @@ from ..trouble import Trouble
 RED = b'\xff\x00\x00'
 DIFFERENT = 1
 MOST_PAINTERS = 5  # that are named because they differ in every view
+Both = typing.Tuple[bytes, bytes]  # doomview's frame of a view, and the port's
+PlaceOf = typing.Callable[[traces.Painter, int], str]
 PAGE = cli.Page(
     'compare', 'which views of two files of frames differ, where, and with a trace in what; as lines or as a page', '''
 Compares two files of frames, and says of each view that differs how, where and in what.
@@ -61,7 +65,7 @@ $ doomview compare ours.bin shots --wad freedoom2.wad --trace trace.bin --html c
 ''', more='PORT.md#reading-a-comparison')
 
 
-def add_words(parser):
+def add_words(parser: argparse.ArgumentParser) -> None:
     parser.add_argument('ours', metavar='OURS', help='the frames that doomview drew')
     parser.add_argument('port', metavar='PORT', help='the frames that the port drew, or its pictures')
     parser.add_argument('--trace', metavar='FILE', help='what doomview trace wrote: names what painted the pixels')
@@ -78,7 +82,7 @@ def add_words(parser):
                         help='lists N views that differ, and counts the others')
 
 
-def told(view, ours, port, places):
+def told(view: int, ours: bytes, port: bytes, places: typing.List[int]) -> str:
     """The line on a view that differs."""
     rows, columns = [place // WIDTH for place in places], [place % WIDTH for place in places]
     first = places[0]
@@ -86,7 +90,7 @@ def told(view, ours, port, places):
             f'{max(columns)} first at row {rows[0]} column {columns[0]}: {ours[first]}, port {port[first]}')
 
 
-def marked(frame, palette, places):
+def marked(frame: bytes, palette: bytes, places: typing.List[int]) -> bytearray:
     """The frame in dark greys, with the places in red."""
     greys = bytes(sum(palette[3 * i:3 * i + 3]) // 6 for i in range(256))
     rgb = frames.coloured(frame, bytes(shade for shade in greys for _ in 'rgb'))
@@ -95,13 +99,13 @@ def marked(frame, palette, places):
     return rgb
 
 
-def put_picture(folder, view, ours, port, places, palette):
-    pictures = [frames.coloured(ours, palette), frames.coloured(port, palette), marked(ours, palette, places)]
+def put_picture(folder: str, view: int, both: Both, places: typing.List[int], palette: bytes) -> None:
+    pictures = [*(frames.coloured(frame, palette) for frame in both), marked(both[0], palette, places)]
     path = os.path.join(folder, f'view{view:05}.png')
     png.write_png(path, WIDTH * len(pictures), HEIGHT, frames.beside(pictures))
 
 
-def kinds_of(options):
+def kinds_of(options: argparse.Namespace) -> typing.Optional[typing.Set[int]]:
     """The kinds of painters whose pixels count, or None for all."""
     if not (options.only or options.but):
         return None
@@ -113,22 +117,23 @@ def kinds_of(options):
     return named if options.only else {*traces.KINDS} - named
 
 
-def mixed(ours, port, mask):
+def mixed(ours: bytes, port: bytes, mask: bytes) -> bytes:
     """The port's frame, with doomview's pixels where a mask is 0."""
     if not mask:
         return port
-    ours, port, mask = (int.from_bytes(part, 'big') for part in (ours, port, mask))
-    return (ours ^ (ours ^ port) & mask).to_bytes(SIZE, 'big')
+    first, second, kept = (int.from_bytes(part, 'big') for part in (ours, port, mask))
+    return (first ^ (first ^ second) & kept).to_bytes(SIZE, 'big')
 
 
 class Summary:
     """What is told of all views that differ, before each of them: how many, mistakes of whole frames, and what differs
     in every view."""
 
-    def __init__(self, comparison):
+    def __init__(self, comparison: 'Comparison'):
         self.comparison, self.everywhere = comparison, diagnoses.Everywhere()
-        self.painters = collections.defaultdict(collections.Counter)  # views and pixels
-        self.numbers, self.counted = [], 0
+        self.painters: typing.Dict[traces.Painter, collections.Counter] = collections.defaultdict(collections.Counter)
+        self.numbers: typing.List[int] = []
+        self.counted = 0
         for view in range(min(comparison.counts)):
             ours, port, trace, mask = comparison.view(view)
             self.counted += SIZE - mask.count(0)
@@ -136,7 +141,7 @@ class Summary:
             if places:
                 self.take(view, ours, places, trace)
 
-    def take(self, view, ours, places, trace):
+    def take(self, view: int, ours: bytes, places: typing.List[int], trace: bytes) -> None:
         self.numbers.append(view)
         self.everywhere.add(places)
         if trace:
@@ -144,14 +149,14 @@ class Summary:
             for painter, pixels in traces.pixels_of(trace, places).items():
                 self.painters[painter].update(views=1, pixels=sum(pixels.values()))
 
-    def case(self):
+    def case(self) -> diagnoses.Case:
         """Some of the views that differ, for the mistakes of whole frames."""
         step = max(1, len(self.numbers) // diagnoses.SAMPLES)
         ours, port = self.comparison.ours, self.comparison.port
         pairs = [diagnoses.Pair(view, *self.comparison.both(view)) for view in self.numbers[::step][:diagnoses.SAMPLES]]
         return diagnoses.Case(pairs, ours.frame, min(ours.count, port.count), self.comparison.names.colormaps)
 
-    def of_every_view(self):
+    def of_every_view(self) -> typing.Iterator[str]:
         """Lines on the painters that differ in every view."""
         whole = len(self.numbers)
         found = [it for it in self.painters.items() if it[1]['views'] == whole] if whole > 1 else []
@@ -159,7 +164,7 @@ class Summary:
             word, name = traces.KINDS.get(painter.kind, ('nothing',))[0], self.comparison.names.known(painter).name
             yield f'in each of these {whole} views: {word} {name}, {counts["pixels"]} pixels'
 
-    def lines(self):
+    def lines(self) -> typing.Iterator[str]:
         count = min(self.comparison.counts)
         yield f'{len(self.numbers)} of {count} views differ'
         mistakes = diagnoses.whole_frames(self.case()) if self.comparison.kinds is None else []
@@ -172,7 +177,7 @@ class Summary:
 class Comparison:
     """The views of both files, and what is told of those that differ."""
 
-    def __init__(self, options):
+    def __init__(self, options: argparse.Namespace):
         files = [wads.find(name) for name in options.wad]
         self.options, self.names, self.kinds = options, traces.Names(files), kinds_of(options)
         if options.html:
@@ -189,28 +194,28 @@ class Comparison:
         if options.png:
             os.makedirs(options.png, exist_ok=True)
 
-    def both(self, view):
+    def both(self, view: int) -> Both:
         """Both frames of a view."""
         ours = self.ours.frame(view)
         return ours, self.port.frame(view, ours)
 
-    def view(self, number):
+    def view(self, number: int) -> typing.Tuple[bytes, bytes, bytes, bytes]:
         """Both frames of a view, its trace, and the mask of the pixels that count. Where both are the same the trace is
         read for the mask alone."""
         ours, port = self.both(number)
         trace = self.records(number) if self.options.trace and (ours != port or self.kinds) else b''
         return ours, port, trace, traces.mask(trace, self.kinds) if self.kinds else b''
 
-    def records(self, view):
+    def records(self, view: int) -> bytes:
         with open(self.options.trace, 'rb') as file:
             file.seek(traces.VIEW_SIZE * view)
             return file.read(traces.VIEW_SIZE)
 
-    def place_of(self, view):
+    def place_of(self, view: int) -> typing.Optional[PlaceOf]:
         """What says where in the map an item of a view is, or None."""
         return functools.partial(self.placing.places.place, self.placing.view(view)) if self.placing else None
 
-    def take(self, view, ours, port, trace, mask):
+    def take(self, view: int, ours: bytes, port: bytes, trace: bytes, mask: bytes) -> None:
         """Tells of a view that differs, and gives it to the page."""
         places = frames.differing(ours, port, mask)
         self.different += 1
@@ -219,23 +224,23 @@ class Comparison:
         line = told(view, ours, port, places) + (f'; {known}' if known else '')
         place_of, shown = self.place_of(view), mixed(ours, port, mask)
         if self.different <= self.options.most:
-            print(*[line, *(self.of_painters(ours, port, places, trace, place_of) if trace else [])], sep='\n')
+            print(*[line, *(self.of_painters((ours, port), places, trace, place_of) if trace else [])], sep='\n')
             if self.options.png:
-                put_picture(self.options.png, view, ours, shown, places, self.names.palette)
+                put_picture(self.options.png, view, (ours, shown), places, self.names.palette)
         if self.options.html:
             self.page.add(view, line, known, (ours, shown), places, trace, place_of)
 
-    def of_painters(self, ours: bytes, port: bytes, places: list, trace: bytes, place_of) -> list:
+    def of_painters(self, both: Both, places: typing.List[int], trace: bytes, place_of: typing.Optional[PlaceOf]) -> list:
         """Lines on what doomview painted where a view differs, and on what differs by its light alone."""
-        return [*traces.painters(trace, places, self.names, place_of), *self.lights.told(trace, places, ours, port)]
+        return [*traces.painters(trace, places, self.names, place_of), *self.lights.told(trace, places, *both)]
 
-    def counted(self, pixels):
+    def counted(self, pixels: int) -> str:
         """A line on the pixels that count, where not all do."""
-        words = ', '.join(word for kind, (word, _) in traces.KINDS.items() if kind in self.kinds)
+        words = ', '.join(word for kind, (word, _) in traces.KINDS.items() if kind in (self.kinds or traces.KINDS))
         whole = SIZE * min(self.counts)
         return f'of {words} alone: {pixels} of {whole} pixels'
 
-    def run(self):
+    def run(self) -> bool:
         """Tells of the views that differ; whether there is any, or a view that one file lacks."""
         sentences = frame_files.check_pixels(self.ours, self.port, self.options.port)
         summary = Summary(self)
@@ -260,5 +265,5 @@ class Comparison:
         return self.different > 0 or self.counts[0] != self.counts[1]
 
 
-def run(options):
+def run(options: argparse.Namespace) -> int:
     return DIFFERENT if Comparison(options).run() else 0

@@ -1,4 +1,6 @@
 """doomview path: rows of a camera path for places as an editor shows them."""
+import argparse
+
 from .. import cli, levels, paths
 from ..files import write_output
 
@@ -19,14 +21,14 @@ $ doomview path freedoom2.wad MAP01 --at 'ang=0x0;x,y=(0xff400000,0xff600000)'
 ''')
 
 
-def add_words(parser):
+def add_words(parser: argparse.ArgumentParser) -> None:
     cli.add_level(parser)
     parser.add_argument('--at', metavar='PLACE', action='append', required=True,
                         help='X,Y,DEGREES or X,Y,DEGREES,Z, or the line of idmypos; once for each row')
     cli.add_output(parser, 'the path')
 
 
-def run(options):
+def run(options: argparse.Namespace) -> None:
     level = levels.read(cli.wads_of(options), options.map)
     rows = [paths.row_at(text, level) for text in options.at]
     write_output(paths.text(rows), options.output, 'the path')

@@ -1,4 +1,5 @@
 """doomview picture: one view as a PNG."""
+import argparse
 import os
 import sys
 import tempfile
@@ -31,7 +32,7 @@ $ doomview picture freedoom2.wad MAP01 there.png --at -192,-160,90
 ''', forms=('[WAD [MAP]] OUT.png',))
 
 
-def add_words(parser):
+def add_words(parser: argparse.ArgumentParser) -> None:
     parser.add_argument('wad', metavar='WAD', nargs='?', help=cli.WAD + '; else a made room is drawn')
     parser.add_argument('map', metavar='MAP', nargs='?', help='the name of a map; else the first of the WAD')
     parser.add_argument('picture', metavar='OUT.png', help='the picture, whose name ends in .png')
@@ -42,7 +43,7 @@ def add_words(parser):
     cli.add_job_options(parser, 'render', WITHOUT)
 
 
-def run(options):
+def run(options: argparse.Namespace) -> None:
     if not os.path.basename(options.picture)[:-4] or not options.picture.endswith('.png'):
         raise Trouble(f'the name of the picture has to end in .png, and {options.picture} does not')
     check_target(options.picture)
@@ -50,7 +51,7 @@ def run(options):
         draw(options, folder)
 
 
-def draw(options, folder):
+def draw(options: argparse.Namespace, folder: str) -> None:
     """Draws the view, in a folder for what is needed on the way."""
     if options.wad:
         files = cli.wads_of(options)
