@@ -5,9 +5,11 @@ numbers of a trace. `Places` says of an item which line, sector or thing of the 
 import collections
 import functools
 import re
+import typing
 
 from . import levels, list_counts, wads
 from .files import check_source
+from .frames import WIDTH
 from .levels import UNIT
 from .traces import COMPOSITE, Painter
 from .trouble import Trouble
@@ -114,6 +116,12 @@ class ListFile:
         if [len(it) for it in lists] != [sums.fragments, sums.planes, sums.sprites]:
             raise self.wrong(f'the sums of view {number} are not those of its lines')
         return View(*lists, sums, None)
+
+
+def narrow(view: View, least: int) -> typing.Set[int]:
+    """The numbers of a view's sprites that have fewer columns than the least, and are not cut by an edge of the screen."""
+    return {number for number, sprite in enumerate(view.sprites)
+            if 0 < sprite.first <= sprite.last < WIDTH - 1 and sprite.last - sprite.first + 1 < least}
 
 
 def shortened(words, shown):

@@ -2,6 +2,7 @@
 import collections
 import functools
 import struct
+import typing
 
 from .frames import HEIGHT, SIZE, WIDTH, count_parts
 from .png import GREYS
@@ -14,6 +15,7 @@ VIEW_SIZE = RECORD.size * SIZE
 KINDS = {0: ('nothing', ''), 1: ('wall', 'fragment'), 2: ('plane', 'plane'), 3: ('sky', 'plane'),
          4: ('middle', 'fragment'), 5: ('sprite', 'sprite'), 6: ('weapon', 'row')}
 TEXTURED = (1, 3, 4)  # kinds that paint from a texture
+SPRITE = 5
 LUMP, COMPOSITE = 1, 2  # kinds of sources
 GROUP_OF = {2: 'flat', 5: 'picture of a sprite', 6: 'picture of a sprite'}  # what kinds paint from
 SHOWN_NUMBERS, SHOWN_TEXTURES, SHOWN_PLACES = 6, 3, 12
@@ -152,10 +154,20 @@ def numbers_of(words: str) -> set:
     return {known[word] for word in words.split(',')}
 
 
-def mask(records: bytes, kinds: set) -> bytes:
-    """Of each pixel of a view 255 where what painted it is of one of some kinds, and else 0."""
-    table = bytes(255 * (kind in kinds) for kind in range(256))
-    return records[::RECORD.size].translate(table)
+def marks(values: bytes, wanted: typing.Collection[int]) -> bytes:
+    """Of each byte 255 where it is one of some, and else 0."""
+    return values.translate(bytes(255 * (value in wanted) for value in range(256)))
+
+
+def mask(records: bytes, kinds: typing.Collection[int], without: typing.Collection[int] = ()) -> bytes:
+    """Of each pixel of a view 255 where what painted it is of one of some kinds, and else 0; 0 too of the sprites with
+    some numbers."""
+    found = marks(records[::RECORD.size], kinds)
+    if not without:
+        return found
+    sprites = int.from_bytes(marks(records[::RECORD.size], {SPRITE}), 'big')
+    numbers = int.from_bytes(marks(records[2::RECORD.size], without), 'big')
+    return (int.from_bytes(found, 'big') & ~(sprites & numbers)).to_bytes(len(found), 'big')
 
 
 def check_records(records: bytes, places: list, ours: bytes, names: 'Names', path: str) -> None:

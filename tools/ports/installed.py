@@ -64,6 +64,7 @@ PORTS = {  # of each its files of settings, its further words, and the key of a 
     'dsda-doom': ({'port.cfg': DSDA}, ['-config', 'port.cfg', '-nomusic', '-window', '-geom', '320x200w'], ''),
 }
 BY_SAVEGAMES = ['chocolate-doom']
+LEAST_WIDTHS = {'crispy-doom': 2}  # of the sprites that a port draws, in columns
 
 
 class Missed(Trouble):

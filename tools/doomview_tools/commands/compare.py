@@ -41,8 +41,9 @@ where doomview departs from it (docs/VECTORS.md). PORT is named by the map then,
 
 With --only sprite,sky,weapon pixels count, and decide the status, only where doomview painted these; with --but plane
 only where it painted something else. A line says how many pixels these are. So a port that draws floors or walls by
-other rules can still be right in all else. Pictures and pages show doomview's pixels in the place of the port's others
-then.
+other rules can still be right in all else. With --least-width 2 sprites that are one column wide do not count either,
+which crispy-doom does not draw; sprites at the edge of the screen count always. Pictures and pages show doomview's pixels
+in the place of the port's others then.
 
 --png writes a picture for each view that differs: OURS, PORT and the differences beside each other (red over grey), in
 the palette of the WADs or else in greys. --html writes one page of the views that differ, in most pixels if there are
@@ -75,6 +76,8 @@ def add_words(parser: argparse.ArgumentParser) -> None:
     parser.add_argument('--only', metavar='KINDS', help='counts pixels of these painters alone, of '
                         + ','.join(word for word, _ in traces.KINDS.values()))
     parser.add_argument('--but', metavar='KINDS', help='counts no pixels of these painters')
+    parser.add_argument('--least-width', metavar='N', type=cli.number(1, WIDTH), default=1, help='counts no pixels of '
+                        'sprites that have fewer columns; needs --list')
     parser.add_argument('--vectors', metavar='FILE', help='the vectors whose views the files have')
     parser.add_argument('--png', metavar='FOLDER', help='writes a picture of each view that differs into FOLDER')
     parser.add_argument('--html', metavar='OUT.html', help='writes a page of the views that differ')
@@ -107,8 +110,10 @@ def put_picture(folder: str, view: int, both: Both, places: typing.List[int], pa
 
 def kinds_of(options: argparse.Namespace) -> typing.Optional[typing.Set[int]]:
     """The kinds of painters whose pixels count, or None for all."""
+    if options.least_width > 1 and not options.list:
+        raise Trouble('--least-width needs the list of the same words; name it by --list FILE')
     if not (options.only or options.but):
-        return None
+        return {*traces.KINDS} if options.least_width > 1 else None
     if options.only and options.but:
         raise Trouble('name --only or --but, and not both')
     if not options.trace:
@@ -204,7 +209,12 @@ class Comparison:
         read for the mask alone."""
         ours, port = self.both(number)
         trace = self.records(number) if self.options.trace and (ours != port or self.kinds) else b''
-        return ours, port, trace, traces.mask(trace, self.kinds) if self.kinds else b''
+        return ours, port, trace, traces.mask(trace, self.kinds, self.left_out(number)) if self.kinds else b''
+
+    def left_out(self, number: int) -> typing.Set[int]:
+        """The numbers of a view's sprites that do not count."""
+        least = self.options.least_width
+        return lists.narrow(self.placing.view(number), least) if least > 1 else set()
 
     def records(self, view: int) -> bytes:
         with open(self.options.trace, 'rb') as file:
@@ -237,8 +247,9 @@ class Comparison:
     def counted(self, pixels: int) -> str:
         """A line on the pixels that count, where not all do."""
         words = ', '.join(word for kind, (word, _) in traces.KINDS.items() if kind in (self.kinds or traces.KINDS))
-        whole = SIZE * min(self.counts)
-        return f'of {words} alone: {pixels} of {whole} pixels'
+        least = self.options.least_width
+        width = f', of sprites of {least} and more columns' if least > 1 else ''
+        return f'of {words} alone{width}: {pixels} of {SIZE * min(self.counts)} pixels'
 
     def run(self) -> bool:
         """Tells of the views that differ; whether there is any, or a view that one file lacks."""
