@@ -9,7 +9,7 @@ import collections
 import typing
 
 from . import traces
-from .frames import SIZE, WIDTH
+from .frames import WIDTH
 
 MAPS, STEP = 32, 4  # colormaps of lights, and how many of them are one step
 LIGHT, MOST_STEPS = 16, 15  # of a step, and the most steps
@@ -18,7 +18,8 @@ WALL, PLANE, MIDDLE, SPRITE, WEAPON = 1, 2, 4, 5, 6  # kinds of painters, withou
 
 Pairs = typing.Set[typing.Tuple[int, int]]  # of doomview's colour and the port's
 Groups = typing.Dict[int, Pairs]  # of a painter, by its columns or rows
-Key = typing.Tuple[int, int]  # of a painter: its kind and its number
+Key = typing.Tuple[int, int, int]  # of a painter: its kind, and its number as two bytes
+Found = typing.Dict[Key, typing.Set[int]]  # of painters the steps that there may be
 
 
 def cut(number: int) -> int:
@@ -46,9 +47,10 @@ def line_of(kind: int, place: int) -> int:
     return {WALL: column, MIDDLE: column, PLANE: row}.get(kind, 0)
 
 
-def key_of(records: bytes, place: int) -> Key:
-    at = traces.RECORD.size * place
-    return records[at], records[at + 2] + 256 * records[at + 3]
+def keys_of(records: bytes) -> typing.List[Key]:
+    """The painter of each pixel."""
+    size = traces.RECORD.size
+    return list(zip(records[::size], records[2::size], records[3::size]))
 
 
 class Lights:
@@ -83,15 +85,15 @@ class Lights:
             found = [steps for steps in found if ways & STEPS[steps]]
         return found
 
-    def painters(self, records: bytes, places: typing.List[int], ours: bytes, port: bytes) -> typing.Dict[Key, typing.Set[int]]:
+    def painters(self, keys: typing.List[Key], places: typing.List[int], ours: bytes, port: bytes) -> Found:
         """Of a view the painters whose pixels differ as under another light, each in whole columns or rows, with the steps
         of which it may be any."""
-        differing = grouped(records, places, ours, port)
+        differing = grouped(keys, places, ours, port)
         likely = {key for key, groups in differing.items()
                   if len(set().union(*groups.values())) >= LEAST_PAIRS and self.steps(groups)}
-        whole = [place for place in range(SIZE if likely else 0) if key_of(records, place) in likely]
+        whole = [place for place, key in enumerate(keys) if key in likely] if likely else []
         found = {}
-        for key, groups in grouped(records, whole, ours, port).items():
+        for key, groups in grouped(keys, whole, ours, port).items():
             steps = self.steps({line: groups[line] for line in differing[key]})
             if steps and min(steps) * max(steps) > 0:
                 found[key] = set(steps)
@@ -99,29 +101,30 @@ class Lights:
 
     def told(self, records: bytes, places: typing.List[int], ours: bytes, port: bytes) -> typing.List[str]:
         """Lines on what differs by its light alone, in a view that differs at some places: that of most pixels first."""
-        found, lines = self.painters(records, places, ours, port), []
-        pixels = collections.Counter(key for key in (key_of(records, place) for place in places) if key in found)
+        keys, lines = keys_of(records), []
+        found = self.painters(keys, places, ours, port)
+        pixels = collections.Counter(keys[place] for place in places)
         while found:
             counts = collections.Counter({it: sum(pixels[key] for key in found if it in found[key]) for it in STEPS})
             steps = max(STEPS, key=lambda it: (counts[it], -abs(it)))
-            keys = {key for key in found if steps in found[key]}
-            lines.append(line(counts[steps], steps, keys))
-            found = {key: them for key, them in found.items() if key not in keys}
+            alike = {key for key in found if steps in found[key]}
+            lines.append(sentence(counts[steps], steps, alike))
+            found = {key: them for key, them in found.items() if key not in alike}
         return lines
 
 
-def line(pixels: int, steps: int, keys: typing.Set[Key]) -> str:
+def sentence(pixels: int, steps: int, keys: typing.Set[Key]) -> str:
     """The line on painters of which the port has the light by some steps other."""
     word, much = ('darker', 'less') if steps > 0 else ('lighter', 'more')
     light = f'as under a light of {abs(steps) * LIGHT} {much}'
     return f'  {word:8} {light}: all {pixels} pixels that differ of {named(keys)}'
 
 
-def grouped(records: bytes, places: typing.Iterable[int], ours: bytes, port: bytes) -> typing.Dict[Key, Groups]:
+def grouped(keys: typing.List[Key], places: typing.Iterable[int], ours: bytes, port: bytes) -> typing.Dict[Key, Groups]:
     """The pairs of colours at some places of a view, of each painter that is lit by its columns or rows."""
     found: typing.Dict[Key, Groups] = collections.defaultdict(lambda: collections.defaultdict(set))
     for place in places:
-        key = key_of(records, place)
+        key = keys[place]
         if key[0] in (WALL, PLANE, MIDDLE, SPRITE, WEAPON):
             found[key][line_of(key[0], place)].add((ours[place], port[place]))
     return found
@@ -130,7 +133,7 @@ def grouped(records: bytes, places: typing.Iterable[int], ours: bytes, port: byt
 def named(keys: typing.Iterable[Key]) -> str:
     """Painters by what their numbers count."""
     numbers = collections.defaultdict(set)
-    for kind, number in keys:
+    for kind, low, high in keys:
         word, thing = traces.KINDS[kind]
-        numbers[f'{word} {thing}' if kind == WEAPON else thing].add(number)
+        numbers[f'{word} {thing}' if kind == WEAPON else thing].add(low + 256 * high)
     return ', '.join(f'{thing} {traces.some_of(found)}' for thing, found in sorted(numbers.items()))
