@@ -53,7 +53,7 @@ def item(kind, values):
 class ListFile:
     """A file that `doomview list` wrote, which is read and checked to its end; views are read where they are asked."""
 
-    def __init__(self, path):
+    def __init__(self, path: str):
         check_source(path)
         self.path, self.line, self.places = path, 0, []
         with open(path, 'rb') as file:
@@ -64,10 +64,10 @@ class ListFile:
                 self.places.append(place)
 
     @property
-    def count(self):
+    def count(self) -> int:
         return len(self.places)
 
-    def view(self, number):
+    def view(self, number: int) -> View:
         """What a view is made of."""
         with open(self.path, 'rb') as file:
             place, self.line = self.places[number]
@@ -124,13 +124,13 @@ def narrow(view: View, least: int) -> typing.Set[int]:
             if 0 < sprite.first <= sprite.last < WIDTH - 1 and sprite.last - sprite.first + 1 < least}
 
 
-def shortened(words, shown):
+def shortened(words: list, shown: int) -> str:
     """Words in a row, of which some are shown at most."""
     more = f' and {len(words) - shown} more' if len(words) > shown else ''
     return ', '.join(map(str, words[:shown])) + more
 
 
-def sectors_told(sectors):
+def sectors_told(sectors: typing.List[int]) -> str:
     return ('sector ' if len(sectors) == 1 else 'sectors ') + shortened(sectors, SHOWN_SECTORS)
 
 
@@ -171,8 +171,8 @@ class Places:
         try:
             seg = self.level.segs[number]
             return seg, self.level.lines[seg.line][5 + seg.side]
-        except IndexError:
-            raise self.other(f'{self.level.name} has no seg {number}')
+        except IndexError as error:
+            raise self.other(f'{self.level.name} has no seg {number}') from error
 
     def line_of(self, fragment):
         """The line of a fragment, and which of its sides, in words."""
@@ -183,8 +183,8 @@ class Places:
         try:
             sector = self.level.sector_of_leaf(leaf)
             return self.level.sectors[sector] and sector
-        except (IndexError, TypeError):
-            raise self.other(f'{self.level.name} has no leaf {leaf}')
+        except (IndexError, TypeError) as error:
+            raise self.other(f'{self.level.name} has no leaf {leaf}') from error
 
     def sector_of_fragment(self, fragment):
         """The sector in front of a fragment: that of its leaf."""
@@ -262,8 +262,8 @@ class Places:
                 return [('middle', side.middle)]
             front = self.level.sectors[self.sector_of_fragment(fragment)]
             back = self.level.sectors[self.level.sides[behind].sector]
-        except (IndexError, TypeError):
-            raise self.other(f'line {seg.line} of {self.level.name} has no such side')
+        except (IndexError, TypeError) as error:
+            raise self.other(f'line {seg.line} of {self.level.name} has no such side') from error
         has_upper = back.ceiling < front.ceiling and not front.ceiling_flat == back.ceiling_flat == SKY
         return [('upper', side.upper)] * has_upper + [('lower', side.lower)] * (back.floor > front.floor)
 
@@ -351,7 +351,7 @@ class Placing:
         return self.list.view(number)
 
 
-def only_map(files):
+def only_map(files: typing.List[str]) -> str:
     """The name of the map of some WADs that have one alone."""
     found = wads.map_labels([lump for file in files for lump in wads.read(file)])
     if len(found) != 1:

@@ -80,11 +80,11 @@ class Palette:
 
     def __init__(self, data: bytes):
         self.colours = [data[3 * i:3 * i + 3] for i in range(256)]
-        self.index = {}
+        self.index: typing.Dict[bytes, int] = {}
         for i, colour in enumerate(self.colours):
             self.index.setdefault(colour, i)
         self.table = bytes(self.index[colour] for colour in self.colours)
-        self.strange = set()  # colours that are not in the palette
+        self.strange: typing.Set[bytes] = set()  # colours that are not in the palette
 
     def plain(self, frame: bytes) -> bytes:
         return frame.translate(self.table)
