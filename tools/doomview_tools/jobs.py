@@ -164,8 +164,7 @@ STATUSES = {
     2: Status('refused CODE A B ..', 'the bytes of a file are refused'),
     3: Status('read fault', 'a file is absent, or could not be read'),
     4: Status('write fault', 'the output could not be written'),
-    5: Status('limit view V planes N', 'view V of the path, counted from 0, has more planes than --planes allows; or more '
-              'openings, and the line says so'),
+    5: Status('limit view V planes N', 'view V, counted from 0, has more planes (or openings N) than its limit'),
     6: Status('zone full wanted W widest X', 'the zone has no room for a block of W bytes; every gap is smaller'),
     7: Status('out of memory', 'memory ran out'),
     70: Status('', 'the program could not be built or is not there'),
