@@ -5,12 +5,14 @@ import glob
 import os
 import re
 import shutil
+import subprocess
 import unittest
 
 import constants
 from made_files import TOOLS, TOP, Tools
 from doomview_tools import home, jobs
 
+TESTED = os.environ.get('DOOMVIEW_TESTED', '')
 PAGES = ['README.md', 'CHANGELOG.md', 'tools/original/README.md', 'tools/ports/README.md']
 
 
@@ -267,6 +269,47 @@ class Tables(Tools):
         self.write('clone/docs/TOOLS.md', b'# Tools\n')
         self.assertEqual(self.runs(self.at('clone')), (2, '', 'page_tables: docs/TOOLS.md has no line | Tool | What it does '
                                                        '| Needs |, or nothing behind it\n'))
+
+
+@unittest.skipUnless(TESTED, 'the program is not built')
+class Taken(Tools):
+    """The program takes of each job the options that the data has for it, within their ranges, and no other."""
+
+    PLAIN = {'flat': ['FLAT1', 'made.wad'], 'make': ['things'], 'exercise': ['1']}
+
+    def setUp(self):
+        super().setUp()
+        for name, words in (('made.wad', ['wad', '1']), ('path.csv', ['path', '1']), ('things.csv', ['things']),
+                            ('tables.bin', ['tables'])):
+            self.write(name, self.run_command(TESTED, 'make', *words)[1])
+        self.write('weapon.csv', b'view,sprite,frame,bright,sx,sy\n')
+        self.files = {'--tables': 'tables.bin', '--things': 'things.csv', '--path': 'path.csv', '--weapon': 'weapon.csv'}
+
+    def status(self, job, name, value):
+        """The status of a job with an option."""
+        files = [part for it in jobs.needed() if it != name for part in (it, self.files[it])]
+        words = ['MAP01', 'made.wad', *files] if job in jobs.LEVEL_JOBS else self.PLAIN[job]
+        return self.run_command(TESTED, job, *words, name, value, stdout=subprocess.DEVNULL)[0]
+
+    def values(self, option):
+        """Values of an option that are right, and such that are wrong."""
+        if option.name in self.files:
+            return [self.files[option.name]], []
+        if option.name in jobs.CHOICES:
+            return jobs.CHOICES[option.name], ['other']
+        wrong = [option.least - (option.step or 1), option.greatest + (option.step or 1), *([65537] if option.step else [])]
+        return [option.least, option.greatest, int(option.default)], wrong
+
+    def test_options(self):
+        for name, option in jobs.options().items():
+            right, wrong = self.values(option)
+            for job in jobs.JOBS:
+                is_taken = job in option.jobs
+                found = {str(value): self.status(job, name, str(value)) for value in (right if is_taken else right[-1:])}
+                self.assertEqual({value: status == 1 for value, status in found.items()}, dict.fromkeys(found, not is_taken),
+                                 f'{job} {name}')
+            for value in wrong:
+                self.assertEqual(self.status(option.jobs[0], name, str(value)), 1, f'{name} {value}')
 
 
 if __name__ == '__main__':
