@@ -20,6 +20,7 @@ Pairs = typing.Set[typing.Tuple[int, int]]  # of doomview's colour and the port'
 Groups = typing.Dict[int, Pairs]  # of a painter, by its columns or rows
 Key = typing.Tuple[int, int, int]  # of a painter: its kind, and its number as two bytes
 Found = typing.Dict[Key, typing.Set[int]]  # of painters the steps that there may be
+LightOf = typing.Callable[[int, int], typing.Optional[int]]  # the light of a painter by its kind and number, if it is known
 
 
 def cut(number: int) -> int:
@@ -99,25 +100,28 @@ class Lights:
                 found[key] = set(steps)
         return found
 
-    def told(self, records: bytes, places: typing.List[int], ours: bytes, port: bytes) -> typing.List[str]:
+    def told(self, records: bytes, places: typing.List[int], both: typing.Tuple[bytes, bytes],
+             light_of: LightOf = lambda kind, number: None) -> typing.List[str]:
         """Lines on what differs by its light alone, in a view that differs at some places: that of most pixels first."""
         keys, lines = keys_of(records), []
-        found = self.painters(keys, places, ours, port)
+        found = self.painters(keys, places, *both)
         pixels = collections.Counter(keys[place] for place in places)
         while found:
             counts = collections.Counter({it: sum(pixels[key] for key in found if it in found[key]) for it in STEPS})
             steps = max(STEPS, key=lambda it: (counts[it], -abs(it)))
             alike = {key for key in found if steps in found[key]}
-            lines.append(sentence(counts[steps], steps, alike))
+            lines.append(sentence(counts[steps], steps, alike, light_of))
             found = {key: them for key, them in found.items() if key not in alike}
         return lines
 
 
-def sentence(pixels: int, steps: int, keys: typing.Set[Key]) -> str:
+def sentence(pixels: int, steps: int, keys: typing.Set[Key], light_of: LightOf) -> str:
     """The line on painters of which the port has the light by some steps other."""
     word, much = ('darker', 'less') if steps > 0 else ('lighter', 'more')
-    light = f'as under a light of {abs(steps) * LIGHT} {much}'
-    return f'  {word:8} {light}: all {pixels} pixels that differ of {named(keys)}'
+    lights = {light_of(kind, low + 256 * high) for kind, low, high in keys}
+    own = lights.pop() if len(lights) == 1 else None
+    light = f'a light of {abs(steps) * LIGHT} {much}' if own is None else f'light {own - LIGHT * steps} in the place of {own}'
+    return f'  {word:8} as under {light}: all {pixels} pixels that differ of {named(keys)}'
 
 
 def grouped(keys: typing.List[Key], places: typing.Iterable[int], ours: bytes, port: bytes) -> typing.Dict[Key, Groups]:

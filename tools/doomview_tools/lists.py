@@ -267,12 +267,25 @@ class Places:
         has_upper = back.ceiling < front.ceiling and not front.ceiling_flat == back.ceiling_flat == SKY
         return [('upper', side.upper)] * has_upper + [('lower', side.lower)] * (back.floor > front.floor)
 
+    def lit_by(self, fragment: Fragment, kind: int) -> int:
+        """The sector that lights a wall: that of its leaf, or of a middle texture that of its side."""
+        return self.level.sides[self.seg(fragment.seg)[1]].sector if kind == MIDDLE else self.sector_of_fragment(fragment)
+
     def lit(self, fragment, kind):
-        """The sector that lights a wall, in words: that of its leaf, or of a middle texture that of its side."""
-        sector = self.sector_of_fragment(fragment)
-        if kind == MIDDLE:
-            sector = self.level.sides[self.seg(fragment.seg)[1]].sector
+        """The same in words, with its light."""
+        sector = self.lit_by(fragment, kind)
         return f', sector {sector}, light {self.level.sectors[sector].light}'
+
+    def light(self, view: View, kind: int, number: int) -> typing.Optional[int]:
+        """The light of an item of a view, by its kind and its number; None of what is nowhere in the map."""
+        if kind == PLANE:
+            return self.item(view.planes, 'plane', number).light
+        if kind == SPRITE:
+            thing = self.level.things[self.item(view.sprites, 'sprite', number).thing]
+            return self.level.sectors[self.level.sector_at(thing.x, thing.y)].light
+        if kind in (WALL, MIDDLE):
+            return self.level.sectors[self.lit_by(self.item(view.fragments, 'fragment', number), kind)].light
+        return None
 
     def wall(self, view, painter, number):
         fragment = self.item(view.fragments, 'fragment', number)

@@ -112,6 +112,16 @@ class OtherLights(Tools):
         self.assertEqual(self.said(port, '--only', 'sprite'), [
             f'  darker   as under a light of 16 less: all {self.differing(port, [SPRITE])} pixels that differ of sprite 2'])
 
+    def test_light(self):
+        """Where the light is known the line has it, and the other; not where there are two."""
+        both, found = (drawn(), drawn(144)), []
+        places = [place for place in range(FRAME) if both[0][place] != both[1][place]]
+        for light in (160, 150):
+            told = lights.Lights(colormaps()).told(trace_of(both[0]), places, both,
+                                                   lambda kind, number: 160 if kind == PLANE[0] else light)
+            found += [line.partition(': ')[0] for line in told]
+        self.assertEqual(found, ['  darker   as under light 144 in the place of 160', '  darker   as under a light of 16 less'])
+
     def test_steps(self):
         """From which colormap to which a step of light may lead: both are cut at their ends."""
         for pair, found in (((20, 24), {1}), ((20, 12), {-2}), ((20, 21), set()), ((31, 31), set(lights.STEPS)),

@@ -171,6 +171,15 @@ class Lists(Tools):
             self.assertEqual({it.split(':')[0] for it in found[2]}, set(places))
             self.assertEqual(found[3:], [found[2][0].split(':')[0], False])
 
+    def test_light(self):
+        """The light of a plane is in the list; that of a wall and of a thing is that of its sector."""
+        view = lists.ListFile(self.at('list.txt')).view(0)
+        places = lists.Places(levels.read([self.at('level.wad')], 'MAP01'), traces.Names([self.at('level.wad')]), 'list.txt')
+        places.level.sectors[:] = [sector._replace(light=light) for sector, light in zip(places.level.sectors, (10, 20, 30))]
+        for kind, number, light in ((lists.WALL, 0, 10), (lists.MIDDLE, 0, 10), (lists.PLANE, 1, 160), (lists.SPRITE, 0, 10),
+                                    (lists.SKY_PLANE, 2, None), (6, 1, None)):
+            self.assertEqual(places.light(view, kind, number), light, kind)
+
     def test_narrow(self):
         """Sprites of few columns, but for those that an edge of the screen may cut."""
         columns = [(5, 5), (5, 6), (0, 0), (-4, 0), (319, 319), (318, 318), (1, 1), (7, 6)]

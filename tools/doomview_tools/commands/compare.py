@@ -31,7 +31,8 @@ their box, and the first of them with both colours. The last line counts all vie
 With the file that doomview trace wrote for the same words, the lines under it say what doomview painted there: the
 painter's kind, the lump or texture, the pixels, and the numbers of the fragments, planes or sprites in the view. Names
 need the WADs of the run. A texture of one patch is named where no other texture has the patch. Where the port has a
-fragment, a plane or a sprite as under another light, a line says how much lighter or darker that is.
+fragment, a plane or a sprite as under another light, a line says how much lighter or darker that is, and with a list
+which light.
 
 With --list, what doomview list wrote for the same words, the lines under those say where in the map that is: the pixels
 of each line, side and part of a wall, of each sector's floor or ceiling, and of each thing.
@@ -234,15 +235,17 @@ class Comparison:
         line = told(view, ours, port, places) + (f'; {known}' if known else '')
         place_of, shown = self.place_of(view), mixed(ours, port, mask)
         if self.different <= self.options.most:
-            print(*[line, *(self.of_painters((ours, port), places, trace, place_of) if trace else [])], sep='\n')
+            print(*[line, *(self.of_painters(view, (ours, port), places, trace) if trace else [])], sep='\n')
             if self.options.png:
                 put_picture(self.options.png, view, (ours, shown), places, self.names.palette)
         if self.options.html:
             self.page.add(view, line, known, (ours, shown), places, trace, place_of)
 
-    def of_painters(self, both: Both, places: typing.List[int], trace: bytes, place_of: typing.Optional[PlaceOf]) -> list:
+    def of_painters(self, view: int, both: Both, places: typing.List[int], trace: bytes) -> typing.List[str]:
         """Lines on what doomview painted where a view differs, and on what differs by its light alone."""
-        return [*traces.painters(trace, places, self.names, place_of), *self.lights.told(trace, places, *both)]
+        known = [functools.partial(self.placing.places.light, self.placing.view(view))] if self.placing else []
+        return [*traces.painters(trace, places, self.names, self.place_of(view)),
+                *self.lights.told(trace, places, both, *known)]
 
     def counted(self, pixels: int) -> str:
         """A line on the pixels that count, where not all do."""
