@@ -164,6 +164,9 @@ class Pages(unittest.TestCase):
             self.assertEqual(int(option.default), constants.value('command_line', default), name)
         self.assertEqual({name for name, option in jobs.options().items() if option.least is not None}, set(code))
         self.assertEqual(jobs.MOST_WADS, constants.value('job_rules', 'MAX_WADS'))
+        for name, choices in jobs.CHOICES.items():
+            self.assertEqual([it for it in choices if it not in jobs.options()[name].meaning], [], name)
+            self.assertIn(jobs.options()[name].default, choices)
         flags = re.findall(r'"([a-z]+)"', read('crates/command_line/src/simple.rt'))
         self.assertEqual({f'--{flag}' for flag in flags if f'--{flag}' in jobs.options()}, set(jobs.options()))
 
