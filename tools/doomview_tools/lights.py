@@ -120,7 +120,8 @@ def sentence(pixels: int, steps: int, keys: typing.Set[Key], light_of: LightOf) 
     word, much = ('darker', 'less') if steps > 0 else ('lighter', 'more')
     lights = {light_of(kind, low + 256 * high) for kind, low, high in keys}
     own = lights.pop() if len(lights) == 1 else None
-    light = f'a light of {abs(steps) * LIGHT} {much}' if own is None else f'light {own - LIGHT * steps} in the place of {own}'
+    step = abs(steps) * LIGHT
+    light = f'a light of {step} {much}' if own is None else f'light {own - LIGHT * steps} in the place of {own}'
     return f'  {word:8} as under {light}: all {pixels} pixels that differ of {named(keys)}'
 
 
