@@ -7,6 +7,7 @@ import re
 import shutil
 import sys
 import textwrap
+import types
 import typing
 
 from . import jobs, levels, wads
@@ -17,46 +18,50 @@ UNBROKEN = '\N{NO-BREAK SPACE}'
 HELP = {'--help', '-h'}
 WAD = 'a WAD, found as ports find it (see doomview --help)'
 MINUS_ROW = re.compile(r'-[\d.]+,')  # the beginning of a row that would be taken for an option
+PYTHON = 'Python alone'
 JOB_OPTION = 'job '  # before the names of options that are handed on
 
 
 class Page(typing.NamedTuple):
-    """The parts of a help page. `usage` has the forms of a call, where they cannot be told from its words."""
+    """The parts of a help page. `usage` has the forms of a call, and `forms` the short ones for a table, where they cannot
+    be told from its words; `more` is the page in docs that says more."""
 
     name: str
     summary: str
     text: str
     examples: str
-    needs: str = 'Python alone'
+    needs: str = PYTHON
     ends: str = ' 0  all is well\n 2  it could not be done, and a sentence says why'
     usage: tuple = ()
+    forms: tuple = ()
+    more: str = ''
 
 
-def columns():
+def columns() -> int:
     """The width of a help page."""
     return max(60, min(MOST_COLUMNS, shutil.get_terminal_size((MOST_COLUMNS, 24)).columns))
 
 
 class Formatter(argparse.RawDescriptionHelpFormatter):
-    def __init__(self, prog):
+    def __init__(self, prog: str):
         super().__init__(prog, max_help_position=26, width=columns())
 
 
 class Parser(argparse.ArgumentParser):
     """The words of a tool or a job. All help pages have the same parts in the same order."""
 
-    def __init__(self, page):
+    def __init__(self, page: Page):
         super().__init__(prog=f'doomview {page.name}', description=filled(page.text), epilog=last_parts(page),
                          add_help=False, allow_abbrev=False, formatter_class=Formatter)
         self.page = page
         self._positionals.title, self._optionals.title = 'Words', 'Options'
 
-    def error(self, message):
+    def error(self, message: str) -> typing.NoReturn:
         wrong = message.startswith('unrecognized arguments: ') and message.split()[2].partition('=')[0]
         near = jobs.meant(wrong, self._option_string_actions) if wrong and wrong.startswith('--') else ''
         raise Trouble(f'{message.replace("argument ", "")}{near}; {self.prog} --help shows its words')
 
-    def format_usage(self):
+    def format_usage(self) -> str:
         """All words, the positional ones first."""
         plain = [form_of(action) for action in self._actions if not action.option_strings]
         options = [form_of(action) for action in self._actions if action.option_strings and action.dest != 'help']
@@ -66,7 +71,7 @@ class Parser(argparse.ArgumentParser):
                        for i, form in enumerate(forms))
         return text.replace(UNBROKEN, ' ')
 
-    def parse(self, words):
+    def parse(self, words: typing.List[str]) -> argparse.Namespace:
         """What the words give. Options may stand between plain words, but for a tool that takes the rest of its words."""
         takes_rest = any(action.nargs == argparse.REMAINDER for action in self._actions)
         if HELP & {*(words[:1] if takes_rest else words)}:
@@ -76,45 +81,46 @@ class Parser(argparse.ArgumentParser):
             words = [f' {word}' if MINUS_ROW.match(word) else word for word in words]
         return self.parse_args(words) if takes_rest else self.parse_intermixed_args(words)
 
-    def format_help(self):
+    def format_help(self) -> str:
         self.usage = argparse.SUPPRESS
         return f'{self.format_usage()}\n{super().format_help()}'
 
 
-def form_of(action):
+def form_of(action: argparse.Action) -> str:
     """How a word or an option is written."""
-    many = '..' if action.nargs in ('*', '+') else ''
+    many, metavar = '..' if action.nargs in ('*', '+') else '', str(action.metavar or '')
     if action.option_strings:
-        form = ' '.join(filter(None, [action.option_strings[0], action.metavar])) + many
+        form = ' '.join(filter(None, [action.option_strings[0], metavar])) + many
         return form if action.required else f'[{form}]'
-    return f'[{action.metavar}{many}]' if action.nargs in ('*', '?') else action.metavar + many
+    return f'[{metavar}{many}]' if action.nargs in ('*', '?') else metavar + many
 
 
-def filled(text):
+def filled(text: str) -> str:
     """Paragraphs, each filled up to the width of the page."""
     return '\n\n'.join(textwrap.fill(' '.join(part.split()), columns(), break_on_hyphens=False)
                        for part in text.strip().split('\n\n'))
 
 
-def last_parts(page):
-    """The examples of a page, how it ends, and what it needs."""
-    parts = [('Examples', page.examples), ('Ends with', page.ends), ('Needs', page.needs + '.')]
+def last_parts(page: Page) -> str:
+    """The examples of a page, how it ends, what it needs, and where more is."""
+    parts = [('Examples', page.examples), ('Ends with', page.ends), ('Needs', page.needs + '.'),
+             ('More in', page.more and f'docs/{page.more}')]
     return '\n\n'.join(f'{title}:\n' + textwrap.indent(text.strip('\n'), '  ') for title, text in parts if text)
 
 
-def add_output(parser, what):
+def add_output(parser: argparse.ArgumentParser, what: str) -> None:
     parser.add_argument('-o', dest='output', metavar='FILE',
                         help=f'writes {what} to FILE, whole or not at all, and not to the standard output')
 
 
-def add_base(parser):
+def add_base(parser: argparse.ArgumentParser) -> None:
     parser.add_argument('--iwad', metavar='WAD', help='the WAD that a PWAD needs, read before it; else that of the '
                         'variable IWAD')
     parser.add_argument('--file', metavar='WAD', action='append', default=[], help='a WAD more, such as one with '
                         'textures; as often as wanted, read in this order after the IWAD and before a PWAD')
 
 
-def add_level(parser, is_needed=True):
+def add_level(parser: argparse.ArgumentParser, is_needed: bool = True) -> None:
     """The words of a tool over one map, which some need not name."""
     parser.add_argument('wad', metavar='WAD', help=WAD)
     parser.add_argument('map', metavar='MAP', nargs=None if is_needed else '?', help='the name of a map, such as MAP01 or '
@@ -122,28 +128,34 @@ def add_level(parser, is_needed=True):
     add_base(parser)
 
 
-def wads_of(options):
+def wads_of(options: argparse.Namespace) -> typing.List[str]:
     """The WADs of a tool over one WAD, in their order."""
     return wads.with_base(options.wad, options.iwad, options.file)
 
 
-def level_of(options, files):
+def level_of(options: argparse.Namespace, files: typing.List[str]) -> levels.Level:
     """The level of a tool over one map; a Trouble where the map is in no other WAD than the one of --iwad."""
     level = levels.read(files, options.map)
     wads.check_own(level.name, level.wad, files, wads.find(options.wad), options.file)
     return level
 
 
-def number(least, greatest):
+def number(least: int, greatest: int) -> typing.Callable[[str], int]:
     """The type of a word that is a number within a range."""
-    def read(text):
+    def read(text: str) -> int:
         if not text.isdecimal() or not least <= int(text) <= greatest:
             raise argparse.ArgumentTypeError(f'a number from {least} to {greatest}, and not {text}')
         return int(text)
     return read
 
 
-def add_job_options(parser, job, without=()):
+def forms_of(tool: types.ModuleType) -> typing.List[str]:
+    """A tool with its plain words and those that it needs, once for each way of calling it."""
+    needed = [form_of(action) for action in parser_of(tool)._actions if not action.option_strings or action.required]
+    return [f'{tool.PAGE.name} {form}' for form in tool.PAGE.forms] or [' '.join([tool.PAGE.name, *needed])]
+
+
+def add_job_options(parser: argparse.ArgumentParser, job: str, without: typing.Iterable[str] = ()) -> None:
     """The options of a job that a tool hands on to it."""
     for option in jobs.options_of(job):
         if option.name not in without:
@@ -151,13 +163,13 @@ def add_job_options(parser, job, without=()):
                                 help=meaning_of(option))
 
 
-def job_words(options):
+def job_words(options: argparse.Namespace) -> typing.List[str]:
     """The words of the options that a tool hands on to a job."""
     found = {name[len(JOB_OPTION):]: value for name, value in vars(options).items() if name.startswith(JOB_OPTION)}
     return [part for name, value in found.items() if value is not None for part in (name, value)]
 
 
-def parser_of(tool):
+def parser_of(tool: types.ModuleType) -> Parser:
     """The parser of a tool, which also prints its help page."""
     parser = Parser(tool.PAGE)
     tool.add_words(parser)
@@ -165,13 +177,13 @@ def parser_of(tool):
     return parser
 
 
-def add_help(parser):
+def add_help(parser: argparse.ArgumentParser) -> None:
     parser.add_argument('--help', '-h', action='help', help='prints this page')
 
 
-def job_page(job):
+def job_page(job: jobs.Job) -> str:
     """The help page of a job, by the table of options."""
-    ends = '\n'.join(f'{status:2}  {meaning}' for status, meaning in jobs.STATUSES.items())
+    ends = '\n'.join(f'{number:2}  {": ".join(filter(None, status))}' for number, status in jobs.STATUSES.items())
     parser = Parser(Page(job.name, job.summary, job.text, job.examples, 'the program; it is built at the first call',
                          ends))
     for metavar, meaning in job.words:
@@ -179,15 +191,16 @@ def job_page(job):
     for option in jobs.options_of(job.name):
         parser.add_argument(option.name, metavar=option.value, help=meaning_of(option),
                             required=option.is_needed and not option.default)
-    if job.name == 'limits':
-        parser.add_argument('--places', action='store_true', help='adds where each view is: as an editor shows it, and '
-                            'as its row of the path')
-    add_output(parser, 'the output')
+    for own in jobs.OWN_OPTIONS:
+        if own.jobs in ('all', job.name) and own.value:
+            parser.add_argument(own.name, metavar=own.value, help=own.meaning)
+        elif own.jobs in ('all', job.name):
+            parser.add_argument(own.name, action='store_true', help=own.meaning)
     add_help(parser)
     return parser.format_help()
 
 
-def meaning_of(option):
+def meaning_of(option: jobs.Option) -> str:
     """What an option means, its range, and what it is where it is not named."""
     parts = [option.meaning]
     if option.least is not None:
@@ -199,7 +212,7 @@ def meaning_of(option):
     return '; '.join(parts)
 
 
-def in_order(options):
+def in_order(options: argparse.Namespace) -> argparse.Namespace:
     """The words of a tool, a WAD and a map in either order where the words tell."""
     wad, name = getattr(options, 'wad', None), getattr(options, 'map', None)
     if isinstance(wad, str) and isinstance(name, str) and jobs.is_wad(name) and not jobs.is_wad(wad):
@@ -207,7 +220,7 @@ def in_order(options):
     return options
 
 
-def run(tool, words):
+def run(tool: types.ModuleType, words: typing.List[str]) -> int:
     """Runs a tool with its words; its status."""
     try:
         return tool.run(in_order(parser_of(tool).parse(words))) or 0

@@ -3,12 +3,13 @@ import importlib
 import os
 import signal
 import sys
+import types
+import typing
 
 from . import cli, explanations, home, jobs, notes, paths, program, system
 from .files import write_output
 from .trouble import TROUBLE, Trouble
 
-PLACES = '--places'  # an option of the command for the job limits
 TOOLS = ['picture', 'places', 'turn', 'path', 'compare', 'pixel', 'explain', 'lint', 'limits-map', 'why-limit', 'video',
          'audit-all', 'draw-all', 'maps', 'tables', 'room', 'vectors', 'rest']
 OVERVIEW = '''usage: doomview JOB WORDS.. [OPTIONS]
@@ -27,9 +28,7 @@ The page of a job or tool, with its words, options and examples:
 Where a job fails, sentences say why. A map and its WADs may come in either order.
 
 Of the command itself:
-  doomview --version   the version, and the logic that the program is proved in
-  doomview --build     builds the program, if that is needed; every job does so too
-  doomview --built     ends with 0 where the program is built, else with 1
+{own}
 
 WADs are found as ports find them: as they are named, in the folders of DOOMWADDIR
 and DOOMWADPATH, and in those of the packages (/usr/share/games/doom and its kin),
@@ -38,31 +37,32 @@ there also in small letters and without .wad.
 The manual: man -l {manual}'''
 
 
-def tool(name):
+def tool(name: str) -> types.ModuleType:
     """The module of a tool."""
     return importlib.import_module('.commands.' + name.replace('-', '_'), __package__)
 
 
-def table(lines):
+def table(lines: typing.Iterable[typing.Tuple[str, str]]) -> str:
     return '\n'.join(f'  {left:18} {right}' for left, right in lines)
 
 
-def overview():
+def overview() -> str:
     """What `doomview --help` prints."""
-    job_lines = [(' '.join([job.name, *(word for word, _ in job.words)]), job.summary) for job in jobs.JOBS.values()]
+    job_lines = [(job.form, job.summary) for job in jobs.JOBS.values()]
     tool_lines = [(name, tool(name).PAGE.summary) for name in TOOLS]
-    return OVERVIEW.format(jobs=table(job_lines), tools=table(tool_lines), manual=home.MANUAL)
+    own_lines = [(f'doomview {option.name}', option.meaning) for option in jobs.OWN_OPTIONS if not option.jobs]
+    return OVERVIEW.format(jobs=table(job_lines), tools=table(tool_lines), own=table(own_lines), manual=home.MANUAL)
 
 
-def version():
+def version() -> str:
     known = home.version()
     return f'doomview {known["version"]}\nlogic {known["logic"]}'
 
 
-def run_job(words):
+def run_job(words: typing.List[str]) -> int:
     """Runs a job, and says why where it fails; or hands words to the program that are none of this command's. For words
     that are no job nothing is built, since the program's answer is known."""
-    plain = [word for word in words if word != PLACES]
+    plain = [word for word in words if word != jobs.PLACES]
     if plain != words and jobs.Words(plain).job == 'limits':
         return limits_with_places(jobs.in_order(plain))
     is_job = jobs.Words(words).job in jobs.JOBS
@@ -77,13 +77,13 @@ def run_job(words):
     return done.status
 
 
-def warn(words):
+def warn(words: typing.List[str]) -> None:
     """Says what will be accepted, and may be a mistake."""
     for sentence in notes.of_words(jobs.Words(program.completed(words))):
         print(f'doomview: warning: {sentence}', file=sys.stderr, flush=True)
 
 
-def say_why(done, words, is_job=True):
+def say_why(done: program.Run, words: typing.List[str], is_job: bool = True) -> None:
     """Says why a run failed, by the line that it ended with."""
     if is_job:
         explanations.tell(done.line, words, explanations.on_line)
@@ -91,14 +91,14 @@ def say_why(done, words, is_job=True):
         print(f'explain: {no_such(words)}', file=sys.stderr)
 
 
-def no_such(words):
+def no_such(words: typing.Sequence[str]) -> str:
     """The sentence on words of which the first is no job and no tool."""
     first = jobs.Words(words).job or words[0]
     near = jobs.meant(first, [*jobs.JOBS, *TOOLS])
     return f'there is no job or tool {first}{near or "; doomview --help has them all"}'
 
 
-def limits_with_places(words):
+def limits_with_places(words: typing.List[str]) -> int:
     """Prints what the job limits does, and behind each line where the view is; its status."""
     given = jobs.Words(words)
     warn(words)
@@ -112,7 +112,7 @@ def limits_with_places(words):
     return 0
 
 
-def build():
+def build() -> int:
     if home.IS_RELEASE:
         print('doomview: this is a release: the program is built already')
     elif not program.is_built():
@@ -120,18 +120,18 @@ def build():
     return 0
 
 
-def stop(number, _):
+def stop(number: int, _: typing.Optional[types.FrameType]) -> typing.NoReturn:
     """Ends this process by a signal; what it holds is cleared up on the way."""
     raise SystemExit(128 + number)
 
 
-def usage(words=()):
+def usage(words: typing.Sequence[str] = ()) -> int:
     """What the program says of words that are no job, and what would be some."""
     print('doomview: usage', overview(), *([f'explain: {no_such(words)}'] if words else []), sep='\n', file=sys.stderr)
     return jobs.USAGE
 
 
-def help_of(words):
+def help_of(words: typing.List[str]) -> int:
     """Prints the page of a job or a tool, or of the command; the status."""
     if not words:
         print(overview())
@@ -144,7 +144,7 @@ def help_of(words):
     return 0
 
 
-def main(words):
+def main(words: typing.List[str]) -> int:
     """Runs the command; its status."""
     for number in system.signals('SIGTERM', 'SIGHUP'):
         signal.signal(number, stop)
@@ -165,7 +165,7 @@ def main(words):
         return TROUBLE
 
 
-def answer(words):
+def answer(words: typing.List[str]) -> int:
     """What the command does with its words; its status."""
     if not words:
         return usage()

@@ -1,5 +1,5 @@
-"""The jobs of the proved program, its options (data/options.csv, where they stand once), and the words of a call."""
-import collections
+"""The jobs of the proved program, its options (data/options.csv) and statuses, which stand here once, and the words of a
+call. tools/page_tables makes the tables of the pages and of the manual of them."""
 import csv
 import difflib
 import functools
@@ -16,8 +16,52 @@ LIKENESS = 0.7  # of a word that may be meant, as difflib has it
 MAP_NAME = re.compile('E[1-9]M[1-9]|MAP[0-9]{2}')
 NUMERAL = re.compile('[0-9]{1,10}')
 
-Option = collections.namedtuple('Option', 'name value jobs is_needed least greatest step default meaning')
-Job = collections.namedtuple('Job', 'name words summary is_binary text examples')
+
+class Option(typing.NamedTuple):
+    """An option of the proved program: its jobs, its range, and what it is where it is not named."""
+
+    name: str
+    value: str
+    jobs: typing.List[str]
+    is_needed: bool
+    least: typing.Optional[int]
+    greatest: typing.Optional[int]
+    step: typing.Optional[int]
+    default: str
+    meaning: str
+
+
+class OwnOption(typing.NamedTuple):
+    """An option of the command doomview beside those of the program; its jobs in words, empty where it needs none."""
+
+    name: str
+    value: str
+    jobs: str
+    meaning: str
+
+
+class Job(typing.NamedTuple):
+    """A job of the proved program: its words with what each is, and the parts of its page."""
+
+    name: str
+    words: typing.List[typing.Tuple[str, str]]
+    summary: str
+    is_binary: bool
+    text: str
+    examples: str
+
+    @property
+    def form(self) -> str:
+        """The job with its words."""
+        return ' '.join([self.name, *(word for word, _ in self.words)])
+
+
+class Status(typing.NamedTuple):
+    """How a run ends: the line that the program writes, if it writes one, and when."""
+
+    line: str
+    when: str
+
 
 MAP = ('MAP', 'the name of a map, such as MAP01 or E1M1')
 WADS = ('WAD..', f'up to {MOST_WADS} WADs, read as one list of lumps: the IWAD first, then PWADs')
@@ -115,24 +159,33 @@ sectors 400 views 30 frames 30 bytes 1920000 sum 110342962
 ]}
 LEVEL_JOBS = [job.name for job in JOBS.values() if job.words[0] == MAP]
 STATUSES = {
-    0: 'the whole output was written',
-    1: 'usage: the words are no job; a sentence says what is wrong',
-    2: 'refused CODE A B ..: the bytes of a file are refused; sentences say which, and how to mend it',
-    3: 'read fault: a file is absent, or could not be read; a sentence says which',
-    4: 'write fault: the output could not be written',
-    5: 'limit view V planes N, or openings N: a view has more than --planes or --openings allow',
-    6: 'zone full wanted W widest X: --zone is too small',
-    7: 'out of memory',
-    70: 'the program could not be built',
+    0: Status('', 'the whole output was written'),
+    1: Status('usage', 'the arguments are invalid'),
+    2: Status('refused CODE A B ..', 'the bytes of a file are refused'),
+    3: Status('read fault', 'a file is absent, or could not be read'),
+    4: Status('write fault', 'the output could not be written'),
+    5: Status('limit view V planes N', 'view V, counted from 0, has more planes (or openings N) than its limit'),
+    6: Status('zone full wanted W widest X', 'the zone has no room for a block of W bytes; every gap is smaller'),
+    7: Status('out of memory', 'memory ran out'),
+    70: Status('', 'the program could not be built or is not there'),
 }
+OUTPUT, PLACES = '-o', '--places'
+OWN_OPTIONS = [
+    OwnOption(OUTPUT, 'FILE', 'all', 'the output goes to FILE, whole or not at all, and not to the standard output'),
+    OwnOption(PLACES, '', 'limits', 'adds to each line where the view is, as an editor shows it and as its row of the path'),
+    OwnOption('--help', '', '', 'prints the jobs and tools; behind one of them its page, as help before it does'),
+    OwnOption('--version', '', '', 'prints the version, and the logic that the program is proved in'),
+    OwnOption('--build', '', '', 'builds the program, if that is needed; every job does so too'),
+    OwnOption('--built', '', '', 'ends with 0 where the program is built and no older than its sources, else with 1'),
+]
 
 
 @functools.lru_cache(maxsize=None)
-def options():
+def options() -> typing.Dict[str, Option]:
     """The options by name, in their order."""
     path = home.data('options.csv')
 
-    def number(text):
+    def number(text: str) -> typing.Optional[int]:
         return int(text) if text else None
 
     try:
@@ -140,31 +193,35 @@ def options():
             found = {row['option']: Option(row['option'], row['value'], row['jobs'].split(), row['needed'] == 'yes',
                                            number(row['least']), number(row['greatest']), number(row['step']),
                                            row['default'], row['meaning']) for row in csv.DictReader(file)}
-    except (OSError, KeyError, ValueError, AttributeError):
-        found = {}
+    except (OSError, KeyError, ValueError, AttributeError) as error:
+        raise damaged(path) from error
     if not found:
-        raise Trouble(f'{path} is missing or damaged; take the whole folder of doomview anew')
+        raise damaged(path)
     return found
 
 
-def options_of(job):
+def damaged(path: str) -> Trouble:
+    return Trouble(f'{path} is missing or damaged; take the whole folder of doomview anew')
+
+
+def options_of(job: str) -> typing.List[Option]:
     """The options that a job takes."""
     return [option for option in options().values() if job in option.jobs]
 
 
-def needed():
+def needed() -> typing.List[str]:
     """The names of the options that a job over a level needs."""
     return [option.name for option in options().values() if option.is_needed]
 
 
-def take_output(words):
+def take_output(words: typing.List[str]) -> typing.Tuple[typing.List[str], typing.Optional[str]]:
     """The words without `-o FILE`, and FILE or None."""
     end = words.index('--') if '--' in words else len(words)
-    at = [place for place, word in enumerate(words[:end]) if word == '-o']
+    at = [place for place, word in enumerate(words[:end]) if word == OUTPUT]
     if not at:
         return words, None
     if len(at) > 1 or at[0] + 1 == end:
-        raise Trouble('-o comes once, with the name of a file behind it', USAGE)
+        raise Trouble(f'{OUTPUT} comes once, with the name of a file behind it', USAGE)
     return words[:at[0]] + words[at[0] + 2:], words[at[0] + 1]
 
 
@@ -173,9 +230,11 @@ class Words:
     and the file `output` that `-o` names, which is none of the program's `words`. As the program does it takes
     `--zone 64` and `--zone=64`, and all behind `--` as plain words."""
 
-    def __init__(self, words):
+    def __init__(self, words: typing.Iterable[str]):
         self.words, self.output = take_output(list(words)) if {*words} & {*JOBS} else (list(words), None)
-        self.plain, self.places, self.given = [], [], {}
+        self.plain: typing.List[str] = []
+        self.places: typing.List[int] = []
+        self.given: typing.Dict[str, typing.List[typing.Optional[str]]] = {}
         words, at, are_plain = self.words, 0, False
         while at < len(words):
             word = words[at]
@@ -183,44 +242,42 @@ class Words:
                 are_plain = True
             elif word.startswith('--') and not are_plain:
                 name, equal, value = word.partition('=')
-                if not equal:
-                    at += 1
-                    value = words[at] if at < len(words) else None
-                self.given.setdefault(name, []).append(value)
+                at += not equal
+                self.given.setdefault(name, []).append(value if equal else words[at] if at < len(words) else None)
             else:
                 self.plain.append(word)
                 self.places.append(at)
             at += 1
 
     @property
-    def job(self):
+    def job(self) -> str:
         return self.plain[0] if self.plain else ''
 
     @property
-    def map_name(self):
+    def map_name(self) -> str:
         return self.plain[1] if self.job in LEVEL_JOBS and len(self.plain) > 1 else ''
 
     @property
-    def wads(self):
+    def wads(self) -> typing.List[str]:
         return self.plain[2:] if self.job in LEVEL_JOBS or self.job == 'flat' else []
 
     @property
-    def files(self):
+    def files(self) -> typing.List[str]:
         """The files that a call reads: those of its options, and its WADs."""
         named = [self.value(name) for name in (*needed(), '--weapon')]
         return [name for name in named if name] + self.wads
 
     @property
-    def writes_bytes(self):
+    def writes_bytes(self) -> bool:
         """Whether what the job writes is no text."""
         job = JOBS.get(self.job)
-        return bool(job) and job.is_binary and self.plain[:2] not in (['make', 'path'], ['make', 'things'])
+        return job is not None and job.is_binary and self.plain[:2] not in (['make', 'path'], ['make', 'things'])
 
-    def value(self, name):
+    def value(self, name: str) -> typing.Optional[str]:
         """The first value of an option, or None."""
         return self.given.get(name, [None])[0]
 
-    def with_wads_found(self):
+    def with_wads_found(self) -> typing.List[str]:
         """The words, each WAD by its path where ports find it; a name that is found nowhere stays as it is."""
         words = list(self.words)
         for place in self.places[2:] if self.wads else []:
@@ -240,7 +297,7 @@ def is_wad(word: str) -> bool:
     return not is_map and (word.lower().endswith('.wad') or system.has_folder(word) or wads.find_or_none(word) is not None)
 
 
-def in_order(words: list) -> list:
+def in_order(words: typing.List[str]) -> typing.List[str]:
     """The words of a job with the map, or the flat, before the WADs, where it stands behind one and the words tell."""
     given = Words(words)
     others = [word for word in given.plain[1:] if not is_wad(word)]
@@ -250,10 +307,10 @@ def in_order(words: list) -> list:
     kept = [word for word in given.plain[1:] if is_wad(word)]
     for place, word in zip(given.places[1:], others + kept):
         own[place] = word
-    return own if given.output is None else ['-o', given.output, *own]
+    return own if given.output is None else [OUTPUT, given.output, *own]
 
 
-def wrong_option(job, name, values):
+def wrong_option(job: str, name: str, values: typing.List[typing.Optional[str]]) -> typing.Optional[str]:
     """What is wrong with an option of a job, or None."""
     known = [option.name for option in options_of(job)]
     if job in JOBS and name not in known:
@@ -266,12 +323,12 @@ def wrong_option(job, name, values):
     return wrong_value(options()[name], values[0]) if name in options() else None
 
 
-def wrong_value(option, value):
+def wrong_value(option: Option, value: str) -> typing.Optional[str]:
     """What is wrong with the value of an option, or None."""
     choices = CHOICES.get(option.name)
     if choices and value not in choices:
         return f'{option.name} is {" or ".join(choices)}, and not {value}'
-    if option.least is None:
+    if option.least is None or option.greatest is None:
         return None
     if not NUMERAL.fullmatch(value) or not option.least <= int(value) <= option.greatest:
         return f'{option.name} is a number from {option.least} to {option.greatest}, and not {value}'
@@ -280,16 +337,16 @@ def wrong_value(option, value):
     return None
 
 
-def wrong_words(words):
+def wrong_words(words: Words) -> typing.List[str]:
     """Sentences on what is wrong with the words of a call, as far as it can be told."""
-    found = [wrong_option(words.job, name, values) for name, values in words.given.items()]
-    found = [sentence for sentence in found if sentence]
+    tried = (wrong_option(words.job, name, values) for name, values in words.given.items())
+    found = [sentence for sentence in tried if sentence]
     if words.job not in JOBS:
         return [f'the first word is a job: {", ".join(JOBS)}{meant(words.job, JOBS)}', *found]
     return found + (wrong_level(words) if words.job in LEVEL_JOBS else [])
 
 
-def wrong_level(words):
+def wrong_level(words: Words) -> typing.List[str]:
     """The same of a job over a level."""
     job, count = words.job, len(words.plain)
     near = {meant(name, needed()) for name in words.given if name not in options()}

@@ -5,9 +5,11 @@ numbers of a trace. `Places` says of an item which line, sector or thing of the 
 import collections
 import functools
 import re
+import typing
 
 from . import levels, list_counts, wads
 from .files import check_source
+from .frames import WIDTH
 from .levels import UNIT
 from .traces import COMPOSITE, Painter
 from .trouble import Trouble
@@ -51,7 +53,7 @@ def item(kind, values):
 class ListFile:
     """A file that `doomview list` wrote, which is read and checked to its end; views are read where they are asked."""
 
-    def __init__(self, path):
+    def __init__(self, path: str):
         check_source(path)
         self.path, self.line, self.places = path, 0, []
         with open(path, 'rb') as file:
@@ -62,10 +64,10 @@ class ListFile:
                 self.places.append(place)
 
     @property
-    def count(self):
+    def count(self) -> int:
         return len(self.places)
 
-    def view(self, number):
+    def view(self, number: int) -> View:
         """What a view is made of."""
         with open(self.path, 'rb') as file:
             place, self.line = self.places[number]
@@ -116,13 +118,19 @@ class ListFile:
         return View(*lists, sums, None)
 
 
-def shortened(words, shown):
+def narrow(view: View, least: int) -> typing.Set[int]:
+    """The numbers of a view's sprites that have fewer columns than the least, and are not cut by an edge of the screen."""
+    return {number for number, sprite in enumerate(view.sprites)
+            if 0 < sprite.first <= sprite.last < WIDTH - 1 and sprite.last - sprite.first + 1 < least}
+
+
+def shortened(words: list, shown: int) -> str:
     """Words in a row, of which some are shown at most."""
     more = f' and {len(words) - shown} more' if len(words) > shown else ''
     return ', '.join(map(str, words[:shown])) + more
 
 
-def sectors_told(sectors):
+def sectors_told(sectors: typing.List[int]) -> str:
     return ('sector ' if len(sectors) == 1 else 'sectors ') + shortened(sectors, SHOWN_SECTORS)
 
 
@@ -163,8 +171,8 @@ class Places:
         try:
             seg = self.level.segs[number]
             return seg, self.level.lines[seg.line][5 + seg.side]
-        except IndexError:
-            raise self.other(f'{self.level.name} has no seg {number}')
+        except IndexError as error:
+            raise self.other(f'{self.level.name} has no seg {number}') from error
 
     def line_of(self, fragment):
         """The line of a fragment, and which of its sides, in words."""
@@ -175,8 +183,8 @@ class Places:
         try:
             sector = self.level.sector_of_leaf(leaf)
             return self.level.sectors[sector] and sector
-        except (IndexError, TypeError):
-            raise self.other(f'{self.level.name} has no leaf {leaf}')
+        except (IndexError, TypeError) as error:
+            raise self.other(f'{self.level.name} has no leaf {leaf}') from error
 
     def sector_of_fragment(self, fragment):
         """The sector in front of a fragment: that of its leaf."""
@@ -254,17 +262,30 @@ class Places:
                 return [('middle', side.middle)]
             front = self.level.sectors[self.sector_of_fragment(fragment)]
             back = self.level.sectors[self.level.sides[behind].sector]
-        except (IndexError, TypeError):
-            raise self.other(f'line {seg.line} of {self.level.name} has no such side')
+        except (IndexError, TypeError) as error:
+            raise self.other(f'line {seg.line} of {self.level.name} has no such side') from error
         has_upper = back.ceiling < front.ceiling and not front.ceiling_flat == back.ceiling_flat == SKY
         return [('upper', side.upper)] * has_upper + [('lower', side.lower)] * (back.floor > front.floor)
 
+    def lit_by(self, fragment: Fragment, kind: int) -> int:
+        """The sector that lights a wall: that of its leaf, or of a middle texture that of its side."""
+        return self.level.sides[self.seg(fragment.seg)[1]].sector if kind == MIDDLE else self.sector_of_fragment(fragment)
+
     def lit(self, fragment, kind):
-        """The sector that lights a wall, in words: that of its leaf, or of a middle texture that of its side."""
-        sector = self.sector_of_fragment(fragment)
-        if kind == MIDDLE:
-            sector = self.level.sides[self.seg(fragment.seg)[1]].sector
+        """The same in words, with its light."""
+        sector = self.lit_by(fragment, kind)
         return f', sector {sector}, light {self.level.sectors[sector].light}'
+
+    def light(self, view: View, kind: int, number: int) -> typing.Optional[int]:
+        """The light of an item of a view, by its kind and its number; None of what is nowhere in the map."""
+        if kind == PLANE:
+            return self.item(view.planes, 'plane', number).light
+        if kind == SPRITE:
+            thing = self.level.things[self.item(view.sprites, 'sprite', number).thing]
+            return self.level.sectors[self.level.sector_at(thing.x, thing.y)].light
+        if kind in (WALL, MIDDLE):
+            return self.level.sectors[self.lit_by(self.item(view.fragments, 'fragment', number), kind)].light
+        return None
 
     def wall(self, view, painter, number):
         fragment = self.item(view.fragments, 'fragment', number)
@@ -343,7 +364,7 @@ class Placing:
         return self.list.view(number)
 
 
-def only_map(files):
+def only_map(files: typing.List[str]) -> str:
     """The name of the map of some WADs that have one alone."""
     found = wads.map_labels([lump for file in files for lump in wads.read(file)])
     if len(found) != 1:

@@ -2,6 +2,7 @@
 import collections
 import functools
 import struct
+import typing
 
 from .frames import HEIGHT, SIZE, WIDTH, count_parts
 from .png import GREYS
@@ -14,6 +15,7 @@ VIEW_SIZE = RECORD.size * SIZE
 KINDS = {0: ('nothing', ''), 1: ('wall', 'fragment'), 2: ('plane', 'plane'), 3: ('sky', 'plane'),
          4: ('middle', 'fragment'), 5: ('sprite', 'sprite'), 6: ('weapon', 'row')}
 TEXTURED = (1, 3, 4)  # kinds that paint from a texture
+SPRITE = 5
 LUMP, COMPOSITE = 1, 2  # kinds of sources
 GROUP_OF = {2: 'flat', 5: 'picture of a sprite', 6: 'picture of a sprite'}  # what kinds paint from
 SHOWN_NUMBERS, SHOWN_TEXTURES, SHOWN_PLACES = 6, 3, 12
@@ -22,19 +24,19 @@ Painter = collections.namedtuple('Painter', 'kind source_kind source')
 Source = collections.namedtuple('Source', 'word name more')
 
 
-def count_views(path):
+def count_views(path: str) -> int:
     """The number of views in a file of traces."""
     return count_parts(path, VIEW_SIZE, 'name the whole of what doomview trace wrote')
 
 
-def record_at(path, view, x, y):
+def record_at(path: str, view: int, x: int, y: int) -> tuple:
     """The record of a pixel of a view that the trace has."""
     with open(path, 'rb') as file:
         file.seek(RECORD.size * ((HEIGHT * view + y) * WIDTH + x))
         return RECORD.unpack(file.read(RECORD.size))
 
 
-def texture_lists(lumps):
+def texture_lists(lumps: typing.Iterable[typing.Tuple[str, bytes]]) -> typing.List[typing.Tuple[str, typing.List[int]]]:
     """The textures of both lists, in the order of their numbers: pairs of a name and the numbers of its patches."""
     newest = dict(lumps)
     found = []
@@ -47,7 +49,7 @@ def texture_lists(lumps):
     return found
 
 
-def patch_names(lumps):
+def patch_names(lumps: typing.Iterable[typing.Tuple[str, bytes]]) -> typing.List[str]:
     lump = dict(lumps).get('PNAMES', b'')
     return [clean(name) for name, in struct.iter_unpack('<8s', lump[4:4 + len(lump[4:]) // 8 * 8])]
 
@@ -55,7 +57,7 @@ def patch_names(lumps):
 class Names:
     """The names of what paints, as far as the WADs are known."""
 
-    def __init__(self, wads):
+    def __init__(self, wads: typing.Iterable[str]):
         lumps = [lump for wad in wads for lump in read(wad)]
         self.lumps = [lump.name for lump in lumps]
         self.textures, self.with_patch = [], collections.defaultdict(list)
@@ -65,8 +67,8 @@ class Names:
                 self.textures.append(name)
                 for patch in sorted({patches[it] for it in numbers if it < len(patches)}):
                     self.with_patch[patch].append(name)
-        except struct.error:
-            raise Trouble('the lists of textures in the WADs are damaged; leave the WADs out')
+        except struct.error as error:
+            raise Trouble('the lists of textures in the WADs are damaged; leave the WADs out') from error
         self.palette, self.colormaps = dict(lumps).get('PLAYPAL', b'')[:768], dict(lumps).get('COLORMAP', b'')
         if len(self.palette) < 768:
             self.palette = GREYS
@@ -83,11 +85,11 @@ class Names:
             raise self.other(path, f'lump {source} of the WADs is {names[source]}, which is no {GROUP_OF[kind]}, and a '
                                    f'{KINDS[kind][0]} has it')
 
-    def other(self, path, what):
+    def other(self, path: str, what: str) -> Trouble:
         return Trouble(f'{path} is a trace of other WADs: {what}; name the WADs of the run, in their order')
 
     @functools.cached_property
-    def unlike(self):
+    def unlike(self) -> typing.Dict[str, typing.Set[int]]:
         """Of flats and pictures of sprites the numbers of the lumps that are none, where the WADs mark any."""
         found = {}
         for group, letter in (('flat', 'F'), ('picture of a sprite', 'S')):
@@ -101,20 +103,20 @@ class Names:
                 found[group] = outside
         return found
 
-    def source(self, painter):
+    def source(self, painter: Painter) -> str:
         """The name of what a painter read: of a lump or of a texture."""
         if painter.source_kind == 0:
             return '-'
         names, word = (self.textures, 'texture') if painter.source_kind == COMPOSITE else (self.lumps, 'lump')
         return names[painter.source] if painter.source < len(names) else f'{word} {painter.source}'
 
-    def textures_of(self, painter):
+    def textures_of(self, painter: Painter) -> typing.List[str]:
         """The names of the textures that have the patch which a painter read; none where it read no patch."""
         if painter.source_kind != LUMP or painter.kind not in TEXTURED:
             return []
         return self.with_patch.get(self.source(painter), [])
 
-    def known(self, painter):
+    def known(self, painter: Painter) -> Source:
         """What a painter read, for a user to know it by: of a patch that one texture alone has, the texture."""
         name, textures = self.source(painter), self.textures_of(painter)
         if painter.source_kind == COMPOSITE:
@@ -127,7 +129,7 @@ class Names:
         return Source('lump', name, '')
 
 
-def told(record, names):
+def told(record: tuple, names: Names) -> str:
     """A record in words: painter, number, source and colour."""
     kind, source_kind, number, source, colour, _ = record
     word, thing = KINDS.get(kind, (f'kind {kind}', 'number'))
@@ -152,10 +154,20 @@ def numbers_of(words: str) -> set:
     return {known[word] for word in words.split(',')}
 
 
-def mask(records: bytes, kinds: set) -> bytes:
-    """Of each pixel of a view 255 where what painted it is of one of some kinds, and else 0."""
-    table = bytes(255 * (kind in kinds) for kind in range(256))
-    return records[::RECORD.size].translate(table)
+def marks(values: bytes, wanted: typing.Collection[int]) -> bytes:
+    """Of each byte 255 where it is one of some, and else 0."""
+    return values.translate(bytes(255 * (value in wanted) for value in range(256)))
+
+
+def mask(records: bytes, kinds: typing.Collection[int], without: typing.Collection[int] = ()) -> bytes:
+    """Of each pixel of a view 255 where what painted it is of one of some kinds, and else 0; 0 too of the sprites with
+    some numbers."""
+    found = marks(records[::RECORD.size], kinds)
+    if not without:
+        return found
+    sprites = int.from_bytes(marks(records[::RECORD.size], {SPRITE}), 'big')
+    numbers = int.from_bytes(marks(records[2::RECORD.size], without), 'big')
+    return (int.from_bytes(found, 'big') & ~(sprites & numbers)).to_bytes(len(found), 'big')
 
 
 def check_records(records: bytes, places: list, ours: bytes, names: 'Names', path: str) -> None:
@@ -179,7 +191,8 @@ def pixels_of(records: bytes, places: list) -> dict:
     return pixels
 
 
-def painters(records, places, names, place_of=None):
+def painters(records: bytes, places: typing.List[int], names: Names,
+             place_of: typing.Optional[typing.Callable[[Painter, int], str]] = None) -> typing.Iterator[str]:
     """Lines on the painters of some places of a view: the most pixels first. `place_of` says of a painter and its
     number where in the map that is; then the lines under a painter have the pixels of each."""
     for painter, numbers in sorted(pixels_of(records, places).items(), key=lambda it: -sum(it[1].values())):
@@ -192,13 +205,14 @@ def painters(records, places, names, place_of=None):
         yield from map_places(painter, numbers, place_of) if place_of else []
 
 
-def some_of(numbers):
+def some_of(numbers: typing.Iterable[int]) -> str:
     """Some of the numbers of a painter in a view."""
     some = sorted(numbers)
     return ' '.join(map(str, some[:SHOWN_NUMBERS])) + (' ..' if len(some) > SHOWN_NUMBERS else '')
 
 
-def map_places(painter, numbers, place_of):
+def map_places(painter: Painter, numbers: collections.Counter,
+               place_of: typing.Callable[[Painter, int], str]) -> typing.Iterator[str]:
     """Lines on where in the map the pixels of a painter are: the most pixels first."""
     found, having = collections.Counter(), collections.defaultdict(set)
     for number, count in numbers.items():

@@ -10,9 +10,10 @@ import shutil
 import struct
 import subprocess
 import time
+import typing
 
 import screens
-from doomview_tools import rest
+from doomview_tools import paths, rest
 from doomview_tools.files import write_whole
 from doomview_tools.levels import EYE_HEIGHT, UNIT
 from doomview_tools.trouble import Trouble
@@ -63,13 +64,14 @@ PORTS = {  # of each its files of settings, its further words, and the key of a 
     'dsda-doom': ({'port.cfg': DSDA}, ['-config', 'port.cfg', '-nomusic', '-window', '-geom', '320x200w'], ''),
 }
 BY_SAVEGAMES = ['chocolate-doom']
+LEAST_WIDTHS = {'crispy-doom': 2}  # of the sprites that a port draws, in columns
 
 
 class Missed(Trouble):
     """A view that no two screenshots show: the machine was too slow."""
 
 
-def missing(port, environment=os.environ):
+def missing(port: str, environment: typing.Mapping[str, str] = os.environ) -> typing.List[str]:
     """What is not installed of what a port needs."""
     path = environment.get('PATH', '') + ':/usr/games'
     wanted = [port] + ([] if port == 'dsda-doom' else ['Xvfb', 'xdotool'])
@@ -77,7 +79,7 @@ def missing(port, environment=os.environ):
 
 
 @contextlib.contextmanager
-def screen():
+def screen() -> typing.Iterator[str]:
     """A screen of Xvfb; its name."""
     read, write = os.pipe()
     server = subprocess.Popen(['Xvfb', '-displayfd', str(write), '-screen', '0', '640x480x24', '-nolisten', 'tcp'],
@@ -97,7 +99,7 @@ def screen():
 class Game:
     """A port with a map at rest, in a folder that has still.wad and still.deh."""
 
-    def __init__(self, port, folder, wad):
+    def __init__(self, port: str, folder: str, wad: str):
         self.port, self.folder = port, folder
         settings, words, self.key = PORTS[port]
         for name, text in settings.items():
@@ -106,11 +108,11 @@ class Game:
         self.environment = {**os.environ, 'HOME': folder, 'SDL_AUDIODRIVER': 'dummy', 'PATH': path}
         self.words = [port, '-iwad', wad, '-file', 'still.wad', '-deh', 'still.deh', '-nosound', *words]
 
-    def at(self, name):
+    def at(self, name: str) -> str:
         return os.path.join(self.folder, name)
 
     @contextlib.contextmanager
-    def running(self, *words):
+    def running(self, *words: str) -> typing.Iterator[subprocess.Popen]:
         """The port while it runs."""
         with open(self.at('port.log'), 'a') as log:
             game = subprocess.Popen([*self.words, *words], cwd=self.folder, env=self.environment, stdout=log,
@@ -122,27 +124,27 @@ class Game:
                 game.kill()
             game.wait()
 
-    def run_to_end(self, *words):
+    def run_to_end(self, *words: str) -> None:
         with self.running(*words) as game:
             try:
                 game.wait(LONGEST)
-            except subprocess.TimeoutExpired:
-                raise Missed(f'{self.port} does not come to the end of the demo')
+            except subprocess.TimeoutExpired as error:
+                raise Missed(f'{self.port} does not come to the end of the demo') from error
 
-    def press(self, *words):
+    def press(self, *words: str) -> typing.List[str]:
         """What xdotool says."""
         done = subprocess.run(['xdotool', *words], env=self.environment, stdout=subprocess.PIPE,
                               stderr=subprocess.DEVNULL, text=True)
         return done.stdout.split()
 
-    def focus(self):
+    def focus(self) -> bool:
         """Lets the port's newest window have the keys; whether there is one."""
         windows = self.press('search', '--name', '.')
         if windows:
             self.press('windowfocus', windows[-1])
         return bool(windows)
 
-    def shots(self):
+    def shots(self) -> typing.List[bytes]:
         """The screenshots so far, in their order."""
         found = []
         for name in sorted(filter(SHOTS.fullmatch, os.listdir(self.folder))):
@@ -150,15 +152,15 @@ class Game:
                 found.append(file.read())
         return found
 
-    def clear(self):
+    def clear(self) -> None:
         for name in filter(SHOTS.fullmatch, os.listdir(self.folder)):
             os.remove(self.at(name))
 
-    def pixels(self, shot):
+    def pixels(self, shot: bytes) -> bytes:
         """The pixels of a screenshot: indices, or bytes red, green, blue."""
         return screens.sampled(*screens.png_pixels(shot)) if shot[:4] == b'\x89PNG' else screens.pcx_indices(shot)
 
-    def demo_frames(self, views, tics):
+    def demo_frames(self, views: int, tics: int) -> typing.List[bytes]:
         """The views of the demo still.lmp, which pauses for so many tics at each."""
         if self.port == 'dsda-doom':
             return self.video_frames(views)
@@ -169,7 +171,7 @@ class Game:
                 self.photograph(game, tics / TICS_A_SECOND / SHOTS_A_VIEW)
         return [self.pixels(shot) for shot in still_ones(self.shots(), views, 2)]
 
-    def photograph(self, game, seconds):
+    def photograph(self, game: subprocess.Popen, seconds: float) -> None:
         """Presses the key of a screenshot again and again, at this distance, until the game ends."""
         end = time.time() + LONGEST
         while game.poll() is None:
@@ -179,7 +181,7 @@ class Game:
                 self.press('key', self.key)
             time.sleep(seconds)
 
-    def video_frames(self, views):
+    def video_frames(self, views: int) -> typing.List[bytes]:
         """The views of the demo in the video that dsda-doom writes."""
         self.environment['SDL_VIDEODRIVER'] = 'dummy'
         self.run_to_end('-timedemo', 'still.lmp', '-viddump', 'video')
@@ -188,12 +190,12 @@ class Game:
                 width, height = map(int, file.read().split())
             with open(self.at('video.rgb'), 'rb') as file:
                 shots = list(iter(lambda: file.read(3 * width * height), b''))
-        except (OSError, ValueError):
-            raise Trouble(f'dsda-doom wrote no video; {self.at("port.log")} has what it said')
+        except (OSError, ValueError) as error:
+            raise Trouble(f'dsda-doom wrote no video; {self.at("port.log")} has what it said') from error
         os.remove(self.at('video.rgb'))
         return [screens.sampled(width, height, shot) for shot in still_ones(shots, views, 3)]
 
-    def row_frames(self, still, rows, skill):
+    def row_frames(self, still: rest.Rest, rows: list, skill: int) -> typing.List[bytes]:
         """The views of rows, each by a savegame of the map at rest with another place of the player."""
         write_whole(self.at('still.lmp'), rest.saving_demo(still.level.name, skill))
         with screen() as display:
@@ -203,7 +205,7 @@ class Game:
                 saved = file.read()
             return [self.row_frame(moved(saved, still.row(), row)) for row in rows]
 
-    def row_frame(self, saved):
+    def row_frame(self, saved: bytes) -> bytes:
         """The view of a savegame: the game is paused once it runs, and photographed until two are the same."""
         self.clear()
         write_whole(self.at(SAVED), saved)
@@ -222,7 +224,7 @@ class Game:
         raise Missed(f'{self.port} shows no still view of a savegame')
 
 
-def still_ones(shots, views, least):
+def still_ones(shots: list, views: int, least: int) -> list:
     """The last views of at least so many equal screenshots one after the other."""
     runs = []
     for shot in shots:
@@ -236,7 +238,7 @@ def still_ones(shots, views, least):
     return kept[-views:]
 
 
-def moved(saved, start, row):
+def moved(saved: bytes, start: paths.Row, row: paths.Row) -> bytes:
     """A savegame of a player at the start, with the player at a row. The player is the last thing of the map."""
     at = saved.rfind(struct.pack('<ii', start.x, start.y))
     if at < 0:

@@ -1,5 +1,6 @@
 """What ports write as a picture of their screen: PCX, PNG and raw video, as pixels; and colours as indices."""
 import struct
+import typing
 import zlib
 
 from doomview_tools.frames import HEIGHT, SIZE, WIDTH
@@ -9,7 +10,7 @@ PCX_HEAD, RUN = 128, 0xc0
 CHANNELS = {2: 3, 6: 4, 3: 1}  # of a PNG by its kind of colours
 
 
-def pcx_indices(data):
+def pcx_indices(data: bytes) -> bytes:
     """The palette indices of a PCX of 320 by 200."""
     left, top, right, bottom = struct.unpack_from('<4H', data, 4)
     if (right - left + 1, bottom - top + 1) != (WIDTH, HEIGHT):
@@ -24,7 +25,7 @@ def pcx_indices(data):
     return bytes(found)
 
 
-def chunks(data):
+def chunks(data: bytes) -> typing.Iterator[typing.Tuple[bytes, bytes]]:
     """The kinds and bytes of the parts of a PNG."""
     at = 8
     while at < len(data):
@@ -33,13 +34,13 @@ def chunks(data):
         at += 12 + size
 
 
-def nearest(left, up, corner):
+def nearest(left: int, up: int, corner: int) -> int:
     """The guess of a PNG's filter 4."""
     guess = left + up - corner
     return min((abs(guess - left), 0, left), (abs(guess - up), 1, up), (abs(guess - corner), 2, corner))[2]
 
 
-def unfiltered(kind, line, before, step):
+def unfiltered(kind: int, line: bytearray, before: bytes, step: int) -> bytearray:
     """A line of a PNG as it was before its filter."""
     for i, byte in enumerate(line):
         left, corner = (line[i - step], before[i - step]) if i >= step else (0, 0)
@@ -48,7 +49,7 @@ def unfiltered(kind, line, before, step):
     return line
 
 
-def png_pixels(data):
+def png_pixels(data: bytes) -> typing.Tuple[int, int, bytes]:
     """The pixels of a PNG of eight bits: width, height, and bytes red, green, blue."""
     parts = list(chunks(data))
     head, palette = dict(parts)[b'IHDR'], dict(parts).get(b'PLTE')
@@ -65,7 +66,7 @@ def png_pixels(data):
     return width, height, body if step == 3 else b''.join(body[i:i + 3] for i in range(0, len(body), step))
 
 
-def sampled(width, height, rgb):
+def sampled(width: int, height: int, rgb: bytes) -> bytes:
     """320 by 200 pixels of a picture that was scaled up by nearest neighbours."""
     if width < WIDTH or height < HEIGHT:
         raise Trouble(f'the screenshots have {width} by {height} pixels, fewer than {WIDTH} by {HEIGHT}')
@@ -77,18 +78,18 @@ def sampled(width, height, rgb):
 class Palette:
     """From colours to indices. Of indices with one colour the least stands for all: `plain` makes them that one."""
 
-    def __init__(self, data):
+    def __init__(self, data: bytes):
         self.colours = [data[3 * i:3 * i + 3] for i in range(256)]
-        self.index = {}
+        self.index: typing.Dict[bytes, int] = {}
         for i, colour in enumerate(self.colours):
             self.index.setdefault(colour, i)
         self.table = bytes(self.index[colour] for colour in self.colours)
-        self.strange = set()  # colours that are not in the palette
+        self.strange: typing.Set[bytes] = set()  # colours that are not in the palette
 
-    def plain(self, frame):
+    def plain(self, frame: bytes) -> bytes:
         return frame.translate(self.table)
 
-    def index_of(self, colour):
+    def index_of(self, colour: bytes) -> int:
         """The index of a colour, or that of the nearest."""
         if colour not in self.index:
             self.strange.add(colour)
@@ -96,7 +97,7 @@ class Palette:
             self.index[colour] = self.table[near]
         return self.index[colour]
 
-    def frame(self, pixels):
+    def frame(self, pixels: bytes) -> bytes:
         """The plain frame of what a port wrote: indices, or bytes red, green, blue."""
         if len(pixels) == SIZE:
             return self.plain(pixels)

@@ -171,6 +171,16 @@ class Compare(Tools):
                            ('name --only or --but, and not both', ['--only', 'sky', '--but', 'sky'])):
             self.refuses(part, *words, *more)
         self.refuses('--only and --but need the trace', *words[:3], '--only', 'sky')
+        self.refuses('--least-width needs the list', *words, '--only', 'sky', '--least-width', '2')
+        self.refuses('--least-width: a number from 1 to 320', *words, '--least-width', '0')
+
+    def test_mask(self):
+        """Pixels of kinds, but of the sprites with some numbers; a fragment of the same number counts."""
+        records = traced((0, 0, (5, 1, 2, 1, 8, 0)), (0, 1, (5, 1, 3, 1, 8, 0)), (0, 2, (1, 2, 2, 1, 6, 0)))
+        for kinds, without, found in (({5}, (), [255, 255, 0]), ({1, 5}, {2}, [0, 255, 255]), ({1, 5}, {2, 3}, [0, 0, 255]),
+                                      ({1}, {3}, [0, 0, 255])):
+            mask = traces.mask(records, kinds, without)
+            self.assertEqual(([*mask[:3]], {*mask[3:]}), (found, {0}))
 
     def test_every_view(self):
         """What differs in every view is said once: rows and columns, and painters."""

@@ -171,6 +171,37 @@ class Lists(Tools):
             self.assertEqual({it.split(':')[0] for it in found[2]}, set(places))
             self.assertEqual(found[3:], [found[2][0].split(':')[0], False])
 
+    def test_light(self):
+        """The light of a plane is in the list; that of a wall and of a thing is that of its sector."""
+        view = lists.ListFile(self.at('list.txt')).view(0)
+        places = lists.Places(levels.read([self.at('level.wad')], 'MAP01'), traces.Names([self.at('level.wad')]), 'list.txt')
+        places.level.sectors[:] = [sector._replace(light=light) for sector, light in zip(places.level.sectors, (10, 20, 30))]
+        for kind, number, light in ((lists.WALL, 0, 10), (lists.MIDDLE, 0, 10), (lists.PLANE, 1, 160), (lists.SPRITE, 0, 10),
+                                    (lists.SKY_PLANE, 2, None), (6, 1, None)):
+            self.assertEqual(places.light(view, kind, number), light, kind)
+
+    def test_narrow(self):
+        """Sprites of few columns, but for those that an edge of the screen may cut."""
+        columns = [(5, 5), (5, 6), (0, 0), (-4, 0), (319, 319), (318, 318), (1, 1), (7, 6)]
+        view = lists.View([], [], [lists.Sprite(0, LAMP, *both) for both in columns], None, None)
+        for least, found in ((1, set()), (2, {0, 5, 6}), (3, {0, 1, 5, 6})):
+            self.assertEqual(lists.narrow(view, least), found)
+
+    def test_least_width(self):
+        """Pixels of sprites that have too few columns in the list do not count; the line on the pixels says so."""
+        self.write('trace.bin', traced((0, 5, (5, 1, 0, LAMP, 6, 0)), (0, 9, (1, 1, 0, P2, 6, 0))) + traced() * 2)
+        self.write('ours.bin', painted((0, 5, 6), (0, 9, 6)) + painted() * 2)
+        self.write('port.bin', painted((0, 9, 6)) + painted() * 2)
+        self.write('thin.txt', LINES.replace('first -4 last 7', 'first 5 last 5').encode())
+        words = ['compare', 'ours.bin', 'port.bin', '--trace', 'trace.bin', '--wad', 'level.wad', '--list']
+        counted = b'of sprite alone, of sprites of 2 and more columns: 0 of 192000 pixels\n'
+        whole = b'views 3 same 3 different 0 pixels 0\n'
+        self.assertEqual(self.run_tool(*words, 'thin.txt', '--only', 'sprite', '--least-width', '2'), (0, counted + whole, ''))
+        kinds = b'of nothing, wall, plane, sky, middle, sprite, weapon alone, of sprites of 2 and more columns: 191999 of 192000'
+        self.assertEqual(self.run_tool(*words, 'thin.txt', '--least-width', '2'), (0, kinds + b' pixels\n' + whole, ''))
+        for listed, more in (('list.txt', ['--least-width', '2']), ('thin.txt', [])):
+            self.assertEqual(self.run_tool(*words, listed, '--only', 'sprite', *more)[0], 1)
+
     def test_wrong(self):
         """A list that does not fit the trace, the WADs or the map."""
         self.write('trace.bin', traced((0, 0, (1, 1, 0, P1, 6, 0)), (0, 1, (1, 1, 3, P1, 6, 0)),

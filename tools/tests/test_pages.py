@@ -1,15 +1,18 @@
 """Tests the pages: that links lead somewhere, that the code they point to is there, and that tables which say the same
-agree."""
+agree, with each other and with the data of the tools."""
 import datetime
 import glob
 import os
 import re
+import shutil
+import subprocess
 import unittest
 
 import constants
-from made_files import TOOLS, TOP
-from doomview_tools import cli, command, home, jobs
+from made_files import TOOLS, TOP, Tools
+from doomview_tools import home, jobs
 
+TESTED = os.environ.get('DOOMVIEW_TESTED', '')
 PAGES = ['README.md', 'CHANGELOG.md', 'tools/original/README.md', 'tools/ports/README.md']
 
 
@@ -27,10 +30,6 @@ def rows(page, head):
     for table in re.findall(r'^' + re.escape(head) + r'.*\n\|[-|]+\|\n((?:\|.*\n?)+)', read(page), re.M):
         for line in table.splitlines():
             yield [cell.strip().replace('\\|', '|') for cell in re.split(r'(?<!\\)\|', line)[1:-1]]
-
-
-def sentence(text):
-    return text[:1].upper() + text[1:]
 
 
 def anchors(page):
@@ -165,58 +164,33 @@ class Pages(unittest.TestCase):
             self.assertEqual(int(option.default), constants.value('command_line', default), name)
         self.assertEqual({name for name, option in jobs.options().items() if option.least is not None}, set(code))
         self.assertEqual(jobs.MOST_WADS, constants.value('job_rules', 'MAX_WADS'))
+        for name, choices in jobs.CHOICES.items():
+            self.assertEqual([it for it in choices if it not in jobs.options()[name].meaning], [], name)
+            self.assertIn(jobs.options()[name].default, choices)
         flags = re.findall(r'"([a-z]+)"', read('crates/command_line/src/simple.rt'))
         self.assertEqual({f'--{flag}' for flag in flags if f'--{flag}' in jobs.options()}, set(jobs.options()))
 
     def test_jobs(self):
-        """README, the manual and the tools have the same jobs with the same words, and the code has no other."""
-        told = {re.match(r'`([a-z]+)', job)[1]: job for job, _ in rows('README.md', '| Job | Writes |')}
-        manual = read('docs/doomview.1').replace('\\-', '-')
-        self.assertEqual(list(told), list(jobs.JOBS))
-        found = [[f'`{" ".join([job.name, *(word for word, _ in job.words)])}`', job.summary] for job in jobs.JOBS.values()]
-        for page in ('README.md', 'docs/JOBS.md'):
-            self.assertEqual(list(rows(page, '| Job | Writes |')), found)
-        for job in jobs.JOBS.values():
-            words = ' '.join([job.name, *(word for word, _ in job.words)])
-            self.assertEqual(told[job.name].strip('`').replace(' ..', '..'), words)
-            self.assertIn(f'\n.BI {job.name} ', manual)
+        """The code has the jobs of the tables, by name."""
         code = read('crates/command_line/src/jobs.rt') + read('crates/command_line/src/level_jobs.rt')
         for job in jobs.JOBS:
             self.assertIn(f'"{job}"', code)
 
-    def test_pages_of_options(self):
-        """JOBS and the manual have the options as the table of options has them, whole, and PROVED names no other."""
-        found = [(f'`{it.name} {it.value}`', ', '.join(f'`{job}`' for job in it.jobs), cli.meaning_of(it))
-                 for it in jobs.options().values()]
-        self.assertEqual([tuple(cells) for cells in rows('docs/JOBS.md', '| Option | Jobs |')], found)
-        manual = read('docs/doomview.1').replace('\\-', '-')
-        entries = ''.join(f'.TP\n.BI {it.name} " {it.value}"\n{sentence(cli.meaning_of(it))}. For {", ".join(it.jobs)}.\n'
-                          for it in jobs.options().values())
-        self.assertIn(entries + '.PP\nOf the command alone:', manual)
-        section = manual[manual.index('.SH OPTIONS'):manual.index('.PP\nOf the command alone:')]
-        self.assertEqual(section.count('.TP\n'), len(found))
-        self.assertLessEqual(set(re.findall('--[a-z]+', read('docs/PROVED.md'))), set(jobs.options()))
-
     def test_statuses(self):
-        """JOBS, the manual and the help of a job have the same statuses."""
-        told = [int(status) for status, *_ in rows('docs/JOBS.md', '| Status | Line')]
-        self.assertEqual(told, list(jobs.STATUSES))
-        for status in told:
-            self.assertIn(f'\n.B {status}\n', read('docs/doomview.1'))
+        """The lines of the statuses begin as the code writes them, and the numbers are those of the code."""
+        numbers = re.findall(r'Status::(\w+).* => (\d),', read('crates/job_files/src/status.rt'))
+        code = read('crates/job_files/src/notes.rt')
+        told = {int(number): re.search(rf'Status::{name}\b.*?=> (?:notes\.put\(b"doomview: (.*?)\\n"|put_\w+)', code)
+                for name, number in numbers[1:]}
+        self.assertEqual(list(jobs.STATUSES), [*(int(number) for _, number in numbers), 70])
+        written = set(re.findall(r'b"doomview: ([a-z ]*[a-z])', code))
+        self.assertEqual({re.match('[a-z ]*[a-z]', it.line)[0] for it in jobs.STATUSES.values() if it.line}, written)
+        for number, found in told.items():
+            self.assertIn(found[1], (None, jobs.STATUSES[number].line))
 
-    def test_tools(self):
-        """The page of the tools and the manual name each tool."""
-        told = {re.match(r'`([a-z-]+)', tool)[1]: tool for tool, *_ in rows('docs/TOOLS.md', '| Tool | What it does |')}
-        self.assertEqual(list(told), command.TOOLS)
-        for name, cell in told.items():
-            tool = command.tool(name)
-            forms = [cli.form_of(action) for action in cli.parser_of(tool)._actions
-                     if not action.option_strings or action.required]
-            if not tool.PAGE.usage or name == 'explain':
-                self.assertEqual(cell.replace('[WAD [MAP]]', '[WAD] [MAP]'), f'`{" ".join([name, *forms])}`')
-        manual = read('docs/doomview.1').replace('\\-', '-')
-        for tool in command.TOOLS:
-            self.assertRegex(manual, rf'\n\.TP\n\.BI? {tool}\b')
+    def test_proved(self):
+        """PROVED names no option that there is not."""
+        self.assertLessEqual(set(re.findall('--[a-z]+', read('docs/PROVED.md'))), set(jobs.options()))
 
     def test_version(self):
         """The first heading of CHANGELOG, README and the manual have the version, and one date."""
@@ -242,6 +216,103 @@ class Pages(unittest.TestCase):
                 place = os.path.relpath(os.path.join(folder, name), TOP)
                 paths = set(re.findall(r'(?<![\w.)}*\]])/[a-z][\w/]*', read(place)))
                 self.assertEqual({path for path in paths if re.match('/(home|root|work|opt|tmp)', path)}, set(), place)
+
+
+class Tables(Tools):
+    """page_tables: the tables that are made of the data of jobs, options, statuses and tools."""
+
+    PAGES = ['README.md', 'docs/JOBS.md', 'docs/TOOLS.md', 'docs/doomview.1']
+
+    def runs(self, top, *words):
+        status, output, error = self.run_command(os.path.join(top, 'tools', 'page_tables'), *words)
+        return status, output.decode(), error
+
+    def test_tables(self):
+        """Each table of the pages is as the data has it, whole."""
+        self.assertEqual(self.runs(TOP), (0, '', ''))
+
+    def clone_with_pages(self):
+        self.clone()
+        for page in self.PAGES:
+            shutil.copy(os.path.join(TOP, page), self.at('clone', page))
+
+    def test_damaged(self):
+        """A word that differs is named by its page and its table, in each of them, and --write mends it."""
+        self.clone_with_pages()
+        damages = [('README.md', '| Job | Writes |', 'the frames of a camera path |'),
+                   ('docs/JOBS.md', '| Job | Writes |', '| one WAD with only'),
+                   ('docs/JOBS.md', '| Option | Jobs | Value |', '`list` | how floors'),
+                   ('docs/JOBS.md', '| Option of the command | Jobs | |', 'whole or not at all'),
+                   ('docs/JOBS.md', '| Status | Line on standard error | When |', 'memory ran out'),
+                   ('docs/TOOLS.md', '| Tool | What it does | Needs |', 'ffmpeg (package'),
+                   ('docs/doomview.1', '.SH JOBS', 'Draws a frame for each row'),
+                   ('docs/doomview.1', '.SH TOOLS', 'what would save most'),
+                   ('docs/doomview.1', '.BR \\-\\-zone=65536 .', '128 to 1024'),
+                   ('docs/doomview.1', 'Of the command alone:', 'Prints the version'),
+                   ('docs/doomview.1', 'Each status but 0 has one line of the program on standard error; the command adds '
+                    'sentences that say why.', 'doomview: write fault')]
+        for page, _, words in damages:
+            with open(self.at('clone', page), encoding='utf-8') as file:
+                text = file.read()
+            self.assertEqual(text.count(words), 1, words)
+            self.write(f'clone/{page}', text.replace(words, words[:-1]).encode())
+        for more, status in (((), 1), (('--write',), 0)):
+            found = self.runs(self.at('clone'), *more)
+            self.assertEqual((found[0], found[2]), (status, ''))
+            for line, (page, head, words) in zip(found[1].splitlines(), damages, strict=True):
+                self.assertTrue(line.startswith(f'{page}, under {head}: ') and words[:-1] in line, line)
+        self.assertEqual(self.runs(self.at('clone')), (0, '', ''))
+        for page in self.PAGES:
+            with open(self.at('clone', page), encoding='utf-8') as file:
+                self.assertEqual(file.read(), read(page))
+
+    def test_no_table(self):
+        """A page without the table ends it with a sentence."""
+        self.clone_with_pages()
+        self.write('clone/docs/TOOLS.md', b'# Tools\n')
+        self.assertEqual(self.runs(self.at('clone')), (2, '', 'page_tables: docs/TOOLS.md has no line | Tool | What it does '
+                                                       '| Needs |, or nothing behind it\n'))
+
+
+@unittest.skipUnless(TESTED, 'the program is not built')
+class Taken(Tools):
+    """The program takes of each job the options that the data has for it, within their ranges, and no other."""
+
+    PLAIN = {'flat': ['FLAT1', 'made.wad'], 'make': ['things'], 'exercise': ['1']}
+
+    def setUp(self):
+        super().setUp()
+        for name, words in (('made.wad', ['wad', '1']), ('path.csv', ['path', '1']), ('things.csv', ['things']),
+                            ('tables.bin', ['tables'])):
+            self.write(name, self.run_command(TESTED, 'make', *words)[1])
+        self.write('weapon.csv', b'view,sprite,frame,bright,sx,sy\n')
+        self.files = {'--tables': 'tables.bin', '--things': 'things.csv', '--path': 'path.csv', '--weapon': 'weapon.csv'}
+
+    def status(self, job, name, value):
+        """The status of a job with an option."""
+        files = [part for it in jobs.needed() if it != name for part in (it, self.files[it])]
+        words = ['MAP01', 'made.wad', *files] if job in jobs.LEVEL_JOBS else self.PLAIN[job]
+        return self.run_command(TESTED, job, *words, name, value, stdout=subprocess.DEVNULL)[0]
+
+    def values(self, option):
+        """Values of an option that are right, and such that are wrong."""
+        if option.name in self.files:
+            return [self.files[option.name]], []
+        if option.name in jobs.CHOICES:
+            return jobs.CHOICES[option.name], ['other']
+        wrong = [option.least - (option.step or 1), option.greatest + (option.step or 1), *([65537] if option.step else [])]
+        return [option.least, option.greatest, int(option.default)], wrong
+
+    def test_options(self):
+        for name, option in jobs.options().items():
+            right, wrong = self.values(option)
+            for job in jobs.JOBS:
+                is_taken = job in option.jobs
+                found = {str(value): self.status(job, name, str(value)) for value in (right if is_taken else right[-1:])}
+                self.assertEqual({value: status == 1 for value, status in found.items()}, dict.fromkeys(found, not is_taken),
+                                 f'{job} {name}')
+            for value in wrong:
+                self.assertEqual(self.status(option.jobs[0], name, str(value)), 1, f'{name} {value}')
 
 
 if __name__ == '__main__':

@@ -7,6 +7,7 @@ import os
 import struct
 import subprocess
 import sys
+import tempfile
 import unittest
 import zlib
 
@@ -224,14 +225,14 @@ class Compare(Tools):
 class Real(unittest.TestCase):
     """Ports that are installed, at the start of MAP01."""
 
-    def lines(self, port, views):
+    def lines(self, port, views, maps=('freedoom2.wad', 'MAP01'), *more):
         if not TESTED:
             self.skipTest('the program is not built')
-        if not wads.find_or_none('freedoom2.wad'):
-            self.skipTest('freedoom2.wad is not there (package: freedoom)')
+        if not wads.find_or_none(maps[0]):
+            self.skipTest(f'{maps[0]} is not there (package: freedoom)')
         if installed.missing(port):
             self.skipTest(f'{installed.missing(port)[0]} is not installed')
-        done = subprocess.run([COMPARE, port, 'freedoom2.wad', 'MAP01', '--views', str(views)], stdout=subprocess.PIPE,
+        done = subprocess.run([COMPARE, port, *maps, '--views', str(views), *more], stdout=subprocess.PIPE,
                               env={**os.environ, 'DOOMVIEW': TESTED}, text=True, cwd=TOP)
         self.assertEqual(done.returncode, 1, done.stdout)
         return done.stdout.splitlines()
@@ -240,6 +241,17 @@ class Real(unittest.TestCase):
         """It differs in planes and walls alone."""
         self.assertRegex(self.lines('dsda-doom', 1)[0], r'^dsda-doom MAP01 views 1 same by sprite,sky,weapon 1 pixels [0-9.]+ % '
                                                         r'(packed spans [0-9.]+ % )?plane [0-9.]+ %( wall [0-9.]+ %)?; textures ahead by 1$')
+
+    @unittest.skipUnless(os.environ.get('DOOMVIEW_PORTS'), 'it is tried with DOOMVIEW_PORTS=1 alone')
+    def test_crispy(self):
+        """It leaves out an armor bonus that is one column wide in view 0 of E1M1, and this alone of sprites."""
+        with tempfile.TemporaryDirectory() as folder:
+            lines = self.lines('crispy-doom', 1, ['freedoom1.wad', 'E1M1'], '--keep', folder)
+            self.assertIn(' same by sprite,sky,weapon 1 ', lines[0])
+            done = subprocess.run([os.path.join(TOP, 'doomview'), 'compare', 'ours.bin', 'port.bin', '--trace', 'trace.bin',
+                                   '--only', 'sprite,sky,weapon'], cwd=os.path.join(folder, 'crispy-doom-E1M1'),
+                                  stdout=subprocess.PIPE, text=True)
+        self.assertIn('view 0 pixels 1 rows 104 to 104 columns 198 to 198', done.stdout)
 
     @unittest.skipUnless(os.environ.get('DOOMVIEW_PORTS'), 'it is tried with DOOMVIEW_PORTS=1 alone')
     def test_chocolate(self):

@@ -1,10 +1,12 @@
 """doomview draw-all: a picture of every map of a WAD."""
+import argparse
 import concurrent.futures
 import os
 import shlex
 import shutil
 import subprocess
 import sys
+import typing
 
 from .. import cli, home, program, system, wads
 from ..trouble import Trouble
@@ -12,7 +14,7 @@ from ..trouble import Trouble
 FAILED = 1
 WITHOUT = ('--tables', '--things', '--path', '--format')
 PAGE = cli.Page(
-    'draw-all', 'draws every map of a WAD', '''
+    'draw-all', 'draws every map of a WAD, several at a time', '''
 Draws every map of a WAD from its player start to FOLDER/MAP.png, several at a time.
 
 With --machines they are drawn by GNU parallel on other machines, which are reached by ssh: 8/one,8/two draws eight at a
@@ -28,7 +30,7 @@ $ doomview draw-all freedoom2.wad out --machines 8/one,8/two
 ''')
 
 
-def add_words(parser):
+def add_words(parser: argparse.ArgumentParser) -> None:
     parser.add_argument('wad', metavar='WAD', help=cli.WAD)
     parser.add_argument('folder', metavar='FOLDER', help='where the pictures go; it is made')
     cli.add_base(parser)
@@ -38,19 +40,19 @@ def add_words(parser):
     cli.add_job_options(parser, 'render', WITHOUT)
 
 
-def command(options, files, name):
+def command(options: argparse.Namespace, files: typing.List[str], name: str) -> typing.List[str]:
     """The words that draw one map."""
     picture = os.path.join(os.path.abspath(options.folder), f'{name}.png')
     base = ['--iwad', files[0]] if len(files) == 2 else []
     return [home.COMMAND, 'picture', *base, files[-1], name, picture, *cli.job_words(options)]
 
 
-def draw(words):
+def draw(words: typing.List[str]) -> subprocess.CompletedProcess:
     """Runs the words that draw a map."""
     return subprocess.run(words, stdin=subprocess.DEVNULL, stderr=subprocess.PIPE, text=True, errors='replace')
 
 
-def draw_here(commands, jobs):
+def draw_here(commands: typing.List[typing.List[str]], jobs: int) -> int:
     """The number of maps that could not be drawn; what is said of each goes to standard error."""
     failed = 0
     with concurrent.futures.ThreadPoolExecutor(jobs) as pool:
@@ -60,7 +62,7 @@ def draw_here(commands, jobs):
     return failed
 
 
-def draw_there(commands, options):
+def draw_there(commands: typing.List[typing.List[str]], options: argparse.Namespace) -> int:
     """The same by GNU parallel on other machines."""
     version = subprocess.run(['parallel', '--version'], stdout=subprocess.PIPE, stderr=subprocess.DEVNULL, text=True)
     if not version.stdout.startswith('GNU parallel'):
@@ -70,7 +72,7 @@ def draw_there(commands, options):
     return subprocess.run(words, input='\n'.join(lines), text=True).returncode
 
 
-def run(options):
+def run(options: argparse.Namespace) -> int:
     files = [os.path.abspath(name) for name in cli.wads_of(options)]
     if os.path.lexists(options.folder) and not os.path.isdir(options.folder):
         raise Trouble(f'{options.folder} is no folder; name one, or a new one')
@@ -81,6 +83,6 @@ def run(options):
     try:
         os.makedirs(options.folder, exist_ok=True)
     except OSError as error:
-        raise Trouble(f'cannot make the folder {options.folder}: {error.strerror}')
+        raise Trouble(f'cannot make the folder {options.folder}: {error.strerror}') from error
     failed = draw_there(commands, options) if options.machines else draw_here(commands, options.jobs)
     return FAILED if failed else 0

@@ -17,7 +17,7 @@ LEAST_STEP, MOST_STEP = 8, 1024
 SHOWN = 3  # things of a sector
 WITHOUT = ('--path', '--planes', '--openings', '--weapon')  # options of limits that the tool gives itself, or not
 PAGE = cli.Page(
-    'limits-map', 'what the views of a whole map count, as a page: planes, openings, fragments, sprites', '''
+    'limits-map', 'where the views of a whole map, or of all maps, come to a limit; as a page', '''
 Counts what the views of a whole map have: planes, openings, fragments and sprites, as doomview limits counts them,
 and prints of each count the greatest with the row of its view. The original ends at more than 128 planes or 20,480
 openings, and does not draw walls and sprites past 256 fragments and 128 sprites. It ends too at more than 32 solid
@@ -46,7 +46,7 @@ $ doomview limits-map --iwad freedoom2.wad mymaps.wad --all-maps pages
  1  some are; with --before, something over a limit got worse
  2  the map is refused, or the tool could not begin; sentences say why
  other statuses are those of doomview limits
-''')
+''', more='MAPS.md')
 
 
 def add_words(parser):

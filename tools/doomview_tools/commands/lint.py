@@ -12,7 +12,7 @@ from ..trouble import Trouble
 
 FOUND, REFUSED = 1, 2
 PAGE = cli.Page(
-    'lint', 'all that looks like a mistake in a map, at once', '''
+    'lint', 'all that looks like a mistake in a map, or how much in each map of a WAD', '''
 Prints a line for each thing in a map that looks like a mistake: how grave it is, what it is about, where, and a
 sentence. The grade says what it does to the status. If no map is named, it prints a line for each map of the WAD, with
 the number of lines of each grade.
@@ -40,11 +40,11 @@ lifts, crushers or buttons move at once. Limits of a view: doomview limits-map.
 $ doomview lint freedoom2.wad MAP01
 $ doomview lint --iwad freedoom2.wad mymap.wad MAP01 --strict
 $ doomview lint --iwad freedoom2.wad --file textures.wad mymaps.wad
-''', 'Python alone; the program where it is built', '''
+''', 'Python alone; to audit the map too, the program', '''
  0  there is no error, hole or fault; with --strict nothing odd either
  1  there are some
  2  the map cannot be read, and a sentence says why
-''')
+''', more='MAPS.md')
 
 
 def add_words(parser):

@@ -1,9 +1,11 @@
 """doomview path: rows of a camera path for places as an editor shows them."""
+import argparse
+
 from .. import cli, levels, paths
 from ..files import write_output
 
 PAGE = cli.Page(
-    'path', 'a camera path: places as an editor or idmypos shows them', '''
+    'path', 'a camera path: places as an editor or the cheat idmypos shows them', '''
 Writes a camera path with a row for each place that is named by --at, in their order.
 
 A place is X,Y,DEGREES: map units, and degrees from east to the left, as a map editor shows them. The eye is 41 above
@@ -19,14 +21,14 @@ $ doomview path freedoom2.wad MAP01 --at 'ang=0x0;x,y=(0xff400000,0xff600000)'
 ''')
 
 
-def add_words(parser):
+def add_words(parser: argparse.ArgumentParser) -> None:
     cli.add_level(parser)
     parser.add_argument('--at', metavar='PLACE', action='append', required=True,
                         help='X,Y,DEGREES or X,Y,DEGREES,Z, or the line of idmypos; once for each row')
     cli.add_output(parser, 'the path')
 
 
-def run(options):
+def run(options: argparse.Namespace) -> None:
     level = levels.read(cli.wads_of(options), options.map)
     rows = [paths.row_at(text, level) for text in options.at]
     write_output(paths.text(rows), options.output, 'the path')

@@ -1,4 +1,5 @@
 """doomview picture: one view as a PNG."""
+import argparse
 import os
 import sys
 import tempfile
@@ -13,7 +14,7 @@ WITHOUT = ('--tables', '--things', '--path', '--format')  # options of render th
 NOT_BUILT = ('doomview picture: the proved program is not built yet, so this picture comes from a run of its sources '
              'without proofs (about a minute); doomview --build builds it')
 PAGE = cli.Page(
-    'picture', "the view from a map's player start as a PNG; no WAD is needed", '''
+    'picture', "the view from a map's player start as a PNG; of a made room if no WAD is named", '''
 Draws the view from a map's player start as a PNG, or one of a small made level where no WAD is named. --at names
 another place.
 
@@ -28,10 +29,10 @@ $ doomview picture freedoom2.wad MAP01 there.png --at -192,-160,90
  0  the picture is drawn
  2  the tool could not begin
  other statuses are those of doomview render, and no picture is written
-''')
+''', forms=('[WAD [MAP]] OUT.png',))
 
 
-def add_words(parser):
+def add_words(parser: argparse.ArgumentParser) -> None:
     parser.add_argument('wad', metavar='WAD', nargs='?', help=cli.WAD + '; else a made room is drawn')
     parser.add_argument('map', metavar='MAP', nargs='?', help='the name of a map; else the first of the WAD')
     parser.add_argument('picture', metavar='OUT.png', help='the picture, whose name ends in .png')
@@ -42,7 +43,7 @@ def add_words(parser):
     cli.add_job_options(parser, 'render', WITHOUT)
 
 
-def run(options):
+def run(options: argparse.Namespace) -> None:
     if not os.path.basename(options.picture)[:-4] or not options.picture.endswith('.png'):
         raise Trouble(f'the name of the picture has to end in .png, and {options.picture} does not')
     check_target(options.picture)
@@ -50,7 +51,7 @@ def run(options):
         draw(options, folder)
 
 
-def draw(options, folder):
+def draw(options: argparse.Namespace, folder: str) -> None:
     """Draws the view, in a folder for what is needed on the way."""
     if options.wad:
         files = cli.wads_of(options)

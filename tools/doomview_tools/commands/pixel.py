@@ -1,11 +1,13 @@
 """doomview pixel: what painted one pixel."""
+import argparse
+
 from .. import cli, lists, paths, traces, wads
 from ..files import check_source
 from ..frames import HEIGHT, WIDTH
 from ..trouble import Trouble
 
 PAGE = cli.Page(
-    'pixel', 'what painted a pixel', '''
+    'pixel', 'what painted a pixel; with a list which line, sector or thing of the map', '''
 Tells what painted a pixel, with the name of its lump or texture.
 
 TRACE is what doomview trace wrote. Names need the WADs of the run, in their order. Of a patch that one texture alone
@@ -24,7 +26,7 @@ $ doomview pixel 0 160 100 trace.bin freedoom2.wad --list list.txt --map MAP01
 ''')
 
 
-def add_words(parser):
+def add_words(parser: argparse.ArgumentParser) -> None:
     parser.add_argument('view', metavar='VIEW', type=cli.number(0, paths.MOST_ROWS - 1),
                         help='counted from 0 in the order of the path')
     parser.add_argument('x', metavar='X', type=cli.number(0, WIDTH - 1), help='the column, 0 to 319 from the left')
@@ -35,7 +37,7 @@ def add_words(parser):
     lists.add_words(parser)
 
 
-def rows_of(options, count):
+def rows_of(options: argparse.Namespace, count: int) -> list:
     """The rows of the path, as many as the trace has views, or none where none is named."""
     rows = paths.rows(options.path) if options.path else []
     if rows and len(rows) != count:
@@ -44,7 +46,7 @@ def rows_of(options, count):
     return rows
 
 
-def run(options):
+def run(options: argparse.Namespace) -> None:
     check_source(options.trace)
     count = traces.count_views(options.trace)
     if options.view >= count:

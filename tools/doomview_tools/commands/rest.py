@@ -8,7 +8,7 @@ from ..trouble import Trouble
 
 PAUSED = 50
 PAGE = cli.Page(
-    'rest', 'files that put a map at rest in a port, to compare true frames', '''
+    'rest', 'files that put a map at rest in an installed port, to compare its frames', '''
 Writes into FOLDER what makes an installed port show a map at rest, as doomview draws it: still.wad (the map without
 specials, with demons for spectres), still.deh (each thing stays in its first frame), still.lmp (a demo that stands
 still until the weapon is up, and pauses at each of the views, which are a turn on the spot).
@@ -19,19 +19,19 @@ pause), path.csv (the views) and weapon.csv (the pistol).
 $ doomview rest freedoom2.wad MAP01 out
 $ chocolate-doom -iwad freedoom2.wad -file out/still.wad -deh out/still.deh -playdemo out/still
 $ doomview render MAP01 freedoom2.wad out/shown.wad --path out/path.csv --weapon out/weapon.csv -o ours.bin
-''')
+''', more='TOOLS.md#a-game-at-rest')
 
 
-def place(text):
+def place(text: str) -> tuple:
     parts = text.split(',')
     try:
         x, y, degrees = map(int, parts)
-    except ValueError:
-        raise argparse.ArgumentTypeError(f'X,Y,DEGREES in whole map units and degrees, and not {text}')
+    except ValueError as error:
+        raise argparse.ArgumentTypeError(f'X,Y,DEGREES in whole map units and degrees, and not {text}') from error
     return x, y, degrees
 
 
-def add_words(parser):
+def add_words(parser: argparse.ArgumentParser) -> None:
     cli.add_level(parser)
     parser.add_argument('folder', metavar='FOLDER', help='where the files go; it is made')
     parser.add_argument('--views', metavar='N', type=cli.number(1, rest.MOST_VIEWS), default=rest.MOST_VIEWS,
@@ -42,7 +42,7 @@ def add_words(parser):
                         help=f'how long a view is paused, in tics of a 35th of a second; else {PAUSED}')
 
 
-def run(options):
+def run(options: argparse.Namespace) -> None:
     still = rest.Rest(cli.wads_of(options), options.map, options.at)
     files = {'still.wad': still.wad(), 'still.deh': rest.patch(),
              'still.lmp': rest.demo(still.level.name, options.skill, options.views, options.tics),
@@ -51,6 +51,6 @@ def run(options):
     try:
         os.makedirs(options.folder, exist_ok=True)
     except OSError as error:
-        raise Trouble(f'cannot make the folder {options.folder}: {error.strerror}')
+        raise Trouble(f'cannot make the folder {options.folder}: {error.strerror}') from error
     for name, data in files.items():
         write_whole(os.path.join(options.folder, name), data.encode() if isinstance(data, str) else data)

@@ -1,6 +1,8 @@
 """doomview vectors: sums of the frames that are right, for ports to check themselves by."""
+import argparse
 import concurrent.futures
 import os
+import typing
 
 from .. import cli, original, program, system, vectors, wads
 from ..files import WholeFile, write_whole
@@ -8,7 +10,7 @@ from ..trouble import Trouble
 
 MAKE, DRAW = 'make', 'draw'
 PAGE = cli.Page(
-    'vectors', 'sums of the right frames of a WAD, for ports to check themselves by', '''
+    'vectors', 'sums of the right frames of a WAD, for ports to check themselves by; or these frames', '''
 Makes the vectors of a WAD, or draws doomview's own frames of them.
 
 make WAD writes FOLDER/NAME.csv: for viewpoints of each map the sums of doomview's frame, of the original's with packed
@@ -25,10 +27,11 @@ $ doomview vectors draw vectors/freedoom2.csv freedoom2.wad -o ours --maps MAP01
 $ vectors/check vectors/freedoom2.csv ours --maps MAP01,MAP07
 ''', 'the program; for make the programs of tools/original', usage=(
         'make WAD [-o FOLDER] [--maps NAMES] [--jobs N]',
-        'draw VECTORS.csv WAD [-o FOLDER] [--maps NAMES] [--sets NAMES] [--spans S] [--jobs N]'))
+        'draw VECTORS.csv WAD [-o FOLDER] [--maps NAMES] [--sets NAMES] [--spans S] [--jobs N]'),
+    forms=('make WAD', 'draw VECTORS.csv WAD'), more='VECTORS.md')
 
 
-def add_words(parser):
+def add_words(parser: argparse.ArgumentParser) -> None:
     parser.add_argument('job', metavar='make|draw', choices=[MAKE, DRAW], help='makes vectors, or draws their frames')
     parser.add_argument('files', metavar='FILE', nargs='+', help='WAD, found as ports find it; for draw the vectors '
                         'before it')
@@ -41,11 +44,11 @@ def add_words(parser):
                         help='how many maps at a time; else one a processor')
 
 
-def names(text):
+def names(text: str) -> typing.List[str]:
     return text.split(',')
 
 
-def chosen(there, wanted, what):
+def chosen(there: typing.Iterable[str], wanted: typing.Optional[typing.List[str]], what: str) -> typing.List[str]:
     """The wanted ones of what is there, or all of it."""
     missing = [it for it in wanted or [] if it not in there]
     if missing:
@@ -53,15 +56,15 @@ def chosen(there, wanted, what):
     return [it for it in there if not wanted or it in wanted]
 
 
-def folder_of(options):
+def folder_of(options: argparse.Namespace) -> str:
     try:
         os.makedirs(options.output, exist_ok=True)
     except OSError as error:
-        raise Trouble(f'cannot make the folder {options.output}: {error.strerror}')
+        raise Trouble(f'cannot make the folder {options.output}: {error.strerror}') from error
     return options.output
 
 
-def all_of(call, items, jobs):
+def all_of(call: typing.Callable, items: typing.Iterable, jobs: int) -> list:
     """What a call gives for each item, in their order, several at a time."""
     with concurrent.futures.ThreadPoolExecutor(jobs) as pool:
         started = [pool.submit(call, item) for item in items]
@@ -72,14 +75,14 @@ def all_of(call, items, jobs):
                 it.cancel()
 
 
-def check_originals():
+def check_originals() -> None:
     """A Trouble where a program of the original is missing, with what makes it."""
     if original.missing():
         raise Trouble(f"there is no program {original.missing()[0]}; tools/original/build makes it, of Debian's source "
                       'package of chocolate-doom: tools/original/README.md says what it needs. draw needs none of it')
 
 
-def make(options):
+def make(options: argparse.Namespace) -> None:
     if len(options.files) != 1:
         raise Trouble('make takes one WAD; doomview vectors --help shows its words')
     if options.spans:
@@ -95,7 +98,7 @@ def make(options):
     write_whole(os.path.join(folder, vectors.WADS), vectors.wads_text(folder, f'{name}.csv', wad).encode())
 
 
-def draw(options):
+def draw(options: argparse.Namespace) -> None:
     if len(options.files) != 2:
         raise Trouble('draw takes a file of vectors and a WAD; doomview vectors --help shows its words')
     table, wad = options.files[::-1] if options.files[1].lower().endswith('.csv') else options.files
@@ -105,7 +108,7 @@ def draw(options):
     program.ready()
     folder = folder_of(options)
 
-    def draw_one(part):
+    def draw_one(part: typing.Tuple[str, str]) -> None:
         of_part = [row for row in rows if (row.map, row.set) == part]
         if of_part:
             with WholeFile(os.path.join(folder, vectors.file_name(*part))) as file:
@@ -113,5 +116,5 @@ def draw(options):
     all_of(draw_one, [(name, kind) for name in maps for kind in sets], options.jobs)
 
 
-def run(options):
+def run(options: argparse.Namespace) -> None:
     (make if options.job == MAKE else draw)(options)

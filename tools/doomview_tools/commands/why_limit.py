@@ -15,7 +15,7 @@ WITHOUT = ('--path', '--planes', '--openings', '--weapon', '--spans')  # of list
 FARTHEST = 32767  # map units
 OUTSIDE = '  the place is outside the level: no player sees this view'
 PAGE = cli.Page(
-    'why-limit', 'why a view has so many planes, fragments, sprites or solid ranges, and what would save some', '''
+    'why-limit', 'why a view has so many planes, fragments, sprites or solid ranges, and what would save most', '''
 Says of each view how many planes, openings, fragments, sprites and solid ranges it has, and where they come from.
 
 A plane is made where a leaf needs a floor or ceiling of a height, flat and light that the view has not yet; floors and
@@ -45,7 +45,7 @@ $ doomview why-limit freedoom2.wad MAP12 --path worst.csv 0 5
  1  some are
  2  the map is refused, or the words cannot do; sentences say why
  other statuses are those of doomview list
-''')
+''', more='MAPS.md')
 
 
 def add_words(parser):

@@ -1,0 +1,144 @@
+"""Lights: whether a port painted what doomview painted, but under another light.
+
+The original has one colormap for each column of a wall, each row of a plane and each sprite, by its number: 4 more for
+16 of light less, fewer for what is near, and cut to 0 to 31 (R_ExecuteSetViewSize, R_InitLightTables). So where the light
+alone is another, each of these has the same texels through one colormap in doomview's frame and through one in the port's
+whose number is 4 more or less for each 16 of light, both cut. This is said of a fragment, a plane or a sprite if it can be
+so in each of its columns or rows in which something differs, whole, and of enough colours that it is no accident."""
+import collections
+import typing
+
+from . import traces
+from .frames import WIDTH
+
+MAPS, STEP = 32, 4  # colormaps of lights, and how many of them are one step
+LIGHT, MOST_STEPS = 16, 15  # of a step, and the most steps
+LEAST_PAIRS = 8  # of colours that differ: doomview's and the port's
+WALL, PLANE, MIDDLE, SPRITE, WEAPON = 1, 2, 4, 5, 6  # kinds of painters, without the sky, which has no light
+
+Pairs = typing.Set[typing.Tuple[int, int]]  # of doomview's colour and the port's
+Groups = typing.Dict[int, Pairs]  # of a painter, by its columns or rows
+Key = typing.Tuple[int, int, int]  # of a painter: its kind, and its number as two bytes
+Found = typing.Dict[Key, typing.Set[int]]  # of painters the steps that there may be
+LightOf = typing.Callable[[int, int], typing.Optional[int]]  # the light of a painter by its kind and number, if it is known
+
+
+def cut(number: int) -> int:
+    return max(0, min(MAPS - 1, number))
+
+
+def bit(ours: int, port: int) -> int:
+    """The bit of a pair of colormaps."""
+    return 1 << MAPS * ours + port
+
+
+def pairs_of(steps: int) -> int:
+    """The bits of the pairs of colormaps between which there are so many steps of light, darker ones if it is more than
+    none."""
+    farthest = STEP * MOST_STEPS
+    return sum({bit(cut(number), cut(number + STEP * steps)) for number in range(-farthest, MAPS + farthest)})
+
+
+STEPS = {steps: pairs_of(steps) for step in range(1, MOST_STEPS + 1) for steps in (step, -step)}
+
+
+def line_of(kind: int, place: int) -> int:
+    """The number of the column or row of a pixel, all of which has one colormap."""
+    row, column = divmod(place, WIDTH)
+    return {WALL: column, MIDDLE: column, PLANE: row}.get(kind, 0)
+
+
+def keys_of(records: bytes) -> typing.List[Key]:
+    """The painter of each pixel."""
+    size = traces.RECORD.size
+    return list(zip(records[::size], records[2::size], records[3::size]))
+
+
+class Lights:
+    """What the colormaps of the WADs tell of two colours: under which pairs of them a texel has both."""
+
+    def __init__(self, colormaps: bytes):
+        self.known: typing.Dict[typing.Tuple[int, int], int] = {}
+        self.texels = []  # of each texel that is lit, by its colours the numbers of the colormaps, as bits
+        for texel in range(256 if len(colormaps) >= 256 * MAPS else 0):
+            found: typing.Dict[int, int] = collections.defaultdict(int)
+            for number in range(MAPS):
+                found[colormaps[256 * number + texel]] |= 1 << number
+            self.texels.append(found)
+
+    def ways(self, ours: int, port: int) -> int:
+        """The bits of the pairs of colormaps under which some texel has these two colours."""
+        if (ours, port) not in self.known:
+            self.known[ours, port] = 0
+            for texel in self.texels:
+                if ours in texel and port in texel:
+                    firsts = sum(1 << MAPS * number for number in range(MAPS) if texel[ours] >> number & 1)
+                    self.known[ours, port] |= firsts * texel[port]
+        return self.known[ours, port]
+
+    def steps(self, groups: Groups) -> typing.List[int]:
+        """The steps of light that can be between the colours of all columns, or rows, of a painter."""
+        found = list(STEPS)
+        for pairs in groups.values():
+            ways = -1
+            for both in pairs:
+                ways &= self.ways(*both)
+            found = [steps for steps in found if ways & STEPS[steps]]
+        return found
+
+    def painters(self, keys: typing.List[Key], places: typing.List[int], ours: bytes, port: bytes) -> Found:
+        """Of a view the painters whose pixels differ as under another light, each in whole columns or rows, with the steps
+        of which it may be any."""
+        differing = grouped(keys, places, ours, port)
+        likely = {key for key, groups in differing.items()
+                  if len(set().union(*groups.values())) >= LEAST_PAIRS and self.steps(groups)}
+        whole = [place for place, key in enumerate(keys) if key in likely] if likely else []
+        found = {}
+        for key, groups in grouped(keys, whole, ours, port).items():
+            steps = self.steps({line: groups[line] for line in differing[key]})
+            if steps and min(steps) * max(steps) > 0:
+                found[key] = set(steps)
+        return found
+
+    def told(self, records: bytes, places: typing.List[int], both: typing.Tuple[bytes, bytes],
+             light_of: LightOf = lambda kind, number: None) -> typing.List[str]:
+        """Lines on what differs by its light alone, in a view that differs at some places: that of most pixels first."""
+        keys, lines = keys_of(records), []
+        found = self.painters(keys, places, *both)
+        pixels = collections.Counter(keys[place] for place in places)
+        while found:
+            counts = collections.Counter({it: sum(pixels[key] for key in found if it in found[key]) for it in STEPS})
+            steps = max(STEPS, key=lambda it: (counts[it], -abs(it)))
+            alike = {key for key in found if steps in found[key]}
+            lines.append(sentence(counts[steps], steps, alike, light_of))
+            found = {key: them for key, them in found.items() if key not in alike}
+        return lines
+
+
+def sentence(pixels: int, steps: int, keys: typing.Set[Key], light_of: LightOf) -> str:
+    """The line on painters of which the port has the light by some steps other."""
+    word, much = ('darker', 'less') if steps > 0 else ('lighter', 'more')
+    lights = {light_of(kind, low + 256 * high) for kind, low, high in keys}
+    own = lights.pop() if len(lights) == 1 else None
+    step = abs(steps) * LIGHT
+    light = f'a light of {step} {much}' if own is None else f'light {own - LIGHT * steps} in the place of {own}'
+    return f'  {word:8} as under {light}: all {pixels} pixels that differ of {named(keys)}'
+
+
+def grouped(keys: typing.List[Key], places: typing.Iterable[int], ours: bytes, port: bytes) -> typing.Dict[Key, Groups]:
+    """The pairs of colours at some places of a view, of each painter that is lit by its columns or rows."""
+    found: typing.Dict[Key, Groups] = collections.defaultdict(lambda: collections.defaultdict(set))
+    for place in places:
+        key = keys[place]
+        if key[0] in (WALL, PLANE, MIDDLE, SPRITE, WEAPON):
+            found[key][line_of(key[0], place)].add((ours[place], port[place]))
+    return found
+
+
+def named(keys: typing.Iterable[Key]) -> str:
+    """Painters by what their numbers count."""
+    numbers = collections.defaultdict(set)
+    for kind, low, high in keys:
+        word, thing = traces.KINDS[kind]
+        numbers[f'{word} {thing}' if kind == WEAPON else thing].add(low + 256 * high)
+    return ', '.join(f'{thing} {traces.some_of(found)}' for thing, found in sorted(numbers.items()))
