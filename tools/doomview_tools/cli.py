@@ -123,8 +123,8 @@ def add_base(parser: argparse.ArgumentParser) -> None:
 def add_level(parser: argparse.ArgumentParser, is_needed: bool = True) -> None:
     """The words of a tool over one map, which some need not name."""
     parser.add_argument('wad', metavar='WAD', help=WAD)
-    parser.add_argument('map', metavar='MAP', nargs=None if is_needed else '?', help='the name of a map, such as MAP01 or '
-                        'E1M1')
+    count: typing.Any = None if is_needed else '?'
+    parser.add_argument('map', metavar='MAP', nargs=count, help='the name of a map, such as MAP01 or E1M1')
     add_base(parser)
 
 

@@ -1,6 +1,7 @@
 """The page of compare: the views that differ, with the painter of each pixel."""
 import collections
 import heapq
+import typing
 
 from . import pages, traces
 from .frames import HEIGHT, SIZE, WIDTH
@@ -8,13 +9,18 @@ from .png import GREYS, RGB, whole
 
 TEMPLATE = 'compare.html'
 MOST_VIEWS = 60
+Both = typing.Tuple[bytes, bytes]  # doomview's frame of a view, and the port's
+PlaceOf = typing.Optional[typing.Callable[[traces.Painter, int], str]]  # where in the map an item is, with a list
 KEY = 6  # bytes of a record that tell its painter: all but the colour
 
 
-def numbered(trace, names, place_of):
+def numbered(trace: bytes, names: traces.Names, place_of: PlaceOf) -> typing.Tuple[str, typing.List[typing.List[str]],
+             typing.Dict[bytes, int]]:
     """A picture of the number of each pixel's painter, and the painters: kind, name, number, what more is known, and
     where in the map that is."""
-    numbers, told, pixels = {}, [], bytearray(3 * SIZE)
+    numbers: typing.Dict[bytes, int] = {}
+    told: typing.List[typing.List[str]] = []
+    pixels = bytearray(3 * SIZE)
     for place in range(SIZE):
         key = trace[8 * place:8 * place + KEY]
         number = numbers.get(key)
@@ -25,7 +31,7 @@ def numbered(trace, names, place_of):
     return pages.text_of(whole(WIDTH, HEIGHT, RGB, bytes(pixels), b'')), told, numbers
 
 
-def named(key, names, place_of):
+def named(key: bytes, names: traces.Names, place_of: PlaceOf) -> typing.List[str]:
     """A painter for the page: kind, name, number, what more is known, and with a list where in the map that is."""
     kind, source_kind, number, source, _, _ = traces.RECORD.unpack(key + bytes(2))
     word, thing = traces.KINDS.get(kind, (f'kind {kind}', 'number'))
@@ -38,10 +44,12 @@ def named(key, names, place_of):
 class ComparePage:
     """The views that differ in most pixels, and how many pixels each painter has in them."""
 
-    def __init__(self, names):
-        self.names, self.kept, self.different = names, [], 0
+    def __init__(self, names: traces.Names) -> None:
+        self.names, self.different = names, 0
+        self.kept: typing.List[typing.Tuple[typing.Tuple[bool, int], int, typing.Dict[str, typing.Any]]] = []
 
-    def add(self, view, told, known, frames, places, trace, place_of=None):
+    def add(self, view: int, told: str, known: str, frames: Both, places: typing.List[int], trace: bytes,
+            place_of: PlaceOf = None) -> None:
         """Takes a view that differs, in place of one that is known or differs less where there are too many."""
         self.different += 1
         weight = not known, len(places)
@@ -50,7 +58,8 @@ class ComparePage:
         entry = weight, -view, {**self.packed(view, told, frames, places, trace, place_of), 'known': bool(known)}
         (heapq.heappush if len(self.kept) < MOST_VIEWS else heapq.heappushpop)(self.kept, entry)
 
-    def packed(self, view, told, frames, places, trace, place_of):
+    def packed(self, view: int, told: str, frames: Both, places: typing.List[int], trace: bytes,
+               place_of: PlaceOf) -> typing.Dict[str, typing.Any]:
         ours, port = frames
         both = int.from_bytes(ours, 'big') ^ int.from_bytes(port, 'big')
         entry = {'view': view, 'told': told, 'first': places[0], 'ours': pages.picture(ours, GREYS),
@@ -61,7 +70,7 @@ class ComparePage:
             entry['pixels'] = pixels.most_common()
         return entry
 
-    def page(self, head):
+    def page(self, head: str) -> bytes:
         """The bytes of the page."""
         if self.different > len(self.kept):
             head += f'; here are the {len(self.kept)} that differ in most pixels'

@@ -20,8 +20,24 @@ LUMP, COMPOSITE = 1, 2  # kinds of sources
 GROUP_OF = {2: 'flat', 5: 'picture of a sprite', 6: 'picture of a sprite'}  # what kinds paint from
 SHOWN_NUMBERS, SHOWN_TEXTURES, SHOWN_PLACES = 6, 3, 12
 
-Painter = collections.namedtuple('Painter', 'kind source_kind source')
-Source = collections.namedtuple('Source', 'word name more')
+
+Record = typing.Tuple[int, ...]  # the fields of RECORD
+
+
+class Painter(typing.NamedTuple):
+    """What painted a pixel, without its number in the view: its kind, and the kind and number of what it read."""
+
+    kind: int
+    source_kind: int
+    source: int
+
+
+class Source(typing.NamedTuple):
+    """What a painter read: the word for it (texture, patch or lump), its name, and what more is known."""
+
+    word: str
+    name: str
+    more: str
 
 
 def count_views(path: str) -> int:
@@ -29,7 +45,7 @@ def count_views(path: str) -> int:
     return count_parts(path, VIEW_SIZE, 'name the whole of what doomview trace wrote')
 
 
-def record_at(path: str, view: int, x: int, y: int) -> tuple:
+def record_at(path: str, view: int, x: int, y: int) -> Record:
     """The record of a pixel of a view that the trace has."""
     with open(path, 'rb') as file:
         file.seek(RECORD.size * ((HEIGHT * view + y) * WIDTH + x))
@@ -129,7 +145,7 @@ class Names:
         return Source('lump', name, '')
 
 
-def told(record: tuple, names: Names) -> str:
+def told(record: Record, names: Names) -> str:
     """A record in words: painter, number, source and colour."""
     kind, source_kind, number, source, colour, _ = record
     word, thing = KINDS.get(kind, (f'kind {kind}', 'number'))
@@ -145,7 +161,7 @@ def told(record: tuple, names: Names) -> str:
     return ', '.join(parts + [f'colour {colour}'])
 
 
-def numbers_of(words: str) -> set:
+def numbers_of(words: str) -> typing.Set[int]:
     """The numbers of kinds of painters that words name, with commas between them; a Trouble where there is no such."""
     known = {word: kind for kind, (word, _) in KINDS.items()}
     wrong = [word for word in words.split(',') if word not in known]
@@ -170,7 +186,7 @@ def mask(records: bytes, kinds: typing.Collection[int], without: typing.Collecti
     return (int.from_bytes(found, 'big') & ~(sprites & numbers)).to_bytes(len(found), 'big')
 
 
-def check_records(records: bytes, places: list, ours: bytes, names: 'Names', path: str) -> None:
+def check_records(records: bytes, places: typing.List[int], ours: bytes, names: Names, path: str) -> None:
     """A Trouble where the records of a view are not those of doomview's frame, or not over these WADs."""
     for record in {records[RECORD.size * place:RECORD.size * place + RECORD.size] for place in places}:
         names.check(record, path)
@@ -182,9 +198,9 @@ def check_records(records: bytes, places: list, ours: bytes, names: 'Names', pat
                           f'{colour} and the frame {ours[place]}; name what doomview trace wrote for the same words')
 
 
-def pixels_of(records: bytes, places: list) -> dict:
+def pixels_of(records: bytes, places: typing.List[int]) -> typing.Dict[Painter, typing.Counter[int]]:
     """Of each painter of some places of a view how many pixels each of its numbers has."""
-    pixels = collections.defaultdict(collections.Counter)
+    pixels: typing.Dict[Painter, typing.Counter[int]] = collections.defaultdict(collections.Counter)
     for record, count in collections.Counter(records[8 * place:8 * place + 8] for place in places).items():
         kind, source_kind, number, source, _, _ = RECORD.unpack(record)
         pixels[Painter(kind, source_kind, source)][number] += count
@@ -211,10 +227,11 @@ def some_of(numbers: typing.Iterable[int]) -> str:
     return ' '.join(map(str, some[:SHOWN_NUMBERS])) + (' ..' if len(some) > SHOWN_NUMBERS else '')
 
 
-def map_places(painter: Painter, numbers: collections.Counter,
+def map_places(painter: Painter, numbers: typing.Dict[int, int],
                place_of: typing.Callable[[Painter, int], str]) -> typing.Iterator[str]:
     """Lines on where in the map the pixels of a painter are: the most pixels first."""
-    found, having = collections.Counter(), collections.defaultdict(set)
+    found: typing.Counter[str] = collections.Counter()
+    having: typing.Dict[str, typing.Set[int]] = collections.defaultdict(set)
     for number, count in numbers.items():
         place = place_of(painter, number)
         found[place] += count

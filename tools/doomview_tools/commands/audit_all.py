@@ -1,4 +1,5 @@
 """doomview audit-all: every map of a WAD."""
+import argparse
 import os
 import tempfile
 
@@ -23,13 +24,13 @@ $ doomview audit-all --iwad freedoom2.wad mymaps.wad --skill 4
 ''')
 
 
-def add_words(parser):
+def add_words(parser: argparse.ArgumentParser) -> None:
     parser.add_argument('wad', metavar='WAD', help=cli.WAD)
     cli.add_base(parser)
     cli.add_job_options(parser, 'audit', WITHOUT)
 
 
-def run(options):
+def run(options: argparse.Namespace) -> int:
     files = cli.wads_of(options)
     wads.check_game(files)
     names = wads.maps_of([wads.find(options.wad)])

@@ -1,12 +1,14 @@
 """doomview lint: all that looks like a mistake in a map."""
+import argparse
 import os
 import re
 import sys
 import tempfile
+import typing
 
 from .. import checks, cli, explanations, paths, program, wads
 from ..files import write_output, write_whole
-from ..findings import COUNTED, GRADES
+from ..findings import COUNTED, GRADES, Finding
 from ..refusals import CHECKS
 from ..trouble import Trouble
 
@@ -47,22 +49,22 @@ $ doomview lint --iwad freedoom2.wad --file textures.wad mymaps.wad
 ''', more='MAPS.md')
 
 
-def add_words(parser):
+def add_words(parser: argparse.ArgumentParser) -> None:
     cli.add_level(parser, is_needed=False)
     parser.add_argument('--strict', action='store_true', help='what is odd counts for the status too')
 
 
-def line_of(finding):
+def line_of(finding: Finding) -> str:
     """The line on a finding."""
     return f'{finding.grade} {finding.what}: {finding.where}: {finding.told}'
 
 
-def status_of(found, is_strict=False):
+def status_of(found: typing.Iterable[Finding], is_strict: bool = False) -> int:
     """The status for what the checks found."""
     return FOUND if any(is_strict or finding.grade in COUNTED for finding in found) else 0
 
 
-def refusal(name, files):
+def refusal(name: str, files: typing.List[str]) -> int:
     """What the audit says of a map that cannot be read; nothing for what the checks list themselves."""
     with tempfile.TemporaryDirectory(prefix='doomview-') as folder:
         path = os.path.join(folder, 'path.csv')
@@ -77,12 +79,12 @@ def refusal(name, files):
     return 0
 
 
-def counts_told(found) -> str:
+def counts_told(found: typing.List[Finding]) -> str:
     """How many findings there are of each grade, in words."""
     return ' '.join(f'{grade} {sum(finding.grade == grade for finding in found)}' for grade in GRADES)
 
 
-def all_maps(options, files):
+def all_maps(options: argparse.Namespace, files: typing.List[str]) -> int:
     """Prints a line for each map of the WAD; the greatest status."""
     worst = 0
     for name in wads.maps_of([wads.find(options.wad)]):
@@ -97,7 +99,7 @@ def all_maps(options, files):
     return worst
 
 
-def findings_of(options, files):
+def findings_of(options: argparse.Namespace, files: typing.List[str]) -> typing.Tuple[typing.List[Finding], int]:
     """What the checks find in a map, and the status."""
     level = cli.level_of(options, files)
     level.check_whole()
@@ -106,7 +108,7 @@ def findings_of(options, files):
     return found, status or status_of(found, options.strict)
 
 
-def run(options):
+def run(options: argparse.Namespace) -> int:
     files = cli.wads_of(options)
     wads.check_game(files)
     if options.map is None:

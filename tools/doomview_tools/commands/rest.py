@@ -1,6 +1,7 @@
 """doomview rest: the files that put a map at rest in an installed port."""
 import argparse
 import os
+import typing
 
 from .. import cli, paths, rest, weapons
 from ..files import write_whole
@@ -22,7 +23,7 @@ $ doomview render MAP01 freedoom2.wad out/shown.wad --path out/path.csv --weapon
 ''', more='TOOLS.md#a-game-at-rest')
 
 
-def place(text: str) -> tuple:
+def place(text: str) -> typing.Tuple[int, int, int]:
     parts = text.split(',')
     try:
         x, y, degrees = map(int, parts)
