@@ -9,15 +9,14 @@ import typing
 
 from . import ground, levels, program, ways
 from .art import Art, Texture
+from .doom import LOWER_UNPEGGED, PLACES, PLAYER_1, SKY, SPECTRE, TWO_SIDED, UPPER_UNPEGGED
 from .findings import ERROR, FAULT, HOLE, ODD, Finding, lines, sectors, several, some
 from .game_checks import GameCheck
-from .ground import SKY, TWO_SIDED
 
 TALL = 128  # rows of a wall after which its texture begins anew
-UPPER_UNPEGGED, LOWER_UNPEGGED = 8, 16
 PARTS = ('upper', 'lower', 'middle')
 SIDES = ('front', 'back')
-UNDRAWN = {1, 2, 3, 4, 11, 14, 58, 87, 89}  # starts, places of teleports, and what the thing table leaves out
+UNDRAWN = {*PLACES, SPECTRE, 87, 89}  # and two of the last boss, which the thing table leaves out
 NO_THING = 0  # a type for which ports place nothing
 
 
@@ -278,7 +277,7 @@ class Check:
                           'WAD has between S_START and S_END')
 
     def things(self) -> Findings:
-        if not any(thing.type == levels.PLAYER_1 for thing in self.level.things):
+        if not any(thing.type == PLAYER_1 for thing in self.level.things):
             yield Finding(ERROR, 'thing', 'map', 'has no start of player 1 (thing of type 1)')
         for (kind, _), numbers in self.things_of(lambda frame: frame is None):
             yield from self.unknown_things(kind, numbers)

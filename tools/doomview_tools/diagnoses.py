@@ -8,6 +8,7 @@ import itertools
 import statistics
 import typing
 
+from .doom import COLORMAP_SIZE
 from .frames import HEIGHT, SIZE, WIDTH, window
 
 SAMPLES = 8  # of the views that differ
@@ -189,8 +190,8 @@ def colour_map(case: Case) -> typing.Tuple[typing.Dict[int, int], int]:
 
 def colormap_of(mapping: typing.Dict[int, int], colormaps: bytes) -> typing.Optional[int]:
     """The number of the colormap that maps colours so, or None."""
-    for number in range(len(colormaps) // 256):
-        if all(colormaps[256 * number + ours] == port for ours, port in mapping.items()):
+    for number in range(len(colormaps) // COLORMAP_SIZE):
+        if all(colormaps[COLORMAP_SIZE * number + ours] == port for ours, port in mapping.items()):
             return number
     return None
 

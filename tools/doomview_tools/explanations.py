@@ -8,12 +8,11 @@ import sys
 import typing
 
 from . import notes, paths, program, system, wads
+from .doom import PLACES, SPECTRE
 from .jobs import LEVEL_JOBS, Words, wrong_words
 from .refusals import Scene, refused
 from .trouble import Ended, Trouble
 
-SPECTRE = 58
-UNDRAWN = {1, 2, 3, 4, 11, 14}  # starts of players, of a deathmatch, of a teleport: the original draws none either
 Sentences = typing.Iterator[str]
 CHUNK = 1 << 20
 
@@ -97,7 +96,7 @@ def undrawn(scene: Scene, things: str) -> Sentences:
     except (OSError, KeyError, UnicodeDecodeError, csv.Error):
         return
     kinds = collections.Counter(thing.type for thing in scene.level.things)
-    unknown = {kind: count for kind, count in sorted(kinds.items()) if str(kind) not in known and kind not in UNDRAWN}
+    unknown = {kind: count for kind, count in sorted(kinds.items()) if str(kind) not in known and kind not in PLACES}
     if SPECTRE in unknown:
         yield spectres(unknown.pop(SPECTRE))
     if unknown:

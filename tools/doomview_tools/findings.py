@@ -24,8 +24,8 @@ class Finding(typing.NamedTuple):
     told: str
 
 
-def some(numbers: typing.Iterable[int]) -> str:
-    """Numbers in order, not too many."""
+def some(numbers: typing.Iterable[typing.Any]) -> str:
+    """Numbers, or names, in order, not too many."""
     numbers = sorted(set(numbers))
     more = f' and {len(numbers) - SHOWN} more' if len(numbers) > SHOWN else ''
     return ' '.join(map(str, numbers[:SHOWN])) + more

@@ -10,7 +10,8 @@ from . import home, system, wads
 from .trouble import Trouble
 
 MOST_WADS, MOST_LETTERS = 16, 8
-USAGE, WRITE_FAULT = 1, 4  # statuses of the program
+# Statuses of the program, and where there is none of it.
+USAGE, REFUSED, READ_FAULT, WRITE_FAULT, LIMIT, ZONE_FULL, OUT_OF_MEMORY, NO_PROGRAM = 1, 2, 3, 4, 5, 6, 7, 70
 CHOICES = {'--format': ['index', 'ppm'], '--spans': ['full', 'packed']}
 LIKENESS = 0.7  # of a word that may be meant, as difflib has it
 MAP_NAME = re.compile('E[1-9]M[1-9]|MAP[0-9]{2}')
@@ -160,14 +161,14 @@ sectors 400 views 30 frames 30 bytes 1920000 sum 110342962
 LEVEL_JOBS = [job.name for job in JOBS.values() if job.words[0] == MAP]
 STATUSES = {
     0: Status('', 'the whole output was written'),
-    1: Status('usage', 'the arguments are invalid'),
-    2: Status('refused CODE A B ..', 'the bytes of a file are refused'),
-    3: Status('read fault', 'a file is absent, or could not be read'),
-    4: Status('write fault', 'the output could not be written'),
-    5: Status('limit view V planes N', 'view V, counted from 0, has more planes (or openings N) than its limit'),
-    6: Status('zone full wanted W widest X', 'the zone has no room for a block of W bytes; every gap is smaller'),
-    7: Status('out of memory', 'memory ran out'),
-    70: Status('', 'the program could not be built or is not there'),
+    USAGE: Status('usage', 'the arguments are invalid'),
+    REFUSED: Status('refused CODE A B ..', 'the bytes of a file are refused'),
+    READ_FAULT: Status('read fault', 'a file is absent, or could not be read'),
+    WRITE_FAULT: Status('write fault', 'the output could not be written'),
+    LIMIT: Status('limit view V planes N', 'view V, counted from 0, has more planes (or openings N) than its limit'),
+    ZONE_FULL: Status('zone full wanted W widest X', 'the zone has no room for a block of W bytes; every gap is smaller'),
+    OUT_OF_MEMORY: Status('out of memory', 'memory ran out'),
+    NO_PROGRAM: Status('', 'the program could not be built or is not there'),
 }
 OUTPUT, PLACES = '-o', '--places'
 OWN_OPTIONS = [

@@ -6,20 +6,14 @@ import functools
 import struct
 import typing
 
+from .doom import BUILT_LUMPS, LAYOUTS, LEAF, MAP_LUMPS, NO_SIDE, PLAYER_1, TABLES
 from .trouble import WadError
-from .wads import BEHIND_MAP, MAP_LUMPS, Lump, clean, map_labels, read as read_wad
+from .wads import BEHIND_MAP, Lump, clean, map_labels, read as read_wad
 
 UNIT = 1 << 16  # a map unit in 16.16
 TURN = 1 << 32  # a whole turn as an angle
 EYE_HEIGHT = 41  # map units above the floor
-PLAYER_1 = 1  # the type of a thing
-LEAF = 0x8000  # the bit of a child that is a leaf
-NO_SIDE = 0xffff
 EXTENDED = [b'XNOD', b'ZNOD', b'XGLN', b'ZGLN', b'XGL2', b'ZGL2', b'XGL3', b'ZGL3', b'gNd2', b'gNd5']
-TABLES = ['REJECT', 'BLOCKMAP']  # the lumps behind those of a map
-BUILT_LUMPS = ['SEGS', 'SSECTORS', 'NODES']  # what a builder of nodes makes
-LAYOUTS = {'THINGS': '<hhhHH', 'LINEDEFS': '<7H', 'SIDEDEFS': '<hh8s8s8sH', 'VERTEXES': '<hh', 'SEGS': '<6H',
-           'SSECTORS': '<HH', 'NODES': '<12h2H', 'SECTORS': '<hh8s8shhh'}  # of the records of a lump
 
 Box = typing.Tuple[int, ...]  # top, bottom, left, right
 

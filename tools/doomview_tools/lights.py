@@ -9,12 +9,14 @@ import collections
 import typing
 
 from . import traces
+from .doom import COLORMAP_SIZE, COLORMAPS as MAPS
 from .frames import WIDTH
+from .traces import MIDDLE, PLANE, SPRITE, WALL, WEAPON
 
-MAPS, STEP = 32, 4  # colormaps of lights, and how many of them are one step
+STEP = 4  # how many colormaps are one step of light
 LIGHT, MOST_STEPS = 16, 15  # of a step, and the most steps
 LEAST_PAIRS = 8  # of colours that differ: doomview's and the port's
-WALL, PLANE, MIDDLE, SPRITE, WEAPON = 1, 2, 4, 5, 6  # kinds of painters, without the sky, which has no light
+LIT = (WALL, PLANE, MIDDLE, SPRITE, WEAPON)  # kinds of painters: all but the sky
 
 Pairs = typing.Set[typing.Tuple[int, int]]  # of doomview's colour and the port's
 Groups = typing.Dict[int, Pairs]  # of a painter, by its columns or rows
@@ -60,10 +62,10 @@ class Lights:
     def __init__(self, colormaps: bytes):
         self.known: typing.Dict[typing.Tuple[int, int], int] = {}
         self.texels = []  # of each texel that is lit, by its colours the numbers of the colormaps, as bits
-        for texel in range(256 if len(colormaps) >= 256 * MAPS else 0):
+        for texel in range(COLORMAP_SIZE if len(colormaps) >= COLORMAP_SIZE * MAPS else 0):
             found: typing.Dict[int, int] = collections.defaultdict(int)
             for number in range(MAPS):
-                found[colormaps[256 * number + texel]] |= 1 << number
+                found[colormaps[COLORMAP_SIZE * number + texel]] |= 1 << number
             self.texels.append(found)
 
     def ways(self, ours: int, port: int) -> int:
@@ -130,7 +132,7 @@ def grouped(keys: typing.List[Key], places: typing.Iterable[int], ours: bytes, p
     found: typing.Dict[Key, Groups] = collections.defaultdict(lambda: collections.defaultdict(set))
     for place in places:
         key = keys[place]
-        if key[0] in (WALL, PLANE, MIDDLE, SPRITE, WEAPON):
+        if key[0] in LIT:
             found[key][line_of(key[0], place)].add((ours[place], port[place]))
     return found
 

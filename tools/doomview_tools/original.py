@@ -6,6 +6,7 @@ import subprocess
 import typing
 
 from . import home, paths, program, weapons
+from .counting import RAISED
 from .frames import SIZE as FRAME
 from .trouble import Trouble
 
@@ -18,7 +19,6 @@ PACKED = ['-dosspan']
 # How the original steps spans as doomview does by --spans.
 SPANS: typing.Dict[str, typing.List[str]] = {'full': [], 'packed': PACKED}
 Drawn = typing.Dict[int, bytes]  # frames by the numbers of their views
-RAISED = ['--planes', '1024', '--openings', '245760']
 
 
 def missing() -> typing.List[str]:

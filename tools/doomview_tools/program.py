@@ -12,10 +12,9 @@ import typing
 
 from . import home, tables
 from .files import WholeFile, is_terminal, write_whole
-from .jobs import LEVEL_JOBS, USAGE, WRITE_FAULT, Words, wrong_words
+from .jobs import LEVEL_JOBS, NO_PROGRAM, USAGE, WRITE_FAULT, Words, wrong_words
 from .trouble import Ended, Trouble
 
-NO_PROGRAM = 70  # the status where there is no run
 SECONDS = 300  # that a run of the sources without proofs may take
 SHOWN = 5  # lines of what rt said where there was no run
 

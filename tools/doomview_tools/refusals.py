@@ -2,13 +2,13 @@
 
 What is wrong and how to mend it is in docs/REFUSALS.md, code by code."""
 import csv
+import itertools
 import os
 import re
 import struct
 import typing
 
-from . import checks, home, levels, traces, wads
-from .art import Art
+from . import art, checks, doom, home, levels, wads
 from .jobs import Words
 from .trouble import Trouble, WadError
 
@@ -72,7 +72,8 @@ class Scene:
 
     def __init__(self, words: Words) -> None:
         self.wads, self.map_name = words.wads, words.map_name.upper()
-        self.lumps, self.places = [], []
+        self.lumps: typing.List[wads.Lump] = []
+        self.places: typing.List[str] = []  # of each lump its WAD
         for wad in self.wads:
             try:
                 read = wads.read(wad) if os.path.isfile(wad) else []
@@ -109,14 +110,8 @@ class Scene:
         return f'thing {number}: type {found.type} at {found.x}, {found.y}'
 
     def texture(self, number: int) -> str:
-        for name in ('TEXTURE1', 'TEXTURE2'):
-            lump = dict(self.lumps).get(name, b'')
-            count = int.from_bytes(lump[:4], 'little')
-            if number < count:
-                offset, = struct.unpack_from('<I', lump, 4 + 4 * number)
-                return f'texture {wads.clean(lump[offset:offset + 8])} ({name}, number {number})'
-            number -= count
-        return 'a texture'
+        found = art.name_of_texture(dict(self.lumps), number)
+        return 'texture {} ({}, number {})'.format(*found) if found else 'a texture'
 
     def lump(self, number: int) -> str:
         return f'lump {self.lumps[number].name} of {self.places[number]}'
@@ -125,7 +120,7 @@ class Scene:
         return self.wads[number] if number < len(self.wads) else f'file {number} of the WADs, counted from 0'
 
     def field(self, lump: int, record: int, field: int) -> str:
-        where = f'{wads.MAP_LUMPS[lump]} record {record}, {FIELDS[lump][field]}'
+        where = f'{doom.MAP_LUMPS[lump]} record {record}, {FIELDS[lump][field]}'
         if lump == SIDEDEFS:
             return f'{where} ({self.side(record)})'
         if (lump, field) == (SEGS, SIDE_OF_LINE) and record < len(self.level.segs):
@@ -137,30 +132,21 @@ class Scene:
     def texture_names(self) -> typing.Set[str]:
         """The names of all textures; none where the lists are damaged."""
         try:
-            return {name for name, _ in traces.texture_lists(self.lumps)}
-        except (IndexError, struct.error):
+            return {texture.name for texture in art.textures_of(dict(self.lumps))}
+        except WadError:
             return set()
 
     def flats(self) -> typing.Set[str]:
         """The names of the lumps between the marks of flats."""
-        found, is_flat, before = set(), False, None
-        for wad, lump in zip(self.places, self.lumps):
-            is_flat = is_flat and wad == before
-            before = wad
-            if lump.name in ('F_START', 'FF_START'):
-                is_flat = True
-            elif lump.name in ('F_END', 'FF_END'):
-                is_flat = False
-            elif is_flat:
-                found.add(lump.name)
-        return found
+        by_file = itertools.groupby(zip(self.places, self.lumps), key=lambda pair: pair[0])
+        return {name for _, pairs in by_file for name in art.marked_names([lump for _, lump in pairs], 'F')}
 
     def depth(self) -> int:
         """How deep the nodes are."""
         most, seen, left = 0, set(), [(len(self.level.nodes) - 1, 1)]
         while left:
             number, depth = left.pop()
-            if number & levels.LEAF or number in seen or not 0 <= number < len(self.level.nodes):
+            if number & doom.LEAF or number in seen or not 0 <= number < len(self.level.nodes):
                 continue
             seen.add(number)
             most = max(most, depth)
@@ -180,7 +166,7 @@ def of_row(code: int, numbers: Numbers) -> str:
 # Of each code how its numbers are named: by the scene, and the numbers.
 NAMED: typing.Dict[int, typing.Callable[..., str]] = {
     **dict.fromkeys((401, 402, 403), lambda scene, file, *_: scene.wad(file)),
-    602: lambda scene, lump: wads.MAP_LUMPS[lump],
+    602: lambda scene, lump: doom.MAP_LUMPS[lump],
     604: lambda scene, lump, record, field: scene.field(lump, record, field),
     605: lambda scene, leaf: f'SSECTORS record {leaf}',
     **dict.fromkeys((606, 607), lambda scene, node: f'NODES record {node}'),
@@ -253,8 +239,8 @@ def hidden_list(scene: Scene, missing: typing.Set[str]) -> Sentences:
     for wad in having[:-1]:
         lists = [lump for place, lump in zip(scene.places, scene.lumps) if place == wad]
         try:
-            known = {name for name, _ in traces.texture_lists(lists)}
-        except (IndexError, struct.error):
+            known = {texture.name for texture in art.textures_of(dict(lists))}
+        except WadError:
             continue
         for name in sorted(missing & known):
             yield f'{name} is in the TEXTURE1 of {wad}, which that of {having[-1]} hides; put it into the list there.'
@@ -267,7 +253,7 @@ def no_flat(scene: Scene, numbers: Numbers) -> Sentences:
     sector, known = scene.level.sectors[numbers[0]], scene.flats()
     lumps = {lump.name for lump in scene.lumps}
     for part, name in (('floor', sector.floor_flat), ('ceiling', sector.ceiling_flat)):
-        if name != 'F_SKY1' and name not in known:
+        if name != doom.SKY and name not in known:
             is_outside = ': there is a lump of that name, but not between F_START and F_END'
             yield f'no flat: {part} {name}{is_outside if name in lumps else ""}.'
 
@@ -294,10 +280,10 @@ CHECKS = {901: checks.Check.missing_textures, 903: checks.Check.missing_flats, 9
 def all_wrong(scene: Scene, code: int) -> Sentences:
     """Sentences on all that is wrong in the way of a refusal, since a run tells the first alone."""
     try:
-        art = Art(scene.wads)
-        if art.textures:
-            for it in CHECKS[code](checks.Check(scene.level, art)):
-                yield f'{it.where}: {it.told}' + ('' if it.told.endswith('?') else '.')
+        of_wads = art.Art(scene.wads)
+        if of_wads.textures:
+            for finding in CHECKS[code](checks.Check(scene.level, of_wads)):
+                yield f'{finding.where}: {finding.told}' + ('' if finding.told.endswith('?') else '.')
     except (Trouble, OSError):
         return
 

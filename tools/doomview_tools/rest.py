@@ -8,22 +8,22 @@ import re
 import struct
 import typing
 
-from . import levels, paths, traces, wads
-from .levels import EYE_HEIGHT, PLAYER_1, TURN, UNIT
+from . import art, doom, levels, paths, wads
+from .doom import DEMON, LAYOUTS, PLAYER_1, SPECTRE
+from .levels import EYE_HEIGHT, TURN, UNIT
 from .trouble import Trouble
 
 TICS = 33  # before the first pause: the weapon is up
 Place = typing.Optional[typing.Tuple[int, int, int]]  # x and y in map units, and degrees
 STEP = 37  # of a turn of 256, from view to view
 MOST_VIEWS = 8
-SPECTRE, DEMON = 58, 3002
 UNDER_CEILING = 4  # the least map units between eye and ceiling
 FIRST_FRAME, LAST_FRAME = 90, 966  # of things in DeHackEd: before them are those of weapons
 PAUSE = bytes([0, 0, 0, 0x81])
 STILL = bytes(4)
 SAVE = 0x82  # the button that saves the game
 EMPTY_PICTURE = struct.pack('<4hI', 1, 1, 0, 0, 12) + b'\xff'
-MAP_LUMPS = wads.MAP_LUMPS + ['REJECT', 'BLOCKMAP']
+MAP_LUMPS = doom.MAP_LUMPS + doom.TABLES
 # The first and the last picture of each animation, as P_InitPicAnims has them.
 FLATS = ['NUKAGE1 NUKAGE3', 'FWATER1 FWATER4', 'SWATER1 SWATER4', 'LAVA1 LAVA4', 'BLOOD1 BLOOD3', 'RROCK05 RROCK08',
          'SLIME01 SLIME04', 'SLIME05 SLIME08', 'SLIME09 SLIME12']
@@ -62,10 +62,10 @@ class Rest:
         if list(self.parts) != MAP_LUMPS:
             raise self.level.error('has no REJECT and BLOCKMAP behind it, which ports need; build its nodes')
         self.start = self.start_at(at)
-        self.parts['THINGS'] = packed('<hhhHH', self.things())
+        self.parts['THINGS'] = packed(LAYOUTS['THINGS'], self.things())
         self.parts['SECTORS'] = self.sectors({})
-        self.parts['LINEDEFS'] = packed('<7H', [(*record[:3], 0, *record[4:])
-                                                for record in levels.records(self.parts['LINEDEFS'], '<7H')])
+        self.parts['LINEDEFS'] = packed(LAYOUTS['LINEDEFS'], [
+            (*record[:3], 0, *record[4:]) for record in levels.records(self.parts['LINEDEFS'], LAYOUTS['LINEDEFS'])])
 
     def start_at(self, at: Place) -> levels.Thing:
         """The player start, or one at x, y and degrees of an eighth of a turn."""
@@ -74,8 +74,8 @@ class Rest:
 
     def things(self) -> typing.List[levels.Thing]:
         """The things of the level: one player start behind all others, and demons in the place of spectres."""
-        others = [it for it in self.level.things if it.type != PLAYER_1]
-        return [it._replace(type=DEMON) if it.type == SPECTRE else it for it in others] + [self.start]
+        others = [thing for thing in self.level.things if thing.type != PLAYER_1]
+        return [thing._replace(type=DEMON) if thing.type == SPECTRE else thing for thing in others] + [self.start]
 
     def row(self) -> paths.Row:
         """The viewpoint of the player start."""
@@ -89,13 +89,14 @@ class Rest:
         return [row._replace(angle=(row.angle + view * STEP * (TURN // 256)) % TURN) for view in range(views)]
 
     def sectors(self, names: typing.Dict[str, str]) -> bytes:
-        return packed('<hh8s8shhh', [it._replace(floor_flat=names.get(it.floor_flat, it.floor_flat), special=0,
-                                                 ceiling_flat=names.get(it.ceiling_flat, it.ceiling_flat))
-                                     for it in self.level.sectors])
+        return packed(LAYOUTS['SECTORS'], [
+            sector._replace(floor_flat=names.get(sector.floor_flat, sector.floor_flat), special=0,
+                            ceiling_flat=names.get(sector.ceiling_flat, sector.ceiling_flat))
+            for sector in self.level.sectors])
 
     def sides(self, names: typing.Dict[str, str]) -> bytes:
-        return packed('<hh8s8s8sH', [(*it[:2], *(names.get(name, name) for name in it[2:5]), it.sector)
-                                     for it in self.level.sides])
+        return packed(LAYOUTS['SIDEDEFS'], [(*side[:2], *(names.get(name, name) for name in side[2:5]), side.sector)
+                                            for side in self.level.sides])
 
     def wad(self) -> bytes:
         """The PWAD for a port."""
@@ -106,7 +107,7 @@ class Rest:
         textures from `ahead` on."""
         names = [lump.name for lump in self.lumps]
         flats = names[names.index('F_START') + 1:] if 'F_START' in names else []
-        textures = [name for name, _ in traces.texture_lists(self.lumps)]
+        textures = [texture.name for texture in art.textures_of(dict(self.lumps))]
         parts = {**self.parts, 'SECTORS': self.sectors(shown_names(flats, FLATS, tic)),
                  'SIDEDEFS': self.sides(shown_names(textures, TEXTURES, tic, ahead))}
         return wads.packed([(self.level.name, b''), *parts.items()], b'PWAD')

@@ -6,6 +6,8 @@ import functools
 import struct
 import typing
 
+from . import doom
+from .doom import COLORMAP_SIZE, COLORMAPS, EVERY_SKILL, LAYOUTS, NO_SIDE, PLAYER_1, SKY as SKY_FLAT
 from .wads import packed
 
 PLAN = ['################',
@@ -43,20 +45,20 @@ class Square(typing.NamedTuple):
     tag: int = 0
 
 
-SQUARES = {'.': Square(0, 160, 'TILES', 'BOARDS', 176, 'BRICKS'), 's': Square(0, 208, 'TILES', 'F_SKY1', 232, 'BRICKS'),
-           'w': Square(-16, 208, 'MOSS', 'F_SKY1', 224, 'BRICKS'), 'l': Square(0, 80, 'MOSS', 'BOARDS', 96, 'PANELS'),
+SQUARES = {'.': Square(0, 160, 'TILES', 'BOARDS', 176, 'BRICKS'), 's': Square(0, 208, 'TILES', SKY_FLAT, 232, 'BRICKS'),
+           'w': Square(-16, 208, 'MOSS', SKY_FLAT, 224, 'BRICKS'), 'l': Square(0, 80, 'MOSS', 'BOARDS', 96, 'PANELS'),
            '1': Square(12, 160, 'BOARDS', 'BOARDS', 184, 'PANELS'),
            '2': Square(24, 160, 'BOARDS', 'BOARDS', 192, 'PANELS'),
            '3': Square(36, 160, 'BOARDS', 'BOARDS', 200, 'PANELS'),
            'p': Square(48, 160, 'BOARDS', 'BOARDS', 208, 'BRICKS'),
-           'g': Square(48, 192, 'MOSS', 'F_SKY1', 248, 'BRICKS'), 'k': Square(72, 72, 'MOSS', 'F_SKY1', 248, 'BRICKS')}
+           'g': Square(48, 192, 'MOSS', SKY_FLAT, 248, 'BRICKS'), 'k': Square(72, 72, 'MOSS', SKY_FLAT, 248, 'BRICKS')}
 STAIRS = '123p'  # squares with boards on their steps
 GRATED = {'g', 'p'}  # between these two squares stands a grate
-START, LAMP = 1, 2028  # types of things
-ALWAYS, HARDER = 7, 6  # in every skill; not in skills 1 and 2
+LAMP = 2028  # a type of things
+HARDER = 6  # the options of a thing that is not in skills 1 and 2
 # Column and row of each thing in PLAN, in halves of a square, its type, its angle and its skills.
-THINGS = [(16, 26, START, 90, ALWAYS), (13, 15, LAMP, 0, ALWAYS), (19, 15, LAMP, 0, ALWAYS), (13, 7, LAMP, 0, ALWAYS),
-          (19, 7, LAMP, 0, ALWAYS), (25, 15, LAMP, 0, ALWAYS), (9, 19, LAMP, 0, ALWAYS), (14, 22, LAMP, 0, HARDER)]
+THINGS = [(16, 26, PLAYER_1, 90, EVERY_SKILL), (13, 15, LAMP, 0, EVERY_SKILL), (19, 15, LAMP, 0, EVERY_SKILL), (13, 7, LAMP, 0, EVERY_SKILL),
+          (19, 7, LAMP, 0, EVERY_SKILL), (25, 15, LAMP, 0, EVERY_SKILL), (9, 19, LAMP, 0, EVERY_SKILL), (14, 22, LAMP, 0, HARDER)]
 
 RAMPS = [(255, 255, 255), (255, 190, 140), (255, 210, 120), (150, 255, 150), (140, 190, 255), (255, 240, 170),
          (200, 150, 255), (255, 120, 90)]
@@ -143,7 +145,7 @@ def palette() -> bytes:
 def colormap() -> bytes:
     """Each of the 32 maps is a step darker than the one before it."""
     return bytes(shade(c // STEPS * STEPS, c % STEPS + (STEPS - c % STEPS) * dark // 34)
-                 for dark in range(32) for c in range(256))
+                 for dark in range(COLORMAPS) for c in range(COLORMAP_SIZE))
 
 
 def name(text: str) -> bytes:
@@ -194,7 +196,7 @@ class Level:
             step = 'PANELS' if other in STAIRS else self.squares[other].wall
             parts = wall, step, 'BARS' if {kind, other} == GRATED else '-'
         top, bottom, middle = map(name, parts)
-        self.sides.append(struct.pack('<hh8s8s8sH', 0, 0, top, bottom, middle, self.kinds.index(kind)))
+        self.sides.append(struct.pack(LAYOUTS['SIDEDEFS'], 0, 0, top, bottom, middle, self.kinds.index(kind)))
         return len(self.sides) - 1
 
     def add_leaf(self, square: Place, others: typing.Set[Place]) -> None:
@@ -210,12 +212,12 @@ class Level:
                 line, direction = self.lines[end, start][0], 1
             else:
                 line, direction = len(self.lines), 0
-                sides = [self.side(square, there), 0xffff if there is None else self.side(there, square)]
-                flags = 1 if there is None else 4
-                self.lines[start, end] = line, struct.pack('<7H', start, end, flags, 0, 0, *sides)
+                sides = [self.side(square, there), NO_SIDE if there is None else self.side(there, square)]
+                flags = 1 if there is None else doom.TWO_SIDED
+                self.lines[start, end] = line, struct.pack(LAYOUTS['LINEDEFS'], start, end, flags, 0, 0, *sides)
             angle = (0x4000, 0, 0xc000, 0x8000)[edge]
-            self.segs.append(struct.pack('<6H', start, end, angle, line, direction, 0))
-        self.leaves[square] = len(self.leaves), struct.pack('<HH', 4, first)
+            self.segs.append(struct.pack(LAYOUTS['SEGS'], start, end, angle, line, direction, 0))
+        self.leaves[square] = len(self.leaves), struct.pack(LAYOUTS['SSECTORS'], 4, first)
 
     def box(self, squares: typing.List[Place]) -> typing.List[int]:
         columns, rows = [x for x, _ in squares], [y for _, y in squares]
@@ -226,7 +228,7 @@ class Level:
     def add_node(self, squares: typing.List[Place]) -> int:
         """The node, or leaf, of these squares, as a child is named."""
         if len(squares) == 1:
-            return 0x8000 | self.leaves[squares[0]][0]
+            return doom.LEAF | self.leaves[squares[0]][0]
         axis = max((0, 1), key=lambda axis: len({square[axis] for square in squares}))
         values = sorted({square[axis] for square in squares})
         cut = values[len(values) // 2]
@@ -237,16 +239,16 @@ class Level:
         else:  # the line goes east, and the south is in front
             front, back, line = high, low, [0, SIDE * (len(self.plan) - cut), SIDE * len(self.plan[0]), 0]
         children = self.add_node(front), self.add_node(back)
-        self.nodes.append(struct.pack('<12h2H', *line, *self.box(front), *self.box(back), *children))
+        self.nodes.append(struct.pack(LAYOUTS['NODES'], *line, *self.box(front), *self.box(back), *children))
         return len(self.nodes) - 1
 
     def things(self) -> bytes:
         height = len(self.plan)
-        return b''.join(struct.pack('<hhhHH', SIDE * x // 2, SIDE * height - SIDE * y // 2, angle, kind, skills)
+        return b''.join(struct.pack(LAYOUTS['THINGS'], SIDE * x // 2, SIDE * height - SIDE * y // 2, angle, kind, skills)
                         for x, y, kind, angle, skills in self.placed)
 
     def sectors(self) -> bytes:
-        return b''.join(struct.pack('<hh8s8shhh', one.floor, one.ceiling, name(one.below), name(one.above), one.light,
+        return b''.join(struct.pack(LAYOUTS['SECTORS'], one.floor, one.ceiling, name(one.below), name(one.above), one.light,
                                     one.special, one.tag) for one in self.squares.values())
 
     def blockmap(self) -> bytes:
@@ -267,7 +269,7 @@ class Level:
     def lumps(self) -> Lumps:
         return [('MAP01', b''), ('THINGS', self.things()),
                 ('LINEDEFS', b''.join(line for _, line in self.lines.values())), ('SIDEDEFS', b''.join(self.sides)),
-                ('VERTEXES', b''.join(struct.pack('<hh', *point) for point in self.vertices)),
+                ('VERTEXES', b''.join(struct.pack(LAYOUTS['VERTEXES'], *point) for point in self.vertices)),
                 ('SEGS', b''.join(self.segs)), ('SSECTORS', b''.join(leaf for _, leaf in self.leaves.values())),
                 ('NODES', b''.join(self.nodes)), ('SECTORS', self.sectors()),
                 ('REJECT', bytes((len(self.squares) ** 2 + 7) // 8)), ('BLOCKMAP', self.blockmap())]

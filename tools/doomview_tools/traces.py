@@ -4,20 +4,23 @@ import functools
 import struct
 import typing
 
+from .art import between_marks, patch_names, starts, textures_of
+from .doom import PALETTE_SIZE
 from .frames import HEIGHT, SIZE, WIDTH, count_parts
 from .png import GREYS
-from .trouble import Trouble
-from .wads import clean, read
+from .trouble import Trouble, WadError
+from .wads import read
 
 RECORD = struct.Struct('<BBHHBB')  # kind, kind of source, number, source, colour, 0
 VIEW_SIZE = RECORD.size * SIZE
 # Of each kind its word, and what its number counts: from 0, but rows of the weapon layers from 1.
-KINDS = {0: ('nothing', ''), 1: ('wall', 'fragment'), 2: ('plane', 'plane'), 3: ('sky', 'plane'),
-         4: ('middle', 'fragment'), 5: ('sprite', 'sprite'), 6: ('weapon', 'row')}
-TEXTURED = (1, 3, 4)  # kinds that paint from a texture
-SPRITE = 5
+NOTHING, WALL, PLANE, SKY, MIDDLE, SPRITE, WEAPON = range(7)
+KINDS = {NOTHING: ('nothing', ''), WALL: ('wall', 'fragment'), PLANE: ('plane', 'plane'), SKY: ('sky', 'plane'),
+         MIDDLE: ('middle', 'fragment'), SPRITE: ('sprite', 'sprite'), WEAPON: ('weapon', 'row')}
+TEXTURED = (WALL, SKY, MIDDLE)  # kinds that paint from a texture
 LUMP, COMPOSITE = 1, 2  # kinds of sources
-GROUP_OF = {2: 'flat', 5: 'picture of a sprite', 6: 'picture of a sprite'}  # what kinds paint from
+# What kinds paint from.
+GROUP_OF = {PLANE: 'flat', SPRITE: 'picture of a sprite', WEAPON: 'picture of a sprite'}
 SHOWN_NUMBERS, SHOWN_TEXTURES, SHOWN_PLACES = 6, 3, 12
 
 
@@ -52,42 +55,30 @@ def record_at(path: str, view: int, x: int, y: int) -> Record:
         return RECORD.unpack(file.read(RECORD.size))
 
 
-def texture_lists(lumps: typing.Iterable[typing.Tuple[str, bytes]]) -> typing.List[typing.Tuple[str, typing.List[int]]]:
-    """The textures of both lists, in the order of their numbers: pairs of a name and the numbers of its patches."""
-    newest = dict(lumps)
-    found = []
-    for lump in (newest[name] for name in ('TEXTURE1', 'TEXTURE2') if name in newest):
-        count = int.from_bytes(lump[:4], 'little')
-        for offset in struct.unpack_from(f'<{count}I', lump, 4):
-            patches, = struct.unpack_from('<H', lump, offset + 20)
-            places = [offset + 22 + 10 * i for i in range(patches)]
-            found.append((clean(lump[offset:offset + 8]), [struct.unpack_from('<4xH', lump, it)[0] for it in places]))
-    return found
-
-
-def patch_names(lumps: typing.Iterable[typing.Tuple[str, bytes]]) -> typing.List[str]:
-    lump = dict(lumps).get('PNAMES', b'')
-    return [clean(name) for name, in struct.iter_unpack('<8s', lump[4:4 + len(lump[4:]) // 8 * 8])]
-
-
 class Names:
     """The names of what paints, as far as the WADs are known."""
 
     def __init__(self, wads: typing.Iterable[str]):
         lumps = [lump for wad in wads for lump in read(wad)]
         self.lumps = [lump.name for lump in lumps]
-        self.textures, self.with_patch = [], collections.defaultdict(list)
+        self.textures: typing.List[str] = []
+        self.with_patch: typing.Dict[str, typing.List[str]] = collections.defaultdict(list)
+        newest = dict(lumps)
         try:
-            patches = patch_names(lumps)
-            for name, numbers in texture_lists(lumps):
-                self.textures.append(name)
-                for patch in sorted({patches[it] for it in numbers if it < len(patches)}):
-                    self.with_patch[patch].append(name)
-        except struct.error as error:
+            self.add_textures(newest)
+        except WadError as error:
             raise Trouble('the lists of textures in the WADs are damaged; leave the WADs out') from error
-        self.palette, self.colormaps = dict(lumps).get('PLAYPAL', b'')[:768], dict(lumps).get('COLORMAP', b'')
-        if len(self.palette) < 768:
+        self.palette, self.colormaps = newest.get('PLAYPAL', b'')[:PALETTE_SIZE], newest.get('COLORMAP', b'')
+        if len(self.palette) < PALETTE_SIZE:
             self.palette = GREYS
+
+    def add_textures(self, lumps: typing.Dict[str, bytes]) -> None:
+        """Takes the textures of both lists, each with its patches."""
+        patches = patch_names(lumps)
+        for texture in textures_of(lumps):
+            self.textures.append(texture.name)
+            for patch in sorted({patches[number] for _, number in texture.patches if number < len(patches)}):
+                self.with_patch[patch].append(texture.name)
 
     def check(self, record: bytes, path: str) -> None:
         """A Trouble where a record names a lump or a texture that the WADs do not have, or a lump of another kind."""
@@ -109,14 +100,8 @@ class Names:
         """Of flats and pictures of sprites the numbers of the lumps that are none, where the WADs mark any."""
         found = {}
         for group, letter in (('flat', 'F'), ('picture of a sprite', 'S')):
-            marks = {f'{letter}_START': 1, f'{2 * letter}_START': 1, f'{letter}_END': 0, f'{2 * letter}_END': 0}
-            is_in, outside = 0, set()
-            for number, name in enumerate(self.lumps):
-                is_in = marks.get(name, is_in)
-                if not is_in:
-                    outside.add(number)
-            if len(outside) < len(self.lumps):
-                found[group] = outside
+            if starts(letter) & {*self.lumps}:
+                found[group] = {*range(len(self.lumps))} - {*between_marks(self.lumps, letter)}
         return found
 
     def source(self, painter: Painter) -> str:

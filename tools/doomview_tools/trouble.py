@@ -1,6 +1,7 @@
 """What is wrong, for a user to read."""
 
-TROUBLE = 2  # the status of a tool that could not do its work; 1 is that of a tool that did, and found something
+# The statuses of a tool that did its work and found something, and of one that could not do it.
+FOUND, TROUBLE = 1, 2
 
 
 class Trouble(Exception):

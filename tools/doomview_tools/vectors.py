@@ -14,6 +14,7 @@ import typing
 import zlib
 
 from . import levels, original, paths, weapons
+from .doom import EVERY_SKILL
 from .frames import SIZE
 from .trouble import Trouble
 
@@ -23,7 +24,7 @@ SETS = ['near', 'sizes', 'skills', 'light', 'weapons']
 MORE = ['E1M1', 'E2M4', 'E4M2', 'MAP01', 'MAP07', 'MAP19']  # the maps that have all sets
 SOME = 3  # places of each size and skill
 LIT = 16
-FAR, EVERY_SKILL = 1024, 7  # map units; the bits of a thing's options
+FAR = 1024  # map units
 SKILL, SIZE_OF_VIEW = 3, 11
 PISTOL = (weapons.raised('PISG'),)
 HELD = [PISTOL, (weapons.raised('PUNG'),), (weapons.raised('SHTG', 'B'),), (weapons.raised('PISG', 'B'),

@@ -8,10 +8,10 @@ import struct
 import typing
 
 from . import system
+from .doom import MAP_LUMPS
 from .files import check_source
 from .trouble import Trouble, WadError
 
-MAP_LUMPS = ['THINGS', 'LINEDEFS', 'SIDEDEFS', 'VERTEXES', 'SEGS', 'SSECTORS', 'NODES', 'SECTORS']
 FOLDERS = ['/usr/local/share/games/doom', '/usr/share/games/doom', '/usr/local/share/doom', '/usr/share/doom',
            '/usr/share/games/freedoom']  # of the packages of Linux
 BEHIND_MAP = 12  # a label, its eight lumps, REJECT, BLOCKMAP and BEHAVIOR

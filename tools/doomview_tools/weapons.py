@@ -1,8 +1,9 @@
 """Weapon layers: what `--weapon` paints over a frame (docs/FORMATS.md, "Tables of rows")."""
 import typing
 
+from .levels import UNIT
+
 HEADER = 'view,sprite,frame,bright,sx,sy'
-UNIT = 1 << 16
 
 
 class Layer(typing.NamedTuple):

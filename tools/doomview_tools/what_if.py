@@ -8,9 +8,10 @@ import typing
 
 from . import levels, list_counts, paths, program
 from .counting import RAISED
+from .doom import MAP_LUMPS, SKY
 from .files import write_whole
-from .ground import SECTOR, SKY
-from .wads import MAP_LUMPS, packed
+from .ground import SECTOR
+from .wads import packed
 
 FIELDS = {'light': 'light', 'floor_flat': 'floor flat', 'ceiling_flat': 'ceiling flat', 'floor': 'floor height',
           'ceiling': 'ceiling height'}

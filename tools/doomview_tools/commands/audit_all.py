@@ -5,9 +5,9 @@ import tempfile
 
 from .. import cli, paths, program, wads
 from ..files import write_whole
+from ..trouble import FOUND
 
 WITHOUT = ('--tables', '--things', '--path')
-REFUSED = 1
 PAGE = cli.Page(
     'audit-all', 'audits every map of a WAD, a line for each', '''
 Audits every map of a WAD and prints a line for each: the map's name and doomview's answer, accepted or why not.
@@ -42,5 +42,5 @@ def run(options: argparse.Namespace) -> int:
         for name in names:
             done = program.run(['audit', name, *files, '--path', path, *cli.job_words(options)])
             print(name, done.output.decode().strip() or done.line or f'status {done.status}', flush=True)
-            status = REFUSED if done.status else status
+            status = FOUND if done.status else status
     return status

@@ -10,10 +10,9 @@ from .. import cli, diagnoses, frame_files, frames, lights, lists, png, traces, 
 from ..compare_page import ComparePage
 from ..files import check_target, write_whole
 from ..frames import HEIGHT, SIZE, WIDTH
-from ..trouble import Trouble
+from ..trouble import FOUND, Trouble
 
 RED = b'\xff\x00\x00'
-DIFFERENT = 1
 MOST_PAINTERS = 5  # that are named because they differ in every view
 Both = typing.Tuple[bytes, bytes]  # doomview's frame of a view, and the port's
 PlaceOf = typing.Callable[[traces.Painter, int], str]
@@ -280,4 +279,4 @@ class Comparison:
 
 
 def run(options: argparse.Namespace) -> int:
-    return DIFFERENT if Comparison(options).run() else 0
+    return FOUND if Comparison(options).run() else 0

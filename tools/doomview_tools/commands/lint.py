@@ -10,9 +10,8 @@ from .. import checks, cli, explanations, paths, program, wads
 from ..files import write_output, write_whole
 from ..findings import COUNTED, GRADES, Finding
 from ..refusals import CHECKS
-from ..trouble import Trouble
+from ..trouble import FOUND, TROUBLE, Trouble
 
-FOUND, REFUSED = 1, 2
 PAGE = cli.Page(
     'lint', 'all that looks like a mistake in a map, or how much in each map of a WAD', '''
 Prints a line for each thing in a map that looks like a mistake: how grave it is, what it is about, where, and a
@@ -75,7 +74,7 @@ def refusal(name: str, files: typing.List[str]) -> int:
         if found and int(found[1]) not in CHECKS:
             sys.stderr.write(done.said)
             explanations.tell(done.line, words)
-            return REFUSED
+            return TROUBLE
     return 0
 
 
@@ -93,7 +92,7 @@ def all_maps(options: argparse.Namespace, files: typing.List[str]) -> int:
             found, status = findings_of(options, files)
             told = counts_told(found)
         except Trouble as error:
-            told, status = f'cannot be read: {error}', REFUSED
+            told, status = f'cannot be read: {error}', TROUBLE
         write_output(f'{name} {told}\n')
         worst = max(worst, status)
     return worst
