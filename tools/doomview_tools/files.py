@@ -34,7 +34,7 @@ def check_target(path: str) -> None:
         os.close(handle)
         os.remove(part_path)
     except OSError as error:
-        raise Trouble(f'cannot write {path}: {error.strerror}')
+        raise Trouble(f'cannot write {path}: {error.strerror}') from error
 
 
 def part_of(path: str) -> typing.Tuple[int, str]:
@@ -64,9 +64,9 @@ class WholeFile:
         try:
             yield
         except Trouble as error:
-            raise Trouble(str(error), self.status)
+            raise Trouble(str(error), self.status) from error
         except OSError as error:
-            raise Trouble(f'cannot write {self.named}: {error.strerror}', self.status)
+            raise Trouble(f'cannot write {self.named}: {error.strerror}', self.status) from error
 
     def __enter__(self) -> typing.BinaryIO:
         return self.part
@@ -114,4 +114,4 @@ def write_output(data: typing.Union[str, bytes], path: typing.Optional[str] = No
     except BrokenPipeError:
         raise
     except OSError as error:
-        raise Trouble(f'cannot write {what}: {error.strerror}')
+        raise Trouble(f'cannot write {what}: {error.strerror}') from error

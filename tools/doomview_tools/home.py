@@ -25,5 +25,5 @@ def version() -> typing.Dict[str, str]:
     try:
         with open(data('version'), encoding='utf-8') as file:
             return dict(line.split() for line in file)
-    except (OSError, ValueError):
-        raise Trouble(f'{data("version")} is missing or damaged; take the whole folder of doomview anew')
+    except (OSError, ValueError) as error:
+        raise Trouble(f'{data("version")} is missing or damaged; take the whole folder of doomview anew') from error

@@ -207,8 +207,8 @@ class Level:
             if not child & LEAF:
                 raise self.damage('has nodes that form a circle; build them anew')
             return self.sector_of_leaf(child & ~LEAF)
-        except (IndexError, TypeError):
-            raise self.damage()
+        except (IndexError, TypeError) as error:
+            raise self.damage() from error
 
     def sector_of_leaf(self, number: int) -> int:
         """The sector of a leaf: that in front of its first seg."""

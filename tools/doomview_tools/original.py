@@ -32,7 +32,7 @@ def still(words: typing.List[str], folder: str) -> None:
     try:
         done = subprocess.run(words, cwd=folder, stdout=subprocess.PIPE, stderr=subprocess.PIPE)
     except OSError as error:
-        raise Trouble(f'cannot run {words[0]}: {error.strerror}')
+        raise Trouble(f'cannot run {words[0]}: {error.strerror}') from error
     if done.returncode:
         raise Trouble(f'{os.path.basename(words[0])}: {done.stderr.decode(errors="replace").strip()[-200:]}')
 

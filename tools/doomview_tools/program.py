@@ -99,7 +99,8 @@ def temporary_file(data: bytes, ending: str) -> str:
         with open(handle, 'wb') as file:
             file.write(data)
     except OSError as error:
-        raise Trouble(f'cannot write a temporary file ({error.strerror}); TMPDIR may name another place for it')
+        raise Trouble(f'cannot write a temporary file ({error.strerror}); TMPDIR may name another place for '
+                      'it') from error
     return name
 
 
@@ -190,7 +191,7 @@ def call(command: typing.List[str], output: Output, folder: typing.Optional[str]
         done = subprocess.run(command, cwd=folder, env=environment(), stdin=subprocess.DEVNULL,
                               stdout=subprocess.PIPE if output is None else output, stderr=subprocess.PIPE)
     except OSError as error:
-        raise Trouble(f'cannot run {command[0]}: {error.strerror}', NO_PROGRAM)
+        raise Trouble(f'cannot run {command[0]}: {error.strerror}', NO_PROGRAM) from error
     return done.returncode, done.stdout, done.stderr
 
 
@@ -199,7 +200,7 @@ def start(words: typing.Iterable[str], **more: typing.Any) -> subprocess.Popen:
     try:
         return subprocess.Popen([ready(), *completed(words)], env=environment(), **more)
     except OSError as error:
-        raise Trouble(f'cannot run {path()}: {error.strerror}', NO_PROGRAM)
+        raise Trouble(f'cannot run {path()}: {error.strerror}', NO_PROGRAM) from error
 
 
 def pass_on(words: typing.List[str]) -> Run:

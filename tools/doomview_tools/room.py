@@ -7,7 +7,7 @@ import struct
 import typing
 
 from . import doom
-from .doom import COLORMAP_SIZE, COLORMAPS, EVERY_SKILL, LAYOUTS, NO_SIDE, PLAYER_1, SKY as SKY_FLAT
+from .doom import COLORMAP_SIZE, COLORMAPS, EVERY_SKILL as ALWAYS, LAYOUTS, NO_SIDE, PLAYER_1, SKY as SKY_FLAT
 from .wads import packed
 
 PLAN = ['################',
@@ -57,8 +57,8 @@ GRATED = {'g', 'p'}  # between these two squares stands a grate
 LAMP = 2028  # a type of things
 HARDER = 6  # the options of a thing that is not in skills 1 and 2
 # Column and row of each thing in PLAN, in halves of a square, its type, its angle and its skills.
-THINGS = [(16, 26, PLAYER_1, 90, EVERY_SKILL), (13, 15, LAMP, 0, EVERY_SKILL), (19, 15, LAMP, 0, EVERY_SKILL), (13, 7, LAMP, 0, EVERY_SKILL),
-          (19, 7, LAMP, 0, EVERY_SKILL), (25, 15, LAMP, 0, EVERY_SKILL), (9, 19, LAMP, 0, EVERY_SKILL), (14, 22, LAMP, 0, HARDER)]
+THINGS = [(16, 26, PLAYER_1, 90, ALWAYS), (13, 15, LAMP, 0, ALWAYS), (19, 15, LAMP, 0, ALWAYS), (13, 7, LAMP, 0, ALWAYS),
+          (19, 7, LAMP, 0, ALWAYS), (25, 15, LAMP, 0, ALWAYS), (9, 19, LAMP, 0, ALWAYS), (14, 22, LAMP, 0, HARDER)]
 
 RAMPS = [(255, 255, 255), (255, 190, 140), (255, 210, 120), (150, 255, 150), (140, 190, 255), (255, 240, 170),
          (200, 150, 255), (255, 120, 90)]
@@ -244,12 +244,14 @@ class Level:
 
     def things(self) -> bytes:
         height = len(self.plan)
-        return b''.join(struct.pack(LAYOUTS['THINGS'], SIDE * x // 2, SIDE * height - SIDE * y // 2, angle, kind, skills)
-                        for x, y, kind, angle, skills in self.placed)
+        return b''.join(
+            struct.pack(LAYOUTS['THINGS'], SIDE * x // 2, SIDE * height - SIDE * y // 2, angle, kind, skills)
+            for x, y, kind, angle, skills in self.placed)
 
     def sectors(self) -> bytes:
-        return b''.join(struct.pack(LAYOUTS['SECTORS'], one.floor, one.ceiling, name(one.below), name(one.above), one.light,
-                                    one.special, one.tag) for one in self.squares.values())
+        return b''.join(
+            struct.pack(LAYOUTS['SECTORS'], one.floor, one.ceiling, name(one.below), name(one.above), one.light,
+                        one.special, one.tag) for one in self.squares.values())
 
     def blockmap(self) -> bytes:
         """Of each block of 128 map units the lines that touch it: their numbers between a 0 and a -1."""

@@ -34,8 +34,8 @@ def known_sum() -> str:
     try:
         with open(path, encoding='ascii') as file:
             return file.read().split()[0]
-    except (OSError, IndexError, UnicodeDecodeError):
-        raise Trouble(f'{path} is missing or empty; take the whole folder of doomview anew')
+    except (OSError, IndexError, UnicodeDecodeError) as error:
+        raise Trouble(f'{path} is missing or empty; take the whole folder of doomview anew') from error
 
 
 def is_right(data: bytes) -> bool:

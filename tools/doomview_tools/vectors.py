@@ -179,7 +179,7 @@ def read(path: str) -> typing.List[Vector]:
         with open(path, newline='', encoding='utf-8') as file:
             found = [vector_of(record) for record in csv.DictReader(file)]
     except OSError as error:
-        raise Trouble(f'cannot read {path}: {error.strerror}')
+        raise Trouble(f'cannot read {path}: {error.strerror}') from error
     except (ValueError, KeyError, TypeError, csv.Error):
         found = []
     if not found:

@@ -106,14 +106,14 @@ def read(path: str) -> typing.List[Lump]:
         with open(path, 'rb') as file:
             data = file.read()
     except OSError as error:
-        raise WadError(f'{path}: {error.strerror}')
+        raise WadError(f'{path}: {error.strerror}') from error
     if data[:4] not in (b'IWAD', b'PWAD'):
         raise WadError(f'{path} is {packed_as(data)}' if packed_as(data) else f'{path} is no WAD')
     try:
         count, directory = struct.unpack_from('<II', data, 4)
         entries = [struct.unpack_from('<II8s', data, directory + 16 * i) for i in range(count)]
-    except struct.error:
-        raise WadError(f'{path} is cut short')
+    except struct.error as error:
+        raise WadError(f'{path} is cut short') from error
     for offset, size, name in entries:
         if size and offset + size > len(data):
             raise WadError(f'{path} is cut short: it ends before its lump {clean(name)} does')

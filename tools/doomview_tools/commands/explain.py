@@ -37,7 +37,7 @@ def last_line(path: str) -> str:
         with open(path, errors='replace') as file:
             return (file.read().splitlines() or [''])[-1]
     except OSError as error:
-        raise Trouble(f'cannot read {path}: {error.strerror}')
+        raise Trouble(f'cannot read {path}: {error.strerror}') from error
 
 
 def run(options: argparse.Namespace) -> int:
