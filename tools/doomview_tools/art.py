@@ -101,7 +101,7 @@ class Art:
         """The numbers of the files that have a lump."""
         return [number for number, found in enumerate(self.by_file) if name in {lump.name for lump in found}]
 
-    def hidden(self, names: typing.Set[str]) -> typing.Iterator[typing.Tuple[str, str, str]]:
+    def hidden_textures(self, names: typing.Set[str]) -> typing.Iterator[typing.Tuple[str, str, str]]:
         """Of some textures those that a list has which the list of a later WAD hides, with both WADs."""
         having = self.having('TEXTURE1')
         for i in having[:-1]:

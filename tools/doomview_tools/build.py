@@ -68,10 +68,10 @@ def crates_below(name: str) -> plan.Crates:
     found = {}
 
     def visit(crate):
-        below = [it for it in named[crate] if it in named]
-        for it in below:
-            if it not in found:
-                visit(it)
+        below = [lower for lower in named[crate] if lower in named]
+        for lower in below:
+            if lower not in found:
+                visit(lower)
         found[crate] = below
 
     visit(name)
@@ -83,7 +83,7 @@ def last_crates(crates: plan.Crates) -> typing.List[str]:
     under: typing.Dict[str, typing.Set[str]] = {}
     last: typing.List[str] = []
     for crate, below in crates.items():
-        under[crate] = set(below).union(*(under[it] for it in below))
+        under[crate] = set(below).union(*(under[lower] for lower in below))
         last = [*last, crate] if len(under[crate]) == len(under) - 1 else []
     return last
 
@@ -236,8 +236,8 @@ class Build:
 
     def progress(self) -> str:
         """How far the build is, as a sentence."""
-        now = ', '.join(it for it in self.crates if it in self.begun and it not in self.done)
-        return (f'{len(self.done)} of {len(self.crates)} crates, {plan.rounded(self.seconds_left())} left; now '
+        now = ', '.join(crate for crate in self.crates if crate in self.begun and crate not in self.done)
+        return (f'{len(self.done)} of {len(self.crates)} crates, {plan.words_of(self.seconds_left())} left; now '
                 f'{now or "none"}')
 
     def tell(self) -> None:
@@ -298,7 +298,7 @@ class Build:
 
     def side_by_side(self, last: typing.List[str]) -> None:
         above = plan.seconds_above(self.crates, self.planned)
-        order = sorted((it for it in self.crates if it not in last), key=lambda it: -above[it])
+        order = sorted((crate for crate in self.crates if crate not in last), key=lambda crate: -above[crate])
         for top in self.copies:
             copy_sources(top)
         for crate in order:
@@ -307,8 +307,8 @@ class Build:
         for top in self.copies:
             self.workers.append(threading.Thread(target=self.work, args=(top, order)))
             self.workers[-1].start()
-        for it in self.workers:
-            it.join()
+        for worker in self.workers:
+            worker.join()
 
     def all_crates(self) -> None:
         threading.Thread(target=self.tell, daemon=True).start()
@@ -323,8 +323,8 @@ class Build:
         """Ends what still runs."""
         with self.turn:
             self.end()
-        for it in self.workers:
-            it.join()
+        for worker in self.workers:
+            worker.join()
         for run in self.runs:
             run.wait()
 

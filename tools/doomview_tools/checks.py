@@ -71,7 +71,7 @@ def findings(level: levels.Level, files: typing.List[str]) -> Findings:
     """All that looks like a mistake."""
     check = Check(level, Art(files))
     for part in (check.missing_textures, check.lists, check.missing_flats, check.lost_flats, check.odd_lines,
-                 check.walls, check.middles, check.sectors, check.pictures, check.things, check.unclosed):
+                 check.walls, check.middles, check.sectors, check.pictures, check.things, check.unclosed_sectors):
         yield from part()
     yield from GameCheck(level, check.plan, check.reached).findings()
 
@@ -115,7 +115,7 @@ class Check:
     def missing_textures(self) -> Findings:
         found = self.missing()
         for name, places in sorted(found.items()):
-            parts = ' '.join(part for part in PARTS if part in {it for _, it in places})
+            parts = ' '.join(part for part in PARTS if part in {which for _, which in places})
             lines_here = self.lines_with(side for side, _ in places)
             of_no_line = several('side', (side for side, _ in places)) + ', of no line'
             where = self.lines(lines_here) if lines_here else of_no_line
@@ -124,7 +124,7 @@ class Check:
                               + guess(name, self.art.textures))
             else:
                 yield Finding(ERROR, 'texture', where, f'{parts}: the name is empty; write - for no texture')
-        for name, file, hiding in self.art.hidden(set(found)):
+        for name, file, hiding in self.art.hidden_textures(set(found)):
             yield Finding(ERROR, 'list', hiding, f'its TEXTURE1 hides that of {file}, which has {name}; it needs all '
                                                  'textures of both')
 
@@ -297,7 +297,7 @@ class Check:
         else:
             yield Finding(ODD, 'thing', where, f'type {kind} at {at[0]} is none of the game, and never appears')
 
-    def unclosed(self) -> Findings:
+    def unclosed_sectors(self) -> Findings:
         """Sectors whose lines do not close: at a vertex where an odd number of them end, and no line that has one
         sector on both sides, as of deep water."""
         ends: typing.Counter[typing.Tuple[int, levels.Vertex]] = collections.Counter()

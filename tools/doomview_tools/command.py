@@ -94,7 +94,7 @@ def say_why(done: program.Run, words: typing.List[str], is_job: bool = True) -> 
 def no_such(words: typing.Sequence[str]) -> str:
     """The sentence on words of which the first is no job and no tool."""
     first = jobs.Words(words).job or words[0]
-    near = jobs.meant(first, [*jobs.JOBS, *TOOLS])
+    near = jobs.guess(first, [*jobs.JOBS, *TOOLS])
     return f'there is no job or tool {first}{near or "; doomview --help has them all"}'
 
 

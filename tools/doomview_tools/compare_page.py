@@ -11,11 +11,11 @@ TEMPLATE = 'compare.html'
 MOST_VIEWS = 60
 Both = typing.Tuple[bytes, bytes]  # doomview's frame of a view, and the port's
 PlaceOf = typing.Optional[typing.Callable[[traces.Painter, int], str]]  # where in the map an item is, with a list
+Numbered = typing.Tuple[str, typing.List[typing.List[str]], typing.Dict[bytes, int]]
 KEY = 6  # bytes of a record that tell its painter: all but the colour
 
 
-def numbered(trace: bytes, names: traces.Names, place_of: PlaceOf) -> typing.Tuple[str, typing.List[typing.List[str]],
-             typing.Dict[bytes, int]]:
+def painter_numbers(trace: bytes, names: traces.Names, place_of: PlaceOf) -> Numbered:
     """A picture of the number of each pixel's painter, and the painters: kind, name, number, what more is known, and
     where in the map that is."""
     numbers: typing.Dict[bytes, int] = {}
@@ -26,12 +26,12 @@ def numbered(trace: bytes, names: traces.Names, place_of: PlaceOf) -> typing.Tup
         number = numbers.get(key)
         if number is None:
             number = numbers[key] = len(told)
-            told.append(named(key, names, place_of))
+            told.append(painter_row(key, names, place_of))
         pixels[3 * place:3 * place + 2] = divmod(number, 256)
     return pages.text_of(whole(WIDTH, HEIGHT, RGB, bytes(pixels), b'')), told, numbers
 
 
-def named(key: bytes, names: traces.Names, place_of: PlaceOf) -> typing.List[str]:
+def painter_row(key: bytes, names: traces.Names, place_of: PlaceOf) -> typing.List[str]:
     """A painter for the page: kind, name, number, what more is known, and with a list where in the map that is."""
     kind, source_kind, number, source, _, _ = traces.RECORD.unpack(key + bytes(2))
     word, thing = traces.KINDS.get(kind, (f'kind {kind}', 'number'))
@@ -55,17 +55,17 @@ class ComparePage:
         weight = not known, len(places)
         if len(self.kept) == MOST_VIEWS and weight <= self.kept[0][0]:
             return
-        entry = weight, -view, {**self.packed(view, told, frames, places, trace, place_of), 'known': bool(known)}
+        entry = weight, -view, {**self.entry_of(view, told, frames, places, trace, place_of), 'known': bool(known)}
         (heapq.heappush if len(self.kept) < MOST_VIEWS else heapq.heappushpop)(self.kept, entry)
 
-    def packed(self, view: int, told: str, frames: Both, places: typing.List[int], trace: bytes,
-               place_of: PlaceOf) -> typing.Dict[str, typing.Any]:
+    def entry_of(self, view: int, told: str, frames: Both, places: typing.List[int], trace: bytes,
+                 place_of: PlaceOf) -> typing.Dict[str, typing.Any]:
         ours, port = frames
         both = int.from_bytes(ours, 'big') ^ int.from_bytes(port, 'big')
         entry = {'view': view, 'told': told, 'first': places[0], 'ours': pages.picture(ours, GREYS),
                  'both': pages.picture(both.to_bytes(SIZE, 'big'), GREYS)}
         if trace:
-            entry['ids'], entry['painters'], numbers = numbered(trace, self.names, place_of)
+            entry['ids'], entry['painters'], numbers = painter_numbers(trace, self.names, place_of)
             pixels = collections.Counter(numbers[trace[8 * place:8 * place + KEY]] for place in places)
             entry['pixels'] = pixels.most_common()
         return entry
@@ -74,5 +74,5 @@ class ComparePage:
         """The bytes of the page."""
         if self.different > len(self.kept):
             head += f'; here are the {len(self.kept)} that differ in most pixels'
-        views = sorted((entry for *_, entry in self.kept), key=lambda it: it['view'])
+        views = sorted((entry for *_, entry in self.kept), key=lambda view: view['view'])
         return pages.page(TEMPLATE, {'head': head, 'palette': list(self.names.palette), 'views': views})

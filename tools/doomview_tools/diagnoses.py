@@ -122,15 +122,15 @@ def layout(case: Case) -> str:
     return f'the port\'s frames are {name}{beside(counts[name])}'
 
 
-def cut(frame: bytes, rows: int, columns: int) -> bytes:
+def part_of(frame: bytes, rows: int, columns: int) -> bytes:
     """A frame without so many rows at the top, or at the bottom where the number is negative; and likewise columns."""
     lines = rows_of(frame)[max(rows, 0):HEIGHT + min(rows, 0)]
     return b''.join(line[max(columns, 0):WIDTH + min(columns, 0)] for line in lines)
 
 
-def shifted(case: Case, rows: int, columns: int) -> int:
+def count_shifted(case: Case, rows: int, columns: int) -> int:
     """The pixels that differ where the port is so many rows and columns late."""
-    return sum(count(cut(pair.ours, -rows, -columns), cut(pair.port, rows, columns)) for pair in case.pairs)
+    return sum(count(part_of(pair.ours, -rows, -columns), part_of(pair.port, rows, columns)) for pair in case.pairs)
 
 
 def shift(case: Case) -> str:
@@ -138,8 +138,8 @@ def shift(case: Case) -> str:
     steps = [step for near in range(1, FARTHEST_SHIFT + 1) for step in (near, -near)]
     some = case._replace(pairs=case.pairs[:2])
     rows, columns = min([(step, 0) for step in steps] + [(0, step) for step in steps],
-                        key=lambda both: shifted(some, *both))
-    left = shifted(case, rows, columns)
+                        key=lambda both: count_shifted(some, *both))
+    left = count_shifted(case, rows, columns)
     if not is_cause(left, before(case)):
         return ''
     step, word, late, early = (rows, 'row', 'late (lower)', 'early (higher)') if rows else \
@@ -168,8 +168,8 @@ def view_size(case: Case) -> str:
     if ours == port:
         return ''
     left, top, width, height = window(min(ours, port))
-    inside = sum(count(*(cut(cut(frame, top, left), top + height - HEIGHT, left + width - WIDTH) for frame in pair[1:]))
-                 for pair in case.pairs)
+    inside = sum(count(*(part_of(part_of(frame, top, left), top + height - HEIGHT, left + width - WIDTH)
+                         for frame in pair[1:])) for pair in case.pairs)
     if ours < port and is_cause(inside, before(case)):
         return (f'the port paints outside the window of view size {ours}, which doomview leaves at 0: a status bar, a '
                 'border or messages')
@@ -262,7 +262,7 @@ class Everywhere:
         is_much = 10 * sum(pixels[line] for line in found) >= self.pixels
         return found if is_much and len(found) <= MOST_LINES and ranges(found).count(',') < MOST_RANGES else []
 
-    def told(self, count: int) -> typing.List[str]:
+    def sentences(self, count: int) -> typing.List[str]:
         """A sentence on the rows or columns that differ in every view, of so many views, or none."""
         for word, views, pixels, lines in (('column', self.columns, self.in_columns, WIDTH),
                                            ('row', self.rows, self.in_rows, HEIGHT)):

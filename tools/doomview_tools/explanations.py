@@ -10,7 +10,7 @@ import typing
 from . import notes, paths, program, system, wads
 from .doom import PLACES, SPECTRE
 from .jobs import LEVEL_JOBS, Words, wrong_words
-from .refusals import Scene, refused
+from .refusals import Scene, sentences as sentences_on
 from .trouble import Ended, Trouble
 
 Sentences = typing.Iterator[str]
@@ -65,7 +65,7 @@ def on_limit(words: Words, view: str, what: str, count: str) -> typing.List[str]
 
 
 def on_refusal(words: Words, code: str, numbers: str) -> typing.List[str]:
-    return [*refused(int(code), [int(number) for number in numbers.split()], words), *unreadable(words)]
+    return [*sentences_on(int(code), [int(number) for number in numbers.split()], words), *unreadable(words)]
 
 
 # What is said of each line of the program, by its form.

@@ -51,7 +51,7 @@ class OfIndices:
             file.seek(place)
             return file.read(SIZE)
 
-    def told(self) -> typing.List[str]:
+    def sentences(self) -> typing.List[str]:
         return []
 
 

@@ -43,7 +43,7 @@ def differing(ours: bytes, port: bytes, mask: bytes = b'') -> typing.List[int]:
     return [match.start() for match in NONZERO.finditer(both.to_bytes(len(ours), 'big'))]
 
 
-def coloured(frame: bytes, palette: bytes) -> bytearray:
+def rgb_of(frame: bytes, palette: bytes) -> bytearray:
     """The pixels of a frame as bytes red, green, blue."""
     rgb = bytearray(3 * SIZE)
     for part in range(3):

@@ -263,7 +263,7 @@ def why_no_map(behind: typing.List[str]) -> str:
         return 'is in Hexen format (it has a BEHAVIOR); save it in Doom format'
     missing = [lump for lump in MAP_LUMPS if lump not in behind[:8]]
     if behind[:2] == MAP_LUMPS[:2] and missing and set(missing) <= set(BUILT_LUMPS):
-        alone = ' (it has GL nodes alone, which are not read)' if any(it.startswith('GL_') for it in behind) else ''
+        alone = ' (it has GL nodes alone, which are not read)' if any(lump.startswith('GL_') for lump in behind) else ''
         return f'has no nodes ({", ".join(BUILT_LUMPS)}){alone}; build them'
     return f'is no map: behind it are {", ".join(behind[:len(MAP_LUMPS)]) or "no lumps"}'
 

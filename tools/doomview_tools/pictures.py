@@ -93,7 +93,7 @@ class Palette:
             return bytes(entries[0] for entries in found)
         return bytes(own if own in entries else entries[0] for own, entries in zip(ours, found))
 
-    def told(self) -> typing.List[str]:
+    def sentences(self) -> typing.List[str]:
         """A sentence on the colours that are in two entries, or none."""
         if not self.doubtful:
             return []
@@ -125,5 +125,5 @@ class OfPictures:
     def frame(self, view: int, ours: bytes = b'') -> bytes:
         return self.palette.frame(*self.picture(view), ours)
 
-    def told(self) -> typing.List[str]:
-        return self.palette.told()
+    def sentences(self) -> typing.List[str]:
+        return self.palette.sentences()

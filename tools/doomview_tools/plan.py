@@ -36,7 +36,7 @@ def keep_seconds(path: str, took: Numbers) -> None:
     write_whole(path, ''.join(','.join(line) + '\n' for line in lines).encode())
 
 
-def scaled(numbers: Numbers, known: Numbers) -> Numbers:
+def to_scale(numbers: Numbers, known: Numbers) -> Numbers:
     """Numbers of crates brought to the scale of those that are known, by the crates of both."""
     both = [crate for crate in numbers if crate in known]
     whole = sum(numbers[crate] for crate in both)
@@ -46,7 +46,7 @@ def scaled(numbers: Numbers, known: Numbers) -> Numbers:
 
 def seconds_of(crates: Crates, kept: Numbers, weights: Numbers, lines: typing.Dict[str, int]) -> Numbers:
     """The seconds that each crate takes: as they are kept, by its weight, or by its lines."""
-    known = {**scaled(weights, kept), **kept}
+    known = {**to_scale(weights, kept), **kept}
     rates = [known[crate] / max(lines[crate], LEAST_LINES) for crate in crates if crate in known]
     rate = statistics.median(rates) if rates else 1
     return {crate: known.get(crate, rate * lines[crate]) for crate in crates}
@@ -56,7 +56,7 @@ def seconds_above(crates: Crates, seconds: Numbers) -> Numbers:
     """The seconds of the longest chain of crates that begins with each; `crates` has what each stands on."""
     above: Numbers = {}
     for crate in reversed(list(crates)):
-        above[crate] = seconds[crate] + max((above[it] for it in crates if crate in crates[it]), default=0)
+        above[crate] = seconds[crate] + max((above[upper] for upper in crates if crate in crates[upper]), default=0)
     return above
 
 
@@ -82,7 +82,7 @@ def pace(took: Numbers, planned: Numbers) -> float:
     return (sum(took.values()) + DOUBT) / (sum(planned[crate] for crate in took) + DOUBT)
 
 
-def rounded(seconds: float) -> str:
+def words_of(seconds: float) -> str:
     """A span of time in words."""
     minutes = round(seconds / 60)
     return 'less than a minute' if minutes < 1 else f'about {minutes} minute{"s" if minutes > 1 else ""}'

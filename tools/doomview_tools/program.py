@@ -31,14 +31,14 @@ class Run(typing.NamedTuple):
     said: str
 
 
-def named() -> str:
+def named_program() -> str:
     """The program that DOOMVIEW names, or an empty text."""
     return os.environ.get('DOOMVIEW', '')
 
 
 def path() -> str:
     """The path of the program."""
-    return os.path.abspath(named() or home.PROGRAM)
+    return os.path.abspath(named_program() or home.PROGRAM)
 
 
 def is_source(name: str) -> bool:
@@ -61,7 +61,7 @@ def is_current(program: str, top: str) -> bool:
 
 def is_built() -> bool:
     """Whether the program can run at once."""
-    return bool(named()) or home.IS_RELEASE or is_current(home.PROGRAM, home.TOP)
+    return bool(named_program()) or home.IS_RELEASE or is_current(home.PROGRAM, home.TOP)
 
 
 def ready() -> str:
@@ -70,7 +70,7 @@ def ready() -> str:
         from .build import build
         build()
     if not os.access(path(), os.X_OK):
-        what = 'set DOOMVIEW to one, or leave it unset' if named() else 'take the whole folder of doomview anew'
+        what = 'set DOOMVIEW to one, or leave it unset' if named_program() else 'take the whole folder of doomview anew'
         raise Trouble(f'there is no program {path()}; {what}', NO_PROGRAM)
     return path()
 
@@ -214,7 +214,7 @@ def pass_on(words: typing.List[str]) -> Run:
     return ended(done.returncode, None, done.stderr)
 
 
-def renamed(word: str, files: typing.Dict[str, str]) -> str:
+def with_own_name(word: str, files: typing.Dict[str, str]) -> str:
     """A word, with a name of its own for the file that it names."""
     option, equal, file = word.partition('=') if word.startswith('--') else ('', '', word)
     if not os.path.isfile(file):
@@ -231,13 +231,13 @@ def run_sources(words: typing.List[str], output: Output) -> Run:
         raise Trouble('the command rt is not installed: doomview is made by the Rattle kit, whose folder bin has to be '
                       'in PATH', NO_PROGRAM)
     files: typing.Dict[str, str] = {}
-    words = [renamed(word, files) for word in words]
+    words = [with_own_name(word, files) for word in words]
     data = [part for name, file in files.items() for part in ('--data', f'{name}={file}')]
     status, written, said = call(['rt', 'try', '--steps', '1', '--seconds', str(SECONDS), *data, '--', *words], output,
                                  os.path.join(home.TOP, 'crates', 'doomview'))
     lines = said.decode(errors='replace').splitlines()
-    line = ([it for it in lines if it.startswith('doomview: ')] or [''])[-1]
+    line = ([text for text in lines if text.startswith('doomview: ')] or [''])[-1]
     if line or status == 0:
         return ended(status, written, line.encode())
-    raise Trouble('\n'.join([*(it[:300] for it in lines[-SHOWN:]), 'rt try did not run the sources; its last lines '
+    raise Trouble('\n'.join([*(text[:300] for text in lines[-SHOWN:]), 'rt try did not run the sources; its last lines '
                              'are above']), NO_PROGRAM)

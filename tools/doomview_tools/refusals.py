@@ -61,7 +61,7 @@ def head_of(path: str) -> bytes:
         return b''
 
 
-def listed(parts: typing.Iterable[object]) -> str:
+def in_words(parts: typing.Iterable[object]) -> str:
     """Words with commas and `and`."""
     words = list(map(str, parts))
     return words[0] if len(words) == 1 else ', '.join(words[:-1]) + ' and ' + words[-1]
@@ -225,7 +225,7 @@ def no_texture(scene: Scene, numbers: Numbers) -> Sentences:
     missing = {part: getattr(scene.level.sides[numbers[0]], part) for part in parts}
     missing = {part: name for part, name in missing.items() if not name.startswith('-') and name not in known}
     if missing:
-        yield f'in no list: {listed(f"{part} {name}" for part, name in missing.items())}.'
+        yield f'in no list: {in_words(f"{part} {name}" for part, name in missing.items())}.'
     yield from hidden_list(scene, set(missing.values()))
     used = {name for side in scene.level.sides for name in side[2:5] if not name.startswith('-')}
     if 2 * len(used - known) > len(used):
@@ -268,7 +268,7 @@ def medusa(scene: Scene, numbers: Numbers) -> Sentences:
     sides = {i for i, side in enumerate(scene.level.sides) if side.middle == name}
     lines = [i for i, line in enumerate(scene.level.lines) if None not in line.sides and sides & {*line.sides}]
     if len(lines) > 1:
-        shown = listed(lines) if len(lines) <= SHOWN_LINES else ', '.join(map(str, lines[:SHOWN_LINES])) + ' ..'
+        shown = in_words(lines) if len(lines) <= SHOWN_LINES else ', '.join(map(str, lines[:SHOWN_LINES])) + ' ..'
         yield f'lines of two sides with {name}: {shown}.'
 
 
@@ -318,7 +318,7 @@ def odd_text(path: str) -> Sentences:
         yield f'{path} has spaces beside its commas; take them out.'
 
 
-def refused(code: int, numbers: Numbers, words: Words) -> Sentences:
+def sentences(code: int, numbers: Numbers, words: Words) -> Sentences:
     """Sentences on a refusal of a call."""
     scene = Scene(words)
     if code == NO_MAP and scene.lumps and scene.label is None:

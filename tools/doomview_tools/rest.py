@@ -32,7 +32,7 @@ TEXTURES = ['BLODGR1 BLODGR4', 'SLADRIP1 SLADRIP3', 'BLODRIP1 BLODRIP4', 'FIREWA
             'SFALL1 SFALL4', 'WFALL1 WFALL4', 'DBRAIN1 DBRAIN4']
 
 
-def packed(layout: str, records: typing.Iterable[tuple]) -> bytes:
+def lump_of(layout: str, records: typing.Iterable[tuple]) -> bytes:
     """The bytes of a lump, its names as they are in records."""
     return b''.join(struct.pack(layout, *(part.encode('latin-1') if isinstance(part, str) else part for part in record))
                     for record in records)
@@ -62,9 +62,9 @@ class Rest:
         if list(self.parts) != MAP_LUMPS:
             raise self.level.error('has no REJECT and BLOCKMAP behind it, which ports need; build its nodes')
         self.start = self.start_at(at)
-        self.parts['THINGS'] = packed(LAYOUTS['THINGS'], self.things())
+        self.parts['THINGS'] = lump_of(LAYOUTS['THINGS'], self.things())
         self.parts['SECTORS'] = self.sectors({})
-        self.parts['LINEDEFS'] = packed(LAYOUTS['LINEDEFS'], [
+        self.parts['LINEDEFS'] = lump_of(LAYOUTS['LINEDEFS'], [
             (*record[:3], 0, *record[4:]) for record in levels.records(self.parts['LINEDEFS'], LAYOUTS['LINEDEFS'])])
 
     def start_at(self, at: Place) -> levels.Thing:
@@ -89,20 +89,20 @@ class Rest:
         return [row._replace(angle=(row.angle + view * STEP * (TURN // 256)) % TURN) for view in range(views)]
 
     def sectors(self, names: typing.Dict[str, str]) -> bytes:
-        return packed(LAYOUTS['SECTORS'], [
+        return lump_of(LAYOUTS['SECTORS'], [
             sector._replace(floor_flat=names.get(sector.floor_flat, sector.floor_flat), special=0,
                             ceiling_flat=names.get(sector.ceiling_flat, sector.ceiling_flat))
             for sector in self.level.sectors])
 
     def sides(self, names: typing.Dict[str, str]) -> bytes:
-        return packed(LAYOUTS['SIDEDEFS'], [(*side[:2], *(names.get(name, name) for name in side[2:5]), side.sector)
+        return lump_of(LAYOUTS['SIDEDEFS'], [(*side[:2], *(names.get(name, name) for name in side[2:5]), side.sector)
                                             for side in self.level.sides])
 
     def wad(self) -> bytes:
         """The PWAD for a port."""
         return wads.packed([('M_PAUSE', EMPTY_PICTURE), (self.level.name, b''), *self.parts.items()], b'PWAD')
 
-    def shown(self, tic: int = TICS - 1, ahead: int = 0) -> bytes:
+    def shown_wad(self, tic: int = TICS - 1, ahead: int = 0) -> bytes:
         """The PWAD for doomview: the same map with the names that are shown after a tic, by a port that counts
         textures from `ahead` on."""
         names = [lump.name for lump in self.lumps]

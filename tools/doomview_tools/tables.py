@@ -21,7 +21,7 @@ def fine_angle(index: int) -> float:
     return single((index + 0.5) * PI * 2 / 8192)
 
 
-def computed() -> bytes:
+def compute() -> bytes:
     sines = [int(65536 * math.sin(fine_angle(i))) for i in range(10240)]
     tangents = [int(single(65536 * math.tan(fine_angle(i - 2048)))) for i in range(4096)]
     angles = [int(single(0xffffffff * single(math.atan(i / 2048) / (PI * 2)))) for i in range(2049)]
@@ -44,7 +44,7 @@ def is_right(data: bytes) -> bool:
 
 def tables() -> bytes:
     """The bytes of the tables; a Trouble where this machine computes others than the original's."""
-    data = computed()
+    data = compute()
     if not is_right(data):
         raise Trouble("the tables differ from tables.sha256: this Python's sin, tan or atan rounds otherwise; "
                       'make them on another machine, and name them by --tables')

@@ -196,7 +196,7 @@ def painters(records: bytes, places: typing.List[int], names: Names,
              place_of: typing.Optional[typing.Callable[[Painter, int], str]] = None) -> typing.Iterator[str]:
     """Lines on the painters of some places of a view: the most pixels first. `place_of` says of a painter and its
     number where in the map that is; then the lines under a painter have the pixels of each."""
-    for painter, numbers in sorted(pixels_of(records, places).items(), key=lambda it: -sum(it[1].values())):
+    for painter, numbers in sorted(pixels_of(records, places).items(), key=lambda pair: -sum(pair[1].values())):
         word, thing = KINDS.get(painter.kind, (f'kind {painter.kind}', 'number'))
         known = names.known(painter)
         more = f'patch {known.more}' if known.word == 'patch' else known.more

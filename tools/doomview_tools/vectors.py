@@ -1,7 +1,7 @@
 """Vectors: for viewpoints of a WAD's maps the sums of the frames that are right there (docs/VECTORS.md).
 
-A vector is a row of a file of the folder `vectors`. `made(wad, name)` makes those of a map, `read(path)` reads a file,
-`frames(..)` draws doomview's frames of some, and `known(..)` says what a port's frame at a vector is."""
+A vector is a row of a file of the folder `vectors`. `of_map(wad, name)` makes those of a map, `read(path)` reads a
+file, `frames(..)` draws doomview's frames of some, and `rule_of(..)` says what a port's frame at a vector is."""
 import collections
 import csv
 import hashlib
@@ -26,9 +26,10 @@ SOME = 3  # places of each size and skill
 LIT = 16
 FAR = 1024  # map units
 SKILL, SIZE_OF_VIEW = 3, 11
-PISTOL = (weapons.raised('PISG'),)
-HELD = [PISTOL, (weapons.raised('PUNG'),), (weapons.raised('SHTG', 'B'),), (weapons.raised('PISG', 'B'),
-        weapons.raised('PISF', 'A', 1)), (weapons.raised('MISG', 'B'), weapons.raised('MISF', 'B', 1)),
+PISTOL = (weapons.raised_layer('PISG'),)
+HELD = [PISTOL, (weapons.raised_layer('PUNG'),), (weapons.raised_layer('SHTG', 'B'),),
+        (weapons.raised_layer('PISG', 'B'), weapons.raised_layer('PISF', 'A', 1)),
+        (weapons.raised_layer('MISG', 'B'), weapons.raised_layer('MISF', 'B', 1)),
         (weapons.Layer('CHGG', 'A', 0, -700000, 40 * weapons.UNIT + 12345),)]
 WADS, WADS_HEAD = 'wads.csv', 'vectors,wad,version,sha256'  # beside the vectors: which WADs they are of
 NONE = '-'  # the sum where a run ends without the frame
@@ -104,7 +105,7 @@ def bands_of(frame: bytes) -> str:
     """Short sums of the bands of a frame, which say where another one differs."""
     step = SIZE // BANDS
     sums = (zlib.crc32(frame[step * i:step * (i + 1)]) for i in range(BANDS))
-    return ''.join(f'{it:08x}'[-BAND_DIGITS:] for it in sums) if frame else NONE
+    return ''.join(f'{number:08x}'[-BAND_DIGITS:] for number in sums) if frame else NONE
 
 
 def words_of(group: Group) -> typing.Tuple[typing.List[str], typing.List[str]]:
@@ -130,7 +131,7 @@ def vectors_of(run: original.Run, group: Group, first: int) -> typing.Iterator[V
                      bands_of(ours), bands_of(dos))
 
 
-def made(wad: str, name: str, places: int = PLACES) -> typing.List[Vector]:
+def of_map(wad: str, name: str, places: int = PLACES) -> typing.List[Vector]:
     """The vectors of a map, drawn by doomview and by the original."""
     counts: typing.Counter[str] = collections.Counter()
     found: typing.List[Vector] = []
@@ -218,13 +219,13 @@ def frames(wad: str, vectors: typing.Iterable[Vector], spans: str = 'full') -> b
 def of_frames(path: str, frames_path: str) -> typing.List[Vector]:
     """The vectors of a file of frames, by its name: MAP01.bin, or MAP01-sizes.bin."""
     name = os.path.basename(frames_path)
-    found = [it for it in read(path) if file_name(it.map, it.set) == name]
+    found = [vector for vector in read(path) if file_name(vector.map, vector.set) == name]
     if not found:
         raise Trouble(f'{path} has no vectors of {name}; a file of frames is named as its map, such as MAP01.bin')
     return found
 
 
-def known(vector: Vector, ours: bytes, frame: bytes) -> str:
+def rule_of(vector: Vector, ours: bytes, frame: bytes) -> str:
     """In a word or two what a port's frame that is not doomview's is at a vector, or an empty text. What is the
     original's in the spans of doomview's frame comes first."""
     original_one = f"the original's frame ({vector.answer})" if vector.answer != 'same' else 'packed spans'

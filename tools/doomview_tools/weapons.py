@@ -16,7 +16,7 @@ class Layer(typing.NamedTuple):
     sy: int
 
 
-def raised(sprite: str, frame: str = 'A', bright: int = 0) -> Layer:
+def raised_layer(sprite: str, frame: str = 'A', bright: int = 0) -> Layer:
     """A layer where a weapon at rest has it."""
     return Layer(sprite, frame, bright, UNIT, 32 * UNIT)
 

@@ -73,11 +73,11 @@ def changes_of(level: levels.Level, planes_of: typing.Dict[int, int], field: str
                                    for value, numbers in having.items() if value != SKY})
     for value, weight in weights.items():
         for goal in goals_of(weights, field, value):
-            yield from weighed(level, Change(field, value, goal, tuple(having[value])), weight)
+            yield from with_weight(level, Change(field, value, goal, tuple(having[value])), weight)
     most = weights.most_common(1)[0][0] if weights else None
     rest = tuple(number for value in weights if value != most for number in having[value])
     if rest and field not in HEIGHTS:
-        yield from weighed(level, Change(field, None, most, rest), sum(weights.values()))
+        yield from with_weight(level, Change(field, None, most, rest), sum(weights.values()))
 
 
 def goals_of(weights: collections.Counter, field: str, value: typing.Any) -> list:
@@ -96,7 +96,7 @@ def has_room(sector: levels.Sector, change: Change) -> bool:
     return changed.ceiling > changed.floor or sector.ceiling <= sector.floor
 
 
-def weighed(level: levels.Level, change: Change, weight: int) -> typing.Iterator[Weighed]:
+def with_weight(level: levels.Level, change: Change, weight: int) -> typing.Iterator[Weighed]:
     """A change with its weight, of the sectors whose floor stays below their ceiling; none if there are none."""
     sectors = tuple(number for number in change.sectors if has_room(level.sectors[number], change))
     if sectors:

@@ -47,8 +47,8 @@ def run(options: argparse.Namespace) -> None:
     still = rest.Rest(cli.wads_of(options), options.map, options.at)
     files = {'still.wad': still.wad(), 'still.deh': rest.patch(),
              'still.lmp': rest.demo(still.level.name, options.skill, options.views, options.tics),
-             'shown.wad': still.shown(), 'path.csv': paths.text(still.rows(options.views)),
-             'weapon.csv': weapons.text([(weapons.raised('PISG'),)] * options.views)}
+             'shown.wad': still.shown_wad(), 'path.csv': paths.text(still.rows(options.views)),
+             'weapon.csv': weapons.text([(weapons.raised_layer('PISG'),)] * options.views)}
     try:
         os.makedirs(options.folder, exist_ok=True)
     except OSError as error:

@@ -43,7 +43,7 @@ def check(options: argparse.Namespace) -> None:
         raise Trouble('ffmpeg is not installed (package: ffmpeg)')
 
 
-def counted(words: typing.List[str]) -> int:
+def count_views(words: typing.List[str]) -> int:
     """Ends with what is wrong where the views cannot be drawn; the limits tell it before ffmpeg is called."""
     done = program.run(words)
     if done.status:
@@ -56,7 +56,7 @@ def ffmpeg_words(video: str) -> typing.List[str]:
             'pipe:0', '-vf', f'scale={SCALE}:flags=neighbor', '-pix_fmt', 'yuv420p', '-f', 'mp4', video]
 
 
-def piped(words: typing.List[str], video: str) -> program.Run:
+def draw_into(words: typing.List[str], video: str) -> program.Run:
     """Draws the frames into ffmpeg, which writes the video: how the program ended; a Trouble where ffmpeg failed."""
     with tempfile.TemporaryFile() as said, \
             program.start(words, stdout=subprocess.PIPE, stderr=said) as drawing, \
@@ -81,10 +81,10 @@ def piped(words: typing.List[str], video: str) -> program.Run:
 def run(options: argparse.Namespace) -> None:
     check(options)
     words = [options.map, *cli.wads_of(options), '--path', options.path, *cli.job_words(options)]
-    if not counted(['limits', *words]):
+    if not count_views(['limits', *words]):
         raise Trouble(f'{options.path} has no rows, so there is nothing to show; doomview turn makes a path')
     words = ['render', *words, '--format', 'ppm']
     with WholeFile(options.video) as part:
-        done = piped(words, part.name)
+        done = draw_into(words, part.name)
         if done.status:
             raise explained(words, done)
