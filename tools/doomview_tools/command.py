@@ -107,7 +107,7 @@ def limits_with_places(words: typing.List[str]) -> int:
     if done.status:
         say_why(done, words)
         return done.status
-    lines = zip(done.output.decode().splitlines(), paths.rows(given.value('--path')))
+    lines = zip(done.output.decode().splitlines(), paths.rows(given.value('--path') or ''))
     write_output(''.join(f'{line}; {paths.told(row)}\n' for line, row in lines), given.output)
     return 0
 

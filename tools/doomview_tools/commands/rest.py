@@ -45,10 +45,11 @@ def add_words(parser: argparse.ArgumentParser) -> None:
 
 def run(options: argparse.Namespace) -> None:
     still = rest.Rest(cli.wads_of(options), options.map, options.at)
-    files = {'still.wad': still.wad(), 'still.deh': rest.patch(),
-             'still.lmp': rest.demo(still.level.name, options.skill, options.views, options.tics),
-             'shown.wad': still.shown_wad(), 'path.csv': paths.text(still.rows(options.views)),
-             'weapon.csv': weapons.text([(weapons.raised_layer('PISG'),)] * options.views)}
+    files: typing.Dict[str, typing.Union[str, bytes]] = {
+        'still.wad': still.wad(), 'still.deh': rest.patch(),
+        'still.lmp': rest.demo(still.level.name, options.skill, options.views, options.tics),
+        'shown.wad': still.shown_wad(), 'path.csv': paths.text(still.rows(options.views)),
+        'weapon.csv': weapons.text([(weapons.raised_layer('PISG'),)] * options.views)}
     try:
         os.makedirs(options.folder, exist_ok=True)
     except OSError as error:
