@@ -20,11 +20,6 @@ USAGE, TROUBLE, LIMIT = 1, 2, 5  # statuses
 ENDING = system.signals('SIGINT', 'SIGTERM', 'SIGHUP')
 
 
-def is_over(name, count, limits):
-    """Whether a count passes its limit."""
-    return count > limits[name]
-
-
 @contextlib.contextmanager
 def held_signals():
     """Lets a signal that ends this process wait for the end of a block."""
@@ -123,16 +118,9 @@ class Runs:
         self.counts([], 'reading')
 
     def counts(self, rows, what=''):
-        """The counts of each row by name, but for solid ranges; of a view that is over a raised limit that count alone.
-        Views that come to what `limits` counts no further are listed."""
-        found = []
-        for output in self.outputs('limits', rows, what) if rows else [self.ended(*self.start('limits', []), 'limits')]:
-            found += map(counts_of, output.decode().splitlines())
-        capped = [place for place, counts in enumerate(found)
-                  if any(counts.get(name, 0) >= most for name, most in CAPPED.items())]
-        for place, counts in zip(capped, self.listed([rows[place] for place in capped], what)):
-            found[place] = counts
-        return found
+        """The counts of each row by name as `limits` has them; of a view that is over a raised limit that count alone."""
+        outputs = self.outputs('limits', rows, what) if rows else [self.ended(*self.start('limits', []), 'limits')]
+        return [counts_of(line) for output in outputs for line in output.decode().splitlines()]
 
     def listed(self, rows, what='', is_solid=None):
         """The counts of each row by name, by what `list` says; with the solid ranges where solid segs are given."""
@@ -140,9 +128,9 @@ class Runs:
             yield from list_counts.counts_of(output, is_solid)
 
     def views(self, rows, what=''):
-        """Of each row the lines of its items, and its counts, by what `list` says."""
+        """Of each row what `list` says."""
         for output in self.outputs('list', rows, what):
-            yield from ((items, list_counts.sums_of(last)) for items, last in list_counts.views_of(output))
+            yield from list_counts.views_of(output)
 
     def drawn(self, job, rows, size):
         """The frame or the trace of each row; None for a view that passes even the raised limits."""

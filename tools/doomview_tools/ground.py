@@ -13,7 +13,7 @@ BOSS_TAGS = {666, 667}
 BLOCKS, TWO_SIDED = 1, 4  # flags of a line: nobody passes; there is a sector behind it
 SKY = 'F_SKY1'
 LINTEL = 4  # what a door that is open keeps of its height below the ceiling beside it
-SQUARE = 128
+SQUARE, BAND = 128, 16
 STEPS = (64, 32, 16, 8)  # of grids on which a place in a sector is looked for
 SECTOR = struct.Struct('<hh8s8shhh')
 
@@ -36,7 +36,7 @@ class Plan:
         self.bands = collections.defaultdict(list)
         for number, line in enumerate(level.lines):
             low, high = sorted(level.vertexes[end].y for end in line[:2])
-            for band in range(low // SQUARE, high // SQUARE + 1):
+            for band in range(low // BAND, high // BAND + 1):
                 self.bands[band].append(number)
 
     def sector_of_side(self, side):
@@ -66,7 +66,7 @@ class Plan:
     def crossings(self, y):
         """Where lines cross a row, from left to right."""
         found = []
-        for number in self.bands.get(int(y // SQUARE), ()):
+        for number in self.bands.get(int(y // BAND), ()):
             (x1, y1), (x2, y2) = self.ends(number)
             if (y1 > y) == (y2 > y):
                 continue

@@ -14,7 +14,7 @@ TEMPLATE = 'limits_map.html'
 MOST_BYTES = 3000000
 WORDS = 40  # bytes of a view's words for its pictures
 SMALL_PICTURES = 60
-MOST_MARKS = 500
+MOST_MARKS, MOST_CHANGES = 500, 3000
 PLANE_KINDS = (2, 3)  # of painters: plane and sky
 NO_PLANE = 255
 COUNT_OF = {1: 'fragments', 2: 'planes', 3: 'planes', 4: 'fragments', 5: 'sprites'}  # what a painter's number counts
@@ -135,8 +135,17 @@ def marks_of(level, wads):
     return sorted((mark for mark in found if mark[2]), key=lambda mark: list(GRADES).index(mark[0]))[:MOST_MARKS]
 
 
-def limits_page(plan, wads, states, palette, options, doors, plain, before=()):
-    """The bytes of the page; `plain` is the summary as text."""
+def packed_changes(changes: list, labels: list[str]) -> list:
+    """What differs from an earlier run as the page has it, what differs most first: columns of the numbers of the state
+    and the count, the x and y of the place, and the count before and now, which is -1 where there is no place."""
+    rows = [[labels.index(change.doors), COUNTS.index(change.count), change.x, change.y,
+             *(-1 if count is None else count for count in (change.before, change.now))] for change in changes]
+    return columns(sorted(rows, key=lambda row: -abs(row[5] - row[4]))[:MOST_CHANGES])
+
+
+def limits_page(plan, wads, states, palette, options, doors, plain, before=(), changes=()) -> bytes:
+    """The bytes of the page; `plain` is the summary as text, and `before` and `changes` are what differs from an earlier
+    run, as lines and place by place."""
     level, names = plan.level, traces.Names(wads)
     grid = states[0].grid
     data = {'title': f'{level.name} of {os.path.basename(level.wad)}', 'wads': list(map(os.path.basename, wads)),
@@ -144,6 +153,7 @@ def limits_page(plan, wads, states, palette, options, doors, plain, before=()):
             'vertexes': columns(level.vertexes), 'sectors': len(level.sectors), 'reached': len(grid.reached),
             'lines': columns([*line[:2], int(plan.is_wall(number))] for number, line in enumerate(level.lines)),
             'doors': sorted(doors), 'noWay': list(grid.wanted), 'before': list(before),
+            'changes': packed_changes(changes, [state.label for state in states]),
             'marks': marks_of(level, wads), 'doubts': [pair for pair, _ in grid.ground.doubts.most_common(20)],
             'states': [state.packed(names, options.views) for state in states]}
     pictures = sorted((it for state in states for it in state.pictures(palette)), key=lambda it: it[0])

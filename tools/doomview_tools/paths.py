@@ -39,8 +39,9 @@ def rows(path):
 def text(rows):
     """The text of a file of rows; with the columns of light where a row has any."""
     is_lit = any(row.extralight or row.colormap for row in rows)
-    lines = [HEADER + LIGHT if is_lit else HEADER] + [row if is_lit else row[:4] for row in rows]
-    return ''.join(','.join(map(str, line)) + '\n' for line in lines)
+    names = HEADER + LIGHT if is_lit else HEADER
+    line = ','.join(['%d'] * len(names)) + '\n'
+    return ','.join(names) + '\n' + ''.join(line % row[:len(names)] for row in rows)
 
 
 def signed(word):

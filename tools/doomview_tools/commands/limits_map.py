@@ -1,6 +1,9 @@
 """doomview limits-map: what the views of a whole map count."""
+import argparse
 import json
+import math
 import os
+import re
 import tempfile
 
 from .. import cli, cli_limits, earlier, ground, levels, paths, system, wads, ways
@@ -15,6 +18,7 @@ from ..trouble import TROUBLE, Trouble
 OVER = 1
 LEAST_STEP, MOST_STEP = 8, 1024
 SHOWN = 3  # things of a sector
+NUMBERS = re.compile(r'\[\n[-\d,\s]+\]')  # a list of numbers in JSON, each in a line of its own
 WITHOUT = ('--path', '--planes', '--openings', '--weapon')  # options of limits that the tool gives itself, or not
 PAGE = cli.Page(
     'limits-map', 'what the views of a whole map count, as a page: planes, openings, fragments, sprites', '''
@@ -57,7 +61,8 @@ def add_words(parser):
     parser.add_argument('--json', action='store_true', help='prints the numbers as JSON; with --all-maps each map in a '
                         'line')
     parser.add_argument('--before', metavar='OLD.json', help='what --json wrote earlier: says what got worse or better '
-                        'since, also on the page')
+                        'since and at which places, also on the page; looks from the same grid, with the --step and the '
+                        '--directions of that run')
     parser.add_argument('--worst', metavar='FILE', help='writes the worst views of each count as a camera path to FILE')
     parser.add_argument('--opened', metavar='FILE', help='writes the map with its doors open as a WAD to FILE, which goes '
                         'behind the WADs of a job')
@@ -102,11 +107,21 @@ def numbers(plan, states, options):
         return {'most': worst[0][0] if worst else 0, 'limit': options.limits[name], 'over': grid.over[name],
                 'row': list(worst[0][1][:4]) if worst else None}
     shown = [{'doors': state.label, 'places': len(state.grid.cells), 'views': state.grid.views,
-              'step': state.grid.step, 'counts': {name: of_count(state.grid, name) for name in COUNTS}}
-             for state in states]
+              'step': state.grid.step, 'counts': {name: of_count(state.grid, name) for name in COUNTS},
+              'squares': list(map(square, state.grid.cells))} for state in states]
     return {'map': plan.level.name, 'wad': plan.level.wad, 'sectors': len(plan.level.sectors),
             'reached': len(states[0].grid.reached), 'no_way': no_way(plan.level, states[0].grid.wanted),
-            'over': any(state.grid.is_bad() for state in states), 'states': shown}
+            'over': any(state.grid.is_bad() for state in states), 'directions': options.directions, 'states': shown}
+
+
+def square(cell):
+    """A cell as JSON has it: its x and y, the side of its square, and its counts."""
+    return [cell.x, math.floor(cell.y), cell.size, *map(cell.count, COUNTS)]
+
+
+def json_of(found):
+    """The numbers of a map as JSON, with a line for each square."""
+    return NUMBERS.sub(lambda it: ' '.join(it[0].split()), json.dumps(found, indent=1))
 
 
 def no_way(level, wanted):
@@ -137,21 +152,26 @@ def things_told(one):
     return ', '.join(shown) + (f' and {more} more' if more > 0 else '')
 
 
-def states_of(plan, runs, options, folder, progress):
-    """The map with its doors shut, and open unless that is left out."""
+def states_of(plan, runs, options, folder, before):
+    """The map with its doors shut, and open unless that is left out; from the grid of an earlier run, if there is one."""
     reach, doors = ways.reach(plan), plan.doors()
     if not reach.sectors and not options.all:
         raise plan.level.error('has no start of a player; --all looks from all places')
-    found = [State('shut', Grid(ground.Ground(plan), runs, reach, options, 'doors shut, '), runs)]
+    found = [state_of('shut', plan, runs, reach, options, before)]
     if doors and not options.shut:
         path = os.path.join(folder, 'open.wad')
         write_whole(path, ground.with_ceilings(plan.level, doors))
         opened = ground.Plan(levels.read([path], plan.level.name))
-        more = runs.over(options.files, path)
-        found.append(State('open', Grid(ground.Ground(opened), more, reach, options, 'doors open, '), more))
+        found.append(state_of('open', opened, runs.over(options.files, path), reach, options, before))
     if not any(state.grid.cells for state in found):
         raise plan.level.error('has no place with room for a player')
     return found, doors
+
+
+def state_of(label, plan, runs, reach, options, before):
+    """The map with its doors shut or open, looked at."""
+    start = earlier.start_of(before, label)
+    return State(label, Grid(ground.Ground(plan), runs, reach, options, f'doors {label}, ', start), runs)
 
 
 def palette_of(files):
@@ -174,7 +194,7 @@ def run(options):
     if options.all_maps:
         return run_all(options)
     found, told = look(options)
-    write_output(json.dumps(found, indent=1) + '\n' if options.json else told)
+    write_output(json_of(found) + '\n' if options.json else told)
     return status_of(found)
 
 
@@ -238,21 +258,29 @@ def looked(options, runs, folder, progress):
     runs.check()
     level = cli.level_of(options, options.files)
     level.check_whole()
-    plan = ground.Plan(level)
-    states, doors = states_of(plan, runs, options, folder, progress)
-    found = numbers(plan, states, options)
-    if options.before and not options.all_maps and level.name not in options.earlier:
+    plan, before = ground.Plan(level), options.earlier.get(level.name, {})
+    if options.before and not options.all_maps and not before:
         raise Trouble(f'{options.before} has no numbers of {level.name}')
-    if level.name in options.earlier:
-        different = earlier.differences(options.earlier[level.name], found)
-        found['before'], found['worse'] = [one.told for one in different], any(one.is_worse for one in different)
+    options = argparse.Namespace(**{**vars(options), 'directions': before.get('directions', options.directions)})
+    states, doors = states_of(plan, runs, options, folder, before)
+    found, changes = numbers(plan, states, options), []
+    if before:
+        changes = compare(found, before, options.limits)
     told = ''.join(f'{line}\n' for line in summary(found))
     progress.tell('drawing the worst views')
     if options.page:
         write_whole(options.page, limits_page(plan, options.files, states, palette_of(options.files), options, doors,
-                                              told, found.get('before', [])))
+                                              told, found.get('before', []), changes))
     if options.opened:
         write_whole(options.opened, ground.with_ceilings(plan.level, doors))
     if options.worst:
         write_whole(options.worst, worst_path(states, options).encode())
     return found, told
+
+
+def compare(found, before, limits):
+    """Adds to the numbers of a map what differs from an earlier run; its changes place by place."""
+    comparison = earlier.compared(before, found, limits)
+    found['before'], found['worse'] = comparison.lines, comparison.is_worse
+    found['changes'] = [change._asdict() for change in comparison.changes]
+    return comparison.changes
