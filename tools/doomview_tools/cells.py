@@ -5,7 +5,6 @@ in twice as many directions. A cell stays where it was cut; its quarters lie ove
 import itertools
 import math
 
-from . import list_counts
 from .counting import CAPPED, COUNTS
 from .ground import has_height
 from .levels import EYE_HEIGHT, TURN, UNIT
@@ -45,15 +44,16 @@ class Look:
         self.cell, self.counts, self.ranges = cell, {}, {}
 
     def most_fragments(self) -> list[int]:
-        """The directions with the most fragments: one, and one more that may have many ranges."""
-        order = sorted(((counts.get('fragments', 0), direction) for direction, counts in self.counts.items()), reverse=True)
+        """The directions with the most fragments: one, and one more that may have many ranges. None of a view over a raised
+        limit."""
+        order = sorted(((counts['fragments'], direction) for direction, counts in self.counts.items()
+                        if 'fragments' in counts), reverse=True)
         return [direction for place, (count, direction) in enumerate(order[:2]) if place == 0 or count >= MANY]
 
     def to_list(self, listed) -> list[int]:
-        """The directions that are listed besides some: of what `limits` counts no further, and of the most fragments."""
-        capped = [direction for direction, counts in self.counts.items()
-                  if any(counts.get(name, 0) >= most for name, most in CAPPED.items())]
-        return sorted({*capped, *self.most_fragments()}.difference(listed))
+        """The directions that are listed besides some: in which there is more than `limits` counts, maybe."""
+        return sorted(direction for direction, counts in self.counts.items() if direction not in listed
+                      and any(counts.get(name, 0) >= most for name, most in CAPPED.items()))
 
     def likely(self, directions: int) -> list[int]:
         """The directions, of so many, in which views from near the place are likely to have more than `limits` counts:
@@ -65,23 +65,16 @@ class Look:
         beside = ([shares.get((direction + by) % directions, 0) for by in (-1, 1)] for direction in range(directions))
         return [direction for direction, pair in enumerate(beside) if shares.get(direction, sum(pair) / 2) >= 1]
 
-    def solids(self) -> dict[int, dict]:
-        """The counts of solid ranges in the directions with the most fragments, which come first."""
-        return {direction: {'solids': self.ranges[direction]} for direction in self.most_fragments()
-                if direction in self.ranges}
-
 
 class Grid:
-    """The cells of a level. `directions` is the number of those in which finer cells are looked at, and `start` a place of
-    the grid where it is to be that of an earlier run."""
+    """The cells of a level. `directions` is the number of those in which finer cells are looked at, `walls` are runs over
+    its solid walls alone, and `start` is a place of the grid where it is to be that of an earlier run."""
 
-    def __init__(self, ground, runs, reach, options, what='', start=None):
-        self.ground, self.runs, self.limits, self.what = ground, runs, options.limits, what
+    def __init__(self, ground, runs, walls, reach, options, what='', start=None):
+        self.ground, self.runs, self.walls, self.limits, self.what = ground, runs, walls, options.limits, what
         self.reached, self.wanted = reach
         self.everywhere, self.directions = options.all, 2 * options.directions
         self.views, self.over = 0, dict.fromkeys(COUNTS, 0)
-        self.is_solid = list_counts.solid_segs(ground.plan.level)
-        self.solid = list_counts.named(self.is_solid)
         self.step, places = self.coarse(start.step if start else options.step, start)
         more = self.in_small_sectors(places)
         self.small = {(cell.x, cell.y): cell for cell in more}
@@ -150,6 +143,7 @@ class Grid:
         self.list_views(looks, [cell.likely for cell in cells])
         self.count_views(looks, directions)
         self.list_views(looks, [look.to_list(look.cell.likely) for look in looks])
+        self.count_ranges(looks)
         for look in looks:
             self.take(look)
         return cells
@@ -167,20 +161,22 @@ class Grid:
             look.counts.update((direction, next(found)) for direction in some)
 
     def list_views(self, looks, chosen):
-        """Takes what `list` says of the views from places, of each in some directions; of those with the most fragments
-        the solid ranges too."""
-        rows = self.rows(looks, chosen)
-        found = self.runs.views(rows, self.what) if rows else iter(())
+        """Takes what `list` says of the views from places, of each in some directions."""
+        found = self.runs.listed(self.rows(looks, chosen), self.what)
         for look, some in zip(looks, chosen):
-            views = {direction: next(found) for direction in some}
-            look.counts.update((direction, view.counts()) for direction, view in views.items())
-            for direction in look.most_fragments() if views else ():
-                if direction in views and 'fragments' in look.counts[direction]:
-                    look.ranges[direction] = list_counts.ranges_of(views[direction].items(), self.solid)
+            look.counts.update((direction, next(found)) for direction in some)
+
+    def count_ranges(self, looks):
+        """Takes the solid ranges of those views from places that have the most fragments."""
+        chosen = [look.most_fragments() for look in looks]
+        found = self.walls.ranges(self.rows(looks, chosen), self.what)
+        for look, some in zip(looks, chosen):
+            look.ranges.update((direction, next(found)) for direction in some)
 
     def take(self, look):
         """Takes the counts of the views from a place."""
-        for direction, counts in itertools.chain(sorted(look.counts.items()), look.solids().items()):
+        ranges = ((direction, {'solids': count}) for direction, count in look.ranges.items())
+        for direction, counts in itertools.chain(sorted(look.counts.items()), ranges):
             for name, count in counts.items():
                 if count > self.limits[name]:
                     self.over[name] += 1

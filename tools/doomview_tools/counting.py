@@ -122,15 +122,15 @@ class Runs:
         outputs = self.outputs('limits', rows, what) if rows else [self.ended(*self.start('limits', []), 'limits')]
         return [counts_of(line) for output in outputs for line in output.decode().splitlines()]
 
-    def listed(self, rows, what='', is_solid=None):
-        """The counts of each row by name, by what `list` says; with the solid ranges where solid segs are given."""
-        for output in self.outputs('list', rows, what):
-            yield from list_counts.counts_of(output, is_solid)
+    def listed(self, rows, what=''):
+        """The counts of each row by name, by what `list` says, without solid ranges."""
+        for output in self.outputs('list', rows, what) if rows else ():
+            yield from list_counts.counts_of(output)
 
-    def views(self, rows, what=''):
-        """Of each row what `list` says."""
-        for output in self.outputs('list', rows, what):
-            yield from list_counts.views_of(output)
+    def ranges(self, rows, what=''):
+        """The most solid ranges of each row, of runs over a map of the solid walls alone."""
+        for output in self.outputs('list', rows, what) if rows else ():
+            yield from list_counts.ranges_of(output)
 
     def drawn(self, job, rows, size):
         """The frame or the trace of each row; None for a view that passes even the raised limits."""

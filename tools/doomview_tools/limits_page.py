@@ -75,9 +75,9 @@ class State:
         """What the page has of it, but for the pictures."""
         self.rows, self.order = self.views(most)
         self.traces = self.runs.drawn('trace', self.rows, traces.VIEW_SIZE)
-        self.shown = [{'row': row[:4], 'counts': counts, 'seen': trace and seen(trace, names)}
-                      for row, counts, trace in zip(self.rows, self.runs.listed(self.rows, '', self.grid.is_solid),
-                                                    self.traces)]
+        counts = zip(self.runs.listed(self.rows), self.grid.walls.ranges(self.rows))
+        self.shown = [{'row': row[:4], 'counts': {**of, 'solids': solids} if 'fragments' in of else of,
+                       'seen': trace and seen(trace, names)} for row, (of, solids), trace in zip(self.rows, counts, self.traces)]
         cells = sorted(self.grid.cells, key=lambda it: -it.size)
         return {'label': self.label, 'cells': columns(map(packed_cell, cells)), 'views': self.shown,
                 'order': self.order, 'small': [], 'looked': self.grid.views, 'over': self.grid.over,

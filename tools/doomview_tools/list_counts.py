@@ -1,12 +1,10 @@
 """What `list` says of views beyond what `limits` counts: all fragments and sprites, and the solid ranges.
 
 The original keeps the columns that walls have filled as ranges in an array of 32, solidsegs, with one range at each
-edge of the view. A solid wall makes a range more, or joins those that it touches; `list` has the walls in order. It has
-the first 256 fragments alone, so of a view with more the ranges of these are counted."""
+edge of the view. A solid wall makes a range more, or joins those that it touches; `list` of a map of the solid walls
+alone (`walls`) has them in order."""
 import re
 import typing
-
-from .ground import TWO_SIDED
 
 LAST = re.compile(rb'view \d+ (?:fragments \d+ of (?P<fragments>\d+) planes (?P<planes>\d+) openings (?P<openings>\d+) '
                   rb'sprites \d+ of (?P<sprites>\d+)|over (?P<over>planes|openings) (?P<count>\d+))\n')
@@ -17,23 +15,6 @@ COLUMNS = 320
 COLUMN = {b'%d' % column: column for column in range(COLUMNS)}  # by its digits
 FILLED = [bytes((1,)) * width for width in range(COLUMNS + 1)]
 NEARLY = 7, 8  # the part of a view's bytes after which its end is looked for: most are about as long as the one before
-
-
-def solid_segs(level) -> list:
-    """Of each seg of a level whether nothing is seen behind it (R_AddLine)."""
-    sector_of = {seg: level.sector_of_leaf(number) for number, leaf in enumerate(level.leaves)
-                 for seg in range(leaf.first, leaf.first + leaf.count)}
-    return [is_solid(level, seg, sector_of.get(number)) for number, seg in enumerate(level.segs)]
-
-
-def is_solid(level, seg, front) -> bool:
-    """Whether nothing is seen behind a seg of a leaf with a sector."""
-    line = level.lines[seg.line]
-    behind = line[6 - seg.side]
-    if not line.flags & TWO_SIDED or behind is None or front is None:
-        return True
-    one, other = level.sectors[front], level.sectors[level.sides[behind].sector]
-    return other.ceiling <= one.floor or other.floor >= one.ceiling
 
 
 def most_ranges(walls) -> int:
@@ -58,41 +39,30 @@ def range_counts(walls: typing.Iterable) -> typing.Iterator[int]:
             filled[first + 1:last + 2] = FILLED[last + 1 - first]
 
 
-def named(is_solid: list[bool]) -> frozenset[bytes]:
-    """The solid segs, by their numbers as `list` writes them."""
-    return frozenset(b'%d' % number for number, is_one in enumerate(is_solid) if is_one)
-
-
-def walls_of(items: bytes, solid: frozenset[bytes]) -> list:
-    """The solid walls of a view in order, by the lines of its items, of which the fragments are the first: of each the
-    columns of its fragments."""
+def walls_of(items: bytes) -> list:
+    """The solid walls of a view in order, by the lines of its items in a map of these alone: of each the columns of its
+    fragments."""
     behind = items.rfind(b' seg ') + 1
     numbers = items[:items.find(b'\n', behind) if behind else 0].translate(None, NO_NUMBERS).split()
-    found = [(seg, (COLUMN[first], COLUMN[last])) for seg, first, last in zip(*map(numbers.__getitem__, FIELDS)) if seg in solid]
     walls, before = [], None
-    for seg, columns in found:
+    for seg, first, last in zip(*map(numbers.__getitem__, FIELDS)):
         if seg == before:
-            walls[-1].append(columns)
+            walls[-1].append((COLUMN[first], COLUMN[last]))
         else:
-            walls.append([columns])
+            walls.append([(COLUMN[first], COLUMN[last])])
         before = seg
     return walls
 
 
-def ranges_of(items: bytes, solid: frozenset[bytes]) -> int:
-    """The most solid ranges of a view, by the lines of its items and the solid segs."""
-    return most_ranges(walls_of(items, solid))
+def ranges_of(output: bytes) -> typing.Iterator[int]:
+    """The most solid ranges of each view of what `list` writes of a map of the solid walls alone."""
+    return (most_ranges(walls_of(view.items())) for view in views_of(output))
 
 
-def counts_of(output: bytes, is_solid: list[bool] | None = None) -> typing.Iterator[dict]:
-    """The counts of each view of what `list` writes, by name; with the solid ranges where solid segs are given. Of a
-    view over a raised limit it is that count alone."""
-    solid = named(is_solid) if is_solid else None
-    for view in views_of(output):
-        counts = view.counts()
-        if solid is not None and 'fragments' in counts:
-            counts['solids'] = ranges_of(view.items(), solid)
-        yield counts
+def counts_of(output: bytes) -> typing.Iterator[dict]:
+    """The counts of each view of what `list` writes, by name, without solid ranges. Of a view over a raised limit it is
+    that count alone."""
+    return (view.counts() for view in views_of(output))
 
 
 class Listed(typing.NamedTuple):

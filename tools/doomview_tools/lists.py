@@ -6,7 +6,7 @@ import collections
 import functools
 import re
 
-from . import levels, list_counts, wads
+from . import levels, wads
 from .files import check_source
 from .levels import UNIT
 from .traces import COMPOSITE, Painter
@@ -147,11 +147,6 @@ class Places:
         """The Trouble of a list that is not of this map, or not of the trace."""
         return Trouble(f'{self.path} does not fit: {what}; name the list, the trace, the WADs and the map of the same '
                        'words')
-
-    @functools.cached_property
-    def is_solid(self):
-        """Of each seg whether nothing is seen behind it."""
-        return list_counts.solid_segs(self.level)
 
     @functools.cached_property
     def leaf_of_seg(self):

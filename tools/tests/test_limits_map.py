@@ -77,10 +77,6 @@ def solids_of(fragments):
     return 3 + fragments // 32 if fragments >= 32 else 2
 
 
-# Lines of what `list` says of a view, each of a wall that makes a solid range more.
-WALLS = [b'view 0 fragment %d seg %d first %d last %d\n' % (i, i % 2, 5 * i + 5, 5 * i + 6) for i in range(31)]
-
-
 class Made:
     """Runs that count as by chance, and draw frames that no compression makes smaller."""
 
@@ -91,13 +87,11 @@ class Made:
         return [{'planes': number % 1025, 'openings': number % 245761, 'fragments': number % 257, 'sprites': number % 129}
                 for number in map(hash, rows)]
 
-    def listed(self, rows, what='', is_solid=None):
-        return [{**counts, 'solids': self.chance.randrange(33)} for counts in self.counts(rows)]
+    def listed(self, rows, what=''):
+        return iter(self.counts(rows))
 
-    def views(self, rows, what=''):
-        walls = [b''.join(WALLS[:self.chance.randrange(31)]) for _ in rows]
-        return (types.SimpleNamespace(items=lambda lines=lines: lines, counts=lambda counts=counts: counts)
-                for lines, counts in zip(walls, self.counts(rows)))
+    def ranges(self, rows, what=''):
+        return iter([self.chance.randrange(33) for _ in rows])
 
     def drawn(self, job, rows, size):
         repeated = 1 if job == 'render' else 64
@@ -294,7 +288,7 @@ class LimitsMap(Tools):
         """A page of as many places and views as there can be is no larger than 3 MB, and the worst have pictures."""
         plan = ground.Plan(levels.read([self.hall], 'MAP01'))
         options = types.SimpleNamespace(limits=counting.LIMITS, all=True, step=8, directions=8, views=20)
-        states = [limits_page.State(label, cells.Grid(ground.Ground(plan), Made(), ways.reach(plan), options), Made())
+        states = [limits_page.State(label, cells.Grid(ground.Ground(plan), Made(), Made(), ways.reach(plan), options), Made())
                   for label in ('shut', 'open')]
         self.assertGreater(min(len(state.grid.cells) for state in states), 9000)
         made = limits_page.limits_page(plan, [self.hall], states, bytes(768), options, {1: 124}, '')

@@ -14,6 +14,7 @@ from ..index_page import index_page
 from ..limits_page import State, limits_page
 from ..png import GREYS
 from ..trouble import TROUBLE, Trouble
+from ..walls import walls_alone
 
 OVER = 1
 LEAST_STEP, MOST_STEP = 8, 1024
@@ -25,8 +26,8 @@ PAGE = cli.Page(
 Counts what the views of a whole map have: planes, openings, fragments and sprites, as doomview limits counts them,
 and prints of each count the greatest with the row of its view. The original ends at more than 128 planes or 20,480
 openings, and does not draw walls and sprites past 256 fragments and 128 sprites. It ends too at more than 32 solid
-ranges of columns that walls have filled: these are counted by what doomview list says, from each place in the one or two
-directions with the most fragments, and of a view with more than 256 fragments by the first 256.
+ranges of columns that walls have filled: these are counted by what doomview list says of the solid walls alone, from each
+place in the one or two directions with the most fragments.
 
 It looks from places of a grid at which a player can stand: within the lines, 56 units of height, 16 off the walls, in
 sectors to which a way leads from a start, the eye 41 over the floor, in 8 directions. A way leads over steps of up to
@@ -157,21 +158,26 @@ def states_of(plan, runs, options, folder, before):
     reach, doors = ways.reach(plan), plan.doors()
     if not reach.sectors and not options.all:
         raise plan.level.error('has no start of a player; --all looks from all places')
-    found = [state_of('shut', plan, runs, reach, options, before)]
+    plans = [('shut', plan, runs)]
     if doors and not options.shut:
-        path = os.path.join(folder, 'open.wad')
-        write_whole(path, ground.with_ceilings(plan.level, doors))
-        opened = ground.Plan(levels.read([path], plan.level.name))
-        found.append(state_of('open', opened, runs.over(options.files, path), reach, options, before))
+        path = written(folder, 'open.wad', ground.with_ceilings(plan.level, doors))
+        plans.append(('open', ground.Plan(levels.read([path], plan.level.name)), runs.over(options.files, path)))
+    found = []
+    for label, its, its_runs in plans:
+        walls = runs.over(options.files, written(folder, f'{label}-walls.wad', walls_alone(its.level)))
+        start = earlier.start_of(before, label)
+        grid = Grid(ground.Ground(its), its_runs, walls, reach, options, f'doors {label}, ', start)
+        found.append(State(label, grid, its_runs))
     if not any(state.grid.cells for state in found):
         raise plan.level.error('has no place with room for a player')
     return found, doors
 
 
-def state_of(label, plan, runs, reach, options, before):
-    """The map with its doors shut or open, looked at."""
-    start = earlier.start_of(before, label)
-    return State(label, Grid(ground.Ground(plan), runs, reach, options, f'doors {label}, ', start), runs)
+def written(folder, name, data):
+    """The path of a file of a folder that is written."""
+    path = os.path.join(folder, name)
+    write_whole(path, data)
+    return path
 
 
 def palette_of(files):
