@@ -22,18 +22,18 @@ NONE = -1, 0  # a count that is not known yet, and its direction
 class Cell:
     """A place in the middle of a square, with its greatest counts: by name a pair of the count and its direction."""
 
-    def __init__(self, x, y, size, sector, floor, is_reached):
+    def __init__(self, x: int, y: float, size: int, sector: int, floor: int, is_reached: bool) -> None:
         self.x, self.y, self.size, self.is_reached = x, y, size, is_reached
         self.sector, self.floor = sector, floor
         self.likely = ()  # the directions in which its views are likely to have more than `limits` counts
         self.most = {}
 
-    def row(self, direction, directions):
+    def row(self, direction: int, directions: int) -> Row:
         """The row of a path from here: an eye of a player who stands."""
         return Row(round(self.x * UNIT), round(self.y * UNIT), (self.floor + EYE_HEIGHT) * UNIT,
                    TURN * direction // directions)
 
-    def count(self, name):
+    def count(self, name: str) -> int:
         return self.most.get(name, (0, 0))[0]
 
 
@@ -184,7 +184,7 @@ class Grid:
                     look.cell.most[name] = count, direction
         look.cell.likely = look.likely(self.directions)
 
-    def worst(self, name, most):
+    def worst(self, name: str, most: int) -> list[tuple[int, Row]]:
         """The views of the greatest counts, no two near each other: pairs of the count and its row."""
         found = []
         for cell in sorted(self.cells, key=lambda it: -it.count(name)):
@@ -195,6 +195,6 @@ class Grid:
                 found.append((cell.count(name), row))
         return found
 
-    def is_bad(self):
+    def is_bad(self) -> bool:
         """Whether a view is over a limit."""
         return any(self.over.values())

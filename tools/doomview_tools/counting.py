@@ -4,6 +4,7 @@ import os
 import signal
 import subprocess
 import sys
+import typing
 
 from . import list_counts, paths, program, system
 from .explanations import explained
@@ -52,13 +53,13 @@ class Progress:
 class Runs:
     """Runs of the program over one map, with files in a folder. `words` are the options that each of them takes."""
 
-    def __init__(self, name, wads, words, folder, jobs, progress):
+    def __init__(self, name: str, wads: list[str], words: list[str], folder: str, jobs: int, progress: Progress) -> None:
         self.words = [name, *wads, *RAISED, *words]
         self.given = program.completed(['limits', *self.words])[1:]
         self.program, self.folder, self.jobs, self.progress = program.ready(), folder, jobs, progress
         self.runs, self.made = [], 0  # those that go on, shared with `over`
 
-    def over(self, wads, added):
+    def over(self, wads: list[str], added: str):
         """The same with one WAD more behind its WADs."""
         other = Runs.__new__(Runs)
         other.__dict__.update(self.__dict__)
@@ -106,33 +107,33 @@ class Runs:
         finally:
             self.stop()
 
-    def stop(self):
+    def stop(self) -> None:
         """Ends the runs that go on."""
         for run in self.runs:
             run.kill()
             run.wait()
         self.runs.clear()
 
-    def check(self):
+    def check(self) -> None:
         """Ends with doomview's refusal, in words, where the map has one."""
         self.counts([], 'reading')
 
-    def counts(self, rows, what=''):
+    def counts(self, rows: list[paths.Row], what: str = '') -> list[dict]:
         """The counts of each row by name as `limits` has them; of a view that is over a raised limit that count alone."""
         outputs = self.outputs('limits', rows, what) if rows else [self.ended(*self.start('limits', []), 'limits')]
         return [counts_of(line) for output in outputs for line in output.decode().splitlines()]
 
-    def listed(self, rows, what=''):
+    def listed(self, rows: list[paths.Row], what: str = '') -> typing.Iterator[dict]:
         """The counts of each row by name, by what `list` says, without solid ranges."""
         for output in self.outputs('list', rows, what) if rows else ():
             yield from list_counts.counts_of(output)
 
-    def ranges(self, rows, what=''):
+    def ranges(self, rows: list[paths.Row], what: str = '') -> typing.Iterator[int]:
         """The most solid ranges of each row, of runs over a map of the solid walls alone."""
         for output in self.outputs('list', rows, what) if rows else ():
             yield from list_counts.ranges_of(output)
 
-    def drawn(self, job, rows, size):
+    def drawn(self, job: str, rows: list[paths.Row], size: int) -> list[bytes | None]:
         """The frame or the trace of each row; None for a view that passes even the raised limits."""
         found = []
         while len(found) < len(rows):

@@ -4,8 +4,9 @@ import os
 import sys
 
 from . import traces
+from .cells import Grid
 from .checks import findings
-from .counting import COUNTS
+from .counting import COUNTS, Runs
 from .findings import GRADES, places
 from .frames import HEIGHT, SIZE, WIDTH
 from .pages import columns, packed, page, picture
@@ -29,7 +30,7 @@ def planes_of(trace):
     return bytes(number % NO_PLANE if kind in PLANE_KINDS else NO_PLANE for kind, number in zip(kinds, numbers))
 
 
-def seen(trace, names):
+def seen(trace: bytes, names: traces.Names) -> dict:
     """Of each count how many have a pixel in a view, how many names they have, and those of most: name and number."""
     found = collections.defaultdict(lambda: collections.defaultdict(set))
     for record in set(memoryview(trace).cast('Q')):
@@ -61,10 +62,10 @@ def packed_cell(cell):
 class State:
     """The map with its doors shut or open: its grid, and the runs over it."""
 
-    def __init__(self, label, grid, runs):
+    def __init__(self, label: str, grid: Grid, runs: Runs) -> None:
         self.label, self.grid, self.runs = label, grid, runs
 
-    def views(self, most):
+    def views(self, most: int) -> tuple[list, dict]:
         """The worst views of each count, and of each count the places of its own among them."""
         rows, order = {}, {}
         for name in COUNTS:
@@ -128,7 +129,7 @@ def put_in(pictures, room):
         view.update((kind, of_sizes[its]) for kind, of_sizes in found.items())
 
 
-def marks_of(level, wads):
+def marks_of(level, wads: list[str]) -> list:
     """What lint finds in a level and can be shown on its map: places, grade and the line of each, the gravest first."""
     found = [[finding.grade, f'{finding.what}: {finding.where}: {finding.told}', list(map(list, places(finding, level)))]
              for finding in findings(level, wads)]

@@ -158,8 +158,8 @@ class Places:
         try:
             seg = self.level.segs[number]
             return seg, self.level.lines[seg.line][5 + seg.side]
-        except IndexError:
-            raise self.other(f'{self.level.name} has no seg {number}')
+        except IndexError as error:
+            raise self.other(f'{self.level.name} has no seg {number}') from error
 
     def line_of(self, fragment):
         """The line of a fragment, and which of its sides, in words."""
@@ -170,8 +170,8 @@ class Places:
         try:
             sector = self.level.sector_of_leaf(leaf)
             return self.level.sectors[sector] and sector
-        except (IndexError, TypeError):
-            raise self.other(f'{self.level.name} has no leaf {leaf}')
+        except (IndexError, TypeError) as error:
+            raise self.other(f'{self.level.name} has no leaf {leaf}') from error
 
     def sector_of_fragment(self, fragment):
         """The sector in front of a fragment: that of its leaf."""
@@ -249,8 +249,8 @@ class Places:
                 return [('middle', side.middle)]
             front = self.level.sectors[self.sector_of_fragment(fragment)]
             back = self.level.sectors[self.level.sides[behind].sector]
-        except (IndexError, TypeError):
-            raise self.other(f'line {seg.line} of {self.level.name} has no such side')
+        except (IndexError, TypeError) as error:
+            raise self.other(f'line {seg.line} of {self.level.name} has no such side') from error
         has_upper = back.ceiling < front.ceiling and not front.ceiling_flat == back.ceiling_flat == SKY
         return [('upper', side.upper)] * has_upper + [('lower', side.lower)] * (back.floor > front.floor)
 

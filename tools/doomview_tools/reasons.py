@@ -38,7 +38,7 @@ def sums_told(sums, counts, limits):
             yield f'  {name}: the first {kept} are drawn, {all_of_them - kept} past them are not'
 
 
-def by_group(view, places):
+def by_group(view, places) -> list:
     """The planes of each height, flat and light: pairs of the group and what was made of it, the most planes first. The
     sectors that made one come first among those of the group."""
     groups, made, makers = {}, {}, collections.defaultdict(dict)

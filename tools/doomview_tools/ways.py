@@ -258,7 +258,7 @@ def squares_near(box, length) -> typing.Iterator[tuple[int, int]]:
     return itertools.product(columns, range((low_y - length) // AREA, (high_y + length) // AREA + 1))
 
 
-def moving_sectors(plan) -> set:
+def moving_sectors(plan: ground.Plan) -> set[int]:
     """The sectors that may move: by their tag, those that are shut, and what stairs and donuts move without a tag."""
     found = {number for number, sector in enumerate(plan.level.sectors) if ground.is_shut(sector)} | plan.tagged()
     return found | steps_of_stairs(plan, tagged_by(plan, STAIRS)) | beside_sectors(plan, tagged_by(plan, DONUT))
@@ -289,7 +289,7 @@ def steps_of_stairs(plan, first):
     return found
 
 
-def reach(plan) -> Reach:
+def reach(plan: ground.Plan) -> Reach:
     """Where a player gets from the starts of a level; nowhere if it has none."""
     ways = Ways(plan)
     starts = {plan.level.sector_at(thing.x, thing.y) for thing in plan.level.things if thing.type in STARTS}
