@@ -20,7 +20,7 @@ page may give its places other fields. show() adds isCut: whether smaller places
     dots       [{ x, y, text, isChosen }]: numbered views
     rings      [[x, y]]: small circles
     marks      [{ x, y, letter, colour, corners }]: small diamonds with a letter, over the places; with corners, pairs of
-               x and y around the middle, another shape, such as MapDisplay.UP or DOWN
+               x and y around the middle, another shape, such as MapDisplay.UP or DOWN, smaller from afar
     eye        { x, y, angle } or null: a cone of 90 degrees; angle is in degrees, counterclockwise from east
     cursor     a place or null: it gets a frame
   display.fit()               takes the size of its canvas anew, as after a change of the window, and draws
@@ -161,10 +161,10 @@ class MapDisplay {
     const middle = this.at(x, y);
     this.circle(...middle, 9, isChosen ? '#06c' : '#fff'); this.label(text, ...middle, isChosen ? '#fff' : '#000');
   }
-  drawMark({ x, y, letter, colour, corners = MapDisplay.DIAMOND }) {
-    const [px, py] = this.at(x, y), pen = this.pen;
-    pen.fillStyle = colour; pen.strokeStyle = '#fff'; pen.lineWidth = 1; pen.beginPath();
-    corners.forEach(([dx, dy]) => pen.lineTo(px + dx, py + dy));
+  drawMark({ x, y, letter, colour, corners }) {
+    const [px, py] = this.at(x, y), pen = this.pen, size = corners ? Math.min(1, Math.max(.5, 3 * this.scale)) : 1;
+    pen.fillStyle = colour; pen.strokeStyle = '#fff'; pen.lineWidth = size; pen.beginPath();
+    (corners || MapDisplay.DIAMOND).forEach(([dx, dy]) => pen.lineTo(px + dx * size, py + dy * size));
     pen.closePath(); pen.fill(); pen.stroke(); this.label(letter, px, py, '#fff');
   }
   marksNear(px, py) {
