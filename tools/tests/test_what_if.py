@@ -1,11 +1,12 @@
 """Tests the what-ifs of why-limit, and solid ranges, with the program that DOOMVIEW_TESTED names."""
 import os
 import re
+import struct
 import unittest
 
 from made_files import Tools
-from made_maps import Map
-from doomview_tools import levels, list_counts, paths, program, walls
+from made_maps import NO_SIDE, RECORDS, Map
+from doomview_tools import counting, levels, list_counts, lists, paths, program, walls
 
 TESTED = os.environ.get('DOOMVIEW_TESTED', '')
 LIMIT, SIDE = 128, 20  # planes; squares of a side of a hall
@@ -96,20 +97,56 @@ class WhatIf(Tools):
             made = hall(lambda x, y: {**patterned_hall(x, y), **alike}, 21)
             self.assertEqual(self.planes(made), planes)
 
+    def ranges(self, made):
+        """The solid ranges of the view from the start of a map, and all its fragments."""
+        level = levels.read([self.write('made.wad', made.wad())], 'MAP01')
+        self.write('walls.wad', walls.walls_alone(level))
+        self.write('path.csv', paths.text(paths.turn(level, 1)).encode())
+        outputs = [self.run_command(TESTED, *program.completed(
+            ['list', 'MAP01', *map(self.at, names), *counting.RAISED, '--path', self.at('path.csv')]))[1]
+            for names in (['made.wad'], ['made.wad', 'walls.wad'])]
+        return next(list_counts.ranges_of(outputs[1])), next(list_counts.counts_of(outputs[0]))['fragments']
+
     def test_pillars(self):
-        """29 pillars in a row are drawn by Chocolate Doom 3.0.1, and 30 end it: more than 32 solid ranges."""
+        """29 pillars in a row are drawn by Chocolate Doom 3.0.1, and 30 end it: more than 32 solid ranges. So it is
+        with bars before them, of 2,530 and 2,658 fragments, as its renderer was seen to do (tools/original)."""
         for count, ends in [(29, False), (30, True)]:
             width = 2 * count + 1
             rows = ['.' * width] * 6 + ['.#' * count + '.'] + ['.' * width] * (count + 4)
             made = Map(*rows, start=(2 * (width // 2) + 3, 2 * len(rows) + 1))
             made.change('THINGS', 0, angle=90)
-            level = levels.read([self.write('pillars.wad', made.wad())], 'MAP01')
+            ranges, fragments = self.ranges(made)
+            self.assertEqual((ranges > 32, fragments < 256), (ends, True))
+            put_bars(made)
+            ranges, fragments = self.ranges(made)
+            self.assertEqual((ranges > 32, fragments > 2500), (ends, True))
+
+    def test_door(self):
+        """A door that is shut is a solid wall, and one that is open none: by all segs of views of at most 256 fragments."""
+        made = Map('..+..', '.#+#.', '.....', **{'+': {'ceiling': 0}})
+        for height in (0, 1, 160):
+            made.change('SECTORS', 1, ceiling=height)
+            level = levels.read([self.write('made.wad', made.wad())], 'MAP01')
             self.write('walls.wad', walls.walls_alone(level))
-            self.write('path.csv', paths.text(paths.turn(level, 1)).encode())
-            output = self.run_command(TESTED, *program.completed(
-                ['list', 'MAP01', self.at('pillars.wad'), self.at('walls.wad'), '--path', self.at('path.csv')]))[1]
-            ranges = next(list_counts.ranges_of(output))
-            self.assertEqual(ranges > 32, ends, ranges)
+            self.write('path.csv', paths.text(paths.places(level, 40, 1)).encode())
+            every, alone = ([[(item.seg, item.first, item.last) for item in self.listed(names).view(number).fragments]
+                             for number in range(41)] for names in (['made.wad'], ['made.wad', 'walls.wad']))
+            solid = walls.solid_segs(level)
+            self.assertEqual([[item for item in items if solid[item[0]]] for items in every], alone)
+            self.assertEqual(sum(solid[number] for number, seg in enumerate(level.segs) if level.lines[seg.line].back is not None),
+                             0 if height else 8)
+
+    def listed(self, names):
+        """What `list` writes of the path over some WADs."""
+        words = ['list', 'MAP01', *map(self.at, names), '--path', self.at('path.csv')]
+        return lists.ListFile(self.write('list.txt', self.run_command(TESTED, *program.completed(words))[1]))
+
+
+def put_bars(made):
+    """Puts bars into all lines of a map that have two sides."""
+    both = {side for line in made.records('LINEDEFS') if line['back'] != NO_SIDE for side in (line['front'], line['back'])}
+    sides = [{**side, 'middle': b'BARS'} if number in both else side for number, side in enumerate(made.records('SIDEDEFS'))]
+    made.lumps['SIDEDEFS'] = b''.join(struct.pack(RECORDS['SIDEDEFS'], *side.values()) for side in sides)
 
 
 class Ranges(unittest.TestCase):
