@@ -11,7 +11,7 @@ import unittest
 
 import pages_shown
 from made_files import COMMAND, Tools, name, wad
-from doomview_tools import cells, counting, ground, levels, limits_page, traces, ways
+from doomview_tools import cells, counting, earlier, ground, levels, limits_page, traces, ways
 
 COARSE = ['--step', '256', '--directions', '4']
 TESTED = os.environ.get('DOOMVIEW_TESTED', '')
@@ -178,6 +178,12 @@ class LimitsMap(Tools):
         self.assertRegex(now['before'][2], r'^  better at \d+ places: x \d+ y \d+: 1[0-4]\d, before 1[3-9]\d; x ')
         data = pages_shown.data_of(self.at('page.html'))
         self.assertEqual(data['before'], now['before'])
+        if pages_shown.BROWSER:
+            found = pages_shown.shown(self.at('page.html'), '''const all = [display.shown.marks.length, find('changes').textContent];
+                hit('b'); all.push(display.shown.marks.length); hit('2', 'b'); all.push(display.shown.marks.length); return all;''')
+            worse = sum(now > (before or 0) for *_, before, now in changes)
+            self.assertEqual(found, [len(changes), f'since the earlier run, planes: ▲ worse at {worse}, ▼ better at '
+                                     f'{len(changes) - worse}', 0, 0])
         shown = {tuple(row[2:]) for row in pages_shown.rows_of(data['changes'])}
         self.assertEqual(shown, {tuple(-1 if part is None else part for part in change) for change in changes})
         status, output, _ = self.run_tool(*words, '--before', 'same.json', doomview=self.counting)
@@ -185,6 +191,24 @@ class LimitsMap(Tools):
         status, output, _ = self.run_tool(*words, '--before', 'same.json', doomview=self.stand_in('better', COUNTING.replace(
             'planes = 60', 'planes = 50')))
         self.assertEqual((status, b'better, doors shut: planes most ' in output), (0, True))
+
+    def test_places_compared(self):
+        """A place that is new counts, and one that is gone; a quarter in one run alone does not."""
+        def state(*squares):
+            most = max(square[3] for square in squares)
+            return {'doors': 'shut', 'step': 64, 'squares': [[*square, 0, 0, 0, 0] for square in squares],
+                    'counts': {'planes': {'most': most, 'over': sum(square[3] > 128 for square in squares)}}}
+        old = state((0, 0, 64, 140), (64, 0, 64, 130), (128, 0, 64, 90), (48, 16, 32, 150))
+        for squares, verdict, changes in [
+                ([(0, 0, 64, 150), (64, 0, 64, 130), (128, 0, 64, 90)], 'worse', [(0, 0, 140, 150)]),
+                ([(0, 0, 64, 140), (64, 0, 64, 130), (48, 16, 32, 150), (16, 16, 32, 160)], 'more', []),
+                ([(0, 0, 64, 140), (128, 0, 64, 90)], 'better', [(64, 0, 130, None)]),
+                ([(0, 0, 64, 140), (64, 0, 64, 130), (192, 0, 64, 129)], 'worse', [(192, 0, None, 129)]),
+                ([(0, 0, 64, 140), (64, 0, 64, 130), (128, 0, 64, 128)], 'fewer', []),
+                ([(0, 0, 64, 120), (64, 0, 64, 131)], 'worse', [(0, 0, 140, 120), (64, 0, 130, 131)])]:
+            found = earlier.compared({'states': [old]}, {'states': [state(*squares)]}, counting.LIMITS)
+            self.assertEqual([tuple(change[2:]) for change in found.changes], changes, squares)
+            self.assertEqual((found.lines[0].split(',')[0], found.is_worse), (verdict, verdict == 'worse'), squares)
 
     def test_same_grid(self):
         """A run beside an earlier one looks from its places, though the map grew, in its directions."""
