@@ -177,12 +177,16 @@ class Grid:
         """Takes the counts of the views from a place."""
         ranges = ((direction, {'solids': count}) for direction, count in look.ranges.items())
         for direction, counts in itertools.chain(sorted(look.counts.items()), ranges):
-            for name, count in counts.items():
-                if count > self.limits[name]:
-                    self.over[name] += 1
-                if count > look.cell.most.get(name, NONE)[0]:
-                    look.cell.most[name] = count, direction
+            self.take_counts(look.cell, direction, counts)
         look.cell.likely = look.likely(self.directions)
+
+    def take_counts(self, cell, direction, counts):
+        """Takes the counts of a view from a cell."""
+        for name, count in counts.items():
+            if count > self.limits[name]:
+                self.over[name] += 1
+            if count > cell.most.get(name, NONE)[0]:
+                cell.most[name] = count, direction
 
     def worst(self, name: str, most: int) -> list[tuple[int, Row]]:
         """The views of the greatest counts, no two near each other: pairs of the count and its row."""

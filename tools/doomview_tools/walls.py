@@ -3,6 +3,7 @@
 The original takes a wall for solid that has no sector behind it, or one that is shut (R_AddLine). What is seen through a
 line of two sides takes no solid range, and nothing at all where both sides are alike, without a middle texture. So all
 sectors of the map are alike, and a seg of a line that is shut gets a copy of it with one side. Segs keep their numbers."""
+import itertools
 import struct
 
 from .ground import SECTOR, TWO_SIDED
@@ -43,10 +44,10 @@ def walls_alone(level) -> bytes:
     lines += [with_value(lines[line], FLAGS, lines[line][FLAGS] & ~TWO_SIDED) for line in copies]
     flat = level.sectors[0].floor_flat.encode('latin-1')
     alike = SECTOR.pack(FLOOR, CEILING, flat, flat, LIGHT, 0, 0) * len(level.sectors)
-    lumps = {**level.lumps, 'SECTORS': alike, 'THINGS': level.lumps['THINGS'][:THING_SIZE]}
     bare = [(*side[:2], NO_TEXTURE, NO_TEXTURE, NO_TEXTURE, side[-1]) for side in sides]
-    for (name, layout), records in zip(LAYOUTS.items(), (lines, segs, bare)):
-        lumps[name] = b''.join(layout.pack(*record) for record in records)
+    changed = {name: b''.join(itertools.starmap(layout.pack, records))
+               for (name, layout), records in zip(LAYOUTS.items(), (lines, segs, bare))}
+    lumps = {**level.lumps, **changed, 'SECTORS': alike, 'THINGS': level.lumps['THINGS'][:THING_SIZE]}
     return packed([(level.name, b'')] + [(name, lumps[name]) for name in MAP_LUMPS], b'PWAD')
 
 

@@ -189,9 +189,8 @@ class Ways:
     def by_square(self, goals):
         """Lines, each with the sector behind it, by the squares of the map that their boxes lie over."""
         found = collections.defaultdict(list)
-        for line, other in goals:
-            for square in squares_near(self.boxes[line], 0):
-                found[square].append((line, other))
+        for goal, square in ((goal, square) for goal in goals for square in squares_near(self.boxes[goal[0]], 0)):
+            found[square].append(goal)
         return found
 
     def edges(self, found):
