@@ -19,7 +19,8 @@ page may give its places other fields. show() adds isCut: whether smaller places
     isOver     a function of a count: whether it is over the limit
     dots       [{ x, y, text, isChosen }]: numbered views
     rings      [[x, y]]: small circles
-    marks      [{ x, y, letter, colour }]: small diamonds with a letter, over the places
+    marks      [{ x, y, letter, colour, corners }]: small diamonds with a letter, over the places; with corners, pairs of
+               x and y around the middle, another shape, such as MapDisplay.UP or DOWN, smaller from afar
     eye        { x, y, angle } or null: a cone of 90 degrees; angle is in degrees, counterclockwise from east
     cursor     a place or null: it gets a frame
   display.fit()               takes the size of its canvas anew, as after a change of the window, and draws
@@ -43,6 +44,8 @@ class MapDisplay {
   static STOPS = [[226, 235, 243], [196, 217, 236], [150, 187, 220], [222, 126, 40], [140, 52, 0]];
 
   static CORE = '#f9f';
+
+  static UP = [[0, -6], [6, 5], [-6, 5]]; static DOWN = [[0, 6], [-6, -5], [6, -5]]; static DIAMOND = [[0, -8], [8, 0], [0, 8], [-8, 0]];
 
   constructor(canvas, { vertexes, lines, point, pick, choose = () => {} }) {
     Object.assign(this, { canvas, vertexes, lines, point, pick, choose });
@@ -158,10 +161,10 @@ class MapDisplay {
     const middle = this.at(x, y);
     this.circle(...middle, 9, isChosen ? '#06c' : '#fff'); this.label(text, ...middle, isChosen ? '#fff' : '#000');
   }
-  drawMark({ x, y, letter, colour }) {
-    const [px, py] = this.at(x, y), pen = this.pen;
-    pen.fillStyle = colour; pen.strokeStyle = '#fff'; pen.lineWidth = 1; pen.beginPath();
-    [[0, -8], [8, 0], [0, 8], [-8, 0]].forEach(([dx, dy]) => pen.lineTo(px + dx, py + dy));
+  drawMark({ x, y, letter, colour, corners }) {
+    const [px, py] = this.at(x, y), pen = this.pen, size = corners ? Math.min(1, Math.max(.5, 3 * this.scale)) : 1;
+    pen.fillStyle = colour; pen.strokeStyle = '#fff'; pen.lineWidth = size; pen.beginPath();
+    (corners || MapDisplay.DIAMOND).forEach(([dx, dy]) => pen.lineTo(px + dx * size, py + dy * size));
     pen.closePath(); pen.fill(); pen.stroke(); this.label(letter, px, py, '#fff');
   }
   marksNear(px, py) {
