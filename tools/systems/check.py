@@ -37,8 +37,8 @@ return read.every(count => count === files.length); })()'''
 # In a worker of the page: runs words over the files of the cases.
 RUN = ''';let program; const given = new Map();
 onmessage = async ({ data }) => {
-  if (data.module) { program = data.module; data.given.forEach(([name, bytes]) => given.set(name, new MemorySource(bytes))); return postMessage(given.size); }
-  const done = runWhole(program, data, { get: name => given.get(name.replace(/^\\.\\//, '')) });
+  if (data.module) { program = new Program(data.module); data.given.forEach(([name, bytes]) => given.set(name, new MemorySource(bytes))); return postMessage(given.size); }
+  const done = program.runWhole(data, { get: name => given.get(name.replace(/^\\.\\//, '')) });
   const sum = new Uint8Array(await crypto.subtle.digest('SHA-256', done.output));
   postMessage([done.status, done.line, done.output.length, [...sum].map(byte => byte.toString(16).padStart(2, '0')).join('')]);
 };'''

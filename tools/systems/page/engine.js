@@ -3,7 +3,7 @@ page never freezes. A message is { id, name, words }: the answer is { id, value 
 counted the worker asks the page what is found at places, { id, places }, which the page has its other workers find. */
 const { RAISED, STATUS_LIMIT, WORST_VIEWS, ZONE } = FACTS;
 const PATH = 'path.csv', TRIMMED = 'level.wad', OPENED = 'open.wad';
-const state = { module: null, base: new Map(), files: [], wads: [], open: null, map: '', words: [], asked: new Map(), questions: 0 };
+const state = { program: null, base: new Map(), files: [], wads: [], open: null, map: '', words: [], asked: new Map(), questions: 0 };
 
 const bytesOfText = words => new TextEncoder().encode(words);
 const rowText = rows => `x,y,z,angle\n${rows.map(row => `${row.join(',')}\n`).join('')}`;
@@ -13,7 +13,7 @@ function stream(name, path, more, out, wads = state.wads) {
   const files = new Map([...state.base, ...wads.map(wad => [wad.name, wad.source]), [PATH, new MemorySource(bytesOfText(path))]]);
   const words = [name, state.map, ...wads.map(wad => wad.name), '--tables', 'tables.bin', '--things', 'things.csv', '--path', PATH];
   try {
-    return runProgram(state.module, [...words, ...more], files, out);
+    return state.program.run([...words, ...more], files, out);
   } catch (error) { // of the browser's engine
     const why = error instanceof RangeError ? 'the browser gave no more memory' : 'the program failed in this browser';
     throw new Wrong(`${why} (${error.message}); close other pages, and try again`);
@@ -55,7 +55,7 @@ function gameBehind(files) {
 
 const calls = {
   setUp({ module, tables, things }) {
-    state.module = module;
+    state.program = new Program(module);
     state.base = new Map([['tables.bin', new MemorySource(tables)], ['things.csv', new MemorySource(things)]]);
   },
   // Takes files in their order: what each is, and the maps in them.
