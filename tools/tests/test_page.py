@@ -427,6 +427,7 @@ class Looks(Shown):
         touch('touchMove', (140, 150))
         touch('touchEnd')
         self.assertAlmostEqual(self.value('display.from(100, 150)[0]'), after[0][0], delta=8)
+        self.value('display.whole(); 0')
         x, y = self.value('display.at(480, 300)')
         touch('touchStart', (x, y))
         touch('touchEnd')

@@ -104,7 +104,7 @@ class Host {
       port_read: long((number, to, count) => this.read(number, to, count)),
       port_lseek: long((number, offset, way) => this.seek(number, offset, way)),
       port_statx: (number, path, flags, mask, found) => this.describe(number, found),
-      port_write: long((number, from, count) => this.write(number, from, count)),
+      host_write: long((number, from, count) => this.write(number, from, count)),
       port___write: long((number, from, count) => this.write(number, from, count)),
       port_rattle_arg_count: long(() => this.words.length), port_rattle_arg: long((...words) => this.word(...words)),
       port_rattle_env: long(() => -1), port_rattle_env_at: long(() => -1),
