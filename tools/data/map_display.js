@@ -43,6 +43,7 @@ class MapDisplay {
   static STOPS = [[226, 235, 243], [196, 217, 236], [150, 187, 220], [222, 126, 40], [140, 52, 0]];
 
   static CORE = '#f9f';
+  static OVER = ['dots', 'rings', 'marks', 'eye', 'cursor']; // parts that are drawn over places and lines
 
   constructor(canvas, { vertexes, lines, point, pick, choose = () => {} }) {
     Object.assign(this, { canvas, vertexes, lines, point, pick, choose });
@@ -78,7 +79,7 @@ class MapDisplay {
   /* What is shown, and how near. */
   show(parts) {
     if (parts.places) { MapDisplay.order(parts.places); this.shown.cursor = null; }
-    Object.assign(this.shown, parts); this.draw();
+    Object.assign(this.shown, parts); this.draw(Object.keys(parts).every(part => MapDisplay.OVER.includes(part)));
   }
   // Puts places into the order in which they are drawn: those that were cut behind the others.
   static order(places) {
@@ -114,16 +115,25 @@ class MapDisplay {
   }
 
   /* Drawing. */
-  draw() {
-    const { places, rings, marks, cursor, eye, dots } = this.shown, pen = this.pen;
+  draw(isBelowSame = false) {
+    const { rings, marks, cursor, eye, dots } = this.shown, pen = this.pen;
+    if (!isBelowSame || !this.below) this.drawBelow();
     pen.clearRect(0, 0, this.width, this.height);
-    places.forEach(place => this.drawPlace(place));
-    this.drawLines();
+    pen.drawImage(this.below, 0, 0, this.width, this.height);
     rings.forEach(([x, y]) => this.circle(...this.at(x, y), 2.2, '#fff'));
     marks.forEach(mark => this.drawMark(mark));
     if (cursor) { const [x, y, size] = this.square(cursor); pen.strokeStyle = '#06c'; pen.lineWidth = 3; pen.strokeRect(x, y, size, size); }
     if (eye) this.cone(eye);
     dots.filter(dot => !dot.isChosen).concat(dots.filter(dot => dot.isChosen)).forEach(dot => this.drawDot(dot));
+  }
+  // Draws places and lines on a canvas of their own, which is kept while what is over them moves.
+  drawBelow() {
+    const canvas = this.below ??= document.createElement('canvas'), { pen } = this;
+    canvas.width = this.canvas.width; canvas.height = this.canvas.height;
+    this.pen = canvas.getContext('2d'); this.pen.setTransform(pen.getTransform());
+    this.shown.places.forEach(place => this.drawPlace(place));
+    this.drawLines();
+    this.pen = pen;
   }
   // A place that was cut is small in the middle of its quarters, over them, and hides the middle of none.
   static drawnSize(place) { return place.size / (place.isCut ? 5 : 1); }

@@ -48,17 +48,18 @@ const walker = new Walker(async place => {
   const words = { ...place, spans: spans() }, [view, counts] = await Promise.all([crew.some('frame', words), crew.some('countsAt', words)]);
   return view && { ...view, counts };
 }, shown, sentence => say(sentence));
+const counts = new CountTable(find('counts'));
 let drawn = 0;
 function shown(view, place) {
   drawFrame(find('picture'), view.frame, level.palette); drawn++;
-  showCounts(find('counts'), view.counts);
+  counts.show(view.counts);
   find('row').textContent = view.row.join(','); find('copied').textContent = '';
   draw();
 }
 // The parts of the map that change with the view.
 function draw() {
   const { view } = walker;
-  display.show({ eye: view && { x: view.row[0] / UNIT, y: view.row[1] / UNIT, angle: degrees(view.row[3]) }, ...whole.now() ? whole.parts(view) : {} });
+  display.show({ eye: view && { x: view.row[0] / UNIT, y: view.row[1] / UNIT, angle: degrees(view.row[3]) }, dots: whole.dots(view) });
 }
 // A click: the eye stands there, or with Shift looks there.
 function stand(x, y, event) {
@@ -112,7 +113,7 @@ function showWhole() {
   if (!display) return;
   const has = Boolean(whole.found), now = whole.now();
   find('found').hidden = find('numbers').hidden = !has; find('scale').hidden = !now;
-  display.show({ places: now ? now.places : [], dots: [], ...now ? whole.parts(walker.view) : {} });
+  display.show({ places: now ? now.places : [], dots: whole.dots(walker.view), ...whole.parts() });
   find('meaning').textContent = now ? `0 to ${withCommas(LIMITS[whole.name])} ${whole.name}; black, close up with a cross: over the limit, ` +
     'with a light core up to four times the limit; / no way leads there' : '';
   tell(null);

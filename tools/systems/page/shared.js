@@ -2,7 +2,7 @@
 const { UNIT, TURN, EYE_HEIGHT, COUNTS, LIMITS, WIDTH, FRAME_HEIGHT } = FACTS;
 class Wrong extends Error {} // a sentence for the user
 const isOver = (name, count) => count > LIMITS[name];
-const withCommas = number => number.toLocaleString('en');
+const COMMAS = new Intl.NumberFormat('en'), withCommas = number => COMMAS.format(number);
 /* What is handed from worker to worker while a map is counted are numbers. Of a place PLACE: x, y, its floor, the side of its
 square, its sector, whether a way leads there, and whether its views are listed at once. Of what is found there FOUND: a count
 and its direction for each of COUNTS. */

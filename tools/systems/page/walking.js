@@ -75,15 +75,21 @@ function drawFrame(canvas, frame, palette) {
   for (let i = 0; i < frame.length; i++) pixels.setUint32(4 * i, colours[frame[i]]);
   pen.putImageData(image, 0, 0);
 }
-// Writes the counts of a view beside their limits, in a table with a row for each.
-function showCounts(table, counts) {
-  table.replaceChildren(...COUNTS.map(name => {
-    const row = document.createElement('tr'), count = counts[name], over = count !== undefined && isOver(name, count);
-    add(row, 'th', name);
-    add(row, 'td', count === undefined ? '-' : withCommas(count), { className: over ? 'over' : '' });
-    add(row, 'td', `of ${withCommas(LIMITS[name])}${over ? ', OVER' : ''}`);
-    const bar = add(add(row, 'td', ''), 'meter', '', { max: LIMITS[name], value: count || 0, high: LIMITS[name] * .9 });
-    bar.ariaLabel = `${name} of their limit`;
-    return row;
-  }));
+// The counts of a view beside their limits, in a table with a row for each.
+class CountTable {
+  constructor(table) {
+    this.rows = COUNTS.map(name => {
+      const row = add(table, 'tr', ''), cells = [add(row, 'th', name), add(row, 'td', ''), add(row, 'td', '')];
+      const bar = add(add(row, 'td', ''), 'meter', '', { max: LIMITS[name], high: LIMITS[name] * .9 });
+      bar.ariaLabel = `${name} of their limit`;
+      return { name, cells, bar };
+    });
+  }
+  show(counts) {
+    for (const { name, cells, bar } of this.rows) {
+      const count = counts[name], over = count !== undefined && isOver(name, count);
+      cells[1].textContent = count === undefined ? '-' : withCommas(count); cells[1].className = over ? 'over' : '';
+      cells[2].textContent = `of ${withCommas(LIMITS[name])}${over ? ', OVER' : ''}`; bar.value = count || 0;
+    }
+  }
 }

@@ -22,11 +22,11 @@ class WholeMap {
   row(place) {
     return [place.x * UNIT, place.y * UNIT, (place.floor + EYE_HEIGHT) * UNIT, Math.floor(TURN * place.most[this.count][1] / this.now().directions)];
   }
-  // What the display shows of it: squares, and the worst views as dots.
-  parts(view) {
-    const worst = this.worst(), key = view ? view.row.join() : '';
-    return { numberOf: place => this.number(place), limit: LIMITS[this.name], isOver: n => isOver(this.name, n),
-      dots: worst.map(([, row], i) => ({ x: row[0] / UNIT, y: row[1] / UNIT, text: i + 1, isChosen: row.join() === key })) };
+  // What the display shows of it: squares by their counts, and the worst views as dots.
+  parts() { return { numberOf: place => this.number(place), limit: LIMITS[this.name], isOver: n => isOver(this.name, n) }; }
+  dots(view) {
+    const key = view ? view.row.join() : '';
+    return this.worst().map(([, row], i) => ({ x: row[0] / UNIT, y: row[1] / UNIT, text: i + 1, isChosen: row.join() === key }));
   }
   step(by) {
     const worst = this.worst();
