@@ -22,6 +22,8 @@ def first_line(said):
 
 @unittest.skipUnless(EXE and TESTED and check.wine(), 'there is no doomview.exe, no program or no Wine')
 class Exe(unittest.TestCase):
+    """A folder, and Wine with a folder of its own."""
+
     @classmethod
     def setUpClass(cls):
         cls.folder = tempfile.mkdtemp()
@@ -48,6 +50,8 @@ class Exe(unittest.TestCase):
         with open(self.at(name), 'w', encoding='utf-8') as file:
             file.write(paths.text(rows))
 
+
+class Starts(Exe):
     @unittest.skipUnless(GAMES, 'Freedoom is not installed')
     def test_starts(self):
         """Frame and counts from the start of each map of Freedoom."""
@@ -58,6 +62,8 @@ class Exe(unittest.TestCase):
                     words = [job, name, wad, '--path', 'path.csv', *RAISED]
                     self.assertEqual(self.exe(*words), self.command(*words), words)
 
+
+class Jobs(Exe):
     def test_jobs(self):
         """Each job over a level takes the tables that are built in, and those that are named."""
         self.command('room', '-o', 'room.wad')

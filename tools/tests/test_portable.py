@@ -152,6 +152,17 @@ class Kit(Tools):
         self.assertEqual(os.listdir(self.at('kit/toolchain/bin')), ['clang'])
         self.assertEqual(os.listdir(self.at('top/crates/doomview/out')), ['doomview.o'])
 
+    def test_stored(self):
+        """The module is kept, and made anew for another object file alone."""
+        self.rattle()
+        self.assertEqual(module.kept(), b'module\n')
+        self.rattle('other.bc')
+        self.assertEqual(module.kept(), b'module\n')
+        self.write('top/crates/doomview/out/doomview.o', b'other\n')
+        self.refused('rattle build')
+        self.assertEqual(module.stored('module', [b'other'], lambda: b'made'), b'made')
+        self.assertEqual(len(os.listdir(self.at('top/out/previews'))), 1)
+
     def test_unknown_kit(self):
         self.rattle('other.bc')
         self.refused('rattle build')
