@@ -5,9 +5,10 @@ import shutil
 import subprocess
 import tempfile
 import unittest
+from unittest import mock
 
 from made_files import COMMAND
-from doomview_tools import levels, paths, wads
+from doomview_tools import levels, paths, program, wads
 from systems import check
 
 EXE, TESTED = os.environ.get('DOOMVIEW_EXE', ''), os.environ.get('DOOMVIEW_TESTED', '')
@@ -59,8 +60,10 @@ class Starts(Exe):
             for name in wads.maps_of([wad]):
                 self.write('path.csv', paths.turn(levels.read([wad], name), 1))
                 for job in ('render', 'limits'):
-                    words = [job, name, wad, '--path', 'path.csv', *RAISED]
-                    self.assertEqual(self.exe(*words), self.command(*words), words)
+                    words = [job, name, wad, '--path', self.at('path.csv'), *RAISED]
+                    with mock.patch.dict(os.environ, DOOMVIEW=TESTED):
+                        done = program.run(words)
+                    self.assertEqual(self.exe(*words), (0, done.output, done.line), words)
 
 
 class Jobs(Exe):

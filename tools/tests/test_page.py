@@ -13,10 +13,11 @@ import shutil
 import subprocess
 import tempfile
 import unittest
+from unittest import mock
 
 import pages_shown
 from made_files import COMMAND, TOP
-from doomview_tools import counting, explanations, levels, list_counts, lists, paths, png, traces, wads
+from doomview_tools import counting, explanations, levels, list_counts, lists, paths, png, program, traces, wads
 from systems import check, chromium
 
 PAGE, TESTED = os.environ.get('DOOMVIEW_PAGE', ''), os.environ.get('DOOMVIEW_TESTED', '')
@@ -101,7 +102,10 @@ class Shown(unittest.TestCase):
         path = self.at('path.csv')
         with open(path, 'w', encoding='utf-8') as file:
             file.write(paths.text(rows))
-        return run(job, name, *([wad] if isinstance(wad, str) else wad), '--path', path, *more)
+        with mock.patch.dict(os.environ, DOOMVIEW=TESTED):
+            done = program.run([job, name, *([wad] if isinstance(wad, str) else wad), '--path', path, *more])
+        self.assertEqual((done.status, done.line), (0, ''))
+        return done.output
 
 
 class Starts(Shown):
