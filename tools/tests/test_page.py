@@ -190,6 +190,9 @@ class Views(Shown):
         box = self.value("(({ left, top, width, height }) => [left, top, width, height])(find('picture').getBoundingClientRect())")
         self.browser.mouse('mouseMoved', box[0] + box[2] / 2, box[1] + box[3] / 2)
         self.browser.wait("find('pixel').textContent.startsWith('column 160 row 100: ')")
+        before = self.value("find('pixel').textContent")
+        self.go((30 << 22, 13 << 20, 41 << 16, 1 << 31))
+        self.browser.wait(f"find('pixel').textContent.startsWith('column 160 row 100: ') && find('pixel').textContent !== {before!r}")
 
     def test_compare(self):
         """The comparison with a port's frames is that of `compare --html`."""

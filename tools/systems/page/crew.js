@@ -1,14 +1,14 @@
 /* The workers of the page. The first holds the files and a whole count; the others draw and count views side by side.
 
   crew.first(name, words)     what the first worker answers, in time; a Wrong is a sentence for the user
-  crew.some(name, words)      the same of that of the others which has least to do
+  crew.some(name, words)      the same of that of the others which has least to do, or of the first while these count
   crew.all(name, words)       of all others
   crew.wholeMap(words, say)   a whole count by all of them; `say` takes how many views are done and how many there are so far, and
                               what was found last: { places, most, directions, isOpen }
   crew.stop()                 ends a whole count */
 class Crew {
   static LEAST = 400; // views of a part, since a run takes some time to begin
-  static MOST = 3000; // so that progress shows and a view is not kept waiting
+  static MOST = 2000; // so that progress shows, and a stop is soon heard
   static DEAR = 5; // how much longer a view takes that is listed at once
 
   constructor(script, count) {
@@ -40,7 +40,10 @@ class Crew {
     worker.load = 0;
   }
   first(name, words) { return this.call(this.workers[0], name, words); }
-  some(name, words) { return this.call(this.workers.slice(1).reduce((a, b) => b.load < a.load ? b : a), name, words); }
+  some(name, words) {
+    const free = this.counting ? this.workers.slice(0, 1) : this.workers.slice(1);
+    return this.call(free.reduce((a, b) => b.load < a.load ? b : a), name, words);
+  }
   all(name, words) { return Promise.all(this.workers.slice(1).map(worker => this.call(worker, name, words))); }
 
   async wholeMap(words, say) {

@@ -52,7 +52,7 @@ const counts = new CountTable(find('counts'));
 let drawn = 0;
 function shown(view, place) {
   drawFrame(find('picture'), view.frame, level.palette); drawn++;
-  counts.show(view.counts);
+  counts.show(view.counts); askAgain();
   find('row').textContent = view.row.join(','); find('copied').textContent = '';
   draw();
 }
@@ -71,7 +71,12 @@ function look(place) { if (place && whole.found) walker.go(whole.row(place), who
 function tell(place) { find('told').textContent = place && whole.now() ? whole.told(place) : ''; }
 
 /* The pixel under the pointer. */
-let pointed = null, isAsking = false;
+const STILL = 150; // milliseconds after which what is under the pointer is told anew for another view
+let pointed = null, pointer = null, isAsking = false, waiting = 0;
+function askAgain() {
+  clearTimeout(waiting);
+  if (pointer) waiting = setTimeout(() => { pointed = pointer; askPixel(); }, STILL);
+}
 async function askPixel() {
   if (isAsking || !pointed || !walker.view) return;
   const [x, y] = pointed, { row } = walker.view;
@@ -83,7 +88,7 @@ async function askPixel() {
 }
 function point(event) {
   const box = find('picture').getBoundingClientRect(), share = (at, size, most) => Math.max(0, Math.min(most - 1, Math.floor(at * most / size)));
-  pointed = [share(event.clientX - box.left, box.width, WIDTH), share(event.clientY - box.top, box.height, FRAME_HEIGHT)]; askPixel();
+  pointed = pointer = [share(event.clientX - box.left, box.width, WIDTH), share(event.clientY - box.top, box.height, FRAME_HEIGHT)]; askPixel();
 }
 
 /* The whole map. */
