@@ -76,6 +76,7 @@ class Crew {
         const from = next, part = places.slice(PLACE * from, PLACE * (from + this.size(places, from, each)));
         next += part.length / PLACE;
         const found = await this.call(worker, 'look', { places: part, directions, every, isOpen });
+        if (counting.isStopped) throw new Wrong('stopped');
         most.set(found.most, FOUND * from); found.over.forEach((views, i) => { over[i] += views; });
         counting.done += part.length / PLACE * each;
         counting.say(counting.done, counting.known, { places: part, most: found.most, directions, isOpen });
