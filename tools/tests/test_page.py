@@ -35,6 +35,9 @@ NO_WADS = (401, 402, 403)  # refusals of a file that is no whole WAD, which the 
 SAID, READY = "find('said').textContent", "document.body.dataset.ready === 'yes'"
 BASE64 = '''(bytes => { let s = ''; for (let i = 0; i < bytes.length; i += 4096) s += String.fromCharCode(...bytes.subarray(i, i + 4096));
 return btoa(s); })'''
+# Drops a path, and as its frames the view that is shown.
+DROP = '''(() => { const dataTransfer = new DataTransfer(); dataTransfer.items.add(new File([%s], 'own.csv'));
+dataTransfer.items.add(new File([walker.view.frame], 'own.bin')); dispatchEvent(new DragEvent('drop', { dataTransfer })); })()'''
 KEYS = {'ArrowUp': 38, 'ArrowLeft': 37, 'ArrowRight': 39, 'ArrowDown': 40}
 
 
@@ -240,6 +243,8 @@ class Views(Shown):
         self.browser.choose('#portFrames', [self.at(name) for name in names])
         self.value("find('compare').click(); 0")
         self.browser.wait("find('compared').textContent.startsWith('shot7.png: the colour 1,2,3 at row 0 column 0 is in no entry')")
+        self.value(DROP % json.dumps(paths.text([paths.Row(*self.value('walker.view.row'))])))
+        self.browser.wait("find('compared').textContent === 'doomview and own.bin: views 1 same 1 different 0 pixels 0'")
 
     def test_open(self):
         """The picture of a worst view with the doors open is that of the map with its doors open."""

@@ -158,6 +158,19 @@ async function compare() {
   } catch (error) { find('compared').textContent = error.message; }
 }
 let compared = '';
+// Files that are dropped: a path and a port's frames are compared, all else are WADs.
+function dropped(files) {
+  const all = [...files], paths = all.filter(file => /\.csv$/i.test(file.name)), frames = all.filter(file => /\.(bin|png)$/i.test(file.name));
+  const rest = all.filter(file => !paths.includes(file) && !frames.includes(file));
+  for (const [id, some] of [['portPath', paths], ['portFrames', frames]]) {
+    const data = new DataTransfer();
+    some.forEach(file => data.items.add(file));
+    if (some.length) find(id).files = data.files;
+  }
+  if (rest.length) list.take(rest);
+  else if (!level) say('Drop a WAD first: a path and frames are compared with what doomview draws of its map.');
+  else if (find('portPath').files.length && find('portFrames').files.length) compare();
+}
 
 /* What is saved. */
 const pathText = rows => `x,y,z,angle\n${rows.map(row => `${row.join(',')}\n`).join('')}`;
@@ -200,7 +213,7 @@ function listen() {
   });
   for (const kind of ['dragover', 'dragleave', 'drop']) addEventListener(kind, event => {
     event.preventDefault(); find('drop').classList.toggle('over', kind === 'dragover');
-    if (kind === 'drop') list.take(event.dataTransfer.files);
+    if (kind === 'drop') dropped(event.dataTransfer.files);
   });
 }
 // Whether this engine has memories of 64 bits: a module with one alone.
