@@ -11,10 +11,10 @@ import tempfile
 import time
 from typing import Iterator, NamedTuple
 
-from doomview_tools import home, program
+from doomview_tools import home
 from doomview_tools.trouble import Trouble
 
-from . import chromium
+from . import chromium, kit
 
 GOLDEN = os.path.join(home.TOP, 'tests', 'golden')
 WINE = ('wine', 'wine64')
@@ -60,6 +60,14 @@ def golden():
     found = importlib.util.module_from_spec(importlib.util.spec_from_loader('golden_run', loader))
     loader.exec_module(found)
     return found
+
+
+def native() -> str:
+    """The path of the program that was linked of the object file of which the previews are made."""
+    path = os.path.splitext(kit.object_file())[0]
+    if not os.access(path, os.X_OK):
+        raise Trouble(f'there is no program {path}; build it first, by ./doomview --build')
+    return path
 
 
 def is_text(case) -> bool:
@@ -118,7 +126,7 @@ def under_wine(plain: bytes, jobs: int) -> Result:
     run, cases = golden(), golden_cases()
     tried = [case for case in cases if is_text(case)]
     with Wine() as there, tempfile.TemporaryDirectory(prefix='golden-') as folder:
-        run.put_files(program.path(), folder, tried)
+        run.put_files(native(), folder, tried)
         runner = run.Runner(there.command(plain), folder)
         with run.concurrent.futures.ThreadPoolExecutor(jobs) as pool:
             outcomes = dict(zip(tried, pool.map(runner.run, tried)))
@@ -144,7 +152,7 @@ def in_chromium(page: str) -> Result:
     tried = [case for case in cases if case.how in ('', *ZONES) and is_text(case) and NO_FILES not in case.words]
     outcomes = {}
     with tempfile.TemporaryDirectory(prefix='golden-') as folder, chromium.Chromium() as browser:
-        run.put_files(program.path(), folder, tried)
+        run.put_files(native(), folder, tried)
         files = [os.path.join(folder, name) for name in os.listdir(folder) if os.path.isfile(os.path.join(folder, name))]
         browser.show(page)
         browser.wait("document.body.dataset.ready === 'yes'")
@@ -166,7 +174,7 @@ def status_of_tests(test: str, part: str, path: str) -> int:
     """How a part of the tests of what is made ends; they find it by a variable. What they say is shown at their end."""
     variable = {'test_exe': 'DOOMVIEW_EXE', 'test_page': 'DOOMVIEW_PAGE'}[test]
     words = [sys.executable, '-B', '-m', 'unittest', 'discover', '-s', os.path.join(home.TOOLS, 'tests'), '-p', f'{test}.py', '-k', part]
-    done = subprocess.run(words, env={**os.environ, variable: path, 'DOOMVIEW_TESTED': program.path()}, stdin=subprocess.DEVNULL,
+    done = subprocess.run(words, env={**os.environ, variable: path, 'DOOMVIEW_TESTED': native()}, stdin=subprocess.DEVNULL,
                           stdout=subprocess.PIPE, stderr=subprocess.STDOUT, errors='replace')
     say(f'{test}, {part}: {done.stdout.rstrip()}')
     if done.returncode:
