@@ -25,6 +25,7 @@ WRITTEN = {
     'trimmed-made10.wad': 'trim MAP01 made10.wad --tables angles.bin --things things.csv --path path10.csv',
     'trimmed-court.wad': f'trim MAP01 art.wad court.wad {COURT_FILES}',
     'trimmed-armed.wad': f'trim MAP01 art.wad court.wad {COURT_FILES} --weapon court-weapons.csv',
+    'trimmed-chance.wad': 'trim MAP01 art.wad chance8.wad --tables angles.bin --things kinds.csv --path chance8.csv',
     'trimmed-several.wad': f'trim MAP01 {SEVERAL_WADS} --tables angles.bin --things things.csv --path path2.csv',
 }
 NUMBERED_WRITTEN = {'made.wad': 'make wad', 'path.csv': 'make path'}

@@ -1,5 +1,5 @@
 /* The display of a map on a canvas: its lines, places as squares that are darker for greater counts, numbered dots, and
-the picking of a place by mouse and keys. It needs nothing but the canvas; a page gives it all that it shows.
+the picking of a place by mouse, keys and fingers. It needs nothing but the canvas; a page gives it all that it shows.
 
   const display = new MapDisplay(canvas, { vertexes, lines, point, pick });
 
@@ -19,7 +19,8 @@ page may give its places other fields. show() adds isCut: whether smaller places
     isOver     a function of a count: whether it is over the limit
     dots       [{ x, y, text, isChosen }]: numbered views
     rings      [[x, y]]: small circles
-    marks      [{ x, y, letter, colour }]: small diamonds with a letter, over the places
+    marks      [{ x, y, letter, colour, corners }]: small diamonds with a letter, over the places; with corners, pairs of
+               x and y around the middle, another shape, such as MapDisplay.UP or DOWN, smaller from afar
     eye        { x, y, angle } or null: a cone of 90 degrees; angle is in degrees, counterclockwise from east
     cursor     a place or null: it gets a frame
   display.fit()               takes the size of its canvas anew, as after a change of the window, and draws
@@ -38,17 +39,20 @@ page may give its places other fields. show() adds isCut: whether smaller places
   MapDisplay.drawScale(canvas)  fills a canvas with the shades from 0 to the limit, and then cores up to four times it */
 class MapDisplay {
   static KEYS = 'arrows walk from place to place · <kbd>Enter</kbd> picture there · <kbd>+</kbd> <kbd>-</kbd> <kbd>0</kbd> ' +
-    'zoom (wheel, drag)';
+    'zoom (wheel, drag, two fingers)';
   // Lighter to darker throughout, so that it reads in black and white too; the lightest is darker than white.
   static STOPS = [[226, 235, 243], [196, 217, 236], [150, 187, 220], [222, 126, 40], [140, 52, 0]];
 
   static CORE = '#f9f';
+  static OVER = ['dots', 'rings', 'marks', 'eye', 'cursor']; // parts that are drawn over places and lines
+
+  static UP = [[0, -6], [6, 5], [-6, 5]]; static DOWN = [[0, 6], [-6, -5], [6, -5]]; static DIAMOND = [[0, -8], [8, 0], [0, 8], [-8, 0]];
 
   constructor(canvas, { vertexes, lines, point, pick, choose = () => {} }) {
     Object.assign(this, { canvas, vertexes, lines, point, pick, choose });
     this.pen = canvas.getContext('2d');
     this.shown = { places: [], numberOf: () => 0, limit: 1, isOver: () => false, dots: [], rings: [], marks: [], eye: null, cursor: null };
-    this.scale = 1; this.centre = [0, 0]; this.drag = null;
+    this.scale = 1; this.centre = [0, 0]; this.drag = null; this.fingers = new Map(); // pointers that are down, where they are
     const corners = lines.flatMap(line => [vertexes[line[0]], vertexes[line[1]]]);
     this.box = [0, 1].map(k => [Math.min, Math.max].map(least => corners.reduce((a, v) => least(a, v[k]), corners[0][k])));
     this.sizes = this.box.map(([low, high]) => high - low + 64);
@@ -78,7 +82,7 @@ class MapDisplay {
   /* What is shown, and how near. */
   show(parts) {
     if (parts.places) { MapDisplay.order(parts.places); this.shown.cursor = null; }
-    Object.assign(this.shown, parts); this.draw();
+    Object.assign(this.shown, parts); this.draw(Object.keys(parts).every(part => MapDisplay.OVER.includes(part)));
   }
   // Puts places into the order in which they are drawn: those that were cut behind the others.
   static order(places) {
@@ -114,16 +118,25 @@ class MapDisplay {
   }
 
   /* Drawing. */
-  draw() {
-    const { places, rings, marks, cursor, eye, dots } = this.shown, pen = this.pen;
+  draw(isBelowSame = false) {
+    const { rings, marks, cursor, eye, dots } = this.shown, pen = this.pen;
+    if (!isBelowSame || !this.below) this.drawBelow();
     pen.clearRect(0, 0, this.width, this.height);
-    places.forEach(place => this.drawPlace(place));
-    this.drawLines();
+    pen.drawImage(this.below, 0, 0, this.width, this.height);
     rings.forEach(([x, y]) => this.circle(...this.at(x, y), 2.2, '#fff'));
     marks.forEach(mark => this.drawMark(mark));
     if (cursor) { const [x, y, size] = this.square(cursor); pen.strokeStyle = '#06c'; pen.lineWidth = 3; pen.strokeRect(x, y, size, size); }
     if (eye) this.cone(eye);
     dots.filter(dot => !dot.isChosen).concat(dots.filter(dot => dot.isChosen)).forEach(dot => this.drawDot(dot));
+  }
+  // Draws places and lines on a canvas of their own, which is kept while what is over them moves.
+  drawBelow() {
+    const canvas = this.below ??= document.createElement('canvas'), { pen } = this;
+    canvas.width = this.canvas.width; canvas.height = this.canvas.height;
+    this.pen = canvas.getContext('2d'); this.pen.setTransform(pen.getTransform());
+    this.shown.places.forEach(place => this.drawPlace(place));
+    this.drawLines();
+    this.pen = pen;
   }
   // A place that was cut is small in the middle of its quarters, over them, and hides the middle of none.
   static drawnSize(place) { return place.size / (place.isCut ? 5 : 1); }
@@ -158,10 +171,10 @@ class MapDisplay {
     const middle = this.at(x, y);
     this.circle(...middle, 9, isChosen ? '#06c' : '#fff'); this.label(text, ...middle, isChosen ? '#fff' : '#000');
   }
-  drawMark({ x, y, letter, colour }) {
-    const [px, py] = this.at(x, y), pen = this.pen;
-    pen.fillStyle = colour; pen.strokeStyle = '#fff'; pen.lineWidth = 1; pen.beginPath();
-    [[0, -8], [8, 0], [0, 8], [-8, 0]].forEach(([dx, dy]) => pen.lineTo(px + dx, py + dy));
+  drawMark({ x, y, letter, colour, corners }) {
+    const [px, py] = this.at(x, y), pen = this.pen, size = corners ? Math.min(1, Math.max(.5, 3 * this.scale)) : 1;
+    pen.fillStyle = colour; pen.strokeStyle = '#fff'; pen.lineWidth = size; pen.beginPath();
+    (corners || MapDisplay.DIAMOND).forEach(([dx, dy]) => pen.lineTo(px + dx * size, py + dy * size));
     pen.closePath(); pen.fill(); pen.stroke(); this.label(letter, px, py, '#fff');
   }
   marksNear(px, py) {
@@ -196,19 +209,39 @@ class MapDisplay {
   }
   listen() {
     const canvas = this.canvas;
-    canvas.onpointerdown = event => { this.drag = { start: this.pointed(event), centre: this.centre, isMoved: false }; };
+    canvas.onpointerdown = event => {
+      if (event.isPrimary) this.fingers.clear();
+      this.fingers.set(event.pointerId, this.pointed(event)); this.hold(this.fingers.size > 1);
+    };
     canvas.onpointermove = event => this.move(event);
     canvas.onpointerup = event => {
       if (this.drag && !this.drag.isMoved) {
         const pointed = this.pointed(event), point = this.from(...pointed);
         this.choose(...point, event); this.click(this.placeAt(...point), pointed);
       }
-      this.drag = null;
+      this.lift(event.pointerId);
     };
+    canvas.onpointercancel = event => this.lift(event.pointerId);
     canvas.onwheel = event => { event.preventDefault(); this.zoom(event.deltaY < 0 ? 1.2 : 1 / 1.2, this.pointed(event)); };
+  }
+  // The map is held by the pointer, or by the finger that is left.
+  hold(isMoved) { this.drag = { start: [...this.fingers.values()][0], centre: this.centre, isMoved }; }
+  lift(pointer) {
+    this.fingers.delete(pointer);
+    if (this.fingers.size) this.hold(true); else this.drag = null;
+  }
+  // Two fingers: the points of the map below them stay below them.
+  pinch(pointer, p) {
+    const was = this.fingers.get(pointer), other = [...this.fingers].find(([number]) => number !== pointer)[1];
+    const apart = point => Math.max(1, Math.hypot(point[0] - other[0], point[1] - other[1]));
+    this.fingers.set(pointer, p);
+    this.centre = this.centre.map((v, k) => v + (k ? 1 : -1) * (p[k] - was[k]) / 2 / this.scale);
+    this.zoom(apart(p) / apart(was), [0, 1].map(k => (p[k] + other[k]) / 2));
   }
   move(event) {
     const p = this.pointed(event), drag = this.drag;
+    if (drag && this.fingers.size === 2 && this.fingers.has(event.pointerId)) return this.pinch(event.pointerId, p);
+    if (this.fingers.has(event.pointerId)) this.fingers.set(event.pointerId, p);
     if (!drag || !event.buttons) return this.point(this.placeAt(...this.from(...p)), this.marksNear(...p));
     drag.isMoved ||= Math.hypot(p[0] - drag.start[0], p[1] - drag.start[1]) > 5;
     if (!drag.isMoved) return;

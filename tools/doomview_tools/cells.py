@@ -2,62 +2,80 @@
 
 A sector between the places of the grid has one of its own. Cells with high counts are cut in four, twice, and looked at
 in twice as many directions. A cell stays where it was cut; its quarters lie over it."""
+import itertools
 import math
 
-from . import list_counts
-from .counting import CAPPED, COUNTS, is_over
+from .counting import CAPPED, COUNTS
 from .ground import has_height
 from .levels import EYE_HEIGHT, TURN, UNIT
 from .paths import Row
 
 MOST_PLACES, MOST_CUT = 9000, 700
 CUTS = 2
-FAR = 1.2  # how far a count is past what `limits` counts where most views of its quarters are too
 MANY = 61  # fragments: a view with fewer has no more than 32 solid ranges, each but the last with a gap behind it
 FINER = .7  # the part of a limit, or of the map's greatest count, from which a cell is cut
 SMALL = 16  # the side of a place in a small sector, so that it hides no other
 APART = 4  # steps between two of the worst views
+NONE = -1, 0  # a count that is not known yet, and its direction
 
 
 class Cell:
     """A place in the middle of a square, with its greatest counts: by name a pair of the count and its direction."""
 
-    def __init__(self, x, y, size, sector, floor, is_reached):
+    def __init__(self, x: int, y: float, size: int, sector: int, floor: int, is_reached: bool) -> None:
         self.x, self.y, self.size, self.is_reached = x, y, size, is_reached
         self.sector, self.floor = sector, floor
-        self.is_listed = False  # whether its views are likely to have more than `limits` counts
+        self.likely = ()  # the directions in which its views are likely to have more than `limits` counts
         self.most = {}
 
-    def row(self, direction, directions):
+    def row(self, direction: int, directions: int) -> Row:
         """The row of a path from here: an eye of a player who stands."""
         return Row(round(self.x * UNIT), round(self.y * UNIT), (self.floor + EYE_HEIGHT) * UNIT,
                    TURN * direction // directions)
 
-    def count(self, name):
+    def count(self, name: str) -> int:
         return self.most.get(name, (0, 0))[0]
 
-    def take(self, counts, direction):
-        for name, count in counts.items():
-            if count > self.most.get(name, (-1, 0))[0]:
-                self.most[name] = count, direction
 
+class Look:
+    """The views from a place: by their directions the counts of each, and the solid ranges of some."""
 
-def most_fragments(look):
-    """Of the views from a place the directions with the most fragments: one, and one more that may have many ranges."""
-    order = sorted(((counts.get('fragments', 0), direction) for direction, counts in look), reverse=True)
-    return [direction for place, (count, direction) in enumerate(order[:2]) if place == 0 or count >= MANY]
+    def __init__(self, cell):
+        self.cell, self.counts, self.ranges = cell, {}, {}
+
+    def most_fragments(self) -> list[int]:
+        """The directions with the most fragments: one, and one more that may have many ranges. None of a view over a raised
+        limit."""
+        order = sorted(((counts['fragments'], direction) for direction, counts in self.counts.items()
+                        if 'fragments' in counts), reverse=True)
+        return [direction for place, (count, direction) in enumerate(order[:2]) if place == 0 or count >= MANY]
+
+    def to_list(self, listed) -> list[int]:
+        """The directions that are listed besides some: in which there is more than `limits` counts, maybe."""
+        return sorted(direction for direction, counts in self.counts.items() if direction not in listed
+                      and any(counts.get(name, 0) >= most for name, most in CAPPED.items()))
+
+    def likely(self, directions: int) -> list[int]:
+        """The directions, of so many, in which views from near the place are likely to have more than `limits` counts:
+        there this one has, or those on both sides have in the mean."""
+        if all(self.cell.count(name) < most for name, most in CAPPED.items()):
+            return []
+        shares = {direction: max(counts.get(name, 0) / most for name, most in CAPPED.items())
+                  for direction, counts in self.counts.items()}
+        beside = ([shares.get((direction + by) % directions, 0) for by in (-1, 1)] for direction in range(directions))
+        return [direction for direction, pair in enumerate(beside) if shares.get(direction, sum(pair) / 2) >= 1]
 
 
 class Grid:
-    """The cells of a level. `directions` is the number of those in which finer cells are looked at."""
+    """The cells of a level. `directions` is the number of those in which finer cells are looked at, `walls` are runs over
+    its solid walls alone, and `start` is a place of the grid where it is to be that of an earlier run."""
 
-    def __init__(self, ground, runs, reach, options, what=''):
-        self.ground, self.runs, self.limits, self.what = ground, runs, options.limits, what
+    def __init__(self, ground, runs, walls, reach, options, what='', start=None):
+        self.ground, self.runs, self.walls, self.limits, self.what = ground, runs, walls, options.limits, what
         self.reached, self.wanted = reach
         self.everywhere, self.directions = options.all, 2 * options.directions
         self.views, self.over = 0, dict.fromkeys(COUNTS, 0)
-        self.is_solid = list_counts.solid_segs(ground.plan.level)
-        self.step, places = self.coarse(options.step)
+        self.step, places = self.coarse(start.step if start else options.step, start)
         more = self.in_small_sectors(places)
         self.small = {(cell.x, cell.y): cell for cell in more}
         self.cells = self.looked(places + more, 2)
@@ -65,18 +83,23 @@ class Grid:
             places = [place for cell in self.high(self.step >> cut) for place in self.quarters(cell)]
             self.cells += self.looked(places, 1)
 
-    def coarse(self, step):
+    def coarse(self, step, start):
         """The places of the coarse grid; its step is doubled until they are no more than MOST_PLACES."""
         low_x, low_y, high_x, high_y = self.ground.plan.box()
         while (high_x - low_x) * (high_y - low_y) > 6 * MOST_PLACES * step * step:
             step *= 2
         while True:
-            places = [place for y in range(low_y + step // 2, high_y + step // 2, step)
-                      for x in range(low_x + step // 2, high_x + step // 2, step)
-                      for place in self.place(x, y + .5, step)]
+            places = self.of_step(step, *(start[:2] if start else (low_x + step // 2, low_y + step // 2)))
             if len(places) <= MOST_PLACES:
                 return step, places
             step *= 2
+
+    def of_step(self, step, x, y):
+        """The places of a grid that has one at x and y."""
+        low_x, low_y, high_x, high_y = self.ground.plan.box()
+        return [place for row in range(low_y + (y - low_y) % step, high_y, step)
+                for column in range(low_x + (x - low_x) % step, high_x, step)
+                for place in self.place(column, row + .5, step)]
 
     def in_small_sectors(self, places):
         """A cell in each sector that is looked at and has none on the grid, if a player can stand there."""
@@ -110,56 +133,62 @@ class Grid:
                 self.small[x, y].size = half
             else:
                 for place in self.place(x, y, half):
-                    place.is_listed = any(cell.count(name) > FAR * most for name, most in CAPPED.items())
+                    place.likely = cell.likely
                     yield place
 
     def looked(self, cells, every):
         """The cells with their counts, in every so many of the directions."""
-        directions = range(0, self.directions, every)
+        looks, directions = list(map(Look, cells)), range(0, self.directions, every)
         self.views += len(cells) * len(directions)
-        self.look([cell for cell in cells if not cell.is_listed], directions)
-        self.look_at_lists([cell for cell in cells if cell.is_listed], directions)
+        self.list_views(looks, [cell.likely for cell in cells])
+        self.count_views(looks, directions)
+        self.list_views(looks, [look.to_list(look.cell.likely) for look in looks])
+        self.count_ranges(looks)
+        for look in looks:
+            self.take(look)
         return cells
 
-    def look(self, cells, directions):
-        """Counts the views from some cells, and then their solid ranges."""
-        rows = [cell.row(direction, self.directions) for cell in cells for direction in directions]
-        found = iter(self.runs.counts(rows, self.what) if rows else [])
-        looks = [[(direction, next(found)) for direction in directions] for _ in cells]
-        for cell, look in zip(cells, looks):
-            for direction, counts in look:
-                self.take(cell, counts, direction)
-        self.count_solids(cells, looks)
+    def rows(self, looks, chosen):
+        """The rows of views from places, of each in some directions."""
+        return [look.cell.row(direction, self.directions) for look, some in zip(looks, chosen) for direction in some]
 
-    def look_at_lists(self, cells, directions):
-        """The same of cells whose views are listed at once, since most would be after they are counted."""
-        rows = [cell.row(direction, self.directions) for cell in cells for direction in directions]
-        found = self.runs.views(rows, self.what) if rows else iter(())
-        for cell in cells:
-            views = {direction: next(found) for direction in directions}
-            for direction, (_, counts) in views.items():
-                self.take(cell, counts, direction)
-            for direction in most_fragments([(direction, counts) for direction, (_, counts) in views.items()]):
-                items, counts = views[direction]
-                ranges = {'solids': list_counts.ranges_of(items, self.is_solid)} if 'fragments' in counts else {}
-                self.take(cell, ranges, direction)
+    def count_views(self, looks, directions):
+        """Counts the views from places in those directions in which they were not listed."""
+        chosen = [[direction for direction in directions if direction not in look.counts] for look in looks]
+        rows = self.rows(looks, chosen)
+        found = iter(self.runs.counts(rows, self.what) if rows else ())
+        for look, some in zip(looks, chosen):
+            look.counts.update((direction, next(found)) for direction in some)
 
-    def take(self, cell, counts, direction):
-        """Takes the counts of a view."""
-        cell.take(counts, direction)
+    def list_views(self, looks, chosen):
+        """Takes what `list` says of the views from places, of each in some directions."""
+        found = self.runs.listed(self.rows(looks, chosen), self.what)
+        for look, some in zip(looks, chosen):
+            look.counts.update((direction, next(found)) for direction in some)
+
+    def count_ranges(self, looks):
+        """Takes the solid ranges of those views from places that have the most fragments."""
+        chosen = [look.most_fragments() for look in looks]
+        found = self.walls.ranges(self.rows(looks, chosen), self.what)
+        for look, some in zip(looks, chosen):
+            look.ranges.update((direction, next(found)) for direction in some)
+
+    def take(self, look):
+        """Takes the counts of the views from a place."""
+        ranges = ((direction, {'solids': count}) for direction, count in look.ranges.items())
+        for direction, counts in itertools.chain(sorted(look.counts.items()), ranges):
+            self.take_counts(look.cell, direction, counts)
+        look.cell.likely = look.likely(self.directions)
+
+    def take_counts(self, cell, direction, counts):
+        """Takes the counts of a view from a cell."""
         for name, count in counts.items():
-            self.over[name] += is_over(name, count, self.limits)
+            if count > self.limits[name]:
+                self.over[name] += 1
+            if count > cell.most.get(name, NONE)[0]:
+                cell.most[name] = count, direction
 
-    def count_solids(self, cells, looks):
-        """Counts the solid ranges of views from cells: of each in the directions with the most fragments, which are one
-        or two."""
-        chosen = [(cell, direction) for cell, look in zip(cells, looks) for direction in most_fragments(look)]
-        rows = [cell.row(direction, self.directions) for cell, direction in chosen]
-        found = self.runs.listed(rows, self.what, self.is_solid) if rows else []
-        for (cell, direction), counts in zip(chosen, found):
-            self.take(cell, {name: count for name, count in counts.items() if name == 'solids'}, direction)
-
-    def worst(self, name, most):
+    def worst(self, name: str, most: int) -> list[tuple[int, Row]]:
         """The views of the greatest counts, no two near each other: pairs of the count and its row."""
         found = []
         for cell in sorted(self.cells, key=lambda it: -it.count(name)):
@@ -170,6 +199,6 @@ class Grid:
                 found.append((cell.count(name), row))
         return found
 
-    def is_bad(self):
+    def is_bad(self) -> bool:
         """Whether a view is over a limit."""
         return any(self.over.values())

@@ -4,6 +4,7 @@ import os
 import signal
 import subprocess
 import sys
+import typing
 
 from . import list_counts, paths, program, system
 from .explanations import explained
@@ -18,11 +19,6 @@ LEAST_ROWS, PARTS = 400, 3  # rows of a run, and runs for each processor, so tha
 MOST_LISTED = 2000  # rows of a run of `list`, which writes some 10 KB for each
 USAGE, TROUBLE, LIMIT = 1, 2, 5  # statuses
 ENDING = system.signals('SIGINT', 'SIGTERM', 'SIGHUP')
-
-
-def is_over(name, count, limits):
-    """Whether a count passes its limit."""
-    return count > limits[name]
 
 
 @contextlib.contextmanager
@@ -57,13 +53,13 @@ class Progress:
 class Runs:
     """Runs of the program over one map, with files in a folder. `words` are the options that each of them takes."""
 
-    def __init__(self, name, wads, words, folder, jobs, progress):
+    def __init__(self, name: str, wads: list[str], words: list[str], folder: str, jobs: int, progress: Progress) -> None:
         self.words = [name, *wads, *RAISED, *words]
         self.given = program.completed(['limits', *self.words])[1:]
         self.program, self.folder, self.jobs, self.progress = program.ready(), folder, jobs, progress
         self.runs, self.made = [], 0  # those that go on, shared with `over`
 
-    def over(self, wads, added):
+    def over(self, wads: list[str], added: str):
         """The same with one WAD more behind its WADs."""
         other = Runs.__new__(Runs)
         other.__dict__.update(self.__dict__)
@@ -111,40 +107,33 @@ class Runs:
         finally:
             self.stop()
 
-    def stop(self):
+    def stop(self) -> None:
         """Ends the runs that go on."""
         for run in self.runs:
             run.kill()
             run.wait()
         self.runs.clear()
 
-    def check(self):
+    def check(self) -> None:
         """Ends with doomview's refusal, in words, where the map has one."""
         self.counts([], 'reading')
 
-    def counts(self, rows, what=''):
-        """The counts of each row by name, but for solid ranges; of a view that is over a raised limit that count alone.
-        Views that come to what `limits` counts no further are listed."""
-        found = []
-        for output in self.outputs('limits', rows, what) if rows else [self.ended(*self.start('limits', []), 'limits')]:
-            found += map(counts_of, output.decode().splitlines())
-        capped = [place for place, counts in enumerate(found)
-                  if any(counts.get(name, 0) >= most for name, most in CAPPED.items())]
-        for place, counts in zip(capped, self.listed([rows[place] for place in capped], what)):
-            found[place] = counts
-        return found
+    def counts(self, rows: list[paths.Row], what: str = '') -> list[dict]:
+        """The counts of each row by name as `limits` has them; of a view that is over a raised limit that count alone."""
+        outputs = self.outputs('limits', rows, what) if rows else [self.ended(*self.start('limits', []), 'limits')]
+        return [counts_of(line) for output in outputs for line in output.decode().splitlines()]
 
-    def listed(self, rows, what='', is_solid=None):
-        """The counts of each row by name, by what `list` says; with the solid ranges where solid segs are given."""
-        for output in self.outputs('list', rows, what):
-            yield from list_counts.counts_of(output, is_solid)
+    def listed(self, rows: list[paths.Row], what: str = '') -> typing.Iterator[dict]:
+        """The counts of each row by name, by what `list` says, without solid ranges."""
+        for output in self.outputs('list', rows, what) if rows else ():
+            yield from list_counts.counts_of(output)
 
-    def views(self, rows, what=''):
-        """Of each row the lines of its items, and its counts, by what `list` says."""
-        for output in self.outputs('list', rows, what):
-            yield from ((items, list_counts.sums_of(last)) for items, last in list_counts.views_of(output))
+    def ranges(self, rows: list[paths.Row], what: str = '') -> typing.Iterator[int]:
+        """The most solid ranges of each row, of runs over a map of the solid walls alone."""
+        for output in self.outputs('list', rows, what) if rows else ():
+            yield from list_counts.ranges_of(output)
 
-    def drawn(self, job, rows, size):
+    def drawn(self, job: str, rows: list[paths.Row], size: int) -> list[bytes | None]:
         """The frame or the trace of each row; None for a view that passes even the raised limits."""
         found = []
         while len(found) < len(rows):

@@ -13,7 +13,7 @@ BOSS_TAGS = {666, 667}
 BLOCKS, TWO_SIDED = 1, 4  # flags of a line: nobody passes; there is a sector behind it
 SKY = 'F_SKY1'
 LINTEL = 4  # what a door that is open keeps of its height below the ceiling beside it
-SQUARE = 128
+SQUARE, BAND = 128, 16
 STEPS = (64, 32, 16, 8)  # of grids on which a place in a sector is looked for
 SECTOR = struct.Struct('<hh8s8shhh')
 
@@ -23,7 +23,7 @@ Crossing = collections.namedtuple('Crossing', 'x left right line')  # the sector
 class Plan:
     """A level with what its lines say: the sectors beside each, by their numbers, or None."""
 
-    def __init__(self, level):
+    def __init__(self, level) -> None:
         self.level = level
         for number, line in enumerate(level.lines):
             if max(line.start, line.end) >= len(level.vertexes):
@@ -36,7 +36,7 @@ class Plan:
         self.bands = collections.defaultdict(list)
         for number, line in enumerate(level.lines):
             low, high = sorted(level.vertexes[end].y for end in line[:2])
-            for band in range(low // SQUARE, high // SQUARE + 1):
+            for band in range(low // BAND, high // BAND + 1):
                 self.bands[band].append(number)
 
     def sector_of_side(self, side):
@@ -45,17 +45,17 @@ class Plan:
         sector = self.level.sides[side].sector
         return sector if sector < len(self.level.sectors) else None
 
-    def ends(self, number):
+    def ends(self, number: int) -> list:
         """Both ends of a line."""
         return [self.level.vertexes[end] for end in self.level.lines[number][:2]]
 
-    def box(self):
+    def box(self) -> tuple[int, int, int, int]:
         """The least box of all lines: x and y of its corners, the low one first."""
         if not self.level.lines:
             raise self.level.error('has no lines')
         return self.box_around(range(len(self.level.lines)))
 
-    def box_of(self, sector):
+    def box_of(self, sector: int) -> tuple[int, int, int, int]:
         """The least box of the lines of a sector."""
         return self.box_around(self.lines_of[sector])
 
@@ -63,10 +63,10 @@ class Plan:
         xs, ys = zip(*(vertex for number in numbers for vertex in self.ends(number)))
         return min(xs), min(ys), max(xs), max(ys)
 
-    def crossings(self, y):
+    def crossings(self, y: float) -> list[Crossing]:
         """Where lines cross a row, from left to right."""
         found = []
-        for number in self.bands.get(int(y // SQUARE), ()):
+        for number in self.bands.get(int(y // BAND), ()):
             (x1, y1), (x2, y2) = self.ends(number)
             if (y1 > y) == (y2 > y):
                 continue
@@ -75,11 +75,11 @@ class Plan:
             found.append(Crossing(x1 + (x2 - x1) * (y - y1) / (y2 - y1), left, right, number))
         return sorted(found, key=lambda it: it.x)
 
-    def is_wall(self, number):
+    def is_wall(self, number: int) -> bool:
         """Whether a player cannot pass a line, whatever moves beside it."""
         return None in self.beside[number] or bool(self.level.lines[number].flags & BLOCKS)
 
-    def tagged(self):
+    def tagged(self) -> set[int]:
         """The sectors on which a line with a special may act by its tag, or the end of a boss."""
         tags = {line.tag for line in self.level.lines if line.special} - {0} | BOSS_TAGS
         return {number for number, sector in enumerate(self.level.sectors) if sector.tag in tags}
@@ -88,7 +88,7 @@ class Plan:
         """The sectors that may become higher than they are: by their tag, or since they are behind a special."""
         return self.tagged() | {self.beside[number][1] for number, line in enumerate(self.level.lines) if line.special}
 
-    def doors(self):
+    def doors(self) -> dict[int, int]:
         """The ceilings that doors have once they are open, by the least one beside each. A door is a shut sector that may
         rise, whose ceiling is no sky."""
         sectors, least, rising = self.level.sectors, {}, self.rising()
@@ -100,22 +100,22 @@ class Plan:
                 if number in rising and sectors[number].ceiling_flat != SKY and ceiling - LINTEL > sectors[number].floor}
 
 
-def is_shut(sector):
+def is_shut(sector) -> bool:
     return sector.ceiling <= sector.floor
 
 
-def has_height(sector):
+def has_height(sector) -> bool:
     """Whether a player can stand in a sector."""
     return sector.ceiling - sector.floor >= HEIGHT
 
 
-def is_step(one, other):
+def is_step(one, other) -> bool:
     """Whether a player may step from one sector into another."""
     return (other.floor - one.floor <= STEP_UP
             and min(one.ceiling, other.ceiling) - max(one.floor, other.floor) >= HEIGHT)
 
 
-def with_ceilings(level, ceilings):
+def with_ceilings(level, ceilings: dict[int, int]) -> bytes:
     """A WAD of the level alone, in which some sectors have other ceilings."""
     lumps, data = dict(level.lumps), bytearray(level.lumps['SECTORS'])
     for sector, ceiling in ceilings.items():
@@ -146,7 +146,7 @@ def squares(one, other):
     return range((low - RADIUS) // SQUARE, (high + RADIUS) // SQUARE + 1)
 
 
-def distance(x, y, dx, dy):
+def distance(x: float, y: float, dx: float, dy: float) -> float:
     """The square of the distance of a point from a line from the origin."""
     length = dx * dx + dy * dy
     along = max(0, min(1, (x * dx + y * dy) / length)) if length else 0
@@ -156,7 +156,7 @@ def distance(x, y, dx, dy):
 class Ground:
     """The places of a level at which a player can stand."""
 
-    def __init__(self, plan):
+    def __init__(self, plan: Plan) -> None:
         self.plan, self.walls, self.rows = plan, Walls(plan), {}
         self.doubts = collections.Counter()  # pairs of lines that face each other, and have other sectors
 
@@ -167,7 +167,7 @@ class Ground:
             self.rows[y] = row, [crossing.x for crossing in row]
         return self.rows[y]
 
-    def is_void(self, x, y):
+    def is_void(self, x: float, y: float) -> bool:
         """Whether no sector is at a place, by the lines to the left and the right of it."""
         row, xs = self.row(y)
         place = bisect.bisect_right(xs, x)
@@ -178,7 +178,7 @@ class Ground:
             self.doubts[tuple(sorted((left.line, right.line)))] += 1
         return left.right is None or right.left is None
 
-    def sector_at(self, x, y):
+    def sector_at(self, x: float, y: float) -> int | None:
         """The sector at a place at which a player has room, or None."""
         number = self.sector_off_walls(x, y)
         return number if number is not None and has_height(self.plan.level.sectors[number]) else None
@@ -189,7 +189,7 @@ class Ground:
             return None
         return self.plan.level.sector_at(x, y)
 
-    def place_in(self, number):
+    def place_in(self, number: int) -> tuple[int, float, int] | None:
         """A place of a sector that no wall is near to, with the step of the grid on which it was found; None if a grid
         of 8 units has none."""
         low_x, low_y, high_x, high_y = self.plan.box_of(number)

@@ -4,8 +4,9 @@ import os
 import sys
 
 from . import traces
+from .cells import Grid
 from .checks import findings
-from .counting import COUNTS
+from .counting import COUNTS, Runs
 from .findings import GRADES, places
 from .frames import HEIGHT, SIZE, WIDTH
 from .pages import columns, packed, page, picture
@@ -14,7 +15,7 @@ TEMPLATE = 'limits_map.html'
 MOST_BYTES = 3000000
 WORDS = 40  # bytes of a view's words for its pictures
 SMALL_PICTURES = 60
-MOST_MARKS = 500
+MOST_MARKS, MOST_CHANGES = 500, 3000
 PLANE_KINDS = (2, 3)  # of painters: plane and sky
 NO_PLANE = 255
 COUNT_OF = {1: 'fragments', 2: 'planes', 3: 'planes', 4: 'fragments', 5: 'sprites'}  # what a painter's number counts
@@ -29,7 +30,7 @@ def planes_of(trace):
     return bytes(number % NO_PLANE if kind in PLANE_KINDS else NO_PLANE for kind, number in zip(kinds, numbers))
 
 
-def seen(trace, names):
+def seen(trace: bytes, names: traces.Names) -> dict:
     """Of each count how many have a pixel in a view, how many names they have, and those of most: name and number."""
     found = collections.defaultdict(lambda: collections.defaultdict(set))
     for record in set(memoryview(trace).cast('Q')):
@@ -61,10 +62,10 @@ def packed_cell(cell):
 class State:
     """The map with its doors shut or open: its grid, and the runs over it."""
 
-    def __init__(self, label, grid, runs):
+    def __init__(self, label: str, grid: Grid, runs: Runs) -> None:
         self.label, self.grid, self.runs = label, grid, runs
 
-    def views(self, most):
+    def views(self, most: int) -> tuple[list, dict]:
         """The worst views of each count, and of each count the places of its own among them."""
         rows, order = {}, {}
         for name in COUNTS:
@@ -75,9 +76,9 @@ class State:
         """What the page has of it, but for the pictures."""
         self.rows, self.order = self.views(most)
         self.traces = self.runs.drawn('trace', self.rows, traces.VIEW_SIZE)
-        self.shown = [{'row': row[:4], 'counts': counts, 'seen': trace and seen(trace, names)}
-                      for row, counts, trace in zip(self.rows, self.runs.listed(self.rows, '', self.grid.is_solid),
-                                                    self.traces)]
+        counts = zip(self.runs.listed(self.rows), self.grid.walls.ranges(self.rows))
+        self.shown = [{'row': row[:4], 'counts': {**of, 'solids': solids} if 'fragments' in of else of,
+                       'seen': trace and seen(trace, names)} for row, (of, solids), trace in zip(self.rows, counts, self.traces)]
         cells = sorted(self.grid.cells, key=lambda it: -it.size)
         return {'label': self.label, 'cells': columns(map(packed_cell, cells)), 'views': self.shown,
                 'order': self.order, 'small': [], 'looked': self.grid.views, 'over': self.grid.over,
@@ -128,15 +129,24 @@ def put_in(pictures, room):
         view.update((kind, of_sizes[its]) for kind, of_sizes in found.items())
 
 
-def marks_of(level, wads):
+def marks_of(level, wads: list[str]) -> list:
     """What lint finds in a level and can be shown on its map: places, grade and the line of each, the gravest first."""
     found = [[finding.grade, f'{finding.what}: {finding.where}: {finding.told}', list(map(list, places(finding, level)))]
              for finding in findings(level, wads)]
     return sorted((mark for mark in found if mark[2]), key=lambda mark: list(GRADES).index(mark[0]))[:MOST_MARKS]
 
 
-def limits_page(plan, wads, states, palette, options, doors, plain, before=()):
-    """The bytes of the page; `plain` is the summary as text."""
+def packed_changes(changes: list, labels: list[str]) -> list:
+    """What differs from an earlier run as the page has it, what differs most first: columns of the numbers of the state
+    and the count, the x and y of the place, and the count before and now, which is -1 where there is no place."""
+    rows = [[labels.index(change.doors), COUNTS.index(change.count), change.x, change.y,
+             *(-1 if count is None else count for count in (change.before, change.now))] for change in changes]
+    return columns(sorted(rows, key=lambda row: -abs(row[5] - row[4]))[:MOST_CHANGES])
+
+
+def limits_page(plan, wads, states, palette, options, doors, plain, before=(), changes=()) -> bytes:
+    """The bytes of the page; `plain` is the summary as text, and `before` and `changes` are what differs from an earlier
+    run, as lines and place by place."""
     level, names = plan.level, traces.Names(wads)
     grid = states[0].grid
     data = {'title': f'{level.name} of {os.path.basename(level.wad)}', 'wads': list(map(os.path.basename, wads)),
@@ -144,6 +154,7 @@ def limits_page(plan, wads, states, palette, options, doors, plain, before=()):
             'vertexes': columns(level.vertexes), 'sectors': len(level.sectors), 'reached': len(grid.reached),
             'lines': columns([*line[:2], int(plan.is_wall(number))] for number, line in enumerate(level.lines)),
             'doors': sorted(doors), 'noWay': list(grid.wanted), 'before': list(before),
+            'changes': packed_changes(changes, [state.label for state in states]),
             'marks': marks_of(level, wads), 'doubts': [pair for pair, _ in grid.ground.doubts.most_common(20)],
             'states': [state.packed(names, options.views) for state in states]}
     pictures = sorted((it for state in states for it in state.pictures(palette)), key=lambda it: it[0])

@@ -1,35 +1,20 @@
 """What `list` says of views beyond what `limits` counts: all fragments and sprites, and the solid ranges.
 
 The original keeps the columns that walls have filled as ranges in an array of 32, solidsegs, with one range at each
-edge of the view. A solid wall makes a range more, or joins those that it touches; `list` has the walls in order. It has
-the first 256 fragments alone, so of a view with more the ranges of these are counted."""
-import itertools
+edge of the view. A solid wall makes a range more, or joins those that it touches; `list` of a map of the solid walls
+alone (`walls`) has them in order."""
 import re
-
-from .ground import TWO_SIDED
+import typing
 
 LAST = re.compile(rb'view \d+ (?:fragments \d+ of (?P<fragments>\d+) planes (?P<planes>\d+) openings (?P<openings>\d+) '
                   rb'sprites \d+ of (?P<sprites>\d+)|over (?P<over>planes|openings) (?P<count>\d+))\n')
-FRAGMENT = re.compile(rb' seg (\d+) first (\d+) last (\d+)\n')
+NO_NUMBERS = bytes(code for code in range(256) if code not in b'0123456789 \n')  # what is in no number, and between none
+FIELDS = [slice(place, None, 5) for place in (2, 3, 4)]  # of the numbers in lines of fragments: the seg, and its columns
 EDGES = 2  # ranges at the edges of a view, which are there from the beginning
 COLUMNS = 320
-
-
-def solid_segs(level) -> list:
-    """Of each seg of a level whether nothing is seen behind it (R_AddLine)."""
-    sector_of = {seg: level.sector_of_leaf(number) for number, leaf in enumerate(level.leaves)
-                 for seg in range(leaf.first, leaf.first + leaf.count)}
-    return [is_solid(level, seg, sector_of.get(number)) for number, seg in enumerate(level.segs)]
-
-
-def is_solid(level, seg, front) -> bool:
-    """Whether nothing is seen behind a seg of a leaf with a sector."""
-    line = level.lines[seg.line]
-    behind = line[6 - seg.side]
-    if not line.flags & TWO_SIDED or behind is None or front is None:
-        return True
-    one, other = level.sectors[front], level.sectors[level.sides[behind].sector]
-    return other.ceiling <= one.floor or other.floor >= one.ceiling
+COLUMN = {b'%d' % column: column for column in range(COLUMNS)}  # by its digits
+FILLED = [bytes((1,)) * width for width in range(COLUMNS + 1)]
+NEARLY = 7, 8  # the part of a view's bytes after which its end is looked for: most are about as long as the one before
 
 
 def most_ranges(walls) -> int:
@@ -38,7 +23,7 @@ def most_ranges(walls) -> int:
     return max(range_counts(walls), default=EDGES)
 
 
-def range_counts(walls):
+def range_counts(walls: typing.Iterable) -> typing.Iterator[int]:
     """The number of solid ranges after each solid wall of a view. No two share a column (R_ClipSolidWallSegment).
 
     A wall that touches none makes a range more. One that touches several joins them, and the original moves the rest of
@@ -51,44 +36,72 @@ def range_counts(walls):
         count += 2 - touched if touched > 1 else 1 - touched
         yield count
         for first, last in fragments:
-            filled[first + 1:last + 2] = bytes((1,)) * (last + 1 - first)
+            filled[first + 1:last + 2] = FILLED[last + 1 - first]
 
 
-def ranges_of(text: bytes, is_solid) -> int:
-    """The most solid ranges of a view, by its lines and what segs are solid."""
-    walls = itertools.groupby(FRAGMENT.findall(text), lambda fragment: fragment[0])
-    return most_ranges([(int(first), int(last)) for _, first, last in fragments] for seg, fragments in walls
-                       if is_solid[int(seg)])
+def walls_of(items: bytes) -> list:
+    """The solid walls of a view in order, by the lines of its items in a map of these alone: of each the columns of its
+    fragments."""
+    behind = items.rfind(b' seg ') + 1
+    numbers = items[:items.find(b'\n', behind) if behind else 0].translate(None, NO_NUMBERS).split()
+    walls, before = [], None
+    for seg, first, last in zip(*map(numbers.__getitem__, FIELDS)):
+        if seg == before:
+            walls[-1].append((COLUMN[first], COLUMN[last]))
+        else:
+            walls.append([(COLUMN[first], COLUMN[last])])
+        before = seg
+    return walls
 
 
-def counts_of(output: bytes, is_solid=None):
-    """The counts of each view of what `list` writes, by name; with the solid ranges where solid segs are given. Of a
-    view over a raised limit it is that count alone."""
-    for items, last in views_of(output):
-        counts = sums_of(last)
-        if is_solid and 'fragments' in counts:
-            counts['solids'] = ranges_of(items, is_solid)
-        yield counts
+def ranges_of(output: bytes) -> typing.Iterator[int]:
+    """The most solid ranges of each view of what `list` writes of a map of the solid walls alone."""
+    return (most_ranges(walls_of(view.items())) for view in views_of(output))
 
 
-def sums_of(last: bytes) -> dict:
-    """The counts in the last line of a view, without solid ranges."""
-    found = LAST.fullmatch(last)
-    if found['over']:
-        return {found['over'].decode(): int(found['count'])}
-    return {name: int(found[name]) for name in ('planes', 'openings', 'fragments', 'sprites')}
+def counts_of(output: bytes) -> typing.Iterator[dict]:
+    """The counts of each view of what `list` writes, by name, without solid ranges. Of a view over a raised limit it is
+    that count alone."""
+    return (view.counts() for view in views_of(output))
 
 
-def views_of(output: bytes):
-    """The lines of each view: those of its items, and the last, which has its sums."""
-    if b' over ' in output:
-        lines = output.splitlines(keepends=True)
-        ends = [number for number, line in enumerate(lines, 1) if b' sprites ' in line or b' over ' in line]
-        for begin, end in zip([0, *ends], ends):
-            yield b''.join(lines[begin:end - 1]), lines[end - 1]
-        return
-    begin = 0
-    while (sums := output.find(b' sprites ', begin)) >= 0:
-        last, end = output.rfind(b'\n', begin, sums) + 1 or begin, output.find(b'\n', sums) + 1
-        yield output[begin:last], output[last:end]
-        begin = end
+class Listed(typing.NamedTuple):
+    """What `list` writes of a view: its lines in the whole output, from one byte to another, and where the last begins,
+    which has its sums."""
+
+    output: bytes
+    begin: int
+    last: int
+    end: int
+
+    def items(self) -> bytes:
+        """The lines of its items."""
+        return self.output[self.begin:self.last]
+
+    def counts(self) -> dict:
+        """Its counts by name, without solid ranges; over a raised limit that count alone."""
+        found = LAST.fullmatch(self.output, self.last, self.end)
+        if found['over']:
+            return {found['over'].decode(): int(found['count'])}
+        return {name: int(found[name]) for name in ('planes', 'openings', 'fragments', 'sprites')}
+
+
+def views_of(output: bytes) -> typing.Iterator[Listed]:
+    """The views of what `list` writes."""
+    begin = number = size = 0
+    while begin < len(output):
+        behind = output.find(b'\n', begin) + 1
+        if output.find(b' over ', begin, behind) >= 0:  # its only line
+            last, end = begin, behind
+        else:
+            sums = output.index(b' sprites ', line_near(output, begin, size, number))
+            last, end = output.rfind(b'\n', begin, sums) + 1 or begin, output.find(b'\n', sums) + 1
+        yield Listed(output, begin, last, end)
+        begin, size, number = end, end - begin, number + 1
+
+
+def line_near(output: bytes, begin: int, size: int, number: int) -> int:
+    """Where a line of a view begins that is near its end, if it is about as long as the view before; else where the view
+    begins."""
+    line = output.find(b'\n', begin + size * NEARLY[0] // NEARLY[1]) + 1
+    return line if output.startswith(b'view %d ' % number, line) else begin

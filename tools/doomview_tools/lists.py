@@ -7,7 +7,7 @@ import functools
 import re
 import typing
 
-from . import levels, list_counts, wads
+from . import levels, wads
 from .files import check_source
 from .frames import WIDTH
 from .levels import UNIT
@@ -155,11 +155,6 @@ class Places:
         """The Trouble of a list that is not of this map, or not of the trace."""
         return Trouble(f'{self.path} does not fit: {what}; name the list, the trace, the WADs and the map of the same '
                        'words')
-
-    @functools.cached_property
-    def is_solid(self):
-        """Of each seg whether nothing is seen behind it."""
-        return list_counts.solid_segs(self.level)
 
     @functools.cached_property
     def leaf_of_seg(self):

@@ -22,7 +22,7 @@ FORMS = 'X,Y,DEGREES or X,Y,DEGREES,Z in map units, or the line of idmypos, ang=
 Row = collections.namedtuple('Row', 'x y z angle extralight colormap', defaults=(0, 0))
 
 
-def rows(path):
+def rows(path: str) -> list[Row]:
     """The rows of a file."""
     try:
         with open(path, newline='', encoding='utf-8-sig') as file:
@@ -31,16 +31,17 @@ def rows(path):
                 raise ValueError
             return [Row(*map(int, record)) for record in found]
     except OSError as error:
-        raise Trouble(f'cannot read {path}: {error.strerror}')
-    except (ValueError, csv.Error):
-        raise Trouble(f'{path} is no camera path: lines of numbers under the header {",".join(HEADER)}')
+        raise Trouble(f'cannot read {path}: {error.strerror}') from error
+    except (ValueError, csv.Error) as error:
+        raise Trouble(f'{path} is no camera path: lines of numbers under the header {",".join(HEADER)}') from error
 
 
-def text(rows):
+def text(rows: list[Row]) -> str:
     """The text of a file of rows; with the columns of light where a row has any."""
     is_lit = any(row.extralight or row.colormap for row in rows)
-    lines = [HEADER + LIGHT if is_lit else HEADER] + [row if is_lit else row[:4] for row in rows]
-    return ''.join(','.join(map(str, line)) + '\n' for line in lines)
+    names = HEADER + LIGHT if is_lit else HEADER
+    line = ','.join(['%d'] * len(names)) + '\n'
+    return ','.join(names) + '\n' + ''.join(line % row[:len(names)] for row in rows)
 
 
 def signed(word):
@@ -120,7 +121,7 @@ def start_angle(thing):
     return int(thing.angle / 45) * (TURN // 8) % TURN
 
 
-def turn(level, views):
+def turn(level, views: int) -> list[Row]:
     """A turn to the left on the spot, at the player start."""
     start = level.player_start()
     z = (level.floor_at(start.x, start.y) + EYE_HEIGHT) * UNIT
@@ -171,7 +172,7 @@ class Choice:
         return kinds[number % len(kinds)]()
 
 
-def places(level, count, seed, wild=False):
+def places(level, count: int, seed: int, wild: bool = False) -> list[Row]:
     """The player start and `count` places more, chosen at random: the same for the same words."""
     start = level.player_start()
     choice = Choice(level, f'{seed} {count} {wild}')

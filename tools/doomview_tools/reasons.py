@@ -1,9 +1,10 @@
 """Why a view has as many planes, fragments, sprites and solid ranges as it has, as lines for a terminal."""
 import collections
 import itertools
+import typing
 
 from . import list_counts, paths
-from .lists import FRONT_AND_BACK, Places, sectors_told, shortened
+from .lists import FRONT_AND_BACK, sectors_told, shortened
 from .ways import WANTED
 
 SHOWN = 20  # lines of a table
@@ -19,14 +20,13 @@ def count_told(name, count, limit):
     return f'{count} {name}, {count - limit} over {limit}' if count > limit else f'{count} {name} of {limit}'
 
 
-def counts_of(view, places) -> dict:
-    """The counts of a view by name; of one over even a raised limit that count alone."""
+def counts_of(view, walls) -> dict:
+    """The counts of a view by name, with its solid walls alone; of one over even a raised limit that count alone."""
     if view.over:
         return dict([view.over])
     sums = view.sums
     return {'planes': sums.planes, 'openings': sums.openings, 'fragments': sums.all_fragments,
-            'sprites': sums.all_sprites, 'solids': max((count for *_, count in ranges(view, places)),
-                                                       default=list_counts.EDGES)}
+            'sprites': sums.all_sprites, 'solids': max((count for *_, count in ranges(walls)), default=list_counts.EDGES)}
 
 
 def sums_told(sums, counts, limits):
@@ -38,7 +38,7 @@ def sums_told(sums, counts, limits):
             yield f'  {name}: the first {kept} are drawn, {all_of_them - kept} past them are not'
 
 
-def by_group(view, places):
+def by_group(view, places) -> list:
     """The planes of each height, flat and light: pairs of the group and what was made of it, the most planes first. The
     sectors that made one come first among those of the group."""
     groups, made, makers = {}, {}, collections.defaultdict(dict)
@@ -107,24 +107,23 @@ def by_type(view, places):
     return sorted(found.items(), key=lambda pair: (-len(pair[1]), pair[0]))
 
 
-def ranges(view, places: Places):
-    """The solid walls of a view in order: of each its line, its first and last column, and how many solid ranges there
-    are after it."""
-    groups = [(seg, list(fragments)) for seg, fragments in itertools.groupby(view.fragments, lambda one: one.seg)
-              if places.is_solid[seg]]
+def ranges(walls) -> typing.Iterator[tuple[int, int, int, int]]:
+    """The solid walls of a view in order, by a view of these alone: of each its seg, its first and last column, and how
+    many solid ranges there are after it."""
+    groups = [(seg, list(fragments)) for seg, fragments in itertools.groupby(walls.fragments, lambda one: one.seg)]
     counts = list_counts.range_counts([(one.first, one.last) for one in fragments] for _, fragments in groups)
     for (seg, fragments), count in zip(groups, counts):
-        yield places.level.segs[seg].line, fragments[0].first, fragments[-1].last, count
+        yield seg, fragments[0].first, fragments[-1].last, count
 
 
-def range_makers(view, places):
-    """The walls that made a solid range more, up to the most: triples of the line and its columns."""
-    walls = list(ranges(view, places))
-    most = max((count for *_, count in walls), default=list_counts.EDGES)
+def range_makers(walls) -> typing.Iterator[tuple[int, int, int]]:
+    """The walls that made a solid range more, up to the most: triples of the seg and its columns."""
+    found = list(ranges(walls))
+    most = max((count for *_, count in found), default=list_counts.EDGES)
     before = list_counts.EDGES
-    for line, first, last, count in walls:
+    for seg, first, last, count in found:
         if count > before:
-            yield line, first, last
+            yield seg, first, last
         if count == most:
             return
         before = count
@@ -150,17 +149,18 @@ def table(rows, is_right):
         yield '  ' + '  '.join(cells).rstrip()
 
 
-def reasons(number, row, view, places, shows_all, limits, changes=()):
-    """The lines on a view; `changes` are the results of what-ifs."""
+def reasons(number, row, view, walls, places, shows_all, limits, changes=()) -> typing.Iterator[str]:
+    """The lines on a view; `walls` is the view of its solid walls alone, `changes` are the results of what-ifs."""
     yield f'view {number}: {paths.told(row)}'
     if view.over:
         yield f'  more than {view.over[1] - 1} {view.over[0]}, the most that doomview counts'
         return
-    counts = counts_of(view, places)
+    counts = counts_of(view, walls)
     yield from sums_told(view.sums, counts, limits)
     shown = None if shows_all else SHOWN
-    for part in (plane_table, split_table, fragment_table, sprite_table, range_table):
+    for part in (plane_table, split_table, fragment_table, sprite_table):
         yield from part(view, places, shown)
+    yield from range_table(walls, places, shown)
     yield from change_table(changes, counts, shows_all)
 
 
@@ -212,10 +212,10 @@ def sprite_table(view, places, shown):
     yield from rest(left, sum(len(numbers) for _, numbers in left), 'sprites')
 
 
-def range_table(view, places, shown):
+def range_table(walls, places, shown):
     """The walls that made solid ranges."""
-    found = list(range_makers(view, places))
-    rows = [[str(line), f'{first} to {last}'] for line, first, last in found[:shown]]
+    found = list(range_makers(walls))
+    rows = [[str(places.level.segs[seg].line), f'{first} to {last}'] for seg, first, last in found[:shown]]
     yield from lines_of(['solid range of line', 'columns'], rows, [True, False])
     yield from rest(found[len(rows):], len(found) - len(rows), 'solid ranges')
 

@@ -17,6 +17,7 @@ DESTINATION = 14  # the type of a thing at which a teleport ends
 TO_THINGS = {39, 97, 125, 126, 174, 195, 207, 208, 209, 210}  # specials of teleports that end at such a thing
 TO_LINES = {243, 244, 262, 263}  # those that end at a line of their tag
 STAIRS, DONUT = {7, 8, 100, 127}, {9}  # specials that move sectors without a tag too
+AREA = 256  # the side of the squares by which lines are looked for
 SKILLS = 7  # the bits of a thing's options without which it never appears
 WANTED = {5: 'blue keycard', 6: 'yellow keycard', 13: 'red keycard', 38: 'red skull key', 39: 'yellow skull key',
           40: 'blue skull key', 82: 'super shotgun', 2001: 'shotgun', 2002: 'chaingun', 2003: 'rocket launcher',
@@ -177,11 +178,20 @@ class Ways:
         """The sectors outside of some to which a player jumps from these."""
         goals = [(line, other) for number in found for line in self.lines_of[number]
                  for other in [self.across(line, number)] if other not in found and self.passes(line, number, other)]
-        reached = set()
+        lowest, near, reached = min((self.low[other] for _, other in goals), default=0), self.by_square(goals), set()
         for jump in self.edges(found) if goals else ():
-            if any(other not in reached and self.may_come(jump, line, other) for line, other in goals):
+            length = jump_length(jump.height - lowest)
+            if any(other not in reached and self.may_come(jump, line, other)
+                   for square in squares_near(self.boxes[jump.line], length) for line, other in near.get(square, ())):
                 reached |= self.flown_over(jump) - found
         return reached
+
+    def by_square(self, goals):
+        """Lines, each with the sector behind it, by the squares of the map that their boxes lie over."""
+        found = collections.defaultdict(list)
+        for goal, square in ((goal, square) for goal in goals for square in squares_near(self.boxes[goal[0]], 0)):
+            found[square].append(goal)
+        return found
 
     def edges(self, found):
         """The edges from which a player may jump."""
@@ -240,7 +250,14 @@ def are_near(one, other, length) -> bool:
             and one[1] - other[3] <= length and other[1] - one[3] <= length)
 
 
-def moving_sectors(plan) -> set:
+def squares_near(box, length) -> typing.Iterator[tuple[int, int]]:
+    """The squares of the map over which a box lies that is wider by a length on each side; none of a length below 0."""
+    low_x, low_y, high_x, high_y = box
+    columns = range((low_x - length) // AREA, (high_x + length) // AREA + 1) if length >= 0 else ()
+    return itertools.product(columns, range((low_y - length) // AREA, (high_y + length) // AREA + 1))
+
+
+def moving_sectors(plan: ground.Plan) -> set[int]:
     """The sectors that may move: by their tag, those that are shut, and what stairs and donuts move without a tag."""
     found = {number for number, sector in enumerate(plan.level.sectors) if ground.is_shut(sector)} | plan.tagged()
     return found | steps_of_stairs(plan, tagged_by(plan, STAIRS)) | beside_sectors(plan, tagged_by(plan, DONUT))
@@ -271,7 +288,7 @@ def steps_of_stairs(plan, first):
     return found
 
 
-def reach(plan) -> Reach:
+def reach(plan: ground.Plan) -> Reach:
     """Where a player gets from the starts of a level; nowhere if it has none."""
     ways = Ways(plan)
     starts = {plan.level.sector_at(thing.x, thing.y) for thing in plan.level.things if thing.type in STARTS}

@@ -11,28 +11,34 @@ import tempfile
 import time
 from typing import Iterator, NamedTuple
 
-from doomview_tools import home, program
+from doomview_tools import home
 from doomview_tools.trouble import Trouble
 
-from . import chromium
+from . import chromium, kit
 
 GOLDEN = os.path.join(home.TOP, 'tests', 'golden')
 WINE = ('wine', 'wine64')
+WINE_NAMES = ('WINEPREFIX', 'WINEDEBUG', 'WINEDLLOVERRIDES')  # variables
 # Cases that cannot be tried so, with the reason.
 NO_BROWSER = 'what a shell does with streams, readers that go, words that are no text, files without content'
 NO_WINDOWS = 'words that are no UTF-8, which no word of Windows can be'
+DIFFERENT, UNTRIED = 1, 2  # statuses: it writes or says something else; it could not be tried to its end
 NO_FILES = '/dev/'  # in the words of a case: a file that a page has not
-READ = '''(async () => { const files = [...document.getElementById('golden').files];
-const worker = new Worker(URL.createObjectURL(new Blob([SCRIPT + %s], { type: 'text/javascript' })));
-let next; worker.onmessage = ({ data }) => next(data); window.golden = words => new Promise(done => { next = done; worker.postMessage(words); });
-const module = await WebAssembly.compile(bytesOf(BUILT.program)), given = [];
+# In the page: gives each of some workers the program and the files of the cases, and has them run cases side by side.
+READ = '''(async () => { const files = [...document.getElementById('golden').files], given = [];
 for (const file of files) given.push([file.name, new Uint8Array(await file.arrayBuffer())]);
-return await golden({ module, given }); })()'''
+const address = URL.createObjectURL(new Blob([SCRIPT + %s], { type: 'text/javascript' })), module = await WebAssembly.compile(bytesOf(BUILT.program));
+const ask = (worker, words) => new Promise(done => { worker.onmessage = ({ data }) => done(data); worker.postMessage(words); });
+const workers = Array.from({ length: HELPERS }, () => new Worker(address)), found = [];
+const read = await Promise.all(workers.map(worker => ask(worker, { module, given })));
+window.golden = async cases => { let next = 0; await Promise.all(workers.map(async worker => {
+  while (next < cases.length) { const number = next++; found[number] = await ask(worker, cases[number]); } })); return found; };
+return read.every(count => count === files.length); })()'''
 # In a worker of the page: runs words over the files of the cases.
 RUN = ''';let program; const given = new Map();
 onmessage = async ({ data }) => {
-  if (data.module) { program = data.module; data.given.forEach(([name, bytes]) => given.set(name, new MemorySource(bytes))); return postMessage(given.size); }
-  const done = runWhole(program, data, { get: name => given.get(name.replace(/^\\.\\//, '')) });
+  if (data.module) { program = new Program(data.module); data.given.forEach(([name, bytes]) => given.set(name, new MemorySource(bytes))); return postMessage(given.size); }
+  const done = program.runWhole(data, { get: name => given.get(name.replace(/^\\.\\//, '')) });
   const sum = new Uint8Array(await crypto.subtle.digest('SHA-256', done.output));
   postMessage([done.status, done.line, done.output.length, [...sum].map(byte => byte.toString(16).padStart(2, '0')).join('')]);
 };'''
@@ -54,6 +60,14 @@ def golden():
     found = importlib.util.module_from_spec(importlib.util.spec_from_loader('golden_run', loader))
     loader.exec_module(found)
     return found
+
+
+def native() -> str:
+    """The path of the program that was linked of the object file of which the previews are made."""
+    path = os.path.splitext(kit.object_file())[0]
+    if not os.access(path, os.X_OK):
+        raise Trouble(f'there is no program {path}; build it first, by ./doomview --build')
+    return path
 
 
 def is_text(case) -> bool:
@@ -100,8 +114,9 @@ class Wine:
         target, path = (os.path.join(self.folder.name, name) for name in ('doomview.exe', 'doomview'))
         with open(target, 'wb') as file:
             file.write(data)
+        named = ' '.join(f'{name}={self.env[name]}' for name in WINE_NAMES)
         with open(path, 'w', encoding='utf-8') as file:
-            file.write(f'#!/bin/sh\nexec {wine()} {target} "$@"\n')
+            file.write(f'#!/bin/sh\n{named} exec {wine()} {target} "$@"\n')
         os.chmod(path, 0o755)
         return path
 
@@ -111,8 +126,7 @@ def under_wine(plain: bytes, jobs: int) -> Result:
     run, cases = golden(), golden_cases()
     tried = [case for case in cases if is_text(case)]
     with Wine() as there, tempfile.TemporaryDirectory(prefix='golden-') as folder:
-        run.put_files(program.path(), folder, tried)
-        os.environ.update({name: there.env[name] for name in ('WINEPREFIX', 'WINEDEBUG', 'WINEDLLOVERRIDES')})
+        run.put_files(native(), folder, tried)
         runner = run.Runner(there.command(plain), folder)
         with run.concurrent.futures.ThreadPoolExecutor(jobs) as pool:
             outcomes = dict(zip(tried, pool.map(runner.run, tried)))
@@ -138,16 +152,16 @@ def in_chromium(page: str) -> Result:
     tried = [case for case in cases if case.how in ('', *ZONES) and is_text(case) and NO_FILES not in case.words]
     outcomes = {}
     with tempfile.TemporaryDirectory(prefix='golden-') as folder, chromium.Chromium() as browser:
-        run.put_files(program.path(), folder, tried)
+        run.put_files(native(), folder, tried)
         files = [os.path.join(folder, name) for name in os.listdir(folder) if os.path.isfile(os.path.join(folder, name))]
         browser.show(page)
         browser.wait("document.body.dataset.ready === 'yes'")
         browser.value("document.body.append(Object.assign(document.createElement('input'), { type: 'file', id: 'golden', multiple: true }))")
         browser.choose('#golden', files)
-        if browser.value(READ % json.dumps(RUN)) != len(files):
+        if not browser.value(READ % json.dumps(RUN)):
             raise Trouble('the page did not get the files of the golden runs')
-        for case in tried:
-            status, line, size, digest = browser.value(f'golden({json.dumps(case.arguments())})')
+        found = browser.value(f'golden({json.dumps([case.arguments() for case in tried])})')
+        for case, (status, line, size, digest) in zip(tried, found):
             outcomes[case] = Outcome(str(status), line, str(size), digest, case.how in ZONES)
     return Result(len(tried), len(cases), list(wrong_lines(outcomes)))
 
@@ -156,17 +170,22 @@ def say(text: str):
     print(f'portable: {text}', flush=True)
 
 
-def passes(test: str, path: str) -> bool:
-    """Whether the tests of what is made pass, which find it by a variable."""
+def status_of_tests(test: str, part: str, path: str) -> int:
+    """How a part of the tests of what is made ends; they find it by a variable. What they say is shown at their end."""
     variable = {'test_exe': 'DOOMVIEW_EXE', 'test_page': 'DOOMVIEW_PAGE'}[test]
-    words = [sys.executable, '-B', '-m', 'unittest', 'discover', '-s', os.path.join(home.TOOLS, 'tests'), '-p', f'{test}.py']
-    return subprocess.run(words, env={**os.environ, variable: path, 'DOOMVIEW_TESTED': program.path()}).returncode == 0
+    words = [sys.executable, '-B', '-m', 'unittest', 'discover', '-s', os.path.join(home.TOOLS, 'tests'), '-p', f'{test}.py', '-k', part]
+    done = subprocess.run(words, env={**os.environ, variable: path, 'DOOMVIEW_TESTED': native()}, stdin=subprocess.DEVNULL,
+                          stdout=subprocess.PIPE, stderr=subprocess.STDOUT, errors='replace')
+    say(f'{test}, {part}: {done.stdout.rstrip()}')
+    if done.returncode:
+        return DIFFERENT if 'failures=' in done.stdout else UNTRIED
+    return 0
 
 
-def report(where: str, found: Result, reason: str, began: float) -> bool:
-    """Says how golden runs ended; whether all were well."""
+def report(where: str, found: Result, reason: str, began: float) -> int:
+    """Says how golden runs ended; the status for it."""
     for line in found.wrong:
         say(f'{where}: {line}')
     say(f'{where}: {found.tried - len(found.wrong)} of {found.tried} golden cases are well, in {time.monotonic() - began:.0f} seconds'
         + (f'; {found.every - found.tried} are left out: {reason}' if found.every > found.tried else ''))
-    return not found.wrong
+    return DIFFERENT if found.wrong else 0

@@ -4,17 +4,20 @@ No page of the kit says what is here: that its compiler hands the program to the
 as one file of LLVM's, module.bc, and that such a folder may be made of links. So nothing of the proved program rests on it.
 `rattle build` is called as for a build of the program, with a folder whose clang keeps its input and then compiles it; the
 object file has to be that of the build, byte for byte."""
+import hashlib
 import os
 import shutil
 import tempfile
 
 from doomview_tools import home
+from doomview_tools.files import write_whole
 from doomview_tools.trouble import Trouble
 
 from . import kit
 
 CRATE = 'doomview'
 MODULE = 'module.bc'
+STORE = 'previews'  # a folder of out/
 CLANG = '''#!/bin/sh
 /bin/cp module.bc "{folder}/module.bc" && exec "{kit}/toolchain/bin/clang" "$@"
 '''
@@ -103,8 +106,27 @@ def bytes_of(path: str) -> bytes:
         return file.read()
 
 
+def stored(kind: str, parts: list[bytes], make) -> bytes:
+    """What a function makes of some parts; it is kept in out/previews until something else is made of other parts."""
+    folder, key = os.path.join(home.TOP, 'out', STORE), hashlib.sha256(b''.join(hashlib.sha256(part).digest() for part in parts))
+    path = os.path.join(folder, f'{kind}-{key.hexdigest()[:32]}')
+    if not os.path.isfile(path):
+        data = make()
+        os.makedirs(folder, exist_ok=True)
+        for name in os.listdir(folder):
+            if name.startswith(f'{kind}-'):
+                os.remove(os.path.join(folder, name))
+        write_whole(path, data)
+    return bytes_of(path)
+
+
 def kept() -> bytes:
     """The bytes of the module; a Trouble where the kit does not make the program of one."""
+    return stored('module', [bytes_of(kit.object_file())], tapped)
+
+
+def tapped() -> bytes:
+    """The same, from a build."""
     kit_folder, built = kit.folder(), kit.object_file()
     with tempfile.TemporaryDirectory(prefix='doomview-') as folder:
         module, made = (os.path.join(folder, name) for name in (MODULE, 'doomview.o'))

@@ -1,5 +1,6 @@
 """doomview for Windows and for a browser: the module compiled anew, and linked with glue. All of it is a preview: it rests
 on what no page of the kit says, and no proof is about it."""
+import concurrent.futures
 import json
 import os
 import shutil
@@ -108,11 +109,8 @@ def built_in_header() -> str:
             + f'static const char version[] = "doomview {named}, a preview for Windows";\n')
 
 
-def windows(work: Workshop) -> Windows:
-    """The programs for Windows."""
-    if not shutil.which(WINDOWS_COMPILER):
-        raise Trouble(f'there is no command {WINDOWS_COMPILER} (Debian: mingw-w64)')
-    made = work.object('windows', X86)
+def windows(made: str, work: Workshop) -> Windows:
+    """The programs for Windows, of the module's object file."""
     with open(work.at('built_in.h'), 'w', encoding='utf-8') as file:
         file.write(built_in_header())
     found = []
@@ -125,9 +123,9 @@ def windows(work: Workshop) -> Windows:
     return Windows(*found)
 
 
-def browser(work: Workshop) -> bytes:
-    """The program for a browser, as WebAssembly with a memory of 64 bits."""
-    made, glue, host, target = work.object('wasm64', WASM), work.at('glue.o'), work.at('host'), work.at('doomview.wasm')
+def browser(made: str, work: Workshop) -> bytes:
+    """The program for a browser, as WebAssembly with a memory of 64 bits, of the module's object file."""
+    glue, host, target = work.at('glue.o'), work.at('host'), work.at('doomview.wasm')
     triple = f'--target={ir.TARGETS["wasm64"].triple}'
     work.clang(triple, *WASM, '--no-default-config', '-ffreestanding', '-nostdlibinc', '-O2', '-Wall', '-Wextra', '-c',
                os.path.join(GLUE, 'wasm.c'), '-o', glue)
@@ -152,8 +150,24 @@ def aarch64() -> bytes:
         return module.bytes_of(target)
 
 
+LINKS = {'windows': (windows, X86), 'wasm64': (browser, WASM)}
+
+
+def object_of(name: str, data: bytes, work: Workshop) -> str:
+    """The path of the module's object file for a target, which is kept in out/previews."""
+    path, sources = work.at(f'{name}.kept.o'), [ir.__file__, __file__, os.path.join(GLUE, 'heap.ll')]
+    parts = [data, *map(module.bytes_of, sources)]
+    with open(path, 'wb') as file:
+        file.write(module.stored(name, parts, lambda: module.bytes_of(work.object(name, LINKS[name][1]))))
+    return path
+
+
 def made(names: list[str]) -> dict:
-    """What is made for some targets, by name: `windows` or `wasm64`."""
-    with tempfile.TemporaryDirectory(prefix='doomview-') as folder:
-        work = Workshop(folder, module.kept())
-        return {name: {'windows': windows, 'wasm64': browser}[name](work) for name in names}
+    """What is made for some targets, side by side, by name: `windows` or `wasm64`."""
+    if 'windows' in names and not shutil.which(WINDOWS_COMPILER):
+        raise Trouble(f'there is no command {WINDOWS_COMPILER} (Debian: mingw-w64)')
+    with tempfile.TemporaryDirectory(prefix='doomview-') as folder, concurrent.futures.ThreadPoolExecutor() as pool:
+        data = module.kept()
+        work = Workshop(folder, data)
+        runs = {name: pool.submit(lambda name: LINKS[name][0](object_of(name, data, work), work), name) for name in names}
+        return {name: run.result() for name, run in runs.items()}

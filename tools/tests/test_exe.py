@@ -5,9 +5,10 @@ import shutil
 import subprocess
 import tempfile
 import unittest
+from unittest import mock
 
 from made_files import COMMAND
-from doomview_tools import levels, paths, wads
+from doomview_tools import levels, paths, program, wads
 from systems import check
 
 EXE, TESTED = os.environ.get('DOOMVIEW_EXE', ''), os.environ.get('DOOMVIEW_TESTED', '')
@@ -22,6 +23,8 @@ def first_line(said):
 
 @unittest.skipUnless(EXE and TESTED and check.wine(), 'there is no doomview.exe, no program or no Wine')
 class Exe(unittest.TestCase):
+    """A folder, and Wine with a folder of its own."""
+
     @classmethod
     def setUpClass(cls):
         cls.folder = tempfile.mkdtemp()
@@ -48,6 +51,8 @@ class Exe(unittest.TestCase):
         with open(self.at(name), 'w', encoding='utf-8') as file:
             file.write(paths.text(rows))
 
+
+class Starts(Exe):
     @unittest.skipUnless(GAMES, 'Freedoom is not installed')
     def test_starts(self):
         """Frame and counts from the start of each map of Freedoom."""
@@ -55,9 +60,13 @@ class Exe(unittest.TestCase):
             for name in wads.maps_of([wad]):
                 self.write('path.csv', paths.turn(levels.read([wad], name), 1))
                 for job in ('render', 'limits'):
-                    words = [job, name, wad, '--path', 'path.csv', *RAISED]
-                    self.assertEqual(self.exe(*words), self.command(*words), words)
+                    words = [job, name, wad, '--path', self.at('path.csv'), *RAISED]
+                    with mock.patch.dict(os.environ, DOOMVIEW=TESTED):
+                        done = program.run(words)
+                    self.assertEqual(self.exe(*words), (0, done.output, done.line), words)
 
+
+class Jobs(Exe):
     def test_jobs(self):
         """Each job over a level takes the tables that are built in, and those that are named."""
         self.command('room', '-o', 'room.wad')

@@ -11,7 +11,7 @@ import unittest
 
 import pages_shown
 from made_files import COMMAND, Tools, name, wad
-from doomview_tools import cells, counting, ground, levels, limits_page, traces, ways
+from doomview_tools import cells, counting, earlier, ground, levels, limits_page, traces, ways
 
 COARSE = ['--step', '256', '--directions', '4']
 TESTED = os.environ.get('DOOMVIEW_TESTED', '')
@@ -36,6 +36,10 @@ for view, (x, y, z, angle) in enumerate(rows):
               f'{sprites} of {sprites}')
     else:
         sys.stdout.buffer.write(bytes(i % 251 for i in range(64000 if job == 'render' else 512000)))
+'''
+
+# In other rows than in the first version: in the south half more planes, in the north half fewer.
+OTHER = '''    planes += 9 if y >> 16 < 256 else -9
 '''
 
 
@@ -74,17 +78,20 @@ def solids_of(fragments):
 
 
 class Made:
-    """Runs that count by chance, and draw frames that no compression makes smaller."""
+    """Runs that count as by chance, and draw frames that no compression makes smaller."""
 
     def __init__(self):
         self.chance = random.Random(1)
 
     def counts(self, rows, what=''):
-        return [{'planes': self.chance.randrange(1025), 'openings': self.chance.randrange(245761),
-                 'fragments': self.chance.randrange(257), 'sprites': self.chance.randrange(129)} for _ in rows]
+        return [{'planes': number % 1025, 'openings': number % 245761, 'fragments': number % 257, 'sprites': number % 129}
+                for number in map(hash, rows)]
 
-    def listed(self, rows, what='', is_solid=None):
-        return [{**counts, 'solids': self.chance.randrange(33)} for counts in self.counts(rows)]
+    def listed(self, rows, what=''):
+        return iter(self.counts(rows))
+
+    def ranges(self, rows, what=''):
+        return iter([self.chance.randrange(33) for _ in rows])
 
     def drawn(self, job, rows, size):
         repeated = 1 if job == 'render' else 64
@@ -152,14 +159,82 @@ class LimitsMap(Tools):
         self.assertRegex(lines[4], r'^  fragments most \d+ of 256, \d+ views over, row [-\d]+(,[-\d]+){3}$')
 
     def test_before(self):
-        """An earlier run: what got worse and what better, in the lines, on the page and in the status."""
+        """An earlier run: at which places it got worse and better, in the lines, on the page and in the status."""
         status, found = self.looked('--shut')
-        old = found['states'][0]['counts']
         self.write('same.json', json.dumps(found, indent=1).encode())
-        for name, more in [('planes', 0), ('fragments', -1), ('sprites', -1)]:
-            old[name]['most'] += more
-        old['fragments']['over'] -= 1
-        old['solids']['most'] += 5
+        other = self.stand_in('other', COUNTING.replace('    if job ==', OTHER + '    if job ==', 1))
+        words = ['limits-map', 'hall.wad', 'MAP01', '--shut', *COARSE]
+        status, output, _ = self.run_tool(*words, '--json', 'page.html', '--before', 'same.json', doomview=other)
+        now, old = json.loads(output), {tuple(square[:2]): square for square in found['states'][0]['squares']}
+        expected = {(x, y, old[x, y][3], planes) for x, y, _, planes, *_ in now['states'][0]['squares']
+                    if (x, y) in old and planes != old[x, y][3] and max(planes, old[x, y][3]) > 128}
+        changes = {(change['x'], change['y'], change['before'], change['now']) for change in now['changes']}
+        self.assertEqual((status, now['worse'], {change['count'] for change in now['changes']}), (1, True, {'planes'}))
+        self.assertEqual({it for it in changes if None not in it}, expected)
+        self.assertEqual({now > before for x, y, before, now in expected}, {True, False})
+        self.assertTrue(all((now > before) == (y < 256) for _, y, before, now in expected))
+        self.assertEqual(now['before'][0].split(':')[0], 'worse, doors shut')
+        self.assertRegex(now['before'][1], r'^  worse at \d+ places: x \d+ y \d+: 1[3-9]\d, before 1[23]\d; x ')
+        self.assertRegex(now['before'][2], r'^  better at \d+ places: x \d+ y \d+: 1[0-4]\d, before 1[3-9]\d; x ')
+        data = pages_shown.data_of(self.at('page.html'))
+        self.assertEqual(data['before'], now['before'])
+        if pages_shown.BROWSER:
+            found = pages_shown.shown(self.at('page.html'), '''const all = [display.shown.marks.length, find('changes').textContent];
+                hit('b'); all.push(display.shown.marks.length); hit('2', 'b'); all.push(display.shown.marks.length); return all;''')
+            worse = sum(now > (before or 0) for *_, before, now in changes)
+            self.assertEqual(found, [len(changes), f'since the earlier run, planes: ▲ worse at {worse}, ▼ better at '
+                                     f'{len(changes) - worse}', 0, 0])
+        shown = {tuple(row[2:]) for row in pages_shown.rows_of(data['changes'])}
+        self.assertEqual(shown, {tuple(-1 if part is None else part for part in change) for change in changes})
+        status, output, _ = self.run_tool(*words, '--before', 'same.json', doomview=self.counting)
+        self.assertEqual((status, b'worse' in output), (0, False))  # over a limit as before
+        status, output, _ = self.run_tool(*words, '--before', 'same.json', doomview=self.stand_in('better', COUNTING.replace(
+            'planes = 60', 'planes = 50')))
+        self.assertEqual((status, b'better, doors shut: planes most ' in output), (0, True))
+
+    def test_places_compared(self):
+        """A place that is new counts, and one that is gone; a quarter in one run alone does not."""
+        def state(*squares):
+            most = max(square[3] for square in squares)
+            return {'doors': 'shut', 'step': 64, 'squares': [[*square, 0, 0, 0, 0] for square in squares],
+                    'counts': {'planes': {'most': most, 'over': sum(square[3] > 128 for square in squares)}}}
+        old = state((0, 0, 64, 140), (64, 0, 64, 130), (128, 0, 64, 90), (48, 16, 32, 150))
+        for squares, verdict, changes in [
+                ([(0, 0, 64, 150), (64, 0, 64, 130), (128, 0, 64, 90)], 'worse', [(0, 0, 140, 150)]),
+                ([(0, 0, 64, 140), (64, 0, 64, 130), (48, 16, 32, 150), (16, 16, 32, 160)], 'more', []),
+                ([(0, 0, 64, 140), (128, 0, 64, 90)], 'better', [(64, 0, 130, None)]),
+                ([(0, 0, 64, 140), (64, 0, 64, 130), (192, 0, 64, 129)], 'worse', [(192, 0, None, 129)]),
+                ([(0, 0, 64, 140), (64, 0, 64, 130), (128, 0, 64, 128)], 'fewer', []),
+                ([(0, 0, 64, 120), (64, 0, 64, 131)], 'worse', [(0, 0, 140, 120), (64, 0, 130, 131)])]:
+            found = earlier.compared({'states': [old]}, {'states': [state(*squares)]}, counting.LIMITS)
+            self.assertEqual([tuple(change[2:]) for change in found.changes], changes, squares)
+            self.assertEqual((found.lines[0].split(',')[0], found.is_worse), (verdict, verdict == 'worse'), squares)
+
+    def test_same_grid(self):
+        """A run beside an earlier one looks from its places, though the map grew, in its directions."""
+        self.write('old.json', json.dumps(self.looked('--shut')[1]).encode())
+        lumps = dict(hall())
+        lumps['VERTEXES'] += struct.pack('<hhhhhh', -1000, -40, -900, -40, -1000, 70)  # a triangle far away
+        lumps['LINEDEFS'] += b''.join(struct.pack('<7H', 12 + i, 12 + (i + 1) % 3, 1, 0, 0, 0, 0xffff) for i in range(3))
+        self.write('hall.wad', wad([('PLAYPAL', bytes(range(256)) * 3), ('MAP01', b''), *lumps.items()]))
+        words = ['limits-map', 'hall.wad', 'MAP01', '--json', '--shut']
+        places = []
+        for more in (COARSE, ['--before', 'old.json']):
+            output = self.run_tool(*words, *more, doomview=self.counting)[1]
+            places.append({tuple(square) for square in json.loads(output)['states'][0]['squares']})
+        with open(self.at('old.json'), encoding='utf-8') as file:
+            old = {tuple(square) for square in json.load(file)['states'][0]['squares']}
+        self.assertEqual((places[1], places[0] == old), (old, False))
+
+    def test_before_sums(self):
+        """Of an earlier run without places sums are compared; what is no earlier run is refused."""
+        found = self.looked('--shut')[1]
+        state = found['states'][0]
+        del state['squares'], found['directions']
+        for count, more in [('planes', 0), ('fragments', -1), ('sprites', -1)]:
+            state['counts'][count]['most'] += more
+        state['counts']['fragments']['over'] -= 1
+        state['counts']['solids']['most'] += 5
         self.write('old.json', (json.dumps(found) + '\n').encode())
         words = ['limits-map', 'hall.wad', 'MAP01', '--shut', *COARSE]
         status, output, _ = self.run_tool(*words, 'page.html', '--before', 'old.json', doomview=self.counting)
@@ -167,10 +242,9 @@ class LimitsMap(Tools):
         self.assertEqual([line.split(':')[0] + line.split(':')[1].split(' most')[0] for line in told],
                          ['worse, doors shut fragments', 'worse, doors shut sprites', 'better, doors shut solids'])
         self.assertEqual((status, pages_shown.data_of(self.at('page.html'))['before']), (1, told))
-        status, output, _ = self.run_tool(*words, '--before', 'same.json', doomview=self.counting)
-        self.assertEqual((status, b'worse' in output), (0, False))  # over a limit as before
         for text, part in [(b'{', 'is nothing that'), (b'[1]', 'is nothing that'), (b'', 'has no numbers of MAP01'),
-                           (b'{"map": "MAP01", "states": [{"counts": {"planes": {"most": "x"}}}]}', 'is nothing that')]:
+                           (b'{"map": "MAP01", "states": [{"counts": {"planes": {"most": "x"}}}]}', 'is nothing that'),
+                           (b'{"map": "MAP01", "states": [{"counts": {}, "step": 8, "squares": [[1, 2]]}]}', 'is nothing')]:
             self.write('bad.json', text)
             self.refuses(part, *words, '--before', 'bad.json', doomview=self.counting)
 
@@ -238,15 +312,16 @@ class LimitsMap(Tools):
         """A page of as many places and views as there can be is no larger than 3 MB, and the worst have pictures."""
         plan = ground.Plan(levels.read([self.hall], 'MAP01'))
         options = types.SimpleNamespace(limits=counting.LIMITS, all=True, step=8, directions=8, views=20)
-        states = [limits_page.State(label, cells.Grid(ground.Ground(plan), Made(), ways.reach(plan), options), Made())
+        states = [limits_page.State(label, cells.Grid(ground.Ground(plan), Made(), Made(), ways.reach(plan), options), Made())
                   for label in ('shut', 'open')]
         self.assertGreater(min(len(state.grid.cells) for state in states), 9000)
         made = limits_page.limits_page(plan, [self.hall], states, bytes(768), options, {1: 124}, '')
         page = self.write('page.html', made)
         self.assertLessEqual(os.path.getsize(page), 3000000)
         for shown in pages_shown.data_of(page)['states']:
+            numbers = [view for order in shown['order'].values() for view in order]
             for order in shown['order'].values():
-                found = [len(shown['views'][view]['picture']) for view in order]
+                found = [len(shown['views'][view]['picture']) for view in order if numbers.count(view) == 1]
                 self.assertGreater(found[0], 16000)
                 self.assertGreater(len(set(found)), 1)
                 self.assertEqual(found, sorted(found, reverse=True))

@@ -36,8 +36,10 @@ if 'MAP02' in words:
 with open(words[words.index('--path') + 1]) as file:
     rows = list(file)[1:]
 assert words[0] == 'list' and ' --planes 1024 --openings 245760 ' in ' '.join(words)
+alone = ['view 0 fragment 0 seg 1 first 100 last 199', 'view 0 fragment 1 seg 2 first 200 last 319',
+         'view 0 fragments 2 of 2 planes 0 openings 0 sprites 0 of 0']  # of the solid walls
 for view, row in enumerate(rows):
-    for line in LINES:
+    for line in alone if any(word.endswith('walls.wad') for word in words) else LINES:
         print(line.replace('view 0 ', f'view {view} '))
 '''
 

@@ -5,26 +5,27 @@ the tools say. tools/portable --check makes a page and runs these tests; a page 
 import base64
 import contextlib
 import hashlib
-import io
 import json
 import os
 import random
 import re
 import shutil
 import subprocess
-import sys
 import tempfile
 import unittest
+from unittest import mock
 
 import pages_shown
 from made_files import COMMAND, TOP
-from doomview_tools import explanations, levels, lists, paths, traces, wads
+from doomview_tools import counting, explanations, levels, list_counts, lists, paths, png, program, traces, wads
 from systems import check, chromium
 
 PAGE, TESTED = os.environ.get('DOOMVIEW_PAGE', ''), os.environ.get('DOOMVIEW_TESTED', '')
 GAMES = [path for path in ('/usr/share/games/doom/freedoom1.wad', '/usr/share/games/doom/freedoom2.wad') if os.path.exists(path)]
 COUNTED = [('freedoom2.wad', name) for name in ('MAP01', 'MAP02', 'MAP07')] + [('freedoom1.wad', name) for name in ('E1M1', 'E1M6')]
 STEP = os.environ.get('DOOMVIEW_STEP', '128')
+RAISED = ['--planes', '1024', '--openings', '245760']
+MOST = {'planes': 1024, 'openings': 245760, 'fragments': 256, 'sprites': 128}  # that `limits` counts then
 # Refusals for the WADs alone, whatever the thing table has.
 OF_WADS = r'doomview: refused (4..|5..|6..|7..|90[135])( |$)'
 # Gives the worker that reads levels another thing table.
@@ -34,6 +35,9 @@ NO_WADS = (401, 402, 403)  # refusals of a file that is no whole WAD, which the 
 SAID, READY = "find('said').textContent", "document.body.dataset.ready === 'yes'"
 BASE64 = '''(bytes => { let s = ''; for (let i = 0; i < bytes.length; i += 4096) s += String.fromCharCode(...bytes.subarray(i, i + 4096));
 return btoa(s); })'''
+# Drops a path, and as its frames the view that is shown.
+DROP = '''(() => { const dataTransfer = new DataTransfer(); dataTransfer.items.add(new File([%s], 'own.csv'));
+dataTransfer.items.add(new File([walker.view.frame], 'own.bin')); dispatchEvent(new DragEvent('drop', { dataTransfer })); })()'''
 KEYS = {'ArrowUp': 38, 'ArrowLeft': 37, 'ArrowRight': 39, 'ArrowDown': 40}
 
 
@@ -101,10 +105,13 @@ class Shown(unittest.TestCase):
         path = self.at('path.csv')
         with open(path, 'w', encoding='utf-8') as file:
             file.write(paths.text(rows))
-        return run(job, name, *([wad] if isinstance(wad, str) else wad), '--path', path, *more)
+        with mock.patch.dict(os.environ, DOOMVIEW=TESTED):
+            done = program.run([job, name, *([wad] if isinstance(wad, str) else wad), '--path', path, *more])
+        self.assertEqual((done.status, done.line), (0, ''))
+        return done.output
 
 
-class Views(Shown):
+class Starts(Shown):
     @unittest.skipUnless(GAMES, 'Freedoom is not installed')
     def test_starts(self):
         """Frame and counts from the start of each map of Freedoom are those of the program."""
@@ -113,17 +120,22 @@ class Views(Shown):
             self.take(wad)
             for name in wads.maps_of([wad]):
                 self.choose(name)
-                row = paths.turn(levels.read([wad], name), 1)[0]
+                level = levels.read([wad], name)
+                row = paths.turn(level, 1)[0]
                 self.assertEqual(self.value('walker.view.row'), list(row[:4]), name)
-                drawn = self.native('render', wad, name, [row], '--planes', '1024', '--openings', '245760')
-                self.assertEqual(self.frame(), drawn, name)
-                counted = self.native('limits', wad, name, [row], '--planes', '1024', '--openings', '245760').decode()
-                said = ' '.join(f'{key} {value}' for key, value in self.value('walker.view.counts').items())
-                self.assertEqual(counted, f'view 0 {said}\n', name)
+                self.assertEqual(self.frame(), self.native('render', wad, name, [row], *RAISED), name)
+                counts = self.value('walker.view.counts')
+                listed = self.native('list', wad, name, [row], *RAISED)
+                self.assertEqual(counts, next(list_counts.counts_of(listed, list_counts.solid_segs(level))), name)
+                limits = self.native('limits', wad, name, [row], *RAISED).decode()
+                capped = ' '.join(f'{key} {min(counts[key], most)}' for key, most in MOST.items())
+                self.assertEqual(limits, f'view 0 {capped}\n', name)
                 tried += 1
             self.value("list.files = []; list.changed([]); 0")
         self.assertEqual(tried, 32 * ('freedoom2.wad' in GAMES[-1]) + 36 * ('freedoom1.wad' in GAMES[0]))
 
+
+class Views(Shown):
     def test_walk(self):
         """Keys, clicks and buttons move the eye; what is shown is what the program draws there."""
         self.take(self.room)
@@ -181,6 +193,9 @@ class Views(Shown):
         box = self.value("(({ left, top, width, height }) => [left, top, width, height])(find('picture').getBoundingClientRect())")
         self.browser.mouse('mouseMoved', box[0] + box[2] / 2, box[1] + box[3] / 2)
         self.browser.wait("find('pixel').textContent.startsWith('column 160 row 100: ')")
+        before = self.value("find('pixel').textContent")
+        self.go((30 << 22, 13 << 20, 41 << 16, 1 << 31))
+        self.browser.wait(f"find('pixel').textContent.startsWith('column 160 row 100: ') && find('pixel').textContent !== {before!r}")
 
     def test_compare(self):
         """The comparison with a port's frames is that of `compare --html`."""
@@ -205,6 +220,31 @@ class Views(Shown):
                 self.assertEqual(here[part], there[part], part)
         self.assertIn('views 13 same', data['head'])
         self.browser.wait("find('comparison').contentDocument?.querySelectorAll('section').length > 3")
+        self.compare_pictures(data)
+
+    def compare_pictures(self, data):
+        """The same frames as pictures give the same views; one with a colour of no palette is named."""
+        with open(self.at('port.bin'), 'rb') as file:
+            frames = file.read()
+        palette = dict(wads.read(self.room))['PLAYPAL'][:768]
+        names = [f'shot{view}.png' for view in range(len(frames) // 64000)]
+        for view, name in enumerate(names):
+            pixels = b''.join(palette[3 * i:3 * i + 3] for i in frames[64000 * view:64000 * (view + 1)])
+            with open(self.at(name), 'wb') as file:
+                file.write(png.png(320, 200, pixels))
+        self.value("compared = ''; 0")
+        self.browser.choose('#portFrames', [self.at(name) for name in reversed(names)])
+        self.value("find('compare').click(); 0")
+        self.browser.wait('compared')
+        views = json.loads(self.value('compared.match(/^const data = (.*);$/m)[1]'))['views']
+        self.assertEqual([[view['view'], view['pixels']] for view in views], [[view['view'], view['pixels']] for view in data['views']])
+        with open(self.at('shot7.png'), 'wb') as file:
+            file.write(png.png(320, 200, b'\1\2\3' * 64000))
+        self.browser.choose('#portFrames', [self.at(name) for name in names])
+        self.value("find('compare').click(); 0")
+        self.browser.wait("find('compared').textContent.startsWith('shot7.png: the colour 1,2,3 at row 0 column 0 is in no entry')")
+        self.value(DROP % json.dumps(paths.text([paths.Row(*self.value('walker.view.row'))])))
+        self.browser.wait("find('compared').textContent === 'doomview and own.bin: views 1 same 1 different 0 pixels 0'")
 
     def test_open(self):
         """The picture of a worst view with the doors open is that of the map with its doors open."""
@@ -221,7 +261,7 @@ class Views(Shown):
         self.assertEqual(self.frame(), self.native('render', [wad, self.at('open.wad')], 'MAP01', [row]))
 
 
-class Counts(Shown):
+class Maps(Shown):
     @unittest.skipUnless(len(GAMES) == 2, 'Freedoom is not installed')
     def test_maps(self):
         """The numbers of whole maps are those of `limits-map --all --json`."""
@@ -237,12 +277,16 @@ class Counts(Shown):
             native, here = json.loads(done.stdout), self.value('whole.found.numbers')
             self.assertEqual({**here, 'wad': wad}, native, name)
 
+
+class Counts(Shown):
     def test_room(self):
         """A whole count shows its squares, worst views and numbers; keys go from view to view, and it can be stopped."""
         self.take(self.room)
+        self.value("window.grown = []; whole.grow = part => { WholeMap.prototype.grow.call(whole, part); grown.push(whole.now().places.length); }; 0")
         self.value("find('start').click(); 0")
         self.browser.wait('whole.found && !walker.isBusy')
-        self.assertEqual(self.value("document.querySelectorAll('#most button').length"), 4)
+        self.assertGreater(len(set(self.value('grown'))), 2)
+        self.assertEqual(self.value("document.querySelectorAll('#most button').length"), len(counting.COUNTS))
         worst = self.value('whole.worst().map(view => view[1])')
         self.assertEqual(self.value('walker.view.row'), worst[0])
         self.browser.press('n')
@@ -368,6 +412,39 @@ class Looks(Shown):
         rows = [paths.Row(*row)]
         self.assertEqual(self.native('render', self.at('small.wad'), 'MAP01', rows), self.native('render', self.room, 'MAP01', rows))
         self.assertEqual(self.value("saved['map01.png'].type"), 'image/png')
+
+    def test_touch(self):
+        """Two fingers bring the map nearer, and what is below them stays there; one finger moves it, and a tap stands there."""
+        self.browser.call('Emulation.setTouchEmulationEnabled', enabled=True, maxTouchPoints=2)
+        self.take(self.room)
+        left, top = self.value("(({ left, top }) => [left, top])(find('map').getBoundingClientRect())")
+        scale, before = self.value('display.scale'), self.value('[display.from(100, 150), display.from(200, 150)]')
+        row = self.value('walker.view.row')
+
+        def touch(kind, *points):
+            self.browser.call('Input.dispatchTouchEvent', type=kind, touchPoints=[
+                {'x': left + 1 + x, 'y': top + 1 + y, 'id': number} for number, (x, y) in enumerate(points)])
+
+        touch('touchStart', (100, 150))
+        touch('touchStart', (100, 150), (200, 150))
+        touch('touchMove', (60, 150), (200, 150))
+        touch('touchMove', (60, 150), (260, 150))
+        touch('touchEnd')
+        self.assertAlmostEqual(self.value('display.scale') / scale, 2, delta=.05)
+        after = self.value('[display.from(60, 150), display.from(260, 150)]')
+        for one, other in zip(sum(before, []), sum(after, [])):
+            self.assertAlmostEqual(one, other, delta=8)
+        self.assertEqual(self.value('walker.view.row'), row)
+        touch('touchStart', (100, 150))
+        touch('touchMove', (140, 150))
+        touch('touchEnd')
+        self.assertAlmostEqual(self.value('display.from(100, 150)[0]'), after[0][0], delta=8)
+        self.value('display.whole(); 0')
+        x, y = self.value('display.at(480, 300)')
+        touch('touchStart', (x, y))
+        touch('touchEnd')
+        self.browser.wait(f'!walker.isBusy && walker.view.row.join() !== {json.dumps(row)}.join()')
+        self.assertAlmostEqual(self.value('walker.view.row[0]') / 65536, 480, delta=4)
 
     def test_narrow(self):
         """At 700 pixels nothing is wider than the page, and each control can be reached by the keyboard."""

@@ -2,9 +2,11 @@
 the page. What is made is tried by tools/portable --check, which runs the tests of test_page too."""
 import os
 import re
+import shutil
+import subprocess
 import unittest
 
-from made_files import TOOLS, Tools
+from made_files import TOOLS, TOP, Tools
 from doomview_tools.trouble import Trouble
 from systems import ir, kit, module, page, static, targets
 
@@ -152,6 +154,17 @@ class Kit(Tools):
         self.assertEqual(os.listdir(self.at('kit/toolchain/bin')), ['clang'])
         self.assertEqual(os.listdir(self.at('top/crates/doomview/out')), ['doomview.o'])
 
+    def test_stored(self):
+        """The module is kept, and made anew for another object file alone."""
+        self.rattle()
+        self.assertEqual(module.kept(), b'module\n')
+        self.rattle('other.bc')
+        self.assertEqual(module.kept(), b'module\n')
+        self.write('top/crates/doomview/out/doomview.o', b'other\n')
+        self.refused('rattle build')
+        self.assertEqual(module.stored('module', [b'other'], lambda: b'made'), b'made')
+        self.assertEqual(len(os.listdir(self.at('top/out/previews'))), 1)
+
     def test_unknown_kit(self):
         self.rattle('other.bc')
         self.refused('rattle build')
@@ -179,6 +192,47 @@ class Kit(Tools):
         self.stand_in('path/rt', '#!/bin/sh\nexit 2\n')
         self.refused('`rt doc` names no page', kit.folder)
         self.refused('the kit has no', lambda: kit.archives(self.at('kit')))
+
+
+class Gate(Tools):
+    """.ci/run with stand-ins for all that it calls."""
+
+    def setUp(self):
+        super().setUp()
+        for folder in ('top/.ci', 'top/tools', 'path'):
+            os.makedirs(self.at(folder))
+        shutil.copy(os.path.join(TOP, '.ci', 'run'), self.at('top/.ci/run'))
+        for name in ('bash', 'dirname', 'timeout', 'python3'):
+            os.symlink(shutil.which(name), self.at(f'path/{name}'))
+        self.answers(0, 0, 1)
+
+    def answers(self, proved, checked, tried):
+        for name, status in (('path/rt', proved), ('top/tools/check', checked), ('top/tools/portable', tried)):
+            self.stand_in(name, f'#!/bin/sh\necho {os.path.basename(name)} "$@"\nexit {status}\n')
+
+    def run_gate(self):
+        """Its status, and the commands that it called."""
+        done = subprocess.run([self.at('top/.ci/run')], env={'PATH': self.at('path')}, stdin=subprocess.DEVNULL,
+                              capture_output=True, text=True)
+        return done.returncode, [line for line in done.stdout.splitlines() if not line.startswith('ci: ')]
+
+    def test_nothing_there(self):
+        """Without Wine, Chromium or the compiler the gate is what it was."""
+        self.assertEqual(self.run_gate(), (0, ['rt ci', 'check']))
+        self.stand_in('path/wine', '#!/bin/sh\n')
+        self.stand_in('path/chromium', '#!/bin/sh\n')
+        self.assertEqual(self.run_gate(), (0, ['rt ci', 'check']))
+
+    def test_previews(self):
+        """A preview that differs fails the gate, one that could not be tried does not; what failed before is told at once."""
+        for name in ('wine', 'chromium', 'x86_64-w64-mingw32-gcc'):
+            self.stand_in(f'path/{name}', '#!/bin/sh\n')
+        all_three = ['rt ci', 'check', 'portable --check']
+        for proved, checked, tried, status, called in [
+                (0, 0, 0, 0, all_three), (0, 0, 1, 1, all_three), (0, 0, 2, 0, all_three), (0, 0, 124, 0, all_three),
+                (0, 1, 0, 1, all_three[:2]), (1, 0, 0, 1, all_three[:1])]:
+            self.answers(proved, checked, tried)
+            self.assertEqual(self.run_gate(), (status, called))
 
 
 class Static(unittest.TestCase):

@@ -1,4 +1,5 @@
 """Tests tools over several WADs: --iwad and --file in the order of loading, and what is said where one is missing."""
+import os
 import unittest
 
 from made_files import Tools
@@ -6,6 +7,7 @@ from made_maps import Map
 from doomview_tools import cli, room, wads
 from doomview_tools.commands import lint
 
+TESTED = os.environ.get('DOOMVIEW_TESTED', '')
 TEXTURES = ['BRICKS', 'PANELS', 'BARS', 'SKY1']
 # Writes its words down, but for the tables.
 WRITING = '''#!/bin/sh
@@ -65,6 +67,39 @@ class Several(Tools):
         self.assertRegex(self.read('words'), r'^audit .* MAP07 game\.wad --path path\.csv mine\.wad\n')
         status, output, _ = self.run_tool('places', *both, 'MAP07', '3')
         self.assertEqual((status, len(output.splitlines())), (0, 5))
+
+    def two_maps(self):
+        """A WAD with two maps, whose textures and flats are in two others."""
+        lumps = Map('....', **{'.': {'wall': 'MINE', 'below': 'MYFLAT'}}).lumps
+        named = [('MAP07' if label == 'MAP01' else label, data) for label, data in lumps.items()]
+        return self.write('two.wad', wads.packed([*named, *((label.replace('07', '09'), data) for label, data in named)], b'PWAD'))
+
+    def test_all_maps(self):
+        """audit-all looks at each map of the own WAD with all WADs in their order, and places has rows of each."""
+        self.two_maps()
+        both = ['--iwad', 'game.wad', '--file', 'more.wad', '--file', 'art.wad', 'two.wad']
+        self.write('words', b'')
+        status, output, _ = self.run_tool('audit-all', *both, doomview=self.writing)
+        self.assertEqual((status, [line.split()[0] for line in output.decode().splitlines()]), (0, ['MAP07', 'MAP09']))
+        for name, words in zip(('MAP07', 'MAP09'), self.read('words').splitlines()[-2:]):
+            self.assertIn(f' {name} game.wad more.wad art.wad two.wad ', words)
+        rows = [self.run_tool('places', *both, name, '5')[1] for name in ('MAP07', 'MAP09')]
+        self.assertEqual((rows[0], len(rows[0].splitlines())), (rows[1], 7))
+
+    @unittest.skipUnless(TESTED, 'no program is named')
+    def test_program(self):
+        """With the program: maps with textures of two WADs are accepted with these, and refused without."""
+        self.two_maps()
+        both = ['--file', 'more.wad', '--file', 'art.wad']
+        for files, expected in [(both, (0, ['accepted'] * 2)), (both[2:], (1, ['doomview:'] * 2))]:
+            status, output, _ = self.run_tool('audit-all', '--iwad', 'game.wad', *files, 'two.wad', doomview=TESTED)
+            self.assertEqual((status, [line.split()[1] for line in output.decode().splitlines()]), expected)
+        self.run_tool('places', '--iwad', 'game.wad', *both, 'two.wad', 'MAP09', '3', '-o', 'path.csv')
+        words = ['MAP09', 'game.wad', 'art.wad', 'two.wad', '--path', 'path.csv']
+        status, _, error = self.run_tool('explain', 'limits', *words, doomview=TESTED)
+        self.assertEqual((status, 'MYFLAT' in error), (2, True))
+        status, output, _ = self.run_tool('explain', '--file', 'more.wad', 'limits', *words, doomview=TESTED)
+        self.assertEqual((status, len(output.splitlines())), (0, 4))
 
     def test_no_game(self):
         """Where the WAD of the game is needed and none is named that is said alone."""

@@ -204,7 +204,8 @@ impl WallState {
             (length self.old.openings) (step_of_wall tools.old.view.now walls
             (wall_of tools.old.view.now facts.now first last)) }
         ensures paints { Paints draw_fault C.mark (wall_tools tools.old)
-            (IsSeenOf tools.old.view.now self.old facts.now first last) IsNoPicture (AreBehind tools.old.view.now self.old tools.old.planes.now.planes)
+            (IsSeenOf tools.old.view.now self.old facts.now first last) IsNoPicture
+            (AreBehind tools.old.view.now self.old tools.old.planes.now.planes)
             (λ contents behind. range_dots tools.old facts.now first last behind.0 contents)
             (wall_state S.view C.view tools.old) (wall_state S.view C.view tools.new) result }
         ensures past { length self.old.notes ≡ MAX_DRAWSEGS → result ≡ Ok tt }

@@ -1,6 +1,9 @@
 """doomview limits-map: what the views of a whole map count."""
+import argparse
 import json
+import math
 import os
+import re
 import tempfile
 
 from .. import cli, cli_limits, earlier, ground, levels, paths, system, wads, ways
@@ -11,18 +14,20 @@ from ..index_page import index_page
 from ..limits_page import State, limits_page
 from ..png import GREYS
 from ..trouble import TROUBLE, Trouble
+from ..walls import walls_alone
 
 OVER = 1
 LEAST_STEP, MOST_STEP = 8, 1024
 SHOWN = 3  # things of a sector
+NUMBERS = re.compile(r'\[\n[-\d,\s]+\]')  # a list of numbers in JSON, each in a line of its own
 WITHOUT = ('--path', '--planes', '--openings', '--weapon')  # options of limits that the tool gives itself, or not
 PAGE = cli.Page(
     'limits-map', 'where the views of a whole map, or of all maps, come to a limit; as a page', '''
 Counts what the views of a whole map have: planes, openings, fragments and sprites, as doomview limits counts them,
 and prints of each count the greatest with the row of its view. The original ends at more than 128 planes or 20,480
 openings, and does not draw walls and sprites past 256 fragments and 128 sprites. It ends too at more than 32 solid
-ranges of columns that walls have filled: these are counted by what doomview list says, from each place in the one or two
-directions with the most fragments, and of a view with more than 256 fragments by the first 256.
+ranges of columns that walls have filled: these are counted by what doomview list says of the solid walls alone, from each
+place in the one or two directions with the most fragments.
 
 It looks from places of a grid at which a player can stand: within the lines, 56 units of height, 16 off the walls, in
 sectors to which a way leads from a start, the eye 41 over the floor, in 8 directions. A way leads over steps of up to
@@ -57,7 +62,8 @@ def add_words(parser):
     parser.add_argument('--json', action='store_true', help='prints the numbers as JSON; with --all-maps each map in a '
                         'line')
     parser.add_argument('--before', metavar='OLD.json', help='what --json wrote earlier: says what got worse or better '
-                        'since, also on the page')
+                        'since and at which places, also on the page; looks from the same grid, with the --step and the '
+                        '--directions of that run')
     parser.add_argument('--worst', metavar='FILE', help='writes the worst views of each count as a camera path to FILE')
     parser.add_argument('--opened', metavar='FILE', help='writes the map with its doors open as a WAD to FILE, which goes '
                         'behind the WADs of a job')
@@ -102,11 +108,21 @@ def numbers(plan, states, options):
         return {'most': worst[0][0] if worst else 0, 'limit': options.limits[name], 'over': grid.over[name],
                 'row': list(worst[0][1][:4]) if worst else None}
     shown = [{'doors': state.label, 'places': len(state.grid.cells), 'views': state.grid.views,
-              'step': state.grid.step, 'counts': {name: of_count(state.grid, name) for name in COUNTS}}
-             for state in states]
+              'step': state.grid.step, 'counts': {name: of_count(state.grid, name) for name in COUNTS},
+              'squares': list(map(square, state.grid.cells))} for state in states]
     return {'map': plan.level.name, 'wad': plan.level.wad, 'sectors': len(plan.level.sectors),
             'reached': len(states[0].grid.reached), 'no_way': no_way(plan.level, states[0].grid.wanted),
-            'over': any(state.grid.is_bad() for state in states), 'states': shown}
+            'over': any(state.grid.is_bad() for state in states), 'directions': options.directions, 'states': shown}
+
+
+def square(cell):
+    """A cell as JSON has it: its x and y, the side of its square, and its counts."""
+    return [cell.x, math.floor(cell.y), cell.size, *map(cell.count, COUNTS)]
+
+
+def json_of(found):
+    """The numbers of a map as JSON, with a line for each square."""
+    return NUMBERS.sub(lambda it: ' '.join(it[0].split()), json.dumps(found, indent=1))
 
 
 def no_way(level, wanted):
@@ -137,21 +153,31 @@ def things_told(one):
     return ', '.join(shown) + (f' and {more} more' if more > 0 else '')
 
 
-def states_of(plan, runs, options, folder, progress):
-    """The map with its doors shut, and open unless that is left out."""
+def states_of(plan, runs, options, folder, before):
+    """The map with its doors shut, and open unless that is left out; from the grid of an earlier run, if there is one."""
     reach, doors = ways.reach(plan), plan.doors()
     if not reach.sectors and not options.all:
         raise plan.level.error('has no start of a player; --all looks from all places')
-    found = [State('shut', Grid(ground.Ground(plan), runs, reach, options, 'doors shut, '), runs)]
+    plans = [('shut', plan, runs)]
     if doors and not options.shut:
-        path = os.path.join(folder, 'open.wad')
-        write_whole(path, ground.with_ceilings(plan.level, doors))
-        opened = ground.Plan(levels.read([path], plan.level.name))
-        more = runs.over(options.files, path)
-        found.append(State('open', Grid(ground.Ground(opened), more, reach, options, 'doors open, '), more))
+        path = written(folder, 'open.wad', ground.with_ceilings(plan.level, doors))
+        plans.append(('open', ground.Plan(levels.read([path], plan.level.name)), runs.over(options.files, path)))
+    found = []
+    for label, its, its_runs in plans:
+        walls = runs.over(options.files, written(folder, f'{label}-walls.wad', walls_alone(its.level)))
+        start = earlier.start_of(before, label)
+        grid = Grid(ground.Ground(its), its_runs, walls, reach, options, f'doors {label}, ', start)
+        found.append(State(label, grid, its_runs))
     if not any(state.grid.cells for state in found):
         raise plan.level.error('has no place with room for a player')
     return found, doors
+
+
+def written(folder, name, data):
+    """The path of a file of a folder that is written."""
+    path = os.path.join(folder, name)
+    write_whole(path, data)
+    return path
 
 
 def palette_of(files):
@@ -174,7 +200,7 @@ def run(options):
     if options.all_maps:
         return run_all(options)
     found, told = look(options)
-    write_output(json.dumps(found, indent=1) + '\n' if options.json else told)
+    write_output(json_of(found) + '\n' if options.json else told)
     return status_of(found)
 
 
@@ -238,21 +264,29 @@ def looked(options, runs, folder, progress):
     runs.check()
     level = cli.level_of(options, options.files)
     level.check_whole()
-    plan = ground.Plan(level)
-    states, doors = states_of(plan, runs, options, folder, progress)
-    found = numbers(plan, states, options)
-    if options.before and not options.all_maps and level.name not in options.earlier:
+    plan, before = ground.Plan(level), options.earlier.get(level.name, {})
+    if options.before and not options.all_maps and not before:
         raise Trouble(f'{options.before} has no numbers of {level.name}')
-    if level.name in options.earlier:
-        different = earlier.differences(options.earlier[level.name], found)
-        found['before'], found['worse'] = [one.told for one in different], any(one.is_worse for one in different)
+    options = argparse.Namespace(**{**vars(options), 'directions': before.get('directions', options.directions)})
+    states, doors = states_of(plan, runs, options, folder, before)
+    found, changes = numbers(plan, states, options), []
+    if before:
+        changes = compare(found, before, options.limits)
     told = ''.join(f'{line}\n' for line in summary(found))
     progress.tell('drawing the worst views')
     if options.page:
         write_whole(options.page, limits_page(plan, options.files, states, palette_of(options.files), options, doors,
-                                              told, found.get('before', [])))
+                                              told, found.get('before', []), changes))
     if options.opened:
         write_whole(options.opened, ground.with_ceilings(plan.level, doors))
     if options.worst:
         write_whole(options.worst, worst_path(states, options).encode())
     return found, told
+
+
+def compare(found, before, limits):
+    """Adds to the numbers of a map what differs from an earlier run; its changes place by place."""
+    comparison = earlier.compared(before, found, limits)
+    found['before'], found['worse'] = comparison.lines, comparison.is_worse
+    found['changes'] = [change._asdict() for change in comparison.changes]
+    return comparison.changes

@@ -2,7 +2,7 @@
 import os
 import tempfile
 
-from .. import cli, cli_limits, ground, levels, lists, paths, program, reasons, traces, wads, what_if
+from .. import cli, cli_limits, ground, levels, lists, paths, program, reasons, traces, wads, walls, what_if
 from ..counting import RAISED
 from ..explanations import explained
 from ..files import write_whole
@@ -72,9 +72,9 @@ def rows_of(options, level):
     return [(number, rows[number]) for number in (map(int, options.views) if options.views else range(len(rows)))]
 
 
-def listed(options, files, rows, folder):
-    """What `list` writes of rows, with raised limits."""
-    path, output = os.path.join(folder, 'path.csv'), os.path.join(folder, 'list.txt')
+def listed(options, files, rows, folder, name='list.txt'):
+    """What `list` writes of rows, with raised limits, to a file of a name."""
+    path, output = os.path.join(folder, 'path.csv'), os.path.join(folder, name)
     write_whole(path, paths.text(rows).encode())
     words = ['list', options.map, *files, *RAISED, *cli.job_words(options), '--path', path]
     with open(output, 'wb') as out:
@@ -90,6 +90,13 @@ def opened(files, level, folder):
     path = os.path.join(folder, 'open.wad')
     write_whole(path, ground.with_ceilings(level, ground.Plan(level).doors()))
     return files + [path], levels.read([path], level.name)
+
+
+def walls_listed(options, files, level, rows, folder):
+    """The same of the solid walls of a level alone."""
+    path = os.path.join(folder, 'walls.wad')
+    write_whole(path, walls.walls_alone(level))
+    return listed(options, [*files, path], rows, folder, 'walls.txt')
 
 
 def is_outside(level, row):
@@ -114,14 +121,15 @@ def run(options):
         if options.open:
             files, level = opened(files, level, folder)
         found = listed(options, files, [row for _, row in rows], folder)
+        of_walls = walls_listed(options, files, level, [row for _, row in rows], folder)
         places = lists.Places(level, traces.Names(files), 'what doomview list wrote')
         is_bad = False
         for place, (number, row) in enumerate(rows):
-            view = found.view(place)
-            is_over = any(count > limits[name] for name, count in reasons.counts_of(view, places).items())
+            view, walls_view = found.view(place), of_walls.view(place)
+            is_over = any(count > limits[name] for name, count in reasons.counts_of(view, walls_view).items())
             changes = (what_ifs(options, files, level, row, view, places, folder)
                        if not view.over and (is_over or len(rows) == 1) else [])
-            lines = list(reasons.reasons(number, row, view, places, options.all, limits, changes))
+            lines = list(reasons.reasons(number, row, view, walls_view, places, options.all, limits, changes))
             lines[1:1] = [OUTSIDE] if is_outside(level, row) else []
             print('\n'.join(([''] if place else []) + lines), flush=True)
             is_bad |= is_over

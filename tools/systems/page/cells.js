@@ -1,36 +1,74 @@
 /* A grid over a level: places where a player can stand, and of each the greatest counts in several directions, as
-tools/doomview_tools/cells.py and counting.py have it: a test compares all numbers of whole maps. */
-const { MOST_PLACES, MOST_CUT, CUTS, FINER, APART, SMALL } = FACTS;
+tools/doomview_tools/cells.py has it, which says why: a test compares all numbers of whole maps. */
+const { MOST_PLACES, MOST_CUT, CUTS, FAR, MANY, FINER, APART, SMALL } = FACTS;
 
-// A place in the middle of a square, with its greatest counts: by name the count and its direction.
+// The row of a path from a place: an eye of a player who stands.
+function rowFrom(x, y, floor, direction, directions) {
+  return [Math.round(x * UNIT), Math.round(y * UNIT), (floor + EYE_HEIGHT) * UNIT, Math.floor(TURN * direction / directions)];
+}
+// A place in the middle of a square, with its greatest counts: of each the count and its direction.
 class Cell {
-  constructor(x, y, size, sector, floor, isReached) { Object.assign(this, { x, y, size, sector, floor, isReached, most: {} }); }
-  // The row of a path from here: an eye of a player who stands.
-  row(direction, directions) {
-    return [Math.round(this.x * UNIT), Math.round(this.y * UNIT), (this.floor + EYE_HEIGHT) * UNIT,
-      Math.floor(TURN * direction / directions)];
+  constructor(x, y, size, sector, floor, isReached) {
+    Object.assign(this, { x, y, size, sector, floor, isReached, isListed: false, most: COUNTS.map(() => [0, 0]) });
   }
-  count(name) { return this.most[name] ? this.most[name][0] : 0; }
-  take(counts, direction) {
-    for (const name of Object.keys(counts))
-      if (counts[name] > (this.most[name] ? this.most[name][0] : -1)) this.most[name] = [counts[name], direction];
+  row(direction, directions) { return rowFrom(this.x, this.y, this.floor, direction, directions); }
+  count(i) { return this.most[i][0]; }
+  numbers() { return [this.x, this.y, this.floor, this.size, this.sector, Number(this.isReached), Number(this.isListed)]; }
+}
+
+/* The greatest counts of some places, which are numbers (shared.js), and how many views are over each limit. `counted(job, rows, take)`
+runs a job over rows, and `take` gets the counts of each with its place among them. */
+class Look {
+  constructor({ places, directions, every }, counted) {
+    Object.assign(this, { places, directions, every, counted, each: Math.ceil(directions / every) }); // views of a place
+    this.views = Array(places.length / PLACE * this.each).fill(null); // the counts of each
+  }
+  number(view, which) { return this.places[PLACE * Math.floor(view / this.each) + which]; }
+  direction(view) { return this.every * (view % this.each); }
+  row(view) { return rowFrom(this.number(view, 0), this.number(view, 1), this.number(view, 2), this.direction(view), this.directions); }
+  count(job, views) { this.counted(job, views.map(view => this.row(view)), (counts, i) => { this.views[views[i]] = counts; }); }
+  found() {
+    const all = [...this.views.keys()], isListed = view => this.number(view, LISTED) === 1;
+    this.count('limits', all.filter(view => !isListed(view)));
+    this.count('list', all.filter(view => isListed(view) || isCapped(this.views[view])));
+    const chosen = all.filter(view => view % this.each === 0).map(first => this.mostFragments(first));
+    this.count('list', chosen.flat().filter(view => this.views[view][SOLIDS] === NONE && this.fragments(view) !== NONE));
+    return this.greatest(chosen);
+  }
+  fragments(view) { return this.views[view][FRAGMENTS]; }
+  // Of the views from a place those with the most fragments: one, and one more that may have many solid ranges.
+  mostFragments(first) {
+    const order = Array.from({ length: this.each }, (_, i) => first + i), of = view => Math.max(0, this.fragments(view));
+    order.sort((a, b) => of(b) - of(a) || b - a);
+    return order.slice(0, 2).filter((view, i) => i === 0 || of(view) >= MANY);
+  }
+  // The counts of all views, but of solid ranges those of the views that are chosen at each place.
+  greatest(chosen) {
+    const most = new Int32Array(FOUND * chosen.length), over = COUNTS.map(() => 0);
+    const take = (place, view, i) => {
+      const count = this.views[view][i], at = FOUND * place + 2 * i;
+      if (count > most[at]) { most[at] = count; most[at + 1] = this.direction(view); }
+      over[i] += count > LIMITS[COUNTS[i]];
+    };
+    this.views.forEach((_, view) => COUNTS.forEach((__, i) => i === SOLIDS || take(Math.floor(view / this.each), view, i)));
+    chosen.forEach((views, place) => views.forEach(view => take(place, view, SOLIDS)));
+    return { most, over };
   }
 }
 
-/* The cells of a level. `counts` is a function of rows that gives their counts by name, in time; `options` has step,
+/* The cells of a level. `look` is a function of the numbers of places that gives what is found there, in time; `options` has step,
 directions, and whether it is looked at everywhere. */
 class Grid {
-  constructor(ground, counts, reach, options) {
-    Object.assign(this, { ground, counts, reached: reach.sectors, wanted: reach.wanted, everywhere: options.everywhere });
+  constructor(ground, look, reach, options) {
+    Object.assign(this, { ground, look, reached: reach.sectors, wanted: reach.wanted, everywhere: options.everywhere });
     this.directions = 2 * options.directions; this.firstStep = options.step;
-    this.views = 0; this.over = Object.fromEntries(COUNTS.map(name => [name, 0])); this.cells = [];
+    this.views = 0; this.over = COUNTS.map(() => 0); this.cells = [];
   }
-  async look() {
+  async counted() {
     const places = this.coarse(this.firstStep), more = this.inSmallSectors(places);
-    this.small = new Set(more.map(cell => `${cell.x} ${cell.y}`));
-    this.cells = await this.looked([...places, ...more], 2);
-    for (let cut = 0; cut < CUTS; cut++)
-      this.cells.push(...await this.looked(this.high(this.step >> cut).flatMap(cell => this.quarters(cell)), 1));
+    this.small = new Map(more.map(cell => [`${cell.x} ${cell.y}`, cell]));
+    await this.take([...places, ...more], 2);
+    for (let cut = 0; cut < CUTS; cut++) await this.take(this.high(this.step >> cut).flatMap(cell => this.quarters(cell)), 1);
     return this;
   }
   // The places of the coarse grid; its step is doubled until they are no more than MOST_PLACES.
@@ -62,60 +100,52 @@ class Grid {
   }
   // The cells of a size that have high counts, the highest first.
   high(size) {
-    const most = name => this.cells.reduce((found, cell) => Math.max(found, cell.count(name)), 0);
-    const bars = Object.fromEntries(COUNTS.map(name => [name, Math.max(1, FINER * Math.min(LIMITS[name], most(name)))]));
-    const share = cell => Math.max(...COUNTS.map(name => cell.count(name) / LIMITS[name]));
-    return this.cells.filter(cell => cell.size === size && COUNTS.some(name => cell.count(name) >= bars[name]))
+    const most = i => this.cells.reduce((found, cell) => Math.max(found, cell.count(i)), 0);
+    const bars = COUNTS.map((name, i) => i === SOLIDS ? FINER * LIMITS[name] : Math.max(1, FINER * Math.min(LIMITS[name], most(i))));
+    const share = cell => Math.max(...COUNTS.map((name, i) => cell.count(i) / LIMITS[name]));
+    return this.cells.filter(cell => cell.size === size && !this.small.has(`${cell.x} ${cell.y}`) && bars.some((bar, i) => cell.count(i) >= bar))
       .sort((a, b) => share(b) - share(a)).slice(0, MOST_CUT);
   }
-  // The places in the quarters of a cell, without those of small sectors.
+  // The places in the quarters of a cell. One of a small sector in their middle takes the whole quarter.
   quarters(cell) {
-    const half = Math.floor(cell.size / 2), away = Math.floor(cell.size / 4);
-    return [-away, away].flatMap(j => [-away, away].flatMap(i => this.place(cell.x + i, Math.floor(cell.y) + j + .5, half)
-      .filter(place => !this.small.has(`${place.x} ${place.y}`))));
+    const half = Math.floor(cell.size / 2), away = Math.floor(cell.size / 4), isFar = CAPS.some((most, i) => cell.count(i) > FAR * most);
+    return [-away, away].flatMap(j => [-away, away].flatMap(i => {
+      const x = cell.x + i, y = Math.floor(cell.y) + j + .5, small = this.small.get(`${x} ${y}`);
+      if (small) { small.size = half; return []; }
+      return this.place(x, y, half).map(place => Object.assign(place, { isListed: isFar }));
+    }));
   }
-  // The cells with their counts, in every so many of the directions.
-  async looked(cells, every) {
-    const directions = Array.from({ length: Math.ceil(this.directions / every) }, (_, i) => i * every);
-    const rows = cells.flatMap(cell => directions.map(direction => cell.row(direction, this.directions)));
-    const found = rows.length ? await this.counts(rows) : [];
-    this.views += rows.length;
-    found.forEach((counts, i) => {
-      cells[Math.floor(i / directions.length)].take(counts, directions[i % directions.length]);
-      for (const name of Object.keys(counts)) this.over[name] += isOver(name, counts[name]);
-    });
-    return cells;
+  // Takes cells with their counts, in every so many of the directions.
+  async take(cells, every) {
+    const places = Float64Array.from(cells.flatMap(cell => cell.numbers()));
+    const { most, over } = await this.look({ places, directions: this.directions, every });
+    cells.forEach((cell, i) => { cell.most = pairsOf(most, i); this.cells.push(cell); });
+    this.views += cells.length * Math.ceil(this.directions / every);
+    over.forEach((count, i) => { this.over[i] += count; });
   }
   // The views of the greatest counts, no two near each other: pairs of the count and its row.
-  worst(name, most) {
+  worst(i, most) {
     const found = [];
-    for (const cell of [...this.cells].sort((a, b) => b.count(name) - a.count(name))) {
-      if (found.length === most || !cell.count(name)) break;
-      const row = cell.row(cell.most[name][1], this.directions);
+    for (const cell of [...this.cells].sort((a, b) => b.count(i) - a.count(i))) {
+      if (found.length === most || !cell.count(i)) break;
+      const row = cell.row(cell.most[i][1], this.directions);
       if (found.every(([, of]) => Math.hypot(row[0] - of[0], row[1] - of[1]) > APART * this.step * UNIT))
-        found.push([cell.count(name), row]);
+        found.push([cell.count(i), row]);
     }
     return found;
   }
 }
 
-// The counts in a line of `limits`, by name; of a view that is over a raised limit that count alone.
-function countsOf(line) {
-  const words = line.split(' ');
-  if (words[2] === 'over') return { [words[3]]: Number(words[4]) };
-  return Object.fromEntries(COUNTS.map((_, i) => [words[2 + 2 * i], Number(words[3 + 2 * i])]));
-}
-
 // The numbers of a map as `limits-map --json` prints them.
 function numbersOf(plan, states) {
-  const ofCount = (grid, name) => {
-    const [worst] = grid.worst(name, 1);
-    return { most: worst ? worst[0] : 0, limit: LIMITS[name], over: grid.over[name], row: worst ? worst[1] : null };
+  const ofCount = (grid, name, i) => {
+    const [worst] = grid.worst(i, 1);
+    return { most: worst ? worst[0] : 0, limit: LIMITS[name], over: grid.over[i], row: worst ? worst[1] : null };
   };
   const found = states.map(({ label, grid }) => ({ doors: label, places: grid.cells.length, views: grid.views, step: grid.step,
-    counts: Object.fromEntries(COUNTS.map(name => [name, ofCount(grid, name)])) }));
+    counts: Object.fromEntries(COUNTS.map((name, i) => [name, ofCount(grid, name, i)])) }));
   return { map: plan.level.name, wad: plan.level.wad.name, sectors: plan.level.sectors.length, reached: states[0].grid.reached.size,
     no_way: states[0].grid.wanted.map(([sector, things]) => ({ sector,
       things: things.map(thing => ({ thing, what: WANTED[plan.level.things[thing].type] })) })),
-    over: states.some(({ grid }) => COUNTS.some(name => grid.over[name])), states: found };
+    over: states.some(({ grid }) => grid.over.some(Boolean)), states: found };
 }

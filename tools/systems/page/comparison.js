@@ -27,25 +27,75 @@ function told(view, ours, port, places) {
 const rowsOfText = path => path.replace(/^\ufeff/, '').split(/\r?\n/).filter(Boolean).slice(1);
 const headOfText = path => path.replace(/^\ufeff/, '').split(/\r?\n/)[0];
 
+/* What a port drew: frames of palette indices, one behind the other in files, or pictures, a view each, in the order of the numbers
+in their names. `frame(view, ours)` gives one of them: a colour of a picture that is in two entries of the palette is taken as ours. */
+class PortFrames {
+  constructor(bytes, name) {
+    this.bytes = bytes; this.count = bytes.length / FRAME;
+    if (!Number.isInteger(this.count)) throw new Wrong(`${name} has ${bytes.length} bytes, and a view has ${FRAME}; frames are to be written as ` +
+      'palette indices, one behind the other, or as pictures (PNG)');
+  }
+  frame(view) { return this.bytes.subarray(FRAME * view, FRAME * (view + 1)); }
+}
+class PortPictures {
+  constructor(pictures, palette) {
+    this.pictures = pictures; this.count = pictures.length; this.entries = new Lists(); // of each colour
+    for (let i = 0; i < 256; i++) this.entries.at(palette[3 * i] << 16 | palette[3 * i + 1] << 8 | palette[3 * i + 2]).push(i);
+  }
+  frame(view, ours) {
+    const { name, pixels } = this.pictures[view], at = new DataView(pixels.buffer), frame = new Uint8Array(FRAME);
+    for (let i = 0; i < FRAME; i++) {
+      const colour = at.getUint32(4 * i) >>> 8, entries = this.entries.get(colour);
+      if (!entries) throw new Wrong(`${name}: the colour ${[colour >> 16, colour >> 8 & 255, colour & 255]} at row ${Math.floor(i / WIDTH)} column ` +
+        `${i % WIDTH} is in no entry of the palette; turn off what changes colours (gamma, filters, true colour)`);
+      frame[i] = entries.includes(ours[i]) ? ours[i] : entries[0];
+    }
+    return frame;
+  }
+}
+const isPicture = file => /\.png$/i.test(file.name);
+const numbersFirst = (one, other) => one.name.localeCompare(other.name, 'en', { numeric: true });
+async function pixelsOf(file) {
+  let picture;
+  try {
+    picture = await createImageBitmap(file, { colorSpaceConversion: 'none', premultiplyAlpha: 'none' });
+  } catch { throw new Wrong(`${file.name} is no picture that can be read`); }
+  if (picture.width !== WIDTH || picture.height !== FRAME_HEIGHT)
+    throw new Wrong(`${file.name} has ${picture.width} by ${picture.height} pixels; a view has ${WIDTH} by ${FRAME_HEIGHT}`);
+  const pen = new OffscreenCanvas(WIDTH, FRAME_HEIGHT).getContext('2d');
+  pen.drawImage(picture, 0, 0);
+  return { name: file.name, pixels: pen.getImageData(0, 0, WIDTH, FRAME_HEIGHT).data };
+}
+async function portFrames(files, palette) {
+  const inOrder = [...files].sort(numbersFirst), pictures = inOrder.filter(isPicture);
+  if (pictures.length) return new PortPictures(await Promise.all(pictures.map(pixelsOf)), palette);
+  const pieces = await Promise.all(inOrder.map(async file => new Uint8Array(await file.arrayBuffer())));
+  return new PortFrames(joined(pieces), nameOf(files));
+}
+const nameOf = files => files.length === 1 ? files[0].name : `${files.length} files`;
+
 // The views that differ, those with the most pixels where they are many, and the line on all.
 function differences(path, port, spans) {
   const found = { views: [], both: 0, different: 0, pixels: 0 };
-  let rest = new Uint8Array();
+  let rest = new Uint8Array(), wrong = null;
   const take = ours => {
-    const theirs = port.subarray(FRAME * found.both, FRAME * (found.both + 1));
-    if (theirs.length < FRAME) return;
+    if (found.both >= port.count) return;
+    const theirs = port.frame(found.both, ours);
     const places = differing(ours, theirs);
     if (places.length) {
       found.different++; found.pixels += places.length;
-      found.views.push({ view: found.both, ours: ours.slice(), theirs, places });
+      found.views.push({ view: found.both, ours: ours.slice(), theirs: theirs.slice(), places });
       if (found.views.length > MOST_VIEWS) dropLeast(found.views);
     }
     found.both++;
   };
   const done = stream('render', path, [...state.words, '--spans', spans, ...RAISED], piece => {
     rest = joined([rest, piece]);
-    for (; rest.length >= FRAME; rest = rest.subarray(FRAME)) take(rest.subarray(0, FRAME));
+    try {
+      for (; rest.length >= FRAME; rest = rest.subarray(FRAME)) take(rest.subarray(0, FRAME));
+    } catch (error) { wrong = error; throw error; }
   });
+  if (wrong) throw wrong;
   if (done.status) throw new Wrong(sentencesOn(new Scene(state.wads, state.map), done.line).join('\n'));
   return found;
 }
@@ -76,10 +126,8 @@ async function packedView({ view, ours, theirs, places }, trace, lines) {
     ours: await pictureText(i => [ours[i], ours[i], ours[i]]), both: await pictureText(i => Array(3).fill(ours[i] ^ theirs[i])),
     ...await painters(places, trace, lines) };
 }
-async function comparison({ path, port, spans, name, palette }) {
-  const rows = rowsOfText(path), count = port.length / FRAME;
-  if (!Number.isInteger(count)) throw new Wrong(`${name} has ${port.length} bytes, and a view has ${FRAME}; frames are to be written as ` +
-    'palette indices, one behind the other');
+async function comparison({ path, files, spans, palette }) {
+  const port = await portFrames(files, palette), rows = rowsOfText(path), { count } = port, name = nameOf(files);
   const found = differences(path, port, spans), chosen = found.views.sort((a, b) => a.view - b.view);
   const some = [headOfText(path), ...chosen.map(({ view }) => rows[view])].join('\n') + '\n', more = [...state.words, ...RAISED];
   const traces = chosen.length ? jobOutput('trace', some, [...more, '--spans', spans]) : [];

@@ -1,9 +1,9 @@
 /* The worker: holds the files, runs the proved program over them, and answers the page. All that takes time is here, so the
 page never freezes. A message is { id, name, words }: the answer is { id, value } or { id, wrong }, a sentence. While a map is
-counted the worker asks the page for the counts of rows, { id, rows }, which the page has its other workers count. */
+counted the worker asks the page what is found at places, { id, places }, which the page has its other workers find. */
 const { RAISED, STATUS_LIMIT, WORST_VIEWS, ZONE } = FACTS;
 const PATH = 'path.csv', TRIMMED = 'level.wad', OPENED = 'open.wad';
-const state = { module: null, base: new Map(), files: [], wads: [], open: null, map: '', words: [], asked: new Map() };
+const state = { program: null, base: new Map(), files: [], wads: [], open: null, map: '', words: [], asked: new Map(), questions: 0 };
 
 const bytesOfText = words => new TextEncoder().encode(words);
 const rowText = rows => `x,y,z,angle\n${rows.map(row => `${row.join(',')}\n`).join('')}`;
@@ -13,7 +13,7 @@ function stream(name, path, more, out, wads = state.wads) {
   const files = new Map([...state.base, ...wads.map(wad => [wad.name, wad.source]), [PATH, new MemorySource(bytesOfText(path))]]);
   const words = [name, state.map, ...wads.map(wad => wad.name), '--tables', 'tables.bin', '--things', 'things.csv', '--path', PATH];
   try {
-    return runProgram(state.module, [...words, ...more], files, out);
+    return state.program.run([...words, ...more], files, out);
   } catch (error) { // of the browser's engine
     const why = error instanceof RangeError ? 'the browser gave no more memory' : 'the program failed in this browser';
     throw new Wrong(`${why} (${error.message}); close other pages, and try again`);
@@ -55,7 +55,7 @@ function gameBehind(files) {
 
 const calls = {
   setUp({ module, tables, things }) {
-    state.module = module;
+    state.program = new Program(module);
     state.base = new Map([['tables.bin', new MemorySource(tables)], ['things.csv', new MemorySource(things)]]);
   },
   // Takes files in their order: what each is, and the maps in them.
@@ -81,28 +81,27 @@ const calls = {
   take({ map, skill, small }) {
     const wad = wadOfBytes(TRIMMED, small), level = readLevel([wad.wad], map), plan = new Plan(level);
     Object.assign(state, { map, words: ['--skill', String(skill)], wads: [wad], open: null, level, plan, ground: new Ground(plan),
-      names: new Names(wad.wad.lumps), seenAs: '' });
+      names: new Names(wad.wad.lumps), isSolid: solidSegs(level), seenAs: '' });
     state.zones = zonesOf(state.wads);
   },
   // Takes the level with its doors open, in a WAD that comes behind the other.
   takeOpen(bytes) {
     state.open = wadOfBytes(OPENED, bytes); state.seenAs = '';
-    state.openZones = zonesOf([...state.wads, state.open]);
+    state.openZones = zonesOf([...state.wads, state.open]); state.isOpenSolid = solidSegs(readLevel([state.open.wad], state.map));
   },
   // The frame of a place, with its row; null where no sector is.
   frame({ spans, isOpen, ...place }) {
     const row = rowAt(place);
     return row && { row, frame: jobOutput('render', rowText([row]), [...wordsOf(isOpen, 'roomy'), '--spans', spans], wadsOf(isOpen)) };
   },
+  // The counts of the view of a place by name, solid ranges too; of one that passes a raised limit that count alone.
   countsAt({ isOpen, ...place }) {
-    const row = rowAt(place);
-    return row && this.counts({ rows: [row], isOpen })[0];
+    const row = rowAt(place), found = {};
+    if (row) counted(isOpen)('list', [row], counts => COUNTS.forEach((name, i) => { if (counts[i] !== NONE) found[name] = counts[i]; }));
+    return row && found;
   },
-  counts({ rows, isOpen }) {
-    const done = job('limits', rowText(rows), wordsOf(isOpen, 'enough'), wadsOf(isOpen));
-    if (done.status && done.status !== STATUS_LIMIT) throw new Wrong(sentencesOn(new Scene(state.wads, state.map), done.line).join('\n'));
-    return textOf(done.output).trimEnd().split('\n').map(countsOf);
-  },
+  // What is found at some places: a part of a whole count.
+  look({ isOpen, ...places }) { return new Look(places, counted(isOpen)).found(); },
   // What painted a pixel of a view, in words.
   pixel({ row, spans, isOpen, x, y }) {
     const key = `${row.join()} ${spans} ${isOpen}`;
@@ -114,20 +113,20 @@ const calls = {
     }
     return state.seen.pixel(x, y);
   },
-  // Counts the whole map, with its doors shut and open; asks the page for counts, which tell it how far it is.
-  async grid({ id, everywhere, step, directions, wad }) {
-    const { level, plan } = state, doors = plan.doors(), reach = reachOf(plan), states = [];
+  // Counts the whole map, with its doors shut and open; asks the page to have its places looked at.
+  async grid({ everywhere, step, directions, wad }) {
+    const { level, plan } = state, doors = plan.doors(), reach = reachOf(plan), options = { everywhere, step, directions };
     if (!reach.sectors.size && !everywhere) throw level.error('has no start of a player; it can be counted from all places');
-    const plans = [['shut', plan]], options = { everywhere, step, directions };
+    const plans = [['shut', plan]];
     if (doors.length) {
       this.takeOpen(withCeilings(level, doors));
-      await ask({ id, name: 'takeOpen', bytes: state.open.source.bytes });
+      await ask('takeOpen', { bytes: state.open.source.bytes });
       plans.push(['open', new Plan(readLevel([state.open.wad], level.name))]);
     }
-    for (const [label, of] of plans) {
-      const counts = rows => ask({ id, name: 'count', isOpen: label === 'open', rows });
-      states.push({ label, grid: await new Grid(new Ground(of), counts, reach, options).look() });
-    }
+    const states = await Promise.all(plans.map(async ([label, of]) => {
+      const look = places => ask('look', { ...places, isOpen: label === 'open' });
+      return { label, grid: await new Grid(new Ground(of), look, reach, options).counted() };
+    }));
     if (!states.some(one => one.grid.cells.length)) throw level.error('has no place with room for a player');
     return { numbers: { ...numbersOf(plan, states), wad }, states: states.map(stateOf) };
   },
@@ -146,12 +145,20 @@ function rowAt({ x, y, z, angle }) {
   if (z === undefined && state.ground.isVoid(x, Math.floor(y) + .5)) return null;
   return [Math.round(x * UNIT), Math.round(y * UNIT), z ?? (state.level.floorAt(x, y) + EYE_HEIGHT) * UNIT, angle];
 }
+// Runs jobs of a whole count: a function of a job, rows, and what takes the counts of each row with its place among them.
+const counted = isOpen => (name, rows, take) => {
+  let number = 0;
+  const next = counts => take(counts, number++), isSolid = isOpen && state.open ? state.isOpenSolid : state.isSolid;
+  const lines = name === 'list' ? new LinesOfList(next, isSolid) : new LinesOfLimits(next);
+  if (!rows.length) return;
+  const done = stream(name, rowText(rows), wordsOf(isOpen, 'enough'), piece => lines.feed(piece), wadsOf(isOpen));
+  if (done.status && done.status !== STATUS_LIMIT) throw new Wrong(sentencesOn(new Scene(state.wads, state.map), done.line).join('\n'));
+};
 const wadsOf = isOpen => isOpen && state.open ? [...state.wads, state.open] : state.wads;
 function stateOf({ label, grid }) {
   return { label, step: grid.step, views: grid.views, over: grid.over, directions: grid.directions,
-    worst: Object.fromEntries(COUNTS.map(name => [name, grid.worst(name, WORST_VIEWS)])),
-    places: grid.cells.map(({ x, y, size, sector, floor, isReached, most }) =>
-      ({ x, y, size, sector, floor, isReached, most: COUNTS.map(name => most[name] || [0, 0]) })) };
+    worst: Object.fromEntries(COUNTS.map((name, i) => [name, grid.worst(i, WORST_VIEWS)])),
+    places: grid.cells.map(({ x, y, size, sector, floor, isReached, most }) => ({ x, y, size, sector, floor, isReached, most })) };
 }
 function wadOfBytes(name, bytes) {
   const source = new MemorySource(bytes);
@@ -162,13 +169,17 @@ function startOr(level, plan) {
   const [lowX, lowY, highX, highY] = plan.box(), x = Math.round((lowX + highX) / 2), y = Math.round((lowY + highY) / 2);
   return [x * UNIT, y * UNIT, (level.floorAt(x, y) + EYE_HEIGHT) * UNIT, 0];
 }
-// What the page has its other workers do: counts of rows.
-function ask(question) {
-  return new Promise((done, fail) => { state.asked.set(question.id, { done, fail }); postMessage({ ...question, isAsked: true }); });
+// What the page has its other workers do.
+function ask(name, words) {
+  const id = ++state.questions;
+  return new Promise((done, fail) => { state.asked.set(id, { done, fail }); postMessage({ ...words, id, name, isAsked: true }); });
 }
+// What is in an answer and is moved, not copied.
+const moved = value => [value?.frame, value?.most].filter(Boolean).map(numbers => numbers.buffer);
 async function answer({ id, name, words }) {
   try {
-    postMessage({ id, value: await calls[name](name === 'grid' ? { ...words, id } : words) });
+    const value = await calls[name](words);
+    postMessage({ id, value }, moved(value));
   } catch (error) {
     postMessage({ id, wrong: error instanceof Wrong ? error.message : `this page failed: ${error.message}`, stack: String(error.stack) });
   }
@@ -176,5 +187,6 @@ async function answer({ id, name, words }) {
 onmessage = ({ data }) => {
   if (data.name !== 'answer') return answer(data);
   const { done, fail } = state.asked.get(data.id);
+  state.asked.delete(data.id);
   if (data.wrong) fail(new Wrong(data.wrong)); else done(data.value);
 };

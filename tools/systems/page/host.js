@@ -1,7 +1,8 @@
 /* What the proved program asks of its system, over files in memory or on disk. Nothing here is proved.
 
-runProgram(module, words, files, out) runs the program once, in a memory of its own, and gives { status, line }: `line` is
-what it said. `files` is a Map of names to sources; `out` takes each piece of the output, which is its for the call alone.
+new Program(module).run(words, files, out) runs the program once, and gives { status, line }: `line` is what it said. `files` is a
+Map of names to sources; `out` takes each piece of the output, which is its for the call alone. The runs of a Program are in one
+instance, since to begin one anew takes longer than a short run.
 
 A source is { size, read(at, count) }: the bytes of a file from a place on, as many as there are up to count. */
 const NO_FILE = 2, NO_WRITE = 5, BAD_NUMBER = 9; // Linux's numbers of errors
@@ -103,7 +104,7 @@ class Host {
       port_read: long((number, to, count) => this.read(number, to, count)),
       port_lseek: long((number, offset, way) => this.seek(number, offset, way)),
       port_statx: (number, path, flags, mask, found) => this.describe(number, found),
-      port_write: long((number, from, count) => this.write(number, from, count)),
+      host_write: long((number, from, count) => this.write(number, from, count)),
       port___write: long((number, from, count) => this.write(number, from, count)),
       port_rattle_arg_count: long(() => this.words.length), port_rattle_arg: long((...words) => this.word(...words)),
       port_rattle_env: long(() => -1), port_rattle_env_at: long(() => -1),
@@ -112,17 +113,30 @@ class Host {
   }
 }
 
-function runProgram(module, words, files, out) {
-  const host = new Host(words, files, out), instance = new WebAssembly.Instance(module, { env: host.imports() });
-  host.memory = instance.exports.memory;
-  const status = instance.exports.run();
-  return { status, line: host.said.replace(/\n$/, '') };
-}
-// The same, with the whole output in one piece.
-function runWhole(module, words, files) {
-  const pieces = [];
-  const done = runProgram(module, words, files, piece => pieces.push(piece.slice()));
-  return { ...done, output: joined(pieces) };
+class Program {
+  constructor(module) { this.module = module; this.instance = null; }
+  begin() {
+    const calls = WebAssembly.Module.imports(this.module).map(({ name }) => [name, (...words) => this.calls[name](...words)]);
+    this.instance = new WebAssembly.Instance(this.module, { env: Object.fromEntries(calls) });
+    const { memory, variables, heap } = this.instance.exports;
+    this.variables = Number(variables()); this.first = new Uint8Array(memory.buffer).slice(this.variables, Number(heap()));
+  }
+  // Before a run the program's variables have what they have in a new instance. One that failed in a run is not used again.
+  run(words, files, out) {
+    const host = new Host(words, files, out);
+    if (!this.instance) this.begin();
+    const { memory, run } = this.instance.exports;
+    new Uint8Array(memory.buffer).set(this.first, this.variables);
+    host.memory = memory; this.calls = host.imports();
+    try {
+      return { status: run(), line: host.said.replace(/\n$/, '') };
+    } catch (error) { this.instance = null; throw error; }
+  }
+  // The same, with the whole output in one piece.
+  runWhole(words, files) {
+    const pieces = [], done = this.run(words, files, piece => pieces.push(piece.slice()));
+    return { ...done, output: joined(pieces) };
+  }
 }
 function joined(pieces) {
   const whole = new Uint8Array(pieces.reduce((sum, piece) => sum + piece.length, 0));

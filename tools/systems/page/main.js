@@ -2,7 +2,8 @@
 const SCRIPT = `'use strict';\nconst FACTS = ${JSON.stringify(FACTS)};\n${find('worker').textContent}`;
 const NO_MEMORY64 = 'This browser has no WebAssembly memory of 64 bits, which this page needs: take Chromium, Chrome or Edge from 133, ' +
   'or Firefox from 134.';
-const HELPERS = Math.min(8, Math.max(2, navigator.hardwareConcurrency || 4));
+const HELPERS = Math.min(16, Math.max(2, navigator.hardwareConcurrency || 4));
+const GROWN = 500; // milliseconds between two drawings of the squares while a map is counted
 const bytesOf = letters => Uint8Array.from(atob(letters), letter => letter.charCodeAt(0));
 let crew, display = null, level = null, kept = [], opening = 0;
 
@@ -47,17 +48,18 @@ const walker = new Walker(async place => {
   const words = { ...place, spans: spans() }, [view, counts] = await Promise.all([crew.some('frame', words), crew.some('countsAt', words)]);
   return view && { ...view, counts };
 }, shown, sentence => say(sentence));
+const counts = new CountTable(find('counts'));
 let drawn = 0;
 function shown(view, place) {
   drawFrame(find('picture'), view.frame, level.palette); drawn++;
-  showCounts(find('counts'), view.counts);
+  counts.show(view.counts); askAgain();
   find('row').textContent = view.row.join(','); find('copied').textContent = '';
   draw();
 }
 // The parts of the map that change with the view.
 function draw() {
   const { view } = walker;
-  display.show({ eye: view && { x: view.row[0] / UNIT, y: view.row[1] / UNIT, angle: degrees(view.row[3]) }, ...whole.found ? whole.parts(view) : {} });
+  display.show({ eye: view && { x: view.row[0] / UNIT, y: view.row[1] / UNIT, angle: degrees(view.row[3]) }, dots: whole.dots(view) });
 }
 // A click: the eye stands there, or with Shift looks there.
 function stand(x, y, event) {
@@ -66,10 +68,15 @@ function stand(x, y, event) {
   else if (!whole.found || !display.placeAt(x, y)) walker.stand(x, y);
 }
 function look(place) { if (place && whole.found) walker.go(whole.row(place), whole.isOpen); }
-function tell(place) { find('told').textContent = place && whole.found ? whole.told(place) : ''; }
+function tell(place) { find('told').textContent = place && whole.now() ? whole.told(place) : ''; }
 
 /* The pixel under the pointer. */
-let pointed = null, isAsking = false;
+const STILL = 150; // milliseconds after which what is under the pointer is told anew for another view
+let pointed = null, pointer = null, isAsking = false, waiting = 0;
+function askAgain() {
+  clearTimeout(waiting);
+  if (pointer) waiting = setTimeout(() => { pointed = pointer; askPixel(); }, STILL);
+}
 async function askPixel() {
   if (isAsking || !pointed || !walker.view) return;
   const [x, y] = pointed, { row } = walker.view;
@@ -81,7 +88,7 @@ async function askPixel() {
 }
 function point(event) {
   const box = find('picture').getBoundingClientRect(), share = (at, size, most) => Math.max(0, Math.min(most - 1, Math.floor(at * most / size)));
-  pointed = [share(event.clientX - box.left, box.width, WIDTH), share(event.clientY - box.top, box.height, FRAME_HEIGHT)]; askPixel();
+  pointed = pointer = [share(event.clientX - box.left, box.width, WIDTH), share(event.clientY - box.top, box.height, FRAME_HEIGHT)]; askPixel();
 }
 
 /* The whole map. */
@@ -89,7 +96,7 @@ const whole = new WholeMap((row, isOpen) => walker.go(row, isOpen));
 async function count() {
   const isSame = level, began = performance.now();
   const running = isOn => { find('start').hidden = isOn; find('stop').hidden = !isOn; find('progress').hidden = !isOn; };
-  running(true);
+  running(true); whole.clear(); showWhole();
   try {
     const found = await crew.wholeMap({ everywhere: find('everywhere').checked, step: Number(find('step').value), directions: FACTS.DIRECTIONS, wad: level.wad },
       progress);
@@ -99,26 +106,29 @@ async function count() {
   } catch (error) { find('far').textContent = error.message === 'stopped' ? 'stopped' : ''; if (error.message !== 'stopped') say(error.message); }
   finally { running(false); }
 }
-function progress(done, known) {
+let grownAt = 0;
+function progress(done, known, part) {
   Object.assign(find('progress'), { max: known, value: done });
   find('far').textContent = `${withCommas(done)} of ${withCommas(known)} views so far`;
+  whole.grow(part);
+  if (performance.now() - grownAt > GROWN) { grownAt = performance.now(); showWhole(); }
 }
 // Shows squares as they come while a map is counted, and all of it at the end.
 function showWhole() {
   if (!display) return;
-  const has = Boolean(whole.found);
-  find('found').hidden = find('numbers').hidden = !has;
-  display.show({ places: has ? whole.now().places : [], dots: [], ...has ? whole.parts(walker.view) : {} });
-  find('meaning').textContent = has ? `0 to ${withCommas(LIMITS[whole.name])} ${whole.name}; black, close up with a cross: ` +
-    `${CAPPED.includes(whole.name) ? 'reaches the limit' : 'over the limit'}; / no way leads there` : '';
-  find('scale').hidden = !has; tell(null);
+  const has = Boolean(whole.found), now = whole.now();
+  find('found').hidden = find('numbers').hidden = !has; find('scale').hidden = !now;
+  display.show({ places: now ? now.places : [], dots: whole.dots(walker.view), ...whole.parts() });
+  find('meaning').textContent = now ? `0 to ${withCommas(LIMITS[whole.name])} ${whole.name}; black, close up with a cross: over the limit, ` +
+    'with a light core up to four times the limit; / no way leads there' : '';
+  tell(null);
   if (has) showWorst();
 }
 function showWorst() {
   const press = (element, isOn) => element.setAttribute('aria-pressed', isOn);
   find('most').replaceChildren(...COUNTS.map((name, i) => {
     const [worst] = whole.worst(name), n = worst ? worst[0] : 0, button = document.createElement('button');
-    Object.assign(button, { textContent: `${name} ${countText(name, n)} of ${withCommas(LIMITS[name])}`, className: isOver(name, n) ? 'over' : '', onclick: () => chooseCount(i) });
+    Object.assign(button, { textContent: `${name} ${withCommas(n)} of ${withCommas(LIMITS[name])}`, className: isOver(name, n) ? 'over' : '', onclick: () => chooseCount(i) });
     press(button, i === whole.count);
     return button;
   }));
@@ -128,7 +138,7 @@ function showWorst() {
     return button;
   }));
   find('worst').replaceChildren(...whole.worst().map(([n], i) => Object.assign(document.createElement('button'),
-    { textContent: `${i + 1}: ${countText(whole.name, n)}`, className: isOver(whole.name, n) ? 'over' : '', onclick: () => { whole.rank = i; whole.step(0); } })));
+    { textContent: `${i + 1}: ${withCommas(n)}`, className: isOver(whole.name, n) ? 'over' : '', onclick: () => { whole.rank = i; whole.step(0); } })));
   find('sum').textContent = whole.summary(list.names);
 }
 function chooseCount(i) { whole.count = i; whole.rank = 0; showWhole(); whole.step(0); }
@@ -136,11 +146,11 @@ function chooseState(i) { whole.state = i; whole.rank = 0; showWhole(); whole.st
 
 /* A port's frames. */
 async function compare() {
-  const [path] = find('portPath').files, [frames] = find('portFrames').files;
-  find('compared').textContent = path && frames ? 'comparing ..' : 'choose both files';
-  if (!path || !frames) return;
+  const [path] = find('portPath').files, files = [...find('portFrames').files];
+  find('compared').textContent = path && files.length ? 'comparing ..' : 'choose both';
+  if (!path || !files.length) return;
   try {
-    const port = new Uint8Array(await frames.arrayBuffer()), words = { path: await path.text(), port, spans: spans(), name: frames.name, palette: level.palette };
+    const words = { path: await path.text(), files, spans: spans(), palette: level.palette };
     const found = await crew.first('compare', words), mark = '/*DATA*/null';
     compared = COMPARE_PAGE.replace(mark, () => JSON.stringify(found).replaceAll('</', '<\\/'));
     find('comparison').srcdoc = compared; find('comparison').hidden = find('savePage').hidden = false;
@@ -148,6 +158,19 @@ async function compare() {
   } catch (error) { find('compared').textContent = error.message; }
 }
 let compared = '';
+// Files that are dropped: a path and a port's frames are compared, all else are WADs.
+function dropped(files) {
+  const all = [...files], paths = all.filter(file => /\.csv$/i.test(file.name)), frames = all.filter(file => /\.(bin|png)$/i.test(file.name));
+  const rest = all.filter(file => !paths.includes(file) && !frames.includes(file));
+  for (const [id, some] of [['portPath', paths], ['portFrames', frames]]) {
+    const data = new DataTransfer();
+    some.forEach(file => data.items.add(file));
+    if (some.length) find(id).files = data.files;
+  }
+  if (rest.length) list.take(rest);
+  else if (!level) say('Drop a WAD first: a path and frames are compared with what doomview draws of its map.');
+  else if (find('portPath').files.length && find('portFrames').files.length) compare();
+}
 
 /* What is saved. */
 const pathText = rows => `x,y,z,angle\n${rows.map(row => `${row.join(',')}\n`).join('')}`;
@@ -167,7 +190,7 @@ const saves = { path: () => save('path.csv', pathText(kept.length ? kept : [walk
 /* Keys, buttons, the window. */
 const keys = { n: () => whole.step(1), p: () => whole.step(-1), k: keep, c: copy,
   o: () => whole.states().length > 1 && chooseState((whole.state + 1) % whole.states().length) };
-COUNTS.forEach((_, i) => { keys[i + 1] = () => whole.found && chooseCount(i); });
+COUNTS.forEach((_, i) => { keys[i + 1] = () => whole.found ? chooseCount(i) : whole.now() && (whole.count = i, showWhole()); });
 onkeydown = event => {
   if (!level || event.ctrlKey || event.metaKey || event.altKey || ['INPUT', 'SELECT'].includes(document.activeElement?.tagName)) return;
   const act = keys[event.key] || display.keys[event.key];
@@ -190,7 +213,7 @@ function listen() {
   });
   for (const kind of ['dragover', 'dragleave', 'drop']) addEventListener(kind, event => {
     event.preventDefault(); find('drop').classList.toggle('over', kind === 'dragover');
-    if (kind === 'drop') list.take(event.dataTransfer.files);
+    if (kind === 'drop') dropped(event.dataTransfer.files);
   });
 }
 // Whether this engine has memories of 64 bits: a module with one alone.

@@ -1,6 +1,11 @@
 /* What the page and its workers share. FACTS are those of the tools in Python, put in where the page is made. */
-const { UNIT, TURN, EYE_HEIGHT, COUNTS, LIMITS, CAPPED, WIDTH, FRAME_HEIGHT } = FACTS;
+const { UNIT, TURN, EYE_HEIGHT, COUNTS, LIMITS, WIDTH, FRAME_HEIGHT } = FACTS;
 class Wrong extends Error {} // a sentence for the user
-// Whether a count passes its limit; one that is counted no further does so where it comes to it.
-const isOver = (name, count) => CAPPED.includes(name) ? count >= LIMITS[name] : count > LIMITS[name];
-const withCommas = number => number.toLocaleString('en');
+const isOver = (name, count) => count > LIMITS[name];
+const COMMAS = new Intl.NumberFormat('en'), withCommas = number => COMMAS.format(number);
+/* What is handed from worker to worker while a map is counted are numbers. Of a place PLACE: x, y, its floor, the side of its
+square, its sector, whether a way leads there, and whether its views are listed at once. Of what is found there FOUND: a count
+and its direction for each of COUNTS. */
+const PLACE = 7, LISTED = 6, FOUND = 2 * COUNTS.length;
+// Of a place by its number its pairs of a count and a direction.
+const pairsOf = (found, number) => COUNTS.map((_, i) => [found[FOUND * number + 2 * i], found[FOUND * number + 2 * i + 1]]);

@@ -1,17 +1,19 @@
-/* Walking: an eye in the level that keys, buttons and clicks move, and the picture and the counts of what it sees. While one
-view is drawn the newest place waits; those between are left out, so that walking follows the keys. */
+/* Walking: an eye in the level that keys, buttons and clicks move, and the picture and the counts of what it sees. While some
+views are drawn the newest place waits; those between are left out, so that walking follows the keys. */
+const DEEP = 2; // views that are drawn at a time, each by workers of its own
 const WALK = 360, TURNS = 150, RISE = 200; // map units and degrees a second
 const TAP = .05; // seconds that a key counts as at least
 const MOVES = { ArrowUp: ['ahead', 1], w: ['ahead', 1], ArrowDown: ['ahead', -1], s: ['ahead', -1], ArrowLeft: ['turn', 1],
   ArrowRight: ['turn', -1], a: ['aside', -1], d: ['aside', 1], PageUp: ['rise', 1], PageDown: ['rise', -1] };
 
-const countText = (name, count) => withCommas(count) + (CAPPED.includes(name) && count >= LIMITS[name] ? ' or more' : '');
-
 class Walker {
   // `draw` gives in time the view of a place ({ row, frame, counts } or null); `shown` takes each view that is drawn.
   constructor(draw, shown, wrong) {
-    Object.assign(this, { draw, shown, wrong, place: null, view: null, held: new Map(), isBusy: false, wanted: null, last: 0 });
+    Object.assign(this, { draw, shown, wrong, held: new Map(), last: 0 });
+    Object.assign(this, { place: null, view: null, ahead: null, wanted: null }); // of the view that is shown; newest, waiting
+    this.asked = this.seen = this.running = 0;
   }
+  get isBusy() { return this.running > 0; }
   // Goes to a row of a path; its place is followed from there on the floor.
   go([x, y, z, angle], isOpen = this.place?.isOpen || false) {
     this.want({ x: x / UNIT, y: y / UNIT, z, angle: angle / TURN * 360, lift: 0, isOpen });
@@ -19,16 +21,27 @@ class Walker {
   stand(x, y) { this.want({ ...this.place, x, y, z: undefined, lift: 0 }); }
   face(angle) { this.want({ ...this.place, angle: ((angle % 360) + 360) % 360 }); }
   again() { if (this.place) this.want({ ...this.place }); }
-  want(place) { this.wanted = place; if (!this.isBusy) this.next(); }
+  want(place) { this.wanted = this.ahead = place; if (this.running < DEEP) this.next(); }
   async next() {
-    const place = this.wanted, angle = Math.round(place.angle / 360 * TURN) % TURN;
-    this.wanted = null; this.isBusy = true;
+    const place = this.wanted, angle = Math.round(place.angle / 360 * TURN) % TURN, number = ++this.asked;
+    this.wanted = null; this.running++;
     try {
       const view = await this.draw({ ...place, angle });
-      if (view) { this.place = { ...place, z: undefined }; this.view = view; this.place.z = place.z === undefined ? undefined : view.row[2]; this.shown(view, this.place); }
-    } catch (error) { this.wrong(error.message); }
-    this.isBusy = false;
+      if (!view) this.stay(place); else if (number > this.seen) this.see(view, place, number);
+    } catch (error) { this.ahead = this.place; this.wrong(error.message); }
+    this.running--;
     if (this.wanted) this.next();
+  }
+  see(view, place, number) {
+    this.seen = number; this.view = view;
+    this.place = { ...place, z: place.z === undefined ? undefined : view.row[2] };
+    this.shown(view, this.place);
+  }
+  // Nothing is seen from a place outside of the map: the eye stays where it was, and turns.
+  stay(place) {
+    const isTurned = this.place && place.angle !== this.place.angle;
+    this.ahead = this.place; this.wanted = null;
+    if (isTurned) this.wanted = this.ahead = { ...this.place, angle: place.angle };
   }
   /* Keys that are held, and buttons. */
   press(key) {
@@ -44,7 +57,7 @@ class Walker {
     requestAnimationFrame(later => this.tick(later));
   }
   step(seconds, moves) {
-    const from = this.wanted || this.place, to = { ...from };
+    const from = this.ahead || this.place, to = { ...from };
     for (const [kind, way] of moves) {
       const turned = (kind === 'aside' ? from.angle - 90 : from.angle) * Math.PI / 180, far = way * WALK * seconds;
       if (kind === 'turn') to.angle = (to.angle + way * TURNS * seconds + 360) % 360;
@@ -57,22 +70,26 @@ class Walker {
 
 // Draws a frame of palette indices on a canvas.
 function drawFrame(canvas, frame, palette) {
-  const pen = canvas.getContext('2d'), image = pen.createImageData(WIDTH, FRAME_HEIGHT);
-  for (let i = 0; i < frame.length; i++) {
-    const at = 3 * frame[i];
-    image.data[4 * i] = palette[at]; image.data[4 * i + 1] = palette[at + 1]; image.data[4 * i + 2] = palette[at + 2]; image.data[4 * i + 3] = 255;
-  }
+  const pen = canvas.getContext('2d'), image = pen.createImageData(WIDTH, FRAME_HEIGHT), pixels = new DataView(image.data.buffer);
+  const colours = Array.from({ length: 256 }, (_, i) => (palette[3 * i] << 24 | palette[3 * i + 1] << 16 | palette[3 * i + 2] << 8 | 255) >>> 0);
+  for (let i = 0; i < frame.length; i++) pixels.setUint32(4 * i, colours[frame[i]]);
   pen.putImageData(image, 0, 0);
 }
-// Writes the counts of a view beside their limits, in a table with a row for each.
-function showCounts(table, counts) {
-  table.replaceChildren(...COUNTS.map(name => {
-    const row = document.createElement('tr'), count = counts[name], over = count !== undefined && isOver(name, count);
-    add(row, 'th', name);
-    add(row, 'td', count === undefined ? '-' : countText(name, count), { className: over ? 'over' : '' });
-    add(row, 'td', `of ${withCommas(LIMITS[name])}${over ? CAPPED.includes(name) ? ', FULL' : ', OVER' : ''}`);
-    const bar = add(add(row, 'td', ''), 'meter', '', { max: LIMITS[name], value: count || 0, high: LIMITS[name] * .9 });
-    bar.ariaLabel = `${name} of their limit`;
-    return row;
-  }));
+// The counts of a view beside their limits, in a table with a row for each.
+class CountTable {
+  constructor(table) {
+    this.rows = COUNTS.map(name => {
+      const row = add(table, 'tr', ''), cells = [add(row, 'th', name), add(row, 'td', ''), add(row, 'td', '')];
+      const bar = add(add(row, 'td', ''), 'meter', '', { max: LIMITS[name], high: LIMITS[name] * .9 });
+      bar.ariaLabel = `${name} of their limit`;
+      return { name, cells, bar };
+    });
+  }
+  show(counts) {
+    for (const { name, cells, bar } of this.rows) {
+      const count = counts[name], over = count !== undefined && isOver(name, count);
+      cells[1].textContent = count === undefined ? '-' : withCommas(count); cells[1].className = over ? 'over' : '';
+      cells[2].textContent = `of ${withCommas(LIMITS[name])}${over ? ', OVER' : ''}`; bar.value = count || 0;
+    }
+  }
 }

@@ -1,27 +1,32 @@
 /* The whole map counted: the squares of the map, the worst views, and the numbers to save. */
 class WholeMap {
-  // `display` draws the map; `go` takes the row of a view and whether the doors are open; `drawn` is called as squares come.
-  constructor(go) { this.go = go; this.found = null; this.state = 0; this.count = 0; this.rank = 0; }
-  take(found) {
-    this.found = found; this.rank = 0;
-    if (this.state >= this.states().length) this.state = 0;
+  // `go` takes the row of a view and whether the doors are open.
+  constructor(go) { this.go = go; this.count = 0; this.clear(); }
+  clear() { this.found = this.growing = null; this.state = this.rank = 0; }
+  take(found) { this.clear(); this.found = found; }
+  // Takes what is found at some places while the map is counted; what is shown then are those with the doors shut.
+  grow({ places, most, directions, isOpen }) {
+    this.growing ??= { label: 'shut', directions, places: [], worst: {} };
+    for (let i = 0; i < (isOpen ? 0 : places.length / PLACE); i++) {
+      const [x, y, floor, size, sector, isReached] = places.subarray(PLACE * i, PLACE * (i + 1));
+      this.growing.places.push({ x, y, floor, size, sector, isReached: Boolean(isReached), most: pairsOf(most, i) });
+    }
   }
-  clear() { this.found = null; this.state = 0; }
-  states() { return this.found ? this.found.states : []; }
-  now() { return this.found && this.found.states[this.state]; }
+  states() { return this.found ? this.found.states : this.growing ? [this.growing] : []; }
+  now() { return this.states()[this.state]; }
   get name() { return COUNTS[this.count]; }
-  get isOpen() { return Boolean(this.found) && this.now().label === 'open'; }
-  worst(name = this.name) { return this.found ? this.now().worst[name] : []; }
+  get isOpen() { return this.now()?.label === 'open'; }
+  worst(name = this.name) { return this.now()?.worst[name] || []; }
   number(place) { return place.most[this.count][0]; }
   // The row of a place, in the direction of its greatest count.
   row(place) {
     return [place.x * UNIT, place.y * UNIT, (place.floor + EYE_HEIGHT) * UNIT, Math.floor(TURN * place.most[this.count][1] / this.now().directions)];
   }
-  // What the display shows of it: squares, and the worst views as dots.
-  parts(view) {
-    const worst = this.worst(), key = view ? view.row.join() : '';
-    return { numberOf: place => this.number(place), limit: LIMITS[this.name], isOver: n => isOver(this.name, n),
-      dots: worst.map(([, row], i) => ({ x: row[0] / UNIT, y: row[1] / UNIT, text: i + 1, isChosen: row.join() === key })) };
+  // What the display shows of it: squares by their counts, and the worst views as dots.
+  parts() { return { numberOf: place => this.number(place), limit: LIMITS[this.name], isOver: n => isOver(this.name, n) }; }
+  dots(view) {
+    const key = view ? view.row.join() : '';
+    return this.worst().map(([, row], i) => ({ x: row[0] / UNIT, y: row[1] / UNIT, text: i + 1, isChosen: row.join() === key }));
   }
   step(by) {
     const worst = this.worst();
@@ -44,6 +49,6 @@ class WholeMap {
   told(place) {
     const degrees = i => Math.round(place.most[i][1] / this.now().directions * 3600) / 10;
     return `x ${place.x} y ${place.y} floor ${place.floor} sector ${place.sector}${place.isReached ? '' : ' (no way leads here)'}: ` +
-      COUNTS.map((name, i) => `${name} ${countText(name, place.most[i][0])}${isOver(name, place.most[i][0]) ? ' OVER' : ''} at ${degrees(i)}°`).join(', ');
+      COUNTS.map((name, i) => `${name} ${withCommas(place.most[i][0])}${isOver(name, place.most[i][0]) ? ' OVER' : ''} at ${degrees(i)}°`).join(', ');
   }
 }

@@ -1,6 +1,5 @@
 use Rattle.std.proofs.Common.{◌≡◌, ◌+◌, ◌≤◌, length}
-use Rattle.view_rules.specs.declared.TheConstants.{FRAME_WIDTH, FRAME_HEIGHT}
-use Rattle.wall_columns.specs.Rules.{IsAmongPlanes}
+use Rattle.wall_columns.specs.Rules.{FRAME_HEIGHT, FRAME_WIDTH, IsAmongPlanes}
 use Rattle.whole_tests.proofs.tests.wall_columns_tests.draw.Given as goal
 
 -- the window may be drawn once more
