@@ -5,5 +5,5 @@ By subject: `wads` (finding and reading WADs), `levels` (the lumps of a map as r
 `checks` (mistakes of a map), `ground`, `cells`, `counting` and `limits_page` (what the views of a whole map count),
 `compare_page` and `pages` (pages of one file), `pictures` (what ports write), `files` (files that are whole or not
 there), `program` (the proved program), `jobs` (its jobs and options), `build` (building it), `home` (where all this
-stands). `cli` is what all commands share, `commands` has a module for each tool,
-and `command` is the command doomview itself."""
+stands), `doom` and `art` (what Doom has: layouts, flags, types; textures and flats). `cli` is what all commands share,
+`commands` has a module for each tool, and `command` is the command doomview itself."""

@@ -19,6 +19,7 @@ import subprocess
 import sys
 import threading
 import time
+import typing
 
 from . import home, plan, program
 from .trouble import Trouble
@@ -39,15 +40,15 @@ TELL_SECONDS = 20  # after which the build says how far it is, if it has not
 STOPS = (signal.SIGINT, signal.SIGTERM, signal.SIGHUP)
 
 
-def say(text):
+def say(text: str) -> None:
     print(f'doomview: {text}', file=sys.stderr, flush=True)
 
 
-def is_disk_full(text):
+def is_disk_full(text: str) -> bool:
     return os.strerror(errno.ENOSPC) in text or shutil.disk_usage(TOP).free < FULL_DISK
 
 
-def fail(text, said=()):
+def fail(text: str, said: typing.Sequence[str] = ()) -> typing.NoReturn:
     """Ends with the last of what rt said, and with a sentence."""
     if is_disk_full(text + ''.join(said)):
         text = (f'the build failed: the disk of {TOP} is full. A whole build takes about {BUILD_DISK / 1e9:.0f} GB; '
@@ -59,7 +60,7 @@ def fail(text, said=()):
     sys.exit(BUILD_FAILED)
 
 
-def crates_below(name):
+def crates_below(name: str) -> plan.Crates:
     """The crates that one stands on, each with those it names, lowest first; it is the last."""
     with open(os.path.join(TOP, 'crates.txt')) as file:
         lines = [line.partition('#')[0].partition(':') for line in file]
@@ -67,33 +68,35 @@ def crates_below(name):
     found = {}
 
     def visit(crate):
-        below = [it for it in named[crate] if it in named]
-        for it in below:
-            if it not in found:
-                visit(it)
+        below = [lower for lower in named[crate] if lower in named]
+        for lower in below:
+            if lower not in found:
+                visit(lower)
         found[crate] = below
 
     visit(name)
     return found
 
 
-def last_crates(crates):
+def last_crates(crates: plan.Crates) -> typing.List[str]:
     """The crates from the first on that stands on all before it, and so do those after it."""
-    under, last = {}, []
+    under: typing.Dict[str, typing.Set[str]] = {}
+    last: typing.List[str] = []
     for crate, below in crates.items():
-        under[crate] = set(below).union(*(under[it] for it in below))
+        under[crate] = set(below).union(*(under[lower] for lower in below))
         last = [*last, crate] if len(under[crate]) == len(under) - 1 else []
     return last
 
 
-def count_jobs():
+def count_jobs() -> int:
     """A job a processor, as many as memory allows."""
     with open('/proc/meminfo') as file:
-        free = 1024 * int(re.search(r'MemAvailable:\s+(\d+)', file.read())[1])
+        found = re.search(r'MemAvailable:\s+(\d+)', file.read())
+    free = 1024 * int(found[1]) if found else 0
     return max(1, min(len(os.sched_getaffinity(0)), free // CRATE_MEMORY))
 
 
-def count_lines(crate):
+def count_lines(crate: str) -> int:
     """The lines of a crate's code, tests left out."""
     found = 0
     for folder, _, files in os.walk(os.path.join(TOP, 'crates', crate, 'src')):
@@ -104,17 +107,17 @@ def count_lines(crate):
     return found
 
 
-def planned_seconds(crates):
+def planned_seconds(crates: plan.Crates) -> plan.Numbers:
     """The seconds that each crate takes, as far as that is known."""
     kept, weights = plan.read_numbers(SECONDS_FILE), plan.read_numbers(home.data('weights.csv'))
     return plan.seconds_of(crates, kept, weights, {crate: count_lines(crate) for crate in crates})
 
 
-def library(top, crate):
+def library(top: str, crate: str) -> str:
     return os.path.join(top, 'crates', crate, 'out', 'rlib')
 
 
-def is_proved_since(top, crate, began):
+def is_proved_since(top: str, crate: str, began: float) -> bool:
     """Whether rt made the library of a crate, and did not find it made."""
     try:
         return os.path.getmtime(os.path.join(library(top, crate), 'stamp')) >= began
@@ -122,7 +125,7 @@ def is_proved_since(top, crate, began):
         return True
 
 
-def link(source, target):
+def link(source: str, target: str) -> None:
     """A file in a second place: the same one, or a copy where the disk has no links."""
     try:
         os.link(source, target)
@@ -132,7 +135,7 @@ def link(source, target):
         shutil.copy2(source, target)
 
 
-def share(crate, made, others):
+def share(crate: str, made: str, others: typing.Iterable[str]) -> None:
     """Puts the library that rt built of a crate into other checkouts of the same text."""
     for top in others:
         there = library(top, crate)
@@ -143,13 +146,15 @@ def share(crate, made, others):
             os.replace(there + '.part', there)
 
 
-def copy_sources(top):
+def copy_sources(top: str) -> None:
     """Copies the sources beside what an interrupted build may have left in their folders out/."""
     crates = os.path.join(top, 'crates')
     for crate in os.listdir(crates) if os.path.exists(crates) else []:
         for part in os.scandir(os.path.join(crates, crate)):
-            if part.name != 'out':
-                (shutil.rmtree if part.is_dir() else os.remove)(part.path)
+            if part.name != 'out' and part.is_dir():
+                shutil.rmtree(part.path)
+            elif part.name != 'out':
+                os.remove(part.path)
     shutil.copytree(os.path.join(TOP, 'crates'), crates, ignore=shutil.ignore_patterns('out'), dirs_exist_ok=True)
     for name in SOURCES:
         shutil.copy(os.path.join(TOP, name), top)
@@ -164,18 +169,18 @@ class Signals:
     first, is_held = 0, False
 
     @classmethod
-    def stop(cls, number, _):
+    def stop(cls, number: int, _: object) -> None:
         if not cls.first:
             cls.first = number
             cls.check()
 
     @classmethod
-    def check(cls):
+    def check(cls) -> None:
         if cls.first and not cls.is_held:
             raise Stopped(128 + cls.first)
 
     @classmethod
-    def hold(cls, is_held):
+    def hold(cls, is_held: bool) -> None:
         """For the main thread, which signals reach."""
         if threading.current_thread() is threading.main_thread():
             cls.is_held = is_held
@@ -183,17 +188,20 @@ class Signals:
 
 
 class Build:
-    def __init__(self, crates):
+    def __init__(self, crates: plan.Crates) -> None:
         self.crates, self.jobs = crates, count_jobs()
         self.copies = [os.path.join(COPIES, str(number)) for number in range(self.jobs)]
         self.planned = planned_seconds(crates)
-        self.begun, self.done, self.failure = {}, [], None  # begun: when
-        self.took = {}  # by each crate that was proved and not found proved
-        self.workers, self.runs = [], []
+        self.begun: plan.Numbers = {}  # when
+        self.done: typing.List[str] = []
+        self.failure: typing.Optional[typing.Tuple[str, typing.Sequence[str]]] = None
+        self.took: plan.Numbers = {}  # by each crate that was proved and not found proved
+        self.workers: typing.List[threading.Thread] = []
+        self.runs: typing.List[subprocess.Popen] = []
         self.turn, self.ended = threading.Lock(), threading.Event()
         self.told = time.monotonic()
 
-    def rt(self, top, crate, *words):
+    def rt(self, top: str, crate: str, *words: str) -> typing.Optional[subprocess.Popen]:
         """Starts rt in a crate's folder, unless the build has ended."""
         with self.turn:
             if self.ended.is_set():
@@ -206,11 +214,11 @@ class Build:
             Signals.hold(False)
             return run
 
-    def say(self, text):
+    def say(self, text: str) -> None:
         self.told = time.monotonic()
         say(text)
 
-    def finish(self, crate, top):
+    def finish(self, crate: str, top: str) -> None:
         """Notes that a crate is built, and what it took."""
         self.done.append(crate)
         if is_proved_since(top, crate, self.begun[crate]):
@@ -219,44 +227,44 @@ class Build:
                 plan.keep_seconds(SECONDS_FILE, {crate: self.took[crate]})
         self.say(f'crate {len(self.done)} of {len(self.crates)}: {crate}')
 
-    def seconds_left(self):
+    def seconds_left(self) -> float:
         """About how long the build still takes."""
         pace, now = plan.pace(self.took, self.planned), time.time()
         left = {crate: max(0, pace * self.planned[crate] - (now - self.begun[crate] if crate in self.begun else 0))
                 for crate in self.crates if crate not in self.done}
         return plan.seconds_left(self.crates, left, self.jobs)
 
-    def progress(self):
+    def progress(self) -> str:
         """How far the build is, as a sentence."""
-        now = ', '.join(it for it in self.crates if it in self.begun and it not in self.done)
-        return (f'{len(self.done)} of {len(self.crates)} crates, {plan.rounded(self.seconds_left())} left; now '
+        now = ', '.join(crate for crate in self.crates if crate in self.begun and crate not in self.done)
+        return (f'{len(self.done)} of {len(self.crates)} crates, {plan.words_of(self.seconds_left())} left; now '
                 f'{now or "none"}')
 
-    def tell(self):
+    def tell(self) -> None:
         """Says now and then how far the build is, as long as it goes on."""
         while not self.ended.wait(1):
             with self.turn:
                 if time.monotonic() - self.told > TELL_SECONDS:
                     self.say(self.progress())
 
-    def fail(self, text, said=()):
+    def fail(self, text: str, said: typing.Sequence[str] = ()) -> None:
         """Ends the build, unless it has ended."""
         if not self.ended.is_set():
             self.failure = (text, said)
             self.end()
 
-    def end(self):
+    def end(self) -> None:
         """Lets no rt begin, and ends each that runs, with all that it started."""
         self.ended.set()
         for run in self.runs:
             if run.poll() is None:
                 run.terminate()
 
-    def make(self, top, crate, *words):
+    def make(self, top: str, crate: str, *words: str) -> None:
         """Builds a crate by rt, shares it, and says so."""
         run = self.rt(top, crate, *words)
         said = run.communicate()[0].splitlines(True) if run else []
-        is_made = bool(run) and not run.returncode
+        is_made = run is not None and not run.returncode
         if is_made and crate != PROGRAM:
             share(crate, top, [TOP, *self.copies])
         with self.turn:
@@ -265,7 +273,7 @@ class Build:
             else:
                 self.fail(f'the build of {crate} failed', said)
 
-    def next_crate(self, order):
+    def next_crate(self, order: typing.List[str]) -> typing.Optional[str]:
         """The first crate that has not begun, of which all below it are done, or None."""
         with self.turn:
             ready = (crate for crate in order if crate not in self.begun
@@ -275,7 +283,7 @@ class Build:
                 self.begun[crate] = time.time()
             return crate
 
-    def work(self, top, order):
+    def work(self, top: str, order: typing.List[str]) -> None:
         """Builds crates in a copy as long as some have not begun."""
         try:
             while len(self.begun) < len(order) and not self.ended.is_set():
@@ -288,9 +296,9 @@ class Build:
             with self.turn:
                 self.fail(f'the build failed: {error}')
 
-    def side_by_side(self, last):
+    def side_by_side(self, last: typing.List[str]) -> None:
         above = plan.seconds_above(self.crates, self.planned)
-        order = sorted((it for it in self.crates if it not in last), key=lambda it: -above[it])
+        order = sorted((crate for crate in self.crates if crate not in last), key=lambda crate: -above[crate])
         for top in self.copies:
             copy_sources(top)
         for crate in order:
@@ -299,10 +307,10 @@ class Build:
         for top in self.copies:
             self.workers.append(threading.Thread(target=self.work, args=(top, order)))
             self.workers[-1].start()
-        for it in self.workers:
-            it.join()
+        for worker in self.workers:
+            worker.join()
 
-    def all_crates(self):
+    def all_crates(self) -> None:
         threading.Thread(target=self.tell, daemon=True).start()
         self.side_by_side(last_crates(self.crates))
         for crate in self.crates:
@@ -311,17 +319,17 @@ class Build:
             elif crate not in self.done:
                 self.make(TOP, crate, 'lib', '--jobs', str(self.jobs))
 
-    def stop(self):
+    def stop(self) -> None:
         """Ends what still runs."""
         with self.turn:
             self.end()
-        for it in self.workers:
-            it.join()
+        for worker in self.workers:
+            worker.join()
         for run in self.runs:
             run.wait()
 
 
-def put_in_place(began):
+def put_in_place(began: float) -> None:
     """Copies the program to its place at once, as old as the sources that it was built from may be."""
     part = BUILT + '.part'
     shutil.copy(os.path.join(TOP, 'crates', PROGRAM, 'out', PROGRAM), part)
@@ -329,7 +337,7 @@ def put_in_place(began):
     os.replace(part, BUILT)
 
 
-def build_all():
+def build_all() -> None:
     """Builds the program, or ends this process."""
     began = time.time()
     work = Build(crates_below(PROGRAM))
@@ -353,7 +361,7 @@ def build_all():
     shutil.rmtree(COPIES, ignore_errors=True)
 
 
-def build_alone():
+def build_alone() -> None:
     """Builds the program, unless another build does: then waits for that one to end, and builds what it left."""
     os.makedirs(os.path.dirname(BUILT), exist_ok=True)
     with open(BUILT + '.lock', 'w') as lock:
@@ -367,7 +375,7 @@ def build_alone():
         build_all()
 
 
-def build():
+def build() -> None:
     """Builds the program; returns only where it is built."""
     before = {number: signal.signal(number, Signals.stop) for number in STOPS}
     try:

@@ -7,19 +7,24 @@ import difflib
 import functools
 import typing
 
-from . import ground, program, ways
-from .art import Art
+from . import ground, levels, program, ways
+from .art import Art, Texture
+from .doom import LOWER_UNPEGGED, PLACES, PLAYER_1, SKY, SPECTRE, TWO_SIDED, UPPER_UNPEGGED
 from .findings import ERROR, FAULT, HOLE, ODD, Finding, lines, sectors, several, some
 from .game_checks import GameCheck
-from .ground import SKY, TWO_SIDED
-from .levels import PLAYER_1
 
 TALL = 128  # rows of a wall after which its texture begins anew
-UPPER_UNPEGGED, LOWER_UNPEGGED = 8, 16
 PARTS = ('upper', 'lower', 'middle')
 SIDES = ('front', 'back')
-UNDRAWN = {1, 2, 3, 4, 11, 14, 58, 87, 89}  # starts, places of teleports, and what the thing table leaves out
+UNDRAWN = {*PLACES, SPECTRE, 87, 89}  # and two of the last boss, which the thing table leaves out
 NO_THING = 0  # a type for which ports place nothing
+
+
+Findings = typing.Iterator[Finding]
+# Which side of a line it is, the side, and the sectors in front of it and behind it.
+Beside = typing.Tuple[int, levels.Side, levels.Sector, typing.Optional[levels.Sector]]
+# A type of things with its row, and the numbers of the things of that type.
+Things = typing.Tuple[typing.Tuple[int, typing.Optional[str]], typing.List[int]]
 
 
 class Part(typing.NamedTuple):
@@ -35,25 +40,25 @@ class Part(typing.NamedTuple):
     offset: int
 
 
-def guess(name, names):
+def guess(name: str, names: typing.Iterable[str]) -> str:
     """What a name may have been meant to be."""
     found = difflib.get_close_matches(name, names, 1, .75)
     return f'; is it {found[0]}?' if found else ''
 
 
-def first_row(part, texture):
+def first_row(part: Part, texture: Texture) -> int:
     """The texel row of a texture at the top of a part, which goes round after TALL rows."""
     return (part.start + texture.height * part.hangs) % TALL
 
 
-def runs_out(part, texture):
+def runs_out(part: Part, texture: Texture) -> bool:
     """Whether rows past the end of a texture show, since it is lower than the rows after which it begins anew."""
     first = first_row(part, texture)
     return 0 < texture.height < TALL and any((first + row) % TALL >= texture.height
                                              for row in range(min(part.height, TALL)))
 
 
-def runs_out_told(part, texture):
+def runs_out_told(part: Part, texture: Texture) -> str:
     """What is wrong with a part that is higher than the rest of its texture."""
     first = first_row(part, texture)
     begins = f', and begins in row {first} (row offset {part.offset})' if part.offset else (
@@ -62,11 +67,11 @@ def runs_out_told(part, texture):
             'pictures show')
 
 
-def findings(level, files):
+def findings(level: levels.Level, files: typing.List[str]) -> Findings:
     """All that looks like a mistake."""
     check = Check(level, Art(files))
     for part in (check.missing_textures, check.lists, check.missing_flats, check.lost_flats, check.odd_lines,
-                 check.walls, check.middles, check.sectors, check.pictures, check.things, check.unclosed):
+                 check.walls, check.middles, check.sectors, check.pictures, check.things, check.unclosed_sectors):
         yield from part()
     yield from GameCheck(level, check.plan, check.reached).findings()
 
@@ -74,30 +79,30 @@ def findings(level, files):
 class Check:
     """The checks of one map."""
 
-    def __init__(self, level, art):
+    def __init__(self, level: levels.Level, art: Art) -> None:
         self.level, self.art, self.plan = level, art, ground.Plan(level)
         self.reached = functools.cache(lambda: ways.reach(self.plan).sectors or set(range(len(level.sectors))))
         self.lines_of = collections.defaultdict(list)
         for number, line in enumerate(level.lines):
-            for side in line[5:]:
+            for side in line.sides:
                 self.lines_of[side].append(number)
 
-    def lines(self, numbers):
+    def lines(self, numbers: typing.Iterable[int]) -> str:
         return lines(numbers, self.level)
 
-    def lines_with(self, sides):
+    def lines_with(self, sides: typing.Iterable[int]) -> typing.List[int]:
         return [line for side in sides for line in self.lines_of[side]]
 
-    def sides(self, number):
+    def sides(self, number: int) -> typing.Iterator[Beside]:
         """The sides of a line that are there: which it is, the side, and the sectors in front of it and behind it."""
         line, beside = self.level.lines[number], self.plan.beside[number]
-        for which in (0, 1):
-            if beside[which] is not None:
+        for which, side in enumerate(line.sides):
+            if side is not None and beside[which] is not None:
                 behind = beside[1 - which] if line.flags & TWO_SIDED else None
-                yield (which, self.level.sides[line[5 + which]], self.level.sectors[beside[which]],
+                yield (which, self.level.sides[side], self.level.sectors[beside[which]],
                        None if behind is None else self.level.sectors[behind])
 
-    def missing(self):
+    def missing(self) -> typing.Dict[str, typing.List[typing.Tuple[int, str]]]:
         """The textures that no list has: by name the sides, and the parts of walls."""
         found = collections.defaultdict(list)
         for number, side in enumerate(self.level.sides):
@@ -107,10 +112,10 @@ class Check:
                     found[name].append((number, part))
         return found
 
-    def missing_textures(self):
+    def missing_textures(self) -> Findings:
         found = self.missing()
         for name, places in sorted(found.items()):
-            parts = ' '.join(part for part in PARTS if part in {it for _, it in places})
+            parts = ' '.join(part for part in PARTS if part in {which for _, which in places})
             lines_here = self.lines_with(side for side, _ in places)
             of_no_line = several('side', (side for side, _ in places)) + ', of no line'
             where = self.lines(lines_here) if lines_here else of_no_line
@@ -119,11 +124,11 @@ class Check:
                               + guess(name, self.art.textures))
             else:
                 yield Finding(ERROR, 'texture', where, f'{parts}: the name is empty; write - for no texture')
-        for name, file, hiding in self.art.hidden(set(found)):
+        for name, file, hiding in self.art.hidden_textures(set(found)):
             yield Finding(ERROR, 'list', hiding, f'its TEXTURE1 hides that of {file}, which has {name}; it needs all '
                                                  'textures of both')
 
-    def lists(self):
+    def lists(self) -> Findings:
         """What is wrong with the lists of textures: the original looks at all of them when it begins."""
         hidden = list(self.art.hiding_names())
         for name, file, hiding, texture, meant, instead in hidden:
@@ -134,7 +139,7 @@ class Check:
             yield Finding(ERROR, 'patch', patch, f'no WAD has this patch of the texture {textures[0]}{more}: the '
                           'original ends before it draws anything')
 
-    def missing_flats(self):
+    def missing_flats(self) -> Findings:
         found = collections.defaultdict(list)
         for number, sector in enumerate(self.level.sectors):
             for part, name in (('floor', sector.floor_flat), ('ceiling', sector.ceiling_flat)):
@@ -147,7 +152,7 @@ class Check:
             yield Finding(ERROR, 'flat', sectors(number for number, _ in places),
                           f'{parts} {name or "(no name)"} is no flat{why}')
 
-    def lost_flats(self):
+    def lost_flats(self) -> Findings:
         """Flats that doomview draws and the original does not find."""
         used = collections.defaultdict(list)
         for number, sector in enumerate(self.level.sectors):
@@ -163,10 +168,10 @@ class Check:
                 yield Finding(ERROR, 'flat', sectors(number for name in names for number in used[name]),
                               f'{some(names)} {"comes" if len(names) == 1 else "come"} {why}. The original ends there')
 
-    def odd_lines(self):
+    def odd_lines(self) -> Findings:
         for which in (0, 1):
             lost = [number for number, line in enumerate(self.level.lines)
-                    if line[5 + which] is not None and self.plan.beside[number][which] is None]
+                    if line.sides[which] is not None and self.plan.beside[number][which] is None]
             if lost:
                 yield Finding(ERROR, 'line', self.lines(lost),
                               f'its {SIDES[which]} side, or the sector of that, is not there')
@@ -182,7 +187,7 @@ class Check:
                 yield Finding(ODD, 'line', self.lines([number]), 'has two sides and is not two-sided: it is drawn as a '
                               'wall')
 
-    def parts(self, number):
+    def parts(self, number: int) -> typing.Iterator[Part]:
         """The wall parts of a line that are seen."""
         flags = self.level.lines[number].flags
         for which, side, front, back in self.sides(number):
@@ -202,7 +207,7 @@ class Check:
                 height = min(back.floor - front.floor, high)
                 yield Part(which, 'lower', side.lower, height, False, side.y_offset + start, side.y_offset)
 
-    def walls(self):
+    def walls(self) -> Findings:
         """Parts without a texture, and those past the end of theirs."""
         for number in range(len(self.level.lines)):
             for part in self.parts(number):
@@ -212,10 +217,10 @@ class Check:
                 elif texture and runs_out(part, texture):
                     yield Finding(ODD, 'tutti-frutti', self.where(number, part), runs_out_told(part, texture))
 
-    def where(self, number, part):
+    def where(self, number: int, part: Part) -> str:
         return f'{self.lines([number])} {SIDES[part.side]}'
 
-    def hole(self, number, part):
+    def hole(self, number: int, part: Part) -> Finding:
         """The Finding of a part without a texture. One is odd in front of which no player can be, though he may see it
         from afar."""
         in_front = self.plan.beside[number][part.side]
@@ -229,7 +234,7 @@ class Check:
                            f'leads to sector {in_front} in front of it')
         return Finding(HOLE, 'texture', self.where(number, part), told)
 
-    def medusa(self):
+    def medusa(self) -> typing.Iterator[typing.Tuple[str, typing.List[int], int, int]]:
         """The middle textures with several patches, or none, in a column: by name the lines and the first column."""
         found = collections.defaultdict(list)
         for number, line in enumerate(self.level.lines):
@@ -242,18 +247,18 @@ class Check:
             if wrong is not None:
                 yield name, numbers, wrong, counts[wrong]
 
-    def middles(self):
+    def middles(self) -> Findings:
         for name, numbers, column, count in self.medusa():
             yield Finding(ERROR, 'Medusa', self.lines(numbers), f'middle {name} has {count or "no"} patches in column '
                           f'{column}: the Medusa effect; take a texture of one patch a column')
 
-    def sectors(self):
+    def sectors(self) -> Findings:
         for number, sector in enumerate(self.level.sectors):
             if sector.ceiling < sector.floor:
                 yield Finding(ODD, 'sector', sectors([number]),
                               f'its ceiling {sector.ceiling} is below its floor {sector.floor}')
 
-    def things_of(self, is_wrong):
+    def things_of(self, is_wrong: typing.Callable[[typing.Optional[str]], object]) -> typing.List[Things]:
         """The things whose type has no row in the thing table, or a wrong one: by type and row."""
         try:
             with open(program.things_file(), newline='', encoding='utf-8') as file:
@@ -266,12 +271,12 @@ class Check:
                 found[thing.type, known.get(thing.type)].append(number)
         return sorted(found.items())
 
-    def pictures(self):
+    def pictures(self) -> Findings:
         for (kind, frame), numbers in self.things_of(lambda frame: frame and frame not in self.art.frames):
             yield Finding(ERROR, 'thing', several('thing', numbers), f'type {kind} needs the picture {frame}, which no '
                           'WAD has between S_START and S_END')
 
-    def things(self):
+    def things(self) -> Findings:
         if not any(thing.type == PLAYER_1 for thing in self.level.things):
             yield Finding(ERROR, 'thing', 'map', 'has no start of player 1 (thing of type 1)')
         for (kind, _), numbers in self.things_of(lambda frame: frame is None):
@@ -282,7 +287,7 @@ class Check:
                 yield Finding(FAULT, 'thing', f'thing {number}',
                               f'type {thing.type} at {thing.x}, {thing.y} is outside the level')
 
-    def unknown_things(self, kind, numbers):
+    def unknown_things(self, kind: int, numbers: typing.List[int]) -> Findings:
         """Findings of things of a type that there is not: the original ends where it would place one."""
         placed = [number for number in numbers if kind != NO_THING and self.level.things[number].options & ways.SKILLS]
         at = [f'{self.level.things[number].x}, {self.level.things[number].y}' for number in numbers[:1]]
@@ -292,10 +297,11 @@ class Check:
         else:
             yield Finding(ODD, 'thing', where, f'type {kind} at {at[0]} is none of the game, and never appears')
 
-    def unclosed(self):
+    def unclosed_sectors(self) -> Findings:
         """Sectors whose lines do not close: at a vertex where an odd number of them end, and no line that has one
         sector on both sides, as of deep water."""
-        ends, tricks = collections.Counter(), set()
+        ends: typing.Counter[typing.Tuple[int, levels.Vertex]] = collections.Counter()
+        tricks: typing.Set[levels.Vertex] = set()
         for number, line in enumerate(self.level.lines):
             front, back = self.plan.beside[number]
             vertexes = [self.level.vertexes[vertex] for vertex in line[:2]]

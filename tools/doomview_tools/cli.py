@@ -51,21 +51,21 @@ class Parser(argparse.ArgumentParser):
     """The words of a tool or a job. All help pages have the same parts in the same order."""
 
     def __init__(self, page: Page):
-        super().__init__(prog=f'doomview {page.name}', description=filled(page.text), epilog=last_parts(page),
-                         add_help=False, allow_abbrev=False, formatter_class=Formatter)
+        super().__init__(prog=f'doomview {page.name}', description=filled_paragraphs(page.text),
+                         epilog=last_parts(page), add_help=False, allow_abbrev=False, formatter_class=Formatter)
         self.page = page
         self._positionals.title, self._optionals.title = 'Words', 'Options'
 
     def error(self, message: str) -> typing.NoReturn:
         wrong = message.startswith('unrecognized arguments: ') and message.split()[2].partition('=')[0]
-        near = jobs.meant(wrong, self._option_string_actions) if wrong and wrong.startswith('--') else ''
+        near = jobs.guess(wrong, self._option_string_actions) if wrong and wrong.startswith('--') else ''
         raise Trouble(f'{message.replace("argument ", "")}{near}; {self.prog} --help shows its words')
 
     def format_usage(self) -> str:
         """All words, the positional ones first."""
         plain = [form_of(action) for action in self._actions if not action.option_strings]
         options = [form_of(action) for action in self._actions if action.option_strings and action.dest != 'help']
-        forms = self.page.usage or [' '.join(it.replace(' ', UNBROKEN) for it in plain + options)]
+        forms = self.page.usage or [' '.join(form.replace(' ', UNBROKEN) for form in plain + options)]
         text = ''.join(textwrap.fill(f'{self.prog} {form}', columns(), initial_indent='       ' if i else 'usage: ',
                                      subsequent_indent=' ' * 9, break_on_hyphens=False) + '\n'
                        for i, form in enumerate(forms))
@@ -95,7 +95,7 @@ def form_of(action: argparse.Action) -> str:
     return f'[{metavar}{many}]' if action.nargs in ('*', '?') else metavar + many
 
 
-def filled(text: str) -> str:
+def filled_paragraphs(text: str) -> str:
     """Paragraphs, each filled up to the width of the page."""
     return '\n\n'.join(textwrap.fill(' '.join(part.split()), columns(), break_on_hyphens=False)
                        for part in text.strip().split('\n\n'))
@@ -123,8 +123,8 @@ def add_base(parser: argparse.ArgumentParser) -> None:
 def add_level(parser: argparse.ArgumentParser, is_needed: bool = True) -> None:
     """The words of a tool over one map, which some need not name."""
     parser.add_argument('wad', metavar='WAD', help=WAD)
-    parser.add_argument('map', metavar='MAP', nargs=None if is_needed else '?', help='the name of a map, such as MAP01 or '
-                        'E1M1')
+    count: typing.Any = None if is_needed else '?'
+    parser.add_argument('map', metavar='MAP', nargs=count, help='the name of a map, such as MAP01 or E1M1')
     add_base(parser)
 
 

@@ -94,7 +94,7 @@ def say_why(done: program.Run, words: typing.List[str], is_job: bool = True) -> 
 def no_such(words: typing.Sequence[str]) -> str:
     """The sentence on words of which the first is no job and no tool."""
     first = jobs.Words(words).job or words[0]
-    near = jobs.meant(first, [*jobs.JOBS, *TOOLS])
+    near = jobs.guess(first, [*jobs.JOBS, *TOOLS])
     return f'there is no job or tool {first}{near or "; doomview --help has them all"}'
 
 
@@ -107,7 +107,7 @@ def limits_with_places(words: typing.List[str]) -> int:
     if done.status:
         say_why(done, words)
         return done.status
-    lines = zip(done.output.decode().splitlines(), paths.rows(given.value('--path')))
+    lines = zip(done.output.decode().splitlines(), paths.rows(given.value('--path') or ''))
     write_output(''.join(f'{line}; {paths.told(row)}\n' for line, row in lines), given.output)
     return 0
 

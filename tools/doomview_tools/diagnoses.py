@@ -8,6 +8,7 @@ import itertools
 import statistics
 import typing
 
+from .doom import COLORMAP_SIZE
 from .frames import HEIGHT, SIZE, WIDTH, window
 
 SAMPLES = 8  # of the views that differ
@@ -32,7 +33,7 @@ class Case(typing.NamedTuple):
 
     pairs: typing.List[Pair]
     ours: typing.Callable[[int], bytes]
-    count: int
+    count: int  # type: ignore[assignment]  # in the place of a method of tuples
     colormaps: bytes
 
 
@@ -42,11 +43,11 @@ def count(ours: bytes, port: bytes) -> int:
     return len(ours) - both.to_bytes(len(ours), 'big').count(0)
 
 
-def rows_of(frame):
+def rows_of(frame: bytes) -> typing.List[bytes]:
     return [frame[WIDTH * row:WIDTH * row + WIDTH] for row in range(HEIGHT)]
 
 
-def of_planes(frame):
+def of_planes(frame: bytes) -> bytes:
     """A frame that was written as four planes, each of every fourth column."""
     found = bytearray(SIZE)
     for plane in range(4):
@@ -63,21 +64,21 @@ LAYOUTS = {
 }
 
 
-def before(case):
+def before(case: Case) -> int:
     """The pixels that differ as the frames are."""
     return sum(count(pair.ours, pair.port) for pair in case.pairs)
 
 
-def is_cause(left, whole):
+def is_cause(left: int, whole: int) -> bool:
     """Whether few enough pixels differ once a mistake is undone."""
     return 4 * left < whole
 
 
-def beside(left):
+def beside(left: int) -> str:
     return f'; {left} pixels of the views looked at differ beside that' if left else ''
 
 
-def one_colour(case):
+def one_colour(case: Case) -> str:
     """Frames of one colour, such as all black."""
     colours = {colour for pair in case.pairs for colour in set(pair.port)}
     if len(colours) > 1 or all(len(set(pair.ours)) == 1 for pair in case.pairs):
@@ -86,7 +87,7 @@ def one_colour(case):
     return f'each of the port\'s frames is all of colour {min(colours)}{name}: nothing was drawn into what it wrote'
 
 
-def nearest_view(case, pair):
+def nearest_view(case: Case, pair: Pair) -> typing.Tuple[int, int]:
     """The number of doomview's view that is nearest to a port's frame, and the pixels that differ from it."""
     near = range(max(0, pair.view - FARTHEST_VIEW), min(case.count, pair.view + FARTHEST_VIEW + 1))
     counts = {view: count(case.ours(view), pair.port) for view in {*near, case.count - 1 - pair.view}}
@@ -94,7 +95,7 @@ def nearest_view(case, pair):
     return view, counts[view]
 
 
-def order(case):
+def order(case: Case) -> str:
     """Views that come late, or in another order."""
     found = [(pair, *nearest_view(case, pair)) for pair in case.pairs]
     moved = [(pair.view, view) for pair, view, left in found
@@ -112,33 +113,33 @@ def order(case):
     return f'the port has the views in another order: {some}'
 
 
-def layout(case):
+def layout(case: Case) -> str:
     """Frames that are flipped, or written in another order of pixels."""
     counts = {name: sum(count(pair.ours, undo(pair.port)) for pair in case.pairs) for name, undo in LAYOUTS.items()}
-    name = min(counts, key=counts.get)
+    name = min(counts, key=lambda name: counts[name])
     if not is_cause(counts[name], before(case)):
         return ''
     return f'the port\'s frames are {name}{beside(counts[name])}'
 
 
-def cut(frame, rows, columns):
+def part_of(frame: bytes, rows: int, columns: int) -> bytes:
     """A frame without so many rows at the top, or at the bottom where the number is negative; and likewise columns."""
     lines = rows_of(frame)[max(rows, 0):HEIGHT + min(rows, 0)]
     return b''.join(line[max(columns, 0):WIDTH + min(columns, 0)] for line in lines)
 
 
-def shifted(case, rows, columns):
+def count_shifted(case: Case, rows: int, columns: int) -> int:
     """The pixels that differ where the port is so many rows and columns late."""
-    return sum(count(cut(pair.ours, -rows, -columns), cut(pair.port, rows, columns)) for pair in case.pairs)
+    return sum(count(part_of(pair.ours, -rows, -columns), part_of(pair.port, rows, columns)) for pair in case.pairs)
 
 
-def shift(case):
+def shift(case: Case) -> str:
     """Frames that are some rows or columns off."""
     steps = [step for near in range(1, FARTHEST_SHIFT + 1) for step in (near, -near)]
     some = case._replace(pairs=case.pairs[:2])
     rows, columns = min([(step, 0) for step in steps] + [(0, step) for step in steps],
-                        key=lambda both: shifted(some, *both))
-    left = shifted(case, rows, columns)
+                        key=lambda both: count_shifted(some, *both))
+    left = count_shifted(case, rows, columns)
     if not is_cause(left, before(case)):
         return ''
     step, word, late, early = (rows, 'row', 'late (lower)', 'early (higher)') if rows else \
@@ -147,7 +148,7 @@ def shift(case):
             f'{beside(left)}')
 
 
-def is_within(frame, size):
+def is_within(frame: bytes, size: int) -> bool:
     """Whether all outside the window of a view size is 0."""
     left, top, width, height = window(size)
     rows = rows_of(frame)
@@ -156,19 +157,19 @@ def is_within(frame, size):
     return not b''.join(outside + sides).strip(b'\0')
 
 
-def size_of(frames):
+def size_of(frames: typing.Sequence[bytes]) -> int:
     """The least view size in whose window some frames are."""
     return next(size for size in range(3, FULL_SIZE + 1) if all(is_within(frame, size) for frame in frames))
 
 
-def view_size(case):
+def view_size(case: Case) -> str:
     """Frames of another view size."""
     ours, port = size_of([pair.ours for pair in case.pairs]), size_of([pair.port for pair in case.pairs])
     if ours == port:
         return ''
     left, top, width, height = window(min(ours, port))
-    inside = sum(count(*(cut(cut(frame, top, left), top + height - HEIGHT, left + width - WIDTH) for frame in pair[1:]))
-                 for pair in case.pairs)
+    inside = sum(count(*(part_of(part_of(frame, top, left), top + height - HEIGHT, left + width - WIDTH)
+                         for frame in pair[1:])) for pair in case.pairs)
     if ours < port and is_cause(inside, before(case)):
         return (f'the port paints outside the window of view size {ours}, which doomview leaves at 0: a status bar, a '
                 'border or messages')
@@ -176,45 +177,46 @@ def view_size(case):
             f'{ours} (--size; screenblocks of the original)')
 
 
-def colour_map(case):
+def colour_map(case: Case) -> typing.Tuple[typing.Dict[int, int], int]:
     """Of each of doomview's colours the colour that the port has most often there; and how many pixels have it."""
-    pairs = collections.Counter()
+    pairs: typing.Counter[typing.Tuple[int, int]] = collections.Counter()
     for pair in case.pairs:
         pairs.update(zip(pair.ours, pair.port))
-    found = {}
+    found: typing.Dict[int, typing.Tuple[int, int]] = {}
     for (ours, port), number in pairs.most_common():
         found.setdefault(ours, (port, number))
     return {ours: port for ours, (port, _) in found.items()}, sum(number for _, number in found.values())
 
 
-def colormap_of(mapping, colormaps):
+def colormap_of(mapping: typing.Dict[int, int], colormaps: bytes) -> typing.Optional[int]:
     """The number of the colormap that maps colours so, or None."""
-    for number in range(len(colormaps) // 256):
-        if all(colormaps[256 * number + ours] == port for ours, port in mapping.items()):
+    for number in range(len(colormaps) // COLORMAP_SIZE):
+        if all(colormaps[COLORMAP_SIZE * number + ours] == port for ours, port in mapping.items()):
             return number
     return None
 
 
-def colours(case):
+def colours(case: Case) -> str:
     """Frames in which each colour is always the same other one."""
     mapping, explained = colour_map(case)
     if not is_cause(SIZE * len(case.pairs) - explained, before(case)):
         return ''
     number = colormap_of(mapping, case.colormaps)
-    some = [f'{ours} is {port}' for ours, port in sorted(mapping.items()) if ours != port]
+    changed = [f'{ours} is {port}' for ours, port in sorted(mapping.items()) if ours != port]
     what = f'colormap {number} of COLORMAP' if number is not None else 'another palette, gamma, or a colormap'
-    some = ', '.join(some[:4]) + (' ..' if len(some) > 4 else '')
+    some = ', '.join(changed[:4]) + (' ..' if len(changed) > 4 else '')
     return f'the port has other colours, always in the same way ({some}): {what}'
 
 
-def of_picture(ours: bytes, found: list, palette: bytes) -> str:
+def of_picture(ours: bytes, found: typing.List[typing.Tuple[int, ...]], palette: bytes) -> str:
     """Why the colours of a picture, three bytes a pixel, are in no entry of the palette, or an empty text."""
-    pairs, mapping = collections.Counter(zip(ours, found)), {}
+    pairs = collections.Counter(zip(ours, found))
+    mapping: typing.Dict[int, typing.Tuple[int, ...]] = {}
     for (index, colour), _ in pairs.most_common():
         mapping.setdefault(index, colour)
     if not is_cause(SIZE - sum(pairs[pair] for pair in mapping.items()), SIZE):
         return ''
-    parts = {}
+    parts: typing.Dict[int, int] = {}
     is_gamma = all(parts.setdefault(palette[3 * index + part], colour[part]) == colour[part]
                    for index, colour in mapping.items() for part in range(3))
     if is_gamma:
@@ -233,10 +235,12 @@ def whole_frames(case: Case) -> typing.List[str]:
 class Everywhere:
     """In which rows and columns of how many views something differs."""
 
-    def __init__(self):
+    def __init__(self) -> None:
         self.different = self.pixels = 0
-        self.rows, self.columns = collections.Counter(), collections.Counter()  # views
-        self.in_rows, self.in_columns = collections.Counter(), collections.Counter()  # pixels
+        self.rows: typing.Counter[int] = collections.Counter()  # views
+        self.columns: typing.Counter[int] = collections.Counter()
+        self.in_rows: typing.Counter[int] = collections.Counter()  # pixels
+        self.in_columns: typing.Counter[int] = collections.Counter()
 
     def add(self, places: typing.List[int]) -> None:
         """Takes the places at which a view differs."""
@@ -249,7 +253,7 @@ class Everywhere:
         self.in_rows.update(rows)
         self.in_columns.update(columns)
 
-    def lines(self, views, pixels, count):
+    def lines(self, views: typing.Dict[int, int], pixels: typing.Dict[int, int], count: int) -> typing.List[int]:
         """The rows or columns that differ in nine of ten views and far more than most, if they are few and have a tenth
         of the pixels."""
         usual = statistics.median(pixels[line] for line in range(count))
@@ -258,7 +262,7 @@ class Everywhere:
         is_much = 10 * sum(pixels[line] for line in found) >= self.pixels
         return found if is_much and len(found) <= MOST_LINES and ranges(found).count(',') < MOST_RANGES else []
 
-    def told(self, count: int) -> typing.List[str]:
+    def sentences(self, count: int) -> typing.List[str]:
         """A sentence on the rows or columns that differ in every view, of so many views, or none."""
         for word, views, pixels, lines in (('column', self.columns, self.in_columns, WIDTH),
                                            ('row', self.rows, self.in_rows, HEIGHT)):
@@ -272,7 +276,7 @@ class Everywhere:
 
 def ranges(numbers: typing.List[int]) -> str:
     """Numbers in their order as words, those that follow each other as a range."""
-    parts = []
+    parts: typing.List[typing.List[int]] = []
     for number in numbers:
         if parts and parts[-1][1] == number - 1:
             parts[-1][1] = number

@@ -5,18 +5,19 @@ import os
 import re
 import stat
 import sys
+import typing
 
 from . import notes, paths, program, system, wads
+from .doom import PLACES, SPECTRE
 from .jobs import LEVEL_JOBS, Words, wrong_words
-from .refusals import Scene, refused
+from .refusals import Scene, sentences as sentences_on
 from .trouble import Ended, Trouble
 
-SPECTRE = 58
-UNDRAWN = {1, 2, 3, 4, 11, 14}  # starts of players, of a deathmatch, of a teleport: the original draws none either
+Sentences = typing.Iterator[str]
 CHUNK = 1 << 20
 
 
-def read_error(path):
+def read_error(path: str) -> typing.Optional[str]:
     """Why a file cannot be read to its end, or None."""
     try:
         if not stat.S_ISREG(os.stat(path).st_mode):
@@ -29,7 +30,7 @@ def read_error(path):
     return None
 
 
-def unreadable(words):
+def unreadable(words: Words) -> Sentences:
     """A sentence on each file of a call that cannot be read."""
     for path in words.files:
         wrong = read_error(path)
@@ -39,17 +40,17 @@ def unreadable(words):
             yield f'{path} {wrong}.'
 
 
-def on_usage(words):
+def on_usage(words: Words) -> typing.List[str]:
     found = [sentence if sentence.endswith('?') else f'{sentence}.' for sentence in wrong_words(words)]
     return found or ['doomview --help has the jobs and their words.']
 
 
-def on_read_fault(words):
+def on_read_fault(words: Words) -> typing.List[str]:
     files = ', '.join(words.files)
     return list(unreadable(words)) or [f'a file could not be read to its end; look at the disk that has it: {files}.']
 
 
-def place_of(words, view):
+def place_of(words: Words, view: int) -> str:
     """Where a view of the path of a call is, in both forms, in brackets; an empty text where the path cannot tell."""
     try:
         return f' ({paths.told(paths.rows(words.value("--path") or "")[view])})'
@@ -57,18 +58,18 @@ def place_of(words, view):
         return ''
 
 
-def on_limit(words, view, what, count):
+def on_limit(words: Words, view: str, what: str, count: str) -> typing.List[str]:
     where = f'row {int(view) + 1} under the header of the path{place_of(words, int(view))}'
     return [f'view {view}, {where}, needs more than {int(count) - 1} {what}, the limit. --{what} N raises it; the job '
             'limits names all such views.']
 
 
-def on_refusal(words, code, numbers):
-    return [*refused(int(code), [int(number) for number in numbers.split()], words), *unreadable(words)]
+def on_refusal(words: Words, code: str, numbers: str) -> typing.List[str]:
+    return [*sentences_on(int(code), [int(number) for number in numbers.split()], words), *unreadable(words)]
 
 
 # What is said of each line of the program, by its form.
-LINES = [
+LINES: typing.List[typing.Tuple[str, typing.Callable[..., typing.Iterable[str]]]] = [
     (r'refused (\d+)((?: \d+)*)', on_refusal),
     (r'limit view (\d+) (planes|openings) (\d+)', on_limit),
     (r'usage', on_usage),
@@ -80,14 +81,14 @@ LINES = [
 ]
 
 
-def spectres(count):
+def spectres(count: int) -> str:
     """A sentence on things that the original draws as shadows."""
     which = f'{count} spectres of the map are' if count > 1 else 'the spectre of the map is'
     return (f'{which} not drawn, since the thing table has no row for type {SPECTRE}: the original draws them as '
             'shadows.')
 
 
-def undrawn(scene, things):
+def undrawn(scene: Scene, things: str) -> Sentences:
     """Sentences on the things of a level for which a thing table has no row."""
     try:
         with open(things, newline='', encoding='utf-8-sig') as file:
@@ -95,7 +96,7 @@ def undrawn(scene, things):
     except (OSError, KeyError, UnicodeDecodeError, csv.Error):
         return
     kinds = collections.Counter(thing.type for thing in scene.level.things)
-    unknown = {kind: count for kind, count in sorted(kinds.items()) if str(kind) not in known and kind not in UNDRAWN}
+    unknown = {kind: count for kind, count in sorted(kinds.items()) if str(kind) not in known and kind not in PLACES}
     if SPECTRE in unknown:
         yield spectres(unknown.pop(SPECTRE))
     if unknown:
@@ -103,7 +104,7 @@ def undrawn(scene, things):
         yield f'not drawn, since {things} has no row for the type: things of type {some}.'
 
 
-def remarks(words, things):
+def remarks(words: Words, things: str) -> Sentences:
     """Sentences on what is not refused, and may still be a mistake."""
     scene = Scene(words)
     yield from (f'{sentence}.' for sentence in notes.of_words(words))
@@ -113,7 +114,7 @@ def remarks(words, things):
         yield from undrawn(scene, things)
 
 
-def on_line(line, words):
+def on_line(line: str, words: typing.List[str]) -> Sentences:
     """Sentences on the line that a call with these words ended with."""
     given, is_kept = Words(program.completed(words)), not Words(words).output
     for form, told in LINES:
@@ -124,7 +125,7 @@ def on_line(line, words):
         yield 'what was written is no whole WAD; throw it away.'
 
 
-def explain(line, words):
+def explain(line: str, words: typing.List[str]) -> Sentences:
     """The same, and what else looks like a mistake."""
     yield from on_line(line, words)
     given = Words(program.completed(words))
@@ -132,13 +133,14 @@ def explain(line, words):
         yield from remarks(given, given.value('--things') or '')
 
 
-def tell(line: str, words: list, sentences=explain) -> None:
+def tell(line: str, words: typing.List[str],
+         sentences: typing.Callable[[str, typing.List[str]], Sentences] = explain) -> None:
     """Prints the sentences on a line."""
     for sentence in sentences(line, words):
         print(f'explain: {sentence}', file=sys.stderr)
 
 
-def explained(words, done):
+def explained(words: typing.List[str], done: program.Run) -> Ended:
     """Tells why a run of these words failed, as a Trouble that is told already."""
     sys.stderr.write(done.said)
     tell(done.line, words)

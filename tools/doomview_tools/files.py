@@ -3,11 +3,12 @@ import contextlib
 import os
 import sys
 import tempfile
+import typing
 
 from .trouble import TROUBLE, Trouble
 
 
-def check_source(path):
+def check_source(path: str) -> None:
     """A Trouble where a file cannot be read."""
     if not os.path.exists(path):
         raise Trouble(f'cannot read {path}: there is no such file')
@@ -17,7 +18,7 @@ def check_source(path):
         raise Trouble(f'cannot read {path}: you may not read it')
 
 
-def check_target(path):
+def check_target(path: str) -> None:
     """A Trouble where a file cannot be written, or stands in the place of what is no plain file."""
     folder = os.path.dirname(path) or '.'
     if os.path.isdir(path):
@@ -33,10 +34,10 @@ def check_target(path):
         os.close(handle)
         os.remove(part_path)
     except OSError as error:
-        raise Trouble(f'cannot write {path}: {error.strerror}')
+        raise Trouble(f'cannot write {path}: {error.strerror}') from error
 
 
-def part_of(path):
+def part_of(path: str) -> typing.Tuple[int, str]:
     """A new file beside another, for its bytes until they are whole: its handle and its path."""
     folder, name = os.path.split(path)
     return tempfile.mkstemp(prefix=f'.{name}.', dir=folder)
@@ -48,7 +49,7 @@ class WholeFile:
     What is there and no plain file stays, and so does what is there where the block ends with an exception. A file that
     cannot be written is a Trouble with the status."""
 
-    def __init__(self, path, status=TROUBLE):
+    def __init__(self, path: str, status: int = TROUBLE) -> None:
         self.named, self.status = path, status
         with self.troubles():
             check_target(path)
@@ -58,19 +59,19 @@ class WholeFile:
             self.part = open(self.part_path, 'wb')
 
     @contextlib.contextmanager
-    def troubles(self):
+    def troubles(self) -> typing.Iterator[None]:
         """Makes Troubles with the status of what goes wrong."""
         try:
             yield
         except Trouble as error:
-            raise Trouble(str(error), self.status)
+            raise Trouble(str(error), self.status) from error
         except OSError as error:
-            raise Trouble(f'cannot write {self.named}: {error.strerror}', self.status)
+            raise Trouble(f'cannot write {self.named}: {error.strerror}', self.status) from error
 
-    def __enter__(self):
+    def __enter__(self) -> typing.BinaryIO:
         return self.part
 
-    def __exit__(self, kind, error, _):
+    def __exit__(self, kind: typing.Optional[type], error: typing.Optional[BaseException], _: object) -> None:
         try:
             with self.troubles():
                 self.part.close()
@@ -86,13 +87,13 @@ class WholeFile:
             raise Trouble(f'cannot write {self.named}: {error.strerror}', self.status)
 
 
-def write_whole(path, data):
+def write_whole(path: str, data: bytes) -> None:
     """Puts bytes into a file, which takes its place as the last step."""
     with WholeFile(path) as part:
         part.write(data)
 
 
-def is_terminal():
+def is_terminal() -> bool:
     """Whether standard output is a terminal."""
     try:
         return os.isatty(1)
@@ -100,7 +101,7 @@ def is_terminal():
         return False
 
 
-def write_output(data, path=None, what='the output'):
+def write_output(data: typing.Union[str, bytes], path: typing.Optional[str] = None, what: str = 'the output') -> None:
     """Writes text or bytes to a file, or to standard output; no bytes to a terminal."""
     if path:
         return write_whole(path, data.encode() if isinstance(data, str) else data)
@@ -113,4 +114,4 @@ def write_output(data, path=None, what='the output'):
     except BrokenPipeError:
         raise
     except OSError as error:
-        raise Trouble(f'cannot write {what}: {error.strerror}')
+        raise Trouble(f'cannot write {what}: {error.strerror}') from error

@@ -2,6 +2,9 @@
 import re
 import typing
 
+from .levels import Level
+
+Place = typing.Tuple[float, float]
 ERROR, HOLE, FAULT, ODD = 'error', 'hole', 'fault', 'odd'
 GRADES = {ERROR: 'doomview refuses the map, or the original ends there or reads past the data of the map',
           HOLE: 'a part of a wall that a player can see has no texture',
@@ -21,24 +24,24 @@ class Finding(typing.NamedTuple):
     told: str
 
 
-def some(numbers) -> str:
-    """Numbers in order, not too many."""
+def some(numbers: typing.Iterable[typing.Any]) -> str:
+    """Numbers, or names, in order, not too many."""
     numbers = sorted(set(numbers))
     more = f' and {len(numbers) - SHOWN} more' if len(numbers) > SHOWN else ''
     return ' '.join(map(str, numbers[:SHOWN])) + more
 
 
-def several(word: str, numbers) -> str:
+def several(word: str, numbers: typing.Iterable[int]) -> str:
     """Numbers with the word for what they count."""
     numbers = set(numbers)
     return f'{word}{"s" if len(numbers) > 1 else ""} {some(numbers)}'
 
 
-def sectors(numbers) -> str:
+def sectors(numbers: typing.Iterable[int]) -> str:
     return several('sector', numbers)
 
 
-def lines(numbers, level) -> str:
+def lines(numbers: typing.Iterable[int], level: Level) -> str:
     """Lines with the coordinates of the first."""
     numbers = set(numbers)
     start, end = (level.vertexes[vertex] for vertex in level.lines[min(numbers)][:2])
@@ -46,7 +49,7 @@ def lines(numbers, level) -> str:
     return f'{several("line", numbers)} ({first}{start.x},{start.y} to {end.x},{end.y})'
 
 
-def places(finding: Finding, level) -> list:
+def places(finding: Finding, level: Level) -> typing.List[Place]:
     """Where on a map the numbers are that a finding shows: x and y of each."""
     found = NUMBERED.match(finding.where)
     if not found:
@@ -54,12 +57,12 @@ def places(finding: Finding, level) -> list:
     return [place_of(found[1], int(number), level) for number in found[2].split()]
 
 
-def place_of(word: str, number: int, level) -> tuple:
+def place_of(word: str, number: int, level: Level) -> Place:
     """The place of a thing, the middle of a line, or that of the first line of a sector."""
     if word == 'thing':
         return level.things[number][:2]
     if word == 'sector':
-        number = next((line for line, ends in enumerate(level.lines) for side in ends[5:] if side is not None
+        number = next((line for line, ends in enumerate(level.lines) for side in ends.sides if side is not None
                        and side < len(level.sides) and level.sides[side].sector == number), 0)
     (x1, y1), (x2, y2) = (level.vertexes[vertex] for vertex in level.lines[number][:2])
     return (x1 + x2) / 2, (y1 + y2) / 2

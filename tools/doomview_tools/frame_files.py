@@ -39,7 +39,7 @@ def is_trace(data: bytes) -> bool:
 class OfIndices:
     """The frames of files, one behind the other in each."""
 
-    def __init__(self, files: list):
+    def __init__(self, files: typing.List[str]) -> None:
         for path in files:
             check_form(path)
         self.places = [(path, SIZE * view) for path in files for view in range(frames.count_views(path))]
@@ -51,11 +51,14 @@ class OfIndices:
             file.seek(place)
             return file.read(SIZE)
 
-    def told(self) -> list:
+    def sentences(self) -> typing.List[str]:
         return []
 
 
-def of_path(path: str, wads: list, palette: bytes):
+Frames = typing.Union[OfIndices, pictures.OfPictures]
+
+
+def of_path(path: str, wads: typing.List[str], palette: bytes) -> Frames:
     """The frames of a file or a folder, as they are written. Those of pictures need the palette of WADs."""
     files = pictures.files_of(path)
     is_picture = os.path.isfile(files[0]) and (pictures.is_picture(files[0]) or pictures.is_ppm(files[0]))
@@ -66,13 +69,13 @@ def of_path(path: str, wads: list, palette: bytes):
     return pictures.OfPictures(files, palette)
 
 
-def check_pixels(ours, port, path: str) -> typing.List[str]:
+def check_pixels(ours: Frames, port: Frames, path: str) -> typing.List[str]:
     """A sentence where a port has three or four times as many views; a Trouble where these are bytes of colours."""
     times = port.count // ours.count if ours.count and port.count % ours.count == 0 else 1
     if times not in MANY or not isinstance(port, OfIndices):
         return []
     first = b''.join(port.frame(view) for view in range(times))
-    colours = {}
+    colours: typing.Dict[int, typing.Tuple[int, ...]] = {}
     pairs = list(zip(ours.frame(0), zip(*(first[part::times] for part in range(times)))))
     for colour, pixel in pairs:
         colours.setdefault(colour, pixel)

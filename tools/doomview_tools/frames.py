@@ -1,6 +1,7 @@
 """Frames: 320 by 200 palette indices, 64,000 bytes, row by row from the top."""
 import os
 import re
+import typing
 
 from .trouble import Trouble
 
@@ -11,12 +12,12 @@ PPM_HEAD = b'P6\n320 200\n255\n'
 NONZERO = re.compile(b'[^\\0]')
 
 
-def count_views(path):
+def count_views(path: str) -> int:
     """The number of views in a file of frames."""
     return count_parts(path, SIZE, 'frames are to be written as palette indices, one behind the other')
 
 
-def count_parts(path, size, form):
+def count_parts(path: str, size: int, form: str) -> int:
     """The number of views in a file, of which each has that size; `form` says how they are to be written."""
     if not os.path.isfile(path):
         raise Trouble(f'{path} is no plain file' if os.path.exists(path) else f'there is no file {path}')
@@ -26,7 +27,7 @@ def count_parts(path, size, form):
     return length // size
 
 
-def window(size: int) -> tuple:
+def window(size: int) -> typing.Tuple[int, int, int, int]:
     """Where the window of a view size is in a frame: left, top, width and height (R_ExecuteSetViewSize)."""
     if size == 11:
         return 0, 0, WIDTH, HEIGHT
@@ -34,7 +35,7 @@ def window(size: int) -> tuple:
     return (WIDTH - width) // 2, 0 if width == WIDTH else (ROWS_ABOVE_BAR - height) // 2, width, height
 
 
-def differing(ours: bytes, port: bytes, mask: bytes = b'') -> list:
+def differing(ours: bytes, port: bytes, mask: bytes = b'') -> typing.List[int]:
     """The places, in ascending order, at which two frames differ; with a mask those where it is not 0."""
     both = int.from_bytes(ours, 'big') ^ int.from_bytes(port, 'big')
     if mask:
@@ -42,7 +43,7 @@ def differing(ours: bytes, port: bytes, mask: bytes = b'') -> list:
     return [match.start() for match in NONZERO.finditer(both.to_bytes(len(ours), 'big'))]
 
 
-def coloured(frame, palette):
+def rgb_of(frame: bytes, palette: bytes) -> bytearray:
     """The pixels of a frame as bytes red, green, blue."""
     rgb = bytearray(3 * SIZE)
     for part in range(3):
@@ -50,13 +51,13 @@ def coloured(frame, palette):
     return rgb
 
 
-def beside(pictures):
+def beside(pictures: typing.Sequence[bytes]) -> bytes:
     """Pictures of the size of a frame beside each other, as bytes red, green, blue."""
     step = 3 * WIDTH
     return b''.join(picture[step * row:step * (row + 1)] for row in range(HEIGHT) for picture in pictures)
 
 
-def pixels_of_ppm(data):
+def pixels_of_ppm(data: bytes) -> bytes:
     """The pixels of a frame that doomview wrote as a PPM."""
     if not data.startswith(PPM_HEAD) or len(data) < len(PPM_HEAD) + 3 * SIZE:
         raise Trouble('what was drawn is no frame of 320 by 200')

@@ -2,10 +2,13 @@
 
 What the game does while it runs, such as how many lifts, crushers or buttons move at once, is not looked at."""
 import collections
+import typing
 
 from . import ground, ways
 from .findings import ERROR, FAULT, ODD, Finding, lines, sectors
+from .levels import Level, Line
 
+Findings = typing.Iterator[Finding]
 # Specials of the original, by what they need.
 DOORS = {1, 26, 27, 28, 31, 32, 33, 34, 117, 118}  # of lines: open the sector behind the line
 SCROLLS = 48
@@ -20,19 +23,19 @@ LEAST_BLOCKMAP = 8  # bytes: its head
 class GameCheck:
     """The checks of one map, by its level, its plan, and a function that gives the sectors which a player reaches."""
 
-    def __init__(self, level, plan, reached):
+    def __init__(self, level: Level, plan: ground.Plan, reached: typing.Callable[[], typing.Set[int]]) -> None:
         self.level, self.plan, self.reached, self.place = level, plan, reached, ground.Ground(plan)
 
-    def lines_of(self, wanted):
+    def lines_of(self, wanted: typing.Callable[[int, Line], object]) -> typing.List[int]:
         """The numbers of the lines of which something holds."""
         return [number for number, line in enumerate(self.level.lines) if wanted(number, line)]
 
-    def findings(self):
+    def findings(self) -> Findings:
         """All that is found."""
         for part in (self.specials_of_sectors, self.scrolling, self.doors, self.tags, self.teleports, self.tables):
             yield from part()
 
-    def specials_of_sectors(self):
+    def specials_of_sectors(self) -> Findings:
         found = collections.defaultdict(list)
         for number, sector in enumerate(self.level.sectors):
             if sector.special not in OF_SECTORS:
@@ -42,23 +45,23 @@ class GameCheck:
                 ODD, 'the original ends when a player is on its floor, but none comes there')
             yield Finding(grade, 'sector', sectors(numbers), f'special {special} is none of the game: {more}')
 
-    def may_enter(self, number):
+    def may_enter(self, number: int) -> bool:
         """Whether a player may come into a sector, maybe once it has risen, and has a place there."""
         has_height = ground.has_height(self.level.sectors[number]) or number in self.plan.rising()
         return number in self.reached() and has_height and self.place.place_in(number) is not None
 
-    def scrolling(self):
+    def scrolling(self) -> Findings:
         found = self.lines_of(lambda _, line: line.special == SCROLLS)
         if len(found) > MOST_SCROLLING:
             yield Finding(ERROR, 'line', lines(found, self.level), f'{len(found)} lines have special {SCROLLS}, which '
                           f'scrolls a wall: the original ends at more than {MOST_SCROLLING}')
 
-    def doors(self):
+    def doors(self) -> Findings:
         for number in self.lines_of(lambda number, line: line.special in DOORS and line.back is None):
             yield Finding(ERROR, 'door', lines([number], self.level), f'special {self.level.lines[number].special} '
                           'opens the sector behind the line, which has no back side: the original ends when it is used')
 
-    def tags(self):
+    def tags(self) -> Findings:
         tags = {sector.tag for sector in self.level.sectors}
         found = collections.defaultdict(list)
         for number in self.lines_of(lambda _, line: line.special in TAGGED and not (line.tag and line.tag in tags)):
@@ -68,7 +71,7 @@ class GameCheck:
                     f'special {special} has no tag: it acts on all sectors without one')
             yield Finding(FAULT, 'tag', lines(numbers, self.level), told)
 
-    def teleports(self):
+    def teleports(self) -> Findings:
         tags = {sector.tag for sector in self.level.sectors}
         ends = {self.level.sectors[self.level.sector_at(thing.x, thing.y)].tag for thing in self.level.things
                 if thing.type == ways.DESTINATION}
@@ -80,7 +83,7 @@ class GameCheck:
                 yield Finding(FAULT, 'teleport', lines(numbers, self.level), f'leads to tag {tag}, and no sector of '
                               f'that has a destination (thing of type {ways.DESTINATION})')
 
-    def tables(self):
+    def tables(self) -> Findings:
         """What is wrong with REJECT and BLOCKMAP, which doomview does not need."""
         needed = (len(self.level.sectors) ** 2 + 7) // 8
         for name, least, wrong in (('REJECT', needed, f'the original reads past its end; {len(self.level.sectors)} '

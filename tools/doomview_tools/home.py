@@ -1,5 +1,6 @@
 """Where the files of doomview are: in the repository, or in a release, which has no crates.txt."""
 import os
+import typing
 
 from . import system
 from .trouble import Trouble
@@ -14,15 +15,15 @@ COMMAND = os.path.join(TOP, 'doomview')
 PROGRAM = os.path.join(TOP, 'out', system.PROGRAM_NAME)
 
 
-def data(name):
+def data(name: str) -> str:
     """The path of a file that the tools have beside them."""
     return os.path.join(TOOLS, 'data', name)
 
 
-def version():
+def version() -> typing.Dict[str, str]:
     """What the file of the version has: `version` and `logic`, by name."""
     try:
         with open(data('version'), encoding='utf-8') as file:
             return dict(line.split() for line in file)
-    except (OSError, ValueError):
-        raise Trouble(f'{data("version")} is missing or damaged; take the whole folder of doomview anew')
+    except (OSError, ValueError) as error:
+        raise Trouble(f'{data("version")} is missing or damaged; take the whole folder of doomview anew') from error

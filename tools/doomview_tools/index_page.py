@@ -1,5 +1,6 @@
 """The index of the pages of limits-map over all maps of a WAD: a page without a script."""
 import html
+import typing
 
 from .counting import COUNTS
 
@@ -14,14 +15,14 @@ td:first-child,th:first-child{{text-align:left}}.over{{font-weight:bold;backgrou
 '''
 
 
-def index_page(title: str, found: dict, limits: dict) -> bytes:
+def index_page(title: str, found: typing.Dict[str, typing.Any], limits: typing.Dict[str, int]) -> bytes:
     """The bytes of the page; `found` has by map the numbers that limits-map found, or why there are none."""
     heads = ''.join(f'<th>{name} of {limits[name]:,}</th>' for name in COUNTS)
     rows = [row_of(name, numbers) for name, numbers in found.items()]
     return (HEAD.format(title=html.escape(title), heads=heads) + '\n'.join(rows) + '\n</table></body></html>\n').encode()
 
 
-def row_of(name: str, numbers) -> str:
+def row_of(name: str, numbers: typing.Any) -> str:
     """The row of a map."""
     if isinstance(numbers, str):
         return f'<tr><td>{name}</td><td colspan="{len(COUNTS) + 1}">{html.escape(numbers)}</td></tr>'
@@ -30,7 +31,7 @@ def row_of(name: str, numbers) -> str:
     return f'<tr><td><a href="{name}.html">{name}</a></td>{cells}<td>{over:,}</td></tr>'
 
 
-def cell_of(numbers: dict, count: str) -> str:
+def cell_of(numbers: typing.Dict[str, typing.Any], count: str) -> str:
     """The cell of a count: the greatest in each state."""
     states = [state['counts'][count] for state in numbers['states']]
     mark = ' class="over"' if any(state['over'] for state in states) else ''

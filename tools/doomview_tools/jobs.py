@@ -10,7 +10,8 @@ from . import home, system, wads
 from .trouble import Trouble
 
 MOST_WADS, MOST_LETTERS = 16, 8
-USAGE, WRITE_FAULT = 1, 4  # statuses of the program
+# Statuses of the program, and where there is none of it.
+USAGE, REFUSED, READ_FAULT, WRITE_FAULT, LIMIT, ZONE_FULL, OUT_OF_MEMORY, NO_PROGRAM = 1, 2, 3, 4, 5, 6, 7, 70
 CHOICES = {'--format': ['index', 'ppm'], '--spans': ['full', 'packed']}
 LIKENESS = 0.7  # of a word that may be meant, as difflib has it
 MAP_NAME = re.compile('E[1-9]M[1-9]|MAP[0-9]{2}')
@@ -160,14 +161,14 @@ sectors 400 views 30 frames 30 bytes 1920000 sum 110342962
 LEVEL_JOBS = [job.name for job in JOBS.values() if job.words[0] == MAP]
 STATUSES = {
     0: Status('', 'the whole output was written'),
-    1: Status('usage', 'the arguments are invalid'),
-    2: Status('refused CODE A B ..', 'the bytes of a file are refused'),
-    3: Status('read fault', 'a file is absent, or could not be read'),
-    4: Status('write fault', 'the output could not be written'),
-    5: Status('limit view V planes N', 'view V, counted from 0, has more planes (or openings N) than its limit'),
-    6: Status('zone full wanted W widest X', 'the zone has no room for a block of W bytes; every gap is smaller'),
-    7: Status('out of memory', 'memory ran out'),
-    70: Status('', 'the program could not be built or is not there'),
+    USAGE: Status('usage', 'the arguments are invalid'),
+    REFUSED: Status('refused CODE A B ..', 'the bytes of a file are refused'),
+    READ_FAULT: Status('read fault', 'a file is absent, or could not be read'),
+    WRITE_FAULT: Status('write fault', 'the output could not be written'),
+    LIMIT: Status('limit view V planes N', 'view V, counted from 0, has more planes (or openings N) than its limit'),
+    ZONE_FULL: Status('zone full wanted W widest X', 'the zone has no room for a block of W bytes; every gap is smaller'),
+    OUT_OF_MEMORY: Status('out of memory', 'memory ran out'),
+    NO_PROGRAM: Status('', 'the program could not be built or is not there'),
 }
 OUTPUT, PLACES = '-o', '--places'
 OWN_OPTIONS = [
@@ -194,13 +195,13 @@ def options() -> typing.Dict[str, Option]:
                                            number(row['least']), number(row['greatest']), number(row['step']),
                                            row['default'], row['meaning']) for row in csv.DictReader(file)}
     except (OSError, KeyError, ValueError, AttributeError) as error:
-        raise damaged(path) from error
+        raise damage_of(path) from error
     if not found:
-        raise damaged(path)
+        raise damage_of(path)
     return found
 
 
-def damaged(path: str) -> Trouble:
+def damage_of(path: str) -> Trouble:
     return Trouble(f'{path} is missing or damaged; take the whole folder of doomview anew')
 
 
@@ -285,7 +286,7 @@ class Words:
         return words
 
 
-def meant(word: str, known: typing.Iterable[str]) -> str:
+def guess(word: str, known: typing.Iterable[str]) -> str:
     """What may be meant by a word that is not known, as the end of a sentence, or an empty text."""
     near = difflib.get_close_matches(word, list(known), 1, LIKENESS)
     return f'; did you mean {near[0]}?' if near else ''
@@ -314,7 +315,7 @@ def wrong_option(job: str, name: str, values: typing.List[typing.Optional[str]])
     """What is wrong with an option of a job, or None."""
     known = [option.name for option in options_of(job)]
     if job in JOBS and name not in known:
-        near = meant(name, known)
+        near = guess(name, known)
         return f'{job} takes no {name}' + (near or (f'; its options are {" ".join(known)}' if known else ''))
     if len(values) > 1:
         return f'{name} may come only once'
@@ -342,14 +343,14 @@ def wrong_words(words: Words) -> typing.List[str]:
     tried = (wrong_option(words.job, name, values) for name, values in words.given.items())
     found = [sentence for sentence in tried if sentence]
     if words.job not in JOBS:
-        return [f'the first word is a job: {", ".join(JOBS)}{meant(words.job, JOBS)}', *found]
+        return [f'the first word is a job: {", ".join(JOBS)}{guess(words.job, JOBS)}', *found]
     return found + (wrong_level(words) if words.job in LEVEL_JOBS else [])
 
 
 def wrong_level(words: Words) -> typing.List[str]:
     """The same of a job over a level."""
     job, count = words.job, len(words.plain)
-    near = {meant(name, needed()) for name in words.given if name not in options()}
+    near = {guess(name, needed()) for name in words.given if name not in options()}
     missing = [name for name in needed() if name not in words.given and f'; did you mean {name}?' not in near]
     tests = [(missing, f'{job} needs {" and ".join(missing)} too'),
              (count < 3, f'{job} needs a map and a WAD, as in {job} MAP01 game.wad'),

@@ -9,21 +9,24 @@ import collections
 import typing
 
 from . import traces
+from .doom import COLORMAP_SIZE, COLORMAPS as MAPS
 from .frames import WIDTH
+from .traces import MIDDLE, PLANE, SPRITE, WALL, WEAPON
 
-MAPS, STEP = 32, 4  # colormaps of lights, and how many of them are one step
+STEP = 4  # how many colormaps are one step of light
 LIGHT, MOST_STEPS = 16, 15  # of a step, and the most steps
 LEAST_PAIRS = 8  # of colours that differ: doomview's and the port's
-WALL, PLANE, MIDDLE, SPRITE, WEAPON = 1, 2, 4, 5, 6  # kinds of painters, without the sky, which has no light
+LIT = (WALL, PLANE, MIDDLE, SPRITE, WEAPON)  # kinds of painters: all but the sky
 
 Pairs = typing.Set[typing.Tuple[int, int]]  # of doomview's colour and the port's
 Groups = typing.Dict[int, Pairs]  # of a painter, by its columns or rows
 Key = typing.Tuple[int, int, int]  # of a painter: its kind, and its number as two bytes
+ByPainter = typing.Dict[Key, Groups]
 Found = typing.Dict[Key, typing.Set[int]]  # of painters the steps that there may be
 LightOf = typing.Callable[[int, int], typing.Optional[int]]  # the light of a painter by its kind and number, if it is known
 
 
-def cut(number: int) -> int:
+def nearest_map(number: int) -> int:
     return max(0, min(MAPS - 1, number))
 
 
@@ -36,7 +39,8 @@ def pairs_of(steps: int) -> int:
     """The bits of the pairs of colormaps between which there are so many steps of light, darker ones if it is more than
     none."""
     farthest = STEP * MOST_STEPS
-    return sum({bit(cut(number), cut(number + STEP * steps)) for number in range(-farthest, MAPS + farthest)})
+    return sum({bit(nearest_map(number), nearest_map(number + STEP * steps))
+                for number in range(-farthest, MAPS + farthest)})
 
 
 STEPS = {steps: pairs_of(steps) for step in range(1, MOST_STEPS + 1) for steps in (step, -step)}
@@ -60,10 +64,10 @@ class Lights:
     def __init__(self, colormaps: bytes):
         self.known: typing.Dict[typing.Tuple[int, int], int] = {}
         self.texels = []  # of each texel that is lit, by its colours the numbers of the colormaps, as bits
-        for texel in range(256 if len(colormaps) >= 256 * MAPS else 0):
+        for texel in range(COLORMAP_SIZE if len(colormaps) >= COLORMAP_SIZE * MAPS else 0):
             found: typing.Dict[int, int] = collections.defaultdict(int)
             for number in range(MAPS):
-                found[colormaps[256 * number + texel]] |= 1 << number
+                found[colormaps[COLORMAP_SIZE * number + texel]] |= 1 << number
             self.texels.append(found)
 
     def ways(self, ours: int, port: int) -> int:
@@ -89,26 +93,27 @@ class Lights:
     def painters(self, keys: typing.List[Key], places: typing.List[int], ours: bytes, port: bytes) -> Found:
         """Of a view the painters whose pixels differ as under another light, each in whole columns or rows, with the steps
         of which it may be any."""
-        differing = grouped(keys, places, ours, port)
+        differing = groups_of(keys, places, ours, port)
         likely = {key for key, groups in differing.items()
                   if len(set().union(*groups.values())) >= LEAST_PAIRS and self.steps(groups)}
         whole = [place for place, key in enumerate(keys) if key in likely] if likely else []
         found = {}
-        for key, groups in grouped(keys, whole, ours, port).items():
+        for key, groups in groups_of(keys, whole, ours, port).items():
             steps = self.steps({line: groups[line] for line in differing[key]})
             if steps and min(steps) * max(steps) > 0:
                 found[key] = set(steps)
         return found
 
-    def told(self, records: bytes, places: typing.List[int], both: typing.Tuple[bytes, bytes],
-             light_of: LightOf = lambda kind, number: None) -> typing.List[str]:
+    def lines(self, records: bytes, places: typing.List[int], both: typing.Tuple[bytes, bytes],
+              light_of: LightOf = lambda kind, number: None) -> typing.List[str]:
         """Lines on what differs by its light alone, in a view that differs at some places: that of most pixels first."""
         keys, lines = keys_of(records), []
         found = self.painters(keys, places, *both)
         pixels = collections.Counter(keys[place] for place in places)
         while found:
-            counts = collections.Counter({it: sum(pixels[key] for key in found if it in found[key]) for it in STEPS})
-            steps = max(STEPS, key=lambda it: (counts[it], -abs(it)))
+            counts = collections.Counter({step: sum(pixels[key] for key in found if step in found[key])
+                                          for step in STEPS})
+            steps = max(STEPS, key=lambda step: (counts[step], -abs(step)))
             alike = {key for key in found if steps in found[key]}
             lines.append(sentence(counts[steps], steps, alike, light_of))
             found = {key: them for key, them in found.items() if key not in alike}
@@ -122,20 +127,20 @@ def sentence(pixels: int, steps: int, keys: typing.Set[Key], light_of: LightOf) 
     own = lights.pop() if len(lights) == 1 else None
     step = abs(steps) * LIGHT
     light = f'a light of {step} {much}' if own is None else f'light {own - LIGHT * steps} in the place of {own}'
-    return f'  {word:8} as under {light}: all {pixels} pixels that differ of {named(keys)}'
+    return f'  {word:8} as under {light}: all {pixels} pixels that differ of {names_of(keys)}'
 
 
-def grouped(keys: typing.List[Key], places: typing.Iterable[int], ours: bytes, port: bytes) -> typing.Dict[Key, Groups]:
+def groups_of(keys: typing.List[Key], places: typing.Iterable[int], ours: bytes, port: bytes) -> ByPainter:
     """The pairs of colours at some places of a view, of each painter that is lit by its columns or rows."""
-    found: typing.Dict[Key, Groups] = collections.defaultdict(lambda: collections.defaultdict(set))
+    found: ByPainter = collections.defaultdict(lambda: collections.defaultdict(set))
     for place in places:
         key = keys[place]
-        if key[0] in (WALL, PLANE, MIDDLE, SPRITE, WEAPON):
+        if key[0] in LIT:
             found[key][line_of(key[0], place)].add((ours[place], port[place]))
     return found
 
 
-def named(keys: typing.Iterable[Key]) -> str:
+def names_of(keys: typing.Iterable[Key]) -> str:
     """Painters by what their numbers count."""
     numbers = collections.defaultdict(set)
     for kind, low, high in keys:

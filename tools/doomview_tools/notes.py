@@ -13,10 +13,10 @@ MOST_ROWS = 200  # of a path that are looked at
 LEAST_ANGLE = 361  # a BAM as small as a number of degrees is 0
 
 
-def of_units(path: str, rows: list) -> typing.Iterator[str]:
+def of_units(path: str, rows: typing.List[paths.Row]) -> typing.Iterator[str]:
     """Sentences on a path whose numbers are too small."""
-    places = [place for row in rows for place in row[:2]]
-    if any(places) and max(map(abs, places)) < UNIT:
+    places: typing.List[int] = [place for row in rows for place in row[:2]]
+    if any(places) and max(abs(place) for place in places) < UNIT:
         yield (f'all x and y of {path} are within one map unit of 0: they are 16.16, {UNIT} a map unit. doomview path '
                'writes rows of numbers as an editor shows them')
     angles = [row.angle for row in rows]
@@ -25,10 +25,10 @@ def of_units(path: str, rows: list) -> typing.Iterator[str]:
                'doomview path writes rows of degrees')
 
 
-def of_height(path: str, rows: list, level) -> typing.Iterator[str]:
+def of_height(path: str, rows: typing.List[paths.Row], level: levels.Level) -> typing.Iterator[str]:
     """A sentence on a path with all eyes on the floor."""
-    heights = [row.z - level.floor_at(row.x / UNIT, row.y / UNIT) * UNIT for row in rows]
-    if rows and max(map(abs, heights)) <= UNIT:
+    heights: typing.List[int] = [row.z - level.floor_at(row.x / UNIT, row.y / UNIT) * UNIT for row in rows]
+    if rows and max(abs(height) for height in heights) <= UNIT:
         yield (f'all eyes of {path} are on the floor: z is the height of the eye, {EYE_HEIGHT} units above the feet of '
                'a player who stands')
 

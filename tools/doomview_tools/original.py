@@ -3,8 +3,10 @@
 A view that differs is put down to a rule of doomview by drawing it again with that rule in the original."""
 import os
 import subprocess
+import typing
 
 from . import home, paths, program, weapons
+from .counting import RAISED
 from .frames import SIZE as FRAME
 from .trouble import Trouble
 
@@ -15,22 +17,22 @@ RULES = {'memory': ('still', ['-zerotail']), 'mark': ('still-mark', ['-zerotail'
          'several': ('still-all', ['-zerotail'])}
 PACKED = ['-dosspan']
 # How the original steps spans as doomview does by --spans.
-SPANS = {'full': [], 'packed': PACKED}
-RAISED = ['--planes', '1024', '--openings', '245760']
+SPANS: typing.Dict[str, typing.List[str]] = {'full': [], 'packed': PACKED}
+Drawn = typing.Dict[int, bytes]  # frames by the numbers of their views
 
 
-def missing():
+def missing() -> typing.List[str]:
     """The programs that build has not made yet."""
     names = sorted({variant for variant, _ in RULES.values()})
     return [name for name in names if not os.access(os.path.join(FOLDER, name), os.X_OK)]
 
 
-def still(words, folder):
+def still(words: typing.List[str], folder: str) -> None:
     """Runs a program that build made."""
     try:
         done = subprocess.run(words, cwd=folder, stdout=subprocess.PIPE, stderr=subprocess.PIPE)
     except OSError as error:
-        raise Trouble(f'cannot run {words[0]}: {error.strerror}')
+        raise Trouble(f'cannot run {words[0]}: {error.strerror}') from error
     if done.returncode:
         raise Trouble(f'{os.path.basename(words[0])}: {done.stderr.decode(errors="replace").strip()[-200:]}')
 
@@ -39,7 +41,9 @@ class Run:
     """One map, one path, in a folder of its own. `layers` are the weapon layers of each view, `spans` how both step
     the spans of floors."""
 
-    def __init__(self, folder, wad, name, rows, ours_words, still_words, layers=(), spans='full'):
+    def __init__(self, folder: str, wad: str, name: str, rows: typing.List[paths.Row], ours_words: typing.Iterable[str],
+                 still_words: typing.Iterable[str], layers: typing.Sequence[weapons.Layer] = (),
+                 spans: str = 'full') -> None:
         self.folder, self.wad, self.name, self.rows, self.layers = folder, wad, name, rows, layers
         self.ours_words, self.still_words = list(ours_words), list(still_words) + SPANS[spans]
         self.spans_words = ['--spans', spans]
@@ -47,25 +51,27 @@ class Run:
         if layers:
             self.ours_words += ['--weapon', self.at('weapon.csv')]
             self.still_words += ['-weapon', 'weapon.csv']
-        self.ours, self.port = {}, {}
+        self.ours: Drawn = {}
+        self.port: Drawn = {}
 
-    def at(self, name):
+    def at(self, name: str) -> str:
         return os.path.join(self.folder, name)
 
-    def write_path(self, views):
+    def write_path(self, views: typing.Sequence[int]) -> None:
         with open(self.at('path.csv'), 'w') as file:
             file.write(paths.text([self.rows[view] for view in views]))
         if self.layers:
             with open(self.at('weapon.csv'), 'w') as file:
                 file.write(weapons.text([self.layers] * len(views)))
 
-    def doomview(self, job, words=()):
+    def doomview(self, job: str, words: typing.Iterable[str] = ()) -> bytes:
         done = program.run([job, self.name, self.wad, '--path', self.at('path.csv'), *self.ours_words, *words])
         if done.status:
             raise Trouble(f'{os.path.basename(program.path())}: {done.said.strip()[-200:]}')
         return done.output
 
-    def still(self, views, variant, words):
+    def still(self, views: typing.List[int], variant: str, words: typing.Iterable[str]) -> typing.Tuple[Drawn,
+              typing.Dict[int, str]]:
         """The original's frames of some views, and why it ended which of them: both by number."""
         self.write_path(views)
         still([os.path.join(FOLDER, variant + self.wide), '-iwad', self.wad, '-map', self.name, '-path', 'path.csv',
@@ -76,20 +82,20 @@ class Run:
         with open(self.at('port.bin'), 'rb') as file:
             return {view: file.read(FRAME) for view in views}, ended
 
-    def draw(self, ended):
+    def draw(self, ended: typing.Container[int]) -> None:
         """Draws doomview's frames of all views but those which it ends: by number."""
         kept = [view for view in range(len(self.rows)) if view not in ended]
         self.write_path(kept)
         drawn = self.doomview('render', self.spans_words) if kept else b''
         self.ours = {view: drawn[FRAME * i:FRAME * (i + 1)] for i, view in enumerate(kept)}
 
-    def over(self):
+    def over(self) -> typing.Set[int]:
         """The views that doomview ends for want of planes or openings."""
         self.write_path(range(len(self.rows)))
         lines = self.doomview('limits').decode().splitlines()
         return {view for view, line in enumerate(lines) if ' over ' in line}
 
-    def compare(self):
+    def compare(self) -> typing.Dict[int, str]:
         """For each view: 'same', 'ended', the rule that explains a difference, or 'unexplained'."""
         views = list(range(len(self.rows)))
         self.port, port_ended = self.still(views, 'still', [])
@@ -107,10 +113,10 @@ class Run:
         answer.update({view: 'unexplained' for view in self.ours if view not in answer})
         return answer
 
-    def pixels(self, view):
+    def pixels(self, view: int) -> int:
         return sum(a != b for a, b in zip(self.ours[view], self.port[view])) if view in self.ours else 0
 
-    def keep(self, folder, views):
+    def keep(self, folder: str, views: typing.Sequence[int]) -> None:
         """Keeps the rows and both frames of some views."""
         os.makedirs(folder, exist_ok=True)
         self.write_path(views)

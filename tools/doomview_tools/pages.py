@@ -3,6 +3,7 @@ import base64
 import html
 import json
 import re
+import typing
 
 from . import home
 from .frames import HEIGHT, WIDTH
@@ -15,18 +16,18 @@ SCRIPT = re.compile(r'/\*FILE (\w+\.js)\*/')  # the place of a script that is a 
 DIGITS = ''.join(chr(code) for code in range(35, 127) if chr(code) not in '\\<')  # none that a text has to escape
 
 
-def packed(data):
+def packed(data: object) -> str:
     """Data as a page has it: nothing in it can end the script that it stands in."""
     return json.dumps(data, separators=(',', ':')).replace('</', '<\\/')
 
 
-def columns(rows):
+def columns(rows: typing.Iterable[typing.Sequence[int]]) -> typing.List[list]:
     """Rows of whole numbers as a page has them: of each column the least number, the digits of a number, and the
     digits of all numbers without the least."""
     return [column(numbers) for numbers in zip(*rows)]
 
 
-def column(numbers):
+def column(numbers: typing.Sequence[int]) -> list:
     least, width = min(numbers), 1
     while len(DIGITS) ** width <= max(numbers) - least:
         width += 1
@@ -35,7 +36,7 @@ def column(numbers):
                                   for number in numbers for place in places)]
 
 
-def text_of_file(name):
+def text_of_file(name: str) -> str:
     """The text of a file of data/; a Trouble where it is missing."""
     path = home.data(name)
     try:
@@ -45,7 +46,7 @@ def text_of_file(name):
         raise Trouble(f'{path} is missing or damaged; take the whole folder of doomview anew') from error
 
 
-def page(template, data, plain=''):
+def page(template: str, data: object, plain: str = '') -> bytes:
     """The bytes of a page; `plain` is a text that stands on it where its script cannot run. A template names the files
     that its script has parts in."""
     text = text_of_file(template)
@@ -55,11 +56,11 @@ def page(template, data, plain=''):
     return text.replace(PLAIN, html.escape(plain)).replace(PLACE, packed(data)).encode()
 
 
-def text_of(png):
+def text_of(png: bytes) -> str:
     """A PNG as a page has it."""
     return base64.b64encode(png).decode()
 
 
-def picture(pixels, palette, width=WIDTH, height=HEIGHT):
+def picture(pixels: bytes, palette: bytes, width: int = WIDTH, height: int = HEIGHT) -> str:
     """A picture as a page has it."""
     return text_of(indexed_png(width, height, bytes(pixels), palette))

@@ -4,6 +4,8 @@ The reader of pictures is in vectors/pictures.py, where `vectors/check` has it w
 import functools
 import importlib.util
 import os
+import types
+import typing
 
 from . import diagnoses, home
 from .frames import SIZE, WIDTH
@@ -11,18 +13,19 @@ from .trouble import Trouble
 
 
 @functools.lru_cache(maxsize=None)
-def reader():
+def reader() -> types.ModuleType:
     """The module vectors/pictures.py."""
     path = os.path.join(home.TOP, 'vectors', 'pictures.py')
     if not os.path.isfile(path):
         raise Trouble(f'{path} is missing; take the whole folder of doomview anew')
     spec = importlib.util.spec_from_file_location('vectors_pictures', path)
+    assert spec and spec.loader  # of a file of Python there are both
     module = importlib.util.module_from_spec(spec)
     spec.loader.exec_module(module)
     return module
 
 
-def read(call, *words):
+def read(call: typing.Callable, *words: typing.Any) -> typing.Any:
     """What a call of the reader gives; a Trouble where it refuses."""
     try:
         return call(*words)
@@ -43,7 +46,7 @@ def is_ppm(path: str) -> bool:
         return file.read(len(head)) == head
 
 
-def files_of(path: str) -> list:
+def files_of(path: str) -> typing.List[str]:
     """The files that a name means: itself, or those in a folder, its pictures alone if it has some, in the order of the
     numbers in their names."""
     if not os.path.isdir(path):
@@ -61,16 +64,17 @@ def files_of(path: str) -> list:
 class Palette:
     """The colours of a palette, and of each the entries that have it."""
 
-    def __init__(self, palette: bytes):
+    def __init__(self, palette: bytes) -> None:
         self.palette, self.entries = bytes(palette), reader().entries_of(palette)
-        self.doubtful = set()  # entries that were taken where others have the same colour
+        # Entries that were taken where others have the same colour.
+        self.doubtful: typing.Set[typing.Tuple[int, ...]] = set()
 
-    def is_own(self, picture) -> bool:
+    def is_own(self, picture: typing.Any) -> bool:
         """Whether the pixels of a picture are entries of this palette."""
         is_part = picture.palette and self.palette.startswith(picture.palette)
         return picture.parts == 1 and is_part and 3 * max(picture.pixels) < len(picture.palette)
 
-    def frame(self, picture, name: str, ours: bytes = b'') -> bytes:
+    def frame(self, picture: typing.Any, name: str, ours: bytes = b'') -> bytes:
         """The frame of a picture of a file. Where a colour is in two entries that of `ours` is taken, if it is one of
         them, else the first."""
         if self.is_own(picture):
@@ -89,7 +93,7 @@ class Palette:
             return bytes(entries[0] for entries in found)
         return bytes(own if own in entries else entries[0] for own, entries in zip(ours, found))
 
-    def told(self) -> list:
+    def sentences(self) -> typing.List[str]:
         """A sentence on the colours that are in two entries, or none."""
         if not self.doubtful:
             return []
@@ -101,7 +105,7 @@ class Palette:
 class OfPictures:
     """The frames of pictures by a palette: of files with one picture each, or of one file of PPMs."""
 
-    def __init__(self, files: list, palette: bytes):
+    def __init__(self, files: typing.List[str], palette: bytes) -> None:
         self.files, self.palette = files, Palette(palette)
         self.size = reader().PPM_SIZE
         self.is_stream = len(files) == 1 and is_ppm(files[0])
@@ -110,7 +114,7 @@ class OfPictures:
                           'the whole of what it wrote')
         self.count = os.path.getsize(files[0]) // self.size if self.is_stream else len(files)
 
-    def picture(self, view: int) -> tuple:
+    def picture(self, view: int) -> typing.Tuple[typing.Any, str]:
         """The picture of a view, and the name of its file."""
         if not self.is_stream:
             return read(reader().read, self.files[view]), self.files[view]
@@ -121,5 +125,5 @@ class OfPictures:
     def frame(self, view: int, ours: bytes = b'') -> bytes:
         return self.palette.frame(*self.picture(view), ours)
 
-    def told(self) -> list:
-        return self.palette.told()
+    def sentences(self) -> typing.List[str]:
+        return self.palette.sentences()

@@ -6,6 +6,7 @@ import csv
 import heapq
 import os
 import statistics
+import typing
 
 from .files import write_whole
 
@@ -13,9 +14,11 @@ HEADER = ['crate', 'seconds']
 SHARE = 4  # a crate that took less than this part of what it took before was found proved, and not proved anew
 DOUBT = 60  # seconds of a build after which its own pace counts as much as that which was planned
 LEAST_LINES = 10
+Numbers = typing.Dict[str, float]  # by crates
+Crates = typing.Dict[str, typing.List[str]]  # what each stands on
 
 
-def read_numbers(path):
+def read_numbers(path: str) -> Numbers:
     """The number of each crate in a file, or none where there is no such file."""
     try:
         with open(path, newline='', encoding='utf-8') as file:
@@ -24,7 +27,7 @@ def read_numbers(path):
         return {}
 
 
-def keep_seconds(path, took):
+def keep_seconds(path: str, took: Numbers) -> None:
     """Adds what crates took to the file of seconds."""
     kept = read_numbers(path)
     kept.update({crate: seconds for crate, seconds in took.items() if seconds * SHARE >= kept.get(crate, 0)})
@@ -33,7 +36,7 @@ def keep_seconds(path, took):
     write_whole(path, ''.join(','.join(line) + '\n' for line in lines).encode())
 
 
-def scaled(numbers, known):
+def to_scale(numbers: Numbers, known: Numbers) -> Numbers:
     """Numbers of crates brought to the scale of those that are known, by the crates of both."""
     both = [crate for crate in numbers if crate in known]
     whole = sum(numbers[crate] for crate in both)
@@ -41,28 +44,29 @@ def scaled(numbers, known):
     return {crate: number * factor for crate, number in numbers.items()}
 
 
-def seconds_of(crates, kept, weights, lines):
+def seconds_of(crates: Crates, kept: Numbers, weights: Numbers, lines: typing.Dict[str, int]) -> Numbers:
     """The seconds that each crate takes: as they are kept, by its weight, or by its lines."""
-    known = {**scaled(weights, kept), **kept}
+    known = {**to_scale(weights, kept), **kept}
     rates = [known[crate] / max(lines[crate], LEAST_LINES) for crate in crates if crate in known]
     rate = statistics.median(rates) if rates else 1
     return {crate: known.get(crate, rate * lines[crate]) for crate in crates}
 
 
-def seconds_above(crates, seconds):
+def seconds_above(crates: Crates, seconds: Numbers) -> Numbers:
     """The seconds of the longest chain of crates that begins with each; `crates` has what each stands on."""
-    above = {}
+    above: Numbers = {}
     for crate in reversed(list(crates)):
-        above[crate] = seconds[crate] + max((above[it] for it in crates if crate in crates[it]), default=0)
+        above[crate] = seconds[crate] + max((above[upper] for upper in crates if crate in crates[upper]), default=0)
     return above
 
 
-def seconds_left(crates, left, workers):
+def seconds_left(crates: Crates, left: Numbers, workers: int) -> float:
     """The seconds until all is built, where each crate of `left` needs that many and `workers` go on at a time. Those
     with the most above them go first, as in the build."""
     above = seconds_above(crates, {crate: left.get(crate, 0) for crate in crates})
-    waiting, running, done = sorted(left, key=lambda it: -above[it]), [], {*crates} - {*left}
-    now = 0
+    waiting, done = sorted(left, key=lambda crate: -above[crate]), {*crates} - {*left}
+    running: typing.List[typing.Tuple[float, str]] = []
+    now = 0.0
     while waiting or running:
         ready = [crate for crate in waiting if done.issuperset(crates[crate])][:max(0, workers - len(running))]
         for crate in ready:
@@ -73,12 +77,12 @@ def seconds_left(crates, left, workers):
     return now
 
 
-def pace(took, planned):
+def pace(took: Numbers, planned: Numbers) -> float:
     """How much longer the crates of a build took than was planned; at first nothing is known of that."""
     return (sum(took.values()) + DOUBT) / (sum(planned[crate] for crate in took) + DOUBT)
 
 
-def rounded(seconds):
+def words_of(seconds: float) -> str:
     """A span of time in words."""
     minutes = round(seconds / 60)
     return 'less than a minute' if minutes < 1 else f'about {minutes} minute{"s" if minutes > 1 else ""}'

@@ -3,40 +3,49 @@
 DOOMVIEW names another program to run in its place. `run(words)` takes the words that a user gives to doomview: WADs
 are found as ports find them, and where `--tables` or `--things` is not named the tools' own are."""
 import atexit
-import collections
 import contextlib
 import os
 import shutil
 import subprocess
 import tempfile
+import typing
 
 from . import home, tables
 from .files import WholeFile, is_terminal, write_whole
-from .jobs import LEVEL_JOBS, USAGE, WRITE_FAULT, Words, wrong_words
+from .jobs import LEVEL_JOBS, NO_PROGRAM, USAGE, WRITE_FAULT, Words, wrong_words
 from .trouble import Ended, Trouble
 
-NO_PROGRAM = 70  # the status where there is no run
 SECONDS = 300  # that a run of the sources without proofs may take
 SHOWN = 5  # lines of what rt said where there was no run
 
-Run = collections.namedtuple('Run', 'status output line said')
+
+Output = typing.Union[int, typing.IO[bytes], None]  # where the output of a run goes; None: into its Run
 
 
-def named():
+class Run(typing.NamedTuple):
+    """How a run ended: its status, its output where that went nowhere else, and the last line of what it said, and all."""
+
+    status: int
+    output: bytes
+    line: str
+    said: str
+
+
+def named_program() -> str:
     """The program that DOOMVIEW names, or an empty text."""
     return os.environ.get('DOOMVIEW', '')
 
 
-def path():
+def path() -> str:
     """The path of the program."""
-    return os.path.abspath(named() or home.PROGRAM)
+    return os.path.abspath(named_program() or home.PROGRAM)
 
 
-def is_source(name):
+def is_source(name: str) -> bool:
     return name.endswith(('.rt', '.antt')) or name == 'crates.txt'
 
 
-def newest_source(top):
+def newest_source(top: str) -> float:
     """When the last of the sources was written."""
     newest = os.path.getmtime(os.path.join(top, 'crates.txt'))
     for folder, folders, names in os.walk(os.path.join(top, 'crates')):
@@ -45,33 +54,33 @@ def newest_source(top):
     return newest
 
 
-def is_current(program, top):
+def is_current(program: str, top: str) -> bool:
     """Whether a program is there and no older than the sources."""
     return os.access(program, os.X_OK) and os.path.getmtime(program) >= newest_source(top)
 
 
-def is_built():
+def is_built() -> bool:
     """Whether the program can run at once."""
-    return bool(named()) or home.IS_RELEASE or is_current(home.PROGRAM, home.TOP)
+    return bool(named_program()) or home.IS_RELEASE or is_current(home.PROGRAM, home.TOP)
 
 
-def ready():
+def ready() -> str:
     """The path of the program, which is built first if that is needed."""
     if not is_built():
         from .build import build
         build()
     if not os.access(path(), os.X_OK):
-        what = 'set DOOMVIEW to one, or leave it unset' if named() else 'take the whole folder of doomview anew'
+        what = 'set DOOMVIEW to one, or leave it unset' if named_program() else 'take the whole folder of doomview anew'
         raise Trouble(f'there is no program {path()}; {what}', NO_PROGRAM)
     return path()
 
 
-def environment():
+def environment() -> typing.Dict[str, str]:
     """The surroundings of the program: DOOMVIEW is not handed on, since it may name this command."""
     return {name: value for name, value in os.environ.items() if name != 'DOOMVIEW'}
 
 
-def cache_folder():
+def cache_folder() -> str:
     """Where what is made once is kept."""
     named = os.environ.get('XDG_CACHE_HOME', '')
     folder = named if os.path.isabs(named) else os.path.join(os.path.expanduser('~'), '.cache')
@@ -81,7 +90,7 @@ def cache_folder():
 held_files = []  # temporary files of this process
 
 
-def temporary_file(data, ending):
+def temporary_file(data: bytes, ending: str) -> str:
     """A file with these bytes that is there as long as this process."""
     try:
         handle, name = tempfile.mkstemp(prefix='doomview-', suffix=ending)
@@ -90,11 +99,12 @@ def temporary_file(data, ending):
         with open(handle, 'wb') as file:
             file.write(data)
     except OSError as error:
-        raise Trouble(f'cannot write a temporary file ({error.strerror}); TMPDIR may name another place for it')
+        raise Trouble(f'cannot write a temporary file ({error.strerror}); TMPDIR may name another place for '
+                      'it') from error
     return name
 
 
-def has_tables(file):
+def has_tables(file: str) -> bool:
     try:
         with open(file, 'rb') as opened:
             return tables.is_right(opened.read())
@@ -102,7 +112,7 @@ def has_tables(file):
         return False
 
 
-def tables_file():
+def tables_file() -> str:
     """The path of the tables of angles, which are made once and kept, or held as long as this process."""
     kept = os.path.join(cache_folder(), 'tables.bin')
     if has_tables(kept):
@@ -116,12 +126,12 @@ def tables_file():
     return kept
 
 
-def things_file():
+def things_file() -> str:
     """The path of the thing table of the games."""
     return home.data('things.csv')
 
 
-def completed(words):
+def completed(words: typing.Iterable[str]) -> typing.List[str]:
     """The words of a job as the program takes them: WADs found, and the tools' own tables where none are named."""
     given = Words(words)
     if given.job not in LEVEL_JOBS:
@@ -133,13 +143,13 @@ def completed(words):
     return words[:at] + more + words[at:]
 
 
-def ended(status, output, said):
+def ended(status: int, output: typing.Optional[bytes], said: bytes) -> Run:
     """How a run ended; one that a signal ended has 128 and its number, as in a shell."""
-    said = said.decode(errors='replace')
-    return Run(status if status >= 0 else 128 - status, output, (said.splitlines() or [''])[-1], said)
+    text = said.decode(errors='replace')
+    return Run(status if status >= 0 else 128 - status, output or b'', (text.splitlines() or [''])[-1], text)
 
 
-def run(words, output=None, unproved=False):
+def run(words: typing.Iterable[str], output: Output = None, unproved: bool = False) -> Run:
     """Runs the program to its end: its status, its output where `output` is no file for it, the last line of what it
     said, and all of it. `unproved` runs the sources without a proof, by `rt try`, where the program is not built."""
     words = completed(words)
@@ -148,7 +158,7 @@ def run(words, output=None, unproved=False):
     return ended(*call([ready(), *words], output))
 
 
-def guard_terminal(words):
+def guard_terminal(words: typing.Iterable[str]) -> None:
     """A Trouble where a job would write to a terminal what is no text. Where its words are wrong it may run, since it
     writes nothing then."""
     given = Words(words)
@@ -160,7 +170,7 @@ def guard_terminal(words):
     os.dup2(os.open(os.devnull, os.O_WRONLY), 1)
 
 
-def run_whole(words):
+def run_whole(words: typing.List[str]) -> Run:
     """Runs the program with its output in the file that `-o` names, whole or not there, or else as it comes on the
     standard output."""
     path = Words(words).output
@@ -174,25 +184,26 @@ def run_whole(words):
     return done
 
 
-def call(command, output, folder=None):
+def call(command: typing.List[str], output: Output, folder: typing.Optional[str] = None) -> typing.Tuple[int, bytes,
+         bytes]:
     """Status, output and what is said of a command."""
     try:
         done = subprocess.run(command, cwd=folder, env=environment(), stdin=subprocess.DEVNULL,
                               stdout=subprocess.PIPE if output is None else output, stderr=subprocess.PIPE)
     except OSError as error:
-        raise Trouble(f'cannot run {command[0]}: {error.strerror}', NO_PROGRAM)
+        raise Trouble(f'cannot run {command[0]}: {error.strerror}', NO_PROGRAM) from error
     return done.returncode, done.stdout, done.stderr
 
 
-def start(words, **more):
+def start(words: typing.Iterable[str], **more: typing.Any) -> subprocess.Popen:
     """Starts the program."""
     try:
         return subprocess.Popen([ready(), *completed(words)], env=environment(), **more)
     except OSError as error:
-        raise Trouble(f'cannot run {path()}: {error.strerror}', NO_PROGRAM)
+        raise Trouble(f'cannot run {path()}: {error.strerror}', NO_PROGRAM) from error
 
 
-def pass_on(words: list) -> Run:
+def pass_on(words: typing.List[str]) -> Run:
     """Runs the program with its output on the standard output, as it comes; what it said on standard error is kept."""
     words = completed(words)
     guard_terminal(words)
@@ -203,7 +214,7 @@ def pass_on(words: list) -> Run:
     return ended(done.returncode, None, done.stderr)
 
 
-def renamed(word, files):
+def with_own_name(word: str, files: typing.Dict[str, str]) -> str:
     """A word, with a name of its own for the file that it names."""
     option, equal, file = word.partition('=') if word.startswith('--') else ('', '', word)
     if not os.path.isfile(file):
@@ -213,20 +224,20 @@ def renamed(word, files):
     return option + equal + name
 
 
-def run_sources(words, output):
+def run_sources(words: typing.List[str], output: Output) -> Run:
     """Runs the sources without a proof and without a build; at most 1 MiB comes out. The checks of `rt try` stop such a
     run at an index out of range or a sum that overflows, and nothing is proved of it."""
     if not shutil.which('rt'):
         raise Trouble('the command rt is not installed: doomview is made by the Rattle kit, whose folder bin has to be '
                       'in PATH', NO_PROGRAM)
-    files = {}
-    words = [renamed(word, files) for word in words]
+    files: typing.Dict[str, str] = {}
+    words = [with_own_name(word, files) for word in words]
     data = [part for name, file in files.items() for part in ('--data', f'{name}={file}')]
     status, written, said = call(['rt', 'try', '--steps', '1', '--seconds', str(SECONDS), *data, '--', *words], output,
                                  os.path.join(home.TOP, 'crates', 'doomview'))
     lines = said.decode(errors='replace').splitlines()
-    line = ([it for it in lines if it.startswith('doomview: ')] or [''])[-1]
+    line = ([text for text in lines if text.startswith('doomview: ')] or [''])[-1]
     if line or status == 0:
         return ended(status, written, line.encode())
-    raise Trouble('\n'.join([*(it[:300] for it in lines[-SHOWN:]), 'rt try did not run the sources; its last lines '
+    raise Trouble('\n'.join([*(text[:300] for text in lines[-SHOWN:]), 'rt try did not run the sources; its last lines '
                              'are above']), NO_PROGRAM)

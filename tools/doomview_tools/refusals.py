@@ -2,14 +2,18 @@
 
 What is wrong and how to mend it is in docs/REFUSALS.md, code by code."""
 import csv
+import itertools
 import os
 import re
 import struct
+import typing
 
-from . import checks, home, levels, traces, wads
-from .art import Art
+from . import art, checks, doom, home, levels, wads
+from .jobs import Words
 from .trouble import Trouble, WadError
 
+Numbers = typing.List[int]  # of a refusal
+Sentences = typing.Iterator[str]
 FIELDS = [['x', 'y', 'angle', 'type', 'options'],
           ['vertex 1', 'vertex 2', 'flags', 'special', 'tag', 'side 0', 'side 1'],
           ['x offset', 'y offset', 'top', 'bottom', 'middle', 'sector'],
@@ -33,7 +37,7 @@ NO_MAP = 601
 SHOWN_LINES = 12
 
 
-def codes():
+def codes() -> typing.Dict[int, typing.Tuple[str, str]]:
     """From REFUSALS.md: for each code what is wrong and how to mend it. `the same` is what stands above."""
     try:
         with open(os.path.join(home.DOCS, 'REFUSALS.md'), encoding='utf-8') as file:
@@ -48,7 +52,7 @@ def codes():
     return answer
 
 
-def head_of(path):
+def head_of(path: str) -> bytes:
     """The first four bytes of a plain file, or none."""
     try:
         with open(path if os.path.isfile(path) else os.devnull, 'rb') as file:
@@ -57,18 +61,19 @@ def head_of(path):
         return b''
 
 
-def listed(parts):
+def in_words(parts: typing.Iterable[object]) -> str:
     """Words with commas and `and`."""
-    parts = list(map(str, parts))
-    return parts[0] if len(parts) == 1 else ', '.join(parts[:-1]) + ' and ' + parts[-1]
+    words = list(map(str, parts))
+    return words[0] if len(words) == 1 else ', '.join(words[:-1]) + ' and ' + words[-1]
 
 
 class Scene:
     """The WADs of a call and the level that it names, as far as they can be read."""
 
-    def __init__(self, words):
+    def __init__(self, words: Words) -> None:
         self.wads, self.map_name = words.wads, words.map_name.upper()
-        self.lumps, self.places = [], []
+        self.lumps: typing.List[wads.Lump] = []
+        self.places: typing.List[str] = []  # of each lump its WAD
         for wad in self.wads:
             try:
                 read = wads.read(wad) if os.path.isfile(wad) else []
@@ -79,12 +84,12 @@ class Scene:
         self.label = wads.map_labels(self.lumps).get(self.map_name)
         here = self.lumps[self.label + 1:self.label + 9] if self.label is not None else []
         self.file = self.places[self.label] if self.label is not None else None
-        self.level = levels.Level(self.map_name, self.file, dict(here))
+        self.level = levels.Level(self.map_name, self.file or '', dict(here))
 
-    def lines_of_side(self, side):
+    def lines_of_side(self, side: int) -> typing.List[int]:
         return [i for i, line in enumerate(self.level.lines) if side in (line.front, line.back)]
 
-    def side(self, number):
+    def side(self, number: int) -> str:
         if number >= len(self.level.sides):
             return f'side {number}'
         found = self.level.sides[number]
@@ -92,36 +97,30 @@ class Scene:
         return (f'side {number}, of {lines}, in sector {found.sector}: upper {found.upper}, lower {found.lower}, '
                 f'middle {found.middle}')
 
-    def sector(self, number):
+    def sector(self, number: int) -> str:
         if number >= len(self.level.sectors):
             return f'sector {number}'
         found = self.level.sectors[number]
         return f'sector {number}: floor {found.floor_flat}, ceiling {found.ceiling_flat}'
 
-    def thing(self, number):
+    def thing(self, number: int) -> str:
         if number >= len(self.level.things):
             return f'thing {number}'
         found = self.level.things[number]
         return f'thing {number}: type {found.type} at {found.x}, {found.y}'
 
-    def texture(self, number):
-        for name in ('TEXTURE1', 'TEXTURE2'):
-            lump = dict(self.lumps).get(name, b'')
-            count = int.from_bytes(lump[:4], 'little')
-            if number < count:
-                offset, = struct.unpack_from('<I', lump, 4 + 4 * number)
-                return f'texture {wads.clean(lump[offset:offset + 8])} ({name}, number {number})'
-            number -= count
-        return 'a texture'
+    def texture(self, number: int) -> str:
+        found = art.name_of_texture(dict(self.lumps), number)
+        return 'texture {} ({}, number {})'.format(*found) if found else 'a texture'
 
-    def lump(self, number):
+    def lump(self, number: int) -> str:
         return f'lump {self.lumps[number].name} of {self.places[number]}'
 
-    def wad(self, number):
+    def wad(self, number: int) -> str:
         return self.wads[number] if number < len(self.wads) else f'file {number} of the WADs, counted from 0'
 
-    def field(self, lump, record, field):
-        where = f'{wads.MAP_LUMPS[lump]} record {record}, {FIELDS[lump][field]}'
+    def field(self, lump: int, record: int, field: int) -> str:
+        where = f'{doom.MAP_LUMPS[lump]} record {record}, {FIELDS[lump][field]}'
         if lump == SIDEDEFS:
             return f'{where} ({self.side(record)})'
         if (lump, field) == (SEGS, SIDE_OF_LINE) and record < len(self.level.segs):
@@ -130,33 +129,24 @@ class Scene:
             return f'{where} (of line {seg.line}{side})'
         return where
 
-    def texture_names(self):
+    def texture_names(self) -> typing.Set[str]:
         """The names of all textures; none where the lists are damaged."""
         try:
-            return {name for name, _ in traces.texture_lists(self.lumps)}
-        except (IndexError, struct.error):
+            return {texture.name for texture in art.textures_of(dict(self.lumps))}
+        except WadError:
             return set()
 
-    def flats(self):
+    def flats(self) -> typing.Set[str]:
         """The names of the lumps between the marks of flats."""
-        found, is_flat, before = set(), False, None
-        for wad, lump in zip(self.places, self.lumps):
-            is_flat = is_flat and wad == before
-            before = wad
-            if lump.name in ('F_START', 'FF_START'):
-                is_flat = True
-            elif lump.name in ('F_END', 'FF_END'):
-                is_flat = False
-            elif is_flat:
-                found.add(lump.name)
-        return found
+        by_file = itertools.groupby(zip(self.places, self.lumps), key=lambda pair: pair[0])
+        return {name for _, pairs in by_file for name in art.marked_names([lump for _, lump in pairs], 'F')}
 
-    def depth(self):
+    def depth(self) -> int:
         """How deep the nodes are."""
         most, seen, left = 0, set(), [(len(self.level.nodes) - 1, 1)]
         while left:
             number, depth = left.pop()
-            if number & levels.LEAF or number in seen or not 0 <= number < len(self.level.nodes):
+            if number & doom.LEAF or number in seen or not 0 <= number < len(self.level.nodes):
                 continue
             seen.add(number)
             most = max(most, depth)
@@ -164,7 +154,7 @@ class Scene:
         return most
 
 
-def of_row(code, numbers):
+def of_row(code: int, numbers: Numbers) -> str:
     """The row, and the column, of a table."""
     column = ''
     if code % 100 in OF_COLUMNS:
@@ -174,9 +164,9 @@ def of_row(code, numbers):
 
 
 # Of each code how its numbers are named: by the scene, and the numbers.
-NAMED = {
+NAMED: typing.Dict[int, typing.Callable[..., str]] = {
     **dict.fromkeys((401, 402, 403), lambda scene, file, *_: scene.wad(file)),
-    602: lambda scene, lump: wads.MAP_LUMPS[lump],
+    602: lambda scene, lump: doom.MAP_LUMPS[lump],
     604: lambda scene, lump, record, field: scene.field(lump, record, field),
     605: lambda scene, leaf: f'SSECTORS record {leaf}',
     **dict.fromkeys((606, 607), lambda scene, node: f'NODES record {node}'),
@@ -191,7 +181,7 @@ NAMED = {
 }
 
 
-def names(scene, code, numbers):
+def names(scene: Scene, code: int, numbers: Numbers) -> str:
     """What the numbers of a refusal mean, as text."""
     try:
         if code in NAMED and numbers:
@@ -203,13 +193,13 @@ def names(scene, code, numbers):
     return ' '.join(map(str, numbers))
 
 
-def packed_file(scene, numbers):
+def packed_file(scene: Scene, numbers: Numbers) -> Sentences:
     for wad in scene.wads:
         if wads.packed_as(head_of(wad)):
             yield f'{wad} is {wads.packed_as(head_of(wad))}.'
 
 
-def odd_nodes(scene, numbers):
+def odd_nodes(scene: Scene, numbers: Numbers) -> Sentences:
     extended = scene.level.extended_nodes()
     if extended:
         yield (f'{extended[0]} has extended nodes ({extended[1]}); build plain ones (zdbsp without -X, -x and -z; in '
@@ -219,14 +209,14 @@ def odd_nodes(scene, numbers):
                'ones too.')
 
 
-def deep_nodes(scene, numbers):
+def deep_nodes(scene: Scene, numbers: Numbers) -> Sentences:
     depth = scene.depth()
     if depth:
         yield (f'the nodes are {depth:,} deep, and {MOST_DEPTH:,} is the most: take a builder that balances them, such '
                'as zdbsp.')
 
 
-def no_texture(scene, numbers):
+def no_texture(scene: Scene, numbers: Numbers) -> Sentences:
     """Which of the textures of a side is in no list, and why."""
     known = scene.texture_names()
     if not known or not numbers or numbers[0] >= len(scene.level.sides):
@@ -235,7 +225,7 @@ def no_texture(scene, numbers):
     missing = {part: getattr(scene.level.sides[numbers[0]], part) for part in parts}
     missing = {part: name for part, name in missing.items() if not name.startswith('-') and name not in known}
     if missing:
-        yield f'in no list: {listed(f"{part} {name}" for part, name in missing.items())}.'
+        yield f'in no list: {in_words(f"{part} {name}" for part, name in missing.items())}.'
     yield from hidden_list(scene, set(missing.values()))
     used = {name for side in scene.level.sides for name in side[2:5] if not name.startswith('-')}
     if 2 * len(used - known) > len(used):
@@ -243,32 +233,32 @@ def no_texture(scene, numbers):
                'game.')
 
 
-def hidden_list(scene, missing):
+def hidden_list(scene: Scene, missing: typing.Set[str]) -> Sentences:
     """A list of a WAD that hides the one which has a texture: the last TEXTURE1 counts."""
     having = [wad for wad, lump in zip(scene.places, scene.lumps) if lump.name == 'TEXTURE1']
     for wad in having[:-1]:
         lists = [lump for place, lump in zip(scene.places, scene.lumps) if place == wad]
         try:
-            known = {name for name, _ in traces.texture_lists(lists)}
-        except (IndexError, struct.error):
+            known = {texture.name for texture in art.textures_of(dict(lists))}
+        except WadError:
             continue
         for name in sorted(missing & known):
             yield f'{name} is in the TEXTURE1 of {wad}, which that of {having[-1]} hides; put it into the list there.'
 
 
-def no_flat(scene, numbers):
+def no_flat(scene: Scene, numbers: Numbers) -> Sentences:
     """Which flat of a sector there is not, and why."""
     if not numbers or numbers[0] >= len(scene.level.sectors):
         return
     sector, known = scene.level.sectors[numbers[0]], scene.flats()
     lumps = {lump.name for lump in scene.lumps}
     for part, name in (('floor', sector.floor_flat), ('ceiling', sector.ceiling_flat)):
-        if name != 'F_SKY1' and name not in known:
+        if name != doom.SKY and name not in known:
             is_outside = ': there is a lump of that name, but not between F_START and F_END'
             yield f'no flat: {part} {name}{is_outside if name in lumps else ""}.'
 
 
-def medusa(scene, numbers):
+def medusa(scene: Scene, numbers: Numbers) -> Sentences:
     """What the original makes of a middle texture of several patches, and where else it stands."""
     yield ('in a game this is the Medusa effect: the original reads the texture as posts, and slows down or ends. '
            'Give the line a middle texture of one patch a column.')
@@ -276,9 +266,9 @@ def medusa(scene, numbers):
         return
     name = scene.level.sides[numbers[0]].middle
     sides = {i for i, side in enumerate(scene.level.sides) if side.middle == name}
-    lines = [i for i, line in enumerate(scene.level.lines) if None not in line[5:] and sides & {line.front, line.back}]
+    lines = [i for i, line in enumerate(scene.level.lines) if None not in line.sides and sides & {*line.sides}]
     if len(lines) > 1:
-        shown = listed(lines) if len(lines) <= SHOWN_LINES else ', '.join(map(str, lines[:SHOWN_LINES])) + ' ..'
+        shown = in_words(lines) if len(lines) <= SHOWN_LINES else ', '.join(map(str, lines[:SHOWN_LINES])) + ' ..'
         yield f'lines of two sides with {name}: {shown}.'
 
 
@@ -287,13 +277,13 @@ CHECKS = {901: checks.Check.missing_textures, 903: checks.Check.missing_flats, 9
           801: checks.Check.pictures}
 
 
-def all_wrong(scene, code):
+def all_wrong(scene: Scene, code: int) -> Sentences:
     """Sentences on all that is wrong in the way of a refusal, since a run tells the first alone."""
     try:
-        art = Art(scene.wads)
-        if art.textures:
-            for it in CHECKS[code](checks.Check(scene.level, art)):
-                yield f'{it.where}: {it.told}' + ('' if it.told.endswith('?') else '.')
+        of_wads = art.Art(scene.wads)
+        if of_wads.textures:
+            for finding in CHECKS[code](checks.Check(scene.level, of_wads)):
+                yield f'{finding.where}: {finding.told}' + ('' if finding.told.endswith('?') else '.')
     except (Trouble, OSError):
         return
 
@@ -302,7 +292,7 @@ HINTS = {401: packed_file, 402: packed_file, **dict.fromkeys((603, 604, 605, 606
          901: no_texture, 903: no_flat, 905: medusa}
 
 
-def line_of(path, numbers):
+def line_of(path: str, numbers: Numbers) -> str:
     """Where the row of a refusal stands in its file, as an editor counts."""
     try:
         with open(path, newline='', encoding='utf-8-sig') as file:
@@ -313,7 +303,7 @@ def line_of(path, numbers):
         return ''
 
 
-def odd_text(path):
+def odd_text(path: str) -> Sentences:
     """What a spreadsheet may have done to a table."""
     try:
         with open(path, 'rb') as file:
@@ -328,14 +318,14 @@ def odd_text(path):
         yield f'{path} has spaces beside its commas; take them out.'
 
 
-def refused(code, numbers, words):
+def sentences(code: int, numbers: Numbers, words: Words) -> Sentences:
     """Sentences on a refusal of a call."""
     scene = Scene(words)
     if code == NO_MAP and scene.lumps and scene.label is None:
         yield f'{code}: {levels.no_map(scene.map_name, scene.places, scene.lumps)}.'
         return
     wrong, mend = codes().get(code, ('docs/REFUSALS.md has no such code', ''))
-    at, table = names(scene, code, numbers), words.value(TABLES.get(code // 100))
+    at, table = names(scene, code, numbers), words.value(TABLES.get(code // 100, ''))
     if table and code % 100 != 1:
         at += line_of(table, numbers) if code % 100 in OF_ROWS[:4] else ''
         yield from odd_text(table)

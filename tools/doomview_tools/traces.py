@@ -4,24 +4,43 @@ import functools
 import struct
 import typing
 
+from .art import between_marks, patch_names, starts, textures_of
+from .doom import PALETTE_SIZE
 from .frames import HEIGHT, SIZE, WIDTH, count_parts
 from .png import GREYS
-from .trouble import Trouble
-from .wads import clean, read
+from .trouble import Trouble, WadError
+from .wads import read
 
 RECORD = struct.Struct('<BBHHBB')  # kind, kind of source, number, source, colour, 0
 VIEW_SIZE = RECORD.size * SIZE
 # Of each kind its word, and what its number counts: from 0, but rows of the weapon layers from 1.
-KINDS = {0: ('nothing', ''), 1: ('wall', 'fragment'), 2: ('plane', 'plane'), 3: ('sky', 'plane'),
-         4: ('middle', 'fragment'), 5: ('sprite', 'sprite'), 6: ('weapon', 'row')}
-TEXTURED = (1, 3, 4)  # kinds that paint from a texture
-SPRITE = 5
+NOTHING, WALL, PLANE, SKY, MIDDLE, SPRITE, WEAPON = range(7)
+KINDS = {NOTHING: ('nothing', ''), WALL: ('wall', 'fragment'), PLANE: ('plane', 'plane'), SKY: ('sky', 'plane'),
+         MIDDLE: ('middle', 'fragment'), SPRITE: ('sprite', 'sprite'), WEAPON: ('weapon', 'row')}
+TEXTURED = (WALL, SKY, MIDDLE)  # kinds that paint from a texture
 LUMP, COMPOSITE = 1, 2  # kinds of sources
-GROUP_OF = {2: 'flat', 5: 'picture of a sprite', 6: 'picture of a sprite'}  # what kinds paint from
+# What kinds paint from.
+GROUP_OF = {PLANE: 'flat', SPRITE: 'picture of a sprite', WEAPON: 'picture of a sprite'}
 SHOWN_NUMBERS, SHOWN_TEXTURES, SHOWN_PLACES = 6, 3, 12
 
-Painter = collections.namedtuple('Painter', 'kind source_kind source')
-Source = collections.namedtuple('Source', 'word name more')
+
+Record = typing.Tuple[int, ...]  # the fields of RECORD
+
+
+class Painter(typing.NamedTuple):
+    """What painted a pixel, without its number in the view: its kind, and the kind and number of what it read."""
+
+    kind: int
+    source_kind: int
+    source: int
+
+
+class Source(typing.NamedTuple):
+    """What a painter read: the word for it (texture, patch or lump), its name, and what more is known."""
+
+    word: str
+    name: str
+    more: str
 
 
 def count_views(path: str) -> int:
@@ -29,29 +48,11 @@ def count_views(path: str) -> int:
     return count_parts(path, VIEW_SIZE, 'name the whole of what doomview trace wrote')
 
 
-def record_at(path: str, view: int, x: int, y: int) -> tuple:
+def record_at(path: str, view: int, x: int, y: int) -> Record:
     """The record of a pixel of a view that the trace has."""
     with open(path, 'rb') as file:
         file.seek(RECORD.size * ((HEIGHT * view + y) * WIDTH + x))
         return RECORD.unpack(file.read(RECORD.size))
-
-
-def texture_lists(lumps: typing.Iterable[typing.Tuple[str, bytes]]) -> typing.List[typing.Tuple[str, typing.List[int]]]:
-    """The textures of both lists, in the order of their numbers: pairs of a name and the numbers of its patches."""
-    newest = dict(lumps)
-    found = []
-    for lump in (newest[name] for name in ('TEXTURE1', 'TEXTURE2') if name in newest):
-        count = int.from_bytes(lump[:4], 'little')
-        for offset in struct.unpack_from(f'<{count}I', lump, 4):
-            patches, = struct.unpack_from('<H', lump, offset + 20)
-            places = [offset + 22 + 10 * i for i in range(patches)]
-            found.append((clean(lump[offset:offset + 8]), [struct.unpack_from('<4xH', lump, it)[0] for it in places]))
-    return found
-
-
-def patch_names(lumps: typing.Iterable[typing.Tuple[str, bytes]]) -> typing.List[str]:
-    lump = dict(lumps).get('PNAMES', b'')
-    return [clean(name) for name, in struct.iter_unpack('<8s', lump[4:4 + len(lump[4:]) // 8 * 8])]
 
 
 class Names:
@@ -60,18 +61,24 @@ class Names:
     def __init__(self, wads: typing.Iterable[str]):
         lumps = [lump for wad in wads for lump in read(wad)]
         self.lumps = [lump.name for lump in lumps]
-        self.textures, self.with_patch = [], collections.defaultdict(list)
+        self.textures: typing.List[str] = []
+        self.with_patch: typing.Dict[str, typing.List[str]] = collections.defaultdict(list)
+        newest = dict(lumps)
         try:
-            patches = patch_names(lumps)
-            for name, numbers in texture_lists(lumps):
-                self.textures.append(name)
-                for patch in sorted({patches[it] for it in numbers if it < len(patches)}):
-                    self.with_patch[patch].append(name)
-        except struct.error as error:
+            self.add_textures(newest)
+        except WadError as error:
             raise Trouble('the lists of textures in the WADs are damaged; leave the WADs out') from error
-        self.palette, self.colormaps = dict(lumps).get('PLAYPAL', b'')[:768], dict(lumps).get('COLORMAP', b'')
-        if len(self.palette) < 768:
+        self.palette, self.colormaps = newest.get('PLAYPAL', b'')[:PALETTE_SIZE], newest.get('COLORMAP', b'')
+        if len(self.palette) < PALETTE_SIZE:
             self.palette = GREYS
+
+    def add_textures(self, lumps: typing.Dict[str, bytes]) -> None:
+        """Takes the textures of both lists, each with its patches."""
+        patches = patch_names(lumps)
+        for texture in textures_of(lumps):
+            self.textures.append(texture.name)
+            for patch in sorted({patches[number] for _, number in texture.patches if number < len(patches)}):
+                self.with_patch[patch].append(texture.name)
 
     def check(self, record: bytes, path: str) -> None:
         """A Trouble where a record names a lump or a texture that the WADs do not have, or a lump of another kind."""
@@ -93,14 +100,8 @@ class Names:
         """Of flats and pictures of sprites the numbers of the lumps that are none, where the WADs mark any."""
         found = {}
         for group, letter in (('flat', 'F'), ('picture of a sprite', 'S')):
-            marks = {f'{letter}_START': 1, f'{2 * letter}_START': 1, f'{letter}_END': 0, f'{2 * letter}_END': 0}
-            is_in, outside = 0, set()
-            for number, name in enumerate(self.lumps):
-                is_in = marks.get(name, is_in)
-                if not is_in:
-                    outside.add(number)
-            if len(outside) < len(self.lumps):
-                found[group] = outside
+            if starts(letter) & {*self.lumps}:
+                found[group] = {*range(len(self.lumps))} - {*between_marks(self.lumps, letter)}
         return found
 
     def source(self, painter: Painter) -> str:
@@ -129,7 +130,7 @@ class Names:
         return Source('lump', name, '')
 
 
-def told(record: tuple, names: Names) -> str:
+def told(record: Record, names: Names) -> str:
     """A record in words: painter, number, source and colour."""
     kind, source_kind, number, source, colour, _ = record
     word, thing = KINDS.get(kind, (f'kind {kind}', 'number'))
@@ -145,7 +146,7 @@ def told(record: tuple, names: Names) -> str:
     return ', '.join(parts + [f'colour {colour}'])
 
 
-def numbers_of(words: str) -> set:
+def numbers_of(words: str) -> typing.Set[int]:
     """The numbers of kinds of painters that words name, with commas between them; a Trouble where there is no such."""
     known = {word: kind for kind, (word, _) in KINDS.items()}
     wrong = [word for word in words.split(',') if word not in known]
@@ -170,7 +171,7 @@ def mask(records: bytes, kinds: typing.Collection[int], without: typing.Collecti
     return (int.from_bytes(found, 'big') & ~(sprites & numbers)).to_bytes(len(found), 'big')
 
 
-def check_records(records: bytes, places: list, ours: bytes, names: 'Names', path: str) -> None:
+def check_records(records: bytes, places: typing.List[int], ours: bytes, names: Names, path: str) -> None:
     """A Trouble where the records of a view are not those of doomview's frame, or not over these WADs."""
     for record in {records[RECORD.size * place:RECORD.size * place + RECORD.size] for place in places}:
         names.check(record, path)
@@ -182,9 +183,9 @@ def check_records(records: bytes, places: list, ours: bytes, names: 'Names', pat
                           f'{colour} and the frame {ours[place]}; name what doomview trace wrote for the same words')
 
 
-def pixels_of(records: bytes, places: list) -> dict:
+def pixels_of(records: bytes, places: typing.List[int]) -> typing.Dict[Painter, typing.Counter[int]]:
     """Of each painter of some places of a view how many pixels each of its numbers has."""
-    pixels = collections.defaultdict(collections.Counter)
+    pixels: typing.Dict[Painter, typing.Counter[int]] = collections.defaultdict(collections.Counter)
     for record, count in collections.Counter(records[8 * place:8 * place + 8] for place in places).items():
         kind, source_kind, number, source, _, _ = RECORD.unpack(record)
         pixels[Painter(kind, source_kind, source)][number] += count
@@ -195,7 +196,7 @@ def painters(records: bytes, places: typing.List[int], names: Names,
              place_of: typing.Optional[typing.Callable[[Painter, int], str]] = None) -> typing.Iterator[str]:
     """Lines on the painters of some places of a view: the most pixels first. `place_of` says of a painter and its
     number where in the map that is; then the lines under a painter have the pixels of each."""
-    for painter, numbers in sorted(pixels_of(records, places).items(), key=lambda it: -sum(it[1].values())):
+    for painter, numbers in sorted(pixels_of(records, places).items(), key=lambda pair: -sum(pair[1].values())):
         word, thing = KINDS.get(painter.kind, (f'kind {painter.kind}', 'number'))
         known = names.known(painter)
         more = f'patch {known.more}' if known.word == 'patch' else known.more
@@ -211,10 +212,11 @@ def some_of(numbers: typing.Iterable[int]) -> str:
     return ' '.join(map(str, some[:SHOWN_NUMBERS])) + (' ..' if len(some) > SHOWN_NUMBERS else '')
 
 
-def map_places(painter: Painter, numbers: collections.Counter,
+def map_places(painter: Painter, numbers: typing.Dict[int, int],
                place_of: typing.Callable[[Painter, int], str]) -> typing.Iterator[str]:
     """Lines on where in the map the pixels of a painter are: the most pixels first."""
-    found, having = collections.Counter(), collections.defaultdict(set)
+    found: typing.Counter[str] = collections.Counter()
+    having: typing.Dict[str, typing.Set[int]] = collections.defaultdict(set)
     for number, count in numbers.items():
         place = place_of(painter, number)
         found[place] += count

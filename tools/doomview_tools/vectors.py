@@ -1,7 +1,7 @@
 """Vectors: for viewpoints of a WAD's maps the sums of the frames that are right there (docs/VECTORS.md).
 
-A vector is a row of a file of the folder `vectors`. `made(wad, name)` makes those of a map, `read(path)` reads a file,
-`frames(..)` draws doomview's frames of some, and `known(..)` says what a port's frame at a vector is."""
+A vector is a row of a file of the folder `vectors`. `of_map(wad, name)` makes those of a map, `read(path)` reads a
+file, `frames(..)` draws doomview's frames of some, and `rule_of(..)` says what a port's frame at a vector is."""
 import collections
 import csv
 import hashlib
@@ -10,9 +10,11 @@ import itertools
 import math
 import os
 import tempfile
+import typing
 import zlib
 
 from . import levels, original, paths, weapons
+from .doom import EVERY_SKILL
 from .frames import SIZE
 from .trouble import Trouble
 
@@ -22,34 +24,64 @@ SETS = ['near', 'sizes', 'skills', 'light', 'weapons']
 MORE = ['E1M1', 'E2M4', 'E4M2', 'MAP01', 'MAP07', 'MAP19']  # the maps that have all sets
 SOME = 3  # places of each size and skill
 LIT = 16
-FAR, EVERY_SKILL = 1024, 7  # map units; the bits of a thing's options
+FAR = 1024  # map units
 SKILL, SIZE_OF_VIEW = 3, 11
-PISTOL = (weapons.raised('PISG'),)
-HELD = [PISTOL, (weapons.raised('PUNG'),), (weapons.raised('SHTG', 'B'),), (weapons.raised('PISG', 'B'),
-        weapons.raised('PISF', 'A', 1)), (weapons.raised('MISG', 'B'), weapons.raised('MISF', 'B', 1)),
+PISTOL = (weapons.raised_layer('PISG'),)
+HELD = [PISTOL, (weapons.raised_layer('PUNG'),), (weapons.raised_layer('SHTG', 'B'),),
+        (weapons.raised_layer('PISG', 'B'), weapons.raised_layer('PISF', 'A', 1)),
+        (weapons.raised_layer('MISG', 'B'), weapons.raised_layer('MISF', 'B', 1)),
         (weapons.Layer('CHGG', 'A', 0, -700000, 40 * weapons.UNIT + 12345),)]
 WADS, WADS_HEAD = 'wads.csv', 'vectors,wad,version,sha256'  # beside the vectors: which WADs they are of
 NONE = '-'  # the sum where a run ends without the frame
 
-Vector = collections.namedtuple('Vector', 'set map view skill size weapon x y z angle extralight colormap frame packed '
-                                'answer original bands packedbands', defaults=('',))
-Group = collections.namedtuple('Group', 'set skill size layers rows')  # views of one run
+
+class Vector(typing.NamedTuple):
+    """A vector: a row of a file, whose columns have these names."""
+
+    set: str
+    map: str
+    view: int
+    skill: int
+    size: int
+    weapon: str
+    x: int
+    y: int
+    z: int
+    angle: int
+    extralight: int
+    colormap: int
+    frame: str
+    packed: str
+    answer: str
+    original: str
+    bands: str
+    packedbands: str = ''
 
 
-def is_before(row, thing):
+class Group(typing.NamedTuple):
+    """Views of one run: of a set, with one skill, size and weapon."""
+
+    set: str
+    skill: int
+    size: int
+    layers: typing.Tuple[weapons.Layer, ...]
+    rows: typing.List[paths.Row]
+
+
+def is_before(row: paths.Row, thing: levels.Thing) -> bool:
     """Whether a thing is less than FAR before an eye, and within 45 degrees of where it looks."""
     x, y = thing.x - row.x / levels.UNIT, thing.y - row.y / levels.UNIT
     off = math.atan2(y, x) - row.angle * 2 * math.pi / levels.TURN
     return math.hypot(x, y) < FAR and math.cos(off) > math.sqrt(0.5)
 
 
-def by_skill(level, rows):
+def by_skill(level: levels.Level, rows: typing.List[paths.Row]) -> typing.List[paths.Row]:
     """The rows in whose sight the most things are that not every skill has."""
     some = [thing for thing in level.things if 0 < thing.options & EVERY_SKILL < EVERY_SKILL]
     return sorted(rows, key=lambda row: -sum(is_before(row, thing) for thing in some))[:SOME]
 
 
-def groups(level, rows):
+def groups(level: levels.Level, rows: typing.List[paths.Row]) -> typing.Iterator[Group]:
     """The runs of a map: rows at which one can stand, and of some maps all sets."""
     yield Group('near', SKILL, SIZE_OF_VIEW, (), rows)
     if level.name not in MORE:
@@ -65,28 +97,28 @@ def groups(level, rows):
         yield Group('weapons', SKILL, SIZE_OF_VIEW, layers, rows[i:i + 2])
 
 
-def sum_of(frame):
+def sum_of(frame: bytes) -> str:
     return hashlib.sha256(frame).hexdigest()[:DIGITS] if frame else NONE
 
 
-def bands_of(frame):
+def bands_of(frame: bytes) -> str:
     """Short sums of the bands of a frame, which say where another one differs."""
     step = SIZE // BANDS
     sums = (zlib.crc32(frame[step * i:step * (i + 1)]) for i in range(BANDS))
-    return ''.join(f'{it:08x}'[-BAND_DIGITS:] for it in sums) if frame else NONE
+    return ''.join(f'{number:08x}'[-BAND_DIGITS:] for number in sums) if frame else NONE
 
 
-def words_of(group):
+def words_of(group: Group) -> typing.Tuple[typing.List[str], typing.List[str]]:
     """The words of a run for doomview and for the original."""
     skill, size = str(group.skill), str(group.size)
     return ['--skill', skill, '--size', size], ['-skill', skill, '-size', size]
 
 
-def run_of(folder, wad, name, group, spans='full'):
+def run_of(folder: str, wad: str, name: str, group: Group, spans: str = 'full') -> original.Run:
     return original.Run(folder, wad, name, group.rows, *words_of(group), group.layers, spans)
 
 
-def vectors_of(run, group, first):
+def vectors_of(run: original.Run, group: Group, first: int) -> typing.Iterator[Vector]:
     """The vectors of a run, numbered from `first` on."""
     answer = run.compare()
     packed, ended = run.still(list(range(len(group.rows))), 'still', original.PACKED)
@@ -99,9 +131,10 @@ def vectors_of(run, group, first):
                      bands_of(ours), bands_of(dos))
 
 
-def made(wad, name, places=PLACES):
+def of_map(wad: str, name: str, places: int = PLACES) -> typing.List[Vector]:
     """The vectors of a map, drawn by doomview and by the original."""
-    counts, found = collections.Counter(), []
+    counts: typing.Counter[str] = collections.Counter()
+    found: typing.List[Vector] = []
     level = levels.read([wad], name)
     for group in groups(level, paths.places(level, places, SEED)):
         with tempfile.TemporaryDirectory(prefix='doomview-') as folder:
@@ -110,7 +143,7 @@ def made(wad, name, places=PLACES):
     return found
 
 
-def text(vectors):
+def text(vectors: typing.Iterable[Vector]) -> str:
     """The text of a file of vectors."""
     out = io.StringIO()
     table = csv.writer(out, lineterminator='\n')
@@ -132,20 +165,22 @@ def wads_text(folder: str, name: str, wad: str) -> str:
     return '\n'.join([WADS_HEAD, *kept, own]) + '\n'
 
 
-def vector_of(record):
+def vector_of(record: typing.Dict[str, str]) -> Vector:
     """The vector of a row of a file, by the names of its columns."""
     texts = ('set', 'map', 'weapon', 'frame', 'packed', 'answer', 'original', 'bands', 'packedbands')
     record = {**Vector._field_defaults, **record}
-    return Vector(**{name: record[name] if name in texts else int(record[name]) for name in Vector._fields})
+    fields: typing.Dict[str, typing.Any] = {name: record[name] if name in texts else int(record[name])
+                                            for name in Vector._fields}
+    return Vector(**fields)
 
 
-def read(path):
+def read(path: str) -> typing.List[Vector]:
     """The vectors of a file."""
     try:
         with open(path, newline='', encoding='utf-8') as file:
             found = [vector_of(record) for record in csv.DictReader(file)]
     except OSError as error:
-        raise Trouble(f'cannot read {path}: {error.strerror}')
+        raise Trouble(f'cannot read {path}: {error.strerror}') from error
     except (ValueError, KeyError, TypeError, csv.Error):
         found = []
     if not found:
@@ -153,44 +188,44 @@ def read(path):
     return found
 
 
-def row_of(vector):
+def row_of(vector: Vector) -> paths.Row:
     return paths.Row(*(getattr(vector, name) for name in paths.Row._fields))
 
 
-def file_name(map_name, kind):
+def file_name(map_name: str, kind: str) -> str:
     """The name of the file of a port's frames of a map and a set."""
     return map_name + ('' if kind == SETS[0] else f'-{kind}') + '.bin'
 
 
-def key_of(vector):
+def key_of(vector: Vector) -> typing.Tuple[str, int, int, typing.Tuple[weapons.Layer, ...]]:
     """What the vectors of one run have in common."""
     return vector.set, vector.skill, vector.size, weapons.of_word(vector.weapon)
 
 
-def frames(wad: str, vectors: list, spans: str = 'full') -> bytes:
+def frames(wad: str, vectors: typing.Iterable[Vector], spans: str = 'full') -> bytes:
     """doomview's frames of vectors of one map and set, one after the other, with full or packed spans; zeros for a view
     that a run would end."""
     drawn = []
     for key, part in itertools.groupby(vectors, key_of):
-        part = list(part)
+        of_run = list(part)
         with tempfile.TemporaryDirectory(prefix='doomview-') as folder:
-            run = run_of(folder, os.path.abspath(wad), part[0].map, Group(*key, [row_of(row) for row in part]),
+            run = run_of(folder, os.path.abspath(wad), of_run[0].map, Group(*key, [row_of(row) for row in of_run]),
                          spans)
-            run.draw({i for i, vector in enumerate(part) if vector.frame == NONE})
-            drawn += [run.ours.get(i, bytes(SIZE)) for i in range(len(part))]
+            run.draw({i for i, vector in enumerate(of_run) if vector.frame == NONE})
+            drawn += [run.ours.get(i, bytes(SIZE)) for i in range(len(of_run))]
     return b''.join(drawn)
 
 
-def of_frames(path, frames_path):
+def of_frames(path: str, frames_path: str) -> typing.List[Vector]:
     """The vectors of a file of frames, by its name: MAP01.bin, or MAP01-sizes.bin."""
     name = os.path.basename(frames_path)
-    found = [it for it in read(path) if file_name(it.map, it.set) == name]
+    found = [vector for vector in read(path) if file_name(vector.map, vector.set) == name]
     if not found:
         raise Trouble(f'{path} has no vectors of {name}; a file of frames is named as its map, such as MAP01.bin')
     return found
 
 
-def known(vector: Vector, ours: bytes, frame: bytes) -> str:
+def rule_of(vector: Vector, ours: bytes, frame: bytes) -> str:
     """In a word or two what a port's frame that is not doomview's is at a vector, or an empty text. What is the
     original's in the spans of doomview's frame comes first."""
     original_one = f"the original's frame ({vector.answer})" if vector.answer != 'same' else 'packed spans'

@@ -2,26 +2,31 @@
 
 docs/FORMATS.md has the rules: small letters count as capitals, the last lump of a name counts, and so does the last
 label of a map; a map with a BEHAVIOR is of another format and is left out."""
-import collections
 import os
 import re
 import struct
+import typing
 
 from . import system
+from .doom import MAP_LUMPS
 from .files import check_source
 from .trouble import Trouble, WadError
 
-MAP_LUMPS = ['THINGS', 'LINEDEFS', 'SIDEDEFS', 'VERTEXES', 'SEGS', 'SSECTORS', 'NODES', 'SECTORS']
 FOLDERS = ['/usr/local/share/games/doom', '/usr/share/games/doom', '/usr/local/share/doom', '/usr/share/doom',
            '/usr/share/games/freedoom']  # of the packages of Linux
 BEHIND_MAP = 12  # a label, its eight lumps, REJECT, BLOCKMAP and BEHAVIOR
 
 PACKED = {b'PK': 'a zip, as a PK3 is', b'7z\xbc\xaf': 'a 7z file, as a PK7 is', b'\x1f\x8b': 'a gzip file'}
 
-Lump = collections.namedtuple('Lump', 'name data')
+
+class Lump(typing.NamedTuple):
+    """A lump of a WAD."""
+
+    name: str
+    data: bytes
 
 
-def folders():
+def folders() -> typing.List[str]:
     """The folders in which ports look for a WAD, the first first."""
     data = os.environ.get('XDG_DATA_HOME') or os.path.join(os.path.expanduser('~'), '.local', 'share')
     named = os.environ.get('DOOMWADPATH', '').split(os.pathsep)
@@ -29,7 +34,7 @@ def folders():
     return [folder for folder in found if folder]
 
 
-def find_or_none(name):
+def find_or_none(name: str) -> typing.Optional[str]:
     """The WAD of a name where ports look for it, or None: as it is named, and then in each of the folders, there also
     in small letters and without `.wad`. A name with a folder in it is a path."""
     if system.has_folder(name) or os.path.lexists(name):
@@ -43,20 +48,20 @@ def find_or_none(name):
     return None
 
 
-def not_found(name):
+def not_found(name: str) -> str:
     return f'there is no WAD {name} here, in DOOMWADDIR, in DOOMWADPATH or in /usr/share/games/doom; name its path'
 
 
-def find(name):
+def find(name: str) -> str:
     """The WAD of a name; a Trouble where there is none."""
     found = find_or_none(name)
     if found is None and not system.has_folder(name):
         raise Trouble(not_found(name))
     check_source(found or name)
-    return found
+    return found or name
 
 
-def with_base(name, base=None, files=()):
+def with_base(name: str, base: typing.Optional[str] = None, files: typing.Iterable[str] = ()) -> typing.List[str]:
     """The WAD of a name, before it some files, and before these the WAD that it needs: `base`, or else that of the
     variable IWAD. An IWAD comes before the files, if no other is named."""
     base, own, files = base or os.environ.get('IWAD'), find(name), [find(file) for file in files]
@@ -65,7 +70,7 @@ def with_base(name, base=None, files=()):
     return [own, *files] if kind_of(own) == b'IWAD' else [*files, own]
 
 
-def kind_of(path):
+def kind_of(path: str) -> bytes:
     """The first four bytes of a file; none where it cannot be read."""
     try:
         with open(path, 'rb') as file:
@@ -74,14 +79,14 @@ def kind_of(path):
         return b''
 
 
-def check_game(files):
+def check_game(files: typing.List[str]) -> None:
     """A Trouble where some WADs are a PWAD without the WAD of a game."""
     if kind_of(files[0]) == b'PWAD' and not any(lump.name == 'PLAYPAL' for file in files for lump in read(file)):
         raise Trouble(f'{files[-1]} is a PWAD, and needs the WAD of its game; name that by --iwad, as in --iwad '
                       'freedoom2.wad')
 
 
-def check_own(name, place, files, own, more):
+def check_own(name: str, place: str, files: typing.List[str], own: str, more: typing.Iterable[str]) -> None:
     """A Trouble where a map is that of the IWAD, while other WADs are named for it: `place` is the WAD of the map, and
     `own` the WAD of the call."""
     if place != own and place == files[0] and place not in map(find, more):
@@ -90,38 +95,38 @@ def check_own(name, place, files, own, more):
                       f'{own}, and {own} by --file')
 
 
-def clean(name):
+def clean(name: bytes) -> str:
     """A name of eight bytes as text."""
     return name.split(b'\0')[0].upper().decode('latin-1')
 
 
-def read(path):
+def read(path: str) -> typing.List[Lump]:
     """The lumps of a WAD, in the order of its directory."""
     try:
         with open(path, 'rb') as file:
             data = file.read()
     except OSError as error:
-        raise WadError(f'{path}: {error.strerror}')
+        raise WadError(f'{path}: {error.strerror}') from error
     if data[:4] not in (b'IWAD', b'PWAD'):
         raise WadError(f'{path} is {packed_as(data)}' if packed_as(data) else f'{path} is no WAD')
     try:
         count, directory = struct.unpack_from('<II', data, 4)
         entries = [struct.unpack_from('<II8s', data, directory + 16 * i) for i in range(count)]
-    except struct.error:
-        raise WadError(f'{path} is cut short')
+    except struct.error as error:
+        raise WadError(f'{path} is cut short') from error
     for offset, size, name in entries:
         if size and offset + size > len(data):
             raise WadError(f'{path} is cut short: it ends before its lump {clean(name)} does')
     return [Lump(clean(name), data[offset:offset + size]) for offset, size, name in entries]
 
 
-def packed_as(data):
+def packed_as(data: bytes) -> str:
     """What a file is that packs others, in words, with what to do; nothing for another one."""
     kind = next((kind for head, kind in PACKED.items() if data.startswith(head)), '')
     return f'{kind}; unpack it, and name the WAD in it' if kind else ''
 
 
-def packed(lumps, kind=b'IWAD'):
+def packed(lumps: typing.Iterable[typing.Tuple[str, bytes]], kind: bytes = b'IWAD') -> bytes:
     """The bytes of a WAD with these lumps, pairs of name and bytes."""
     bodies, entries = [], []
     at = 12
@@ -132,7 +137,7 @@ def packed(lumps, kind=b'IWAD'):
     return kind + struct.pack('<II', len(entries), at) + b''.join(bodies + entries)
 
 
-def map_labels(lumps):
+def map_labels(lumps: typing.Iterable[typing.Tuple[str, bytes]]) -> typing.Dict[str, int]:
     """The place of each map's label, by name."""
     names = [name for name, _ in lumps]
     labels = {name: place for place, name in enumerate(names)}
@@ -140,12 +145,12 @@ def map_labels(lumps):
             if names[place + 1:place + 9] == MAP_LUMPS and names[place + 11:place + BEHIND_MAP] != ['BEHAVIOR']}
 
 
-def map_names(lumps):
+def map_names(lumps: typing.Iterable[typing.Tuple[str, bytes]]) -> typing.List[str]:
     """The names of the maps that can be names of files: A to Z, 0 to 9 and _."""
     return sorted(name for name in map_labels(lumps) if re.fullmatch('[A-Z0-9_]+', name))
 
 
-def maps_of(wads):
+def maps_of(wads: typing.Sequence[str]) -> typing.List[str]:
     """The names of the maps of the last of some WADs; a Trouble where it has none."""
     names = map_names(read(wads[-1]))
     if not names:

@@ -6,11 +6,12 @@ import os
 import struct
 import typing
 
-from . import list_counts, paths, program
+from . import levels, list_counts, paths, program
 from .counting import RAISED
+from .doom import MAP_LUMPS, SKY
 from .files import write_whole
-from .ground import SECTOR, SKY
-from .wads import MAP_LUMPS, packed
+from .ground import SECTOR
+from .wads import packed
 
 FIELDS = {'light': 'light', 'floor_flat': 'floor flat', 'ceiling_flat': 'ceiling flat', 'floor': 'floor height',
           'ceiling': 'ceiling height'}
@@ -19,13 +20,16 @@ GOALS = 2  # values to which a value is changed
 MOST_DRAWN = 40
 
 
+Words = typing.Tuple[typing.List[str], typing.List[str]]  # of `list`, up to the last WAD, and the rest
+
+
 class Change(typing.NamedTuple):
     """A value of a field that some sectors get; `before` is what they had, or None for several values."""
 
     field: str
     before: object
-    after: object
-    sectors: tuple
+    after: typing.Any  # a number, or the name of a flat
+    sectors: typing.Tuple[int, ...]
 
     def told(self, sectors: str) -> str:
         """The change in words."""
@@ -37,10 +41,13 @@ class Result(typing.NamedTuple):
     """What a view counts after a change."""
 
     change: Change
-    counts: dict
+    counts: typing.Dict[str, int]
 
 
-def with_change(level, change: Change) -> bytes:
+Weighed = typing.Tuple[int, Change]  # a change with the planes that its sectors made
+
+
+def with_change(level: levels.Level, change: Change) -> bytes:
     """The bytes of a PWAD of a level alone, with a change."""
     lumps, data = dict(level.lumps), bytearray(level.lumps['SECTORS'])
     for number in change.sectors:
@@ -51,13 +58,13 @@ def with_change(level, change: Change) -> bytes:
     return packed([(level.name, b'')] + [(name, lumps[name]) for name in MAP_LUMPS], b'PWAD')
 
 
-def changes(level, planes_of: dict) -> list:
+def changes(level: levels.Level, planes_of: typing.Dict[int, int]) -> typing.List[Change]:
     """The changes that may save most, by how many planes of a view each sector made: the most first."""
     found = [change for field in FIELDS for change in changes_of(level, planes_of, field)]
     return [change for _, change in sorted(found, key=lambda pair: -pair[0])[:MOST_DRAWN]]
 
 
-def changes_of(level, planes_of, field):
+def changes_of(level: levels.Level, planes_of: typing.Dict[int, int], field: str) -> typing.Iterator[Weighed]:
     """The changes of a field, each with the planes that its sectors made."""
     having = collections.defaultdict(list)
     for number in planes_of:
@@ -66,14 +73,14 @@ def changes_of(level, planes_of, field):
                                    for value, numbers in having.items() if value != SKY})
     for value, weight in weights.items():
         for goal in goals_of(weights, field, value):
-            yield from weighed(level, Change(field, value, goal, tuple(having[value])), weight)
+            yield from with_weight(level, Change(field, value, goal, tuple(having[value])), weight)
     most = weights.most_common(1)[0][0] if weights else None
     rest = tuple(number for value in weights if value != most for number in having[value])
     if rest and field not in HEIGHTS:
-        yield from weighed(level, Change(field, None, most, rest), sum(weights.values()))
+        yield from with_weight(level, Change(field, None, most, rest), sum(weights.values()))
 
 
-def goals_of(weights, field, value):
+def goals_of(weights: collections.Counter, field: str, value: typing.Any) -> list:
     """The values to which a value of a field may be changed: the nearest heights and lights, the flats of most planes;
     and the light of most."""
     others = [other for other, _ in weights.most_common() if other != value]
@@ -83,20 +90,21 @@ def goals_of(weights, field, value):
     return near if field in HEIGHTS else list(dict.fromkeys([*near, *others[:1]]))
 
 
-def has_room(sector, change) -> bool:
+def has_room(sector: levels.Sector, change: Change) -> bool:
     """Whether the floor of a sector stays below its ceiling by a change, or is not below it now."""
     changed = sector._replace(**{change.field: change.after})
     return changed.ceiling > changed.floor or sector.ceiling <= sector.floor
 
 
-def weighed(level, change, weight):
+def with_weight(level: levels.Level, change: Change, weight: int) -> typing.Iterator[Weighed]:
     """A change with its weight, of the sectors whose floor stays below their ceiling; none if there are none."""
     sectors = tuple(number for number in change.sectors if has_room(level.sectors[number], change))
     if sectors:
         yield weight, change._replace(sectors=sectors)
 
 
-def count_with(words, level, row, change, folder):
+def count_with(words: Words, level: levels.Level, row: paths.Row, change: Change,
+               folder: str) -> typing.Optional[typing.Dict[str, int]]:
     """The counts of a view after a change; `words` are those of `list` without its path, up to the last WAD, and the
     rest."""
     before, behind = words
@@ -107,8 +115,9 @@ def count_with(words, level, row, change, folder):
     return next(list_counts.counts_of(done.output), None) if not done.status else None
 
 
-def results(words, level, row, planes_of, folder, by='planes') -> list:
+def results(words: Words, level: levels.Level, row: paths.Row, planes_of: typing.Dict[int, int], folder: str,
+            by: str = 'planes') -> typing.List[Result]:
     """What a view counts after each change that saves something, the greatest saving of a count first."""
-    found = [Result(change, count_with(words, level, row, change, folder)) for change in changes(level, planes_of)]
-    return sorted((result for result in found if result.counts and by in result.counts),
-                  key=lambda result: (result.counts[by], len(result.change.sectors)))
+    counted = ((change, count_with(words, level, row, change, folder)) for change in changes(level, planes_of))
+    found = [Result(change, counts) for change, counts in counted if counts and by in counts]
+    return sorted(found, key=lambda result: (result.counts[by], len(result.change.sectors)))

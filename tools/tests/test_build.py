@@ -381,7 +381,7 @@ class Plan(unittest.TestCase):
         self.assertAlmostEqual(plan.pace({'a': 120, 'b': 12000}, planned), 2, 1)
 
     def test_rounded(self):
-        self.assertEqual([plan.rounded(seconds) for seconds in (0, 29, 31, 89, 91, 1800)],
+        self.assertEqual([plan.words_of(seconds) for seconds in (0, 29, 31, 89, 91, 1800)],
                          ['less than a minute'] * 2 + ['about 1 minute'] * 2 + ['about 2 minutes', 'about 30 minutes'])
 
 

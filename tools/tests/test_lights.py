@@ -117,7 +117,7 @@ class OtherLights(Tools):
         both, found = (drawn(), drawn(144)), []
         places = [place for place in range(FRAME) if both[0][place] != both[1][place]]
         for light in (160, 150):
-            told = lights.Lights(colormaps()).told(trace_of(both[0]), places, both,
+            told = lights.Lights(colormaps()).lines(trace_of(both[0]), places, both,
                                                    lambda kind, number: 160 if kind == PLANE[0] else light)
             found += [line.partition(': ')[0] for line in told]
         self.assertEqual(found, ['  darker   as under light 144 in the place of 160', '  darker   as under a light of 16 less'])

@@ -123,12 +123,12 @@ class Made(Tools):
     def test_known(self):
         """What is the original's in the spans of doomview's frame comes first."""
         found = vector(0, frame(1), frame(2), 'memory', frame(3))
-        self.assertEqual([vectors.known(found, frame(1), frame(colour)) for colour in (2, 3, 4)],
+        self.assertEqual([vectors.rule_of(found, frame(1), frame(colour)) for colour in (2, 3, 4)],
                          ['packed spans', "the original's frame (memory)", ''])
-        self.assertEqual([vectors.known(found, frame(9), frame(colour)) for colour in (1, 2, 3, 4)],
+        self.assertEqual([vectors.rule_of(found, frame(9), frame(colour)) for colour in (1, 2, 3, 4)],
                          ['full spans', "the original's frame (memory)", 'full spans', ''])
         same = vector(0, frame(1), frame(1), 'mark', frame(1))
-        self.assertEqual(vectors.known(same, frame(1), frame(1)), "the original's frame (mark)")
+        self.assertEqual(vectors.rule_of(same, frame(1), frame(1)), "the original's frame (mark)")
 
 
 class Compare(Tools):

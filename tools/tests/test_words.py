@@ -70,7 +70,7 @@ class Why(Tools):
         self.assertEqual(said[0], 'explain: render takes no --pth; did you mean --path?')
         self.refuses('unrecognized arguments: --trcae x; did you mean --trace?; doomview compare --help', 'compare', 'a',
                      'b', '--trcae', 'x')
-        self.assertEqual(jobs.meant('--skil', jobs.options()), '; did you mean --skill?')
+        self.assertEqual(jobs.guess('--skil', jobs.options()), '; did you mean --skill?')
 
     def test_not_built(self):
         """Where nothing is built an unknown word builds nothing, and is answered too."""

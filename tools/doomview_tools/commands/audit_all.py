@@ -1,12 +1,13 @@
 """doomview audit-all: every map of a WAD."""
+import argparse
 import os
 import tempfile
 
 from .. import cli, paths, program, wads
 from ..files import write_whole
+from ..trouble import FOUND
 
 WITHOUT = ('--tables', '--things', '--path')
-REFUSED = 1
 PAGE = cli.Page(
     'audit-all', 'audits every map of a WAD, a line for each', '''
 Audits every map of a WAD and prints a line for each: the map's name and doomview's answer, accepted or why not.
@@ -23,13 +24,13 @@ $ doomview audit-all --iwad freedoom2.wad mymaps.wad --skill 4
 ''')
 
 
-def add_words(parser):
+def add_words(parser: argparse.ArgumentParser) -> None:
     parser.add_argument('wad', metavar='WAD', help=cli.WAD)
     cli.add_base(parser)
     cli.add_job_options(parser, 'audit', WITHOUT)
 
 
-def run(options):
+def run(options: argparse.Namespace) -> int:
     files = cli.wads_of(options)
     wads.check_game(files)
     names = wads.maps_of([wads.find(options.wad)])
@@ -41,5 +42,5 @@ def run(options):
         for name in names:
             done = program.run(['audit', name, *files, '--path', path, *cli.job_words(options)])
             print(name, done.output.decode().strip() or done.line or f'status {done.status}', flush=True)
-            status = REFUSED if done.status else status
+            status = FOUND if done.status else status
     return status

@@ -10,10 +10,9 @@ from .. import cli, diagnoses, frame_files, frames, lights, lists, png, traces, 
 from ..compare_page import ComparePage
 from ..files import check_target, write_whole
 from ..frames import HEIGHT, SIZE, WIDTH
-from ..trouble import Trouble
+from ..trouble import FOUND, Trouble
 
 RED = b'\xff\x00\x00'
-DIFFERENT = 1
 MOST_PAINTERS = 5  # that are named because they differ in every view
 Both = typing.Tuple[bytes, bytes]  # doomview's frame of a view, and the port's
 PlaceOf = typing.Callable[[traces.Painter, int], str]
@@ -86,7 +85,7 @@ def add_words(parser: argparse.ArgumentParser) -> None:
                         help='lists N views that differ, and counts the others')
 
 
-def told(view: int, ours: bytes, port: bytes, places: typing.List[int]) -> str:
+def line_of(view: int, ours: bytes, port: bytes, places: typing.List[int]) -> str:
     """The line on a view that differs."""
     rows, columns = [place // WIDTH for place in places], [place % WIDTH for place in places]
     first = places[0]
@@ -94,17 +93,17 @@ def told(view: int, ours: bytes, port: bytes, places: typing.List[int]) -> str:
             f'{max(columns)} first at row {rows[0]} column {columns[0]}: {ours[first]}, port {port[first]}')
 
 
-def marked(frame: bytes, palette: bytes, places: typing.List[int]) -> bytearray:
+def marked_frame(frame: bytes, palette: bytes, places: typing.List[int]) -> bytearray:
     """The frame in dark greys, with the places in red."""
     greys = bytes(sum(palette[3 * i:3 * i + 3]) // 6 for i in range(256))
-    rgb = frames.coloured(frame, bytes(shade for shade in greys for _ in 'rgb'))
+    rgb = frames.rgb_of(frame, bytes(shade for shade in greys for _ in 'rgb'))
     for place in places:
         rgb[3 * place:3 * place + 3] = RED
     return rgb
 
 
 def put_picture(folder: str, view: int, both: Both, places: typing.List[int], palette: bytes) -> None:
-    pictures = [*(frames.coloured(frame, palette) for frame in both), marked(both[0], palette, places)]
+    pictures = [*(frames.rgb_of(frame, palette) for frame in both), marked_frame(both[0], palette, places)]
     path = os.path.join(folder, f'view{view:05}.png')
     png.write_png(path, WIDTH * len(pictures), HEIGHT, frames.beside(pictures))
 
@@ -123,7 +122,7 @@ def kinds_of(options: argparse.Namespace) -> typing.Optional[typing.Set[int]]:
     return named if options.only else {*traces.KINDS} - named
 
 
-def mixed(ours: bytes, port: bytes, mask: bytes) -> bytes:
+def mixed_frame(ours: bytes, port: bytes, mask: bytes) -> bytes:
     """The port's frame, with doomview's pixels where a mask is 0."""
     if not mask:
         return port
@@ -165,8 +164,8 @@ class Summary:
     def of_every_view(self) -> typing.Iterator[str]:
         """Lines on the painters that differ in every view."""
         whole = len(self.numbers)
-        found = [it for it in self.painters.items() if it[1]['views'] == whole] if whole > 1 else []
-        for painter, counts in sorted(found, key=lambda it: -it[1]['pixels'])[:MOST_PAINTERS]:
+        found = [pair for pair in self.painters.items() if pair[1]['views'] == whole] if whole > 1 else []
+        for painter, counts in sorted(found, key=lambda pair: -pair[1]['pixels'])[:MOST_PAINTERS]:
             word, name = traces.KINDS.get(painter.kind, ('nothing',))[0], self.comparison.names.known(painter).name
             yield f'in each of these {whole} views: {word} {name}, {counts["pixels"]} pixels'
 
@@ -176,7 +175,7 @@ class Summary:
         mistakes = diagnoses.whole_frames(self.case()) if self.comparison.kinds is None else []
         yield from mistakes
         if not mistakes:
-            yield from self.everywhere.told(count)
+            yield from self.everywhere.sentences(count)
             yield from self.of_every_view()
 
 
@@ -231,9 +230,9 @@ class Comparison:
         places = frames.differing(ours, port, mask)
         self.different += 1
         self.pixels += len(places)
-        known = vectors.known(self.known[view], ours, port) if view < len(self.known) else ''
-        line = told(view, ours, port, places) + (f'; {known}' if known else '')
-        place_of, shown = self.place_of(view), mixed(ours, port, mask)
+        known = vectors.rule_of(self.known[view], ours, port) if view < len(self.known) else ''
+        line = line_of(view, ours, port, places) + (f'; {known}' if known else '')
+        place_of, shown = self.place_of(view), mixed_frame(ours, port, mask)
         if self.different <= self.options.most:
             print(*[line, *(self.of_painters(view, (ours, port), places, trace) if trace else [])], sep='\n')
             if self.options.png:
@@ -245,9 +244,9 @@ class Comparison:
         """Lines on what doomview painted where a view differs, and on what differs by its light alone."""
         known = [functools.partial(self.placing.places.light, self.placing.view(view))] if self.placing else []
         return [*traces.painters(trace, places, self.names, self.place_of(view)),
-                *self.lights.told(trace, places, both, *known)]
+                *self.lights.lines(trace, places, both, *known)]
 
-    def counted(self, pixels: int) -> str:
+    def count_line(self, pixels: int) -> str:
         """A line on the pixels that count, where not all do."""
         words = ', '.join(word for kind, (word, _) in traces.KINDS.items() if kind in (self.kinds or traces.KINDS))
         least = self.options.least_width
@@ -261,18 +260,18 @@ class Comparison:
         for line in [*sentences, *(summary.lines() if summary.numbers else [])]:
             print(line)
         if self.kinds is not None:
-            print(self.counted(summary.counted))
+            print(self.count_line(summary.counted))
         for view in summary.numbers:
             self.take(view, *self.view(view))
         both = min(self.counts)
         last = f'views {both} same {both - self.different} different {self.different} pixels {self.pixels}'
         print(last)
-        for sentence in self.port.told():
+        for sentence in self.port.sentences():
             print(sentence)
         if self.options.html:
             head = f'{self.options.ours} and {self.options.port}: {last}'
             if self.kinds is not None:
-                head += f'; {self.counted(summary.counted)}, elsewhere the port is shown with the pixels of ours'
+                head += f'; {self.count_line(summary.counted)}, elsewhere the port is shown with the pixels of ours'
             write_whole(self.options.html, self.page.page(head))
         if self.counts[0] != self.counts[1]:
             print(f'{self.options.ours} has {self.counts[0]} views, {self.options.port} {self.counts[1]}')
@@ -280,4 +279,4 @@ class Comparison:
 
 
 def run(options: argparse.Namespace) -> int:
-    return DIFFERENT if Comparison(options).run() else 0
+    return FOUND if Comparison(options).run() else 0

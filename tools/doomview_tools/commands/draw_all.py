@@ -9,9 +9,8 @@ import sys
 import typing
 
 from .. import cli, home, program, system, wads
-from ..trouble import Trouble
+from ..trouble import FOUND, Trouble
 
-FAILED = 1
 WITHOUT = ('--tables', '--things', '--path', '--format')
 PAGE = cli.Page(
     'draw-all', 'draws every map of a WAD, several at a time', '''
@@ -85,4 +84,4 @@ def run(options: argparse.Namespace) -> int:
     except OSError as error:
         raise Trouble(f'cannot make the folder {options.folder}: {error.strerror}') from error
     failed = draw_there(commands, options) if options.machines else draw_here(commands, options.jobs)
-    return FAILED if failed else 0
+    return FOUND if failed else 0

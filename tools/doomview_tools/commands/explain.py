@@ -24,7 +24,7 @@ $ doomview explain 'doomview: refused 604 2 7 5'
 ''', ('WORDS OF DOOMVIEW..', "'doomview: LINE'", '--said FILE WORDS OF DOOMVIEW..', '--file WAD WORDS OF DOOMVIEW..'))
 
 
-def add_words(parser):
+def add_words(parser: argparse.ArgumentParser) -> None:
     parser.add_argument('--said', metavar='FILE', help='what a run of the words said, on standard error')
     parser.add_argument('--file', metavar='WAD', action='append', default=[], help='a WAD more behind those of the job, '
                         'as often as wanted')
@@ -32,15 +32,15 @@ def add_words(parser):
                         help='the words of a job, or a line of doomview')
 
 
-def last_line(path):
+def last_line(path: str) -> str:
     try:
         with open(path, errors='replace') as file:
             return (file.read().splitlines() or [''])[-1]
     except OSError as error:
-        raise Trouble(f'cannot read {path}: {error.strerror}')
+        raise Trouble(f'cannot read {path}: {error.strerror}') from error
 
 
-def run(options):
+def run(options: argparse.Namespace) -> int:
     if not options.words:
         raise Trouble('it needs the words of a job, or a line of doomview; doomview explain --help has examples')
     options.words += options.file

@@ -1,16 +1,17 @@
 """doomview lint: all that looks like a mistake in a map."""
+import argparse
 import os
 import re
 import sys
 import tempfile
+import typing
 
 from .. import checks, cli, explanations, paths, program, wads
 from ..files import write_output, write_whole
-from ..findings import COUNTED, GRADES
+from ..findings import COUNTED, GRADES, Finding
 from ..refusals import CHECKS
-from ..trouble import Trouble
+from ..trouble import FOUND, TROUBLE, Trouble
 
-FOUND, REFUSED = 1, 2
 PAGE = cli.Page(
     'lint', 'all that looks like a mistake in a map, or how much in each map of a WAD', '''
 Prints a line for each thing in a map that looks like a mistake: how grave it is, what it is about, where, and a
@@ -47,22 +48,22 @@ $ doomview lint --iwad freedoom2.wad --file textures.wad mymaps.wad
 ''', more='MAPS.md')
 
 
-def add_words(parser):
+def add_words(parser: argparse.ArgumentParser) -> None:
     cli.add_level(parser, is_needed=False)
     parser.add_argument('--strict', action='store_true', help='what is odd counts for the status too')
 
 
-def line_of(finding):
+def line_of(finding: Finding) -> str:
     """The line on a finding."""
     return f'{finding.grade} {finding.what}: {finding.where}: {finding.told}'
 
 
-def status_of(found, is_strict=False):
+def status_of(found: typing.Iterable[Finding], is_strict: bool = False) -> int:
     """The status for what the checks found."""
     return FOUND if any(is_strict or finding.grade in COUNTED for finding in found) else 0
 
 
-def refusal(name, files):
+def refusal(name: str, files: typing.List[str]) -> int:
     """What the audit says of a map that cannot be read; nothing for what the checks list themselves."""
     with tempfile.TemporaryDirectory(prefix='doomview-') as folder:
         path = os.path.join(folder, 'path.csv')
@@ -73,16 +74,16 @@ def refusal(name, files):
         if found and int(found[1]) not in CHECKS:
             sys.stderr.write(done.said)
             explanations.tell(done.line, words)
-            return REFUSED
+            return TROUBLE
     return 0
 
 
-def counts_told(found) -> str:
+def counts_told(found: typing.List[Finding]) -> str:
     """How many findings there are of each grade, in words."""
     return ' '.join(f'{grade} {sum(finding.grade == grade for finding in found)}' for grade in GRADES)
 
 
-def all_maps(options, files):
+def all_maps(options: argparse.Namespace, files: typing.List[str]) -> int:
     """Prints a line for each map of the WAD; the greatest status."""
     worst = 0
     for name in wads.maps_of([wads.find(options.wad)]):
@@ -91,13 +92,13 @@ def all_maps(options, files):
             found, status = findings_of(options, files)
             told = counts_told(found)
         except Trouble as error:
-            told, status = f'cannot be read: {error}', REFUSED
+            told, status = f'cannot be read: {error}', TROUBLE
         write_output(f'{name} {told}\n')
         worst = max(worst, status)
     return worst
 
 
-def findings_of(options, files):
+def findings_of(options: argparse.Namespace, files: typing.List[str]) -> typing.Tuple[typing.List[Finding], int]:
     """What the checks find in a map, and the status."""
     level = cli.level_of(options, files)
     level.check_whole()
@@ -106,7 +107,7 @@ def findings_of(options, files):
     return found, status or status_of(found, options.strict)
 
 
-def run(options):
+def run(options: argparse.Namespace) -> int:
     files = cli.wads_of(options)
     wads.check_game(files)
     if options.map is None:

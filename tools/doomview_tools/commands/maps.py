@@ -1,4 +1,6 @@
 """doomview maps: the names of a WAD's maps."""
+import argparse
+
 from .. import cli, wads
 from ..files import write_output
 
@@ -13,9 +15,9 @@ $ doomview maps freedoom2.wad
 ''')
 
 
-def add_words(parser):
+def add_words(parser: argparse.ArgumentParser) -> None:
     parser.add_argument('wad', metavar='WAD', help=cli.WAD)
 
 
-def run(options):
+def run(options: argparse.Namespace) -> None:
     write_output(''.join(f'{name}\n' for name in wads.maps_of([wads.find(options.wad)])), what='the names')

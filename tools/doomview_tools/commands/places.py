@@ -1,4 +1,6 @@
 """doomview places: viewpoints all over a map."""
+import argparse
+
 from .. import cli, paths
 from ..files import write_output
 
@@ -20,7 +22,7 @@ $ doomview places --iwad freedoom2.wad mymap.wad MAP01 200 --seed 2 -o path.csv
 ''')
 
 
-def add_words(parser):
+def add_words(parser: argparse.ArgumentParser) -> None:
     cli.add_level(parser)
     parser.add_argument('count', metavar='COUNT', type=cli.number(0, MOST), nargs='?', default=100,
                         help=f'how many places, 0 to {MOST}, since a path has at most {paths.MOST_ROWS} rows; else 100')
@@ -29,7 +31,7 @@ def add_words(parser):
     cli.add_output(parser, 'the path')
 
 
-def run(options):
+def run(options: argparse.Namespace) -> None:
     level = cli.level_of(options, cli.wads_of(options))
     rows = paths.places(level, options.count, options.seed, options.wild)
     write_output(paths.text(rows), options.output, 'the path')

@@ -1,6 +1,7 @@
 """doomview rest: the files that put a map at rest in an installed port."""
 import argparse
 import os
+import typing
 
 from .. import cli, paths, rest, weapons
 from ..files import write_whole
@@ -22,7 +23,7 @@ $ doomview render MAP01 freedoom2.wad out/shown.wad --path out/path.csv --weapon
 ''', more='TOOLS.md#a-game-at-rest')
 
 
-def place(text: str) -> tuple:
+def place(text: str) -> typing.Tuple[int, int, int]:
     parts = text.split(',')
     try:
         x, y, degrees = map(int, parts)
@@ -44,10 +45,11 @@ def add_words(parser: argparse.ArgumentParser) -> None:
 
 def run(options: argparse.Namespace) -> None:
     still = rest.Rest(cli.wads_of(options), options.map, options.at)
-    files = {'still.wad': still.wad(), 'still.deh': rest.patch(),
-             'still.lmp': rest.demo(still.level.name, options.skill, options.views, options.tics),
-             'shown.wad': still.shown(), 'path.csv': paths.text(still.rows(options.views)),
-             'weapon.csv': weapons.text([(weapons.raised('PISG'),)] * options.views)}
+    files: typing.Dict[str, typing.Union[str, bytes]] = {
+        'still.wad': still.wad(), 'still.deh': rest.patch(),
+        'still.lmp': rest.demo(still.level.name, options.skill, options.views, options.tics),
+        'shown.wad': still.shown_wad(), 'path.csv': paths.text(still.rows(options.views)),
+        'weapon.csv': weapons.text([(weapons.raised_layer('PISG'),)] * options.views)}
     try:
         os.makedirs(options.folder, exist_ok=True)
     except OSError as error:

@@ -1,4 +1,6 @@
 """doomview room: a small WAD that is made."""
+import argparse
+
 from .. import cli, room
 from ..files import write_output
 
@@ -12,9 +14,9 @@ $ doomview places room.wad MAP01 40 > path.csv
 ''')
 
 
-def add_words(parser):
+def add_words(parser: argparse.ArgumentParser) -> None:
     cli.add_output(parser, 'the WAD')
 
 
-def run(options):
+def run(options: argparse.Namespace) -> None:
     write_output(room.room(), options.output, 'the WAD')

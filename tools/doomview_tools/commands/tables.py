@@ -1,4 +1,6 @@
 """doomview tables: the tables of angles."""
+import argparse
+
 from .. import cli, tables
 from ..files import write_output
 
@@ -14,9 +16,9 @@ $ doomview tables -o tables.bin
 ''')
 
 
-def add_words(parser):
+def add_words(parser: argparse.ArgumentParser) -> None:
     cli.add_output(parser, 'the tables')
 
 
-def run(options):
+def run(options: argparse.Namespace) -> None:
     write_output(tables.tables(), options.output, 'the file of tables')

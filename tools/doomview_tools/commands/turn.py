@@ -1,4 +1,6 @@
 """doomview turn: a turn on the spot."""
+import argparse
+
 from .. import cli, levels, paths
 from ..files import write_output
 
@@ -15,13 +17,13 @@ $ doomview video freedoom2.wad MAP01 turn.csv turn.mp4
 ''')
 
 
-def add_words(parser):
+def add_words(parser: argparse.ArgumentParser) -> None:
     cli.add_level(parser)
     parser.add_argument('views', metavar='VIEWS', type=cli.number(1, paths.MOST_ROWS), nargs='?', default=36,
                         help=f'how many views, 1 to {paths.MOST_ROWS}; else 36')
     cli.add_output(parser, 'the path')
 
 
-def run(options):
+def run(options: argparse.Namespace) -> None:
     level = levels.read(cli.wads_of(options), options.map)
     write_output(paths.text(paths.turn(level, options.views)), options.output, 'the path')

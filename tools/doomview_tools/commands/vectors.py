@@ -50,10 +50,10 @@ def names(text: str) -> typing.List[str]:
 
 def chosen(there: typing.Iterable[str], wanted: typing.Optional[typing.List[str]], what: str) -> typing.List[str]:
     """The wanted ones of what is there, or all of it."""
-    missing = [it for it in wanted or [] if it not in there]
+    missing = [name for name in wanted or [] if name not in there]
     if missing:
         raise Trouble(f'there is no {what} {missing[0]}; there are {", ".join(there)}')
-    return [it for it in there if not wanted or it in wanted]
+    return [name for name in there if not wanted or name in wanted]
 
 
 def folder_of(options: argparse.Namespace) -> str:
@@ -69,10 +69,10 @@ def all_of(call: typing.Callable, items: typing.Iterable, jobs: int) -> list:
     with concurrent.futures.ThreadPoolExecutor(jobs) as pool:
         started = [pool.submit(call, item) for item in items]
         try:
-            return [it.result() for it in started]
+            return [future.result() for future in started]
         finally:
-            for it in started:
-                it.cancel()
+            for future in started:
+                future.cancel()
 
 
 def check_originals() -> None:
@@ -91,10 +91,11 @@ def make(options: argparse.Namespace) -> None:
     maps = chosen(wads.maps_of([wad]), options.maps, 'map')
     check_originals()
     program.ready()
-    found = all_of(lambda name: vectors.made(wad, name), maps, options.jobs)
+    found = all_of(lambda name: vectors.of_map(wad, name), maps, options.jobs)
     name = os.path.splitext(os.path.basename(wad))[0]
     folder = folder_of(options)
-    write_whole(os.path.join(folder, f'{name}.csv'), vectors.text(it for of_map in found for it in of_map).encode())
+    text = vectors.text(vector for of_map in found for vector in of_map)
+    write_whole(os.path.join(folder, f'{name}.csv'), text.encode())
     write_whole(os.path.join(folder, vectors.WADS), vectors.wads_text(folder, f'{name}.csv', wad).encode())
 
 

@@ -1,7 +1,9 @@
 """doomview video: the views of a camera path as a video."""
+import argparse
 import shutil
 import subprocess
 import tempfile
+import typing
 
 from .. import cli, program
 from ..explanations import explained
@@ -24,14 +26,14 @@ $ doomview video freedoom2.wad MAP01 turn.csv turn.mp4
 ''')
 
 
-def add_words(parser):
+def add_words(parser: argparse.ArgumentParser) -> None:
     cli.add_level(parser)
     parser.add_argument('path', metavar='PATH', help='the camera path')
     parser.add_argument('video', metavar='OUT.mp4', help='the video, whose name ends in .mp4')
     cli.add_job_options(parser, 'render', WITHOUT)
 
 
-def check(options):
+def check(options: argparse.Namespace) -> None:
     """A Trouble where the video could not be made, before anything is drawn."""
     check_source(options.path)
     if not options.video.endswith('.mp4'):
@@ -41,7 +43,7 @@ def check(options):
         raise Trouble('ffmpeg is not installed (package: ffmpeg)')
 
 
-def counted(words):
+def count_views(words: typing.List[str]) -> int:
     """Ends with what is wrong where the views cannot be drawn; the limits tell it before ffmpeg is called."""
     done = program.run(words)
     if done.status:
@@ -49,19 +51,20 @@ def counted(words):
     return len(done.output.splitlines())
 
 
-def ffmpeg_words(video):
+def ffmpeg_words(video: str) -> typing.List[str]:
     return ['ffmpeg', '-y', '-loglevel', 'error', '-f', 'image2pipe', '-c:v', 'ppm', '-framerate', str(RATE), '-i',
             'pipe:0', '-vf', f'scale={SCALE}:flags=neighbor', '-pix_fmt', 'yuv420p', '-f', 'mp4', video]
 
 
-def piped(words, video):
+def draw_into(words: typing.List[str], video: str) -> program.Run:
     """Draws the frames into ffmpeg, which writes the video: how the program ended; a Trouble where ffmpeg failed."""
     with tempfile.TemporaryFile() as said, \
             program.start(words, stdout=subprocess.PIPE, stderr=said) as drawing, \
             subprocess.Popen(ffmpeg_words(video), stdin=drawing.stdout, stdout=subprocess.DEVNULL,
                              stderr=subprocess.PIPE) as made:
         try:
-            drawing.stdout.close()
+            if drawing.stdout:
+                drawing.stdout.close()
             said_by_ffmpeg = made.communicate()[1].decode(errors='replace').strip()
             status = drawing.wait()
         except BaseException:
@@ -75,13 +78,13 @@ def piped(words, video):
     return done
 
 
-def run(options):
+def run(options: argparse.Namespace) -> None:
     check(options)
     words = [options.map, *cli.wads_of(options), '--path', options.path, *cli.job_words(options)]
-    if not counted(['limits', *words]):
+    if not count_views(['limits', *words]):
         raise Trouble(f'{options.path} has no rows, so there is nothing to show; doomview turn makes a path')
     words = ['render', *words, '--format', 'ppm']
     with WholeFile(options.video) as part:
-        done = piped(words, part.name)
+        done = draw_into(words, part.name)
         if done.status:
             raise explained(words, done)

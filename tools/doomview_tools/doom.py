@@ -1,0 +1,20 @@
+"""Facts of Doom that several tools need, each said once: lumps of a map and their records, flags, types of things, art."""
+
+# The lumps of a map behind its label, in their order; those that a builder of nodes makes; and the two behind them.
+MAP_LUMPS = ['THINGS', 'LINEDEFS', 'SIDEDEFS', 'VERTEXES', 'SEGS', 'SSECTORS', 'NODES', 'SECTORS']
+BUILT_LUMPS = ['SEGS', 'SSECTORS', 'NODES']
+TABLES = ['REJECT', 'BLOCKMAP']
+LAYOUTS = {'THINGS': '<hhhHH', 'LINEDEFS': '<7H', 'SIDEDEFS': '<hh8s8s8sH', 'VERTEXES': '<hh', 'SEGS': '<6H',
+           'SSECTORS': '<HH', 'NODES': '<12h2H', 'SECTORS': '<hh8s8shhh'}  # of the records of a lump
+LEAF = 0x8000  # the bit of a child of a node that is a leaf
+NO_SIDE = 0xffff  # where a line has no side
+TWO_SIDED, UPPER_UNPEGGED, LOWER_UNPEGGED = 4, 8, 16  # flags of a line
+EVERY_SKILL = 7  # the bits of a thing's options that say in which skills it is
+
+# Types of things.
+PLAYER_1, SPECTRE, DEMON = 1, 58, 3002
+PLACES = {1, 2, 3, 4, 11, 14}  # starts of players and of a deathmatch, the end of a teleport: they have no picture
+
+SKY = 'F_SKY1'  # the flat of the sky
+PALETTE_SIZE, COLORMAP_SIZE = 768, 256  # bytes
+COLORMAPS = 32  # of lights, from bright to dark
