@@ -287,7 +287,8 @@ class Maps(Shown):
 
 class Counts(Shown):
     def test_room(self):
-        """A whole count shows its squares, worst views and numbers; keys go from view to view, and it can be stopped."""
+        """A whole count shows its squares, worst views and numbers; keys go from view to view, and it can be stopped. What it
+        saves is an earlier run for `limits-map`."""
         self.take(self.room)
         self.value("window.grown = []; whole.grow = part => { WholeMap.prototype.grow.call(whole, part); grown.push(whole.now().places.length); }; 0")
         self.value("find('start').click(); 0")
@@ -304,6 +305,10 @@ class Counts(Shown):
                                       "find('map').height).data.buffer)).size"), 8)
         rows = self.value('whole.rows()')
         self.assertEqual(len(rows), len(set(map(tuple, rows))))
+        with open(self.at('page.json'), 'w', encoding='utf-8') as file:
+            file.write(self.value('jsonOf(whole.found.numbers)'))
+        found = json.loads(run('limits-map', self.room, 'MAP01', '--before', self.at('page.json'), '--json'))
+        self.assertEqual((found['before'], found['changes'], found['worse']), ([], [], False))
         self.value("find('step').value = '32'; find('start').click(); find('stop').click(); 0")
         self.browser.wait("find('far').textContent === 'stopped' && !find('start').hidden")
 
