@@ -5,13 +5,13 @@ import os
 import re
 
 from doomview_tools import (cells, cli, compare_page, counting, frames, ground, home, jobs, levels, list_counts, lists, pages,
-                            refusals, tables, traces, wads, ways)
+                            refusals, tables, traces, wads, walls, ways)
 from doomview_tools.commands import limits_map
 from doomview_tools.trouble import Trouble
 
 FOLDER = os.path.join(os.path.dirname(os.path.abspath(__file__)), 'page')
 # The parts of both scripts, in the order in which each needs those before it.
-WORKER = ['shared.js', 'wads.js', 'ground.js', 'ways.js', 'lists.js', 'counts.js', 'cells.js', 'refusals.js', 'host.js', 'comparison.js',
+WORKER = ['shared.js', 'wads.js', 'ground.js', 'walls.js', 'ways.js', 'lists.js', 'counts.js', 'cells.js', 'refusals.js', 'host.js', 'comparison.js',
           'engine.js']
 PAGE = ['shared.js', 'files.js', 'crew.js', 'map_display.js', 'walking.js', 'whole.js', 'main.js']
 MOST_BYTES = 2 << 20
@@ -27,10 +27,10 @@ def facts() -> dict:
     """What the scripts have from the tools in Python, by name."""
     found = {name: getattr(module, name) for module, names in (
         (levels, 'UNIT TURN EYE_HEIGHT LEAF NO_SIDE PLAYER_1 BUILT_LUMPS'), (wads, 'MAP_LUMPS BEHIND_MAP'),
-        (ground, 'HEIGHT RADIUS STEP_UP BLOCKS SKY LINTEL SQUARE STEPS'), (cells, 'MOST_PLACES MOST_CUT CUTS FAR MANY FINER APART SMALL'),
+        (ground, 'HEIGHT RADIUS STEP_UP BLOCKS SKY LINTEL SQUARE STEPS'), (cells, 'MOST_PLACES MOST_CUT CUTS MANY FINER APART SMALL'),
         (counting, 'COUNTS LIMITS CAPPED RAISED'), (list_counts, 'EDGES'), (ways, 'SPEED THING_RADIUS DESTINATION SKILLS WANTED'),
-        (frames, 'WIDTH'), (traces, 'KINDS TEXTURED SHOWN_TEXTURES'), (lists, 'SHOWN_SECTORS'), (compare_page, 'MOST_VIEWS'),
-        (refusals, 'FIELDS TABLES COLUMNS OF_ROWS OF_COLUMNS MOST_DEPTH NO_MAP')) for name in names.split()}
+        (walls, 'FLOOR CEILING LIGHT'), (frames, 'WIDTH'), (traces, 'KINDS TEXTURED SHOWN_TEXTURES'), (lists, 'SHOWN_SECTORS'),
+        (compare_page, 'MOST_VIEWS'), (refusals, 'FIELDS TABLES COLUMNS OF_ROWS OF_COLUMNS MOST_DEPTH NO_MAP')) for name in names.split()}
     found.update({name: sorted(getattr(module, name)) for module, names in (
         (ground, 'STARTS BOSS_TAGS'), (ways, 'TO_THINGS TO_LINES STAIRS DONUT')) for name in names.split()})
     found.update(FRAME_HEIGHT=frames.HEIGHT, CODES=refusals.codes(),

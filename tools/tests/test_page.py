@@ -17,7 +17,7 @@ from unittest import mock
 
 import pages_shown
 from made_files import COMMAND, TOP
-from doomview_tools import counting, explanations, levels, list_counts, lists, paths, png, program, traces, wads
+from doomview_tools import counting, explanations, levels, list_counts, lists, paths, png, program, traces, wads, walls
 from systems import check, chromium
 
 PAGE, TESTED = os.environ.get('DOOMVIEW_PAGE', ''), os.environ.get('DOOMVIEW_TESTED', '')
@@ -112,6 +112,13 @@ class Shown(unittest.TestCase):
 
 
 class Starts(Shown):
+    def walls(self, level):
+        """The path of a WAD of the map of a level's solid walls alone."""
+        path = self.at('walls.wad')
+        with open(path, 'wb') as file:
+            file.write(walls.walls_alone(level))
+        return path
+
     @unittest.skipUnless(GAMES, 'Freedoom is not installed')
     def test_starts(self):
         """Frame and counts from the start of each map of Freedoom are those of the program."""
@@ -125,8 +132,8 @@ class Starts(Shown):
                 self.assertEqual(self.value('walker.view.row'), list(row[:4]), name)
                 self.assertEqual(self.frame(), self.native('render', wad, name, [row], *RAISED), name)
                 counts = self.value('walker.view.counts')
-                listed = self.native('list', wad, name, [row], *RAISED)
-                self.assertEqual(counts, next(list_counts.counts_of(listed, list_counts.solid_segs(level))), name)
+                listed, ranged = (self.native('list', of, name, [row], *RAISED) for of in (wad, [wad, self.walls(level)]))
+                self.assertEqual(counts, {**next(list_counts.counts_of(listed)), 'solids': next(list_counts.ranges_of(ranged))}, name)
                 limits = self.native('limits', wad, name, [row], *RAISED).decode()
                 capped = ' '.join(f'{key} {min(counts[key], most)}' for key, most in MOST.items())
                 self.assertEqual(limits, f'view 0 {capped}\n', name)
@@ -280,7 +287,8 @@ class Maps(Shown):
 
 class Counts(Shown):
     def test_room(self):
-        """A whole count shows its squares, worst views and numbers; keys go from view to view, and it can be stopped."""
+        """A whole count shows its squares, worst views and numbers; keys go from view to view, and it can be stopped. What it
+        saves is an earlier run for `limits-map`."""
         self.take(self.room)
         self.value("window.grown = []; whole.grow = part => { WholeMap.prototype.grow.call(whole, part); grown.push(whole.now().places.length); }; 0")
         self.value("find('start').click(); 0")
@@ -297,6 +305,10 @@ class Counts(Shown):
                                       "find('map').height).data.buffer)).size"), 8)
         rows = self.value('whole.rows()')
         self.assertEqual(len(rows), len(set(map(tuple, rows))))
+        with open(self.at('page.json'), 'w', encoding='utf-8') as file:
+            file.write(self.value('jsonOf(whole.found.numbers)'))
+        found = json.loads(run('limits-map', self.room, 'MAP01', '--before', self.at('page.json'), '--json'))
+        self.assertEqual((found['before'], found['changes'], found['worse']), ([], [], False))
         self.value("find('step').value = '32'; find('start').click(); find('stop').click(); 0")
         self.browser.wait("find('far').textContent === 'stopped' && !find('start').hidden")
 

@@ -1,6 +1,6 @@
 /* A grid over a level: places where a player can stand, and of each the greatest counts in several directions, as
 tools/doomview_tools/cells.py has it, which says why: a test compares all numbers of whole maps. */
-const { MOST_PLACES, MOST_CUT, CUTS, FAR, MANY, FINER, APART, SMALL } = FACTS;
+const { MOST_PLACES, MOST_CUT, CUTS, MANY, FINER, APART, SMALL } = FACTS;
 
 // The row of a path from a place: an eye of a player who stands.
 function rowFrom(x, y, floor, direction, directions) {
@@ -9,15 +9,15 @@ function rowFrom(x, y, floor, direction, directions) {
 // A place in the middle of a square, with its greatest counts: of each the count and its direction.
 class Cell {
   constructor(x, y, size, sector, floor, isReached) {
-    Object.assign(this, { x, y, size, sector, floor, isReached, isListed: false, most: COUNTS.map(() => [0, 0]) });
+    Object.assign(this, { x, y, size, sector, floor, isReached, likely: 0, most: COUNTS.map(() => [0, 0]) });
   }
   row(direction, directions) { return rowFrom(this.x, this.y, this.floor, direction, directions); }
   count(i) { return this.most[i][0]; }
-  numbers() { return [this.x, this.y, this.floor, this.size, this.sector, Number(this.isReached), Number(this.isListed)]; }
+  numbers() { return [this.x, this.y, this.floor, this.size, this.sector, Number(this.isReached), this.likely]; }
 }
 
 /* The greatest counts of some places, which are numbers (shared.js), and how many views are over each limit. `counted(job, rows, take)`
-runs a job over rows, and `take` gets the counts of each with its place among them. */
+runs `limits`, `list`, or over the solid walls alone `walls`, and `take` gets what it counts of each row with its place among them. */
 class Look {
   constructor({ places, directions, every }, counted) {
     Object.assign(this, { places, directions, every, counted, each: Math.ceil(directions / every) }); // views of a place
@@ -28,19 +28,31 @@ class Look {
   row(view) { return rowFrom(this.number(view, 0), this.number(view, 1), this.number(view, 2), this.direction(view), this.directions); }
   count(job, views) { this.counted(job, views.map(view => this.row(view)), (counts, i) => { this.views[views[i]] = counts; }); }
   found() {
-    const all = [...this.views.keys()], isListed = view => this.number(view, LISTED) === 1;
+    const all = [...this.views.keys()], isListed = view => (this.number(view, LISTED) >> this.direction(view) & 1) === 1;
+    this.count('list', all.filter(isListed));
     this.count('limits', all.filter(view => !isListed(view)));
-    this.count('list', all.filter(view => isListed(view) || isCapped(this.views[view])));
-    const chosen = all.filter(view => view % this.each === 0).map(first => this.mostFragments(first));
-    this.count('list', chosen.flat().filter(view => this.views[view][SOLIDS] === NONE && this.fragments(view) !== NONE));
+    this.count('list', all.filter(view => !isListed(view) && isCapped(this.views[view])));
+    const chosen = Array.from({ length: this.places.length / PLACE }, (_, place) => this.mostFragments(place)), some = chosen.flat();
+    this.counted('walls', some.map(view => this.row(view)), (ranges, i) => { this.views[some[i]][SOLIDS] = ranges; });
     return this.greatest(chosen);
   }
   fragments(view) { return this.views[view][FRAGMENTS]; }
-  // Of the views from a place those with the most fragments: one, and one more that may have many solid ranges.
-  mostFragments(first) {
-    const order = Array.from({ length: this.each }, (_, i) => first + i), of = view => Math.max(0, this.fragments(view));
-    order.sort((a, b) => of(b) - of(a) || b - a);
-    return order.slice(0, 2).filter((view, i) => i === 0 || of(view) >= MANY);
+  viewsFrom(place) { return Array.from({ length: this.each }, (_, i) => this.each * place + i); }
+  // Of the views from a place those with the most fragments: one, and one more that may have many solid ranges. None over a raised limit.
+  mostFragments(place) {
+    const order = this.viewsFrom(place).filter(view => this.fragments(view) !== NONE);
+    order.sort((a, b) => this.fragments(b) - this.fragments(a) || b - a);
+    return order.slice(0, 2).filter((view, i) => i === 0 || this.fragments(view) >= MANY);
+  }
+  // The directions, as bits, in which views from near a place are likely to have more than `limits` counts: there this one has, or those on
+  // both sides have in the mean.
+  likely(place) {
+    const { directions } = this, views = this.viewsFrom(place), shares = Array(directions);
+    if (!views.some(view => isCapped(this.views[view]))) return 0;
+    views.forEach(view => { shares[this.direction(view)] = Math.max(...this.views[view].map((count, i) => count / CAPS[i])); });
+    const beside = (direction, by) => shares[(direction + by + directions) % directions] ?? 0;
+    const isLikely = direction => (shares[direction] ?? (beside(direction, -1) + beside(direction, 1)) / 2) >= 1;
+    return Array.from(shares.keys()).reduce((bits, direction) => isLikely(direction) ? bits | 1 << direction : bits, 0);
   }
   // The counts of all views, but of solid ranges those of the views that are chosen at each place.
   greatest(chosen) {
@@ -51,7 +63,10 @@ class Look {
       over[i] += count > LIMITS[COUNTS[i]];
     };
     this.views.forEach((_, view) => COUNTS.forEach((__, i) => i === SOLIDS || take(Math.floor(view / this.each), view, i)));
-    chosen.forEach((views, place) => views.forEach(view => take(place, view, SOLIDS)));
+    chosen.forEach((views, place) => {
+      views.forEach(view => take(place, view, SOLIDS));
+      most[FOUND * place + LIKELY] = this.likely(place);
+    });
     return { most, over };
   }
 }
@@ -82,8 +97,8 @@ class Grid {
   }
   placesOf([lowX, lowY, highX, highY], step) {
     const places = [], half = Math.floor(step / 2);
-    for (let y = lowY + half; y < highY + half; y += step)
-      for (let x = lowX + half; x < highX + half; x += step) places.push(...this.place(x, y + .5, step));
+    for (let y = lowY + half; y < highY; y += step)
+      for (let x = lowX + half; x < highX; x += step) places.push(...this.place(x, y + .5, step));
     return places;
   }
   // A cell in each sector that is looked at and has none on the grid, if a player can stand there.
@@ -108,18 +123,18 @@ class Grid {
   }
   // The places in the quarters of a cell. One of a small sector in their middle takes the whole quarter.
   quarters(cell) {
-    const half = Math.floor(cell.size / 2), away = Math.floor(cell.size / 4), isFar = CAPS.some((most, i) => cell.count(i) > FAR * most);
+    const half = Math.floor(cell.size / 2), away = Math.floor(cell.size / 4);
     return [-away, away].flatMap(j => [-away, away].flatMap(i => {
       const x = cell.x + i, y = Math.floor(cell.y) + j + .5, small = this.small.get(`${x} ${y}`);
       if (small) { small.size = half; return []; }
-      return this.place(x, y, half).map(place => Object.assign(place, { isListed: isFar }));
+      return this.place(x, y, half).map(place => Object.assign(place, { likely: cell.likely }));
     }));
   }
   // Takes cells with their counts, in every so many of the directions.
   async take(cells, every) {
     const places = Float64Array.from(cells.flatMap(cell => cell.numbers()));
     const { most, over } = await this.look({ places, directions: this.directions, every });
-    cells.forEach((cell, i) => { cell.most = pairsOf(most, i); this.cells.push(cell); });
+    cells.forEach((cell, i) => { Object.assign(cell, { most: pairsOf(most, i), likely: most[FOUND * i + LIKELY] }); this.cells.push(cell); });
     this.views += cells.length * Math.ceil(this.directions / every);
     over.forEach((count, i) => { this.over[i] += count; });
   }
@@ -137,15 +152,17 @@ class Grid {
 }
 
 // The numbers of a map as `limits-map --json` prints them.
-function numbersOf(plan, states) {
+function numbersOf(plan, states, directions) {
   const ofCount = (grid, name, i) => {
     const [worst] = grid.worst(i, 1);
     return { most: worst ? worst[0] : 0, limit: LIMITS[name], over: grid.over[i], row: worst ? worst[1] : null };
   };
   const found = states.map(({ label, grid }) => ({ doors: label, places: grid.cells.length, views: grid.views, step: grid.step,
-    counts: Object.fromEntries(COUNTS.map((name, i) => [name, ofCount(grid, name, i)])) }));
+    counts: Object.fromEntries(COUNTS.map((name, i) => [name, ofCount(grid, name, i)])), squares: grid.cells.map(squareRow) }));
   return { map: plan.level.name, wad: plan.level.wad.name, sectors: plan.level.sectors.length, reached: states[0].grid.reached.size,
     no_way: states[0].grid.wanted.map(([sector, things]) => ({ sector,
       things: things.map(thing => ({ thing, what: WANTED[plan.level.things[thing].type] })) })),
-    over: states.some(({ grid }) => grid.over.some(Boolean)), states: found };
+    over: states.some(({ grid }) => grid.over.some(Boolean)), directions, states: found };
 }
+// A cell as JSON has it: its x and y, the side of its square, and its counts.
+const squareRow = cell => [cell.x, Math.floor(cell.y), cell.size, ...COUNTS.map((_, i) => cell.count(i))];

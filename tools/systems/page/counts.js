@@ -1,6 +1,7 @@
 /* What the lines of `limits` and `list` say of views, as tools/doomview_tools/counting.py and list_counts.py have it, which
-say why: what `limits` counts no further is taken from `list`, and so are the solid ranges. The counts of a view are numbers in
-the order of COUNTS, NONE where a view has none since it passes a raised limit. A test compares the numbers of whole maps. */
+say why: what `limits` counts no further is taken from `list`, and solid ranges from `list` of a map of the solid walls alone. The
+counts of a view are numbers in the order of COUNTS, NONE where a view has none since it passes a raised limit, and of solid
+ranges. A test compares the numbers of whole maps. */
 const { CAPPED, EDGES } = FACTS;
 const NONE = -1, LINE_FEED = 10, SPACE = 32, DIGIT = 48, OVER = 'o'.charCodeAt(0), FRAGMENT = 'f'.charCodeAt(0), SUMS = 's'.charCodeAt(0);
 const VIEW = 'view '.length, KIND = 'fragment'.length; // places of letters in a line: of its number, and of what ends its kind
@@ -25,17 +26,16 @@ function overOf(bytes, at, end) {
   return countsBy({ [bytes[at + 'over '.length] === PLANES ? 'planes' : 'openings']: numbersIn(bytes, at, end)[0] });
 }
 
-// The most solid ranges of one view after another. `isSolid` says it of each seg; the walls come in order.
+// The most solid ranges of one view after another; its solid walls come in order.
 class Ranges {
-  constructor(isSolid) { this.isSolid = isSolid; this.filled = new Uint8Array(WIDTH + EDGES); this.begin(); }
+  constructor() { this.filled = new Uint8Array(WIDTH + EDGES); this.begin(); }
   begin() {
     this.filled.fill(0); this.filled[0] = this.filled[WIDTH + 1] = 1; // the edges of the view
     this.count = this.most = EDGES; this.seg = NONE; this.parts = [];
   }
   take(seg, first, last) {
     if (seg !== this.seg) this.close();
-    this.seg = seg;
-    if (this.isSolid[seg]) this.parts.push([first, last]);
+    this.seg = seg; this.parts.push([first, last]);
   }
   // The wall of the fragments so far makes a range more, or joins those that it touches.
   close() {
@@ -48,18 +48,8 @@ class Ranges {
   }
   ended() { this.close(); const { most } = this; this.begin(); return most; }
 }
-// Of each seg of a level whether nothing is seen behind it.
-function solidSegs(level) {
-  const fronts = new Map(level.leaves.flatMap(({ first, count }, leaf) => Array.from({ length: count }, (_, i) => [first + i, level.sectorOfLeaf(leaf)])));
-  return level.segs.map((seg, number) => {
-    const line = level.lines[seg.line], behind = line.sides[1 - seg.side], front = fronts.get(number);
-    if (!(line.flags & TWO_SIDED) || behind === null || front === undefined) return true;
-    const one = level.sectors[front], other = level.sectors[level.sides[behind].sector];
-    return other.ceiling <= one.floor || other.floor >= one.ceiling;
-  });
-}
 
-// Takes the output of a job in pieces, and gives the counts of each view to `take`.
+// Takes the output of a job in pieces, and gives the counts of each view to `take`; of solid walls alone the most solid ranges.
 class Lines {
   constructor(take) { this.take = take; this.rest = new Uint8Array(); }
   feed(piece) {
@@ -77,13 +67,16 @@ class LinesOfLimits extends Lines {
   }
 }
 class LinesOfList extends Lines {
-  constructor(take, isSolid) { super(take); this.ranges = new Ranges(isSolid); }
   line(bytes, at, end) {
-    if (bytes[at] === FRAGMENT) {
-      const numbers = numbersIn(bytes, at, end);
-      if (bytes[at + KIND] === SUMS) this.sums(numbers); else this.ranges.take(numbers[1], numbers[2], numbers[3]);
-    } else if (bytes[at] === OVER) { this.ranges.begin(); this.take(overOf(bytes, at, end)); }
+    if (bytes[at] === OVER) this.take(overOf(bytes, at, end));
+    else if (bytes[at] === FRAGMENT && bytes[at + KIND] === SUMS) this.sums(numbersIn(bytes, at, end));
   }
-  sums([, fragments, planes, openings, , sprites]) { this.take(countsBy({ planes, openings, fragments, sprites, solids: this.ranges.ended() })); }
+  sums([, fragments, planes, openings, , sprites]) { this.take(countsBy({ planes, openings, fragments, sprites })); }
 }
-
+class LinesOfWalls extends Lines {
+  constructor(take) { super(take); this.ranges = new Ranges(); }
+  line(bytes, at, end) {
+    if (bytes[at] === OVER || bytes[at] === FRAGMENT && bytes[at + KIND] === SUMS) this.take(this.ranges.ended());
+    else if (bytes[at] === FRAGMENT) { const [, seg, first, last] = numbersIn(bytes, at, end); this.ranges.take(seg, first, last); }
+  }
+}

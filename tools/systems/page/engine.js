@@ -2,8 +2,8 @@
 page never freezes. A message is { id, name, words }: the answer is { id, value } or { id, wrong }, a sentence. While a map is
 counted the worker asks the page what is found at places, { id, places }, which the page has its other workers find. */
 const { RAISED, STATUS_LIMIT, WORST_VIEWS, ZONE } = FACTS;
-const PATH = 'path.csv', TRIMMED = 'level.wad', OPENED = 'open.wad';
-const state = { program: null, base: new Map(), files: [], wads: [], open: null, map: '', words: [], asked: new Map(), questions: 0 };
+const PATH = 'path.csv', TRIMMED = 'level.wad', OPENED = 'open.wad', WALLS = 'walls.wad';
+const state = { program: null, base: new Map(), files: [], wads: [], shut: null, open: null, map: '', words: [], asked: new Map(), questions: 0 };
 
 const bytesOfText = words => new TextEncoder().encode(words);
 const rowText = rows => `x,y,z,angle\n${rows.map(row => `${row.join(',')}\n`).join('')}`;
@@ -81,23 +81,24 @@ const calls = {
   take({ map, skill, small }) {
     const wad = wadOfBytes(TRIMMED, small), level = readLevel([wad.wad], map), plan = new Plan(level);
     Object.assign(state, { map, words: ['--skill', String(skill)], wads: [wad], open: null, level, plan, ground: new Ground(plan),
-      names: new Names(wad.wad.lumps), isSolid: solidSegs(level), seenAs: '' });
-    state.zones = zonesOf(state.wads);
+      names: new Names(wad.wad.lumps), seenAs: '' });
+    state.shut = runsOver(state.wads, level);
   },
   // Takes the level with its doors open, in a WAD that comes behind the other.
   takeOpen(bytes) {
-    state.open = wadOfBytes(OPENED, bytes); state.seenAs = '';
-    state.openZones = zonesOf([...state.wads, state.open]); state.isOpenSolid = solidSegs(readLevel([state.open.wad], state.map));
+    const wad = wadOfBytes(OPENED, bytes);
+    state.open = runsOver([...state.wads, wad], readLevel([wad.wad], state.map)); state.seenAs = '';
   },
   // The frame of a place, with its row; null where no sector is.
   frame({ spans, isOpen, ...place }) {
-    const row = rowAt(place);
-    return row && { row, frame: jobOutput('render', rowText([row]), [...wordsOf(isOpen, 'roomy'), '--spans', spans], wadsOf(isOpen)) };
+    const row = rowAt(place), runs = runsOf(isOpen);
+    return row && { row, frame: jobOutput('render', rowText([row]), [...wordsOf(runs, 'roomy'), '--spans', spans], runs.wads) };
   },
   // The counts of the view of a place by name, solid ranges too; of one that passes a raised limit that count alone.
   countsAt({ isOpen, ...place }) {
-    const row = rowAt(place), found = {};
-    if (row) counted(isOpen)('list', [row], counts => COUNTS.forEach((name, i) => { if (counts[i] !== NONE) found[name] = counts[i]; }));
+    const row = rowAt(place), found = {}, count = counted(isOpen);
+    if (row) count('list', [row], counts => COUNTS.forEach((name, i) => { if (counts[i] !== NONE) found[name] = counts[i]; }));
+    if (found.fragments !== undefined) count('walls', [row], ranges => { found.solids = ranges; });
     return row && found;
   },
   // What is found at some places: a part of a whole count.
@@ -106,9 +107,9 @@ const calls = {
   pixel({ row, spans, isOpen, x, y }) {
     const key = `${row.join()} ${spans} ${isOpen}`;
     if (state.seenAs !== key) {
-      const trace = jobOutput('trace', rowText([row]), [...wordsOf(isOpen, 'roomy'), '--spans', spans], wadsOf(isOpen));
-      const list = textOf(jobOutput('list', rowText([row]), wordsOf(isOpen, 'enough'), wadsOf(isOpen)));
-      state.seen = new Places(isOpen ? readLevel([state.open.wad], state.map) : state.level, state.names, trace, list);
+      const runs = runsOf(isOpen), trace = jobOutput('trace', rowText([row]), [...wordsOf(runs, 'roomy'), '--spans', spans], runs.wads);
+      const list = textOf(jobOutput('list', rowText([row]), wordsOf(runs, 'enough'), runs.wads));
+      state.seen = new Places(runs.level, state.names, trace, list);
       state.seenAs = key;
     }
     return state.seen.pixel(x, y);
@@ -119,16 +120,17 @@ const calls = {
     if (!reach.sectors.size && !everywhere) throw level.error('has no start of a player; it can be counted from all places');
     const plans = [['shut', plan]];
     if (doors.length) {
-      this.takeOpen(withCeilings(level, doors));
-      await ask('takeOpen', { bytes: state.open.source.bytes });
-      plans.push(['open', new Plan(readLevel([state.open.wad], level.name))]);
+      const bytes = withCeilings(level, doors);
+      this.takeOpen(bytes);
+      await ask('takeOpen', { bytes });
+      plans.push(['open', new Plan(state.open.level)]);
     }
     const states = await Promise.all(plans.map(async ([label, of]) => {
       const look = places => ask('look', { ...places, isOpen: label === 'open' });
       return { label, grid: await new Grid(new Ground(of), look, reach, options).counted() };
     }));
     if (!states.some(one => one.grid.cells.length)) throw level.error('has no place with room for a player');
-    return { numbers: { ...numbersOf(plan, states), wad }, states: states.map(stateOf) };
+    return { numbers: { ...numbersOf(plan, states, directions), wad }, states: states.map(stateOf) };
   },
   // The frames of a path beside those of a port, as the page of `compare` has them.
   compare(words) { return comparison(words); },
@@ -139,22 +141,28 @@ function zonesOf(wads) {
   const zone = bytes => ['--zone', String(Math.min(ZONE, Math.ceil(Number(bytes) / 4) * 4))];
   return { enough: zone(enough), roomy: zone(Math.max(Number(roomy), Number(enough))) };
 }
-const wordsOf = (isOpen, zone) => [...state.words, ...RAISED, ...(isOpen && state.open ? state.openZones : state.zones)[zone]];
+// What is run over a level: its WADs with their zones, and the same with one more that has its solid walls alone.
+function runsOver(wads, level) {
+  const walls = [...wads, wadOfBytes(WALLS, wallsAlone(level))];
+  return { level, wads, zones: zonesOf(wads), walls: { wads: walls, zones: zonesOf(walls) } };
+}
+const runsOf = isOpen => isOpen && state.open || state.shut;
+const wordsOf = ({ zones }, zone) => [...state.words, ...RAISED, ...zones[zone]];
 // The row of a place: on the floor there where it has no height; null where no sector is.
 function rowAt({ x, y, z, angle }) {
   if (z === undefined && state.ground.isVoid(x, Math.floor(y) + .5)) return null;
   return [Math.round(x * UNIT), Math.round(y * UNIT), z ?? (state.level.floorAt(x, y) + EYE_HEIGHT) * UNIT, angle];
 }
-// Runs jobs of a whole count: a function of a job, rows, and what takes the counts of each row with its place among them.
+// Runs jobs of a whole count: a function of `limits`, `list`, or over the solid walls alone `walls`, of rows, and of what takes what is
+// counted of each row with its place among them.
+const LINES = { limits: LinesOfLimits, list: LinesOfList, walls: LinesOfWalls };
 const counted = isOpen => (name, rows, take) => {
-  let number = 0;
-  const next = counts => take(counts, number++), isSolid = isOpen && state.open ? state.isOpenSolid : state.isSolid;
-  const lines = name === 'list' ? new LinesOfList(next, isSolid) : new LinesOfLimits(next);
   if (!rows.length) return;
-  const done = stream(name, rowText(rows), wordsOf(isOpen, 'enough'), piece => lines.feed(piece), wadsOf(isOpen));
+  let number = 0;
+  const lines = new LINES[name](found => take(found, number++)), isWalls = name === 'walls', runs = isWalls ? runsOf(isOpen).walls : runsOf(isOpen);
+  const done = stream(isWalls ? 'list' : name, rowText(rows), wordsOf(runs, 'enough'), piece => lines.feed(piece), runs.wads);
   if (done.status && done.status !== STATUS_LIMIT) throw new Wrong(sentencesOn(new Scene(state.wads, state.map), done.line).join('\n'));
 };
-const wadsOf = isOpen => isOpen && state.open ? [...state.wads, state.open] : state.wads;
 function stateOf({ label, grid }) {
   return { label, step: grid.step, views: grid.views, over: grid.over, directions: grid.directions,
     worst: Object.fromEntries(COUNTS.map((name, i) => [name, grid.worst(i, WORST_VIEWS)])),

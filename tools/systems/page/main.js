@@ -181,10 +181,12 @@ function copy() {
   if (navigator.clipboard) navigator.clipboard.writeText(find('row').textContent).then(done, byHand); else byHand();
 }
 const base = () => level.map.toLowerCase();
+// JSON in which a list of numbers stands in a line.
+const jsonOf = found => JSON.stringify(found, null, 1).replace(/\[\n[-\d,\s]+\]/g, it => it.split(/\s+/).join(' '));
 const saves = { path: () => save('path.csv', pathText(kept.length ? kept : [walker.view.row]), 'text/csv'),
   png: () => find('picture').toBlob(picture => save(`${base()}.png`, picture)), trim: () => save(`${base()}.wad`, level.small),
   worstPath: () => save('worst.csv', pathText(whole.rows()), 'text/csv'),
-  json: () => save(`${base()}.json`, `${JSON.stringify(whole.found.numbers, null, 1)}\n`, 'application/json'),
+  json: () => save(`${base()}.json`, `${jsonOf(whole.found.numbers)}\n`, 'application/json'),
   savePage: () => save('compared.html', compared, 'text/html') };
 
 /* Keys, buttons, the window. */
