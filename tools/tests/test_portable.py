@@ -194,14 +194,19 @@ class Kit(Tools):
         self.refused('the kit has no', lambda: kit.archives(self.at('kit')))
 
 
+PROVED = 'crates/doomview/out/doomview'
+CHECKED = f'check {PROVED}'
+
+
 class Gate(Tools):
-    """.ci/run with stand-ins for all that it calls."""
+    """.ci/run with stand-ins for all that it calls, and for the program that it checks."""
 
     def setUp(self):
         super().setUp()
-        for folder in ('top/.ci', 'top/tools', 'path'):
+        for folder in ('top/.ci', 'top/tools', 'path', os.path.dirname(f'top/{PROVED}')):
             os.makedirs(self.at(folder))
         shutil.copy(os.path.join(TOP, '.ci', 'run'), self.at('top/.ci/run'))
+        self.stand_in(f'top/{PROVED}', '#!/bin/sh\n')
         for name in ('bash', 'dirname', 'timeout', 'python3'):
             os.symlink(shutil.which(name), self.at(f'path/{name}'))
         self.answers(0, 0, 1)
@@ -218,16 +223,16 @@ class Gate(Tools):
 
     def test_nothing_there(self):
         """Without Wine, Chromium or the compiler the gate is what it was."""
-        self.assertEqual(self.run_gate(), (0, ['rt ci', 'check']))
+        self.assertEqual(self.run_gate(), (0, ['rt ci', CHECKED]))
         self.stand_in('path/wine', '#!/bin/sh\n')
         self.stand_in('path/chromium', '#!/bin/sh\n')
-        self.assertEqual(self.run_gate(), (0, ['rt ci', 'check']))
+        self.assertEqual(self.run_gate(), (0, ['rt ci', CHECKED]))
 
     def test_previews(self):
         """A preview that differs fails the gate, one that could not be tried does not; what failed before is told at once."""
         for name in ('wine', 'chromium', 'x86_64-w64-mingw32-gcc'):
             self.stand_in(f'path/{name}', '#!/bin/sh\n')
-        all_three = ['rt ci', 'check', 'portable --check']
+        all_three = ['rt ci', CHECKED, 'portable --check']
         for proved, checked, tried, status, called in [
                 (0, 0, 0, 0, all_three), (0, 0, 1, 1, all_three), (0, 0, 2, 0, all_three), (0, 0, 124, 0, all_three),
                 (0, 1, 0, 1, all_three[:2]), (1, 0, 0, 1, all_three[:1])]:
