@@ -3,8 +3,8 @@ use Rattle.std.proofs.Common.{◌≡◌, ℕ, ◌+◌, ◌<◌, ◌≤◌, ◌^�
 use Rattle.std.specs.Prelude.{◌==◌}
 use Rattle.std.proofs.lemmas.Bool.{cond-true, cond-false, and_from, and_parts}
 use Rattle.std.proofs.lemmas.List.{length-append}
-use Rattle.zone_heap.specs.Rules.{Block, Holding, free_block, is_free, join_free, join_on, join_pair}
-use Rattle.zone_heap.specs.Headers.{word_at, with_word, block_in, holding_in, live_in, owner_in, code_tag}
+use Rattle.zone_heap.specs.Rules.{Block, Holding, free_block, is_free, join_free, join_on, join_pair, HEADER_SIZE}
+use Rattle.zone_heap.specs.Headers.{FREE_OWNER, word_at, with_word, block_in, holding_in, live_in, owner_in, code_tag}
 use Rattle.zone_heap.specs.Regions.{joined, blocks_in, blocks_from, AreLinked, last_place, ring_place, IsSplit}
 use Rattle.zone_heap.proofs.WordLemmas.{word_same, word_other, word_in_front, length-with_word, drop-with_word}
 
@@ -29,6 +29,7 @@ module _ (b c : Block) where
   abbrev both : Block
   both = free_block b.place (b.size + c.size)
 
+  -- two free neighbours join like one free block of both sizes
   pub join_absorb : (bs : List Block) → is_free b ≡ true → is_free c ≡ true → join_free (b ∷ c ∷ bs) ≡ join_free (both ∷ bs)
   join_absorb bs f g = go (join_free bs) where
     pair : (js : List Block) → join_pair b c js ≡ both ∷ js
@@ -39,54 +40,61 @@ module _ (b c : Block) where
     go (d ∷ js) = step (is_free d) refl where
       step : (t : Bool) → is_free d ≡ t → join_on b (join_on c (d ∷ js)) ≡ join_on both (d ∷ js)
       step true e =
-          let one : join_on c (d ∷ js) ≡ free_block c.place (c.size + d.size) ∷ js = cond-true (is_free c && is_free d) _ _ (and_from (is_free c) (is_free d) g e) in
-          let two : join_on b (free_block c.place (c.size + d.size) ∷ js) ≡ free_block b.place (b.size + (c.size + d.size)) ∷ js = cond-true (is_free b && true) _ _ (and_from (is_free b) true f refl) in
-          let three : join_on both (d ∷ js) ≡ free_block b.place (b.size + c.size + d.size) ∷ js = cond-true (is_free d) _ _ e in
+          let last_joined : join_on c (d ∷ js) ≡ free_block c.place (c.size + d.size) ∷ js =
+          cond-true (is_free c && is_free d) _ _ (and_from (is_free c) (is_free d) g e) in
+          let front_joined : join_on b (free_block c.place (c.size + d.size) ∷ js) ≡ free_block b.place (b.size + (c.size + d.size)) ∷ js =
+          cond-true (is_free b && true) _ _ (and_from (is_free b) true f refl) in
+          let both_joined : join_on both (d ∷ js) ≡ free_block b.place (b.size + c.size + d.size) ∷ js = cond-true (is_free d) _ _ e in
           let sum : b.size + (c.size + d.size) ≡ b.size + c.size + d.size = omega arith in
-          ap (join_on b) one ∙ two ∙ ap (λ n. free_block b.place n ∷ js) sum ∙ sym three
+          ap (join_on b) last_joined ∙ front_joined ∙ ap (λ n. free_block b.place n ∷ js) sum ∙ sym both_joined
       step false e =
           let off : (is_free c && is_free d) ≡ false = ap (λ t. is_free c && t) e ∙ ap (λ t. t && false) g in
-          let one : join_on c (d ∷ js) ≡ c ∷ d ∷ js = cond-false (is_free c && is_free d) _ _ off in
-          let three : join_on both (d ∷ js) ≡ both ∷ d ∷ js = cond-false (is_free d) _ _ e in
-          ap (join_on b) one ∙ pair (d ∷ js) ∙ sym three
+          let last_apart : join_on c (d ∷ js) ≡ c ∷ d ∷ js = cond-false (is_free c && is_free d) _ _ off in
+          let both_apart : join_on both (d ∷ js) ≡ both ∷ d ∷ js = cond-false (is_free d) _ _ e in
+          ap (join_on b) last_apart ∙ pair (d ∷ js) ∙ sym both_apart
 
+  -- two blocks that are not both free stay apart
   pub join_passes : (bs : List Block) → (is_free b && is_free c) ≡ false → join_free (b ∷ c ∷ bs) ≡ b ∷ join_free (c ∷ bs)
   join_passes bs apart = go (join_free bs) where
     go : (js : List Block) → join_on b (join_on c js) ≡ b ∷ join_on c js
     go [] = cond-false (is_free b && is_free c) _ _ apart
     go (d ∷ js) = step (is_free c && is_free d) refl where
-      step : (t : Bool) → (is_free c && is_free d) ≡ t → join_on b (cond t (free_block c.place (c.size + d.size) ∷ js) (c ∷ d ∷ js)) ≡ b ∷ cond t (free_block c.place (c.size + d.size) ∷ js) (c ∷ d ∷ js)
-      step true e = let p = and_parts (is_free c) (is_free d) e in cond-false (is_free b && true) _ _ (ap (λ t. is_free b && t) (sym p.0) ∙ apart)
+      step : (t : Bool) → (is_free c && is_free d) ≡ t
+          → join_on b (cond t (free_block c.place (c.size + d.size) ∷ js) (c ∷ d ∷ js)) ≡ b ∷ cond t (free_block c.place (c.size + d.size) ∷ js) (c ∷ d ∷ js)
+      step true e = let both_free = and_parts (is_free c) (is_free d) e in cond-false (is_free b && true) _ _ (ap (λ t. is_free b && t) (sym both_free.0) ∙ apart)
       step false e = cond-false (is_free b && is_free c) _ _ apart
 
 -- the bytes of a block say the same where its words and what is behind its header are the same
-pub same_block : (p : ℕ) (c d : List ℕ) → length d ≡ length c → word_at d 4 ≡ word_at c 4 → word_at d 8 ≡ word_at c 8 → word_at d 12 ≡ word_at c 12 → drop 24 d ≡ drop 24 c → block_in p d ≡ block_in p c
+pub same_block : (p : ℕ) (c d : List ℕ) → length d ≡ length c → word_at d 4 ≡ word_at c 4 → word_at d 8 ≡ word_at c 8 → word_at d 12 ≡ word_at c 12
+    → drop HEADER_SIZE d ≡ drop HEADER_SIZE c → block_in p d ≡ block_in p c
 same_block p c d l a o t e = λ i. record {
   place = p;
   size = l i;
-  holding = cond (o i == 4294967295) None (Some (record { owner = owner_in (o i); tag = code_tag (t i); asked = a i; bytes = take (a i) (e i) }));
+  holding = cond (o i == FREE_OWNER) None (Some (record { owner = owner_in (o i); tag = code_tag (t i); asked = a i; bytes = take (a i) (e i) }));
 }
 
 -- a part of two
 abbrev pub two_parts : List ℕ → List ℕ → List ℕ
 two_parts c d = with_word (c ++ d) 0 (length c + length d)
 
-module _ (c d : List ℕ) (large : 24 ≤ length c) where
+module _ (c d : List ℕ) (large : HEADER_SIZE ≤ length c) where
   pub length-two : length (two_parts c d) ≡ length c + length d
-  length-two = let k = length-append c d in length-with_word (c ++ d) 0 (length c + length d) (omega arith) ∙ k
+  length-two = let joined_length = length-append c d in length-with_word (c ++ d) 0 (length c + length d) (omega arith) ∙ joined_length
 
   pub told-two : length c + length d < 2 ^ 32 → word_at (two_parts c d) 0 ≡ length c + length d
-  told-two h = word_same (c ++ d) 0 (length c + length d) (let k = length-append c d in omega arith) h
+  told-two h = word_same (c ++ d) 0 (length c + length d) (let joined_length = length-append c d in omega arith) h
 
+  -- where the first of the two is free, both are one free block
   pub block-two : (p : ℕ) → is_free (block_in p c) ≡ true → block_in p (two_parts c d) ≡ free_block p (length c + length d)
   block-two p f =
-      let k = length-append c d in
-      let owner : word_at (two_parts c d) 8 ≡ word_at c 8 = word_other (c ++ d) 0 (length c + length d) 8 (omega arith) (inr (omega arith)) ∙ word_in_front c d 8 (omega arith) in
-      let none : holding_in (two_parts c d) ≡ None = nothing (two_parts c d) (ap (λ n. n == 4294967295) owner ∙ told (word_at c 8 == 4294967295) (live_in c) f) in
+      let joined_length = length-append c d in
+      let owner : word_at (two_parts c d) 8 ≡ word_at c 8 =
+      word_other (c ++ d) 0 (length c + length d) 8 (omega arith) (inr (omega arith)) ∙ word_in_front c d 8 (omega arith) in
+      let none : holding_in (two_parts c d) ≡ None = nothing (two_parts c d) (ap (λ n. n == FREE_OWNER) owner ∙ told (word_at c 8 == FREE_OWNER) (live_in c) f) in
       let size = length-two in
       λ i. record { place = p; size = size i; holding = none i } where
-        nothing : (e : List ℕ) → (word_at e 8 == 4294967295) ≡ true → holding_in e ≡ None
-        nothing e t = cond-true (word_at e 8 == 4294967295) None (Some (live_in e)) t
+        nothing : (e : List ℕ) → (word_at e 8 == FREE_OWNER) ≡ true → holding_in e ≡ None
+        nothing e t = cond-true (word_at e 8 == FREE_OWNER) None (Some (live_in e)) t
 
         told : (t : Bool) (h : Holding) → is_free (record { place = p; size = length c; holding = cond t None (Some h) }) ≡ true → t ≡ true
         told true h e = refl
@@ -96,7 +104,7 @@ module _ (c d : List ℕ) (large : 24 ≤ length c) where
 abbrev pub relinked : List ℕ → ℕ → ℕ → List ℕ
 relinked c next previous = with_word (with_word c 16 next) 20 previous
 
-module _ (c : List ℕ) (next previous : ℕ) (large : 24 ≤ length c) where
+module _ (c : List ℕ) (next previous : ℕ) (large : HEADER_SIZE ≤ length c) where
   abbrev pub mid : List ℕ
   mid = with_word c 16 next
 
@@ -104,24 +112,27 @@ module _ (c : List ℕ) (next previous : ℕ) (large : 24 ≤ length c) where
   length-mid = length-with_word c 16 next (omega arith)
 
   pub length-relinked : length (relinked c next previous) ≡ length c
-  length-relinked = let k = length-mid in length-with_word mid 20 previous (omega arith) ∙ k
+  length-relinked = let middle_length = length-mid in length-with_word mid 20 previous (omega arith) ∙ middle_length
 
+  -- the words before the links stay
   pub word-relinked : (k : ℕ) → k + 4 ≤ 16 → word_at (relinked c next previous) k ≡ word_at c k
-  word-relinked k h = let l = length-mid in word_other mid 20 previous k (omega arith) (inl (omega arith)) ∙ word_other c 16 next k (omega arith) (inl (omega arith))
+  word-relinked k h = let middle_length = length-mid in
+      word_other mid 20 previous k (omega arith) (inl (omega arith)) ∙ word_other c 16 next k (omega arith) (inl (omega arith))
 
   pub next-relinked : next < 2 ^ 32 → word_at (relinked c next previous) 16 ≡ next
-  next-relinked h = let l = length-mid in word_other mid 20 previous 16 (omega arith) (inl (omega arith)) ∙ word_same c 16 next (omega arith) h
+  next-relinked h = let middle_length = length-mid in word_other mid 20 previous 16 (omega arith) (inl (omega arith)) ∙ word_same c 16 next (omega arith) h
 
   pub previous-relinked : previous < 2 ^ 32 → word_at (relinked c next previous) 20 ≡ previous
-  previous-relinked h = let l = length-mid in word_same mid 20 previous (omega arith) h
+  previous-relinked h = let middle_length = length-mid in word_same mid 20 previous (omega arith) h
 
+  -- links are no part of what a block is
   pub block-relinked : (p : ℕ) → block_in p (relinked c next previous) ≡ block_in p c
   block-relinked p =
-      let l = length-mid in
-      same_block p c (relinked c next previous) length-relinked (word-relinked 4 (omega arith)) (word-relinked 8 (omega arith)) (word-relinked 12 (omega arith)) (drop-with_word mid 20 previous 24 (omega arith) (omega arith) ∙ drop-with_word c 16 next 24 (omega arith) (omega arith))
+      let middle_length = length-mid in
+      same_block p c (relinked c next previous) length-relinked (word-relinked 4 (omega arith)) (word-relinked 8 (omega arith)) (word-relinked 12 (omega arith)) (drop-with_word mid 20 previous HEADER_SIZE (omega arith) (omega arith) ∙ drop-with_word c 16 next HEADER_SIZE (omega arith) (omega arith))
 
 -- the first part with another previous place
-module _ (c : List ℕ) (previous : ℕ) (large : 24 ≤ length c) where
+module _ (c : List ℕ) (previous : ℕ) (large : HEADER_SIZE ≤ length c) where
   pub length-ringed : length (with_word c 20 previous) ≡ length c
   length-ringed = length-with_word c 20 previous (omega arith)
 
@@ -129,20 +140,23 @@ module _ (c : List ℕ) (previous : ℕ) (large : 24 ≤ length c) where
   word-ringed k h = word_other c 20 previous k (omega arith) (inl (omega arith))
 
   pub block-ringed : (p : ℕ) → block_in p (with_word c 20 previous) ≡ block_in p c
-  block-ringed p = same_block p c (with_word c 20 previous) length-ringed (word-ringed 4 (omega arith)) (word-ringed 8 (omega arith)) (word-ringed 12 (omega arith)) (drop-with_word c 20 previous 24 (omega arith) (omega arith))
+  block-ringed p = same_block p c (with_word c 20 previous) length-ringed (word-ringed 4 (omega arith)) (word-ringed 8 (omega arith)) (word-ringed 12 (omega arith)) (drop-with_word c 20 previous HEADER_SIZE (omega arith) (omega arith))
 
   pub linked-ringed : (e p q : ℕ) (cs : List (List ℕ)) → previous < 2 ^ 32 → AreLinked e q p (c ∷ cs) → AreLinked e previous p (with_word c 20 previous ∷ cs)
   linked-ringed e p q cs h l =
-      let n = length-ringed in
-      (word-ringed 16 (omega arith) ∙ l.0 ∙ ap (λ k. ring_place (p + k) e) (sym n), word_same c 20 previous (omega arith) h, subst (λ k. AreLinked e p (p + k) cs) (sym n) l.2)
+      let length_kept = length-ringed in
+      (word-ringed 16 (omega arith) ∙ l.0 ∙ ap (λ k. ring_place (p + k) e) (sym length_kept), word_same c 20 previous (omega arith) h, subst (λ k. AreLinked e p (p + k) cs) (sym length_kept) l.2)
 
-pub linked-append : (e q p : ℕ) (xs ys : List (List ℕ)) → AreLinked e q p xs → AreLinked e (last_place q p xs) (p + length (joined xs)) ys → AreLinked e q p (xs ++ ys)
-linked-append e q p [] ys a b = subst (λ n. AreLinked e q n ys) (let k : p + length (joined []) ≡ p = omega arith in k) b
-linked-append e q p (c ∷ xs) ys a b = (a.0, a.1, linked-append e p (p + length c) xs ys a.2 (subst (λ n. AreLinked e (last_place p (p + length c) xs) n ys) (let l = length-append c (joined xs) in omega arith) b))
+-- linked parts behind linked parts are linked
+pub linked-append : (e q p : ℕ) (xs ys : List (List ℕ)) → AreLinked e q p xs → AreLinked e (last_place q p xs) (p + length (joined xs)) ys
+    → AreLinked e q p (xs ++ ys)
+linked-append e q p [] ys a b = subst (λ n. AreLinked e q n ys) (let place_is : p + length (joined []) ≡ p = omega arith in place_is) b
+linked-append e q p (c ∷ xs) ys a b = (a.0, a.1, linked-append e p (p + length c) xs ys a.2 (subst (λ n. AreLinked e (last_place p (p + length c) xs) n ys) (let joined_length = length-append c (joined xs) in omega arith) b))
 
+-- the last place, with one part more
 pub last-append : (q p : ℕ) (xs : List (List ℕ)) (c : List ℕ) → last_place q p (xs ++ (c ∷ [])) ≡ p + length (joined xs)
 last-append q p [] c = omega arith
-last-append q p (d ∷ xs) c = last-append p (p + length d) xs c ∙ (let l = length-append d (joined xs) in omega arith)
+last-append q p (d ∷ xs) c = last-append p (p + length d) xs c ∙ (let joined_length = length-append d (joined xs) in omega arith)
 
 pub last-any : (q r p : ℕ) (c : List ℕ) (d : List ℕ) (cs : List (List ℕ)) → length c ≡ length d → last_place q p (c ∷ cs) ≡ last_place r p (d ∷ cs)
 last-any q r p c d cs e = ap (λ n. last_place p (p + n) cs) e

@@ -17,15 +17,17 @@ FitMeans v w f i bs None = (walk_place v w f bs ≡ None) × (walk v w bs ≡ un
 FitMeans v w f i bs (Some r) = (walk_place v w f bs ≡ Some r.0) × (i < r.1) × (r.1 ≤ i + length bs) × (walk v w bs ≡ unpinned (take (r.1 - i) bs))
 
 one_less : (n i : ℕ) (b : Block) (bs : List Block) → i + 1 < n → take (n - i) (b ∷ bs) ≡ b ∷ take (n - (i + 1)) bs
-one_less n i b bs h = let e : n - i ≡ suc (n - (i + 1)) = omega arith in rw e refl
+one_less n i b bs h = let one_more : n - i ≡ suc (n - (i + 1)) = omega arith in rw one_more refl
 
 -- past a pinned block
-past_pinned : (v w i : ℕ) (f : Option ℕ) (b : Block) (bs : List Block) (r : Option (ℕ × ℕ)) → is_pinned b ≡ true → FitMeans w w None (i + 1) bs r → FitMeans v w f i (b ∷ bs) r
+past_pinned : (v w i : ℕ) (f : Option ℕ) (b : Block) (bs : List Block) (r : Option (ℕ × ℕ)) → is_pinned b ≡ true → FitMeans w w None (i + 1) bs r
+    → FitMeans v w f i (b ∷ bs) r
 past_pinned v w i f b bs None p m = (rw p m.0, rw p m.1)
 past_pinned v w i f b bs (Some r) p m = (rw p m.0, omega arith, omega arith, rw (one_less r.1 i b bs m.1, p) m.3)
 
 -- past a block that is not pinned, where the run is too small yet
-past_open : (v w i : ℕ) (f : Option ℕ) (b : Block) (bs : List Block) (r : Option (ℕ × ℕ)) → is_pinned b ≡ false → b.size < v → FitMeans (v - b.size) w (Some (unwrap_or f b.place)) (i + 1) bs r → FitMeans v w f i (b ∷ bs) r
+past_open : (v w i : ℕ) (f : Option ℕ) (b : Block) (bs : List Block) (r : Option (ℕ × ℕ)) → is_pinned b ≡ false → b.size < v
+    → FitMeans (v - b.size) w (Some (unwrap_or f b.place)) (i + 1) bs r → FitMeans v w f i (b ∷ bs) r
 past_open v w i f b bs None p h m = (rw (p, lt-leb v b.size h) m.0, rw (p, lt-leb v b.size h) (ap (λ cs. b ∷ cs) m.1))
 past_open v w i f b bs (Some r) p h m =
     (rw (p, lt-leb v b.size h) m.0, omega arith, omega arith, rw (one_less r.1 i b bs m.1, p, lt-leb v b.size h) (ap (λ cs. b ∷ cs) m.3))
@@ -39,10 +41,11 @@ run_place_is place sum here = go (sum == 0) where
 run_goes_on : (place sum : ℕ) → 0 < sum → run_of place sum ≡ Some place
 run_goes_on place sum h = cond-false (sum == 0) None (Some place) (ne_eqb sum 0 (λ e. omega arith))
 
-fit_here : (v w i place sum : ℕ) (b : Block) (bs : List Block) → is_pinned b ≡ false → v ≤ b.size → FitMeans v w (run_of place sum) i (b ∷ bs) (Some (run_place place sum b.place, i + 1))
+fit_here : (v w i place sum : ℕ) (b : Block) (bs : List Block) → is_pinned b ≡ false → v ≤ b.size
+    → FitMeans v w (run_of place sum) i (b ∷ bs) (Some (run_place place sum b.place, i + 1))
 fit_here v w i place sum b bs p h =
-    let one : i + 1 - i ≡ 1 = omega arith in
-    (rw (p, le-leb v b.size h) (ap Some (run_place_is place sum b.place)), omega arith, omega arith, rw (one, p, le-leb v b.size h) refl)
+    let one_block : i + 1 - i ≡ 1 = omega arith in
+    (rw (p, le-leb v b.size h) (ap Some (run_place_is place sum b.place)), omega arith, omega arith, rw (one_block, p, le-leb v b.size h) refl)
 
 module _ (w : ℕ) (b : Block) (bs : List Block) (v place sum i : ℕ) (e : v + sum ≡ w) (size : 0 < b.size) where
   fit_small : is_pinned b ≡ false → FitMeans (v - b.size) w (run_of (run_place place sum b.place) (sum + b.size)) (i + 1) bs (fit_from w (run_place place sum b.place) (sum + b.size) (i + 1) bs) → b.size < v

@@ -11,22 +11,22 @@ no_room_first : (w : ℕ) (gs hs : List (List Block)) → first_room w (gs ++ hs
 no_room_first w gs hs e = go (first_room w gs) refl where
   go : (r : Option ℕ) → first_room w gs ≡ r → r ≡ None
   go None k = refl
-  go (Some p) k = let f = (found_first w p gs hs k).0 in cc
+  go (Some p) k = let found_too = (found_first w p gs hs k).0 in cc
 
 no_fit_of : (w p q : ℕ) (bs : List Block) → 0 < w → Tiles p q bs → first_room w (gaps bs) ≡ None → NoFit w bs
 no_fit_of w p q bs pos t e = go (fit_from w 0 0 0 bs) refl where
   go : (r : Option (ℕ × ℕ)) → fit_from w 0 0 0 bs ≡ r → NoFit w bs
   go None k = no_fit w p q bs pos t k
-  go (Some r) k = let f = fit_is w p q bs r pos t k in let g = f.place_is in absurd (cc)
+  go (Some r) k = let fit_there = fit_is w p q bs r pos t k in let room_there = fit_there.place_is in absurd (cc)
 
-pub full_purges : (w : ℕ) (z : Heap) → IsSound z → 0 < w → first_room w (stretches z.rover z.blocks) ≡ None → purge_among (passed_blocks w (stretches z.rover z.blocks)) z.blocks ≡ map purge_block z.blocks
+pub full_purges : (w : ℕ) (z : Heap) → IsSound z → 0 < w → first_room w (stretches z.rover z.blocks) ≡ None
+    → purge_among (passed_blocks w (stretches z.rover z.blocks)) z.blocks ≡ map purge_block z.blocks
 full_purges w z s pos e =
-    let bs = z.blocks in
-    let front = gaps (blocks_from (start_in z.rover bs) bs) in
-    let none = no_room_first w front (gaps bs) e in
-    let later = found_later w front (gaps bs) none in
+    let bs = z.blocks in let front = gaps (blocks_from (start_in z.rover bs) bs) in
+    let none = no_room_first w front (gaps bs) e in let later = found_later w front (gaps bs) none in
     let fit = no_fit_of w 0 z.size bs pos s.tiles (sym later.0 ∙ e) in
-    ap (λ ch. purge_among ch bs) (later.1 ∙ ap (λ xs. passed_blocks w front ++ xs) fit.passed_is) ∙ purge_covered _ bs (covers_after (passed_blocks w front) (unpinned bs) bs (covers_itself bs))
+    ap (λ ch. purge_among ch bs) (later.1 ∙ ap (λ xs. passed_blocks w front ++ xs) fit.passed_is)
+    ∙ purge_covered _ bs (covers_after (passed_blocks w front) (unpinned bs) bs (covers_itself bs))
 
 abbrev pub NotPurgeable : Block → Type 0
 NotPurgeable b = is_purgeable b ≡ false

@@ -9,7 +9,7 @@ use Rattle.zone_rules.proofs.OwnerLemmas.{owned_cut, owned_beside, owner_eq, lac
 use Rattle.zone_rules.proofs.JoinLemmas.{Unique-join_free, AllFit-join_free}
 use Rattle.zone_rules.proofs.ZoneLemmas.{Unique-freed, AllFit-freed, release_frees}
 use Rattle.zone_heap.specs.declared.homes.Homes.{Homes}
-use Rattle.zone_heap.specs.Homes.{home_index, home_in, home_of, composites_in, IsSlot, AreExact, AreHome, AreAlike, IsSet}
+use Rattle.zone_heap.specs.Homes.{NO_HOME, home_index, home_in, home_of, composites_in, IsSlot, AreExact, AreHome, AreAlike, IsSet}
 
 pub fit_at : (l m : ℕ) (F R : List Block) (b : Block) → AllFit l m (F ++ (b ∷ R)) → FitsHolding l m b.size b.holding
 fit_at l m [] R b f = f.0
@@ -27,7 +27,8 @@ lacks_at o [] R b l = l.0
 lacks_at o (a ∷ F) R b l = lacks_at o F R b l.1
 
 -- the one block that an owner holds, freed
-pub free_one : (o : Owner) (F R : List Block) (b : Block) → is_held_by o b ≡ true → Unique (F ++ (b ∷ R)) → free_owner o (F ++ (b ∷ R)) ≡ F ++ (free_block b.place b.size ∷ R)
+pub free_one : (o : Owner) (F R : List Block) (b : Block) → is_held_by o b ≡ true → Unique (F ++ (b ∷ R))
+    → free_owner o (F ++ (b ∷ R)) ≡ F ++ (free_block b.place b.size ∷ R)
 free_one o [] R b held u = ap₂ ◌∷◌ (cond-true (is_held_by o b) _ _ held) (free_none o R (lacks_held o b.holding R held u.0))
 free_one o (a ∷ F) R b held u = ap₂ ◌∷◌ (cond-false (is_held_by o a) _ _ (other (is_held_by o a) refl)) (free_one o F R b held u.1) where
   other : (t : Bool) → is_held_by o a ≡ t → t ≡ false
@@ -37,15 +38,17 @@ free_one o (a ∷ F) R b held u = ap₂ ◌∷◌ (cond-false (is_held_by o a) _
 module _ (homes : Homes) (few : homes.lumps ≤ length homes.list.items) where
   -- a slot's entry is within the list
   pub slot_small : (o : Owner) → IsSlot homes o → home_index homes.lumps o.kind o.number < length homes.list.items
-  slot_small o s = let k = code_small homes.lumps (composites_in homes) o s in omega arith
+  slot_small o s = let number_small = code_small homes.lumps (composites_in homes) o s in omega arith
 
   -- two slots of one entry are one owner
-  pub slot_same : (o p : Owner) → IsSlot homes o → IsSlot homes p → home_index homes.lumps o.kind o.number ≡ home_index homes.lumps p.kind p.number → same_owner o p ≡ true
+  pub slot_same : (o p : Owner) → IsSlot homes o → IsSlot homes p → home_index homes.lumps o.kind o.number ≡ home_index homes.lumps p.kind p.number
+      → same_owner o p ≡ true
   slot_same o p s t e = code_same homes.lumps (composites_in homes) o p s t e
 
 -- a slot of homes is one of others of the same slots
 pub slot_kept : (old new : Homes) → AreAlike old new → (o : Owner) → IsSlot new o → IsSlot old o
-slot_kept old new a o s = let l = a.0 in let n = a.1 in (λ e. let k = s.0 e in omega arith, λ e. let k = s.1 e in omega arith, s.2)
+slot_kept old new a o s =
+    let lumps_same = a.0 in let length_same = a.1 in (λ e. let number_below = s.0 e in omega arith, λ e. let number_below = s.1 e in omega arith, s.2)
 
 -- blocks that fit the slots of homes fit those of others of the same slots
 pub alike_fits : (old new : Homes) → AreAlike old new → (bs : List Block) → AllFit old.lumps (composites_in old) bs → AllFit new.lumps (composites_in new) bs
@@ -60,7 +63,8 @@ pub set_alike : (old new : Homes) (o : Owner) (home : ℕ) → IsSet old new o h
 set_alike old new o home s = (s.lumps, ap length s.list ∙ length-set old.list.items (home_index old.lumps o.kind o.number) home)
 
 -- one home set, and other blocks
-module _ (old new : Homes) (o : Owner) (home : ℕ) (bs cs : List Block) (s : IsSet old new o home) (few : old.lumps ≤ length old.list.items) (slot : IsSlot old o) (exact : AreExact old bs) where
+module _ (old new : Homes) (o : Owner) (home : ℕ) (bs cs : List Block) (s : IsSet old new o home) (few : old.lumps ≤ length old.list.items)
+    (slot : IsSlot old o) (exact : AreExact old bs) where
   abbrev after : ℕ → ℕ → ℕ
   after kind number = slice_index (slice_set old.list.items (home_index old.lumps o.kind o.number) home) (home_index old.lumps kind number)
 
@@ -84,7 +88,8 @@ module _ (homes : Homes) (F R : List Block) (b : Block) (h : Holding) (holds : b
 
   -- a block's owner is a slot
   pub slot_of : IsSlot homes h.owner
-  slot_of = let f = subst (FitsHolding homes.lumps (composites_in homes) b.size) holds (fit_at homes.lumps (composites_in homes) F R b k.fits) in (f.3, f.4, f.5)
+  slot_of = let owner_fits = subst (FitsHolding homes.lumps (composites_in homes) b.size) holds (fit_at homes.lumps (composites_in homes) F R b k.fits) in
+      (owner_fits.3, owner_fits.4, owner_fits.5)
 
   -- the entry of a block's owner is within the list
   pub index_small : home_index homes.lumps h.owner.kind h.owner.number < length homes.list.items
@@ -97,17 +102,15 @@ module _ (homes : Homes) (F R : List Block) (b : Block) (h : Holding) (holds : b
   owned_is o = ap (owned_block o) (sym freed_is) ∙ sym (owned_block-join_free o (free_owner h.owner (F ++ (b ∷ R))))
 
   -- the owners of the blocks, and their homes, are right after the block was freed and the owner's home emptied
-  pub freed_home : (new : Homes) → IsSet homes new h.owner 4294967295 → AreHome new (F ++ (free_block b.place b.size ∷ R))
+  pub freed_home : (new : Homes) → IsSet homes new h.owner NO_HOME → AreHome new (F ++ (free_block b.place b.size ∷ R))
   freed_home new set =
-      let a = set_alike homes new h.owner 4294967295 set in
-      let few' = k.few in
-      let l = a.0 in
-      let n = a.1 in
+      let alike = set_alike homes new h.owner NO_HOME set in let few' = k.few in let lumps_same = alike.0 in
+      let length_same = alike.1 in
       record {
         few = omega arith;
         unique = subst Unique freed_is (Unique-freed _ (release_frees h.owner) (F ++ (b ∷ R)) k.unique);
-        fits = alike_fits homes new a _ (subst (AllFit homes.lumps (composites_in homes)) freed_is (AllFit-freed _ (release_frees h.owner) homes.lumps (composites_in homes) (F ++ (b ∷ R)) k.fits));
-        exact = set_exact homes new h.owner 4294967295 (F ++ (b ∷ R)) (F ++ (free_block b.place b.size ∷ R)) set k.few slot_of k.exact (sym (ap home_of (owned_is h.owner ∙ owned_freed h.owner (F ++ (b ∷ R))))) (λ p e. owned_is p ∙ owned_freed_others p h.owner e (F ++ (b ∷ R)));
+        fits = alike_fits homes new alike _ (subst (AllFit homes.lumps (composites_in homes)) freed_is (AllFit-freed _ (release_frees h.owner) homes.lumps (composites_in homes) (F ++ (b ∷ R)) k.fits));
+        exact = set_exact homes new h.owner NO_HOME (F ++ (b ∷ R)) (F ++ (free_block b.place b.size ∷ R)) set k.few slot_of k.exact (sym (ap home_of (owned_is h.owner ∙ owned_freed h.owner (F ++ (b ∷ R))))) (λ p e. owned_is p ∙ owned_freed_others p h.owner e (F ++ (b ∷ R)));
       }
 
 -- joined blocks have the same owners
@@ -120,7 +123,8 @@ joined_home homes bs k = record {
 }
 
 -- a free block given to a slot without one, and the slot's home set
-pub taken_exact : (homes new : Homes) (F R : List Block) (p size wanted : ℕ) (h : Holding) → AreHome homes (F ++ (free_block p size ∷ R)) → IsSlot homes h.owner → Lacks h.owner (F ++ (free_block p size ∷ R)) → IsSet homes new h.owner p
+pub taken_exact : (homes new : Homes) (F R : List Block) (p size wanted : ℕ) (h : Holding) → AreHome homes (F ++ (free_block p size ∷ R)) → IsSlot homes h.owner
+    → Lacks h.owner (F ++ (free_block p size ∷ R)) → IsSet homes new h.owner p
     → AreExact new (F ++ (cut_block wanted h (free_block p size) ++ R))
 taken_exact homes new F R p size wanted h k slot lacks set =
     set_exact homes new h.owner p (F ++ (free_block p size ∷ R)) (F ++ (cut_block wanted h (free_block p size) ++ R)) set k.few slot k.exact (sym (ap home_of (owned_cut p size wanted h F R lacks))) (λ o e. owned_beside p size wanted h o e F R)

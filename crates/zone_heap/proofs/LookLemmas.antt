@@ -3,11 +3,11 @@ use Rattle.std.proofs.Common.{◌≡◌, ℕ, ◌+◌, ◌/◌, ◌%◌, ◌<◌
 use Rattle.std.specs.Prelude.{◌==◌, IsSome, option_and_then}
 use Rattle.std.proofs.lemmas.Bool.{cond-false, false≢true}
 use Rattle.std.proofs.lemmas.List.{length-append}
-use Rattle.zone_heap.specs.Rules.{Block, Owner, Unique, free_block, free_owner, holding_of, holds_for, is_held_by, owned_block}
-use Rattle.zone_heap.specs.Headers.{owner_in, word_at, with_use, freed, block_in, live_in}
+use Rattle.zone_heap.specs.Rules.{Block, Owner, Unique, free_block, free_owner, holding_of, holds_for, is_held_by, owned_block, HEADER_SIZE}
+use Rattle.zone_heap.specs.Headers.{FREE_OWNER, KIND_UNIT, owner_in, word_at, with_use, freed, block_in, live_in}
 use Rattle.zone_heap.specs.Regions.{joined, blocks_in, blocks_from, AllWhole, IsLaid, IsSplit}
 use Rattle.zone_heap.specs.declared.homes.Homes.{Homes}
-use Rattle.zone_heap.specs.Homes.{home_index, home_in, home_of, AreHome, IsHomed, IsSet}
+use Rattle.zone_heap.specs.Homes.{NO_HOME, home_index, home_in, home_of, AreHome, IsHomed, IsSet}
 use Rattle.zone_heap.proofs.WordLemmas.{word_within, used_within, length-with_use}
 use Rattle.zone_heap.proofs.PurgeLemmas.{length-freed, told-freed, block-freed}
 use Rattle.zone_heap.proofs.HomeLemmas.{freed_home, index_small, free_one}
@@ -19,12 +19,14 @@ record IsOwned (o : Owner) (bs : List Block) (b : Block) : Type 0 where
   is : bs ≡ front ++ (b ∷ rest)
   held : is_held_by o b ≡ true
 
+-- an owner's block stands among the blocks
 owned_parts : (o : Owner) (bs : List Block) (b : Block) → owned_block o bs ≡ Some b → IsOwned o bs b
 owned_parts o [] b e = cc
 owned_parts o (c ∷ bs) b e = go (is_held_by o c) refl e (λ k. owned_parts o bs b k) where
   go : (t : Bool) → is_held_by o c ≡ t → cond t (Some c) (owned_block o bs) ≡ Some b → (owned_block o bs ≡ Some b → IsOwned o bs b) → IsOwned o (c ∷ bs) b
   go true h x k = let same : c ≡ b = cc in record { front = []; rest = bs; is = ap (λ y. y ∷ bs) same; held = ap (is_held_by o) (sym same) ∙ h }
-  go false h x k = let r = k x in record { front = c ∷ r.front; rest = r.rest; is = ap (λ ys. c ∷ ys) r.is; held = r.held }
+  go false h x k = let found_behind = k x in
+      record { front = c ∷ found_behind.front; rest = found_behind.rest; is = ap (λ ys. c ∷ ys) found_behind.is; held = found_behind.held }
 
 -- a live slot's block, and what the bytes at its place say
 pub record IsFound (region : List ℕ) (o : Owner) (place : ℕ) : Type 0 where
@@ -43,9 +45,9 @@ pub record IsFound (region : List ℕ) (o : Owner) (place : ℕ) : Type 0 where
   pub block_is : block ≡ block_in place part
   pub others_is : blocks_from (place + length part) others ≡ rest
   pub holds : block.holding ≡ Some (live_in part)
-  pub large : 24 ≤ length part
+  pub large : HEADER_SIZE ≤ length part
   pub fits : place + length part ≤ length region
-  pub words : (k : ℕ) → k + 4 ≤ 24 → word_at region (place + k) ≡ word_at part k
+  pub words : (k : ℕ) → k + 4 ≤ HEADER_SIZE → word_at region (place + k) ≡ word_at part k
 
 some_is : (o : Option Block) → IsSome o → (b : Block) × (o ≡ Some b)
 some_is None s = cc
@@ -55,39 +57,40 @@ held_live : (o : Owner) (c : List ℕ) (t : Bool) → holds_for o (cond t None (
 held_live o c true e = absurd (false≢true e)
 held_live o c false e = refl
 
-pub look : (region : List ℕ) (laid : IsLaid region) (o : Owner) (place : ℕ) → IsSome (owned_block o (blocks_in region)) → place ≡ home_of (owned_block o (blocks_in region)) → IsFound region o place
+-- a live slot's block is found at its home
+pub look : (region : List ℕ) (laid : IsLaid region) (o : Owner) (place : ℕ) → IsSome (owned_block o (blocks_in region))
+    → place ≡ home_of (owned_block o (blocks_in region)) → IsFound region o place
 look region laid o place live at =
-    let s = some_is (owned_block o (blocks_in region)) live in
-    let b = s.0 in
-    let e = s.1 in
-    let w = owned_parts o (blocks_in region) b e in
-    let here : b.place ≡ place = sym (at ∙ ap home_of e) in
-    let m = among region laid w.front w.rest b w.is in
-    let whole = subst AllWhole m.rest_is m.split.rest_whole in
-    let is = m.split.is ∙ ap (λ cs. joined m.split.front ++ joined cs) m.rest_is in
-    let held = ap (is_held_by o) m.part_is ∙ w.held in
-    let a = ap length is ∙ length-append (joined m.split.front) (m.part ++ joined m.others) in
-    let d = length-append m.part (joined m.others) in
-    let k = m.split.at_is in
+    let owned_there = some_is (owned_block o (blocks_in region)) live in let block = owned_there.0 in
+    let owned_is = owned_there.1 in let around = owned_parts o (blocks_in region) block owned_is in
+    let here : block.place ≡ place = sym (at ∙ ap home_of owned_is) in
+    let there = among region laid around.front around.rest block around.is in
+    let whole = subst AllWhole there.rest_is there.split.rest_whole in
+    let is = there.split.is ∙ ap (λ cs. joined there.split.front ++ joined cs) there.rest_is in
+    let held = ap (is_held_by o) there.part_is ∙ around.held in
+    let region_length = ap length is ∙ length-append (joined there.split.front) (there.part ++ joined there.others) in
+    let part_and_others = length-append there.part (joined there.others) in let front_length = there.split.at_is in
     record {
-      block = b;
-      owned = e;
+      block = block;
+      owned = owned_is;
       place_is = here;
-      front = w.front;
-      rest = w.rest;
-      is = w.is;
-      held = w.held;
-      part = m.part;
-      others = m.others;
-      split = record { front = m.split.front; rest = m.split.rest; is = m.split.is; at_is = m.split.at_is ∙ here; front_whole = m.split.front_whole; rest_whole = m.split.rest_whole };
-      rest_is = m.rest_is;
-      front_is = m.front_is;
-      block_is = sym m.part_is ∙ ap (λ p. block_in p m.part) here;
-      others_is = ap (λ p. blocks_from (p + length m.part) m.others) (sym here) ∙ m.others_is;
-      holds = sym (ap (λ (x : Block). x.holding) m.part_is) ∙ cond-false (word_at m.part 8 == 4294967295) None (Some (live_in m.part)) (held_live o m.part (word_at m.part 8 == 4294967295) held);
+      front = around.front;
+      rest = around.rest;
+      is = around.is;
+      held = around.held;
+      part = there.part;
+      others = there.others;
+      split = record { front = there.split.front; rest = there.split.rest; is = there.split.is; at_is = there.split.at_is ∙ here; front_whole = there.split.front_whole; rest_whole = there.split.rest_whole };
+      rest_is = there.rest_is;
+      front_is = there.front_is;
+      block_is = sym there.part_is ∙ ap (λ p. block_in p there.part) here;
+      others_is = ap (λ p. blocks_from (p + length there.part) there.others) (sym here) ∙ there.others_is;
+      holds = sym (ap (λ (x : Block). x.holding) there.part_is)
+          ∙ cond-false (word_at there.part 8 == FREE_OWNER) None (Some (live_in there.part)) (held_live o there.part (word_at there.part 8 == FREE_OWNER) held);
       large = whole.0;
       fits = omega arith;
-      words = λ n h. let l : place + n ≡ length (joined m.split.front) + n = omega arith in ap (λ xs. word_at xs (place + n)) is ∙ word_within (joined m.split.front) m.part (joined m.others) n (place + n) l (let q = whole.0 in omega arith);
+      words = λ n h. let place_is : place + n ≡ length (joined there.split.front) + n = omega arith in ap (λ xs. word_at xs (place + n)) is
+          ∙ word_within (joined there.split.front) there.part (joined there.others) n (place + n) place_is (let part_large = whole.0 in omega arith);
     }
 
 -- what a live slot holds
@@ -97,7 +100,7 @@ holding_found region o place f = ap (option_and_then (λ (b : Block). b.holding)
 -- a live slot's block freed
 module _ (homes : Homes) (region : List ℕ) (o : Owner) (place : ℕ) (f : IsFound region o place) (home : AreHome homes (blocks_in region)) where
   abbrev pub found_after : List ℕ
-  found_after = with_use region place 0 4294967295 0
+  found_after = with_use region place 0 FREE_OWNER 0
 
   abbrev pub found_word : ℕ
   found_word = word_at region (place + 8)
@@ -109,25 +112,26 @@ module _ (homes : Homes) (region : List ℕ) (o : Owner) (place : ℕ) (f : IsFo
   home_here = subst (AreHome homes) f.is home
 
   -- the entry of its owner is within the list of homes
-  pub found_small : home_index homes.lumps (found_word / 16777216) (found_word % 16777216) < length homes.list.items
-  found_small = subst (λ w. home_index homes.lumps (w / 16777216) (w % 16777216) < length homes.list.items) (sym word_is) (index_small homes f.front f.rest f.block (live_in f.part) f.holds home_here)
+  pub found_small : home_index homes.lumps (found_word / KIND_UNIT) (found_word % KIND_UNIT) < length homes.list.items
+  found_small = subst (λ w. home_index homes.lumps (w / KIND_UNIT) (w % KIND_UNIT) < length homes.list.items) (sym word_is) (index_small homes f.front f.rest f.block (live_in f.part) f.holds home_here)
 
   parts_are : found_after ≡ joined f.split.front ++ (freed f.part ++ joined f.others)
   parts_are =
-      ap (λ xs. with_use xs place 0 4294967295 0) (f.split.is ∙ ap (λ cs. joined f.split.front ++ joined cs) f.rest_is)
-      ∙ used_within (joined f.split.front) f.part (joined f.others) place 0 4294967295 0 (sym f.split.at_is) (let k = f.large in omega arith)
+      ap (λ xs. with_use xs place 0 FREE_OWNER 0) (f.split.is ∙ ap (λ cs. joined f.split.front ++ joined cs) f.rest_is)
+      ∙ used_within (joined f.split.front) f.part (joined f.others) place 0 FREE_OWNER 0 (sym f.split.at_is) (let part_large = f.large in omega arith)
 
   whole : AllWhole (f.part ∷ f.others)
   whole = subst AllWhole f.rest_is f.split.rest_whole
 
   freed_whole : AllWhole (freed f.part ∷ f.others)
-  freed_whole = let n = length-freed f.part f.large in let k = f.large in (omega arith, told-freed f.part f.large ∙ whole.1 ∙ sym n, whole.2)
+  freed_whole =
+      let length_kept = length-freed f.part f.large in let part_large = f.large in (omega arith, told-freed f.part f.large ∙ whole.1 ∙ sym length_kept, whole.2)
 
   pub found_laid : IsLaid found_after
   found_laid = laid_with found_after f.split.front (freed f.part ∷ f.others) f.split.front_whole freed_whole parts_are
 
   pub found_len : length found_after ≡ length region
-  found_len = length-with_use region place 0 4294967295 0 (let k = f.large in let m = f.fits in omega arith)
+  found_len = length-with_use region place 0 FREE_OWNER 0 (let part_large = f.large in let part_fits = f.fits in omega arith)
 
   free_is : free_block f.block.place f.block.size ≡ free_block place (length f.part)
   free_is = ap₂ free_block (ap (λ (b : Block). b.place) f.block_is) (ap (λ (b : Block). b.size) f.block_is)
@@ -137,29 +141,31 @@ module _ (homes : Homes) (region : List ℕ) (o : Owner) (place : ℕ) (f : IsFo
       blocks_with found_after place f.split.front (freed f.part ∷ f.others) f.split.front_whole freed_whole parts_are f.split.at_is
       ∙ ap₂ ◌++◌ f.front_is (ap₂ ◌∷◌ (block-freed f.part f.large place ∙ sym free_is) (ap (λ n. blocks_from (place + n) f.others) (length-freed f.part f.large) ∙ f.others_is))
 
+  -- the blocks are those that freeing the owner leaves
   pub found_blocks : blocks_in found_after ≡ free_owner o (blocks_in region)
   found_blocks = blocks_are ∙ sym (ap (free_owner o) f.is ∙ free_one o f.front f.rest f.block f.held (subst Unique f.is home.unique))
 
   -- the owners of the blocks, and their homes, are right once the owner's home is emptied too
-  pub found_home : (new : Homes) → IsSet homes new (owner_in found_word) 4294967295 → AreHome new (blocks_in found_after)
-  found_home new set = subst (AreHome new) (sym blocks_are) (freed_home homes f.front f.rest f.block (live_in f.part) f.holds home_here new (subst (λ w. IsSet homes new (owner_in w) 4294967295) word_is set))
+  pub found_home : (new : Homes) → IsSet homes new (owner_in found_word) NO_HOME → AreHome new (blocks_in found_after)
+  found_home new set = subst (AreHome new) (sym blocks_are) (freed_home homes f.front f.rest f.block (live_in f.part) f.holds home_here new (subst (λ w. IsSet homes new (owner_in w) NO_HOME) word_is set))
 
 -- a slot's home says whether the slot is live
 module _ (region : List ℕ) (laid : IsLaid region) (o : Owner) (home : ℕ) (is : home ≡ home_of (owned_block o (blocks_in region))) where
-  pub live_home : (home ≡ 4294967295 → ⊥) → IsSome (owned_block o (blocks_in region))
+  pub live_home : (home ≡ NO_HOME → ⊥) → IsSome (owned_block o (blocks_in region))
   live_home other = go (owned_block o (blocks_in region)) refl where
     go : (x : Option Block) → owned_block o (blocks_in region) ≡ x → IsSome x
     go None e = absurd (other (is ∙ ap home_of e))
     go (Some b) e = refl
 
-  pub no_home : length region < 4294967295 → home ≡ 4294967295 → owned_block o (blocks_in region) ≡ None
+  pub no_home : length region < NO_HOME → home ≡ NO_HOME → owned_block o (blocks_in region) ≡ None
   no_home small e = go (owned_block o (blocks_in region)) refl where
     go : (x : Option Block) → owned_block o (blocks_in region) ≡ x → owned_block o (blocks_in region) ≡ None
     go None k = k
-    go (Some b) k = absurd (let f = look region laid o home (subst IsSome (sym k) refl) is in let a = f.fits in let l = f.large in omega arith)
+    go (Some b) k = absurd (let found_there = look region laid o home (subst IsSome (sym k) refl) is in let part_fits = found_there.fits in let part_large = found_there.large in omega arith)
 
 -- a slot's home as the list of homes has it
-module _ (region : List ℕ) (laid : IsLaid region) (homes : Homes) (o : Owner) (homed : IsHomed homes o (blocks_in region)) (home : ℕ) (is : home ≡ home_in homes o.kind o.number) where
+module _ (region : List ℕ) (laid : IsLaid region) (homes : Homes) (o : Owner) (homed : IsHomed homes o (blocks_in region)) (home : ℕ)
+    (is : home ≡ home_in homes o.kind o.number) where
   home_exact : home ≡ home_of (owned_block o (blocks_in region))
   home_exact = is ∙ homed.2 o homed.1
 
@@ -168,9 +174,9 @@ module _ (region : List ℕ) (laid : IsLaid region) (homes : Homes) (o : Owner) 
   homed_live live = look region laid o home live home_exact
 
   -- so does that of a slot whose home is a place
-  pub homed_found : (home ≡ 4294967295 → ⊥) → IsFound region o home
+  pub homed_found : (home ≡ NO_HOME → ⊥) → IsFound region o home
   homed_found other = homed_live (live_home region laid o home home_exact other)
 
   -- a slot whose home is none has no block
-  pub homed_none : length region < 4294967295 → home ≡ 4294967295 → owned_block o (blocks_in region) ≡ None
+  pub homed_none : length region < NO_HOME → home ≡ NO_HOME → owned_block o (blocks_in region) ≡ None
   homed_none = no_home region laid o home home_exact

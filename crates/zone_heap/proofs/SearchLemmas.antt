@@ -1,5 +1,5 @@
 -- Where a search starts. What a search finds and purges, by the index at which it starts.
-use Rattle.std.proofs.Common.{◌≡◌, ℕ, ◌+◌, ◌<◌, ◌≤◌, suc, Bool, true, false, cond, not, List, [], ◌∷◌, drop, find, Some, None, refl, sym, ap, ◌∙◌, arith, inl, inr, one-add, ◌-◌, ◌++◌, length, take, map, Option, subst, ap₂, option_map, count_by, add-zero, zero-add}
+use Rattle.std.proofs.Common.{◌≡◌, ℕ, ◌+◌, ◌<◌, ◌≤◌, suc, Bool, true, false, cond, not, List, [], ◌∷◌, drop, find, Some, None, refl, sym, ap, ◌∙◌, arith, inl, inr, one-add, ◌-◌, ◌++◌, length, take, map, subst, ap₂, option_map, count_by, add-zero, zero-add}
 use Rattle.std.specs.Prelude.{◌==◌, ◌⊎◌}
 use Rattle.std.specs.List.{position_or_len}
 use Rattle.std.proofs.lemmas.Bool.{cond-true, cond-false, le-leb, lt-leb, ne_eqb, or_left, or_from, or_right, and_right, false≢true, cases_lt}
@@ -11,16 +11,25 @@ use Rattle.zone_heap.proofs.WalkLemmas.{passed_by_walk, found_by_walk}
 use Rattle.zone_heap.proofs.FitLemmas.{FitMeans, fit_walk}
 use Rattle.zone_rules.proofs.PurgeLemmas.{unpinned, Covers, Misses, covers_itself, covers_after, covers_kept, purge_covered, purge_missed, purge_among-append, purge_twice, misses_kept, count_covered, count_missed, count_among-append, count_twice, tiles_cut, misses_after, misses_before, misses_below, tiles_within, unpinned_within, Sized-tiles}
 
+-- the blocks, the purgeable ones freed among the first so many, or behind these
+abbrev pub purged_to : ℕ → List Block → List Block
+purged_to n bs = map purge_block (take n bs) ++ drop n bs
+
+abbrev pub purged_from : ℕ → List Block → List Block
+purged_from n bs = take n bs ++ map purge_block (drop n bs)
+
+-- no block ends at a place that lies before all of them
 none_ends : (r p q : ℕ) (bs : List Block) → Tiles p q bs → r ≤ p → find (ends_free_at r) bs ≡ None
 none_ends r p q [] t h = refl
 none_ends r p q (b ∷ bs) t h =
     let no : (b.place + b.size == r) ≡ false = ne_eqb (b.place + b.size) r (λ e. omega arith) in
-    let k : ends_free_at r b ≡ false = and_right (is_free b) _ no in
-    rw k (none_ends r (p + b.size) q bs t.2 (omega arith))
+    let not_ending : ends_free_at r b ≡ false = and_right (is_free b) _ no in
+    rw not_ending (none_ends r (p + b.size) q bs t.2 (omega arith))
 
+-- the place of a block does not lie before the first one
 pub has_low : (r p q : ℕ) (bs : List Block) → Tiles p q bs → has_place r bs ≡ true → p ≤ r
 has_low r p q [] t h = absurd (false≢true h)
-has_low r p q (b ∷ bs) t h = elim (cases_lt r p) [ inl lt ↦ (let no : (b.place == r) ≡ false = ne_eqb b.place r (λ e. omega arith) in let k : has_place r bs ≡ true = rw no at h in let le = has_low r (p + b.size) q bs t.2 k in absurd (omega arith)) | inr le ↦ le ]
+has_low r p q (b ∷ bs) t h = elim (cases_lt r p) [ inl lt ↦ (let no : (b.place == r) ≡ false = ne_eqb b.place r (λ e. omega arith) in let place_behind : has_place r bs ≡ true = rw no at h in let le = has_low r (p + b.size) q bs t.2 place_behind in absurd (omega arith)) | inr le ↦ le ]
 
 start_low : (x r p q : ℕ) (bs : List Block) → x ≤ p → x ≤ r → Tiles p q bs → x ≤ start_in r bs
 start_low x r p q [] h k t = k
@@ -35,50 +44,58 @@ module _ (r p q : ℕ) (b : Block) (bs : List Block) (t : Tiles p q (b ∷ bs)) 
 
   at_once : r ≡ p → blocks_from (start_in r (b ∷ bs)) (b ∷ bs) ≡ drop (position_or_len (starts_at r) (b ∷ bs)) (b ∷ bs)
   at_once e =
-      let s : start_in r (b ∷ bs) ≡ r = ap (place_or r) (none_ends r p q (b ∷ bs) t (omega arith)) in
-      ap (λ k. blocks_from k (b ∷ bs)) s ∙ all_from r p q (b ∷ bs) t (omega arith) ∙ sym (ap (λ n. drop n (b ∷ bs)) (begins (or_left _ _ (le-leb r b.place (omega arith)))))
+      let starts_at_rover : start_in r (b ∷ bs) ≡ r = ap (place_or r) (none_ends r p q (b ∷ bs) t (omega arith)) in
+      ap (λ k. blocks_from k (b ∷ bs)) starts_at_rover ∙ all_from r p q (b ∷ bs) t (omega arith)
+      ∙ sym (ap (λ n. drop n (b ∷ bs)) (begins (or_left _ _ (le-leb r b.place (omega arith)))))
 
   at_free : ends_free_at r b ≡ true → blocks_from (start_in r (b ∷ bs)) (b ∷ bs) ≡ drop (position_or_len (starts_at r) (b ∷ bs)) (b ∷ bs)
   at_free e =
-      let s : start_in r (b ∷ bs) ≡ b.place = ap (place_or r) (cond-true (ends_free_at r b) (Some b) (find (ends_free_at r) bs) e) in
-      ap (λ k. blocks_from k (b ∷ bs)) s ∙ all_from b.place p q (b ∷ bs) t (omega arith) ∙ sym (ap (λ n. drop n (b ∷ bs)) (begins (or_right _ _ e)))
+      let starts_at_block : start_in r (b ∷ bs) ≡ b.place = ap (place_or r) (cond-true (ends_free_at r b) (Some b) (find (ends_free_at r) bs) e) in
+      ap (λ k. blocks_from k (b ∷ bs)) starts_at_block ∙ all_from b.place p q (b ∷ bs) t (omega arith) ∙ sym (ap (λ n. drop n (b ∷ bs)) (begins (or_right _ _ e)))
 
   further : p < r → ends_free_at r b ≡ false → p + b.size ≤ r → blocks_from (start_in r bs) bs ≡ drop (position_or_len (starts_at r) bs) bs
       → blocks_from (start_in r (b ∷ bs)) (b ∷ bs) ≡ drop (position_or_len (starts_at r) (b ∷ bs)) (b ∷ bs)
   further h e k rest =
-      let s : start_in r (b ∷ bs) ≡ start_in r bs = ap (place_or r) (cond-false (ends_free_at r b) (Some b) (find (ends_free_at r) bs) e) in
+      let starts_behind : start_in r (b ∷ bs) ≡ start_in r bs = ap (place_or r) (cond-false (ends_free_at r b) (Some b) (find (ends_free_at r) bs) e) in
       let low = start_low (p + b.size) r (p + b.size) q bs (omega arith) k t.2 in
       let no : starts_at r b ≡ false = or_from _ _ (lt-leb r b.place (omega arith)) e in
       let pos : position_or_len (starts_at r) (b ∷ bs) ≡ suc (position_or_len (starts_at r) bs) = cond-true _ _ _ (ap not no) ∙ one-add _ in
-      ap (λ k. blocks_from k (b ∷ bs)) s ∙ cond-false _ _ _ (lt-leb (start_in r bs) b.place (omega arith)) ∙ rest ∙ sym (ap (λ n. drop n (b ∷ bs)) pos)
+      ap (λ k. blocks_from k (b ∷ bs)) starts_behind ∙ cond-false _ _ _ (lt-leb (start_in r bs) b.place (omega arith)) ∙ rest ∙ sym (ap (λ n. drop n (b ∷ bs)) pos)
 
+-- the blocks from the start on are those from the first that starts the search on
 pub start_is : (r p q : ℕ) (bs : List Block) → Tiles p q bs → has_place r bs ≡ true → blocks_from (start_in r bs) bs ≡ drop (position_or_len (starts_at r) bs) bs
 start_is r p q [] t h = refl
 start_is r p q (b ∷ bs) t h = pick (cases_lt p r) (ends_free_at r b) refl (λ k. start_is r (p + b.size) q bs t.2 k) where
-  pick : (p < r) ⊎ (r ≤ p) → (u : Bool) → ends_free_at r b ≡ u → (has_place r bs ≡ true → blocks_from (start_in r bs) bs ≡ drop (position_or_len (starts_at r) bs) bs)
+  pick : (p < r) ⊎ (r ≤ p) → (u : Bool) → ends_free_at r b ≡ u
+      → (has_place r bs ≡ true → blocks_from (start_in r bs) bs ≡ drop (position_or_len (starts_at r) bs) bs)
       → blocks_from (start_in r (b ∷ bs)) (b ∷ bs) ≡ drop (position_or_len (starts_at r) (b ∷ bs)) (b ∷ bs)
   pick (inr l) u e rest = let low = has_low r p q (b ∷ bs) t h in at_once r p q b bs t (omega arith)
   pick (inl l) true e rest = at_free r p q b bs t e
   pick (inl l) false e rest =
-      let no : (b.place == r) ≡ false = ne_eqb b.place r (λ x. omega arith) in
-      let k : has_place r bs ≡ true = rw no at h in
-      further r p q b bs t l e (has_low r (p + b.size) q bs t.2 k) (rest k)
+      let no : (b.place == r) ≡ false = ne_eqb b.place r (λ x. omega arith) in let place_behind : has_place r bs ≡ true = rw no at h in
+      further r p q b bs t l e (has_low r (p + b.size) q bs t.2 place_behind) (rest place_behind)
 
-pub found_later : (w : ℕ) (gs hs : List (List Block)) → first_room w gs ≡ None → (first_room w (gs ++ hs) ≡ first_room w hs) × (passed_blocks w (gs ++ hs) ≡ passed_blocks w gs ++ passed_blocks w hs)
+-- a gap that holds is looked for in the first list, and then in the second
+pub found_later : (w : ℕ) (gs hs : List (List Block)) → first_room w gs ≡ None
+    → (first_room w (gs ++ hs) ≡ first_room w hs) × (passed_blocks w (gs ++ hs) ≡ passed_blocks w gs ++ passed_blocks w hs)
 found_later w [] hs e = (refl, refl)
 found_later w (g ∷ gs) hs e = go (holds w g) e (λ k. found_later w gs hs k) where
-  go : (t : Bool) → option_map first_place (cond t (Some g) (find (holds w) gs)) ≡ None → (first_room w gs ≡ None → (first_room w (gs ++ hs) ≡ first_room w hs) × (passed_blocks w (gs ++ hs) ≡ passed_blocks w gs ++ passed_blocks w hs))
+  go : (t : Bool) → option_map first_place (cond t (Some g) (find (holds w) gs)) ≡ None
+      → (first_room w gs ≡ None → (first_room w (gs ++ hs) ≡ first_room w hs) × (passed_blocks w (gs ++ hs) ≡ passed_blocks w gs ++ passed_blocks w hs))
       → (option_map first_place (cond t (Some g) (find (holds w) (gs ++ hs))) ≡ first_room w hs) × (cond t (least_front w g) (g ++ passed_blocks w (gs ++ hs)) ≡ cond t (least_front w g) (g ++ passed_blocks w gs) ++ passed_blocks w hs)
   go true e rest = cc
-  go false e rest = let r = rest e in (r.0, ap (λ xs. g ++ xs) r.1 ∙ sym (append_assoc g (passed_blocks w gs) (passed_blocks w hs)))
+  go false e rest =
+      let found_behind = rest e in (found_behind.0, ap (λ xs. g ++ xs) found_behind.1 ∙ sym (append_assoc g (passed_blocks w gs) (passed_blocks w hs)))
 
-pub found_first : (w p : ℕ) (gs hs : List (List Block)) → first_room w gs ≡ Some p → (first_room w (gs ++ hs) ≡ Some p) × (passed_blocks w (gs ++ hs) ≡ passed_blocks w gs)
+pub found_first : (w p : ℕ) (gs hs : List (List Block)) → first_room w gs ≡ Some p
+    → (first_room w (gs ++ hs) ≡ Some p) × (passed_blocks w (gs ++ hs) ≡ passed_blocks w gs)
 found_first w p [] hs e = cc
 found_first w p (g ∷ gs) hs e = go (holds w g) e (λ k. found_first w p gs hs k) where
-  go : (t : Bool) → option_map first_place (cond t (Some g) (find (holds w) gs)) ≡ Some p → (first_room w gs ≡ Some p → (first_room w (gs ++ hs) ≡ Some p) × (passed_blocks w (gs ++ hs) ≡ passed_blocks w gs))
+  go : (t : Bool) → option_map first_place (cond t (Some g) (find (holds w) gs)) ≡ Some p
+      → (first_room w gs ≡ Some p → (first_room w (gs ++ hs) ≡ Some p) × (passed_blocks w (gs ++ hs) ≡ passed_blocks w gs))
       → (option_map first_place (cond t (Some g) (find (holds w) (gs ++ hs))) ≡ Some p) × (cond t (least_front w g) (g ++ passed_blocks w (gs ++ hs)) ≡ cond t (least_front w g) (g ++ passed_blocks w gs))
   go true e rest = (e, refl)
-  go false e rest = let r = rest e in (r.0, ap (λ xs. g ++ xs) r.1)
+  go false e rest = let found_before = rest e in (found_before.0, ap (λ xs. g ++ xs) found_before.1)
 
 -- what a fit says of the gaps
 pub record FitIs (w : ℕ) (bs : List Block) (place upto : ℕ) : Type 0 where
@@ -94,12 +111,13 @@ fit_some : (w : ℕ) (bs : List Block) (r : ℕ × ℕ) → FitMeans w w None 0 
 fit_some w bs r m = record {
   place_is = sym (found_by_walk w bs) ∙ m.0;
   upto_le = omega arith;
-  passed_is = sym (passed_by_walk w bs) ∙ m.3 ∙ ap (λ n. unpinned (take n bs)) (let e : r.1 - 0 ≡ r.1 = omega arith in e);
+  passed_is = sym (passed_by_walk w bs) ∙ m.3 ∙ ap (λ n. unpinned (take n bs)) (let upto_is : r.1 - 0 ≡ r.1 = omega arith in upto_is);
 }
 
 fit_none : (w : ℕ) (bs : List Block) → FitMeans w w None 0 bs None → NoFit w bs
 fit_none w bs m = record { none = sym (found_by_walk w bs) ∙ m.0; passed_is = sym (passed_by_walk w bs) ∙ m.1 }
 
+-- a fit of the walk is the first gap that holds, and no fit is no such gap
 pub fit_is : (w p q : ℕ) (bs : List Block) (r : ℕ × ℕ) → 0 < w → Tiles p q bs → fit_from w 0 0 0 bs ≡ Some r → FitIs w bs r.0 r.1
 fit_is w p q bs r pos t e = fit_some w bs r (subst (FitMeans w w None 0 bs) e (fit_walk w bs w 0 0 0 (omega arith) pos (Sized-tiles p q bs t)))
 
@@ -107,7 +125,7 @@ pub no_fit : (w p q : ℕ) (bs : List Block) → 0 < w → Tiles p q bs → fit_
 no_fit w p q bs pos t e = fit_none w bs (subst (FitMeans w w None 0 bs) e (fit_walk w bs w 0 0 0 (omega arith) pos (Sized-tiles p q bs t)))
 
 -- a purge of what is not pinned in the first of two parts, or in the second
-pub purge_part : (p q n : ℕ) (bs : List Block) → Tiles p q bs → purge_among (unpinned (take n bs)) bs ≡ map purge_block (take n bs) ++ drop n bs
+pub purge_part : (p q n : ℕ) (bs : List Block) → Tiles p q bs → purge_among (unpinned (take n bs)) bs ≡ purged_to n bs
 purge_part p q n bs t =
     ap (purge_among (unpinned (take n bs))) (sym (take-append-drop n bs)) ∙ purge_among-append (unpinned (take n bs)) (take n bs) (drop n bs)
     ∙ ap₂ ◌++◌ (purge_covered _ (take n bs) (covers_itself (take n bs))) (purge_missed _ (drop n bs) (misses_after p q (take n bs) (drop n bs) (tiles_cut n p q bs t)))
@@ -117,7 +135,7 @@ count_part p q n bs t =
     ap (count_among (unpinned (take n bs))) (sym (take-append-drop n bs)) ∙ count_among-append (unpinned (take n bs)) (take n bs) (drop n bs)
     ∙ ap₂ ◌+◌ (count_covered _ (take n bs) (covers_itself (take n bs))) (count_missed _ (drop n bs) (misses_after p q (take n bs) (drop n bs) (tiles_cut n p q bs t))) ∙ add-zero _
 
-pub purge_back : (p q n : ℕ) (bs : List Block) → Tiles p q bs → purge_among (unpinned (drop n bs)) bs ≡ take n bs ++ map purge_block (drop n bs)
+pub purge_back : (p q n : ℕ) (bs : List Block) → Tiles p q bs → purge_among (unpinned (drop n bs)) bs ≡ purged_from n bs
 purge_back p q n bs t =
     ap (purge_among (unpinned (drop n bs))) (sym (take-append-drop n bs)) ∙ purge_among-append (unpinned (drop n bs)) (take n bs) (drop n bs)
     ∙ ap₂ ◌++◌ (purge_missed _ (take n bs) (misses_before p q (take n bs) (drop n bs) (tiles_cut n p q bs t))) (purge_covered _ (drop n bs) (covers_itself (drop n bs)))
@@ -131,61 +149,68 @@ module _ (w rover p q : ℕ) (bs : List Block) (t : Tiles p q bs) (at : has_plac
   stretches_are : stretches rover bs ≡ gaps (drop s bs) ++ gaps bs
   stretches_are = ap (λ xs. gaps xs ++ gaps bs) (start_is rover p q bs t at ∙ ap (λ n. drop n bs) (sym starts))
 
+  -- no block before the start is passed from the start on
   missed_front : (n : ℕ) → Misses (unpinned (take n (drop s bs))) (take s bs)
   missed_front n =
-      let c = tiles_cut s p q bs t in
-      let d = tiles_cut n c.at q (drop s bs) c.second in
-      misses_below c.at d.at p c.at (unpinned (take n (drop s bs))) (take s bs) (unpinned_within c.at d.at (take n (drop s bs)) (tiles_within c.at d.at (take n (drop s bs)) d.first)) (omega arith) (tiles_within p c.at (take s bs) c.first)
+      let front_tiles = tiles_cut s p q bs t in
+      let passed_tiles = tiles_cut n front_tiles.at q (drop s bs) front_tiles.second in
+      misses_below front_tiles.at passed_tiles.at p front_tiles.at (unpinned (take n (drop s bs))) (take s bs) (unpinned_within front_tiles.at passed_tiles.at (take n (drop s bs)) (tiles_within front_tiles.at passed_tiles.at (take n (drop s bs)) passed_tiles.first)) (omega arith) (tiles_within p front_tiles.at (take s bs) front_tiles.first)
 
   -- found from the start on
   pub in_first : (place upto : ℕ) → FitIs w (drop s bs) place upto
-      → SearchIs w rover bs (Some place) (take s bs ++ (map purge_block (take upto (drop s bs)) ++ drop upto (drop s bs))) (count_by is_purgeable (take upto (drop s bs)))
+      → SearchIs w rover bs (Some place) (take s bs ++ purged_to upto (drop s bs)) (count_by is_purgeable (take upto (drop s bs)))
   in_first place upto f =
-      let c = tiles_cut s p q bs t in
-      let first = found_first w place (gaps (drop s bs)) (gaps bs) f.place_is in
-      let chosen : passed_blocks w (stretches rover bs) ≡ unpinned (take upto (drop s bs)) = ap (passed_blocks w) stretches_are ∙ first.1 ∙ f.passed_is in
+      let front_tiles = tiles_cut s p q bs t in
+      let found_from_start = found_first w place (gaps (drop s bs)) (gaps bs) f.place_is in
+      let chosen : passed_blocks w (stretches rover bs) ≡ unpinned (take upto (drop s bs)) =
+      ap (passed_blocks w) stretches_are ∙ found_from_start.1 ∙ f.passed_is in
       record {
-        place_is = ap (first_room w) stretches_are ∙ first.0;
+        place_is = ap (first_room w) stretches_are ∙ found_from_start.0;
         after_is =
-            ap (λ ch. purge_among ch bs) chosen ∙ ap (purge_among (unpinned (take upto (drop s bs)))) (sym (take-append-drop s bs)) ∙ purge_among-append _ (take s bs) (drop s bs)
-            ∙ ap₂ ◌++◌ (purge_missed _ (take s bs) (missed_front upto)) (purge_part c.at q upto (drop s bs) c.second);
+            ap (λ ch. purge_among ch bs) chosen ∙ ap (purge_among (unpinned (take upto (drop s bs)))) (sym (take-append-drop s bs))
+            ∙ purge_among-append _ (take s bs) (drop s bs)
+            ∙ ap₂ ◌++◌ (purge_missed _ (take s bs) (missed_front upto)) (purge_part front_tiles.at q upto (drop s bs) front_tiles.second);
         count_is =
-            ap (λ ch. count_among ch bs) chosen ∙ ap (count_among (unpinned (take upto (drop s bs)))) (sym (take-append-drop s bs)) ∙ count_among-append _ (take s bs) (drop s bs)
-            ∙ ap₂ ◌+◌ (count_missed _ (take s bs) (missed_front upto)) (count_part c.at q upto (drop s bs) c.second) ∙ zero-add _;
+            ap (λ ch. count_among ch bs) chosen ∙ ap (count_among (unpinned (take upto (drop s bs)))) (sym (take-append-drop s bs))
+            ∙ count_among-append _ (take s bs) (drop s bs)
+            ∙ ap₂ ◌+◌ (count_missed _ (take s bs) (missed_front upto)) (count_part front_tiles.at q upto (drop s bs) front_tiles.second) ∙ zero-add _;
       }
 
   abbrev cleared : List Block
-  cleared = take s bs ++ map purge_block (drop s bs)
+  cleared = purged_from s bs
 
   -- found from place 0 on
   pub in_second : (place upto : ℕ) → NoFit w (drop s bs) → FitIs w bs place upto
-      → SearchIs w rover bs (Some place) (map purge_block (take upto cleared) ++ drop upto cleared) (count_by is_purgeable (drop s bs) + count_by is_purgeable (take upto cleared))
+      → SearchIs w rover bs (Some place) (purged_to upto cleared) (count_by is_purgeable (drop s bs) + count_by is_purgeable (take upto cleared))
   in_second place upto n f =
-      let a = unpinned (drop s bs) in
-      let ch = unpinned (take upto bs) in
+      let behind_start = unpinned (drop s bs) in let ch = unpinned (take upto bs) in
       let later = found_later w (gaps (drop s bs)) (gaps bs) n.none in
-      let chosen : passed_blocks w (stretches rover bs) ≡ a ++ ch = ap (passed_blocks w) stretches_are ∙ later.1 ∙ ap₂ ◌++◌ n.passed_is f.passed_is in
-      let back : purge_among a bs ≡ cleared = purge_back p q s bs t in
-      let top : purge_among a (take upto bs) ≡ take upto cleared = sym (take-map _ upto bs) ∙ ap (take upto) back in
-      let bottom : purge_among a (drop upto bs) ≡ drop upto cleared = sym (drop-map _ upto bs) ∙ ap (drop upto) back in
-      let parts : purge_among a bs ≡ purge_among a (take upto bs) ++ purge_among a (drop upto bs) = ap (purge_among a) (sym (take-append-drop upto bs)) ∙ purge_among-append a (take upto bs) (drop upto bs) in
-      let covers : Covers ch (purge_among a (take upto bs)) = covers_kept ch a (take upto bs) (covers_itself (take upto bs)) in
-      let misses : Misses ch (purge_among a (drop upto bs)) = misses_kept ch a (drop upto bs) (misses_after p q (take upto bs) (drop upto bs) (tiles_cut upto p q bs t)) in
+      let chosen : passed_blocks w (stretches rover bs) ≡ behind_start ++ ch = ap (passed_blocks w) stretches_are ∙ later.1 ∙ ap₂ ◌++◌ n.passed_is f.passed_is in
+      let back : purge_among behind_start bs ≡ cleared = purge_back p q s bs t in
+      let top : purge_among behind_start (take upto bs) ≡ take upto cleared = sym (take-map _ upto bs) ∙ ap (take upto) back in
+      let bottom : purge_among behind_start (drop upto bs) ≡ drop upto cleared = sym (drop-map _ upto bs) ∙ ap (drop upto) back in
+      let parts : purge_among behind_start bs ≡ purge_among behind_start (take upto bs) ++ purge_among behind_start (drop upto bs) =
+      ap (purge_among behind_start) (sym (take-append-drop upto bs)) ∙ purge_among-append behind_start (take upto bs) (drop upto bs) in
+      let covers : Covers ch (purge_among behind_start (take upto bs)) = covers_kept ch behind_start (take upto bs) (covers_itself (take upto bs)) in
+      let misses : Misses ch (purge_among behind_start (drop upto bs)) =
+      misses_kept ch behind_start (drop upto bs) (misses_after p q (take upto bs) (drop upto bs) (tiles_cut upto p q bs t)) in
       record {
         place_is = ap (first_room w) stretches_are ∙ later.0 ∙ f.place_is;
         after_is =
-            ap (λ c. purge_among c bs) chosen ∙ purge_twice a ch bs ∙ ap (purge_among ch) parts ∙ purge_among-append ch (purge_among a (take upto bs)) (purge_among a (drop upto bs))
+            ap (λ c. purge_among c bs) chosen ∙ purge_twice behind_start ch bs ∙ ap (purge_among ch) parts
+            ∙ purge_among-append ch (purge_among behind_start (take upto bs)) (purge_among behind_start (drop upto bs))
             ∙ ap₂ ◌++◌ (purge_covered ch _ covers ∙ ap (map purge_block) top) (purge_missed ch _ misses ∙ bottom);
         count_is =
-            ap (λ c. count_among c bs) chosen ∙ count_twice a ch bs ∙ ap₂ ◌+◌ (count_back p q s bs t)
-            (ap (count_among ch) parts ∙ count_among-append ch (purge_among a (take upto bs)) (purge_among a (drop upto bs)) ∙ ap₂ ◌+◌ (count_covered ch _ covers ∙ ap (count_by is_purgeable) top) (count_missed ch _ misses) ∙ add-zero _);
+            ap (λ c. count_among c bs) chosen ∙ count_twice behind_start ch bs ∙ ap₂ ◌+◌ (count_back p q s bs t)
+            (ap (count_among ch) parts ∙ count_among-append ch (purge_among behind_start (take upto bs)) (purge_among behind_start (drop upto bs)) ∙ ap₂ ◌+◌ (count_covered ch _ covers ∙ ap (count_by is_purgeable) top) (count_missed ch _ misses) ∙ add-zero _);
       }
 
   -- not found
   pub nowhere : NoFit w (drop s bs) → NoFit w bs → SearchIs w rover bs None (map purge_block bs) (count_by is_purgeable bs)
   nowhere n f =
       let later = found_later w (gaps (drop s bs)) (gaps bs) n.none in
-      let chosen : passed_blocks w (stretches rover bs) ≡ unpinned (drop s bs) ++ unpinned bs = ap (passed_blocks w) stretches_are ∙ later.1 ∙ ap₂ ◌++◌ n.passed_is f.passed_is in
+      let chosen : passed_blocks w (stretches rover bs) ≡ unpinned (drop s bs) ++ unpinned bs =
+      ap (passed_blocks w) stretches_are ∙ later.1 ∙ ap₂ ◌++◌ n.passed_is f.passed_is in
       let covers = covers_after (unpinned (drop s bs)) (unpinned bs) bs (covers_itself bs) in
       record {
         place_is = ap (first_room w) stretches_are ∙ later.0 ∙ f.none;
@@ -193,14 +218,17 @@ module _ (w rover p q : ℕ) (bs : List Block) (t : Tiles p q bs) (at : has_plac
         count_is = ap (λ c. count_among c bs) chosen ∙ count_covered _ bs covers;
       }
 
-module _ (w rover p q : ℕ) (bs : List Block) (pos : 0 < w) (t : Tiles p q bs) (at : has_place rover bs ≡ true) (s : ℕ) (starts : s ≡ position_or_len (starts_at rover) bs) where
+module _ (w rover p q : ℕ) (bs : List Block) (pos : 0 < w) (t : Tiles p q bs) (at : has_place rover bs ≡ true) (s : ℕ)
+    (starts : s ≡ position_or_len (starts_at rover) bs) where
   pub fit_first : (place upto : ℕ) → Some (place, upto) ≡ fit_from w 0 0 0 (drop s bs)
-      → SearchIs w rover bs (Some place) (take s bs ++ (map purge_block (take upto (drop s bs)) ++ drop upto (drop s bs))) (count_by is_purgeable (take upto (drop s bs)))
-  fit_first place upto e = let c = tiles_cut s p q bs t in in_first w rover p q bs t at s starts place upto (fit_is w c.at q (drop s bs) (place, upto) pos c.second (sym e))
+      → SearchIs w rover bs (Some place) (take s bs ++ purged_to upto (drop s bs)) (count_by is_purgeable (take upto (drop s bs)))
+  fit_first place upto e = let front_tiles = tiles_cut s p q bs t in
+      in_first w rover p q bs t at s starts place upto (fit_is w front_tiles.at q (drop s bs) (place, upto) pos front_tiles.second (sym e))
 
   pub fit_second : (place upto : ℕ) → None ≡ fit_from w 0 0 0 (drop s bs) → Some (place, upto) ≡ fit_from w 0 0 0 bs
-      → SearchIs w rover bs (Some place) (map purge_block (take upto (take s bs ++ map purge_block (drop s bs))) ++ drop upto (take s bs ++ map purge_block (drop s bs))) (count_by is_purgeable (drop s bs) + count_by is_purgeable (take upto (take s bs ++ map purge_block (drop s bs))))
-  fit_second place upto n e = let c = tiles_cut s p q bs t in in_second w rover p q bs t at s starts place upto (no_fit w c.at q (drop s bs) pos c.second (sym n)) (fit_is w p q bs (place, upto) pos t (sym e))
+      → SearchIs w rover bs (Some place) (purged_to upto (purged_from s bs)) (count_by is_purgeable (drop s bs) + count_by is_purgeable (take upto (purged_from s bs)))
+  fit_second place upto n e = let front_tiles = tiles_cut s p q bs t in in_second w rover p q bs t at s starts place upto (no_fit w front_tiles.at q (drop s bs) pos front_tiles.second (sym n)) (fit_is w p q bs (place, upto) pos t (sym e))
 
   pub fit_never : None ≡ fit_from w 0 0 0 (drop s bs) → None ≡ fit_from w 0 0 0 bs → SearchIs w rover bs None (map purge_block bs) (count_by is_purgeable bs)
-  fit_never n e = let c = tiles_cut s p q bs t in nowhere w rover p q bs t at s starts (no_fit w c.at q (drop s bs) pos c.second (sym n)) (no_fit w p q bs pos t (sym e))
+  fit_never n e = let front_tiles = tiles_cut s p q bs t in
+      nowhere w rover p q bs t at s starts (no_fit w front_tiles.at q (drop s bs) pos front_tiles.second (sym n)) (no_fit w p q bs pos t (sym e))

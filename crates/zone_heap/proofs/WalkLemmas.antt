@@ -41,25 +41,27 @@ found_on_same w true (g ∷ gs) = go (holds w g) where
   go false = refl
 
 holds_now : (v : ℕ) (b : Block) (g : List Block) → v ≤ b.size → holds v (b ∷ g) ≡ true
-holds_now v b g h = let e = total-cons b g in le-leb v (total (b ∷ g)) (omega arith)
+holds_now v b g h = let total_is = total-cons b g in le-leb v (total (b ∷ g)) (omega arith)
 
 holds_later : (v : ℕ) (b : Block) (g : List Block) → b.size < v → holds v (b ∷ g) ≡ holds (v - b.size) g
-holds_later v b g h = let e = total-cons b g in go (nat_le (v - b.size) (total g)) refl where
+holds_later v b g h = let total_is = total-cons b g in go (nat_le (v - b.size) (total g)) refl where
   go : (t : Bool) → nat_le (v - b.size) (total g) ≡ t → holds v (b ∷ g) ≡ t
-  go true t = let e = total-cons b g in let le = leb-true (v - b.size) (total g) t in le-leb v (total (b ∷ g)) (omega arith)
-  go false t = let e = total-cons b g in let lt = leb-false (v - b.size) (total g) t in lt-leb v (total (b ∷ g)) (omega arith)
+  go true t = let total_is = total-cons b g in let le = leb-true (v - b.size) (total g) t in le-leb v (total (b ∷ g)) (omega arith)
+  go false t = let total_is = total-cons b g in let lt = leb-false (v - b.size) (total g) t in lt-leb v (total (b ∷ g)) (omega arith)
 
 holds_none : (v : ℕ) → 0 < v → holds v [] ≡ false
 holds_none v h = lt-leb v 0 h
 
-front : (v w : ℕ) (b : Block) (o : Bool) (gs : List (List Block)) (rest : List Block) → rest ≡ passed_on (v - b.size) w o gs → b ∷ cond (nat_le v b.size) [] rest ≡ passed_on v w true (in_front b o gs)
+front : (v w : ℕ) (b : Block) (o : Bool) (gs : List (List Block)) (rest : List Block) → rest ≡ passed_on (v - b.size) w o gs
+    → b ∷ cond (nat_le v b.size) [] rest ≡ passed_on v w true (in_front b o gs)
 front v w b o gs rest e = elim (cases_lt b.size v) [ inl h ↦ later o gs e h | inr h ↦ now o gs h ] where
   now : (o : Bool) (gs : List (List Block)) → v ≤ b.size → b ∷ cond (nat_le v b.size) [] rest ≡ passed_on v w true (in_front b o gs)
   now false gs h = rw (le-leb v b.size h, holds_now v b [] h) refl
   now true [] h = rw (le-leb v b.size h, holds_now v b [] h) refl
   now true (g ∷ gs) h = rw (le-leb v b.size h, holds_now v b g h) refl
 
-  later : (o : Bool) (gs : List (List Block)) → rest ≡ passed_on (v - b.size) w o gs → b.size < v → b ∷ cond (nat_le v b.size) [] rest ≡ passed_on v w true (in_front b o gs)
+  later : (o : Bool) (gs : List (List Block)) → rest ≡ passed_on (v - b.size) w o gs → b.size < v
+      → b ∷ cond (nat_le v b.size) [] rest ≡ passed_on v w true (in_front b o gs)
   later false gs e h = rw (lt-leb v b.size h, holds_later v b [] h, holds_none (v - b.size) (omega arith), e) refl
   later true [] e h = rw (lt-leb v b.size h, holds_later v b [] h, holds_none (v - b.size) (omega arith), e) refl
   later true (g ∷ gs) e h = rw (lt-leb v b.size h, holds_later v b g h, e) (pick (holds (v - b.size) g)) where
@@ -67,7 +69,8 @@ front v w b o gs rest e = elim (cases_lt b.size v) [ inl h ↦ later o gs e h | 
     pick true = refl
     pick false = refl
 
-walk_step : (v w : ℕ) (b : Block) (bs : List Block) → walk w w bs ≡ passed_on w w (opens bs) (gaps bs) → walk (v - b.size) w bs ≡ passed_on (v - b.size) w (opens bs) (gaps bs) → (t : Bool)
+walk_step : (v w : ℕ) (b : Block) (bs : List Block) → walk w w bs ≡ passed_on w w (opens bs) (gaps bs)
+    → walk (v - b.size) w bs ≡ passed_on (v - b.size) w (opens bs) (gaps bs) → (t : Bool)
     → cond t (walk w w bs) (b ∷ cond (nat_le v b.size) [] (walk (v - b.size) w bs)) ≡ passed_on v w (not t) (cond t (gaps bs) (in_front b (opens bs) (gaps bs)))
 walk_step v w b bs anew on true = anew ∙ passed_on_same w (opens bs) (gaps bs)
 walk_step v w b bs anew on false = front v w b (opens bs) (gaps bs) (walk (v - b.size) w bs) on
@@ -76,7 +79,8 @@ pub walk_is : (v w : ℕ) (bs : List Block) → walk v w bs ≡ passed_on v w (o
 walk_is v w [] = refl
 walk_is v w (b ∷ bs) = walk_step v w b bs (walk_is w w bs) (walk_is (v - b.size) w bs) (is_pinned b)
 
-front_place : (v w : ℕ) (f : Option ℕ) (b : Block) (o : Bool) (gs : List (List Block)) (rest : Option ℕ) → rest ≡ found_on (v - b.size) w (Some (unwrap_or f b.place)) o gs
+front_place : (v w : ℕ) (f : Option ℕ) (b : Block) (o : Bool) (gs : List (List Block)) (rest : Option ℕ)
+    → rest ≡ found_on (v - b.size) w (Some (unwrap_or f b.place)) o gs
     → cond (nat_le v b.size) (Some (unwrap_or f b.place)) rest ≡ found_on v w f true (in_front b o gs)
 front_place v w f b o gs rest e = elim (cases_lt b.size v) [ inl h ↦ later o gs e h | inr h ↦ now o gs h ] where
   now : (o : Bool) (gs : List (List Block)) → v ≤ b.size → cond (nat_le v b.size) (Some (unwrap_or f b.place)) rest ≡ found_on v w f true (in_front b o gs)
@@ -84,7 +88,8 @@ front_place v w f b o gs rest e = elim (cases_lt b.size v) [ inl h ↦ later o g
   now true [] h = rw (le-leb v b.size h, holds_now v b [] h) refl
   now true (g ∷ gs) h = rw (le-leb v b.size h, holds_now v b g h) refl
 
-  later : (o : Bool) (gs : List (List Block)) → rest ≡ found_on (v - b.size) w (Some (unwrap_or f b.place)) o gs → b.size < v → cond (nat_le v b.size) (Some (unwrap_or f b.place)) rest ≡ found_on v w f true (in_front b o gs)
+  later : (o : Bool) (gs : List (List Block)) → rest ≡ found_on (v - b.size) w (Some (unwrap_or f b.place)) o gs → b.size < v
+      → cond (nat_le v b.size) (Some (unwrap_or f b.place)) rest ≡ found_on v w f true (in_front b o gs)
   later false gs e h = rw (lt-leb v b.size h, holds_later v b [] h, holds_none (v - b.size) (omega arith), e) refl
   later true [] e h = rw (lt-leb v b.size h, holds_later v b [] h, holds_none (v - b.size) (omega arith), e) refl
   later true (g ∷ gs) e h = rw (lt-leb v b.size h, holds_later v b g h, e) refl
@@ -115,12 +120,14 @@ on_same false gs = refl
 on_same true [] = refl
 on_same true (g ∷ gs) = omega arith
 
-front_widest : (best run : ℕ) (b : Block) (o : Bool) (gs : List (List Block)) → max (max best (run + b.size)) (widest_on (run + b.size) o gs) ≡ max best (widest_on run true (in_front b o gs))
-front_widest best run b false gs = let e = total-cons b [] in omega arith
-front_widest best run b true [] = let e = total-cons b [] in omega arith
-front_widest best run b true (g ∷ gs) = let e = total-cons b g in omega arith
+front_widest : (best run : ℕ) (b : Block) (o : Bool) (gs : List (List Block))
+    → max (max best (run + b.size)) (widest_on (run + b.size) o gs) ≡ max best (widest_on run true (in_front b o gs))
+front_widest best run b false gs = let total_is = total-cons b [] in omega arith
+front_widest best run b true [] = let total_is = total-cons b [] in omega arith
+front_widest best run b true (g ∷ gs) = let total_is = total-cons b g in omega arith
 
-widest_step : (best run : ℕ) (b : Block) (bs : List Block) → widest_from best 0 bs ≡ max best (widest_on 0 (opens bs) (gaps bs)) → widest_from (max best (run + b.size)) (run + b.size) bs ≡ max (max best (run + b.size)) (widest_on (run + b.size) (opens bs) (gaps bs)) → (t : Bool)
+widest_step : (best run : ℕ) (b : Block) (bs : List Block) → widest_from best 0 bs ≡ max best (widest_on 0 (opens bs) (gaps bs))
+    → widest_from (max best (run + b.size)) (run + b.size) bs ≡ max (max best (run + b.size)) (widest_on (run + b.size) (opens bs) (gaps bs)) → (t : Bool)
     → cond t (widest_from best 0 bs) (widest_from (max best (run + b.size)) (run + b.size) bs) ≡ max best (widest_on run (not t) (cond t (gaps bs) (in_front b (opens bs) (gaps bs))))
 widest_step best run b bs anew on true = anew ∙ ap (max best) (on_same (opens bs) (gaps bs))
 widest_step best run b bs anew on false = on ∙ front_widest best run b (opens bs) (gaps bs)
@@ -130,4 +137,4 @@ widest_from_is best run [] = omega arith
 widest_from_is best run (b ∷ bs) = widest_step best run b bs (widest_from_is best 0 bs) (widest_from_is (max best (run + b.size)) (run + b.size) bs) (is_pinned b)
 
 pub widest_is : (bs : List Block) → widest_from 0 0 bs ≡ widest (gaps bs)
-widest_is bs = let e = widest_from_is 0 0 bs in let f = on_same (opens bs) (gaps bs) in omega arith
+widest_is bs = let widest_walked = widest_from_is 0 0 bs in let opens_same = on_same (opens bs) (gaps bs) in omega arith

@@ -11,38 +11,41 @@ pub word_from : (xs : List ℕ) (at k : ℕ) → word_at (drop at xs) k ≡ word
 unfolding word_at
 word_from xs at k = ap (little_number 4) (drop-drop k at xs)
 
-pub header_from : (xs : List ℕ) (at : ℕ) → header_in (drop at xs) ≡ record { size = word_at xs at; asked = word_at xs (at + 4); owner = word_at xs (at + 8); tag = word_at xs (at + 12) }
+-- a header is read from a place on by its four words
+pub header_from : (xs : List ℕ) (at : ℕ)
+    → header_in (drop at xs) ≡ record { size = word_at xs at; asked = word_at xs (at + 4); owner = word_at xs (at + 8); tag = word_at xs (at + 12) }
 header_from xs at =
-    let a : word_at (drop at xs) 0 ≡ word_at xs at = word_from xs at 0 ∙ ap (word_at xs) (let e : at + 0 ≡ at = omega arith in e) in
-    let b = word_from xs at 4 in
-    let c = word_from xs at 8 in
-    let d = word_from xs at 12 in
-    λ i. record { size = a i; asked = b i; owner = c i; tag = d i }
+    let size_is : word_at (drop at xs) 0 ≡ word_at xs at = word_from xs at 0 ∙ ap (word_at xs) (let place_is : at + 0 ≡ at = omega arith in place_is) in
+    let asked_is = word_from xs at 4 in let owner_is = word_from xs at 8 in let tag_is = word_from xs at 12 in
+    λ i. record { size = size_is i; asked = asked_is i; owner = owner_is i; tag = tag_is i }
 
+-- written words keep the length
 pub length-with_word : (xs : List ℕ) (at x : ℕ) → at + 4 ≤ length xs → length (with_word xs at x) ≡ length xs
 unfolding with_word
 length-with_word xs at x h = simp (length-append, length-take, length-drop) (omega arith)
 
 pub length-with_use : (xs : List ℕ) (at a o t : ℕ) → at + 16 ≤ length xs → length (with_use xs at a o t) ≡ length xs
 length-with_use xs at a o t h =
-    let e = length-with_word xs (at + 4) a (omega arith) in
-    let f = length-with_word (with_word xs (at + 4) a) (at + 8) o (omega arith) in
-    let g = length-with_word (with_word (with_word xs (at + 4) a) (at + 8) o) (at + 12) t (omega arith) in
-    g ∙ f ∙ e
+    let asked_kept = length-with_word xs (at + 4) a (omega arith) in
+    let owner_kept = length-with_word (with_word xs (at + 4) a) (at + 8) o (omega arith) in
+    let tag_kept = length-with_word (with_word (with_word xs (at + 4) a) (at + 8) o) (at + 12) t (omega arith) in
+    tag_kept ∙ owner_kept ∙ asked_kept
 
 -- a byte outside the word stays
 byte_below : (xs : List ℕ) (at x k : ℕ) → at + 4 ≤ length xs → k < at → get_or (with_word xs at x) k 0 ≡ get_or xs k 0
 unfolding with_word
 byte_below xs at x k h l =
-    let n : length (take at xs) ≡ at = simp length-take (omega arith) in
+    let front_length : length (take at xs) ≡ at = simp length-take (omega arith) in
     get_or_append_left (take at xs) _ 0 k (omega arith) ∙ get_or-take at xs k 0 l
 
 byte_above : (xs : List ℕ) (at x k : ℕ) → at + 4 ≤ length xs → at + 4 ≤ k → get_or (with_word xs at x) k 0 ≡ get_or xs k 0
 unfolding with_word
 byte_above xs at x k h l =
-    let n : length (take at xs) ≡ at = simp length-take (omega arith) in
-    get_or-append_right (take at xs) (little_bytes 4 x ++ drop 4 (drop at xs)) at k 0 n (omega arith) ∙ get_or-append_right (little_bytes 4 x) (drop 4 (drop at xs)) 4 (k - at) 0 refl (omega arith)
-    ∙ get_or-drop 4 (drop at xs) (k - at - 4) 0 ∙ get_or-drop at xs (4 + (k - at - 4)) 0 ∙ ap (λ n. get_or xs n 0) (let e : at + (4 + (k - at - 4)) ≡ k = omega arith in e)
+    let front_length : length (take at xs) ≡ at = simp length-take (omega arith) in
+    get_or-append_right (take at xs) (little_bytes 4 x ++ drop 4 (drop at xs)) at k 0 front_length (omega arith)
+    ∙ get_or-append_right (little_bytes 4 x) (drop 4 (drop at xs)) 4 (k - at) 0 refl (omega arith)
+    ∙ get_or-drop 4 (drop at xs) (k - at - 4) 0 ∙ get_or-drop at xs (4 + (k - at - 4)) 0
+    ∙ ap (λ n. get_or xs n 0) (let place_is : at + (4 + (k - at - 4)) ≡ k = omega arith in place_is)
 
 -- a word is its four bytes
 abbrev pub of_bytes : ℕ → ℕ → ℕ → ℕ → ℕ
@@ -52,10 +55,12 @@ word_is : (xs : List ℕ) (at : ℕ) → word_at xs at ≡ of_bytes (get_or xs (
 unfolding word_at
 word_is xs at = rw (← get_or-drop at xs 0 0, ← get_or-drop at xs 1 0, ← get_or-drop at xs 2 0, ← get_or-drop at xs 3 0) refl
 
+-- words of the same bytes are the same
 pub same_word : (xs ys : List ℕ) (at : ℕ) → ((k : ℕ) → at ≤ k → k < at + 4 → get_or xs k 0 ≡ get_or ys k 0) → word_at xs at ≡ word_at ys at
 same_word xs ys at s =
     word_is xs at ∙ rw (s (at + 0) (omega arith) (omega arith), s (at + 1) (omega arith) (omega arith), s (at + 2) (omega arith) (omega arith), s (at + 3) (omega arith) (omega arith)) (sym (word_is ys at))
 
+-- a written word leaves the others, and is read back
 pub word_other : (xs : List ℕ) (at x k : ℕ) → at + 4 ≤ length xs → (k + 4 ≤ at) ⊎ (at + 4 ≤ k) → word_at (with_word xs at x) k ≡ word_at xs k
 word_other xs at x k h (inl l) = same_word (with_word xs at x) xs k (λ j a b. byte_below xs at x j h (omega arith))
 word_other xs at x k h (inr l) = same_word (with_word xs at x) xs k (λ j a b. byte_above xs at x j h (omega arith))
@@ -63,19 +68,22 @@ word_other xs at x k h (inr l) = same_word (with_word xs at x) xs k (λ j a b. b
 pub word_same : (xs : List ℕ) (at x : ℕ) → at + 4 ≤ length xs → x < 2 ^ 32 → word_at (with_word xs at x) at ≡ x
 unfolding with_word word_at
 word_same xs at x h small =
-    let n : length (take at xs) ≡ at = simp length-take (omega arith) in
-    ap (little_number 4) (drop_at (take at xs) (little_bytes 4 x ++ drop 4 (drop at xs)) at n) ∙ little_number-reads_back 4 x (drop 4 (drop at xs)) small
+    let front_length : length (take at xs) ≡ at = simp length-take (omega arith) in
+    ap (little_number 4) (drop_at (take at xs) (little_bytes 4 x ++ drop 4 (drop at xs)) at front_length) ∙ little_number-reads_back 4 x (drop 4 (drop at xs)) small
 
 -- a word of a part, in what the part stands in
 pub word_in_front : (c b : List ℕ) (k : ℕ) → k + 4 ≤ length c → word_at (c ++ b) k ≡ word_at c k
 word_in_front c b k h = same_word (c ++ b) c k (λ j l m. get_or_append_left c b 0 j (omega arith))
 
+-- a word written into the first of two lists, or into the second
 pub written_in_front : (c b : List ℕ) (k x : ℕ) → k + 4 ≤ length c → with_word (c ++ b) k x ≡ with_word c k x ++ b
 unfolding with_word
 written_in_front c b k x h =
-    let t : take k (c ++ b) ≡ take k c = take_front c b k (omega arith) in
-    let d : drop 4 (drop k (c ++ b)) ≡ drop 4 (drop k c) ++ b = ap (drop 4) (drop_front c b k (omega arith)) ∙ drop_front (drop k c) b 4 (simp length-drop (omega arith)) in
-    ap₂ (λ u v. u ++ (little_bytes 4 x ++ v)) t d ∙ ap (λ v. take k c ++ v) (sym (append_assoc (little_bytes 4 x) (drop 4 (drop k c)) b)) ∙ sym (append_assoc (take k c) (little_bytes 4 x ++ drop 4 (drop k c)) b) where
+    let front_same : take k (c ++ b) ≡ take k c = take_front c b k (omega arith) in
+    let behind_same : drop 4 (drop k (c ++ b)) ≡ drop 4 (drop k c) ++ b =
+    ap (drop 4) (drop_front c b k (omega arith)) ∙ drop_front (drop k c) b 4 (simp length-drop (omega arith)) in
+    ap₂ (λ u v. u ++ (little_bytes 4 x ++ v)) front_same behind_same ∙ ap (λ v. take k c ++ v) (sym (append_assoc (little_bytes 4 x) (drop 4 (drop k c)) b))
+    ∙ sym (append_assoc (take k c) (little_bytes 4 x ++ drop 4 (drop k c)) b) where
       take_front : (c b : List ℕ) (k : ℕ) → k ≤ length c → take k (c ++ b) ≡ take k c
       take_front c b zero h = refl
       take_front [] b (suc k) h = absurd (omega arith)
@@ -88,39 +96,40 @@ written_in_front c b k x h =
 
 pub written_behind : (a b : List ℕ) (k x : ℕ) → with_word (a ++ b) (length a + k) x ≡ a ++ with_word b k x
 unfolding with_word
-written_behind a b k x = ap₂ (λ u v. u ++ (little_bytes 4 x ++ drop 4 v)) (take_behind a) (drop_behind a) ∙ append_assoc a (take k b) (little_bytes 4 x ++ drop 4 (drop k b)) where
-  take_behind : (a : List ℕ) → take (length a + k) (a ++ b) ≡ a ++ take k b
-  take_behind [] = ap (λ n. take n b) (let e : 0 + k ≡ k = omega arith in e)
-  take_behind (y ∷ a) = ap (λ n. take n (y ∷ (a ++ b))) (let e : suc (length a) + k ≡ suc (length a + k) = omega arith in e) ∙ ap (λ xs. y ∷ xs) (take_behind a)
+written_behind a b k x =
+    ap₂ (λ u v. u ++ (little_bytes 4 x ++ drop 4 v)) (take_behind a) (drop_behind a) ∙ append_assoc a (take k b) (little_bytes 4 x ++ drop 4 (drop k b)) where
+      take_behind : (a : List ℕ) → take (length a + k) (a ++ b) ≡ a ++ take k b
+      take_behind [] = ap (λ n. take n b) (let sum_is : 0 + k ≡ k = omega arith in sum_is)
+      take_behind (y ∷ a) =
+          ap (λ n. take n (y ∷ (a ++ b))) (let sum_is : suc (length a) + k ≡ suc (length a + k) = omega arith in sum_is) ∙ ap (λ xs. y ∷ xs) (take_behind a)
 
-  drop_behind : (a : List ℕ) → drop (length a + k) (a ++ b) ≡ drop k b
-  drop_behind [] = ap (λ n. drop n b) (let e : 0 + k ≡ k = omega arith in e)
-  drop_behind (y ∷ a) = ap (λ n. drop n (y ∷ (a ++ b))) (let e : suc (length a) + k ≡ suc (length a + k) = omega arith in e) ∙ drop_behind a
+      drop_behind : (a : List ℕ) → drop (length a + k) (a ++ b) ≡ drop k b
+      drop_behind [] = ap (λ n. drop n b) (let sum_is : 0 + k ≡ k = omega arith in sum_is)
+      drop_behind (y ∷ a) = ap (λ n. drop n (y ∷ (a ++ b))) (let sum_is : suc (length a) + k ≡ suc (length a + k) = omega arith in sum_is) ∙ drop_behind a
 
 -- a word of a part between others is written in the part alone
 pub written_within : (a c b : List ℕ) (k at x : ℕ) → at ≡ length a + k → k + 4 ≤ length c → with_word (a ++ (c ++ b)) at x ≡ a ++ (with_word c k x ++ b)
 written_within a c b k at x e h = ap (λ n. with_word (a ++ (c ++ b)) n x) e ∙ written_behind a (c ++ b) k x ∙ ap (λ ys. a ++ ys) (written_in_front c b k x h)
 
-pub used_within : (a c b : List ℕ) (at asked owner tag : ℕ) → at ≡ length a → 16 ≤ length c → with_use (a ++ (c ++ b)) at asked owner tag ≡ a ++ (with_use c 0 asked owner tag ++ b)
+pub used_within : (a c b : List ℕ) (at asked owner tag : ℕ) → at ≡ length a → 16 ≤ length c
+    → with_use (a ++ (c ++ b)) at asked owner tag ≡ a ++ (with_use c 0 asked owner tag ++ b)
 used_within a c b at asked owner tag e h =
-    let c1 = with_word c 4 asked in
-    let c2 = with_word c1 8 owner in
-    let l1 = length-with_word c 4 asked (omega arith) in
-    let l2 = length-with_word c1 8 owner (omega arith) in
+    let asked_written = with_word c 4 asked in let owner_written = with_word asked_written 8 owner in
+    let asked_kept = length-with_word c 4 asked (omega arith) in let owner_kept = length-with_word asked_written 8 owner (omega arith) in
     ap (λ xs. with_word (with_word xs (at + 8) owner) (at + 12) tag) (written_within a c b 4 (at + 4) asked (omega arith) (omega arith))
-    ∙ ap (λ xs. with_word xs (at + 12) tag) (written_within a c1 b 8 (at + 8) owner (omega arith) (omega arith)) ∙ written_within a c2 b 12 (at + 12) tag (omega arith) (omega arith)
+    ∙ ap (λ xs. with_word xs (at + 12) tag) (written_within a asked_written b 8 (at + 8) owner (omega arith) (omega arith))
+    ∙ written_within a owner_written b 12 (at + 12) tag (omega arith) (omega arith)
 
 -- what is behind a word stays
 pub drop-with_word : (xs : List ℕ) (at x n : ℕ) → at + 4 ≤ length xs → at + 4 ≤ n → drop n (with_word xs at x) ≡ drop n xs
 unfolding with_word
 drop-with_word xs at x n h l =
-    let t : length (take at xs) ≡ at = simp length-take (omega arith) in
-    let k = n - (at + 4) in
-    let e : n ≡ at + (4 + k) = omega arith in
-    let back = drop 4 (drop at xs) in
-    ap (λ m. drop m (with_word xs at x)) e ∙ sym (drop-drop (4 + k) at (with_word xs at x)) ∙ ap (drop (4 + k)) (drop_at (take at xs) (little_bytes 4 x ++ back) at t) ∙ sym (drop-drop k 4 (little_bytes 4 x ++ back)) ∙ drop-drop k 4 (drop at xs)
-    ∙ drop-drop (4 + k) at xs ∙ ap (λ m. drop m xs) (sym e)
+    let front_length : length (take at xs) ≡ at = simp length-take (omega arith) in
+    let beyond = n - (at + 4) in let sum_is : n ≡ at + (4 + beyond) = omega arith in let back = drop 4 (drop at xs) in
+    ap (λ m. drop m (with_word xs at x)) sum_is ∙ sym (drop-drop (4 + beyond) at (with_word xs at x)) ∙ ap (drop (4 + beyond)) (drop_at (take at xs) (little_bytes 4 x ++ back) at front_length) ∙ sym (drop-drop beyond 4 (little_bytes 4 x ++ back)) ∙ drop-drop beyond 4 (drop at xs)
+    ∙ drop-drop (4 + beyond) at xs ∙ ap (λ m. drop m xs) (sym sum_is)
 
 -- a word of a part between others is the part's
 pub word_within : (a c b : List ℕ) (k at : ℕ) → at ≡ length a + k → k + 4 ≤ length c → word_at (a ++ (c ++ b)) at ≡ word_at c k
-word_within a c b k at e h = ap (word_at (a ++ (c ++ b))) e ∙ sym (word_from (a ++ (c ++ b)) (length a) k) ∙ ap (λ xs. word_at xs k) (drop_at a (c ++ b) (length a) refl) ∙ word_in_front c b k h
+word_within a c b k at e h = ap (word_at (a ++ (c ++ b))) e ∙ sym (word_from (a ++ (c ++ b)) (length a) k)
+    ∙ ap (λ xs. word_at xs k) (drop_at a (c ++ b) (length a) refl) ∙ word_in_front c b k h

@@ -3,7 +3,7 @@ use Rattle.std.specs.Prelude.{ℕ, ◌+◌, ◌-◌, ◌*◌, ◌/◌, ◌%◌, 
 use Rattle.byteorder.specs.Endian.{little_number, little_bytes}
 use Rattle.zone_heap.specs.declared.headers.Header.{Header}
 use Rattle.zone_heap.specs.declared.headers.Used.{Used}
-use Rattle.zone_heap.specs.declared.headers.TheConstants.{FREE_OWNER, KIND_UNIT, STATIC_CODE, LEVEL_CODE, CACHE_CODE, ASKED_AT, OWNER_AT, TAG_AT}
+pub use Rattle.zone_heap.specs.declared.headers.TheConstants.{FREE_OWNER, KIND_UNIT, STATIC_CODE, LEVEL_CODE, CACHE_CODE, ASKED_AT, OWNER_AT, TAG_AT}
 use Rattle.zone_heap.specs.Rules.{Block, Cache, HEADER_SIZE, Holding, Level, Owner, Static, Tag}
 
 -- the word at a place of some bytes, and the bytes with another word there

@@ -2,7 +2,7 @@
 use Rattle.std.specs.Prelude.{◌≡◌, ℕ, ◌+◌, ◌-◌, ◌≤◌, ◌<◌, ◌==◌, if◌then◌else◌, List, length, slice_index, slice_set, Option, Some, None}
 use Rattle.zone_rules.specs.Zones.{Owner, Block, Unique, AllFit, owned_block}
 use Rattle.zone_heap.specs.declared.homes.Homes.{Homes}
-use Rattle.zone_heap.specs.declared.homes.TheConstants.{NO_HOME}
+pub use Rattle.zone_heap.specs.declared.homes.TheConstants.{NO_HOME}
 
 -- the entry of a slot in the list of homes, and its home there
 abbrev pub home_index : ℕ → ℕ → ℕ → ℕ

@@ -5,4 +5,4 @@ pub use Rattle.zone_rules.specs.Rooms.{RoomAt}
 pub use Rattle.zone_rules.specs.Zones.{AllFit, Apart, Block, FitsHolding, Heap, Holding, IsLive, IsSound, IsZoneSize, Lacks, Owner, Tiles, Unique, block_size, bytes_of, free_block, free_size, fresh_heap, has_place, holding_of, holds_for, is_free, is_held_by, is_pinned, is_purgeable, is_purgeable_tag, owned_block, owner_at, pins, purgeable_size, same_owner, slot_count, used_size}
 pub use Rattle.zone_rules.specs.declared.Tag.{Tag}
 pub use Rattle.zone_rules.specs.declared.Tag.TheVariants.{Cache, Level, Static}
-pub use Rattle.zone_rules.specs.declared.TheConstants.{HEADER_SIZE}
+pub use Rattle.zone_rules.specs.declared.TheConstants.{HEADER_SIZE, MAX_ZONE_SIZE, MIN_FRAGMENT, SLOT_LIMIT}

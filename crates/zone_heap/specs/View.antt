@@ -1,7 +1,7 @@
 -- What contracts see of the zone's fields, and what is true of them.
-use Rattle.std.specs.Prelude.{◌≡◌, ◌+◌, ◌<◌, ◌≤◌, ◌^◌, vec_len}
+use Rattle.std.specs.Prelude.{◌≡◌, ◌+◌, ◌<◌, ◌≤◌, vec_len}
 use Rattle.zone_heap.specs.declared.zone.Zone.TheInside.{Inside}
-use Rattle.zone_rules.specs.Zones.{Heap, IsSound}
+use Rattle.zone_heap.specs.Rules.{Heap, IsSound, MAX_ZONE_SIZE, SLOT_LIMIT}
 use Rattle.zone_heap.specs.Regions.{blocks_in, IsRing}
 use Rattle.zone_heap.specs.Homes.{AreExact}
 
@@ -14,7 +14,7 @@ pub record IsZone (z : Inside) : Type 0 where
   pub exact : AreExact z.homes (blocks_in z.region.items)
   pub region : vec_len z.region ≡ z.size
   pub least : 0 < z.size
-  pub small : z.size ≤ 536870912
-  pub lumps : z.homes.lumps < 2 ^ 24
-  pub composites : z.composites < 2 ^ 24
+  pub small : z.size ≤ MAX_ZONE_SIZE
+  pub lumps : z.homes.lumps < SLOT_LIMIT
+  pub composites : z.composites < SLOT_LIMIT
   pub homes : vec_len z.homes.list ≡ z.homes.lumps + z.composites

@@ -33,8 +33,8 @@ pub fn join(region: &mut [u8])
 
 /// Whether the blocks at two places are free.
 fn are_free(region: &[u8], at: usize, next: usize) -> bool
-    requires first { at + 24 ≤ length region.now }
-    requires second { next + 24 ≤ length region.now }
+    requires first { at + HEADER_SIZE ≤ length region.now }
+    requires second { next + HEADER_SIZE ≤ length region.now }
     ensures { result
         ≡ (is_free_header (header_in (drop at region.now)) && is_free_header (header_in (drop
         next region.now))) }
@@ -95,12 +95,12 @@ pub fn place_in(region: &[u8], place: usize) -> usize
 
 /// Cuts a free block into one of the wanted size and a free rest.
 fn cut(region: &mut [u8], place: usize, wanted: u32)
-    requires inside { place + wanted + 24 ≤ length region.old }
-    requires large { 24 ≤ wanted }
+    requires inside { place + wanted + HEADER_SIZE ≤ length region.old }
+    requires large { HEADER_SIZE ≤ wanted }
     requires rest { wanted ≤ word_at region.old place }
     ensures len { length region.new ≡ length region.old }
     ensures parts { (a c b : List ℕ) → region.old ≡ a ++ (c ++ b) → length a ≡ place
-        → wanted + 24 ≤ length c → word_at region.old place ≡ length c → region.new ≡ a
+        → wanted + HEADER_SIZE ≤ length c → word_at region.old place ≡ length c → region.new ≡ a
         ++ (first_part c wanted ++ (second_part c wanted ++ b)) }
 {
     let rest = word_at(region, place) - wanted;
@@ -123,7 +123,7 @@ pub fn take(region: &mut [u8], place: usize, wanted: u32, used: Used) -> usize
     requires laid { IsLaid region.old }
     requires small { length region.old < 2 ^ 32 }
     requires room { RoomAt place wanted (blocks_in region.old) }
-    requires large { used.asked + 24 ≤ wanted }
+    requires large { used.asked + HEADER_SIZE ≤ wanted }
     requires live { (used.owner == FREE_OWNER) ≡ false }
     requires owner { used.owner < 2 ^ 32 }
     requires tag { used.tag < 2 ^ 32 }

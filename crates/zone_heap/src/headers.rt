@@ -9,7 +9,7 @@ ghost use Rattle.std.specs.Prelude.{◌≡◌, ◌≤◌, ◌<◌, ◌+◌, ◌*
 ghost use Rattle.zone_heap.specs.Headers.{word_at, with_word, header_in, with_use, code_tag, tag_code, owner_word, is_free_header, is_pinned_header, is_purgeable_header};
 
 use byteorder::{ByteOrder, LittleEndian};
-use zone_rules::Tag;
+use zone_rules::{HEADER_SIZE, Tag};
 
 /// Bytes from a block's place to the word of how many bytes were asked for. The first word of the
 /// header, at the block's place, is its size.
@@ -146,7 +146,7 @@ pub fn set_word(region: &mut [u8], at: usize, word: u32)
 
 /// The header of the block at a place.
 pub fn header_at(region: &[u8], at: usize) -> Header
-    requires { at + 24 ≤ length region.now }
+    requires { at + HEADER_SIZE ≤ length region.now }
     ensures { result ≡ header_in (drop at region.now) }
 {
     Header {
@@ -159,7 +159,7 @@ pub fn header_at(region: &[u8], at: usize) -> Header
 
 /// Writes what the header of the block at a place says of its use.
 pub fn set_use(region: &mut [u8], at: usize, asked: u32, owner: u32, tag: u32)
-    requires { at + 24 ≤ length region.old }
+    requires { at + HEADER_SIZE ≤ length region.old }
     ensures { region.new ≡ with_use region.old at asked owner tag }
 {
     set_word(region, at + ASKED_AT, asked);
@@ -169,7 +169,7 @@ pub fn set_use(region: &mut [u8], at: usize, asked: u32, owner: u32, tag: u32)
 
 /// Writes the header of a free block.
 pub fn set_free(region: &mut [u8], at: usize)
-    requires { at + 24 ≤ length region.old }
+    requires { at + HEADER_SIZE ≤ length region.old }
     ensures { region.new ≡ with_use region.old at 0 FREE_OWNER 0 }
 {
     set_use(region, at, 0, FREE_OWNER, 0);

@@ -5,7 +5,7 @@ ghost use Rattle.zone_heap.specs.Homes.{home_index, home_in, IsSet};
 
 use crate::headers::{FREE_OWNER, KIND_UNIT, OWNER_AT, set_free, word_at};
 use std::alloc::{AllocError, Global};
-use zone_rules::SLOT_LIMIT;
+use zone_rules::{HEADER_SIZE, SLOT_LIMIT};
 
 /// The home of an empty slot: no block has this place.
 pub const NO_HOME: u32 = 0xffff_ffff;
@@ -66,7 +66,7 @@ impl Homes {
 
 /// Frees the live block at a place, and empties the home of its slot.
 pub fn free_at(region: &mut [u8], homes: &mut Homes, at: usize)
-    requires fits { at + 24 ≤ length region.old }
+    requires fits { at + HEADER_SIZE ≤ length region.old }
     requires slot { home_index homes.old.lumps (word_at region.old (at + OWNER_AT) / KIND_UNIT)
         (word_at region.old (at + OWNER_AT) % KIND_UNIT) < length homes.old.list.items }
     ensures region { region.new ≡ with_use region.old at 0 FREE_OWNER 0 }

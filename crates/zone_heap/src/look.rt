@@ -19,9 +19,9 @@ pub struct Span {
 /// Where the bytes of the block at a place lie.
 #[inline(always)]
 pub fn span_at(region: &[u8], at: usize) -> Span
-    requires { at + 24 ≤ length region.now }
-    ensures from { result.from ≡ at + 24 }
-    ensures to { result.to ≡ at + 24 + word_at region.now (at + 4) }
+    requires { at + HEADER_SIZE ≤ length region.now }
+    ensures from { result.from ≡ at + HEADER_SIZE }
+    ensures to { result.to ≡ at + HEADER_SIZE + word_at region.now (at + ASKED_AT) }
 {
     let from = at + HEADER_SIZE as usize;
     Span {
@@ -34,7 +34,7 @@ pub fn span_at(region: &[u8], at: usize) -> Span
 #[inline(always)]
 pub fn slot_tag(region: &[u8], homes: &Homes, kind: u8, number: u32) -> Option<Tag>
     requires laid { IsLaid region.now }
-    requires small { length region.now < 4294967295 }
+    requires small { length region.now < NO_HOME }
     requires homed { IsHomed homes.now (owner_at kind number) (blocks_in region.now) }
     ensures { result
         ≡ option_map (λ h. h.tag) (holding_of (owner_at kind number) (blocks_in region.now)) }
@@ -51,7 +51,7 @@ pub fn slot_tag(region: &[u8], homes: &Homes, kind: u8, number: u32) -> Option<T
 #[inline(always)]
 pub fn slot_span(region: &[u8], homes: &Homes, kind: u8, number: u32) -> Option<Span>
     requires laid { IsLaid region.now }
-    requires small { length region.now < 4294967295 }
+    requires small { length region.now < NO_HOME }
     requires homed { IsHomed homes.now (owner_at kind number) (blocks_in region.now) }
     requires fits { AllFit homes.now.lumps (composites_in homes.now) (blocks_in region.now) }
     ensures value { bytes_of (owner_at kind number) (blocks_in region.now)
@@ -71,9 +71,9 @@ pub fn live_span(region: &[u8], homes: &Homes, kind: u8, number: u32) -> Span
     requires laid { IsLaid region.now }
     requires homed { IsHomed homes.now (owner_at kind number) (blocks_in region.now) }
     requires live { IsSome (owned_block (owner_at kind number) (blocks_in region.now)) }
-    ensures from { result.from ≡ home_in homes.now kind number + 24 }
+    ensures from { result.from ≡ home_in homes.now kind number + HEADER_SIZE }
     ensures to { result.to
-        ≡ result.from + word_at region.now (home_in homes.now kind number + 4) }
+        ≡ result.from + word_at region.now (home_in homes.now kind number + ASKED_AT) }
 {
     let home = homes.of(kind, number);
     span_at(region, home as usize)

@@ -1,7 +1,7 @@
 use Rattle.std.proofs.Common.{arith, rules, ◌≡◌, ◌<◌, ◌≤◌, ◌+◌, ◌-◌, ◌++◌, ◌∷◌, [], ◌&&◌, ◌∙◌, ap, ap₂, sym, subst, refl, length, drop, true, false, ℕ, List}
 use Rattle.std.proofs.lemmas.Bool.{and_parts}
 use Rattle.std.proofs.lemmas.List.{append_assoc, length-append}
-use Rattle.zone_heap.specs.Rules.{is_free, join_free}
+use Rattle.zone_heap.specs.Rules.{is_free, join_free, HEADER_SIZE}
 use Rattle.zone_heap.specs.Headers.{word_at, with_word, header_in, block_in, is_free_header}
 use Rattle.zone_heap.specs.Regions.{joined, blocks_from, IsSplit}
 use Rattle.zone_heap.proofs.WordLemmas.{written_within, length-with_word, word_same}
@@ -10,13 +10,13 @@ use Rattle.zone_heap.proofs.EditLemmas.{JoinedTo, join_absorb, join_passes, two_
 use Rattle.zone_heap.proofs.edits.join.Goals as goal
 
 pub word_at-next-requires : goal.word_at-next-requires
-word_at-next-requires c = let k = head_fits c.args.region.now 0 (split_first c.args.region.now c.requires.laid) c.requires.some in omega arith
+word_at-next-requires c = let header_fits = head_fits c.args.region.now 0 (split_first c.args.region.now c.requires.laid) c.requires.some in omega arith
 
 pub loop-next-init : goal.loop-next-init
 loop-next-init c = record {
   split = split_first c.args.region.now c.requires.laid;
   inside = c.requires.some;
-  size = let e = c.word_at-next.ensures in omega arith;
+  size = let told = c.word_at-next.ensures in omega arith;
   len = refl;
   value = ap join_free (blocks_laid c.args.region.now c.requires.laid);
 }
@@ -36,8 +36,9 @@ module _ (region : List ℕ) (at next : ℕ) (s : IsSplit region at) (inside : a
     blocks_are : blocks_from at s.rest ≡ block_in at first.part ∷ block_in next second.part ∷ blocks_from (next + word_at region next) second.next.rest
     blocks_are = first.blocks ∙ ap (λ n. block_in at first.part ∷ blocks_from n first.next.rest) (sym size) ∙ ap (λ bs. block_in at first.part ∷ bs) second.blocks
 
-    bounds : (at + 24 ≤ length region) × (next + 24 ≤ length region) × (next + word_at region next ≤ length region) × (24 ≤ word_at region next) × (24 ≤ word_at region at)
-    bounds = let a = first.large in let b = first.fits in let d = second.large in let e = second.fits in (omega arith, omega arith, e, d, a)
+    bounds : (at + HEADER_SIZE ≤ length region) × (next + HEADER_SIZE ≤ length region) × (next + word_at region next ≤ length region) × (HEADER_SIZE ≤ word_at region next) × (HEADER_SIZE ≤ word_at region at)
+    bounds = let first_large = first.large in let first_fits = first.fits in let second_large = second.large in let second_fits = second.fits in
+        (omega arith, omega arith, second_fits, second_large, first_large)
 
     tests : (is_free_header (header_in (drop at region)) && is_free_header (header_in (drop next region))) ≡ (is_free (block_in at first.part) && is_free (block_in next second.part))
     tests = ap₂ ◌&&◌ (ap is_free_header first.header ∙ sym (free_told at first.part)) (ap is_free_header second.header ∙ sym (free_told next second.part))
@@ -47,16 +48,15 @@ module _ (region : List ℕ) (at next : ℕ) (s : IsSplit region at) (inside : a
       abbrev both : List ℕ
       both = two_parts first.part second.part
 
-      large : 24 ≤ length first.part
-      large = let k = first.len in let l = first.large in omega arith
+      large : HEADER_SIZE ≤ length first.part
+      large = let part_length = first.len in let block_large = first.large in omega arith
 
       after_is : with_word region at n ≡ joined s.front ++ (both ++ joined second.next.rest)
       after_is =
-          let k = large in
-          let m = s.at_is in
-          let q = length-append first.part second.part in
+          let part_large = large in let front_length = s.at_is in let both_length = length-append first.part second.part in
           let whole : region ≡ joined s.front ++ ((first.part ++ second.part) ++ joined second.next.rest) =
-          opened_is region at (word_at region at) s first ∙ ap (λ cs. joined s.front ++ (first.part ++ joined cs)) second.rest ∙ ap (λ xs. joined s.front ++ xs) (sym (append_assoc first.part second.part (joined second.next.rest))) in
+          opened_is region at (word_at region at) s first ∙ ap (λ cs. joined s.front ++ (first.part ++ joined cs)) second.rest
+          ∙ ap (λ xs. joined s.front ++ xs) (sym (append_assoc first.part second.part (joined second.next.rest))) in
           ap₂ (λ xs k. with_word xs at k) whole n_is ∙ written_within (joined s.front) (first.part ++ second.part) (joined second.next.rest) 0 at (length first.part + length second.part) (omega arith) (omega arith)
 
       abbrev joint : IsSplit (with_word region at n) at
@@ -66,130 +66,119 @@ module _ (region : List ℕ) (at next : ℕ) (s : IsSplit region at) (inside : a
         is = after_is;
         at_is = s.at_is;
         front_whole = s.front_whole;
-        rest_whole = (let l = length-two first.part second.part large in let k = large in omega arith, told-two first.part second.part large small ∙ sym (length-two first.part second.part large), (whole_rest region next (word_at region next) behind second).2);
+        rest_whole = (let both_length = length-two first.part second.part large in let part_large = large in omega arith, told-two first.part second.part large small ∙ sym (length-two first.part second.part large), (whole_rest region next (word_at region next) behind second).2);
       }
 
       joint_len : length (with_word region at n) ≡ length region
-      joint_len = length-with_word region at n (let b = bounds.0 in omega arith)
+      joint_len = length-with_word region at n (let header_fits = bounds.0 in omega arith)
 
       joint_word : word_at (with_word region at n) at ≡ n
-      joint_word = word_same region at n (let b = bounds.0 in omega arith) (let e = n_is in omega arith)
+      joint_word = word_same region at n (let header_fits = bounds.0 in omega arith) (let size_is = n_is in omega arith)
 
-      joint_value : is_free (block_in at first.part) ≡ true → is_free (block_in next second.part) ≡ true → join_free (blocks_from at s.rest) ≡ join_free (blocks_from at joint.rest)
+      joint_value : is_free (block_in at first.part) ≡ true → is_free (block_in next second.part) ≡ true
+          → join_free (blocks_from at s.rest) ≡ join_free (blocks_from at joint.rest)
       joint_value f g =
-          let l = length-two first.part second.part large in
-          let a = first.len in
-          let b = second.len in
-          let e = size in
+          let both_length = length-two first.part second.part large in let first_length = first.len in
+          let second_length = second.len in let next_is = size in
           ap join_free blocks_are ∙ join_absorb (block_in at first.part) (block_in next second.part) (blocks_from (next + word_at region next) second.next.rest) f g
-          ∙ ap₂ (λ x p. join_free (x ∷ blocks_from p second.next.rest)) (sym (block-two first.part second.part large at f)) (let k : next + word_at region next ≡ at + length both = omega arith in k)
+          ∙ ap₂ (λ x p. join_free (x ∷ blocks_from p second.next.rest)) (sym (block-two first.part second.part large at f)) (let behind_is : next + word_at region next ≡ at + length both = omega arith in behind_is)
 
-    passed_value : (is_free (block_in at first.part) && is_free (block_in next second.part)) ≡ false → blocks_from 0 s.front ++ join_free (blocks_from at s.rest) ≡ blocks_from 0 behind.front ++ join_free (blocks_from next behind.rest)
+    passed_value : (is_free (block_in at first.part) && is_free (block_in next second.part)) ≡ false
+        → blocks_from 0 s.front ++ join_free (blocks_from at s.rest) ≡ blocks_from 0 behind.front ++ join_free (blocks_from next behind.rest)
     passed_value f =
-        let k = s.at_is in
-        let rest = blocks_from (next + word_at region next) second.next.rest in
-        let one = ap join_free blocks_are ∙ join_passes (block_in at first.part) (block_in next second.part) rest f ∙ ap (λ bs. block_in at first.part ∷ join_free bs) (sym second.blocks) in
-        let front = ap (blocks_from 0) first.front ∙ blocks-append 0 s.front (first.part ∷ []) ∙ ap (λ p. blocks_from 0 s.front ++ (block_in p first.part ∷ [])) (let e : 0 + length (joined s.front) ≡ at = omega arith in e) in
-        ap (λ bs. blocks_from 0 s.front ++ bs) one ∙ sym (append_assoc (blocks_from 0 s.front) (block_in at first.part ∷ []) (join_free (blocks_from next behind.rest))) ∙ ap (λ bs. bs ++ join_free (blocks_from next behind.rest)) (sym front)
+        let front_length = s.at_is in let rest = blocks_from (next + word_at region next) second.next.rest in
+        let joined_apart = ap join_free blocks_are ∙ join_passes (block_in at first.part) (block_in next second.part) rest f
+        ∙ ap (λ bs. block_in at first.part ∷ join_free bs) (sym second.blocks) in
+        let front_blocks = ap (blocks_from 0) first.front ∙ blocks-append 0 s.front (first.part ∷ [])
+        ∙ ap (λ p. blocks_from 0 s.front ++ (block_in p first.part ∷ [])) (let place_is : 0 + length (joined s.front) ≡ at = omega arith in place_is) in
+        ap (λ bs. blocks_from 0 s.front ++ bs) joined_apart ∙ sym (append_assoc (blocks_from 0 s.front) (block_in at first.part ∷ []) (join_free (blocks_from next behind.rest))) ∙ ap (λ bs. bs ++ join_free (blocks_from next behind.rest)) (sym front_blocks)
 
   last_value : length region ≤ next → join_free (blocks_from at s.rest) ≡ blocks_from at s.rest
   last_value le =
       let none = nothing_left region next behind le in
-      let e = first.blocks ∙ ap (λ cs. block_in at first.part ∷ blocks_from (at + word_at region at) cs) none in
-      ap join_free e ∙ sym e
+      let blocks_are_one = first.blocks ∙ ap (λ cs. block_in at first.part ∷ blocks_from (at + word_at region at) cs) none in
+      ap join_free blocks_are_one ∙ sym blocks_are_one
 
 pub word_at-requires : goal.word_at-requires
-word_at-requires c = let i = c.loop-next.invariant in let b = bounds c.loop-next.region c.loop-next.at c.loop-next.next i.split i.inside i.size c.loop-next-test.true in let k = b.1 in omega arith
+word_at-requires c = let known = c.loop-next.invariant in let bounds_hold = bounds _ _ _ known.split known.inside known.size c.loop-next-test.true in
+    let next_fits = bounds_hold.1 in omega arith
 
 pub are_free-requires-clause-first : goal.are_free-requires-clause-first
-are_free-requires-clause-first c = let i = c.loop-next.invariant in (bounds c.loop-next.region c.loop-next.at c.loop-next.next i.split i.inside i.size c.loop-next-test.true).0
+are_free-requires-clause-first c = let known = c.loop-next.invariant in (bounds _ _ _ known.split known.inside known.size c.loop-next-test.true).0
 
 pub are_free-requires-clause-second : goal.are_free-requires-clause-second
-are_free-requires-clause-second c = let i = c.loop-next.invariant in (bounds c.loop-next.region c.loop-next.at c.loop-next.next i.split i.inside i.size c.loop-next-test.true).1
+are_free-requires-clause-second c = let known = c.loop-next.invariant in (bounds _ _ _ known.split known.inside known.size c.loop-next-test.true).1
 
 -- the size of the joined block
 grown : (region : List ℕ) (at next : ℕ) (s : IsSplit region at) (inside : at < length region) (size : next ≡ at + word_at region at) (more : next < length region) (n : ℕ) → n ≡ word_at region next → next + n - at ≡ length (first region at next s inside size).part + length (second region at next s inside size more).part
 grown region at next s inside size more n e =
-    let a = (first region at next s inside size).len in
-    let b = (second region at next s inside size more).len in
-    omega arith
+    let first_length = (first region at next s inside size).len in
+    let second_length = (second region at next s inside size more).len in omega arith
 
 pub overflow_cast-after-then-are_free : goal.overflow_cast-after-then-are_free
 overflow_cast-after-then-are_free c =
-    let i = c.loop-next.invariant in
-    let b = bounds c.loop-next.region c.loop-next.at c.loop-next.next i.split i.inside i.size c.loop-next-test.true in
-    let f = b.2 in
-    let e = c.word_at.ensures in
-    let l = i.len in
-    let h : c.loop-next.next + c.word_at.result - c.loop-next.at < 4294967296 = omega arith in
+    let known = c.loop-next.invariant in
+    let bounds_hold = bounds _ _ _ known.split known.inside known.size c.loop-next-test.true in
+    let next_fits = bounds_hold.2 in let told = c.word_at.ensures in let length_kept = known.len in
+    let size_small : c.loop-next.next + c.word_at.result - c.loop-next.at < 4294967296 = omega arith in
     search rules
 
 pub set_word-requires : goal.set_word-requires
-set_word-requires c = let i = c.loop-next.invariant in let b = bounds c.loop-next.region c.loop-next.at c.loop-next.next i.split i.inside i.size c.loop-next-test.true in let k = b.0 in omega arith
+set_word-requires c = let known = c.loop-next.invariant in let bounds_hold = bounds _ _ _ known.split known.inside known.size c.loop-next-test.true in
+    let header_fits = bounds_hold.0 in omega arith
 
 pub loop-next-smaller-then-are_free : goal.loop-next-smaller-then-are_free
 loop-next-smaller-then-are_free c =
-    let i = c.loop-next.invariant in
-    let b = bounds c.loop-next.region c.loop-next.at c.loop-next.next i.split i.inside i.size c.loop-next-test.true in
-    let k = b.0 in
-    let f = b.3 in
-    let e = c.word_at.ensures in
-    let l = ap length c.set_word.ensures ∙ length-with_word c.loop-next.region c.loop-next.at (c.loop-next.next + c.word_at.result - c.loop-next.at) (omega arith) in
+    let known = c.loop-next.invariant in
+    let bounds_hold = bounds _ _ _ known.split known.inside known.size c.loop-next-test.true in
+    let header_fits = bounds_hold.0 in let next_large = bounds_hold.3 in let told = c.word_at.ensures in
+    let length_kept = ap length c.set_word.ensures
+    ∙ length-with_word c.loop-next.region c.loop-next.at (c.loop-next.next + c.word_at.result - c.loop-next.at) (omega arith) in
     omega arith
 
 pub loop-next-smaller : goal.loop-next-smaller
 loop-next-smaller c =
-    let i = c.loop-next.invariant in
-    let b = bounds c.loop-next.region c.loop-next.at c.loop-next.next i.split i.inside i.size c.loop-next-test.true in
-    let f = b.3 in
-    let e = c.word_at.ensures in
-    omega arith
+    let known = c.loop-next.invariant in
+    let bounds_hold = bounds _ _ _ known.split known.inside known.size c.loop-next-test.true in
+    let next_large = bounds_hold.3 in let told = c.word_at.ensures in omega arith
 
 pub loop-next-preserved-then-are_free : goal.loop-next-preserved-then-are_free
 loop-next-preserved-then-are_free c =
-    let i = c.loop-next.invariant in
-    let region = c.loop-next.region in
-    let at = c.loop-next.at in
-    let next = c.loop-next.next in
-    let t = c.loop-next-test.true in
-    let n = next + c.word_at.result - at in
-    let b = bounds region at next i.split i.inside i.size t in
-    let b0 = b.2 in
-    let e = c.word_at.ensures in
-    let len = i.len in
-    let is = grown region at next i.split i.inside i.size t c.word_at.result e in
-    let small : length (first region at next i.split i.inside i.size).part + length (second region at next i.split i.inside i.size t).part < 4294967296 = omega arith in
-    let free = and_parts _ _ (sym (tests region at next i.split i.inside i.size t) ∙ sym c.are_free.ensures ∙ c.if-are_free.true) in
-    let l = joint_len region at next i.split i.inside i.size t n is small in
-    let w = joint_word region at next i.split i.inside i.size t n is small in
-    let s0 = i.size in
+    let known = c.loop-next.invariant in let region = c.loop-next.region in let at = c.loop-next.at in
+    let next = c.loop-next.next in let more = c.loop-next-test.true in let size_joined = next + c.word_at.result - at in
+    let bounds_hold = bounds _ _ _ known.split known.inside known.size more in
+    let next_fits = bounds_hold.2 in let told = c.word_at.ensures in let length_kept = known.len in
+    let size_is = grown _ _ _ known.split known.inside known.size more c.word_at.result told in
+    let small : length (first _ _ _ known.split known.inside known.size).part + length (second _ _ _ known.split known.inside known.size more).part < 4294967296 = omega arith in
+    let free = and_parts _ _ (sym (tests _ _ _ known.split known.inside known.size more) ∙ sym c.are_free.ensures ∙ c.if-are_free.true) in
+    let joint_length = joint_len _ _ _ known.split known.inside known.size more size_joined size_is small in
+    let word_written = joint_word _ _ _ known.split known.inside known.size more size_joined size_is small in
+    let next_is = known.size in
     subst (λ xs. JoinedTo c.args.region.now xs at (next + c.word_at.result)) (sym c.set_word.ensures) (record {
-      split = joint region at next i.split i.inside i.size t n is small;
-      inside = let k = i.inside in omega arith;
+      split = joint _ _ _ known.split known.inside known.size more size_joined size_is small;
+      inside = let inside_before = known.inside in omega arith;
       size = omega arith;
-      len = l ∙ len;
-      value = i.value ∙ ap (λ bs. blocks_from 0 i.split.front ++ bs) (joint_value region at next i.split i.inside i.size t n is small free.0 free.1);
+      len = joint_length ∙ length_kept;
+      value = known.value ∙ ap (λ bs. blocks_from 0 known.split.front ++ bs) (joint_value _ _ _ known.split known.inside known.size more size_joined size_is small free.0 free.1);
     })
 
 pub loop-next-preserved : goal.loop-next-preserved
 loop-next-preserved c =
-    let i = c.loop-next.invariant in
-    let t = c.loop-next-test.true in
+    let known = c.loop-next.invariant in let more = c.loop-next-test.true in
     record {
-      split = behind _ _ _ i.split i.inside i.size;
-      inside = t;
+      split = behind _ _ _ known.split known.inside known.size;
+      inside = more;
       size = ap (λ k. c.loop-next.next + k) c.word_at.ensures;
-      len = i.len;
-      value = i.value ∙ passed_value _ _ _ i.split i.inside i.size t (sym (tests _ _ _ i.split i.inside i.size t) ∙ sym c.are_free.ensures ∙ c.if-are_free.false);
+      len = known.len;
+      value = known.value ∙ passed_value _ _ _ known.split known.inside known.size more (sym (tests _ _ _ known.split known.inside known.size more) ∙ sym c.are_free.ensures ∙ c.if-are_free.false);
     }
 
 pub returns : goal.returns
 returns c =
-    let i = c.loop-next.invariant in
-    let region = c.loop-next.region in
-    let last = last_value region c.loop-next.at c.loop-next.next i.split i.inside i.size (omega arith) in
+    let known = c.loop-next.invariant in let region = c.loop-next.region in
+    let last = last_value region c.loop-next.at c.loop-next.next known.split known.inside known.size (omega arith) in
     record {
-      laid = split_laid region c.loop-next.at i.split;
-      blocks = blocks_split region c.loop-next.at i.split ∙ ap (λ bs. blocks_from 0 i.split.front ++ bs) (sym last) ∙ sym i.value;
-      len = i.len;
+      laid = split_laid region c.loop-next.at known.split;
+      blocks = blocks_split region c.loop-next.at known.split ∙ ap (λ bs. blocks_from 0 known.split.front ++ bs) (sym last) ∙ sym known.value;
+      len = known.len;
     }

@@ -5,30 +5,28 @@ use Rattle.zone_heap.specs.Regions.{joined, blocks_from, blocks_in, AllWhole, Ar
 use Rattle.zone_heap.proofs.WordLemmas.{written_within, written_in_front, length-with_word}
 use Rattle.zone_heap.proofs.PartLemmas.{split_le, Opened, opened_word, head_fits, nothing_left, split_first, blocks_laid, blocks_split, opened_is, whole_rest, split_next, blocks_next, length_after}
 use Rattle.zone_heap.proofs.EditLemmas.{LinkedTo, relinked, length-relinked, word-relinked, next-relinked, previous-relinked, block-relinked, length-mid, linked-append, last-append, last-any, length-ringed, word-ringed, block-ringed, linked-ringed}
+use Rattle.zone_heap.specs.Rules.{HEADER_SIZE}
 use Rattle.zone_heap.proofs.edits.link.Goals as goal
 
 pub loop-at-init : goal.loop-at-init
 loop-at-init c = record { split = split_first c.args.region.now c.requires.laid; low = omega arith; len = refl; linked = tt; last = refl; blocks = refl }
 
 pub word_at-requires : goal.word_at-requires
-word_at-requires c = let k = head_fits c.loop-at.region c.loop-at.at c.loop-at.invariant.split c.loop-at-test.true in omega arith
+word_at-requires c = let header_fits = head_fits c.loop-at.region c.loop-at.at c.loop-at.invariant.split c.loop-at-test.true in omega arith
 
 pub overflow_cast-ring_place : goal.overflow_cast-ring_place
 overflow_cast-ring_place c =
-    let o = opened_word c.loop-at.region c.loop-at.at c.loop-at.invariant.split c.loop-at-test.true c.word_at.result c.word_at.ensures in
-    let f = o.fits in
-    let e = c.loop-at.invariant.len in
-    let b = c.ring_place.ensures.bound in
-    let h : c.ring_place.result < 4294967296 = omega arith in
-    search rules
+    let block = opened_word c.loop-at.region c.loop-at.at c.loop-at.invariant.split c.loop-at-test.true c.word_at.result c.word_at.ensures in
+    let block_fits = block.fits in let length_kept = c.loop-at.invariant.len in let ring_bound = c.ring_place.ensures.bound in
+    let place_small : c.ring_place.result < 4294967296 = omega arith in search rules
 
 pub set_word-requires : goal.set_word-requires
-set_word-requires c = let k = head_fits c.loop-at.region c.loop-at.at c.loop-at.invariant.split c.loop-at-test.true in omega arith
+set_word-requires c = let header_fits = head_fits c.loop-at.region c.loop-at.at c.loop-at.invariant.split c.loop-at-test.true in omega arith
 
 pub set_word-requires-in-loop-at : goal.set_word-requires-in-loop-at
 set_word-requires-in-loop-at c =
-    let k = head_fits c.loop-at.region c.loop-at.at c.loop-at.invariant.split c.loop-at-test.true in
-    let e = ap length c.set_word.ensures ∙ length-with_word c.loop-at.region (c.loop-at.at + 16) c.ring_place.result (omega arith) in
+    let header_fits = head_fits c.loop-at.region c.loop-at.at c.loop-at.invariant.split c.loop-at-test.true in
+    let length_kept = ap length c.set_word.ensures ∙ length-with_word c.loop-at.region (c.loop-at.at + 16) c.ring_place.result (omega arith) in
     omega arith
 
 -- one block more linked
@@ -36,8 +34,8 @@ module _ (region : List ℕ) (at n : ℕ) (s : IsSplit region at) (o : Opened re
   abbrev part : List ℕ
   part = relinked o.part (ring_place (at + n) end') previous
 
-  large : 24 ≤ length o.part
-  large = let a = o.len in let b = o.large in omega arith
+  large : HEADER_SIZE ≤ length o.part
+  large = let part_length = o.len in let block_large = o.large in omega arith
 
   same : length part ≡ n
   same = length-relinked o.part (ring_place (at + n) end') previous large ∙ o.len
@@ -50,9 +48,8 @@ module _ (region : List ℕ) (at n : ℕ) (s : IsSplit region at) (o : Opened re
 
   after_is : after ≡ joined s.front ++ (part ++ joined o.next.rest)
   after_is =
-      let k = s.at_is in
-      let l = large in
-      let m = length-mid o.part (ring_place (at + n) end') previous large in
+      let front_length = s.at_is in let part_large = large in
+      let middle_length = length-mid o.part (ring_place (at + n) end') previous large in
       ap (λ xs. with_word (with_word xs (at + 16) (ring_place (at + n) end')) (at + 20) previous) (opened_is region at n s o)
       ∙ ap (λ xs. with_word xs (at + 20) previous) (written_within (joined s.front) o.part (joined o.next.rest) 16 (at + 16) (ring_place (at + n) end') (omega arith) (omega arith))
       ∙ written_within (joined s.front) (with_word o.part 16 (ring_place (at + n) end')) (joined o.next.rest) 20 (at + 20) previous (omega arith) (omega arith)
@@ -65,23 +62,23 @@ module _ (region : List ℕ) (at n : ℕ) (s : IsSplit region at) (o : Opened re
 
   next_linked : AreLinked end' 0 0 next.front
   next_linked =
-      let k = s.at_is in
-      let l = same in
+      let front_length = s.at_is in let part_length = same in
       linked-append end' 0 0 s.front (part ∷ []) linked (
-        next-relinked o.part (ring_place (at + n) end') previous large ring ∙ ap (λ p. ring_place p end') (let e : at + n ≡ 0 + length (joined s.front) + length part = omega arith in e),
+        next-relinked o.part (ring_place (at + n) end') previous large ring
+            ∙ ap (λ p. ring_place p end') (let behind_is : at + n ≡ 0 + length (joined s.front) + length part = omega arith in behind_is),
         previous-relinked o.part (ring_place (at + n) end') previous large low ∙ sym last,
         tt,
       )
 
   next_last : last_place 0 0 next.front ≡ at
-  next_last = let k = s.at_is in last-append 0 0 s.front part ∙ omega arith
+  next_last = let front_length = s.at_is in last-append 0 0 s.front part ∙ omega arith
 
   next_blocks : blocks_in after ≡ blocks_in region
   next_blocks =
-      let k = s.at_is in
-      let back = blocks_from (at + n) o.next.rest in
+      let front_length = s.at_is in let back = blocks_from (at + n) o.next.rest in
       blocks_split after (at + n) next ∙ ap (λ bs. bs ++ back) (blocks_next region at n s o part same told after after_is)
-      ∙ append_assoc (blocks_from 0 s.front) (block_in at part ∷ []) back ∙ ap (λ b. blocks_from 0 s.front ++ (b ∷ back)) (block-relinked o.part (ring_place (at + n) end') previous large at)
+      ∙ append_assoc (blocks_from 0 s.front) (block_in at part ∷ []) back
+      ∙ ap (λ b. blocks_from 0 s.front ++ (b ∷ back)) (block-relinked o.part (ring_place (at + n) end') previous large at)
       ∙ ap (λ bs. blocks_from 0 s.front ++ bs) (sym o.blocks) ∙ sym (blocks_split region at s)
 
 -- the ring closed
@@ -90,78 +87,76 @@ record Closed (region : List ℕ) (previous : ℕ) : Type 0 where
   blocks : blocks_in (with_word region 20 previous) ≡ blocks_in region
   len : length (with_word region 20 previous) ≡ length region
 
-closed : (region : List ℕ) (at previous : ℕ) (s : IsSplit region at) → s.rest ≡ [] → 0 < at → previous < 4294967296 → AreLinked (length region) 0 0 s.front → last_place 0 0 s.front ≡ previous → Closed region previous
+closed : (region : List ℕ) (at previous : ℕ) (s : IsSplit region at) → s.rest ≡ [] → 0 < at → previous < 4294967296 → AreLinked (length region) 0 0 s.front
+    → last_place 0 0 s.front ≡ previous → Closed region previous
 closed region at previous s none pos low linked last = go s.front refl s.front_whole linked last where
   go : (front : List (List ℕ)) → s.front ≡ front → AllWhole front → AreLinked (length region) 0 0 front → last_place 0 0 front ≡ previous → Closed region previous
-  go [] e w l m = absurd (let k = ap (λ cs. length (joined cs)) (sym e) in let n = s.at_is in omega arith)
+  go [] e w l m = absurd (let front_empty = ap (λ cs. length (joined cs)) (sym e) in let front_length = s.at_is in omega arith)
   go (c ∷ cs) e w l m =
-      let large : 24 ≤ length c = w.0 in
+      let large : HEADER_SIZE ≤ length c = w.0 in
       let is : region ≡ c ++ joined cs = s.is ∙ ap₂ (λ xs ys. joined xs ++ joined ys) e none ∙ append-nil (c ++ joined cs) in
-      let d = with_word c 20 previous in
-      let same = length-ringed c previous large in
-      let after : with_word region 20 previous ≡ d ++ joined cs = ap (λ xs. with_word xs 20 previous) is ∙ written_in_front c (joined cs) 20 previous (omega arith) in
-      let laid : IsLaid (with_word region 20 previous) = record { parts = d ∷ cs; is = after; whole = (omega arith, word-ringed c previous large 0 (omega arith) ∙ w.1 ∙ sym same, w.2) } in
-      let len = length-with_word region 20 previous (let k = ap length is ∙ length-append c (joined cs) in omega arith) in
+      let ringed_part = with_word c 20 previous in let same = length-ringed c previous large in
+      let after : with_word region 20 previous ≡ ringed_part ++ joined cs =
+      ap (λ xs. with_word xs 20 previous) is ∙ written_in_front c (joined cs) 20 previous (omega arith) in
+      let laid : IsLaid (with_word region 20 previous) =
+      record { parts = ringed_part ∷ cs; is = after; whole = (omega arith, word-ringed c previous large 0 (omega arith) ∙ w.1 ∙ sym same, w.2) } in
+      let len = length-with_word region 20 previous (let region_length = ap length is ∙ length-append c (joined cs) in omega arith) in
       record {
         ring = record {
           laid = laid;
-          linked = subst (λ n. AreLinked n (last_place 0 0 (d ∷ cs)) 0 (d ∷ cs)) (sym len) (subst (λ n. AreLinked (length region) n 0 (d ∷ cs)) (sym m ∙ last-any 0 0 0 c d cs (sym same)) (linked-ringed c previous large (length region) 0 0 cs low l));
+          linked = subst (λ n. AreLinked n (last_place 0 0 (ringed_part ∷ cs)) 0 (ringed_part ∷ cs)) (sym len) (subst (λ n. AreLinked (length region) n 0 (ringed_part ∷ cs)) (sym m ∙ last-any 0 0 0 c ringed_part cs (sym same)) (linked-ringed c previous large (length region) 0 0 cs low l));
         };
         blocks = blocks_laid (with_word region 20 previous) laid
-            ∙ ap₂ (λ b n. b ∷ blocks_from (0 + n) cs) (block-ringed c previous large 0) same ∙ sym (blocks_laid region (record { parts = c ∷ cs; is = is; whole = w }));
+            ∙ ap₂ (λ b n. b ∷ blocks_from (0 + n) cs) (block-ringed c previous large 0) same
+            ∙ sym (blocks_laid region (record { parts = c ∷ cs; is = is; whole = w }));
         len = len;
       }
 
 pub loop-at-smaller : goal.loop-at-smaller
 loop-at-smaller c =
-    let i = c.loop-at.invariant in
-    let o = opened_word c.loop-at.region c.loop-at.at i.split c.loop-at-test.true c.word_at.result c.word_at.ensures in
-    let l = o.large in
-    let f = o.fits in
-    let k = head_fits c.loop-at.region c.loop-at.at i.split c.loop-at-test.true in
-    let a = ap length c.set_word.ensures ∙ length-with_word c.loop-at.region (c.loop-at.at + 16) c.ring_place.result (omega arith) in
-    let b = ap length c.set_word-in-loop-at.ensures ∙ length-with_word c.set_word.new.region (c.loop-at.at + 20) c.loop-at.previous (omega arith) in
+    let known = c.loop-at.invariant in
+    let block = opened_word c.loop-at.region c.loop-at.at known.split c.loop-at-test.true c.word_at.result c.word_at.ensures in
+    let block_large = block.large in let block_fits = block.fits in
+    let header_fits = head_fits c.loop-at.region c.loop-at.at known.split c.loop-at-test.true in
+    let next_written_length = ap length c.set_word.ensures ∙ length-with_word c.loop-at.region (c.loop-at.at + 16) c.ring_place.result (omega arith) in
+    let previous_written_length = ap length c.set_word-in-loop-at.ensures
+    ∙ length-with_word c.set_word.new.region (c.loop-at.at + 20) c.loop-at.previous (omega arith) in
     omega arith
 
 pub set_word-requires-2 : goal.set_word-requires-2
-set_word-requires-2 c = let k = head_fits c.args.region.now 0 (split_first c.args.region.now c.requires.laid) c.requires.some in let e = c.loop-at.invariant.len in omega arith
+set_word-requires-2 c = let header_fits = head_fits c.args.region.now 0 (split_first c.args.region.now c.requires.laid) c.requires.some in
+    let length_kept = c.loop-at.invariant.len in omega arith
 
 pub loop-at-preserved : goal.loop-at-preserved
 loop-at-preserved c =
-    let i = c.loop-at.invariant in
-    let at = c.loop-at.at in
-    let n = c.word_at.result in
-    let region = c.loop-at.region in
+    let known = c.loop-at.invariant in let at = c.loop-at.at in let size = c.word_at.result in let region = c.loop-at.region in
     let end' = length region in
-    let o = opened_word region at i.split c.loop-at-test.true n c.word_at.ensures in
-    let f = o.fits in
-    let low = i.low in
-    let len = i.len in
-    let is : c.set_word-in-loop-at.new.region ≡ with_word (with_word region (at + 16) (ring_place (at + n) end')) (at + 20) c.loop-at.previous =
-    c.set_word-in-loop-at.ensures ∙ ap (λ xs. with_word xs (at + 20) c.loop-at.previous) (c.set_word.ensures ∙ ap (with_word region (at + 16)) c.ring_place.ensures.value) in
-    let ring : ring_place (at + n) end' < 4294967296 = subst (λ k. k < 4294967296) c.ring_place.ensures.value (let b = c.ring_place.ensures.bound in omega arith) in
-    let small : end' < 4294967296 = omega arith in
-    let lower : c.loop-at.previous < 4294967296 = omega arith in
-    let grown = next_len region at n i.split o c.loop-at.previous end' refl small lower ring i.linked i.last in
-    subst (λ xs. LinkedTo c.args.region.now xs (at + n) at) (sym is) (record {
-      split = next region at n i.split o c.loop-at.previous end' refl small lower ring i.linked i.last;
+    let block = opened_word region at known.split c.loop-at-test.true size c.word_at.ensures in
+    let block_fits = block.fits in let low = known.low in let len = known.len in
+    let is : c.set_word-in-loop-at.new.region ≡ with_word (with_word region (at + 16) (ring_place (at + size) end')) (at + 20) c.loop-at.previous =
+    c.set_word-in-loop-at.ensures
+    ∙ ap (λ xs. with_word xs (at + 20) c.loop-at.previous) (c.set_word.ensures ∙ ap (with_word region (at + 16)) c.ring_place.ensures.value) in
+    let ring : ring_place (at + size) end' < 4294967296 =
+    subst (λ k. k < 4294967296) c.ring_place.ensures.value (let ring_bound = c.ring_place.ensures.bound in omega arith) in
+    let small : end' < 4294967296 = omega arith in let lower : c.loop-at.previous < 4294967296 = omega arith in
+    let grown = next_len region at size known.split block c.loop-at.previous end' refl small lower ring known.linked known.last in
+    subst (λ xs. LinkedTo c.args.region.now xs (at + size) at) (sym is) (record {
+      split = next region at size known.split block c.loop-at.previous end' refl small lower ring known.linked known.last;
       low = omega arith;
       len = grown ∙ len;
-      linked = subst (λ k. AreLinked k 0 0 (next region at n i.split o c.loop-at.previous end' refl small lower ring i.linked i.last).front) (sym grown) (next_linked region at n i.split o c.loop-at.previous end' refl small lower ring i.linked i.last);
-      last = next_last region at n i.split o c.loop-at.previous end' refl small lower ring i.linked i.last;
-      blocks = next_blocks region at n i.split o c.loop-at.previous end' refl small lower ring i.linked i.last ∙ i.blocks;
+      linked = subst (λ k. AreLinked k 0 0 (next region at size known.split block c.loop-at.previous end' refl small lower ring known.linked known.last).front) (sym grown) (next_linked region at size known.split block c.loop-at.previous end' refl small lower ring known.linked known.last);
+      last = next_last region at size known.split block c.loop-at.previous end' refl small lower ring known.linked known.last;
+      blocks = next_blocks region at size known.split block c.loop-at.previous end' refl small lower ring known.linked known.last ∙ known.blocks;
     })
 
 pub returns : goal.returns
 returns c =
-    let i = c.loop-at.invariant in
-    let none = nothing_left c.loop-at.region c.loop-at.at i.split (omega arith) in
-    let len = i.len in
-    let le = split_le c.loop-at.region c.loop-at.at i.split in
-    let low = i.low in
-    let k = closed c.loop-at.region c.loop-at.at c.loop-at.previous i.split none (omega arith) (omega arith) i.linked i.last in
+    let known = c.loop-at.invariant in
+    let none = nothing_left c.loop-at.region c.loop-at.at known.split (omega arith) in
+    let len = known.len in let le = split_le c.loop-at.region c.loop-at.at known.split in let low = known.low in
+    let ring_closed = closed c.loop-at.region c.loop-at.at c.loop-at.previous known.split none (omega arith) (omega arith) known.linked known.last in
     record {
-      ring = subst IsRing (sym c.set_word-2.ensures) k.ring;
-      blocks = ap blocks_in c.set_word-2.ensures ∙ k.blocks ∙ i.blocks;
-      len = ap length c.set_word-2.ensures ∙ k.len ∙ len;
+      ring = subst IsRing (sym c.set_word-2.ensures) ring_closed.ring;
+      blocks = ap blocks_in c.set_word-2.ensures ∙ ring_closed.blocks ∙ known.blocks;
+      len = ap length c.set_word-2.ensures ∙ ring_closed.len ∙ len;
     }

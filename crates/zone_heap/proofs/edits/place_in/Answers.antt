@@ -9,28 +9,26 @@ pub loop-at-init : goal.loop-at-init
 loop-at-init c = record { split = split_first c.args.region.now c.requires.laid; low = omega arith; value = ap (place_around c.args.place 0) (blocks_laid c.args.region.now c.requires.laid) }
 
 pub word_at-requires : goal.word_at-requires
-word_at-requires c = let k = head_fits c.args.region.now c.loop-at.at c.loop-at.invariant.split c.loop-at-test.true in omega arith
+word_at-requires c = let header_fits = head_fits c.args.region.now c.loop-at.at c.loop-at.invariant.split c.loop-at-test.true in omega arith
 
 pub loop-at-smaller : goal.loop-at-smaller
 loop-at-smaller c =
-    let o = opened_word c.args.region.now c.loop-at.at c.loop-at.invariant.split c.loop-at-test.true c.word_at.result c.word_at.ensures in
-    let l = o.large in
-    let f = o.fits in
-    omega arith
+    let block = opened_word c.args.region.now c.loop-at.at c.loop-at.invariant.split c.loop-at-test.true c.word_at.result c.word_at.ensures in
+    let block_large = block.large in let block_fits = block.fits in omega arith
 
 pub loop-at-preserved : goal.loop-at-preserved
 loop-at-preserved c =
     let at = c.loop-at.at in
-    let o = opened_word c.args.region.now at c.loop-at.invariant.split c.loop-at-test.true c.word_at.result c.word_at.ensures in
+    let block = opened_word c.args.region.now at c.loop-at.invariant.split c.loop-at-test.true c.word_at.result c.word_at.ensures in
     let below : at ≤ c.args.place = omega arith in
-    record { split = o.next; low = omega arith; value = c.loop-at.invariant.value ∙ ap (place_around c.args.place c.loop-at.around) o.blocks ∙ cond-true _ _ _ (le-leb _ _ below) }
+    record { split = block.next; low = omega arith; value = c.loop-at.invariant.value ∙ ap (place_around c.args.place c.loop-at.around) block.blocks ∙ cond-true _ _ _ (le-leb _ _ below) }
 
 pub returns-then-place-at : goal.returns-then-place-at
 returns-then-place-at c =
     let at = c.loop-at.at in
-    let o = opened_word c.args.region.now at c.loop-at.invariant.split c.loop-at-test.true _ refl in
+    let block = opened_word c.args.region.now at c.loop-at.invariant.split c.loop-at-test.true _ refl in
     record {
-      value = sym (c.loop-at.invariant.value ∙ ap (place_around c.args.place c.loop-at.around) o.blocks ∙ cond-false _ _ _ (lt-leb _ _ c.if-place-at.true));
+      value = sym (c.loop-at.invariant.value ∙ ap (place_around c.args.place c.loop-at.around) block.blocks ∙ cond-false _ _ _ (lt-leb _ _ c.if-place-at.true));
       bound = c.loop-at.invariant.low;
     }
 

@@ -6,13 +6,14 @@ use Rattle.zone_heap.proofs.SumLemmas.{sum_first, sum_then, sum_small, sum_all}
 use Rattle.zone_heap.proofs.figures.add_up.Goals as goal
 
 pub loop-at-init : goal.loop-at-init
-loop-at-init c = record { pins = sum_first is_pinned _ c.requires.laid; purges = sum_first is_purgeable _ c.requires.laid; frees = sum_first is_free _ c.requires.laid }
+loop-at-init c =
+    record { pins = sum_first is_pinned _ c.requires.laid; purges = sum_first is_purgeable _ c.requires.laid; frees = sum_first is_free _ c.requires.laid }
 
 pub header_at-header-requires : goal.header_at-header-requires
 header_at-header-requires c = head_fits c.args.region.now c.loop-at.at c.loop-at.invariant.pins.split c.loop-at-test.true
 
 pub loop-at-smaller : goal.loop-at-smaller
-loop-at-smaller c = less_left c.args.region.now c.loop-at.at c.loop-at.invariant.pins.split c.loop-at-test.true c.header_at-header.result c.header_at-header.ensures
+loop-at-smaller c = less_left _ _ c.loop-at.invariant.pins.split c.loop-at-test.true _ c.header_at-header.ensures
 
 pub loop-at-preserved : goal.loop-at-preserved
 loop-at-preserved c = record {
@@ -22,13 +23,13 @@ loop-at-preserved c = record {
 }
 
 pub overflow_add-pinned : goal.overflow_add-pinned
-overflow_add-pinned c = let h = sum_small is_pinned _ _ _ c.loop-at.invariant.pins c.loop-at-test.true _ c.header_at-header.ensures c.requires.small _ c.size_if-pinned.ensures.most in search rules
+overflow_add-pinned c = let sum_fits = sum_small is_pinned _ _ _ c.loop-at.invariant.pins c.loop-at-test.true _ c.header_at-header.ensures c.requires.small _ c.size_if-pinned.ensures.most in search rules
 
 pub overflow_add-purgeable : goal.overflow_add-purgeable
-overflow_add-purgeable c = let h = sum_small is_purgeable _ _ _ c.loop-at.invariant.purges c.loop-at-test.true _ c.header_at-header.ensures c.requires.small _ c.size_if-purgeable.ensures.most in search rules
+overflow_add-purgeable c = let sum_fits = sum_small is_purgeable _ _ _ c.loop-at.invariant.purges c.loop-at-test.true _ c.header_at-header.ensures c.requires.small _ c.size_if-purgeable.ensures.most in search rules
 
 pub overflow_add-free : goal.overflow_add-free
-overflow_add-free c = let h = sum_small is_free _ _ _ c.loop-at.invariant.frees c.loop-at-test.true _ c.header_at-header.ensures c.requires.small _ c.size_if-free.ensures.most in search rules
+overflow_add-free c = let sum_fits = sum_small is_free _ _ _ c.loop-at.invariant.frees c.loop-at-test.true _ c.header_at-header.ensures c.requires.small _ c.size_if-free.ensures.most in search rules
 
 pub returns : goal.returns
 returns c = record {

@@ -6,14 +6,10 @@ use Rattle.zone_heap.proofs.look.live_span.Goals as goal
 
 pub span_at-requires : goal.span_at-requires
 span_at-requires c =
-    let f = homed_live _ c.requires.laid c.args.homes.now (owner_at c.args.kind c.args.number) c.requires.homed _ c.of-home.ensures c.requires.live in
-    let a = f.fits in
-    let l = f.large in
-    omega arith
+    let found_there = homed_live _ c.requires.laid c.args.homes.now (owner_at c.args.kind c.args.number) c.requires.homed _ c.of-home.ensures c.requires.live in
+    let part_fits = found_there.fits in let part_large = found_there.large in omega arith
 
 pub returns-clause-to : goal.returns-clause-to
 returns-clause-to c =
-    let e = ap (λ n. word_at c.args.region.now (n + 4)) c.of-home.ensures in
-    let a = c.span_at.ensures.from in
-    let b = c.span_at.ensures.to in
-    omega arith
+    let word_same = ap (λ n. word_at c.args.region.now (n + 4)) c.of-home.ensures in
+    let start_is = c.span_at.ensures.from in let end_is = c.span_at.ensures.to in omega arith

@@ -11,14 +11,16 @@ it : (c : After-of-home) → IsFound c.args.region.now (owner_at c.args.kind c.a
 it c = homed_live _ c.requires.ring.laid c.args.homes.now _ c.requires.homed _ c.of-home.ensures c.requires.live
 
 pub set_word-requires : goal.set_word-requires
-set_word-requires c = let f = it (goal.at.set_word-requires c).After-of-home in let a = f.fits in let l = f.large in omega arith
+set_word-requires c =
+    let found_there = it (goal.at.set_word-requires c).After-of-home in let part_fits = found_there.fits in let part_large = found_there.large in omega arith
 
 pub returns-clause-ring : goal.returns-clause-ring
 returns-clause-ring c =
-    let d = (goal.at.returns-clause-ring c).After-of-home in
-    subst IsRing (sym (c.set_word.ensures ∙ ap (with_word c.args.region.now (c.of-home.result + 12)) c.tag_code.ensures)) (tagged_ring c.args.region.now (owner_at c.args.kind c.args.number) c.of-home.result (it d) c.requires.ring c.requires.unique c.args.tag)
+    let known = (goal.at.returns-clause-ring c).After-of-home in
+    subst IsRing (sym (c.set_word.ensures ∙ ap (with_word c.args.region.now (c.of-home.result + 12)) c.tag_code.ensures)) (tagged_ring c.args.region.now (owner_at c.args.kind c.args.number) c.of-home.result (it known) c.requires.ring c.requires.unique c.args.tag)
 
 pub returns-clause-blocks : goal.returns-clause-blocks
 returns-clause-blocks c =
-    let d = (goal.at.returns-clause-blocks c).After-of-home in
-    ap blocks_in (c.set_word.ensures ∙ ap (with_word c.args.region.now (c.of-home.result + 12)) c.tag_code.ensures) ∙ tagged_blocks c.args.region.now (owner_at c.args.kind c.args.number) c.of-home.result (it d) c.requires.ring c.requires.unique c.args.tag
+    let known = (goal.at.returns-clause-blocks c).After-of-home in
+    ap blocks_in (c.set_word.ensures ∙ ap (with_word c.args.region.now (c.of-home.result + 12)) c.tag_code.ensures)
+    ∙ tagged_blocks c.args.region.now (owner_at c.args.kind c.args.number) c.of-home.result (it known) c.requires.ring c.requires.unique c.args.tag

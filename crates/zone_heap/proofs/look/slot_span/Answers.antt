@@ -12,7 +12,8 @@ it : (c : Else-home) → IsFound c.args.region.now (owner_at c.args.kind c.args.
 it c = homed_found _ c.requires.laid c.args.homes.now _ c.requires.homed _ c.of-home.ensures c.if-home.false
 
 pub span_at-requires : goal.span_at-requires
-span_at-requires c = let f = it (goal.at.span_at-requires c).Else-home in let a = f.fits in let l = f.large in omega arith
+span_at-requires c =
+    let found_there = it (goal.at.span_at-requires c).Else-home in let part_fits = found_there.fits in let part_large = found_there.large in omega arith
 
 pub returns-then-home-clause-value : goal.returns-then-home-clause-value
 returns-then-home-clause-value c =
@@ -20,21 +21,17 @@ returns-then-home-clause-value c =
 
 pub returns-else-home-clause-value : goal.returns-else-home-clause-value
 returns-else-home-clause-value c =
-    let f = it (goal.at.returns-else-home-clause-value c).Else-home in
-    let o = owner_at c.args.kind c.args.number in
-    let place = c.of-home.result in
-    let w = f.words 4 (omega arith) in
-    let a = c.span_at.ensures.from in
-    let b = c.span_at.ensures.to in
-    let n : word_at f.part 4 ≡ c.span_at.result.to - c.span_at.result.from = omega arith in
-    bytes_found c.args.region.now o place f c.args.homes.now.lumps (composites_in c.args.homes.now) c.requires.fits ∙ ap₂ (λ k p. Some (take k (drop p c.args.region.now))) n (sym a)
+    let found_there = it (goal.at.returns-else-home-clause-value c).Else-home in
+    let owner = owner_at c.args.kind c.args.number in let place = c.of-home.result in
+    let asked_kept = found_there.words 4 (omega arith) in let start_is = c.span_at.ensures.from in
+    let end_is = c.span_at.ensures.to in
+    let asked_is : word_at found_there.part 4 ≡ c.span_at.result.to - c.span_at.result.from = omega arith in
+    bytes_found c.args.region.now owner place found_there c.args.homes.now.lumps (composites_in c.args.homes.now) c.requires.fits
+    ∙ ap₂ (λ k p. Some (take k (drop p c.args.region.now))) asked_is (sym start_is)
 
 pub returns-else-home-clause-bound : goal.returns-else-home-clause-bound
 returns-else-home-clause-bound c =
-    let f = it (goal.at.returns-else-home-clause-bound c).Else-home in
-    let h = asked_fits c.args.region.now (owner_at c.args.kind c.args.number) c.of-home.result f c.args.homes.now.lumps (composites_in c.args.homes.now) c.requires.fits in
-    let w = f.words 4 (omega arith) in
-    let a = c.span_at.ensures.from in
-    let b = c.span_at.ensures.to in
-    let k = f.fits in
-    (omega arith, omega arith)
+    let found_there = it (goal.at.returns-else-home-clause-bound c).Else-home in
+    let bytes_fit = asked_fits c.args.region.now (owner_at c.args.kind c.args.number) c.of-home.result found_there c.args.homes.now.lumps (composites_in c.args.homes.now) c.requires.fits in
+    let asked_kept = found_there.words 4 (omega arith) in let start_is = c.span_at.ensures.from in
+    let end_is = c.span_at.ensures.to in let part_fits = found_there.fits in (omega arith, omega arith)

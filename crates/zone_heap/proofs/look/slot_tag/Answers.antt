@@ -10,7 +10,8 @@ it : (c : Else-home) → IsFound c.args.region.now (owner_at c.args.kind c.args.
 it c = homed_found _ c.requires.laid c.args.homes.now _ c.requires.homed _ c.of-home.ensures c.if-home.false
 
 pub word_at-requires : goal.word_at-requires
-word_at-requires c = let f = it (goal.at.word_at-requires c).Else-home in let a = f.fits in let l = f.large in omega arith
+word_at-requires c =
+    let found_there = it (goal.at.word_at-requires c).Else-home in let part_fits = found_there.fits in let part_large = found_there.large in omega arith
 
 pub returns-then-home : goal.returns-then-home
 returns-then-home c =
@@ -18,5 +19,6 @@ returns-then-home c =
 
 pub returns-else-home : goal.returns-else-home
 returns-else-home c =
-    let f = it (goal.at.returns-else-home c).Else-home in
-    ap Some (c.code_tag.ensures ∙ ap code_tag (c.word_at.ensures ∙ f.words 12 (omega arith))) ∙ sym (ap (option_map (λ (h : Holding). h.tag)) (holding_found c.args.region.now (owner_at c.args.kind c.args.number) c.of-home.result f))
+    let found_there = it (goal.at.returns-else-home c).Else-home in
+    ap Some (c.code_tag.ensures ∙ ap code_tag (c.word_at.ensures ∙ found_there.words 12 (omega arith)))
+    ∙ sym (ap (option_map (λ (h : Holding). h.tag)) (holding_found c.args.region.now (owner_at c.args.kind c.args.number) c.of-home.result found_there))

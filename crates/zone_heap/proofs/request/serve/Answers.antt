@@ -1,6 +1,6 @@
 use Rattle.std.proofs.Common.{arith, rules, ◌≡◌, ◌+◌, ◌*◌, ◌/◌, ◌<◌, ◌≤◌, ◌++◌, ◌∙◌, ap, ap₂, sym, subst, length, take, drop, ℕ}
 use Rattle.std.proofs.lemmas.List.{length-take, length-drop}
-use Rattle.zone_heap.specs.Rules.{Heap, Holding, Lacks, RoomAt, Tiles, cut_block, free_block, place_after, take_at}
+use Rattle.zone_heap.specs.Rules.{Heap, Holding, Lacks, RoomAt, Tiles, cut_block, free_block, place_after, take_at, HEADER_SIZE}
 use Rattle.zone_rules.proofs.SoundLemmas.{room_end, searched_lacks, searched_tiles}
 use Rattle.zone_rules.proofs.TakeLemmas.{take_at_is}
 use Rattle.zone_heap.specs.Headers.{owner_in, used_holding}
@@ -23,17 +23,19 @@ tiles_is c = subst (Tiles 0 (length c.args.region.now)) (sym c.search-room.ensur
 ends : (c : In-Ok) → c.in-Ok.place + c.args.request.wanted ≤ length c.args.region.now
 ends c = room_end c.in-Ok.place c.args.request.wanted (length c.args.region.now) (blocks_in c.search-room.new.region) (room_is c) (tiles_is c)
 
-asked_fits : (n : ℕ) → n + 24 ≤ (n + 3) / 4 * 4 + 24
+asked_fits : (n : ℕ) → n + HEADER_SIZE ≤ (n + 3) / 4 * 4 + HEADER_SIZE
 asked_fits n = omega arith
 
 pub overflow_cast-request : goal.overflow_cast-request
-overflow_cast-request c = let e = ends (goal.at.overflow_cast-request c).In-Ok in let k = c.requires.small in let h : c.args.request.wanted < 4294967296 = omega arith in search rules
+overflow_cast-request c = let room_ends = ends (goal.at.overflow_cast-request c).In-Ok in let region_small = c.requires.small in
+    let wanted_small : c.args.request.wanted < 4294967296 = omega arith in search rules
 
 pub overflow_cast-place : goal.overflow_cast-place
-overflow_cast-place c = let e = ends (goal.at.overflow_cast-place c).In-Ok in let k = c.requires.small in let h : c.in-Ok.place < 4294967296 = omega arith in search rules
+overflow_cast-place c = let room_ends = ends (goal.at.overflow_cast-place c).In-Ok in let region_small = c.requires.small in
+    let place_small : c.in-Ok.place < 4294967296 = omega arith in search rules
 
 abbrev new_holding : (c : In-Ok) → Holding
-new_holding c = used_holding c.args.request.used (drop (c.in-Ok.place + 24) c.search-room.new.region)
+new_holding c = used_holding c.args.request.used (drop (c.in-Ok.place + HEADER_SIZE) c.search-room.new.region)
 
 lacks_is : (c : In-Ok) → Lacks (owner_in c.args.request.used.owner) (blocks_in c.search-room.new.region)
 lacks_is c = subst (Lacks (owner_in c.args.request.used.owner)) (sym c.search-room.ensures.blocks) (searched_lacks c.args.request.wanted (z c) (owner_in c.args.request.used.owner) c.requires.empty)
@@ -42,7 +44,7 @@ shape : (c : In-Ok) (r : RoomAt c.in-Ok.place c.args.request.wanted (blocks_in c
 shape c r = ap (take_at c.in-Ok.place c.args.request.wanted (new_holding c)) r.is ∙ take_at_is c.in-Ok.place r.size c.args.request.wanted (new_holding c) 0 (length c.args.region.now) r.front r.rest (subst (Tiles 0 (length c.args.region.now)) r.is (tiles_is c))
 
 slot_is : (c : In-Ok) → IsSlot c.search-room.new.homes (owner_in c.args.request.used.owner)
-slot_is c = slot_kept c.search-room.new.homes c.args.homes.now (let a = c.search-room.ensures.slots in (sym a.0, sym a.1)) (owner_in c.args.request.used.owner) c.requires.slot
+slot_is c = slot_kept c.search-room.new.homes c.args.homes.now (let slots_alike = c.search-room.ensures.slots in (sym slots_alike.0, sym slots_alike.1)) (owner_in c.args.request.used.owner) c.requires.slot
 
 pub set-requires : goal.set-requires
 set-requires c = slot_small c.search-room.new.homes c.search-room.ensures.home.few (owner_in c.args.request.used.owner) (slot_is (goal.at.set-requires c).In-Ok)
@@ -60,27 +62,25 @@ search-room-requires c = record {
 
 pub returns-in-Ok-clause-exact : goal.returns-in-Ok-clause-exact
 returns-in-Ok-clause-exact c =
-    let d = (goal.at.returns-in-Ok-clause-exact c).In-Ok in
-    let r = room_is d in
-    let homes = c.search-room.new.homes in
-    let home = subst (AreHome homes) r.is c.search-room.ensures.home in
-    let lacks = subst (Lacks (owner_in c.args.request.used.owner)) r.is (lacks_is d) in
-    subst (AreExact c.set.new.self) (sym (c.link-in-Ok.ensures.blocks ∙ c.take-next.ensures.blocks ∙ shape d r))
-    (taken_exact homes c.set.new.self r.front r.rest c.in-Ok.place r.size c.args.request.wanted (new_holding d) home (slot_is d) lacks c.set.ensures)
+    let known = (goal.at.returns-in-Ok-clause-exact c).In-Ok in let room = room_is known in let homes = c.search-room.new.homes in
+    let home = subst (AreHome homes) room.is c.search-room.ensures.home in
+    let lacks = subst (Lacks (owner_in c.args.request.used.owner)) room.is (lacks_is known) in
+    subst (AreExact c.set.new.self) (sym (c.link-in-Ok.ensures.blocks ∙ c.take-next.ensures.blocks ∙ shape known room))
+    (taken_exact homes _ room.front room.rest c.in-Ok.place room.size c.args.request.wanted (new_holding known) home (slot_is known) lacks c.set.ensures)
 
 pub returns-in-Ok-clause-some : goal.returns-in-Ok-clause-some
 returns-in-Ok-clause-some c =
-    let d = (goal.at.returns-in-Ok-clause-some c).In-Ok in
-    let e = ends d in
-    let n = c.search-room.ensures.len in
-    let fit = asked_fits c.args.request.used.asked in
-    let w = c.requires.wanted in
-    let a = length-take c.args.request.used.asked (drop (c.in-Ok.place + 24) c.search-room.new.region) in
-    let b = length-drop (c.in-Ok.place + 24) c.search-room.new.region in
+    let known = (goal.at.returns-in-Ok-clause-some c).In-Ok in let room_ends = ends known in
+    let length_kept = c.search-room.ensures.len in let fit = asked_fits c.args.request.used.asked in
+    let wanted_is = c.requires.wanted in
+    let taken_length = length-take c.args.request.used.asked (drop (c.in-Ok.place + HEADER_SIZE) c.search-room.new.region) in
+    let dropped_length = length-drop (c.in-Ok.place + HEADER_SIZE) c.search-room.new.region in
     record {
-      room = subst (RoomAt c.in-Ok.place c.args.request.wanted) c.search-room.ensures.blocks (room_is d);
-      bytes = take c.args.request.used.asked (drop (c.in-Ok.place + 24) c.search-room.new.region);
+      room = subst (RoomAt c.in-Ok.place c.args.request.wanted) c.search-room.ensures.blocks (room_is known);
+      bytes = take c.args.request.used.asked (drop (c.in-Ok.place + HEADER_SIZE) c.search-room.new.region);
       len = omega arith;
-      blocks = c.link-in-Ok.ensures.blocks ∙ c.take-next.ensures.blocks ∙ ap (take_at c.in-Ok.place c.args.request.wanted (new_holding d)) c.search-room.ensures.blocks;
-      rover_is = c.ring_place.ensures.value ∙ ap (ring_place c.take-next.result) (c.link-in-Ok.ensures.len ∙ c.take-next.ensures.len) ∙ c.take-next.ensures.rover ∙ ap₂ (place_after c.in-Ok.place) n (sym c.link-in-Ok.ensures.blocks);
+      blocks = c.link-in-Ok.ensures.blocks ∙ c.take-next.ensures.blocks
+          ∙ ap (take_at c.in-Ok.place c.args.request.wanted (new_holding known)) c.search-room.ensures.blocks;
+      rover_is = c.ring_place.ensures.value ∙ ap (ring_place c.take-next.result) (c.link-in-Ok.ensures.len ∙ c.take-next.ensures.len)
+          ∙ c.take-next.ensures.rover ∙ ap₂ (place_after c.in-Ok.place) length_kept (sym c.link-in-Ok.ensures.blocks);
     }

@@ -4,19 +4,20 @@ use Rattle.std.proofs.lemmas.List.{take_at, drop_at, take_all, drop_all, append-
 use Rattle.zone_heap.specs.Rules.{Block, RoomAt, Tiles, is_purgeable, join_free, purge_block}
 use Rattle.zone_heap.specs.declared.homes.Homes.{Homes}
 use Rattle.zone_heap.specs.Walks.{fit_from, starts_at, CanSearch, SearchIs}
-use Rattle.zone_heap.proofs.SearchLemmas.{fit_first, fit_second, fit_never}
+use Rattle.zone_heap.proofs.SearchLemmas.{fit_first, fit_second, fit_never, purged_from, purged_to}
 use Rattle.zone_heap.proofs.RunLemmas.{room_first, room_second}
 use Rattle.zone_rules.proofs.SoundLemmas.{few_tiles}
 use Rattle.zone_heap.specs.Regions.{blocks_in, blocks_from, IsLaid, IsSplit}
 use Rattle.zone_heap.proofs.PartLemmas.{split_first, blocks_laid, blocks_split, length-blocks, tiles_laid}
 use Rattle.zone_heap.proofs.search.clear_way.Goals as goal
 
-with_after : (w rover : ℕ) (bs : List Block) (place : Option ℕ) (new new' : List Block) (n n' : ℕ) → SearchIs w rover bs place new n → new' ≡ new → n' ≡ n → SearchIs w rover bs place new' n'
+with_after : (w rover : ℕ) (bs : List Block) (place : Option ℕ) (new new' : List Block) (n n' : ℕ) → SearchIs w rover bs place new n → new' ≡ new → n' ≡ n
+    → SearchIs w rover bs place new' n'
 with_after w rover bs place new new' n n' s e f = record { place_is = s.place_is; after_is = s.after_is ∙ sym e; count_is = s.count_is ∙ sym f }
 
 pub tiles_region : (region : List ℕ) → IsLaid region → Tiles 0 (length region) (blocks_in region)
 tiles_region region l =
-    subst (Tiles 0 (length region)) (sym (blocks_laid region l)) (subst (λ n. Tiles 0 n (blocks_from 0 l.parts)) (let e = ap length l.is in omega arith) (tiles_laid 0 l.parts l.whole))
+    subst (Tiles 0 (length region)) (sym (blocks_laid region l)) (subst (λ n. Tiles 0 n (blocks_from 0 l.parts)) (let region_length = ap length l.is in omega arith) (tiles_laid 0 l.parts l.whole))
 
 module _ (region : List ℕ) (laid : IsLaid region) (start : ℕ) (s : IsSplit region start) where
   abbrev bs : List Block
@@ -38,55 +39,63 @@ module _ (region : List ℕ) (laid : IsLaid region) (start : ℕ) (s : IsSplit r
   rest_is = ap (drop (length s.front)) parted ∙ drop_at front rest (length s.front) (length-blocks 0 s.front)
 
   few : length bs ≤ length region
-  few = let k = few_tiles 0 (length region) bs (tiles_region region laid) in omega arith
+  few = let blocks_few = few_tiles 0 (length region) bs (tiles_region region laid) in omega arith
 
   few_rest : length rest ≤ length region
-  few_rest = let k = few in let l = ap length parted ∙ length-append front rest in omega arith
+  few_rest = let blocks_few = few in let both_length = ap length parted ∙ length-append front rest in omega arith
 
   -- the rest purged whole
-  cleared : (new : List Block) → new ≡ front ++ (map purge_block (take (length region) rest) ++ drop (length region) rest) → new ≡ take (length s.front) bs ++ map purge_block (drop (length s.front) bs)
+  cleared : (new : List Block) → new ≡ front ++ purged_to (length region) rest → new ≡ purged_from (length s.front) bs
   cleared new e =
-      e ∙ ap₂ (λ xs ys. front ++ (map purge_block xs ++ ys)) (take_all (length region) rest few_rest) (drop_all (length region) rest few_rest) ∙ ap (λ xs. front ++ xs) (append-nil (map purge_block rest))
+      e ∙ ap₂ (λ xs ys. front ++ (map purge_block xs ++ ys)) (take_all (length region) rest few_rest) (drop_all (length region) rest few_rest)
+      ∙ ap (λ xs. front ++ xs) (append-nil (map purge_block rest))
       ∙ ap₂ (λ xs ys. xs ++ map purge_block ys) (sym front_is) (sym rest_is)
 
   counted : count_by is_purgeable (take (length region) rest) ≡ count_by is_purgeable (drop (length s.front) bs)
   counted = ap (count_by is_purgeable) (take_all (length region) rest few_rest ∙ sym rest_is)
 
-  parts_again : (new : List Block) (e : ℕ) → new ≡ front ++ (map purge_block (take e rest) ++ drop e rest) → new ≡ take (length s.front) bs ++ (map purge_block (take e (drop (length s.front) bs)) ++ drop e (drop (length s.front) bs))
-  parts_again new e k = k ∙ ap₂ (λ xs ys. xs ++ (map purge_block (take e ys) ++ drop e ys)) (sym front_is) (sym rest_is)
+  parts_again : (new : List Block) (e : ℕ) → new ≡ front ++ purged_to e rest → new ≡ take (length s.front) bs ++ purged_to e (drop (length s.front) bs)
+  parts_again new e k = k ∙ ap₂ (λ xs ys. xs ++ purged_to e ys) (sym front_is) (sym rest_is)
 
 -- a purge from the region's start
-from_first : (region : List ℕ) (laid : IsLaid region) (new : List Block) (e : ℕ) → new ≡ [] ++ (map purge_block (take e (blocks_from 0 laid.parts)) ++ drop e (blocks_from 0 laid.parts)) → new ≡ map purge_block (take e (blocks_in region)) ++ drop e (blocks_in region)
-from_first region laid new e k = k ∙ ap (λ bs. map purge_block (take e bs) ++ drop e bs) (sym (blocks_laid region laid))
+from_first : (region : List ℕ) (laid : IsLaid region) (new : List Block) (e : ℕ) → new ≡ [] ++ purged_to e (blocks_from 0 laid.parts)
+    → new ≡ purged_to e (blocks_in region)
+from_first region laid new e k = k ∙ ap (purged_to e) (sym (blocks_laid region laid))
 
 -- what a search that ended from the start on, or from the front on, found and left
-module _ (homes : Homes) (rover wanted : ℕ) (region : List ℕ) (q : CanSearch homes rover wanted region) (start : ℕ) (split : (s : IsSplit region start) × (length s.front ≡ position_or_len (starts_at rover) (blocks_in region))) (place e : ℕ) where
+module _ (homes : Homes) (rover wanted : ℕ) (region : List ℕ) (q : CanSearch homes rover wanted region) (start : ℕ)
+    (split : (s : IsSplit region start) × (length s.front ≡ position_or_len (starts_at rover) (blocks_in region))) (place e : ℕ) where
   abbrev s : IsSplit region start
   s = split.0
 
-  found_first : ((s : IsSplit region start) → Some (place, e) ≡ fit_from wanted 0 0 0 (blocks_from start s.rest)) → (new : List Block) → ((s : IsSplit region start) → new ≡ blocks_from 0 s.front ++ (map purge_block (take e (blocks_from start s.rest)) ++ drop e (blocks_from start s.rest)))
-      → (n : ℕ) → ((s : IsSplit region start) → n ≡ count_by is_purgeable (take e (blocks_from start s.rest))) → SearchIs wanted rover (blocks_in region) (Some place) new n × RoomAt place wanted (join_free new)
+  found_first : ((s : IsSplit region start) → Some (place, e) ≡ fit_from wanted 0 0 0 (blocks_from start s.rest)) → (new : List Block)
+      → ((s : IsSplit region start) → new ≡ blocks_from 0 s.front ++ purged_to e (blocks_from start s.rest))
+      → (n : ℕ) → ((s : IsSplit region start) → n ≡ count_by is_purgeable (take e (blocks_from start s.rest)))
+      → SearchIs wanted rover (blocks_in region) (Some place) new n × RoomAt place wanted (join_free new)
   found_first fit new left n count =
-      let same = sym (rest_is region q.laid start s) in
-      let here = fit s ∙ ap (fit_from wanted 0 0 0) same in
+      let same = sym (rest_is region q.laid start s) in let here = fit s ∙ ap (fit_from wanted 0 0 0) same in
       let is = parts_again region q.laid start s new e (left s) in
-      let r = fit_first wanted rover 0 (length region) (blocks_in region) q.positive (tiles_region region q.laid) q.rover_is (length s.front) split.1 place e here in (
-        with_after _ _ _ _ _ _ _ _ r is (count s ∙ ap (λ bs. count_by is_purgeable (take e bs)) same),
+      let search_is =
+      fit_first wanted rover 0 (length region) (blocks_in region) q.positive (tiles_region region q.laid) q.rover_is (length s.front) split.1 place e here in (
+        with_after _ _ _ _ _ _ _ _ search_is is (count s ∙ ap (λ bs. count_by is_purgeable (take e bs)) same),
         subst (λ bs. RoomAt place wanted (join_free bs)) (sym is) (room_first wanted rover 0 (length region) (blocks_in region) q.positive (tiles_region region q.laid) q.apart q.rover_is (length s.front) split.1 place e here),
       )
 
-  found_second : ((s : IsSplit region start) → None ≡ fit_from wanted 0 0 0 (blocks_from start s.rest)) → ((s : IsSplit region 0) → Some (place, e) ≡ fit_from wanted 0 0 0 (blocks_from 0 s.rest))
-      → (later : List ℕ) → IsLaid later → ((s : IsSplit region start) → blocks_in later ≡ blocks_from 0 s.front ++ (map purge_block (take (length region) (blocks_from start s.rest)) ++ drop (length region) (blocks_from start s.rest)))
+  found_second : ((s : IsSplit region start) → None ≡ fit_from wanted 0 0 0 (blocks_from start s.rest))
+      → ((s : IsSplit region 0) → Some (place, e) ≡ fit_from wanted 0 0 0 (blocks_from 0 s.rest))
+      → (later : List ℕ) → IsLaid later
+      → ((s : IsSplit region start) → blocks_in later ≡ blocks_from 0 s.front ++ purged_to (length region) (blocks_from start s.rest))
       → (m : ℕ) → ((s : IsSplit region start) → m ≡ count_by is_purgeable (take (length region) (blocks_from start s.rest)))
-      → (new : List Block) → ((s : IsSplit later 0) → new ≡ blocks_from 0 s.front ++ (map purge_block (take e (blocks_from 0 s.rest)) ++ drop e (blocks_from 0 s.rest)))
-      → (n : ℕ) → ((s : IsSplit later 0) → n ≡ count_by is_purgeable (take e (blocks_from 0 s.rest))) → SearchIs wanted rover (blocks_in region) (Some place) new (m + n) × RoomAt place wanted (join_free new)
+      → (new : List Block) → ((s : IsSplit later 0) → new ≡ blocks_from 0 s.front ++ purged_to e (blocks_from 0 s.rest))
+      → (n : ℕ) → ((s : IsSplit later 0) → n ≡ count_by is_purgeable (take e (blocks_from 0 s.rest)))
+      → SearchIs wanted rover (blocks_in region) (Some place) new (m + n) × RoomAt place wanted (join_free new)
   found_second none fit later laid cleared_is m cleared_count new left n count =
-      let first = none s ∙ ap (fit_from wanted 0 0 0) (sym (rest_is region q.laid start s)) in
+      let none_from_start = none s ∙ ap (fit_from wanted 0 0 0) (sym (rest_is region q.laid start s)) in
       let again = fit (split_first region q.laid) ∙ ap (fit_from wanted 0 0 0) (sym (blocks_laid region q.laid)) in
       let clear = cleared region q.laid start s (blocks_in later) (cleared_is s) in
-      let is = from_first later laid new e (left (split_first later laid)) ∙ ap (λ bs. map purge_block (take e bs) ++ drop e bs) clear in
-      let r = fit_second wanted rover 0 (length region) (blocks_in region) q.positive (tiles_region region q.laid) q.rover_is (length s.front) split.1 place e first again in (
-        with_after _ _ _ _ _ _ _ _ r is (ap₂ ◌+◌ (cleared_count s ∙ counted region q.laid start s) (count (split_first later laid) ∙ ap (λ bs. count_by is_purgeable (take e bs)) (sym (blocks_laid later laid) ∙ clear))),
+      let is = from_first later laid new e (left (split_first later laid)) ∙ ap (purged_to e) clear in
+      let search_is = fit_second wanted rover 0 (length region) (blocks_in region) q.positive (tiles_region region q.laid) q.rover_is (length s.front) split.1 place e none_from_start again in (
+        with_after _ _ _ _ _ _ _ _ search_is is (ap₂ ◌+◌ (cleared_count s ∙ counted region q.laid start s) (count (split_first later laid) ∙ ap (λ bs. count_by is_purgeable (take e bs)) (sym (blocks_laid later laid) ∙ clear))),
         subst (λ bs. RoomAt place wanted (join_free bs)) (sym is) (room_second wanted rover 0 (length region) (blocks_in region) q.positive (tiles_region region q.laid) q.apart q.rover_is (length s.front) split.1 place e again),
       )
 
@@ -113,13 +122,10 @@ returns-in-Some-first_fit-clause-room c = (found_second _ _ _ _ c.requires _ c.s
 
 pub returns-clause-search : goal.returns-clause-search
 returns-clause-search c =
-    let region = c.args.region.now in
-    let laid = c.requires.laid in
-    let start = c.start_place-start.result in
-    let s = c.start_place-start.ensures.split.0 in
-    let at = c.start_place-start.ensures.split.1 in
+    let region = c.args.region.now in let laid = c.requires.laid in let start = c.start_place-start.result in
+    let start_split = c.start_place-start.ensures.split.0 in let at = c.start_place-start.ensures.split.1 in
     let all = split_first region laid in
-    let first = c.in_default.ensures.value s ∙ ap (fit_from c.args.wanted 0 0 0) (sym (rest_is region laid start s)) in
+    let none_from_start = c.in_default.ensures.value start_split ∙ ap (fit_from c.args.wanted 0 0 0) (sym (rest_is region laid start start_split)) in
     let again = c.in_default-first_fit.ensures.value all ∙ ap (fit_from c.args.wanted 0 0 0) (sym (blocks_laid region laid)) in
-    let r = fit_never c.args.wanted c.args.rover 0 (length region) (blocks_in region) c.requires.positive (tiles_region region laid) c.requires.rover_is (length s.front) at first again in
-    with_after _ _ _ _ _ _ _ _ r (cleared region laid 0 all _ (c.purge-purges-2.ensures.blocks all)) (c.purge-purges-2.ensures.count all ∙ counted region laid 0 all)
+    let search_is = fit_never c.args.wanted c.args.rover 0 (length region) (blocks_in region) c.requires.positive (tiles_region region laid) c.requires.rover_is (length start_split.front) at none_from_start again in
+    with_after _ _ _ _ _ _ _ _ search_is (cleared region laid 0 all _ (c.purge-purges-2.ensures.blocks all)) (c.purge-purges-2.ensures.count all ∙ counted region laid 0 all)

@@ -6,6 +6,7 @@ use Rattle.zone_heap.proofs.WordLemmas.{length-with_use}
 use Rattle.zone_heap.proofs.PartLemmas.{split_le, opened, head_fits, nothing_left, rest_same, front_same, split_laid, purgeable_at}
 use Rattle.zone_heap.proofs.PurgeLemmas.{purged_blocks, passed_step, freed_step, slot_there}
 use Rattle.zone_heap.proofs.search.purge.Goals.{then-is_purgeable, else-is_purgeable}
+use Rattle.zone_heap.specs.Headers.{FREE_OWNER}
 use Rattle.zone_heap.proofs.search.purge.Goals as goal
 
 pub loop-at-init : goal.loop-at-init
@@ -32,37 +33,33 @@ free_at-requires-clause-fits c = head_fits c.loop-at.region c.loop-at.at c.loop-
 
 pub free_at-requires-clause-slot : goal.free_at-requires-clause-slot
 free_at-requires-clause-slot c =
-    let p = c.loop-at.invariant.purged in
-    let h = c.header_at-header.result in
-    let o = opened c.loop-at.region c.loop-at.at p.split c.loop-at-test.true h c.header_at-header.ensures in
-    let on = sym (purgeable_at c.loop-at.region c.loop-at.at p.split h.size o h c.header_at-header.ensures) ∙ sym c.is_purgeable.ensures ∙ c.if-is_purgeable.true in
-    slot_there c.args.region.now c.args.homes.now c.loop-at.region c.loop-at.homes c.args.from c.loop-at.at c.loop-at.passed c.loop-at.count p h.size o on
+    let purged_so_far = c.loop-at.invariant.purged in let header = c.header_at-header.result in
+    let block = opened c.loop-at.region c.loop-at.at purged_so_far.split c.loop-at-test.true header c.header_at-header.ensures in
+    let on = sym (purgeable_at c.loop-at.region c.loop-at.at purged_so_far.split header.size block header c.header_at-header.ensures)
+    ∙ sym c.is_purgeable.ensures ∙ c.if-is_purgeable.true in
+    slot_there _ _ _ _ _ _ _ _ purged_so_far header.size block on
 
 pub loop-at-smaller : goal.loop-at-smaller
 loop-at-smaller c =
-    let p = c.loop-at.invariant.purged in
-    let h = c.header_at-header.result in
-    let o = opened c.loop-at.region c.loop-at.at p.split c.loop-at-test.true h c.header_at-header.ensures in
-    let l = o.large in
-    let f = o.fits in
+    let purged_so_far = c.loop-at.invariant.purged in let header = c.header_at-header.result in
+    let block = opened c.loop-at.region c.loop-at.at purged_so_far.split c.loop-at-test.true header c.header_at-header.ensures in
+    let block_large = block.large in let block_fits = block.fits in
     elim c.if-is_purgeable.branch [
-      | then-is_purgeable w ↦ (let e = ap length w.region-is ∙ ap length w.free_at.ensures.region ∙ length-with_use c.loop-at.region c.loop-at.at 0 4294967295 0 (omega arith) in omega arith)
-      | else-is_purgeable w ↦ (let e = ap length w.region-is in omega arith)
+      | then-is_purgeable w ↦ (let length_kept = ap length w.region-is ∙ ap length w.free_at.ensures.region ∙ length-with_use c.loop-at.region c.loop-at.at 0 FREE_OWNER 0 (omega arith) in omega arith)
+      | else-is_purgeable w ↦ (let length_kept = ap length w.region-is in omega arith)
     ]
 
 pub loop-at-preserved : goal.loop-at-preserved
 loop-at-preserved c =
-    let p = c.loop-at.invariant.purged in
-    let at = c.loop-at.at in
-    let h = c.header_at-header.result in
-    let o = opened c.loop-at.region at p.split c.loop-at-test.true h c.header_at-header.ensures in
-    let told = c.is_purgeable.ensures ∙ purgeable_at c.loop-at.region at p.split h.size o h c.header_at-header.ensures in
+    let purged_so_far = c.loop-at.invariant.purged in let at = c.loop-at.at in let header = c.header_at-header.result in
+    let block = opened c.loop-at.region at purged_so_far.split c.loop-at-test.true header c.header_at-header.ensures in
+    let told = c.is_purgeable.ensures ∙ purgeable_at c.loop-at.region at purged_so_far.split header.size block header c.header_at-header.ensures in
     record {
       purged = elim c.if-is_purgeable.branch [
         | then-is_purgeable w ↦ rw (w.region-is, w.free_at.ensures.region, w.homes-is, w.count-is)
-            (freed_step c.args.region.now c.args.homes.now c.loop-at.region c.loop-at.homes c.args.from at c.loop-at.passed c.loop-at.count p h.size o (sym told ∙ w.if-is_purgeable.true) w.free_at.new.homes w.free_at.ensures.home)
+            (freed_step _ _ _ _ _ _ _ _ purged_so_far header.size block (sym told ∙ w.if-is_purgeable.true) w.free_at.new.homes w.free_at.ensures.home)
         | else-is_purgeable w ↦ rw (w.region-is, w.homes-is, w.count-is)
-            (passed_step c.args.region.now c.args.homes.now c.loop-at.region c.loop-at.homes c.args.from at c.loop-at.passed c.loop-at.count p h.size o (sym told ∙ w.if-is_purgeable.false))
+            (passed_step _ _ _ _ _ _ _ _ purged_so_far header.size block (sym told ∙ w.if-is_purgeable.false))
       ];
       within = omega arith;
     }
@@ -75,47 +72,44 @@ whole [] (suc k) zero e h = absurd (omega arith)
 whole [] (suc k) (suc n) e h = (refl, refl)
 whole (b ∷ bs) zero n e h = cc
 whole (b ∷ bs) (suc k) zero e h = absurd (omega arith)
-whole (b ∷ bs) (suc k) (suc n) e h = let w = whole bs k n e (omega arith) in (ap (λ xs. b ∷ xs) w.0, w.1)
+whole (b ∷ bs) (suc k) (suc n) e h = let behind_same = whole bs k n e (omega arith) in (ap (λ xs. b ∷ xs) behind_same.0, behind_same.1)
 
 pub returns-else-passed-most-clause-laid : goal.returns-else-passed-most-clause-laid
 returns-else-passed-most-clause-laid c = split_laid c.loop-at.region c.loop-at.at c.loop-at.invariant.purged.split
 
 pub returns-else-passed-most-clause-blocks : goal.returns-else-passed-most-clause-blocks
 returns-else-passed-most-clause-blocks c = λ s.
-    let p = c.loop-at.invariant.purged in
-    let w = c.loop-at.invariant.within in
-    let e : c.loop-at.passed ≡ c.args.most = omega arith in
-    let bs = blocks_from c.args.from s.rest in
-    purged_blocks c.args.region.now c.args.homes.now c.loop-at.region c.loop-at.homes c.args.from c.loop-at.at c.loop-at.passed c.loop-at.count p s
-    ∙ ap (λ n. blocks_from 0 s.front ++ (map purge_block (take n bs) ++ drop n bs)) e
+    let purged_so_far = c.loop-at.invariant.purged in let within_most = c.loop-at.invariant.within in
+    let all_passed : c.loop-at.passed ≡ c.args.most = omega arith in let bs = blocks_from c.args.from s.rest in
+    purged_blocks _ _ _ _ _ _ _ _ purged_so_far s
+    ∙ ap (λ n. blocks_from 0 s.front ++ (map purge_block (take n bs) ++ drop n bs)) all_passed
 
 pub returns-else-passed-most-clause-count : goal.returns-else-passed-most-clause-count
 returns-else-passed-most-clause-count c = λ s.
-    let w = c.loop-at.invariant.within in
-    let e : c.loop-at.passed ≡ c.args.most = omega arith in
-    c.loop-at.invariant.purged.count_is s ∙ ap (λ n. count_by is_purgeable (take n (blocks_from c.args.from s.rest))) e
+    let within_most = c.loop-at.invariant.within in let all_passed : c.loop-at.passed ≡ c.args.most = omega arith in
+    c.loop-at.invariant.purged.count_is s ∙ ap (λ n. count_by is_purgeable (take n (blocks_from c.args.from s.rest))) all_passed
 
 pub returns-else-passed-most-clause-bound : goal.returns-else-passed-most-clause-bound
-returns-else-passed-most-clause-bound c = let p = c.loop-at.invariant.purged in let a = p.few in let b = p.low in let l = split_le c.loop-at.region c.loop-at.at p.split in let e = p.len in omega arith
+returns-else-passed-most-clause-bound c = let purged_so_far = c.loop-at.invariant.purged in let count_few = purged_so_far.few in let passed_low = purged_so_far.low in let at_inside = split_le c.loop-at.region c.loop-at.at purged_so_far.split in let length_kept = purged_so_far.len in omega arith
 
 pub returns-after-loop-at-clause-laid : goal.returns-after-loop-at-clause-laid
 returns-after-loop-at-clause-laid c = split_laid c.loop-at.region c.loop-at.at c.loop-at.invariant.purged.split
 
 pub returns-after-loop-at-clause-blocks : goal.returns-after-loop-at-clause-blocks
 returns-after-loop-at-clause-blocks c = λ s.
-    let p = c.loop-at.invariant.purged in
-    let none = ap (blocks_from c.loop-at.at) (nothing_left c.loop-at.region c.loop-at.at p.split (omega arith)) in
+    let purged_so_far = c.loop-at.invariant.purged in
+    let none = ap (blocks_from c.loop-at.at) (nothing_left c.loop-at.region c.loop-at.at purged_so_far.split (omega arith)) in
     let bs = blocks_from c.args.from s.rest in
-    let w = whole bs c.loop-at.passed c.args.most (sym none ∙ p.rest s) c.loop-at.invariant.within in
-    purged_blocks c.args.region.now c.args.homes.now c.loop-at.region c.loop-at.homes c.args.from c.loop-at.at c.loop-at.passed c.loop-at.count p s
-    ∙ ap₂ (λ xs ys. blocks_from 0 s.front ++ (map purge_block xs ++ ys)) (sym w.0) (sym w.1)
+    let most_is_all = whole bs c.loop-at.passed c.args.most (sym none ∙ purged_so_far.rest s) c.loop-at.invariant.within in
+    purged_blocks _ _ _ _ _ _ _ _ purged_so_far s
+    ∙ ap₂ (λ xs ys. blocks_from 0 s.front ++ (map purge_block xs ++ ys)) (sym most_is_all.0) (sym most_is_all.1)
 
 pub returns-after-loop-at-clause-count : goal.returns-after-loop-at-clause-count
 returns-after-loop-at-clause-count c = λ s.
-    let p = c.loop-at.invariant.purged in
-    let none = ap (blocks_from c.loop-at.at) (nothing_left c.loop-at.region c.loop-at.at p.split (omega arith)) in
-    let w = whole (blocks_from c.args.from s.rest) c.loop-at.passed c.args.most (sym none ∙ p.rest s) c.loop-at.invariant.within in
-    p.count_is s ∙ ap (count_by is_purgeable) (sym w.0)
+    let purged_so_far = c.loop-at.invariant.purged in
+    let none = ap (blocks_from c.loop-at.at) (nothing_left c.loop-at.region c.loop-at.at purged_so_far.split (omega arith)) in
+    let most_is_all = whole (blocks_from c.args.from s.rest) c.loop-at.passed c.args.most (sym none ∙ purged_so_far.rest s) c.loop-at.invariant.within in
+    purged_so_far.count_is s ∙ ap (count_by is_purgeable) (sym most_is_all.0)
 
 pub returns-after-loop-at-clause-bound : goal.returns-after-loop-at-clause-bound
-returns-after-loop-at-clause-bound c = let p = c.loop-at.invariant.purged in let a = p.few in let b = p.low in let l = split_le c.loop-at.region c.loop-at.at p.split in let e = p.len in omega arith
+returns-after-loop-at-clause-bound c = let purged_so_far = c.loop-at.invariant.purged in let count_few = purged_so_far.few in let passed_low = purged_so_far.low in let at_inside = split_le c.loop-at.region c.loop-at.at purged_so_far.split in let length_kept = purged_so_far.len in omega arith

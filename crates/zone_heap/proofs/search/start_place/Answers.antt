@@ -10,15 +10,15 @@ header_at-header-requires c = head_fits c.args.region.now c.loop-at.at c.loop-at
 
 pub starts_search-requires : goal.starts_search-requires
 starts_search-requires c =
-    let o = opened c.args.region.now c.loop-at.at c.loop-at.invariant.split c.loop-at-test.true c.header_at-header.result c.header_at-header.ensures in
-    let f = o.fits in
-    omega arith
+    let block = opened c.args.region.now c.loop-at.at c.loop-at.invariant.split c.loop-at-test.true c.header_at-header.result c.header_at-header.ensures in
+    let block_fits = block.fits in omega arith
 
 pub loop-at-smaller : goal.loop-at-smaller
 loop-at-smaller c = less_left c.args.region.now c.loop-at.at c.loop-at.invariant.split c.loop-at-test.true c.header_at-header.result c.header_at-header.ensures
 
 pub returns-then-starts_search : goal.returns-then-starts_search
-returns-then-starts_search c = record { split = start_here _ _ _ c.loop-at.invariant c.loop-at-test.true _ c.header_at-header.ensures _ c.starts_search.ensures c.if-starts_search.true }
+returns-then-starts_search c =
+    record { split = start_here _ _ _ c.loop-at.invariant c.loop-at-test.true _ c.header_at-header.ensures _ c.starts_search.ensures c.if-starts_search.true }
 
 pub loop-at-preserved : goal.loop-at-preserved
 loop-at-preserved c = passed_then _ _ _ c.loop-at.invariant c.loop-at-test.true _ c.header_at-header.ensures _ c.starts_search.ensures c.if-starts_search.false

@@ -5,8 +5,7 @@ use Rattle.zone_heap.proofs.zone.make_parts.Goals as goal
 
 pub returns-clause-ring : goal.returns-clause-ring
 returns-clause-ring c =
-    let a = c.in_ok-region.region.ok.0 in
-    let b = c.lay_free.ensures.len in
-    let d = ap (λ (xs : List ℕ). length xs) c.deref_mut.ensures.value in
-    let e = c.deref_mut.ensures.len in
+    let vec_length = c.in_ok-region.region.ok.0 in let size_kept = c.lay_free.ensures.len in
+    let length_before = ap (λ (xs : List ℕ). length xs) c.deref_mut.ensures.value in
+    let vec_kept = c.deref_mut.ensures.len in
     subst IsRing (sym (with_items_is c.in_ok-region.region c.lay_free.new.region (omega arith))) c.lay_free.ensures.ring

@@ -8,13 +8,13 @@ span : (g : Over) (c : After-live_span-span g) → IsSpan c.self.inside c.args.s
 span g c = span_is c.self.inside _ c.self.view_is _ _ g.K.SlotKind.is_known c.requires.in_range c.requires.live _ c.deref.ensures.value _ _ c.CODE.ensures refl _ c.live_span-span.ensures.from c.live_span-span.ensures.to
 
 pub with_part-requires-clause-bound : goal.with_part-requires-clause-bound
-with_part-requires-clause-bound g c = span_bound c.self.inside c.self.invariant _ _ _ _ (span g (goal.at.with_part-requires-clause-bound g c).After-live_span-span)
+with_part-requires-clause-bound g c = span_bound _ c.self.invariant _ _ _ _ (span g (goal.at.with_part-requires-clause-bound g c).After-live_span-span)
 
 pub invariant_of-self : goal.invariant_of-self
-invariant_of-self g c = part_zone c.self.inside c.self.invariant _ _ _ _ (span g (goal.at.invariant_of-self g c).After-live_span-span) _ c.with_part.new.region c.with_part.ensures.part c.with_part.ensures.len
+invariant_of-self g c = part_zone _ c.self.invariant _ _ _ _ (span g (goal.at.invariant_of-self g c).After-live_span-span) _ c.with_part.new.region c.with_part.ensures.part c.with_part.ensures.len
 
 pub returns : goal.returns
 returns g c =
-    let p = c.with_part.ensures.part in
-    let r = part_rewritten c.self.inside c.self.invariant _ _ _ _ (span g (goal.at.returns g c).After-live_span-span) _ c.with_part.new.region p c.with_part.ensures.len in
-    record { called = record { x = _; w = p.0; x_is = r.x_is; len = r.len; called = p.2; zone = r.zone } }
+    let part = c.with_part.ensures.part in
+    let rewritten = part_rewritten _ c.self.invariant _ _ _ _ (span g (goal.at.returns g c).After-live_span-span) _ c.with_part.new.region part c.with_part.ensures.len in
+    record { called = record { x = _; w = part.0; x_is = rewritten.x_is; len = rewritten.len; called = part.2; zone = rewritten.zone } }

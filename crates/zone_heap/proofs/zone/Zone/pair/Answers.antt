@@ -11,22 +11,23 @@ write : (g : Over) (c : After-live_span-to g) → IsSpan c.self.inside c.args.se
 write g c = span_is c.self.inside _ c.self.view_is _ _ (lit≤ tt) c.requires.write_in_range c.requires.write_live _ c.deref-2.ensures.value _ _ refl c.number-2.ensures _ c.live_span-to.ensures.from c.live_span-to.ensures.to
 
 pub with_parts-requires-clause-read_bound : goal.with_parts-requires-clause-read_bound
-with_parts-requires-clause-read_bound g c = span_bound c.self.inside c.self.invariant _ _ _ _ (read g (goal.at.with_parts-requires-clause-read_bound g c).After-live_span-to)
+with_parts-requires-clause-read_bound g c =
+    span_bound _ c.self.invariant _ _ _ _ (read g (goal.at.with_parts-requires-clause-read_bound g c).After-live_span-to)
 
 pub with_parts-requires-clause-write_bound : goal.with_parts-requires-clause-write_bound
-with_parts-requires-clause-write_bound g c = span_bound c.self.inside c.self.invariant _ _ _ _ (write g (goal.at.with_parts-requires-clause-write_bound g c).After-live_span-to)
+with_parts-requires-clause-write_bound g c =
+    span_bound _ c.self.invariant _ _ _ _ (write g (goal.at.with_parts-requires-clause-write_bound g c).After-live_span-to)
 
 pub with_parts-requires-clause-apart : goal.with_parts-requires-clause-apart
 with_parts-requires-clause-apart g c =
-    let d = (goal.at.with_parts-requires-clause-apart g c).After-live_span-to in
-    spans_apart c.self.inside c.self.invariant _ _ _ _ _ _ _ (read g d) (write g d) refl
+    let known = (goal.at.with_parts-requires-clause-apart g c).After-live_span-to in
+    spans_apart _ c.self.invariant _ _ _ _ _ _ _ (read g known) (write g known) refl
 
 pub invariant_of-self : goal.invariant_of-self
-invariant_of-self g c = part_zone c.self.inside c.self.invariant _ _ _ _ (write g (goal.at.invariant_of-self g c).After-live_span-to) _ c.with_parts.new.region c.with_parts.ensures.parts c.with_parts.ensures.len
+invariant_of-self g c = part_zone _ c.self.invariant _ _ _ _ (write g (goal.at.invariant_of-self g c).After-live_span-to) _ c.with_parts.new.region c.with_parts.ensures.parts c.with_parts.ensures.len
 
 pub returns : goal.returns
 returns g c =
-    let d = (goal.at.returns g c).After-live_span-to in
-    let p = c.with_parts.ensures.parts in
-    let r = part_rewritten c.self.inside c.self.invariant _ _ _ _ (write g d) _ c.with_parts.new.region p c.with_parts.ensures.len in
-    record { called = record { x = _; y = _; w = p.0; x_is = span_bytes c.self.inside c.self.invariant _ _ _ _ (read g d); y_is = r.x_is; len = r.len; called = p.2; zone = r.zone } }
+    let known = (goal.at.returns g c).After-live_span-to in let parts = c.with_parts.ensures.parts in
+    let rewritten = part_rewritten _ c.self.invariant _ _ _ _ (write g known) _ c.with_parts.new.region parts c.with_parts.ensures.len in
+    record { called = record { x = _; y = _; w = parts.0; x_is = span_bytes _ c.self.invariant _ _ _ _ (read g known); y_is = rewritten.x_is; len = rewritten.len; called = parts.2; zone = rewritten.zone } }
