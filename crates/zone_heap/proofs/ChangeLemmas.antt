@@ -117,10 +117,10 @@ module _ (region : List ℕ) (o : Owner) (place : ℕ) (f : IsFound region o pla
       ∙ written_within (joined f.split.front) f.part (joined f.others) 12 (place + 12) (tag_code tag) (omega arith) (omega arith)
 
   pub tagged_ring : IsRing (with_word region (place + 12) (tag_code tag))
-  tagged_ring = changed_ring region o place f ring part (with_word region (place + 12) (tag_code tag)) len (word 0 (omega arith)) (behind 16 (omega arith)) (behind 20 (omega arith)) is
+  tagged_ring = changed_ring _ _ _ f ring part _ len (word 0 (omega arith)) (behind 16 (omega arith)) (behind 20 (omega arith)) is
 
   pub tagged_len : length (with_word region (place + 12) (tag_code tag)) ≡ length region
-  tagged_len = changed_len region o place f ring part (with_word region (place + 12) (tag_code tag)) len (word 0 (omega arith)) (behind 16 (omega arith)) (behind 20 (omega arith)) is
+  tagged_len = changed_len _ _ _ f ring part _ len (word 0 (omega arith)) (behind 16 (omega arith)) (behind 20 (omega arith)) is
 
   block_is : block_in place part ≡ retag_block o tag f.block
   block_is =
@@ -129,12 +129,12 @@ module _ (region : List ℕ) (o : Owner) (place : ℕ) (f : IsFound region o pla
       let asked_same = word 4 (omega arith) in let owner_same = word 8 (omega arith) in
       let bytes_same : drop HEADER_SIZE part ≡ drop HEADER_SIZE f.part = drop-with_word f.part 12 (tag_code tag) HEADER_SIZE (omega arith) (omega arith) in
       let same : live_in part ≡ record { owner = owner_in (word_at f.part 8); tag = tag; asked = word_at f.part 4; bytes = take (word_at f.part 4) (drop HEADER_SIZE f.part) } = λ i. record { owner = owner_in (owner_same i); tag = tag_is i; asked = asked_same i; bytes = take (asked_same i) (bytes_same i) } in
-      changed_block region o place f ring part (with_word region (place + 12) (tag_code tag)) len (word 0 (omega arith)) (behind 16 (omega arith)) (behind 20 (omega arith)) is _ owner_same same
+      changed_block _ _ _ f ring part _ len (word 0 (omega arith)) (behind 16 (omega arith)) (behind 20 (omega arith)) is _ owner_same same
       ∙ sym (cond-true (is_held_by o f.block) _ _ f.held ∙ ap (λ x. record { place = f.block.place; size = f.block.size; holding = set_tag tag x }) f.holds)
 
   pub tagged_blocks : blocks_in (with_word region (place + 12) (tag_code tag)) ≡ map (retag_block o tag) (blocks_in region)
   tagged_blocks =
-      changed_blocks region o place f ring part (with_word region (place + 12) (tag_code tag)) len (word 0 (omega arith)) (behind 16 (omega arith)) (behind 20 (omega arith)) is
+      changed_blocks _ _ _ f ring part _ len (word 0 (omega arith)) (behind 16 (omega arith)) (behind 20 (omega arith)) is
       ∙ ap (λ b. f.front ++ (b ∷ f.rest)) block_is
       ∙ sym (ap (map (retag_block o tag)) f.is ∙ map_one o (retag_block o tag) (λ b e. cond-false (is_held_by o b) _ _ e) f.front f.rest f.block f.held (subst Unique f.is unique))
 

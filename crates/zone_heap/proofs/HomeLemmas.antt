@@ -109,7 +109,7 @@ module _ (homes : Homes) (F R : List Block) (b : Block) (h : Holding) (holds : b
       record {
         few = omega arith;
         unique = subst Unique freed_is (Unique-freed _ (release_frees h.owner) (F ++ (b ∷ R)) k.unique);
-        fits = alike_fits homes new alike _ (subst (AllFit homes.lumps (composites_in homes)) freed_is (AllFit-freed _ (release_frees h.owner) homes.lumps (composites_in homes) (F ++ (b ∷ R)) k.fits));
+        fits = alike_fits homes new alike _ (subst (AllFit homes.lumps (composites_in homes)) freed_is (AllFit-freed _ (release_frees h.owner) _ _ _ k.fits));
         exact = set_exact homes new h.owner NO_HOME (F ++ (b ∷ R)) (F ++ (free_block b.place b.size ∷ R)) set k.few slot_of k.exact (sym (ap home_of (owned_is h.owner ∙ owned_freed h.owner (F ++ (b ∷ R))))) (λ p e. owned_is p ∙ owned_freed_others p h.owner e (F ++ (b ∷ R)));
       }
 

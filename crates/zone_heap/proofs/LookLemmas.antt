@@ -113,7 +113,7 @@ module _ (homes : Homes) (region : List ℕ) (o : Owner) (place : ℕ) (f : IsFo
 
   -- the entry of its owner is within the list of homes
   pub found_small : home_index homes.lumps (found_word / KIND_UNIT) (found_word % KIND_UNIT) < length homes.list.items
-  found_small = subst (λ w. home_index homes.lumps (w / KIND_UNIT) (w % KIND_UNIT) < length homes.list.items) (sym word_is) (index_small homes f.front f.rest f.block (live_in f.part) f.holds home_here)
+  found_small = subst (λ w. home_index homes.lumps (w / KIND_UNIT) (w % KIND_UNIT) < length homes.list.items) (sym word_is) (index_small _ _ _ _ _ f.holds home_here)
 
   parts_are : found_after ≡ joined f.split.front ++ (freed f.part ++ joined f.others)
   parts_are =
@@ -147,7 +147,7 @@ module _ (homes : Homes) (region : List ℕ) (o : Owner) (place : ℕ) (f : IsFo
 
   -- the owners of the blocks, and their homes, are right once the owner's home is emptied too
   pub found_home : (new : Homes) → IsSet homes new (owner_in found_word) NO_HOME → AreHome new (blocks_in found_after)
-  found_home new set = subst (AreHome new) (sym blocks_are) (freed_home homes f.front f.rest f.block (live_in f.part) f.holds home_here new (subst (λ w. IsSet homes new (owner_in w) NO_HOME) word_is set))
+  found_home new set = subst (AreHome new) (sym blocks_are) (freed_home _ _ _ _ _ f.holds home_here new (subst (λ w. IsSet homes new (owner_in w) NO_HOME) word_is set))
 
 -- a slot's home says whether the slot is live
 module _ (region : List ℕ) (laid : IsLaid region) (o : Owner) (home : ℕ) (is : home ≡ home_of (owned_block o (blocks_in region))) where

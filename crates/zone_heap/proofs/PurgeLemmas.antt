@@ -180,7 +180,7 @@ module _ (old : List ℕ) (all : Homes) (region : List ℕ) (homes : Homes) (fro
           len = length_after region at n p.split o part same told after after_is ∙ p.len;
           alike = alike_then all homes new p.alike (set_alike homes new _ NO_HOME set);
           home = subst (AreHome new) (sym (blocks_split after (at + n) next ∙ ap (λ bs. bs ++ later) front_is ∙ append_assoc (blocks_from 0 p.split.front) (free_block at (length o.part) ∷ []) later))
-              (freed_home homes (blocks_from 0 p.split.front) later here (live_in o.part) holds home_here new (subst (λ w. IsSet homes new (owner_in w) NO_HOME) word_is set));
+              (freed_home _ _ _ _ _ holds home_here new (subst (λ w. IsSet homes new (owner_in w) NO_HOME) word_is set));
           low = omega arith;
           few = omega arith;
           front = λ s. front_is ∙ fronted s (free_block at (length o.part)) (cond-true (is_purgeable here) _ _ on);

@@ -76,9 +76,9 @@ module _ (homes : Homes) (rover wanted : ℕ) (region : List ℕ) (q : CanSearch
       let same = sym (rest_is region q.laid start s) in let here = fit s ∙ ap (fit_from wanted 0 0 0) same in
       let is = parts_again region q.laid start s new e (left s) in
       let search_is =
-      fit_first wanted rover 0 (length region) (blocks_in region) q.positive (tiles_region region q.laid) q.rover_is (length s.front) split.1 place e here in (
+      fit_first _ _ _ _ _ q.positive (tiles_region region q.laid) q.rover_is _ split.1 place e here in (
         with_after _ _ _ _ _ _ _ _ search_is is (count s ∙ ap (λ bs. count_by is_purgeable (take e bs)) same),
-        subst (λ bs. RoomAt place wanted (join_free bs)) (sym is) (room_first wanted rover 0 (length region) (blocks_in region) q.positive (tiles_region region q.laid) q.apart q.rover_is (length s.front) split.1 place e here),
+        subst (λ bs. RoomAt place wanted (join_free bs)) (sym is) (room_first _ rover _ _ _ q.positive (tiles_region region q.laid) q.apart q.rover_is (length s.front) split.1 place e here),
       )
 
   found_second : ((s : IsSplit region start) → None ≡ fit_from wanted 0 0 0 (blocks_from start s.rest))
@@ -94,9 +94,9 @@ module _ (homes : Homes) (rover wanted : ℕ) (region : List ℕ) (q : CanSearch
       let again = fit (split_first region q.laid) ∙ ap (fit_from wanted 0 0 0) (sym (blocks_laid region q.laid)) in
       let clear = cleared region q.laid start s (blocks_in later) (cleared_is s) in
       let is = from_first later laid new e (left (split_first later laid)) ∙ ap (purged_to e) clear in
-      let search_is = fit_second wanted rover 0 (length region) (blocks_in region) q.positive (tiles_region region q.laid) q.rover_is (length s.front) split.1 place e none_from_start again in (
+      let search_is = fit_second _ _ _ _ _ q.positive (tiles_region region q.laid) q.rover_is _ split.1 place e none_from_start again in (
         with_after _ _ _ _ _ _ _ _ search_is is (ap₂ ◌+◌ (cleared_count s ∙ counted region q.laid start s) (count (split_first later laid) ∙ ap (λ bs. count_by is_purgeable (take e bs)) (sym (blocks_laid later laid) ∙ clear))),
-        subst (λ bs. RoomAt place wanted (join_free bs)) (sym is) (room_second wanted rover 0 (length region) (blocks_in region) q.positive (tiles_region region q.laid) q.apart q.rover_is (length s.front) split.1 place e again),
+        subst (λ bs. RoomAt place wanted (join_free bs)) (sym is) (room_second _ rover _ _ _ q.positive (tiles_region region q.laid) q.apart q.rover_is (length s.front) split.1 place e again),
       )
 
 pub first_fit-requires-2-clause-split : goal.first_fit-requires-2-clause-split
@@ -127,5 +127,5 @@ returns-clause-search c =
     let all = split_first region laid in
     let none_from_start = c.in_default.ensures.value start_split ∙ ap (fit_from c.args.wanted 0 0 0) (sym (rest_is region laid start start_split)) in
     let again = c.in_default-first_fit.ensures.value all ∙ ap (fit_from c.args.wanted 0 0 0) (sym (blocks_laid region laid)) in
-    let search_is = fit_never c.args.wanted c.args.rover 0 (length region) (blocks_in region) c.requires.positive (tiles_region region laid) c.requires.rover_is (length start_split.front) at none_from_start again in
+    let search_is = fit_never _ _ _ _ _ c.requires.positive (tiles_region region laid) c.requires.rover_is _ at none_from_start again in
     with_after _ _ _ _ _ _ _ _ search_is (cleared region laid 0 all _ (c.purge-purges-2.ensures.blocks all)) (c.purge-purges-2.ensures.count all ∙ counted region laid 0 all)

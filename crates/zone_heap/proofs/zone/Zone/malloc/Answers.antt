@@ -121,13 +121,13 @@ kept : (g : Over) (c : After-saturating_add-self-inside g) → IsSound (new_heap
     → IsZone (record c.self.inside { region = with_items c.self.inside.region c.serve-outcome.new.region; homes = c.serve-outcome.new.homes; rover = c.serve-outcome.result.rover; purges = c.saturating_add-self-inside.result })
 kept g c sound =
     let inside = c.self.inside in
-    zone_with inside c.self.invariant (with_items inside.region c.serve-outcome.new.region) c.serve-outcome.new.homes c.serve-outcome.result.rover c.saturating_add-self-inside.result refl c.serve-outcome.ensures.slots sound (subst IsRing (sym (items_are g c)) c.serve-outcome.ensures.ring)
+    zone_with _ c.self.invariant _ _ _ _ refl c.serve-outcome.ensures.slots sound (subst IsRing (sym (items_are g c)) c.serve-outcome.ensures.ring)
     (subst (λ xs. AreExact c.serve-outcome.new.homes (blocks_in xs)) (sym (items_are g c)) c.serve-outcome.ensures.exact)
 
 pub invariant_of-self : goal.invariant_of-self
 invariant_of-self g c =
     let known = (goal.at.invariant_of-self g c).After-saturating_add-self-inside in
-    kept g known (subst IsSound (sym (none_heap g known _ c.in-Err.is)) (without_room_sound c.block_size-wanted.result (heap_of c.self.inside) c.self.invariant.sound c.self.invariant.least))
+    kept g known (subst IsSound (sym (none_heap g known _ c.in-Err.is)) (without_room_sound _ _ c.self.invariant.sound c.self.invariant.least))
 
 pub invariant_of-self-2 : goal.invariant_of-self-2
 invariant_of-self-2 g c =
@@ -194,7 +194,7 @@ returns-in-Err-clause-err g c = none_heap g (goal.at.returns-in-Err-clause-err g
     ∙ ap₂ without_room c.block_size-wanted.ensures.value c.self.view_is
 
 pub returns-in-Err-clause-sound : goal.returns-in-Err-clause-sound
-returns-in-Err-clause-sound g c = subst IsSound (sym (none_heap g (goal.at.returns-in-Err-clause-sound g c).After-saturating_add-self-inside _ c.in-Err.is)) (without_room_sound c.block_size-wanted.result (heap_of c.self.inside) c.self.invariant.sound c.self.invariant.least)
+returns-in-Err-clause-sound g c = subst IsSound (sym (none_heap g (goal.at.returns-in-Err-clause-sound g c).After-saturating_add-self-inside _ c.in-Err.is)) (without_room_sound _ _ c.self.invariant.sound c.self.invariant.least)
 
 pub returns-in-Err-clause-empty : goal.returns-in-Err-clause-empty
 returns-in-Err-clause-empty g c =
