@@ -129,7 +129,8 @@ module _ (c : List ℕ) (next previous : ℕ) (large : HEADER_SIZE ≤ length c)
   pub block-relinked : (p : ℕ) → block_in p (relinked c next previous) ≡ block_in p c
   block-relinked p =
       let middle_length = length-mid in
-      same_block p c (relinked c next previous) length-relinked (word-relinked 4 (omega arith)) (word-relinked 8 (omega arith)) (word-relinked 12 (omega arith)) (drop-with_word mid 20 previous HEADER_SIZE (omega arith) (omega arith) ∙ drop-with_word c 16 next HEADER_SIZE (omega arith) (omega arith))
+      same_block p c (relinked c next previous) length-relinked (word-relinked 4 (omega arith)) (word-relinked 8 (omega arith)) (word-relinked 12 (omega arith))
+      (drop-with_word mid 20 previous HEADER_SIZE (omega arith) (omega arith) ∙ drop-with_word c 16 next HEADER_SIZE (omega arith) (omega arith))
 
 -- the first part with another previous place
 module _ (c : List ℕ) (previous : ℕ) (large : HEADER_SIZE ≤ length c) where
@@ -140,7 +141,8 @@ module _ (c : List ℕ) (previous : ℕ) (large : HEADER_SIZE ≤ length c) wher
   word-ringed k h = word_other c 20 previous k (omega arith) (inl (omega arith))
 
   pub block-ringed : (p : ℕ) → block_in p (with_word c 20 previous) ≡ block_in p c
-  block-ringed p = same_block p c (with_word c 20 previous) length-ringed (word-ringed 4 (omega arith)) (word-ringed 8 (omega arith)) (word-ringed 12 (omega arith)) (drop-with_word c 20 previous HEADER_SIZE (omega arith) (omega arith))
+  block-ringed p = same_block p c (with_word c 20 previous) length-ringed (word-ringed 4 (omega arith)) (word-ringed 8 (omega arith))
+      (word-ringed 12 (omega arith)) (drop-with_word c 20 previous HEADER_SIZE (omega arith) (omega arith))
 
   pub linked-ringed : (e p q : ℕ) (cs : List (List ℕ)) → previous < 2 ^ 32 → AreLinked e q p (c ∷ cs) → AreLinked e previous p (with_word c 20 previous ∷ cs)
   linked-ringed e p q cs h l =

@@ -79,7 +79,8 @@ module _ (old new : Homes) (o : Owner) (home : ℕ) (bs cs : List Block) (s : Is
         let same = owner_eq o p e in
         ap (λ (r : Owner). after r.kind r.number) (sym same) ∙ get_or-set_same old.list.items (home_index old.lumps o.kind o.number) home 0 (slot_small old few o slot) ∙ here ∙ ap (λ (r : Owner). home_of (owned_block r cs)) same
     go p q false e =
-        get_or-set_other old.list.items (home_index old.lumps o.kind o.number) (home_index old.lumps p.kind p.number) home 0 (λ same. false≢true (sym e ∙ slot_same old few o p slot q (sym same))) ∙ exact p q ∙ ap home_of (sym (others p e))
+        get_or-set_other old.list.items (home_index old.lumps o.kind o.number) (home_index old.lumps p.kind p.number) home 0
+        (λ same. false≢true (sym e ∙ slot_same old few o p slot q (sym same))) ∙ exact p q ∙ ap home_of (sym (others p e))
 
 -- a block freed, and the home of its slot emptied
 module _ (homes : Homes) (F R : List Block) (b : Block) (h : Holding) (holds : b.holding ≡ Some h) (k : AreHome homes (F ++ (b ∷ R))) where
@@ -110,7 +111,8 @@ module _ (homes : Homes) (F R : List Block) (b : Block) (h : Holding) (holds : b
         few = omega arith;
         unique = subst Unique freed_is (Unique-freed _ (release_frees h.owner) (F ++ (b ∷ R)) k.unique);
         fits = alike_fits homes new alike _ (subst (AllFit homes.lumps (composites_in homes)) freed_is (AllFit-freed _ (release_frees h.owner) _ _ _ k.fits));
-        exact = set_exact homes new h.owner NO_HOME (F ++ (b ∷ R)) (F ++ (free_block b.place b.size ∷ R)) set k.few slot_of k.exact (sym (ap home_of (owned_is h.owner ∙ owned_freed h.owner (F ++ (b ∷ R))))) (λ p e. owned_is p ∙ owned_freed_others p h.owner e (F ++ (b ∷ R)));
+        exact = set_exact homes new h.owner NO_HOME (F ++ (b ∷ R)) (F ++ (free_block b.place b.size ∷ R)) set k.few slot_of k.exact
+            (sym (ap home_of (owned_is h.owner ∙ owned_freed h.owner (F ++ (b ∷ R))))) (λ p e. owned_is p ∙ owned_freed_others p h.owner e (F ++ (b ∷ R)));
       }
 
 -- joined blocks have the same owners
@@ -127,4 +129,5 @@ pub taken_exact : (homes new : Homes) (F R : List Block) (p size wanted : ℕ) (
     → Lacks h.owner (F ++ (free_block p size ∷ R)) → IsSet homes new h.owner p
     → AreExact new (F ++ (cut_block wanted h (free_block p size) ++ R))
 taken_exact homes new F R p size wanted h k slot lacks set =
-    set_exact homes new h.owner p (F ++ (free_block p size ∷ R)) (F ++ (cut_block wanted h (free_block p size) ++ R)) set k.few slot k.exact (sym (ap home_of (owned_cut p size wanted h F R lacks))) (λ o e. owned_beside p size wanted h o e F R)
+    set_exact homes new h.owner p (F ++ (free_block p size ∷ R)) (F ++ (cut_block wanted h (free_block p size) ++ R)) set k.few slot k.exact
+    (sym (ap home_of (owned_cut p size wanted h F R lacks))) (λ o e. owned_beside p size wanted h o e F R)

@@ -35,7 +35,8 @@ parts_are zero ((x ∷ c) ∷ cs) h w = absurd (let joined_length = length-appen
 parts_are (suc n) ((x ∷ c) ∷ cs) h w =
     let joined_length = length-append (x ∷ c) (joined cs) in
     let size : word_at ((x ∷ c) ++ joined cs) 0 ≡ length (x ∷ c) = word_in_front (x ∷ c) (joined cs) 0 (let part_large = w.0 in omega arith) ∙ w.1 in
-    ap₂ ◌∷◌ (take_at (x ∷ c) (joined cs) (word_at ((x ∷ c) ++ joined cs) 0) (sym size)) (ap (parts_in n) (drop_at (x ∷ c) (joined cs) (word_at ((x ∷ c) ++ joined cs) 0) (sym size)) ∙ parts_are n cs (let part_large = w.0 in omega arith) w.2)
+    ap₂ ◌∷◌ (take_at (x ∷ c) (joined cs) (word_at ((x ∷ c) ++ joined cs) 0) (sym size))
+    (ap (parts_in n) (drop_at (x ∷ c) (joined cs) (word_at ((x ∷ c) ++ joined cs) 0) (sym size)) ∙ parts_are n cs (let part_large = w.0 in omega arith) w.2)
 
 module _ (region : List ℕ) where
   pub blocks_laid : (l : IsLaid region) → blocks_in region ≡ blocks_from 0 l.parts

@@ -144,7 +144,8 @@ loop-at-preserved c =
       split = next region at size known.split block c.loop-at.previous end' refl small lower ring known.linked known.last;
       low = omega arith;
       len = grown ∙ len;
-      linked = subst (λ k. AreLinked k 0 0 (next region at size known.split block c.loop-at.previous end' refl small lower ring known.linked known.last).front) (sym grown) (next_linked region at size known.split block c.loop-at.previous end' refl small lower ring known.linked known.last);
+      linked = subst (λ k. AreLinked k 0 0 (next region at size known.split block c.loop-at.previous end' refl small lower ring known.linked known.last).front)
+          (sym grown) (next_linked region at size known.split block c.loop-at.previous end' refl small lower ring known.linked known.last);
       last = next_last region at size known.split block c.loop-at.previous end' refl small lower ring known.linked known.last;
       blocks = next_blocks region at size known.split block c.loop-at.previous end' refl small lower ring known.linked known.last ∙ known.blocks;
     })

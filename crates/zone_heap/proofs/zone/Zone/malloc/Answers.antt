@@ -41,7 +41,8 @@ lacks_it g c = lacked _ _ (subst (λ (z : Heap). IsNone (holding_of (owner_at g.
 pub serve-outcome-requires-clause-empty : goal.serve-outcome-requires-clause-empty
 serve-outcome-requires-clause-empty g c =
     let known = (goal.at.serve-outcome-requires-clause-empty g c).After-deref_mut in
-    subst (λ (p : Owner). Lacks p (blocks_in c.deref_mut.result.now)) (sym (owner_is g known)) (subst (λ xs. Lacks (owner_at g.K.SlotKind.CODE c.args.slot.number) (blocks_in xs)) (sym c.deref_mut.ensures.value) (lacks_it g known))
+    subst (λ (p : Owner). Lacks p (blocks_in c.deref_mut.result.now)) (sym (owner_is g known))
+    (subst (λ xs. Lacks (owner_at g.K.SlotKind.CODE c.args.slot.number) (blocks_in xs)) (sym c.deref_mut.ensures.value) (lacks_it g known))
 
 abbrev earlier : (g : Over) (c : After-saturating_add-self-inside g) → After-deref_mut g
 earlier g c = c.before.before.before.before
@@ -114,7 +115,8 @@ held g c m = record { owner = owner_at g.K.SlotKind.CODE c.args.slot.number; tag
 made_sound : (g : Over) (c : After-saturating_add-self-inside g) (m : IsMade g c)
     → IsSound (with_block c.block_size-wanted.result (held g c m) m.place (heap_of c.self.inside))
 made_sound g c m =
-    with_block_sound c.block_size-wanted.result m.place (heap_of c.self.inside) (held g c m) c.self.invariant.sound c.self.invariant.least (sym c.block_size-wanted.ensures.value) m.len c.block_size-wanted.ensures.least (lacks_it g (earlier g c)) (slot_is g (earlier g c)) m.room
+    with_block_sound c.block_size-wanted.result m.place (heap_of c.self.inside) (held g c m) c.self.invariant.sound c.self.invariant.least
+    (sym c.block_size-wanted.ensures.value) m.len c.block_size-wanted.ensures.least (lacks_it g (earlier g c)) (slot_is g (earlier g c)) m.room
 
 -- whatever came of the search, the fields are a zone where the blocks are sound
 kept : (g : Over) (c : After-saturating_add-self-inside g) → IsSound (new_heap g c)
@@ -194,7 +196,8 @@ returns-in-Err-clause-err g c = none_heap g (goal.at.returns-in-Err-clause-err g
     ∙ ap₂ without_room c.block_size-wanted.ensures.value c.self.view_is
 
 pub returns-in-Err-clause-sound : goal.returns-in-Err-clause-sound
-returns-in-Err-clause-sound g c = subst IsSound (sym (none_heap g (goal.at.returns-in-Err-clause-sound g c).After-saturating_add-self-inside _ c.in-Err.is)) (without_room_sound _ _ c.self.invariant.sound c.self.invariant.least)
+returns-in-Err-clause-sound g c = subst IsSound (sym (none_heap g (goal.at.returns-in-Err-clause-sound g c).After-saturating_add-self-inside _ c.in-Err.is))
+    (without_room_sound _ _ c.self.invariant.sound c.self.invariant.least)
 
 pub returns-in-Err-clause-empty : goal.returns-in-Err-clause-empty
 returns-in-Err-clause-empty g c =
@@ -206,7 +209,8 @@ pub returns-in-Err-clause-purged : goal.returns-in-Err-clause-purged
 returns-in-Err-clause-purged g c =
     let known = (goal.at.returns-in-Err-clause-purged g c).After-saturating_add-self-inside in
     let least = c.block_size-wanted.ensures.least in
-    subst (λ (x : Heap). All (λ (b : Block). is_purgeable b ≡ false) x.blocks) (sym (none_heap g known _ c.in-Err.is)) (full_all c.block_size-wanted.result (heap_of c.self.inside) c.self.invariant.sound (omega arith) (place_is g known ∙ ap result_ok c.in-Err.is))
+    subst (λ (x : Heap). All (λ (b : Block). is_purgeable b ≡ false) x.blocks) (sym (none_heap g known _ c.in-Err.is))
+    (full_all c.block_size-wanted.result (heap_of c.self.inside) c.self.invariant.sound (omega arith) (place_is g known ∙ ap result_ok c.in-Err.is))
 
 pub returns-in-Err-clause-others : goal.returns-in-Err-clause-others
 returns-in-Err-clause-others g c = λ p apart.
