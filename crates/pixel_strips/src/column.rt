@@ -1,10 +1,11 @@
 // Columns of pixels.
 ghost use Rattle.std.specs.Prelude.{◌≡◌, ◌^◌, ◌<◌};
+ghost use Rattle.pixel_strips.specs.Rules.{row_fraction};
 ghost use Rattle.pixel_strips.specs.Lying.{IsColumnIn, with_column_cut};
 
 use crate::canvas::{Canvas, CutColumn};
 use crate::texels::{column_colour, shades_of, window};
-use fx_words::plus;
+use fx_words::{minus, plus, times};
 use pixel_rules::TEXEL_ROWS;
 
 /// Rows `first` to `last` of column `x` of the view.
@@ -25,6 +26,18 @@ pub struct ColumnStrip<'a> {
     pub base: u64,
     pub colormap: &'a [u8],
     pub map: u8,
+}
+
+/// The texel row at row `y` of a column whose texel row at row `centre` is `mid`, where a row adds
+/// `step`. They are 16.16 fixed point, and it wraps.
+///
+/// The original: `frac` of `R_DrawColumn`, r_draw.c.
+#[tactic(auto, unfolding(pixel_rules::specs::Strips::row_fraction))]
+#[inline(always)]
+pub fn row_fraction(centre: u16, mid: i32, step: i32, y: u16) -> i32
+    ensures { result ≡ row_fraction centre mid step y }
+{
+    plus(mid, times(minus(y as i32, centre as i32), step))
 }
 
 /// Paints the strip. Takes no memory.

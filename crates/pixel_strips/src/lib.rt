@@ -14,7 +14,7 @@ mod span;
 mod texels;
 
 pub use canvas::{Canvas, CutColumn, CutSpan};
-pub use column::{ColumnStrip, paint_column, paint_post};
+pub use column::{ColumnStrip, paint_column, paint_post, row_fraction};
 pub use frame::Frame;
 pub use pixel_rules::Painter;
 pub use span::{SpanStrip, paint_span, paint_span_as};

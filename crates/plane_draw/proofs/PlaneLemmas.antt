@@ -150,12 +150,6 @@ module _ (lumps : List Lump) (textures : TexturesView) (colormap count zone : �
   fit_joined f [] fits = tt
   fit_joined f (x ∷ xs) fits = fit_beside-append lumps textures colormap count zone (f x) (joined_lists f xs) (fits x) (fit_joined f xs fits)
 
-  pub fit-sky : (v : ViewValue) (art : Art) (n sky x : ℕ) (run : Option (ℕ × ℕ)) →
-      FitsBeside lumps textures colormap count zone (painter_of SKY n (art.texture_source sky (sky_column v x))) →
-      FitBeside lumps textures colormap count zone (sky_run v art n sky x run)
-  unfolding sky_run
-  fit-sky v art n sky x run fits = fit_run (painter_of SKY n (art.texture_source sky (sky_column v x))) x (sky_colour v art sky x) run fits
-
   pub fit-floor : (v : ViewValue) (art : Art) (sky n lump : ℕ) (p : Plane) → p.key.flat ≡ flat.Lump lump →
       FitsBeside lumps textures colormap count zone (painter_of PLANE n (lump_source lump)) →
       FitBeside lumps textures colormap count zone (plane_dots v art sky n p)

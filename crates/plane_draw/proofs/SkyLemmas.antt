@@ -1,62 +1,39 @@
--- Laws of a sky's column that was painted.
-use Rattle.std.proofs.Common.{◌≡◌, ◌+◌, ℕ, ℤ, List, Some, ap, subst, ◌∙◌}
-use Rattle.plane_draw.specs.Rules.{ColumnLookup, Painter, SKY, SKY_MAP, SKY_MID, ViewValue, byte_at, column_dots, listed_from, painter_of, row_fraction, run_dots, shade, sky_colour, sky_column, texel_row}
-use Rattle.art_rules.specs.Words.{Lump}
-use Rattle.pixel_strips.specs.Canvases.{CanvasView, with_dots, with_painter}
-use Rattle.pixel_strips.specs.Dotted.{HasDots}
-use Rattle.pixel_strips.specs.Strips.{column_strip_dots, strip_colour}
-use Rattle.pixel_strips.proofs.DottedLemmas.{has_dots-as, has_dots-painted}
-use Rattle.pixel_strips.proofs.RowLemmas.{row_shade, strip-rows}
-use Rattle.texture_build.specs.Arts.{column_texel, lookup_source, view_art}
-use Rattle.texture_build.specs.Draws.{FitsBeside}
-use Rattle.texture_build.specs.Sources.{column_in}
-use Rattle.texture_build.specs.Views.{TexturesView, prepared_texture}
-use Rattle.plane_draw.specs.Scenes.{sky_run}
+-- Laws of a run of the sky that was painted as a strip of its texture.
+use Rattle.std.proofs.Common.{◌≡◌, ◌∙◌, ℕ, ℤ, IfSome, Result, Some}
+use Rattle.plane_draw.specs.Rules.{Art, Painter, SKY, SKY_MAP, SKY_MID, ViewValue, run_dots, sky_colour, sky_column}
+use Rattle.texture_build.specs.CacheFault.{CacheFault}
+use Rattle.texture_build.specs.TexNo.{TexNo}
+use Rattle.texture_build.specs.Paints.{PaintState}
+use Rattle.texture_build.specs.Strips.{PaintsTexture, texture_colour, texture_dots}
+use Rattle.texture_build.specs.declared.strip.TextureStrip.{TextureStrip}
+use Rattle.texture_build.proofs.PaintLemmas.{paints-asked, paints-same, paints-wider}
+use Rattle.plane_draw.specs.declared.scene.PlaneScene.{PlaneScene}
+use Rattle.plane_draw.specs.Planes.{ShowsSkyAt}
+use Rattle.plane_draw.specs.Scenes.{PaintsPlanes, plane_art, plane_tools, sky_run}
+use Rattle.plane_draw.proofs.CanLemmas.{sky-among}
 
--- a strip that was painted with a column's texels and the colormap has the dots of its run
-sky_strip : (v : ViewValue) (bytes : ℕ → List ℕ) (textures : TexturesView) (colormap n tex x first last : ℕ) (source shades : List ℕ) (base : ℕ) (fraction : ℤ) →
-    fraction ≡ row_fraction v.shape.centre_y SKY_MID v.shape.sky_step first → shades ≡ bytes colormap →
-    ((r : ℕ) → byte_at source (base + r) ≡ column_texel bytes (prepared_texture textures tex) (sky_column v x) r) →
-    column_strip_dots (painter_of SKY n (lookup_source tex (column_in (prepared_texture textures tex) (sky_column v x)))) x
-    (strip_colour source base shades SKY_MAP fraction v.shape.sky_step first) first last
-    ≡ sky_run v (view_art bytes textures colormap) n tex x (Some (first, last))
-unfolding sky_run run_dots sky_colour view_art byte_at
-sky_strip v bytes textures colormap n tex x first last source shades base fraction is_fraction is_shades texels =
-    let painter = painter_of SKY n (lookup_source tex (column_in (prepared_texture textures tex) (sky_column v x))) in
-    let colour : (y : ℕ) → row_shade source base shades SKY_MAP v.shape.centre_y SKY_MID v.shape.sky_step y
-    ≡ shade (bytes colormap) SKY_MAP (column_texel bytes (prepared_texture textures tex) (sky_column v x) (texel_row (row_fraction v.shape.centre_y SKY_MID v.shape.sky_step y))) =
-    λ y. ap (λ (xs : List ℕ). row_shade source base xs SKY_MAP v.shape.centre_y SKY_MID v.shape.sky_step y) is_shades
-    ∙ ap (shade (bytes colormap) SKY_MAP) (texels (texel_row (row_fraction v.shape.centre_y SKY_MID v.shape.sky_step y))) in
-    strip-rows painter x source base shades SKY_MAP v.shape.centre_y SKY_MID v.shape.sky_step fraction first last is_fraction
-    ∙ ap (λ (f : ℕ → ℕ). column_dots painter x f (listed_from (λ y. y) first last)) (λ i y. colour y i)
+abbrev strip_of : ℕ → TexNo → ℤ → ℕ → ℕ → ℕ → ℕ → ℤ → ℤ → TextureStrip
+strip_of n tex column x first last centre mid step =
+    record { kind = SKY; number = n; tex = tex; column = column; x = x; first = first; last = last; centre = centre; mid = mid; step = step; map = SKY_MAP }
 
--- a canvas on which the painter of a live column began, and its strip was painted
-pub sky-painted : {mark : Painter → ℕ → ℕ} (v : ViewValue) (bytes : ℕ → List ℕ) (textures : TexturesView) (colormap n tex x first last : ℕ) (a b c : CanvasView) (painter : Painter) (column begins ends m : ℕ) (source shades : List ℕ) (base : ℕ) (fraction step : ℤ) (lookup : ColumnLookup) →
-    b ≡ with_painter painter a →
-    c ≡ with_dots mark (column_strip_dots b.painter column (strip_colour source base shades m fraction step begins) begins ends) b →
-    painter ≡ painter_of SKY n (lookup_source tex lookup) → lookup ≡ column_in (prepared_texture textures tex) (sky_column v x) →
-    column ≡ x → begins ≡ first → ends ≡ last → m ≡ SKY_MAP → step ≡ v.shape.sky_step →
-    fraction ≡ row_fraction v.shape.centre_y SKY_MID v.shape.sky_step first → shades ≡ bytes colormap →
-    ((r : ℕ) → byte_at source (base + r) ≡ column_texel bytes (prepared_texture textures tex) (sky_column v x) r) →
-    HasDots mark (sky_run v (view_art bytes textures colormap) n tex x (Some (first, last))) a c
-sky-painted v bytes textures colormap n tex x first last a b c painter column begins ends m source shades base fraction step lookup began painted is_painter is_lookup is_x is_first is_last is_map is_step is_fraction is_shades texels =
-    let its : Painter = painter_of SKY n (lookup_source tex (column_in (prepared_texture textures tex) (sky_column v x))) in
-    has_dots-as
-    (ap (λ (p : Painter). column_strip_dots p column (strip_colour source base shades m fraction step begins) begins ends)
-    (ap (λ (canvas : CanvasView). canvas.painter) began ∙ is_painter ∙ ap (λ (l : ColumnLookup). painter_of SKY n (lookup_source tex l)) is_lookup)
-    ∙ ap (λ (k : ℕ). column_strip_dots its k (strip_colour source base shades m fraction step begins) begins ends) is_x
-    ∙ ap (λ (k : ℕ). column_strip_dots its x (strip_colour source base shades m fraction step k) k ends) is_first
-    ∙ ap (λ (k : ℕ). column_strip_dots its x (strip_colour source base shades m fraction step first) first k) is_last
-    ∙ ap (λ (k : ℕ). column_strip_dots its x (strip_colour source base shades k fraction step first) first last) is_map
-    ∙ ap (λ (k : ℤ). column_strip_dots its x (strip_colour source base shades SKY_MAP fraction k first) first last) is_step
-    ∙ sky_strip v bytes textures colormap n tex x first last source shades base fraction is_fraction is_shades texels)
-    (has_dots-painted began painted)
+-- the strip has the dots of the run
+sky-dots : (v : ViewValue) (art : Art) (n : ℕ) (tex : TexNo) (x first last centre : ℕ) (column mid step : ℤ) →
+    column ≡ sky_column v x → centre ≡ v.shape.centre_y → mid ≡ SKY_MID → step ≡ v.shape.sky_step →
+    texture_dots art (strip_of n tex column x first last centre mid step) ≡ sky_run v art n tex.0 x (Some (first, last))
+unfolding texture_dots texture_colour sky_run run_dots sky_colour
+sky-dots v art n tex x first last centre column mid step is_column is_centre is_mid is_step =
+    λ i. texture_dots art (strip_of n tex (is_column i) x first last (is_centre i) (is_mid i) (is_step i))
 
--- what its painter reads fits beside the colormap
-pub sky-source : (lumps : List Lump) (textures : TexturesView) (colormap count zone : ℕ) (v : ViewValue) (bytes : ℕ → List ℕ) (n tex x : ℕ) (lookup : ColumnLookup) →
-    lookup ≡ column_in (prepared_texture textures tex) (sky_column v x) →
-    FitsBeside lumps textures colormap count zone (painter_of SKY n (lookup_source tex lookup)) →
-    FitsBeside lumps textures colormap count zone (painter_of SKY n ((view_art bytes textures colormap).texture_source tex (sky_column v x)))
-unfolding view_art
-sky-source lumps textures colormap count zone v bytes n tex x lookup is fits =
-    subst (λ (l : ColumnLookup). FitsBeside lumps textures colormap count zone (painter_of SKY n (lookup_source tex l))) is fits
+-- so a call that paints the strip paints the run
+pub sky-painted : {mark : Painter → ℕ → ℕ} (s : PlaneScene) (n : ℕ) (tex : TexNo) (x first last : ℕ) {centre : ℕ} {column mid step : ℤ}
+    {a b : PaintState} {result : Result (Unit {0}) CacheFault} →
+    column ≡ sky_column s.view.now x → centre ≡ s.view.now.shape.centre_y → mid ≡ SKY_MID → step ≡ s.view.now.shape.sky_step →
+    s.sky ≡ Some tex → ShowsSkyAt s.planes.now.planes x →
+    PaintsTexture mark (plane_tools s) (strip_of n tex column x first last centre mid step) a b result →
+    PaintsPlanes mark s (λ contents sky. sky_run s.view.now (plane_art contents s) n tex.0 x (Some (first, last))) a b result
+sky-painted s n tex x first last {centre} {column} {mid} {step} is_column is_centre is_mid is_step sky shown one =
+    paints-same _
+    (λ contents number there. sky-dots s.view.now (plane_art contents s) n tex x first last centre column mid step is_column is_centre is_mid is_step)
+    (paints-asked {first = λ (q : Unit {0}). Unit {0}} (λ (number : ℕ). IfSome s.sky (λ tex. number ≡ tex.0)) (λ number. tt) (λ number there. tt)
+    (paints-wider (λ (number : ℕ) (own : ℤ) (e : (number ≡ tex.0) × (own ≡ column)).
+    sky-among s.view.now s.sky s.planes.now.planes tex x sky shown number own (e.0, e.1 ∙ is_column)) (λ (lump : ℕ) (none : ⊥). absurd none) one))

@@ -1,7 +1,7 @@
 -- What holds of each texture of an accepted list holds of all textures of accepted lists, and what
 -- is made of such textures is what is prepared of them.
 use Rattle.art_rules.proofs.Common.{[], All, All-append, All-contains, All-from_get_or, All-nil, ap, arith, Bool, cond, Contains, Err, false, List, nat_lt, None, Ok, Option, option_map, refl, Result, Some, subst, suc, sym, true, zero, ℕ, ◌++◌, ◌+◌, ◌<◌, ◌∙◌, ◌∷◌, ◌≡◌}
-use Rattle.texture_build.specs.Rules.{Lump, MAX_COMPOSITE, PlacedPatch, PreparedTexture, TexRefusal, Texture, TextureLists, TooBig, and_then, both_lists, composite_size, first_list, first_wrong, joined_textures, last_of, later_textures, later_wrong, list_count, lump_bytes, or_else, patch_names, placed_patches, prepared, prepared_from, prepared_if, prepared_textures, second_list, texture_in, texture_lists, texture_of, texture_place, textures_in, unless_missing, unless_too_big, unless_wrong, unlisted, wrong_record}
+use Rattle.texture_build.specs.Rules.{Lump, MAX_COMPOSITE, PlacedPatch, PreparedTexture, TexRefusal, Texture, TextureLists, TooBig, both_lists, composite_size, first_list, first_wrong, joined_textures, last_of, later_textures, later_wrong, list_count, lump_bytes, or_else, patch_names, placed_patches, prepared, prepared_from, prepared_if, prepared_textures, second_list, texture_in, texture_lists, texture_of, texture_place, textures_in, unless_missing, unless_too_big, unless_wrong, unlisted, wrong_record}
 use Rattle.art_rules.proofs.Laws.{and_then-ok, get_or-listed, length-listed}
 use Rattle.texture_build.specs.Views.{AreTexturesOf, TexturesView, prepared_at}
 

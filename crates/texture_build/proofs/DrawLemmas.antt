@@ -280,10 +280,18 @@ draws-above {fault_of = fault_of} {among = among} {pictures} {v} {w} {dir} {text
       (order_up (KeepsOrder items x y v.taken w.taken) f (fault_of e) (one.order items asked all k));
 }
 
--- what `map_err(above)` tells of its result
+-- what `map_err(above)`, or a `?`, tells of its result
 abbrev pub IsMapped : {A E G : Type 0} → (E → G) → Result A E → Result A G → Type 0
 IsMapped above lower result =
     MatchResult lower (λ x. result ≡ Ok x) (λ e. IsErrAnd result (λ f. f ≡ above e))
+
+pub mapped-err : {A E G : Type 0} (above : E → G) (lower : Result A E) (fault : E) (result : Result A G) →
+    lower ≡ Err fault → IsErrAnd result (λ f. f ≡ above fault) → IsMapped above lower result
+mapped-err above lower fault result was is = subst (λ r. IsMapped above r result) (sym was) is
+
+pub mapped-ok : {A E G : Type 0} (above : E → G) (lower : Result A E) (value : A) → lower ≡ Ok value →
+    IsMapped above lower (Ok value)
+mapped-ok {G = G} above lower value was = subst (λ r. IsMapped {G = G} above r (Ok value)) (sym was) refl
 
 mapped-is : {A E G : Type 0} (above : E → G) (lower : Result A E) (result : Result A G) →
     IsMapped above lower result → result ≡ result_above above lower

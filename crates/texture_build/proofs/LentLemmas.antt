@@ -1,7 +1,7 @@
 -- What a cache that has the art lends: the colormap, texture columns, and what fits beside them.
 use Rattle.art_rules.proofs.Common.{ap, false, IfSome, IsSome, length, List, ne_eqb, None, Option, option_map, refl, Some, subst, sym, ℕ, ◌+◌, ◌<◌, ◌∙◌, ◌≡◌, ◌≢◌, ◌≤◌}
 use Rattle.texture_build.specs.Rules.{ColumnLookup, Composed, Empty, LUMP, POST_BYTES_AT, PreparedTexture, ShelfView, Single, lump_at, lump_bytes, painter_of}
-use Rattle.lump_cache.specs.Zones.{Owner, Holding, Block, Heap, IsLive, bytes_of, block_size, holding_of, owned_block, same_owner}
+use Rattle.lump_cache.specs.Zones.{Owner, Holding, Block, Heap, IsLive, bytes_of, block_size, owned_block, same_owner}
 use Rattle.lump_cache.specs.DirectoryView.{DirectoryView}
 use Rattle.lump_cache.specs.Caches.{IsStatic, composite_owner, lump_owner}
 use Rattle.lump_cache.specs.Calls.{HoldContents}
@@ -11,7 +11,7 @@ use Rattle.art_rules.proofs.LookupLemmas.{composite_size-length}
 use Rattle.texture_build.specs.Arts.{lookup_source}
 use Rattle.texture_build.specs.Composites.{composite_of}
 use Rattle.texture_build.specs.Asked.{size_of}
-use Rattle.texture_build.specs.Sources.{ColumnView, IsColumnLive, IsColumnThere, IsLentBeside, column_from, column_view}
+use Rattle.texture_build.specs.Sources.{ColumnView, IsColumnThere, IsLentBeside, column_from, column_view}
 use Rattle.texture_build.specs.Views.{TexturesView, IsPrepared, prepared_at, prepared_texture}
 use Rattle.texture_build.specs.Draws.{HoldsArt, FitsBeside}
 use Rattle.texture_build.proofs.TexelLemmas.{prepared_is}

@@ -14,6 +14,7 @@ pub mod BesideLemmas
 pub mod LiveLemmas
 pub mod LentLemmas
 pub mod PaintLemmas
+pub mod StripLemmas
 pub use Rattle.lump_cache.proofs.CallLemmas
 pub use Rattle.lump_cache.proofs.FetchLemmas
 pub use Rattle.lump_cache.proofs.SizeLemmas

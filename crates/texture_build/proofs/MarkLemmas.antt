@@ -1,5 +1,5 @@
 -- Marks by number: what is set, and the numbers that are marked.
-use Rattle.art_rules.proofs.Common.{[], add-zero, ap, append-nil, arith, Bool, cond, false, filter, filter-append, get_or, length, List, Option, range_with_len, refl, suc, sym, take, take-append-le, take-length, true, zero, zero-add, ℕ, ◌++◌, ◌+◌, ◌<◌, ◌∙◌, ◌∷◌, ◌≡◌, ◌≤◌}
+use Rattle.art_rules.proofs.Common.{[], ap, append-nil, arith, Bool, cond, false, filter, filter-append, get_or, length, List, Option, range_with_len, refl, suc, sym, take, take-append-le, take-length, true, zero, zero-add, ℕ, ◌++◌, ◌+◌, ◌<◌, ◌∙◌, ◌∷◌, ◌≡◌, ◌≤◌}
 use Rattle.art_rules.specs.Words.{is_patch_of_any, patch_lumps, PreparedTexture}
 use Rattle.art_rules.proofs.EachLemmas.{range_more}
 

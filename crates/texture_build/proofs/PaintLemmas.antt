@@ -1,13 +1,15 @@
 -- Laws of a call that paints: nothing, one after the other, an error, the same dots by other words, what was made live first.
-use Rattle.std.proofs.Common.{◌≡◌, ◌≤◌, ◌<◌, ◌+◌, ℕ, ℤ, Bool, true, false, List, ◌++◌, [], length, Result, Ok, Err, IsErrAnd, OnOk, sym, subst}
-use Rattle.art_rules.specs.Words.{Dot, Fault, fault_above, Painter, ShelfView}
+use Rattle.std.proofs.Common.{◌≡◌, ◌≤◌, ◌<◌, ℕ, ℤ, Bool, true, false, List, ◌++◌, [], Result, Ok, Err, IsErrAnd, OnOk, sym, subst}
+use Rattle.art_rules.specs.Words.{Dot, Fault, fault_above, Lump, Painter, ShelfView}
 use Rattle.lump_cache.specs.Zones.{Heap}
+use Rattle.lump_cache.specs.Caches.{KeepsCounts}
 use Rattle.lump_cache.proofs.FillLemmas.{on_ok}
 use Rattle.pixel_strips.specs.Canvases.{CanvasView}
 use Rattle.pixel_strips.specs.Dotted.{HasDots, PlacedAlike}
 use Rattle.pixel_strips.proofs.DottedLemmas.{has_dots-none, has_dots-append, placed-none, placed-then}
-use Rattle.texture_build.specs.Draws.{CanDraw, DrawsWith, FitBeside, KeepsArt}
-use Rattle.texture_build.specs.Paints.{FitIn, Holds, HoldsIf, HoldsLumps, PaintState, PaintTools, Paints, paint_state}
+use Rattle.texture_build.specs.Draws.{CanDraw, DrawsWith, KeepsArt}
+use Rattle.texture_build.specs.Paints.{FitIn, Holds, HoldsIf, PaintState, PaintTools, Paints, paint_state}
+use Rattle.texture_build.specs.Views.{TexturesView}
 use Rattle.texture_build.proofs.BesideLemmas.{fit_beside-append}
 use Rattle.texture_build.proofs.DrawLemmas.{IsMapped, draws-mapped, draws-none, draws-stop, draws-then, draws-value, draws-wider, holds_art-later, holds_contents-later, on_ok-mapped}
 
@@ -152,10 +154,16 @@ paints-mapped {mark = mark} {t} {dots = dots} {a} {b} f above same lower result 
   place = one.place;
 }
 
+-- a texture that may be drawn may be drawn later
+pub can_draw-counts : {lumps : List Lump} {textures : TexturesView} {x y : Heap} {number : ℕ} → KeepsCounts x y →
+    CanDraw lumps textures x number → CanDraw lumps textures y number
+can_draw-counts {number = number} counts can =
+    record { prepared = can.prepared; slot = subst (λ (n : ℕ). number < n) (sym counts.2) can.slot; there = can.there }
+
 -- what a call asks of the room it may ask again
 module _ {A R E Q : Type 0} {fault_of : E → Fault R} {mark : Painter → ℕ → ℕ} {t : PaintTools} {among : ℕ → ℤ → Type 0} {pictures : ℕ → Type 0} {asked : Q → Type 0} {f : List (List ℕ) → Q → List Dot} {a b : PaintState} {result : Result A E} where
   pub slots-later : {n : ℕ} → Paints fault_of mark t among pictures asked f a b result → n ≤ a.cache.lumps → n ≤ b.cache.lumps
   slots-later one can = rw one.draws.keeps.counts.1 can
 
   pub can_draw-later : {number : ℕ} → Paints fault_of mark t among pictures asked f a b result → CanDraw t.dir.lumps t.textures a.cache number → CanDraw t.dir.lumps t.textures b.cache number
-  can_draw-later {number} one can = record { prepared = can.prepared; slot = subst (λ (n : ℕ). number < n) (sym one.draws.keeps.counts.2) can.slot; there = can.there }
+  can_draw-later one can = can_draw-counts one.draws.keeps.counts can

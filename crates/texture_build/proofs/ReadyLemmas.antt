@@ -1,9 +1,7 @@
 -- What a column is read from, made live: by each kind of column.
-use Rattle.art_rules.proofs.Common.{Bool, eqb-true, Err, false, IfErr, IfSome, inl, length, List, None, Ok, OnErr, OnOk, Option, refl, Result, Some, subst, sym, true, ℕ, ◌+◌, ◌<◌, ◌==◌, ◌≡◌}
-use Rattle.texture_build.specs.Rules.{ColumnLookup, Lump, PreparedTexture, ShelfView, Single, lump_at, lump_bytes}
-use Rattle.art_rules.proofs.Laws.{follows_none}
+use Rattle.art_rules.proofs.Common.{Bool, eqb-true, Err, false, IfErr, IfSome, inl, length, List, None, Ok, OnErr, OnOk, Option, refl, Result, Some, subst, sym, true, ℕ, ◌<◌, ◌==◌, ◌≡◌}
+use Rattle.texture_build.specs.Rules.{Lump, PreparedTexture, ShelfView, Single, lump_at, lump_bytes}
 use Rattle.lump_cache.specs.Zones.{Block, Heap, IsLive, block_size, bytes_of, owned_block}
-use Rattle.zone_rules.proofs.OrderLemmas.{order_none}
 use Rattle.lump_cache.specs.DirectoryView.{DirectoryView}
 use Rattle.lump_cache.specs.declared.fault.CacheFault.{CacheFault}
 use Rattle.lump_cache.specs.declared.fault.CacheFault.TheVariants.{ZoneFull, ReadFault}
@@ -18,9 +16,7 @@ use Rattle.lump_cache.specs.Orders.{has_item}
 use Rattle.texture_build.specs.Asked.{IsFullForColumn}
 use Rattle.texture_build.specs.Builds.{OthersKeep}
 use Rattle.texture_build.specs.Composites.{AreComposites, composite_of}
-use Rattle.texture_build.specs.Draws.{KeepsArt}
 use Rattle.texture_build.specs.Ready.{MakesColumnLive}
-use Rattle.texture_build.specs.Sources.{IsColumnLive}
 use Rattle.texture_build.specs.Views.{TexturesView, prepared_at}
 use Rattle.texture_build.proofs.BuildLemmas.{narrow_where}
 

@@ -1,5 +1,5 @@
 -- The steps by which a composite is built, while its block is pinned.
-use Rattle.std.specs.Prelude.{◌≡◌, ℕ, ◌+◌, ◌<◌, ◌==◌, false, true, List, [], ◌∷◌, length, replicate, Some, None, IfSome, IfErr, OnOk, OnErr, MatchResult, Result, Ok, slice_get}
+use Rattle.std.specs.Prelude.{◌≡◌, ℕ, ◌+◌, ◌<◌, ◌==◌, false, true, List, [], ◌∷◌, length, replicate, Some, None, IfSome, IfErr, OnOk, OnErr, Result, Ok, slice_get}
 use Rattle.texture_build.specs.Rules.{AllWithin, HasCauses, IsLaterShelf, Lump, NameFiles, PlacedPatch, PreparedTexture, ResultIs, ShelfView, composite_of_first, lump_bytes}
 use Rattle.lump_cache.specs.Zones.{Owner, Heap, owned_block, bytes_of, block_size, same_owner}
 use Rattle.lump_cache.specs.Orders.{Item, IsInOrder, KeepsOrder, has_item}

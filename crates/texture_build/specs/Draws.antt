@@ -1,9 +1,9 @@
 -- What a call that draws keeps of the cache, and whose bytes it may paint with.
-use Rattle.std.specs.Prelude.{◌≡◌, ◌≢◌, ◌<◌, ◌≤◌, ◌+◌, ◌⊎◌, ℕ, ℤ, List, IsTrue, IfErr, MatchResult, Result, ⊤}
+use Rattle.std.specs.Prelude.{◌≡◌, ◌≢◌, ◌<◌, ◌≤◌, ◌+◌, ◌⊎◌, ℕ, ℤ, List, IsTrue, IfErr, Result, ⊤}
 use Rattle.std.specs.List.{AllByRecursion}
 use Rattle.art_rules.specs.Words.{AllWithin, COMPOSITE, Dot, Fault, HasCauses, IsLaterShelf, LUMP, Lump, lump_at, lump_bytes, NameFiles, OutOfMemory, Painter, ReadFault, Refused, ShelfView, ZoneFull}
 use Rattle.lump_cache.specs.Zones.{Heap, block_size}
-use Rattle.lump_cache.specs.Orders.{Item, IsInOrder, KeepsOrder}
+use Rattle.lump_cache.specs.Orders.{Item, IsInOrder}
 use Rattle.lump_cache.specs.DirectoryView.{DirectoryView}
 use Rattle.lump_cache.specs.Caches.{IsAtRest, IsFaithful, KeepsCounts}
 use Rattle.lump_cache.specs.Calls.{HasAll, HoldContents, IfFull, LeavesInOrder, IsFullFor}

@@ -9,6 +9,7 @@ pub mod Arts
 pub mod Draws
 pub mod Paints
 pub mod Hands
+pub mod Strips
 pub use Rattle.lump_cache.specs.declared.fault.CacheFault
 pub use Rattle.lump_cache.specs.Caches
 pub use Rattle.lump_cache.specs.Calls

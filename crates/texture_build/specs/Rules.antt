@@ -10,3 +10,5 @@ pub use Rattle.art_rules.specs.declared.layout.TheConstants.{POST_BYTES_AT}
 pub use Rattle.art_rules.specs.declared.patch.Patch.{Patch}
 pub use Rattle.art_rules.specs.declared.refusal.TexRefusal.{TexRefusal}
 pub use Rattle.art_rules.specs.declared.refusal.TexRefusal.TheVariants.{MissingPatch, TooBig}
+pub use Rattle.pixel_strips.specs.Rules.{Dot, FRAME_HEIGHT, FRAME_WIDTH, Painter}
+unfoldable pub use Rattle.pixel_strips.specs.Rules.{column_dots, listed_from, row_fraction, texel_row}

@@ -1,5 +1,5 @@
 -- Laws of the strips of a plan.
-use Rattle.picture_rules.proofs.Common.{[], All, AllByRecursion, ap, arith, int_lt, ints, length, List, of_z, recursion_from_All, refl, Result, SFits, to_z, true, w32, ℕ, ℤ, ◌<ℤ◌, ◌<◌, ◌∙◌, ◌≡◌}
+use Rattle.picture_rules.proofs.Common.{[], All, AllByRecursion, ap, arith, int_lt, ints, List, of_z, recursion_from_All, refl, Result, SFits, to_z, true, w32, ℕ, ℤ, ◌<ℤ◌, ◌∙◌, ◌≡◌}
 use Rattle.std.proofs.Common.{to_z-of_z}
 use Rattle.wall_columns.specs.Rules.{Art, Dot, Edges, FragmentNumbers, Lump, Painter, RowRange, ViewValue, WallFacts, WallStrip, column_dots, inverse_word, joined_lists, rows_between, scale_map, strip_dots, texture_column, wall_colour}
 use Rattle.texture_build.specs.Zones.{Heap}
@@ -70,14 +70,14 @@ plan-column v x f n plan column fits are number own h = (h.0, λ q is. h.1 ∙ t
 -- so a call that paints with these what the strips of a plan have paints the plan
 pub paints-plan : {t : PaintTools} {mark : Painter → ℕ → ℕ} {a b : PaintState} {result : Result (Unit {0}) DrawFault}
     (v : ViewValue) (number x map : ℕ) (f : FragmentValue) (n : FragmentNumbers) (e : Edges) (plan : ColumnPlan) (strips : List WallStrip) (column step : ℤ) →
-    SFits w32 e.scale → SFits w32 step → SFits w32 column → t.colormap < length t.dir.lumps →
+    SFits w32 e.scale → SFits w32 step → SFits w32 column →
     step ≡ inverse_word (to_z w32 (of_z w32 e.scale)) → map ≡ scale_map v n.light (to_z w32 (of_z w32 e.scale)) →
     ((facts : WallFacts) (first last : ℕ) → f ≡ fragment_of v facts first last → column ≡ texture_column v facts x) →
     ((contents : List (List ℕ)) → strips_dots v.shape (painted_art contents t) (look_with number x column step map) strips
     ≡ strips_dots v.shape (painted_art contents t) (look_with number x column step map) (strips_by n plan)) →
     PaintsStrips v.shape t mark (look_with number x column step map) (λ m own. IsPlanTexture n plan m × (own ≡ to_z w32 (of_z w32 column))) strips a b result →
     PaintsPlan v t mark number f n x e plan a b result
-paints-plan {t} v number x map f n e plan strips column step s_fits t_fits c_fits there is_step is_map are same one =
+paints-plan {t} v number x map f n e plan strips column step s_fits t_fits c_fits is_step is_map are same one =
     let look = look_with number x column step map in
     paints-wider (plan-column v x f n plan column c_fits are) (λ (lump : ℕ) h. h)
     (paints-same _
@@ -85,4 +85,4 @@ paints-plan {t} v number x map f n e plan strips column step s_fits t_fits c_fit
     (to_z-of_z t_fits ∙ is_step ∙ ap inverse_word (to_z-of_z s_fits)) (is_map ∙ ap (scale_map v n.light) (to_z-of_z s_fits))
     ∙ ap (λ (y : ℤ). joined_lists (strip_dots v (painted_art contents t) number x n.light y e.scale) (strips_by n plan))
     (to_z-of_z c_fits ∙ are q.facts q.first q.last is))
-    (paints-asked (λ (q : WallRange). f ≡ fragment_of v q.facts q.first q.last) (λ q. tt) (λ q is. there) one))
+    (paints-asked {first = λ (q : Unit {0}). Unit {0}} (λ (q : WallRange). f ≡ fragment_of v q.facts q.first q.last) (λ q. tt) (λ q is. tt) one))

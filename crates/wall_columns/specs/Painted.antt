@@ -1,5 +1,5 @@
 -- The strips of a fragment in one of its columns, by what they have in common.
-use Rattle.std.specs.Prelude.{◌≡◌, ◌<◌, ℕ, ℤ, List, length, Result}
+use Rattle.std.specs.Prelude.{◌≡◌, ℕ, ℤ, List, Result}
 use Rattle.wall_columns.specs.Rules.{Art, Dot, Painter, Part, RowRange, ViewShape, WALL, WallStrip, column_dots, joined_lists, painter_of, row_fraction, rows_between, texel_row}
 use Rattle.texture_build.specs.Paints.{PaintState, PaintTools, Paints, painted_art}
 use Rattle.wall_columns.specs.declared.fault.DrawFault.{DrawFault}
@@ -35,5 +35,5 @@ IsStripColumn look s number own = IsStripTexture s number × (own ≡ look.colum
 abbrev pub PaintsStrips : ViewShape → PaintTools → (Painter → ℕ → ℕ) → ColumnLook →
     (ℕ → ℤ → Type 0) → List WallStrip → PaintState → PaintState → Result (Unit {0}) DrawFault → Type 0
 PaintsStrips shape t mark look among strips old new result =
-    Paints draw_fault mark t among IsNoPicture (λ (q : Unit {0}). t.colormap < length t.dir.lumps)
+    Paints draw_fault mark t among IsNoPicture (λ (q : Unit {0}). Unit {0})
     (λ contents q. strips_dots shape (painted_art contents t) look strips) old new result

@@ -15,7 +15,7 @@
 //!     yl, yh: the rows of its edges, clipped     clips: wall_first, wall_last
 //!     mark the ceiling above, the floor below    clips: ceiling_rows, floor_rows; columns: mark_rows
 //!     the texture's column, light, dc_iscale     wall_edges: column_at; paint: paint_plan
-//!     a middle texture: paint yl to yh           clips: solid_plan; paint: first_strip, paint_live
+//!     a middle texture: paint yl to yh           clips: solid_plan; paint: first_strip, paint_part
 //!         and shut the column                    clips: shut_clip
 //!     else an upper texture: paint to pixhigh    clips: top_plan; paint: first_strip
 //!         a lower texture: paint from pixlow     clips: bottom_plan; paint: paint_second

@@ -3,9 +3,9 @@ use Rattle.picture_rules.proofs.Common.{IfSome, length, subst, sym, ℕ, ◌<◌
 use Rattle.texture_build.specs.TexNo.{TexNo}
 use Rattle.texture_build.specs.Draws.{CanDraw}
 use Rattle.texture_build.specs.Views.{TexturesView}
+use Rattle.texture_build.proofs.DrawLemmas.{mapped-err, mapped-ok}
 use Rattle.frame_core.specs.Faults.{from_cache}
 use Rattle.frame_core.proofs.FloorLemmas.{floors-drawn, planes_can, sky_can}
-use Rattle.frame_core.proofs.PaintLemmas.{mapped-err, mapped-ok}
 use Rattle.frame_core.proofs.floors.draw_floors.Goals as goal
 
 pub draw_planes-requires : goal.draw_planes-requires

@@ -1,24 +1,20 @@
-use Rattle.picture_rules.proofs.Common.{ap, arith, false, int_lt, ints, of_z, refl, rules, SFits, to_z, true, w32, ℕ, ℤ, ◌∙◌, ◌≡◌, ◌≤ℤ◌}
-use Rattle.std.proofs.Common.{to_z-of_z}
-use Rattle.wall_columns.specs.Rules.{ColumnLookup, PreparedTexture}
+-- The rows of a part are a strip of its texture.
+use Rattle.picture_rules.proofs.Common.{arith, int_lt, ints, pos, subst, sym, true, ℕ, ℤ, ◌+◌, ◌<ℤ◌, ◌<◌, ◌≡◌, ◌≤ℤ◌, ◌≤◌}
+use Rattle.wall_columns.specs.Rules.{FRAME_HEIGHT, FRAME_WIDTH}
 use Rattle.texture_build.specs.Draws.{CanDraw}
 use Rattle.texture_build.specs.Paints.{painted_art}
-use Rattle.texture_build.specs.Sources.{column_in}
-use Rattle.texture_build.specs.Views.{prepared_texture}
-use Rattle.texture_build.proofs.PaintLemmas.{paints-none, paints-same, paints-wider}
-use Rattle.wall_columns.specs.Painted.{IsStripColumn, strip_with}
+use Rattle.texture_build.proofs.DrawLemmas.{mapped-err, mapped-ok}
+use Rattle.texture_build.proofs.PaintLemmas.{paints-none, paints-same}
+use Rattle.wall_columns.specs.Faults.{from_cache_fault}
 use Rattle.wall_columns.specs.Tools.{wall_state, wall_tools}
-use Rattle.wall_columns.proofs.PaintedLemmas.{PaintsLive, can_draw-counts, paints-failed, paints-strip, strips-empty}
-use Rattle.wall_columns.proofs.ToolLemmas.{after-same, before-same}
+use Rattle.wall_columns.proofs.PaintedLemmas.{part-painted, strips-empty}
 use Rattle.wall_columns.proofs.paint.paint_part.Goals as goal
 
-in_order : (first last : ℤ) → int_lt last first ≡ false → first ≤ℤ last
-in_order first last h = grind (arith, ints)
-
--- what is looked up for the word of a column is that of the column
-lookup_is : (texture : PreparedTexture) (column : ℤ) {lookup : ColumnLookup} → SFits w32 column →
-    lookup ≡ column_in texture (to_z w32 (of_z w32 column)) → lookup ≡ column_in texture column
-lookup_is texture column fits is = is ∙ ap (column_in texture) (to_z-of_z fits)
+-- a strip in the columns and rows of a view lies in its frame
+within : (first last own x left top width height : ℕ) (from to : ℤ) → pos first ≡ from → pos last ≡ to → from ≤ℤ to → to <ℤ pos height → own ≡ x →
+    x < width → left + width ≤ FRAME_WIDTH → top + height ≤ FRAME_HEIGHT → (first ≤ last) × ((own + left < FRAME_WIDTH) × (last + top < FRAME_HEIGHT))
+within first last own x left top width height from to is_first is_last ordered low is_x inside columns rows =
+    (omega (arith, ints), (omega (arith, ints), omega (arith, ints)))
 
 pub returns-then-rows-clause-paints : goal.returns-then-rows-clause-paints
 returns-then-rows-clause-paints g c =
@@ -27,37 +23,35 @@ returns-then-rows-clause-paints g c =
     paints-same _ (λ contents q is. strips-empty tools.view.now.shape (painted_art contents (wall_tools tools)) c.args.look.now c.args.part c.args.rows past)
     (paints-none (wall_state g.S.Shelf.view g.C.Canvas.view tools) tt)
 
-pub paint_live-requires-clause-texture : goal.paint_live-requires-clause-texture
-paint_live-requires-clause-texture g c =
+pub paint_texture-requires-clause-texture : goal.paint_texture-requires-clause-texture
+paint_texture-requires-clause-texture g c =
+    let t = c.args.tools.now in
     let ordered : c.args.rows.first ≤ℤ c.args.rows.last = grind (arith, ints) in
-    after-same c.args.tools.now c.ready_part.new.tools (λ v t. CanDraw t.dir.lumps t.textures c.ready_part.new.tools.cache.now c.args.part.number) c.in_ok-ready_part.ensures.same
-    (can_draw-counts (c.in_ok-ready_part.ensures.draws c.args.look.now.column
-    (lookup_is (prepared_texture c.args.tools.now.textures.now c.args.part.number) c.args.look.now.column (search rules) c.lookup-lookup.ensures.value)).keeps.counts
-    (c.requires.texture ordered))
+    subst (CanDraw t.dir.now.lumps t.textures.now t.cache.now) (sym c.texture_strip-strip.ensures.texture) (c.requires.texture ordered)
 
-pub returns-in_err-ready_part-clause-paints : goal.returns-in_err-ready_part-clause-paints
-returns-in_err-ready_part-clause-paints g c =
-    let tools = c.args.tools.now in
+pub paint_texture-requires-clause-within : goal.paint_texture-requires-clause-within
+paint_texture-requires-clause-within g c =
+    let r = c.texture_strip-strip.result in
+    let s = c.texture_strip-strip.ensures in
+    let canvas = g.C.Canvas.view c.args.tools.now.canvas.now in
+    let shape = c.args.tools.now.view.now.shape in
+    let placed = c.requires.column in
     let ordered : c.args.rows.first ≤ℤ c.args.rows.last = grind (arith, ints) in
-    paints-wider {among = IsStripColumn c.args.look.now (strip_with c.args.part c.args.rows)} (λ (number : ℕ) (own : ℤ) e. ((ordered, e.0), e.1)) (λ (lump : ℕ) h. h)
-    (paints-failed {t = wall_tools tools} refl c.from_residual.ensures.1
-    (c.in_err-ready_part.ensures.draws c.args.look.now.column
-    (lookup_is (prepared_texture tools.textures.now c.args.part.number) c.args.look.now.column (search rules) c.lookup-lookup.ensures.value))
-    (ap g.C.Canvas.view c.in_err-ready_part.ensures.canvas))
+    within r.first r.last r.x c.args.look.now.x canvas.left canvas.top shape.width shape.height c.args.rows.first c.args.rows.last
+    s.first s.last ordered (c.requires.rows ordered).1 s.x placed.0 placed.1.columns placed.1.rows
+
+pub returns-in_err-paint_texture-clause-paints : goal.returns-in_err-paint_texture-clause-paints
+returns-in_err-paint_texture-clause-paints g c =
+    let s = c.texture_strip-strip.ensures in
+    let ordered : c.args.rows.first ≤ℤ c.args.rows.last = grind (arith, ints) in
+    part-painted c.args.tools.now.view.now.shape c.args.look.now c.args.part c.args.rows c.texture_strip-strip.result
+    s.kind s.number s.texture s.column s.x s.first s.last s.centre s.mid s.step s.map ordered c.paint_texture.result _
+    (mapped-err from_cache_fault _ c.in_err-paint_texture.field-0.0 _ c.in_err-paint_texture.was c.from_residual.ensures.1) c.paint_texture.ensures.paints
 
 pub returns-clause-paints : goal.returns-clause-paints
 returns-clause-paints g c =
-    let tools = c.args.tools.now in
-    let ready = c.ready_part.new.tools in
-    let after = c.paint_live.new.tools in
-    let live : PaintsLive tools.view.now.shape (wall_tools tools) g.C.Canvas.mark c.args.look.now c.args.part c.args.rows c.lookup-lookup.result ready.cache.now
-    (g.C.Canvas.view ready.canvas.now) (g.C.Canvas.view after.canvas.now) =
-    before-same tools ready (λ v t. PaintsLive v.shape t g.C.Canvas.mark c.args.look.now c.args.part c.args.rows c.lookup-lookup.result ready.cache.now
-    (g.C.Canvas.view ready.canvas.now) (g.C.Canvas.view after.canvas.now)) c.in_ok-ready_part.ensures.same
-    (record { painted = c.paint_live.ensures.painted; fits = c.paint_live.ensures.fits }) in
-    let is_lookup : c.lookup-lookup.result ≡ column_in (prepared_texture tools.textures.now c.args.part.number) c.args.look.now.column =
-    lookup_is (prepared_texture tools.textures.now c.args.part.number) c.args.look.now.column (search rules) c.lookup-lookup.ensures.value in
+    let s = c.texture_strip-strip.ensures in
     let ordered : c.args.rows.first ≤ℤ c.args.rows.last = grind (arith, ints) in
-    paints-wider {among = IsStripColumn c.args.look.now (strip_with c.args.part c.args.rows)} (λ (number : ℕ) (own : ℤ) e. ((ordered, e.0), e.1)) (λ (lump : ℕ) h. h)
-    (paints-strip c.lookup-lookup.result is_lookup (c.in_ok-ready_part.ensures.draws c.args.look.now.column is_lookup) live c.paint_live.ensures.place
-    (ap g.C.Canvas.view c.in_ok-ready_part.ensures.canvas) (ap g.S.Shelf.view c.paint_live.ensures.shelf) c.paint_live.ensures.cache)
+    part-painted c.args.tools.now.view.now.shape c.args.look.now c.args.part c.args.rows c.texture_strip-strip.result
+    s.kind s.number s.texture s.column s.x s.first s.last s.centre s.mid s.step s.map ordered c.paint_texture.result _
+    (mapped-ok from_cache_fault _ c.in_ok-paint_texture.field-0 c.in_ok-paint_texture.was) c.paint_texture.ensures.paints

@@ -1,5 +1,5 @@
 -- No strip has rows, or the first is painted, and the lower wall below an upper one.
-use Rattle.std.proofs.Common.{◌≡◌, ℕ, ℤ, ◌∷◌, [], true, false, refl, sym, subst, ◌∙◌, inr, rules}
+use Rattle.std.proofs.Common.{◌≡◌, ◌<◌, ℕ, ℤ, ◌∷◌, [], length, true, false, refl, sym, subst, ◌∙◌, inr, rules}
 use Rattle.wall_columns.specs.Rules.{FragmentNumbers, WallStrip, texture_column}
 use Rattle.texture_build.specs.Draws.{CanDraw}
 use Rattle.texture_build.specs.Paints.{painted_art}
@@ -37,6 +37,10 @@ paint_part-requires-clause-texture g c =
     subst P (sym c.first_strip.ensures) (first-in P c.args.numbers.now c.args.plan.now
     (plan-textures t.dir.now.lumps t.textures.now t.cache.now c.args.numbers.now c.args.plan.now c.requires.strips.1))
 
+pub paint_second-requires-clause-colormap : goal.paint_second-requires-clause-colormap
+paint_second-requires-clause-colormap g c =
+    after-same c.args.tools.now c.paint_part.new.tools (λ v t. t.colormap < length t.dir.lumps) c.in_ok-paint_part.ensures.same c.requires.colormap
+
 pub paint_second-requires-clause-rows : goal.paint_second-requires-clause-rows
 paint_second-requires-clause-rows g c =
     after-same c.args.tools.now c.paint_part.new.tools (λ v t. IsInRows v.shape.height (strip_with c.args.numbers.now.bottom_part c.args.plan.now.bottom))
@@ -54,7 +58,8 @@ paint_second-requires-clause-texture g c = λ some.
 pub returns-in_err-paint_part-clause-paints : goal.returns-in_err-paint_part-clause-paints
 returns-in_err-paint_part-clause-paints g c =
     paints-stop refl c.from_residual.ensures.1
-    (paints-asked (λ (q : WallRange). c.args.fragment.now ≡ fragment_of c.args.tools.now.view.now q.facts q.first q.last) (λ q. tt) (λ q is. c.requires.colormap)
+    (paints-asked {first = λ (q : Unit {0}). Unit {0}}
+    (λ (q : WallRange). c.args.fragment.now ≡ fragment_of c.args.tools.now.view.now q.facts q.first q.last) (λ q. tt) (λ q is. tt)
     (paints-wider (λ (number : ℕ) (own : ℤ) h. plan-column c.args.tools.now.view.now c.args.x c.args.fragment.now c.args.numbers.now c.args.plan.now c.column_at.result (search rules) c.column_at.ensures number own
     (first-texture c.args.numbers.now c.args.plan.now _ c.first_strip.ensures number h.0, h.1)) (λ (lump : ℕ) h. h) c.in_err-paint_part.ensures.paints))
 
@@ -62,7 +67,7 @@ pub returns-then-not-has_second-clause-paints : goal.returns-then-not-has_second
 returns-then-not-has_second-clause-paints g c =
     let tools = c.args.tools.now in
     paints-plan tools.view.now c.args.number c.args.x c.scale_map.result c.args.fragment.now c.args.numbers.now c.args.edges.now c.args.plan.now _ c.column_at.result c.inverse_word.result
-    (search rules) (search rules) (search rules) c.requires.colormap c.inverse_word.ensures c.scale_map.ensures c.column_at.ensures
+    (search rules) (search rules) (search rules) c.inverse_word.ensures c.scale_map.ensures c.column_at.ensures
     (λ contents. first-painted tools.view.now.shape (painted_art contents (wall_tools tools)) _ c.args.numbers.now c.args.plan.now _ false c.first_strip.ensures
     c.requires.rows (sym c.has_second.ensures ∙ c.if-not-has_second.true))
     (paints-wider (λ (number : ℕ) (own : ℤ) h. (first-texture c.args.numbers.now c.args.plan.now _ c.first_strip.ensures number h.0, h.1)) (λ (lump : ℕ) h. h) c.in_ok-paint_part.ensures.paints)
@@ -74,7 +79,7 @@ returns-clause-paints g c =
     let plan : ColumnPlan = c.args.plan.now in
     let look = look_with c.args.number c.args.x c.column_at.result c.inverse_word.result c.scale_map.result in
     paints-plan tools.view.now c.args.number c.args.x c.scale_map.result c.args.fragment.now n c.args.edges.now plan _ c.column_at.result c.inverse_word.result
-    (search rules) (search rules) (search rules) c.requires.colormap c.inverse_word.ensures c.scale_map.ensures c.column_at.ensures
+    (search rules) (search rules) (search rules) c.inverse_word.ensures c.scale_map.ensures c.column_at.ensures
     (λ contents. first-painted tools.view.now.shape (painted_art contents (wall_tools tools)) look n plan _ true c.first_strip.ensures
     c.requires.rows (sym c.has_second.ensures ∙ c.if-not-has_second.false))
     (paints-same _ (λ contents q is. strips-append tools.view.now.shape (painted_art contents (wall_tools tools)) look (_ ∷ []) (bottom_strip n plan ∷ []))

@@ -1,0 +1,22 @@
+-- The column is made live, and then the strip is painted.
+use Rattle.art_rules.proofs.Common.{ap, rules, w32, ◌∙◌}
+use Rattle.std.proofs.lemmas.Int.{to_z-of_z}
+use Rattle.texture_build.specs.Sources.{column_in}
+use Rattle.texture_build.specs.Views.{prepared_texture}
+use Rattle.texture_build.proofs.LiveLemmas.{draws-ready}
+use Rattle.texture_build.proofs.PaintLemmas.{can_draw-counts, paints-live}
+use Rattle.texture_build.proofs.strip.paint_texture.Goals as goal
+
+pub paint_live-requires-clause-texture : goal.paint_live-requires-clause-texture
+paint_live-requires-clause-texture g c = can_draw-counts c.in_ok-ready_at.ensures.keeps.counts c.requires.texture
+
+pub returns-clause-paints : goal.returns-clause-paints
+returns-clause-paints g c =
+    let s = c.args.strip.now in
+    let r = c.in_ok-ready_at.ensures in
+    let e = c.paint_live.ensures in
+    let own = column_in (prepared_texture c.args.art.now.textures.now s.tex.0) in
+    paints-live tt
+    (draws-ready s.tex.0 s.column c.lookup-lookup.result (c.lookup-lookup.ensures.value ∙ ap own (to_z-of_z w32 s.column (search rules))) r.keeps r.readies)
+    (λ view contents count q hold is. e.painted view contents count hold) (λ view contents count q hold is. e.fits view contents count hold)
+    e.place (ap g.S.Shelf.view e.shelf) e.cache
