@@ -1,6 +1,8 @@
 -- A fragment is counted: what is built, and what is told.
-use Rattle.std.proofs.Common.{◌≤◌, length, ap, refl, ◌∙◌, arith}
+use Rattle.std.proofs.Common.{◌≤◌, ◌+◌, ◌-◌, length, ap, refl, subst, sym, ◌∙◌, arith}
 use Rattle.picture_rules.specs.Words.{FRAME_WIDTH, ViewShape}
+use Rattle.wall_columns.specs.Columns.{ArePlacesIn}
+use Rattle.wall_columns.specs.Saved.{OpeningsView}
 use Rattle.wall_columns.specs.Walls.{WallsView}
 use Rattle.wall_columns.proofs.BuiltLemmas.{built-count, built-range}
 use Rattle.wall_columns.proofs.LeafLemmas.{limit-passed_on}
@@ -23,6 +25,11 @@ returns-in_err-places-clause-limit c = λ walls s h few.
     ∙ limit-range c.args.view.now c.args.facts.now c.args.first c.args.last c.numbers-numbers.result c.new-fragment.result c.self.inside.notes.items c.self.inside.columns c.args.planes.now
     c.new-fragment.ensures c.numbers-numbers.ensures c.self.view_is c.in_err-places.ensures.limit walls s h
 
+pub save_columns-requires-clause-places : goal.save_columns-requires-clause-places
+save_columns-requires-clause-places c =
+    subst (λ (o : OpeningsView). ArePlacesIn (c.args.last + 1 - c.args.first) (length o.saved) c.in_ok-places.places)
+    (sym c.count_columns.ensures.openings) c.in_ok-places.ensures.taken.within
+
 pub returns-clause-limit : goal.returns-clause-limit
 returns-clause-limit c = λ walls s h few.
     limit-range c.args.view.now c.args.facts.now c.args.first c.args.last c.numbers-numbers.result c.new-fragment.result c.self.inside.notes.items c.self.inside.columns c.args.planes.now
@@ -35,7 +42,10 @@ returns-clause-built c = λ walls s h few.
     let shape = ap (λ (s : ViewShape). s.width) c.shape-shape.ensures.value in
     let wide = c.shape-shape.ensures.frame.width in
     let frame : v.shape.width ≤ FRAME_WIDTH = omega arith in
-    built-range v facts c.args.first c.args.last c.numbers-numbers.result c.new-fragment.result c.self.inside.notes.items c.self.inside.columns c.begin.new.self c.count_columns.new.self c.args.planes.now c.begin.new.planes c.count_columns.new.planes
-    c.in_ok-places.places c.note_of-note.result c.new-fragment.ensures c.numbers-numbers.ensures c.requires.ordered c.requires.within frame c.self.view_is c.in_ok-places.ensures.windows c.in_ok-places.ensures.ok c.in_ok-places.ensures.taken
-    c.count_columns.ensures.marked c.count_columns.ensures.saved
-    (λ place are. c.note_of-note.ensures v facts place c.new-fragment.ensures refl (ap (λ (s : ViewShape). s.height) c.shape-shape.ensures.value) are) c.push_reserved.ensures.items walls s h
+    built-range v facts c.args.first c.args.last c.numbers-numbers.result c.new-fragment.result c.self.inside.notes.items
+    c.self.inside.columns c.begin.new.self c.count_columns.new.self c.save_columns.new.self c.args.planes.now c.begin.new.planes c.count_columns.new.planes
+    c.in_ok-places.places c.note_of-note.result c.new-fragment.ensures c.numbers-numbers.ensures c.requires.ordered c.requires.within frame
+    c.self.view_is c.in_ok-places.ensures.windows c.in_ok-places.ensures.ok c.in_ok-places.ensures.taken
+    c.count_columns.ensures.marked c.count_columns.ensures.openings c.save_columns.ensures.saved
+    (λ place are. c.note_of-note.ensures v facts place c.new-fragment.ensures refl (ap (λ (s : ViewShape). s.height) c.shape-shape.ensures.value) are)
+    c.push_reserved.ensures.items walls s h
