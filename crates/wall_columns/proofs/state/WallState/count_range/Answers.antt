@@ -1,8 +1,6 @@
 -- A fragment is counted: what is built, and what is told.
-use Rattle.std.proofs.Common.{◌≤◌, ◌+◌, ◌-◌, length, ap, refl, subst, sym, ◌∙◌, arith}
+use Rattle.std.proofs.Common.{◌≤◌, length, ap, refl, ◌∙◌, arith}
 use Rattle.picture_rules.specs.Words.{FRAME_WIDTH, ViewShape}
-use Rattle.wall_columns.specs.Columns.{ArePlacesIn}
-use Rattle.wall_columns.specs.Saved.{OpeningsView}
 use Rattle.wall_columns.specs.Walls.{WallsView}
 use Rattle.wall_columns.proofs.BuiltLemmas.{built-count, built-range}
 use Rattle.wall_columns.proofs.LeafLemmas.{limit-passed_on}
@@ -24,11 +22,6 @@ returns-in_err-places-clause-limit c = λ walls s h few.
     limit-passed_on c.from_residual.result c.in_err-places.field-0.0 c.from_residual.ensures.0 c.from_residual.ensures.1
     ∙ limit-range c.args.view.now c.args.facts.now c.args.first c.args.last c.numbers-numbers.result c.new-fragment.result c.self.inside.notes.items c.self.inside.columns c.args.planes.now
     c.new-fragment.ensures c.numbers-numbers.ensures c.self.view_is c.in_err-places.ensures.limit walls s h
-
-pub save_columns-requires-clause-places : goal.save_columns-requires-clause-places
-save_columns-requires-clause-places c =
-    subst (λ (o : OpeningsView). ArePlacesIn (c.args.last + 1 - c.args.first) (length o.saved) c.in_ok-places.places)
-    (sym c.count_columns.ensures.openings) c.in_ok-places.ensures.taken.within
 
 pub returns-clause-limit : goal.returns-clause-limit
 returns-clause-limit c = λ walls s h few.

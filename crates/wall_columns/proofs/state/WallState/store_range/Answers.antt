@@ -1,9 +1,8 @@
 -- A fragment is drawn: what is built, what is told, and what is painted.
-use Rattle.std.proofs.Common.{◌≤◌, ◌<◌, ◌+◌, ◌-◌, List, length, ap, refl, subst, sym, ◌∙◌, arith}
+use Rattle.std.proofs.Common.{◌≤◌, List, length, ap, refl, subst, ◌∙◌, arith}
 use Rattle.picture_rules.specs.Words.{FRAME_WIDTH, PlanesNow, ViewShape, ViewValue, Wall}
 use Rattle.texture_build.proofs.PaintLemmas.{paints-none, paints-same, paints-stop}
-use Rattle.wall_columns.specs.Columns.{ArePlacesIn, HasSaved}
-use Rattle.wall_columns.specs.Saved.{OpeningsView}
+use Rattle.wall_columns.specs.Columns.{HasSaved}
 use Rattle.wall_columns.specs.Tools.{wall_state, wall_tools}
 use Rattle.wall_columns.specs.Walls.{WallsView}
 use Rattle.wall_columns.proofs.BuiltLemmas.{built-count, built-range}
@@ -54,15 +53,6 @@ returns-in_err-draw_columns-clause-paints g c =
     paints-stop refl c.from_residual-in_err-draw_columns.ensures.1
     (paints-range tools.view.now (wall_tools tools) g.C.Canvas.mark c.args.facts.now c.args.first c.args.last c.len-number.result c.new-fragment.result c.self.inside.notes.items c.self.inside.columns c.begin.new.self.windows tools.planes.now.planes
     c.self.view_is c.in_ok-places.ensures.windows c.new-fragment.ensures (omega arith) c.requires.within c.in_err-draw_columns.ensures.paints)
-
-pub save_columns-requires-clause-seen : goal.save_columns-requires-clause-seen
-save_columns-requires-clause-seen g c =
-    subst (λ (v : ViewValue). c.args.last < v.shape.width) (sym (ap (λ r. r.now) c.in_ok-draw_columns.ensures.same.0)) c.requires.within
-
-pub save_columns-requires-clause-places : goal.save_columns-requires-clause-places
-save_columns-requires-clause-places g c =
-    subst (λ (o : OpeningsView). ArePlacesIn (c.args.last + 1 - c.args.first) (length o.saved) c.in_ok-places.places)
-    (sym c.in_ok-draw_columns.ensures.openings) c.in_ok-places.ensures.taken.within
 
 pub returns-clause-limit : goal.returns-clause-limit
 returns-clause-limit g c = λ walls s h few.
