@@ -1,6 +1,7 @@
 -- Laws of what is built: nothing, a leaf more, a fragment more.
-use Rattle.picture_rules.proofs.Common.{[], All-nil, All-push, ap, arith, Bool, cond, length, length-append, List, nat_le, nat_lt, nat_tests, None, Option, refl, subst, suc, sym, take, true, ℕ, ℤ, ◌&&◌, ◌++◌, ◌+◌, ◌-◌, ◌<◌, ◌∙◌, ◌∷◌, ◌≡◌, ◌≤◌}
-use Rattle.wall_columns.specs.Rules.{ColumnClip, Draws, FRAME_WIDTH, Finds, FragmentNote, FragmentNumbers, MarkAlike, Plane, PlaneKey, PlaneWall, PlanesNow, ViewShape, ViewValue, Wall, WallFacts, after_event, bottom_clips, ceiling_checked, ceiling_found, ceiling_marks, ceiling_rows, clip_after, clip_before, clip_past, columns_marked, edges_at, floor_checked, floor_found, floor_marks, floor_rows, fragment_numbers, has_column, marked_rows, middle_columns, no_planes, note_at, notes_from, open_clip, openings_list, past_wall, plane_wall, room_if, saved_by, saved_from, saves_bottom, saves_top, texture_column, top_clips, view_notes, wall_edges, wall_marked, wall_of, wall_step}
+use Rattle.picture_rules.proofs.Common.{[], All-nil, All-push, ap, ap₂, arith, Bool, cond, length, length-append, List, nat_le, nat_lt, nat_tests, None, Option, pos, refl, subst, suc, sym, take, ℕ, ℤ, ◌&&◌, ◌++◌, ◌+◌, ◌-◌, ◌<◌, ◌∙◌, ◌∷◌, ◌≡◌, ◌≤◌}
+use Rattle.wall_columns.specs.Rules.{ColumnClip, Draws, FRAME_WIDTH, Finds, FragmentNote, FragmentNumbers, MarkAlike, Plane, PlaneKey, PlaneWall, PlanesNow, ViewShape, ViewValue, Wall, WallFacts, after_event, bottom_clips, ceiling_checked, ceiling_found, ceiling_marks, ceiling_rows, clip_after, clip_before, clip_past, columns_marked, edges_at, floor_checked, floor_found, floor_marks, floor_rows, fragment_numbers, has_column, listed_from, marked_rows, middle_columns, no_planes, note_at, notes_from, open_clip, openings_list, past_wall, plane_wall, room_if, saved_by, saved_from, saves_bottom, saves_top, texture_column, top_clips, view_notes, wall_edges, wall_marked, wall_of, wall_step}
+use Rattle.picture_rules.proofs.Laws.{get_or-listed_from, length-listed_from}
 use Rattle.picture_rules.proofs.wall.NoteLemmas.{openings_list-more, view_notes-more}
 use Rattle.picture_rules.proofs.wall.WallLemmas.{clip_past-next, clip_before-front}
 use Rattle.picture_rules.proofs.plane.BuiltLemmas.{after_event-alike, sound-after_event}
@@ -9,14 +10,16 @@ use Rattle.wall_edges.specs.Fragments.{FragmentValue, fragment_of}
 use Rattle.wall_columns.specs.declared.notes.SavePlaces.{SavePlaces}
 use Rattle.wall_columns.specs.declared.column_state.ColumnState.{ColumnState}
 use Rattle.wall_columns.specs.Walls.{WallsView, clip_at}
-use Rattle.wall_columns.specs.Windows.{WindowsView, window_at}
-use Rattle.wall_columns.specs.Saved.{OpeningsView, columns_saved}
+use Rattle.wall_columns.specs.Windows.{WindowsView, ceilings_in, floors_in, window_at}
+use Rattle.wall_columns.specs.Saved.{OpeningsView, lists_saved}
 use Rattle.wall_columns.specs.Places.{places_of}
 use Rattle.wall_columns.specs.Columns.{plane_number, columns_of, column_edges, column_after, clip_along, marks_along, HasMarked, HasSaved, HasTaken}
 use Rattle.wall_columns.specs.Leaves.{now_of, both_checks, ceiling_check, floor_check}
 use Rattle.wall_columns.specs.States.{walls_view}
 use Rattle.wall_columns.specs.Built.{IsDrawn, IsBuilt, with_wall, step_of_wall}
-use Rattle.wall_columns.proofs.SavedLemmas.{columns_saved-lists}
+use Rattle.wall_columns.proofs.MarkLemmas.{marked-saved}
+use Rattle.wall_columns.proofs.PartLemmas.{listed_from-all}
+use Rattle.wall_columns.proofs.SavedLemmas.{lists_saved-behind}
 
 -- what is open of a column, of the state and of its windows
 pub clip_at-window : (notes : List FragmentNote) (state : ColumnState) (x : ℕ) → clip_at (walls_view notes state) x ≡ window_at state.windows x
@@ -81,25 +84,22 @@ pub built-leaf : (v : ViewValue) (walls : List Wall) (s : PlanesNow) (notes : Li
     IsBuilt v walls s (walls_view notes old) before.planes → now_of new later ≡ ceiling_found ceiling (floor_found floor s) → new.windows ≡ old.windows → new.openings ≡ old.openings →
     IsBuilt v walls (after_event s (Finds floor ceiling)) (walls_view notes new) later.planes
 built-leaf v walls s notes old new before later floor ceiling h found windows openings =
-    let e : now_of new later ≡ after_event s (Finds floor ceiling) = found ∙ leaf_after s floor ceiling in
+    let now : now_of new later ≡ after_event s (Finds floor ceiling) = found ∙ leaf_after s floor ceiling in
     record {
       drawn = h.drawn;
       notes = h.notes;
       openings = ap (λ (o : OpeningsView). o.saved) openings ∙ h.openings;
       clips = λ x l. clips_same notes old new x windows ∙ h.clips x l;
       height = ap (λ (w : WindowsView). w.height) windows ∙ h.height;
-      floor = ap (λ (t : PlanesNow). t.floor) e;
-      ceiling = ap (λ (t : PlanesNow). t.ceiling) e;
-      planes = ap (λ (t : PlanesNow). t.planes) e;
+      floor = ap (λ (t : PlanesNow). t.floor) now;
+      ceiling = ap (λ (t : PlanesNow). t.ceiling) now;
+      planes = ap (λ (t : PlanesNow). t.planes) now;
       sound = sound-after_event s (Finds floor ceiling) h.sound;
     }
 
 -- the columns of a fragment
 columns_test : (first last x : ℕ) → first ≤ last → (nat_le first x && nat_lt x (first + (last + 1 - first))) ≡ (nat_le first x && nat_le x last)
 columns_test first last x o = grind (arith, nat_tests)
-
-own_column : (first last x : ℕ) → first ≤ x → x ≤ last → (nat_le first x && nat_le x last) ≡ true
-own_column first last x l h = grind (arith, nat_tests)
 
 -- the clip past a new fragment
 past_new : (shape : ViewShape) (walls : List Wall) (w : Wall) (x : ℕ) → clip_past shape (with_wall walls w) (length walls) x ≡ past_wall shape x w (clip_before shape walls (length walls) x)
@@ -108,8 +108,8 @@ past_new shape walls w x = clip_past-next shape walls w (length walls) x refl
 before_more : (shape : ViewShape) (walls : List Wall) (w : Wall) (x : ℕ) → clip_past shape (with_wall walls w) (length walls) x ≡ clip_before shape (with_wall walls w) (length (with_wall walls w)) x
 unfolding clip_past
 before_more shape walls w x =
-    let n : suc (length walls) ≡ length (with_wall walls w) = (let e = length-append walls (w ∷ []) in omega arith) in
-    ap (λ (k : ℕ). clip_before shape (with_wall walls w) k x) n
+    let next : suc (length walls) ≡ length (with_wall walls w) = omega (arith, length-append walls (w ∷ [])) in
+    ap (λ (k : ℕ). clip_before shape (with_wall walls w) k x) next
 
 along_is : (v : ViewValue) (facts : WallFacts) (first last x height : ℕ) (before : ℕ → ColumnClip) (clip : ColumnClip) → first ≤ last → height ≡ v.shape.height → before x ≡ clip →
     clip_along height (fragment_of v facts first last) before (last + 1 - first) x ≡ past_wall v.shape x (wall_of v facts first last) clip
@@ -118,14 +118,6 @@ along_is v facts first last x height before clip o e b =
     ap (λ (t : Bool). cond t (clip_after height (fragment_numbers v facts first last) (before x) (edges_at v.shape (fragment_numbers v facts first last) (x - first))) (before x)) (columns_test first last x o)
     ∙ ap (λ (m : ℕ). cond (nat_le first x && nat_le x last) (clip_after m (fragment_numbers v facts first last) (before x) (edges_at v.shape (fragment_numbers v facts first last) (x - first))) (before x)) e
     ∙ ap (λ (c : ColumnClip). cond (nat_le first x && nat_le x last) (clip_after v.shape.height (fragment_numbers v facts first last) c (edges_at v.shape (fragment_numbers v facts first last) (x - first))) c) b
-
-after_is : (v : ViewValue) (facts : WallFacts) (first last x height : ℕ) (before : ℕ → ColumnClip) (clip : ColumnClip) → first ≤ x → x ≤ last → height ≡ v.shape.height → before x ≡ clip →
-    column_after height (fragment_of v facts first last) before x ≡ past_wall v.shape x (wall_of v facts first last) clip
-unfolding column_after past_wall has_column column_edges wall_edges wall_of
-after_is v facts first last x height before clip l h e b =
-    ap (λ (m : ℕ). clip_after m (fragment_numbers v facts first last) (before x) (edges_at v.shape (fragment_numbers v facts first last) (x - first))) e
-    ∙ ap (λ (c : ColumnClip). clip_after v.shape.height (fragment_numbers v facts first last) c (edges_at v.shape (fragment_numbers v facts first last) (x - first))) b
-    ∙ sym (ap (λ (t : Bool). cond t (clip_after v.shape.height (fragment_numbers v facts first last) clip (edges_at v.shape (fragment_numbers v facts first last) (x - first))) clip) (own_column first last x l h))
 
 -- what is known when the fragment's columns are drawn
 pub record WallDrawn (v : ViewValue) (walls : List Wall) (s : PlanesNow) (facts : WallFacts) (first last : ℕ) (notes : List FragmentNote) (old checked new : ColumnState)
@@ -138,7 +130,8 @@ pub record WallDrawn (v : ViewValue) (walls : List Wall) (s : PlanesNow) (facts 
   pub planes : now_of checked between ≡ both_checks (fragment_numbers v facts first last) first last s
   pub taken : HasTaken (fragment_numbers v facts first last) (last + 1 - first) old.openings checked.openings lists
   pub marked : HasMarked (fragment_of v facts first last) (last + 1 - first) checked new between later
-  pub saved : HasSaved v (fragment_of v facts first last) lists (last + 1 - first) checked new.openings
+  pub saved : new.openings.saved ≡ lists_saved lists (listed_from (texture_column v facts) first last)
+      (ceilings_in new.windows first last) (floors_in new.windows first last) checked.openings.saved
   pub note : entry ≡ note_at v (wall_of v facts first last) (length old.openings.saved)
 
 -- the fragment as a wall of the view
@@ -147,17 +140,20 @@ unfolding wall_of
 drawn_wall v facts first last o w = record { is = refl; ordered = o; within = w }
 
 -- the window of a column before the fragment
-window_before : {v : ViewValue} {walls : List Wall} {s : PlanesNow} {facts : WallFacts} {first last : ℕ} {notes : List FragmentNote} {old checked new : ColumnState} {before between later : PlanesView} {places : SavePlaces} {note : FragmentNote} →
+window_before : {v : ViewValue} {walls : List Wall} {s : PlanesNow} {facts : WallFacts} {first last : ℕ} {notes : List FragmentNote}
+    {old checked new : ColumnState} {before between later : PlanesView} {places : SavePlaces} {note : FragmentNote} →
     WallDrawn v walls s facts first last notes old checked new before between later places note → (x : ℕ) → x < v.shape.width →
     window_at checked.windows x ≡ clip_before v.shape walls (length walls) x
 window_before {notes = notes} {old = old} d x l =
     ap (λ (w : WindowsView). window_at w x) d.windows ∙ sym (clip_at-window notes old x) ∙ d.built.clips x l
 
-height_before : {v : ViewValue} {walls : List Wall} {s : PlanesNow} {facts : WallFacts} {first last : ℕ} {notes : List FragmentNote} {old checked new : ColumnState} {before between later : PlanesView} {places : SavePlaces} {note : FragmentNote} →
+height_before : {v : ViewValue} {walls : List Wall} {s : PlanesNow} {facts : WallFacts} {first last : ℕ} {notes : List FragmentNote}
+    {old checked new : ColumnState} {before between later : PlanesView} {places : SavePlaces} {note : FragmentNote} →
     WallDrawn v walls s facts first last notes old checked new before between later places note → checked.windows.height ≡ v.shape.height
 height_before d = ap (λ (w : WindowsView). w.height) d.windows ∙ d.built.height
 
-clips_after : {v : ViewValue} {walls : List Wall} {s : PlanesNow} {facts : WallFacts} {first last : ℕ} {notes : List FragmentNote} {old checked new : ColumnState} {before between later : PlanesView} {places : SavePlaces} {note : FragmentNote} →
+clips_after : {v : ViewValue} {walls : List Wall} {s : PlanesNow} {facts : WallFacts} {first last : ℕ} {notes : List FragmentNote}
+    {old checked new : ColumnState} {before between later : PlanesView} {places : SavePlaces} {note : FragmentNote} →
     WallDrawn v walls s facts first last notes old checked new before between later places note → (more : List FragmentNote) (x : ℕ) → x < v.shape.width →
     clip_at (walls_view more new) x ≡ clip_before v.shape (with_wall walls (wall_of v facts first last)) (length (with_wall walls (wall_of v facts first last))) x
 clips_after {v} {walls} {s} {facts} {first} {last} {notes} {old} {checked} {new} d more x l =
@@ -170,37 +166,52 @@ clips_after {v} {walls} {s} {facts} {first} {last} {notes} {old} {checked} {new}
     ∙ before_more v.shape walls w x
 
 -- what the fragment leaves open of one of its columns
-left_open : {v : ViewValue} {walls : List Wall} {s : PlanesNow} {facts : WallFacts} {first last : ℕ} {notes : List FragmentNote} {old checked new : ColumnState} {before between later : PlanesView} {places : SavePlaces} {note : FragmentNote} →
+left_open : {v : ViewValue} {walls : List Wall} {s : PlanesNow} {facts : WallFacts} {first last : ℕ} {notes : List FragmentNote}
+    {old checked new : ColumnState} {before between later : PlanesView} {places : SavePlaces} {note : FragmentNote} →
     WallDrawn v walls s facts first last notes old checked new before between later places note → (x : ℕ) → first ≤ x → x ≤ last →
-    column_after checked.windows.height (fragment_of v facts first last) (window_at checked.windows) x ≡ clip_past v.shape (with_wall walls (wall_of v facts first last)) (length walls) x
-left_open {v} {walls} {s} {facts} {first} {last} {notes} {old} {checked} d x l h =
+    window_at new.windows x ≡ clip_past v.shape (with_wall walls (wall_of v facts first last)) (length walls) x
+left_open {v} {walls} {s} {facts} {first} {last} {notes} {old} {checked} {new} d x from to =
     let within = d.within in
-    after_is v facts first last x checked.windows.height (window_at checked.windows) (clip_before v.shape walls (length walls) x) l h (height_before d) (window_before d x (omega arith))
-    ∙ sym (past_new v.shape walls (wall_of v facts first last) x)
+    sym (clip_at-window notes new x) ∙ clips_after d notes x (omega arith) ∙ sym (before_more v.shape walls (wall_of v facts first last) x)
 
-saved_lists : (v : ViewValue) (ws : List Wall) (n : ℕ) (facts : WallFacts) (first last : ℕ) (front : List ℤ) (xs : List ℤ) (after : ℕ → ColumnClip) (places : SavePlaces) →
+-- equal entries make equal lists
+listed_from-same : (f g : ℕ → ℤ) (first last : ℕ) → ((x : ℕ) → first ≤ x → x ≤ last → f x ≡ g x) → listed_from f first last ≡ listed_from g first last
+listed_from-same f g first last same =
+    listed_from-all g (listed_from f first last) first last (length-listed_from f first last)
+    (λ k l. get_or-listed_from f first last k (pos 0) l ∙ same (first + k) (omega arith) l)
+
+saved_lists : (v : ViewValue) (ws : List Wall) (n : ℕ) (facts : WallFacts) (first last : ℕ) (front xs : List ℤ) (windows : WindowsView) (places : SavePlaces) →
     places ≡ places_of (fragment_numbers v facts first last) (length front) (last + 1 - first) → take (length front) xs ≡ front → length xs ≡ places.end →
-    ((x : ℕ) → first ≤ x → x ≤ last → after x ≡ clip_past v.shape ws n x) →
-    columns_saved places (texture_column v facts) after first (last + 1 - first) xs ≡ front ++ saved_by v ws n (wall_of v facts first last)
+    ((x : ℕ) → first ≤ x → x ≤ last → window_at windows x ≡ clip_past v.shape ws n x) →
+    lists_saved places (listed_from (texture_column v facts) first last) (ceilings_in windows first last) (floors_in windows first last) xs
+    ≡ front ++ saved_by v ws n (wall_of v facts first last)
 unfolding saved_by middle_columns top_clips bottom_clips wall_of
-saved_lists v ws n facts first last front xs after places p f t a =
-    ap (λ (q : SavePlaces). columns_saved q (texture_column v facts) after first (last + 1 - first) xs) p
-    ∙ columns_saved-lists (fragment_numbers v facts first last) first last front xs (texture_column v facts) after (texture_column v facts)
-    (λ x. (clip_past v.shape ws n x).ceiling_clip) (λ x. (clip_past v.shape ws n x).floor_clip) f (t ∙ ap (λ (q : SavePlaces). q.end) p)
-    (λ x l h. refl) (λ x l h. ap (λ (c : ColumnClip). c.ceiling_clip) (a x l h)) (λ x l h. ap (λ (c : ColumnClip). c.floor_clip) (a x l h))
+saved_lists v ws n facts first last front xs windows places are there long open_at =
+    let columns : List ℤ = listed_from (texture_column v facts) first last in
+    let top : ℕ → ℤ = λ x. (clip_past v.shape ws n x).ceiling_clip in
+    let bottom : ℕ → ℤ = λ x. (clip_past v.shape ws n x).floor_clip in
+    ap₂ (λ (ceilings floors : List ℤ). lists_saved places columns ceilings floors xs)
+    (listed_from-same (λ x. (window_at windows x).ceiling_clip) top first last (λ x from to. ap (λ (c : ColumnClip). c.ceiling_clip) (open_at x from to)))
+    (listed_from-same (λ x. (window_at windows x).floor_clip) bottom first last (λ x from to. ap (λ (c : ColumnClip). c.floor_clip) (open_at x from to)))
+    ∙ ap (λ (p : SavePlaces). lists_saved p columns (listed_from top first last) (listed_from bottom first last) xs) are
+    ∙ lists_saved-behind (fragment_numbers v facts first last) (last + 1 - first) front xs columns (listed_from top first last) (listed_from bottom first last)
+    (length-listed_from (texture_column v facts) first last) (length-listed_from top first last) (length-listed_from bottom first last)
+    there (long ∙ ap (λ (p : SavePlaces). p.end) are)
 
-openings_after : {v : ViewValue} {walls : List Wall} {s : PlanesNow} {facts : WallFacts} {first last : ℕ} {notes : List FragmentNote} {old checked new : ColumnState} {before between later : PlanesView} {places : SavePlaces} {note : FragmentNote} →
+openings_after : {v : ViewValue} {walls : List Wall} {s : PlanesNow} {facts : WallFacts} {first last : ℕ} {notes : List FragmentNote}
+    {old checked new : ColumnState} {before between later : PlanesView} {places : SavePlaces} {note : FragmentNote} →
     WallDrawn v walls s facts first last notes old checked new before between later places note →
     new.openings.saved ≡ openings_list v (with_wall walls (wall_of v facts first last))
 openings_after {v} {walls} {s} {facts} {first} {last} {notes} {old} {checked} {new} {places = places} d =
     let w : Wall = wall_of v facts first last in
-    d.saved.saved facts first last refl
-    ∙ saved_lists v (with_wall walls w) (length walls) facts first last old.openings.saved checked.openings.saved
-    (column_after checked.windows.height (fragment_of v facts first last) (window_at checked.windows)) places d.taken.are d.taken.front d.taken.count (λ x l h. left_open d x l h)
+    d.saved
+    ∙ saved_lists v (with_wall walls w) (length walls) facts first last old.openings.saved checked.openings.saved new.windows places
+    d.taken.are d.taken.front d.taken.count (λ x from to. left_open d x from to)
     ∙ ap (λ (xs : List ℤ). xs ++ saved_by v (with_wall walls w) (length walls) w) d.built.openings
     ∙ sym (openings_list-more v walls w)
 
-notes_after : {v : ViewValue} {walls : List Wall} {s : PlanesNow} {facts : WallFacts} {first last : ℕ} {notes : List FragmentNote} {old checked new : ColumnState} {before between later : PlanesView} {places : SavePlaces} {note : FragmentNote} →
+notes_after : {v : ViewValue} {walls : List Wall} {s : PlanesNow} {facts : WallFacts} {first last : ℕ} {notes : List FragmentNote}
+    {old checked new : ColumnState} {before between later : PlanesView} {places : SavePlaces} {note : FragmentNote} →
     WallDrawn v walls s facts first last notes old checked new before between later places note →
     notes ++ note ∷ [] ≡ view_notes v (with_wall walls (wall_of v facts first last))
 notes_after {v} {walls} {s} {facts} {first} {last} {notes} {old} {note = note} d =
@@ -240,7 +251,8 @@ marked_event f before t = refl
 event_alike : (s : PlanesNow) (a b : PlaneWall) → MarkAlike a b → (first last : ℕ) → first ≡ a.first → last ≡ a.last → first ≤ last → after_event s (Draws a) ≡ after_event s (Draws b)
 event_alike s a b h first last e f o = after_event-alike s a b h (omega arith)
 
-now_after : {v : ViewValue} {walls : List Wall} {s : PlanesNow} {facts : WallFacts} {first last : ℕ} {notes : List FragmentNote} {old checked new : ColumnState} {before between later : PlanesView} {places : SavePlaces} {note : FragmentNote} →
+now_after : {v : ViewValue} {walls : List Wall} {s : PlanesNow} {facts : WallFacts} {first last : ℕ} {notes : List FragmentNote}
+    {old checked new : ColumnState} {before between later : PlanesView} {places : SavePlaces} {note : FragmentNote} →
     WallDrawn v walls s facts first last notes old checked new before between later places note →
     now_of new later ≡ after_event s (step_of_wall v walls (wall_of v facts first last)).event
 unfolding wall_step marks_along
@@ -249,57 +261,67 @@ now_after {v} {walls} {s} {facts} {first} {last} {notes} {old} {checked} {new} {
     let f : FragmentValue = fragment_of v facts first last in
     let open_at : ℕ → ColumnClip = window_at checked.windows in
     let t : PlanesNow = now_of checked between in
-    let marked : PlanesNow = record { planes = columns_marked (marks_along f open_at) t.ceiling t.floor (last + 1 - first) t.planes; floor = t.floor; ceiling = t.ceiling } in
+    let marked : PlanesNow = record {
+      planes = columns_marked (marks_along f open_at) t.ceiling t.floor (last + 1 - first) t.planes;
+      floor = t.floor;
+      ceiling = t.ceiling;
+    } in
     let ordered = d.ordered in
     let within = d.within in
-    let one : now_of new later ≡ marked =
-    ap (λ (ps : List Plane). let u : PlanesNow = record { planes = ps; floor = plane_number new.floor; ceiling = plane_number new.ceiling } in u) (ap (λ (p : PlanesView). p.planes) d.marked.planes)
+    let new_planes : now_of new later ≡ marked =
+    ap (λ (ps : List Plane). let u : PlanesNow = record { planes = ps; floor = plane_number new.floor; ceiling = plane_number new.ceiling } in u)
+    (ap (λ (p : PlanesView). p.planes) d.marked.planes)
     ∙ ap (λ (o : Option _). let u : PlanesNow = record { planes = marked.planes; floor = plane_number o; ceiling = plane_number new.ceiling } in u) d.marked.floor
     ∙ ap (λ (o : Option _). let u : PlanesNow = record { planes = marked.planes; floor = plane_number checked.floor; ceiling = plane_number o } in u) d.marked.ceiling in
     let alike : MarkAlike (marks_along f open_at) (plane_wall v (with_wall walls w) (length walls) w) =
     rows_same v (with_wall walls w) (length walls) facts first last open_at
     (λ x l h. window_before d x (omega arith) ∙ sym (clip_before-front v.shape walls (w ∷ []) (length walls) x (omega arith))) in
-    one
+    new_planes
     ∙ sym (marked_event f open_at t)
     ∙ ap (wall_marked (marks_along f open_at)) d.planes
     ∙ sym (drawn_event f open_at s)
     ∙ event_alike s (marks_along f open_at) (plane_wall v (with_wall walls w) (length walls) w) alike first last refl refl ordered
 
 -- a fragment is drawn
-built_wall : {v : ViewValue} {walls : List Wall} {s : PlanesNow} {facts : WallFacts} {first last : ℕ} {notes : List FragmentNote} {old checked new : ColumnState} {before between later : PlanesView} {places : SavePlaces} {note : FragmentNote} →
+built_wall : {v : ViewValue} {walls : List Wall} {s : PlanesNow} {facts : WallFacts} {first last : ℕ} {notes : List FragmentNote}
+    {old checked new : ColumnState} {before between later : PlanesView} {places : SavePlaces} {note : FragmentNote} →
     WallDrawn v walls s facts first last notes old checked new before between later places note →
     IsBuilt v (with_wall walls (wall_of v facts first last)) (after_event s (step_of_wall v walls (wall_of v facts first last)).event) (walls_view (notes ++ note ∷ []) new) later.planes
 built_wall {v} {walls} {s} {facts} {first} {last} {notes} {note = note} d =
     let w : Wall = wall_of v facts first last in
-    let e = now_after d in
+    let now = now_after d in
     record {
       drawn = All-push (IsDrawn v) walls w d.built.drawn (drawn_wall v facts first last d.ordered d.within);
       notes = notes_after d;
       openings = openings_after d;
       clips = λ x l. clips_after d (notes ++ note ∷ []) x l;
       height = d.marked.height ∙ height_before d;
-      floor = ap (λ (t : PlanesNow). t.floor) e;
-      ceiling = ap (λ (t : PlanesNow). t.ceiling) e;
-      planes = ap (λ (t : PlanesNow). t.planes) e;
+      floor = ap (λ (t : PlanesNow). t.floor) now;
+      ceiling = ap (λ (t : PlanesNow). t.ceiling) now;
+      planes = ap (λ (t : PlanesNow). t.planes) now;
       sound = sound-after_event s (step_of_wall v walls w).event d.built.sound;
     }
 
--- what is built where the columns of the fragment of a seg were drawn, by its value and its numbers
-pub built-range : (v : ViewValue) (facts : WallFacts) (first last : ℕ) (n : FragmentNumbers) (f : FragmentValue) (notes : List FragmentNote) (old checked new : ColumnState) {state : WallsView} (before between later : PlanesView) (places : SavePlaces) (note : FragmentNote)
-    {items : List FragmentNote} → f ≡ fragment_of v facts first last → n ≡ f.numbers → first ≤ last → last < v.shape.width → v.shape.width ≤ FRAME_WIDTH → walls_view notes old ≡ state → checked.windows ≡ old.windows →
+-- what is built where the columns of the fragment of a seg were drawn and its lists saved, by its value and its numbers
+pub built-range : (v : ViewValue) (facts : WallFacts) (first last : ℕ) (n : FragmentNumbers) (f : FragmentValue) (notes : List FragmentNote)
+    (old checked drawn new : ColumnState) {state : WallsView} (before between later : PlanesView) (places : SavePlaces) (note : FragmentNote)
+    {items : List FragmentNote} → f ≡ fragment_of v facts first last → n ≡ f.numbers → first ≤ last → last < v.shape.width → v.shape.width ≤ FRAME_WIDTH →
+    walls_view notes old ≡ state → checked.windows ≡ old.windows →
     ((s : PlanesNow) → s ≡ now_of old before → now_of checked between ≡ both_checks n first last s) → HasTaken n (last + 1 - first) old.openings checked.openings places →
-    HasMarked f (columns_of f) checked new between later → HasSaved v f places (columns_of f) checked new.openings →
+    HasMarked f (columns_of f) checked drawn between later → drawn.openings ≡ checked.openings → HasSaved v f first last places drawn new →
     ((place : ℕ) → places ≡ places_of f.numbers place (last + 1 - first) → note ≡ note_at v (wall_of v facts first last) place) → items ≡ notes ++ note ∷ [] →
     (walls : List Wall) (s : PlanesNow) → IsBuilt v walls s state before.planes →
     IsBuilt v (with_wall walls (wall_of v facts first last)) (after_event s (step_of_wall v walls (wall_of v facts first last)).event) (walls_view items new) later.planes
-built-range v facts first last n f notes old checked new before between later places note e g ordered within frame view windows planes taken marked saved noted pushed walls s h =
-    let numbers : n ≡ fragment_numbers v facts first last = g ∙ ap (λ (f : FragmentValue). f.numbers) e in
+built-range v facts first last n f notes old checked drawn new before between later places note is own ordered within frame view windows planes
+    taken marked openings saved noted pushed walls s h =
+    let w : Wall = wall_of v facts first last in
+    let numbers : n ≡ fragment_numbers v facts first last = own ∙ ap (λ (f : FragmentValue). f.numbers) is in
     let built = built-inside v walls s notes old before view h in
     let P : FragmentNumbers → Type 0 = λ n. now_of checked between ≡ both_checks n first last s in
     let Q : FragmentNumbers → Type 0 = λ n. HasTaken n (last + 1 - first) old.openings checked.openings places in
     let R : FragmentValue → Type 0 = λ f. HasMarked f (columns_of f) checked new between later in
-    let S : FragmentValue → Type 0 = λ f. HasSaved v f places (columns_of f) checked new.openings in
-    let drawn : WallDrawn v walls s facts first last notes old checked new before between later places note = record {
+    let columns : List ℤ = listed_from (texture_column v facts) first last in
+    let all : WallDrawn v walls s facts first last notes old checked new before between later places note = record {
       built = built;
       ordered = ordered;
       within = within;
@@ -307,12 +329,14 @@ built-range v facts first last n f notes old checked new before between later pl
       windows = windows;
       planes = subst P numbers (planes s (built-now v walls s notes old before built));
       taken = subst Q numbers taken;
-      marked = subst R e marked;
-      saved = subst S e saved;
-      note = noted (length old.openings.saved) (taken.are ∙ ap (λ (m : FragmentNumbers). places_of m (length old.openings.saved) (last + 1 - first)) g);
+      marked = subst R is (marked-saved saved marked);
+      saved = saved.saved facts is
+          ∙ ap (λ (o : OpeningsView). lists_saved places columns (ceilings_in new.windows first last) (floors_in new.windows first last) o.saved) openings;
+      note = noted (length old.openings.saved) (taken.are ∙ ap (λ (m : FragmentNumbers). places_of m (length old.openings.saved) (last + 1 - first)) own);
     } in
-    let T : List FragmentNote → Type 0 = λ all. IsBuilt v (with_wall walls (wall_of v facts first last)) (after_event s (step_of_wall v walls (wall_of v facts first last)).event) (walls_view all new) later.planes in
-    subst T (sym pushed) (built_wall drawn)
+    let T : List FragmentNote → Type 0 = λ items.
+    IsBuilt v (with_wall walls w) (after_event s (step_of_wall v walls w).event) (walls_view items new) later.planes in
+    subst T (sym pushed) (built_wall all)
 
 length_notes : (v : ViewValue) (walls : List Wall) (place : ℕ) → length (notes_from v place walls) ≡ length walls
 unfolding notes_from

@@ -1,18 +1,19 @@
 -- Laws of the columns of a fragment as they are drawn one by one: none, and one more.
-use Rattle.picture_rules.proofs.Common.{ap, arith, Bool, cond, false, length, List, nat_le, nat_lt, nat_tests, None, Option, refl, Some, subst, suc, sym, true, within-row, ℕ, ℤ, ◌&&◌, ◌+◌, ◌-◌, ◌<◌, ◌==◌, ◌∙◌, ◌≡◌, ◌≢◌}
-use Rattle.wall_columns.specs.Rules.{ColumnClip, Edges, FRAME_WIDTH, FragmentNumbers, Plane, RowRange, ViewValue, WallFacts, ceiling_rows, clip_after, column_marked, columns_marked, edges_at, floor_rows, marked_rows, set_run, texture_column}
+use Rattle.picture_rules.proofs.Common.{ap, arith, Bool, cond, false, length, List, nat_le, nat_lt, nat_tests, None, Option, refl, Some, subst, sym, true, within-row, ℕ, ◌&&◌, ◌+◌, ◌-◌, ◌<◌, ◌==◌, ◌∙◌, ◌≡◌, ◌≢◌}
+use Rattle.wall_columns.specs.Rules.{ColumnClip, Edges, FRAME_WIDTH, FragmentNumbers, Plane, RowRange, ViewValue, ceiling_rows, clip_after, column_marked, columns_marked, edges_at, floor_rows, marked_rows, set_run}
 use Rattle.picture_rules.proofs.plane.BuiltLemmas.{columns_marked-none, columns_marked-more}
 use Rattle.visplanes.specs.Planes.{PlanesView, with_planes}
 use Rattle.visplanes.specs.declared.planes.PlaneNo.{PlaneNo}
-use Rattle.wall_edges.specs.Fragments.{FragmentValue, fragment_of}
+use Rattle.wall_edges.specs.Fragments.{FragmentValue}
+use Rattle.wall_edges.specs.Steppers.{IsAt}
+use Rattle.wall_edges.specs.declared.stepper.Stepper.{Stepper}
 use Rattle.wall_columns.specs.declared.clips.ColumnPlan.{ColumnPlan}
 use Rattle.wall_columns.specs.declared.columns.MarkedPlanes.{MarkedPlanes}
 use Rattle.wall_columns.specs.declared.notes.SavePlaces.{SavePlaces}
 use Rattle.wall_columns.specs.declared.column_state.ColumnState.{ColumnState}
 use Rattle.wall_columns.specs.Windows.{WindowsView, window_at, with_window}
 use Rattle.wall_columns.specs.Plans.{plan_of}
-use Rattle.wall_columns.specs.Saved.{OpeningsView, column_saved, columns_saved}
-use Rattle.wall_columns.specs.Columns.{plane_number, marked_plane, marked_planes, column_edges, column_after, clip_along, marks_along, HasMarked, HasSaved}
+use Rattle.wall_columns.specs.Columns.{plane_number, marked_plane, marked_planes, column_edges, column_after, columns_of, clip_along, marks_along, HasMarked, HasSaved}
 
 -- a plane that is taken only where the fragment marks it gets the rows that are marked
 marked_as : (marks : Bool) (leaf plane : Option PlaneNo) (planes : List Plane) (x : ℕ) (rows : RowRange) → plane ≡ marked_plane marks leaf →
@@ -33,12 +34,12 @@ pub marked-planes : (n : FragmentNumbers) (ceiling floor : Option PlaneNo) (mark
     new ≡ with_planes (set_run middle.planes (plane_number marked.floor) x (marked_rows true below)) middle →
     new ≡ with_planes (set_run (set_run old.planes (plane_number ceiling) x (marked_rows n.ceiling_mark ceilings)) (plane_number floor) x (marked_rows n.floor_mark floors)) old
 marked-planes n ceiling floor marked x above below ceilings floors old middle new is is_above is_below first second =
-    let one : set_run old.planes (plane_number marked.ceiling) x (marked_rows true above) ≡ set_run old.planes (plane_number ceiling) x (marked_rows n.ceiling_mark ceilings) =
+    let above_marked : set_run old.planes (plane_number marked.ceiling) x (marked_rows true above) ≡ set_run old.planes (plane_number ceiling) x (marked_rows n.ceiling_mark ceilings) =
     marked_as n.ceiling_mark ceiling marked.ceiling old.planes x above (ap (λ (m : MarkedPlanes). m.ceiling) is)
     ∙ ap (λ (rows : RowRange). set_run old.planes (plane_number ceiling) x (marked_rows n.ceiling_mark rows)) is_above in
     second
     ∙ ap (λ (v : PlanesView). with_planes (set_run v.planes (plane_number marked.floor) x (marked_rows true below)) v) first
-    ∙ ap (λ (ps : List Plane). with_planes (set_run ps (plane_number marked.floor) x (marked_rows true below)) old) one
+    ∙ ap (λ (ps : List Plane). with_planes (set_run ps (plane_number marked.floor) x (marked_rows true below)) old) above_marked
     ∙ ap (λ (ps : List Plane). with_planes ps old)
     (marked_as n.floor_mark floor marked.floor _ x below (ap (λ (m : MarkedPlanes). m.floor) is)
     ∙ ap (λ (rows : RowRange). set_run (set_run old.planes (plane_number ceiling) x (marked_rows n.ceiling_mark ceilings)) (plane_number floor) x (marked_rows n.floor_mark rows)) is_below)
@@ -80,10 +81,6 @@ has_marked-none f start planes = record {
   floor = refl;
   ceiling = refl;
 }
-
-pub has_saved-none : (v : ViewValue) (f : FragmentValue) (places : SavePlaces) (start : ColumnState) → HasSaved v f places 0 start start.openings
-unfolding columns_saved
-has_saved-none v f places start = record { saved = λ facts first last e. refl; count = refl; room = refl }
 
 -- what is told of a column that is passed
 pub record PassesColumn (n : FragmentNumbers) (x : ℕ) (e : Edges) (now next : ColumnState) (before later : PlanesView) (after : ColumnClip) : Type 0 where
@@ -130,7 +127,7 @@ window_is f k x start now before later h e l = h.windows x l ∙ clip_along-at s
 
 pub edges_are : (f : FragmentValue) (k x : ℕ) → x ≡ f.first + k → edges_at f.shape f.numbers k ≡ column_edges f x
 unfolding column_edges
-edges_are f k x e = let n : k ≡ x - f.first = omega arith in ap (edges_at f.shape f.numbers) n
+edges_are f k x e = let number : k ≡ x - f.first = omega arith in ap (edges_at f.shape f.numbers) number
 
 after_is : (f : FragmentValue) (k x : ℕ) (height : ℕ) (start now : WindowsView) (clip : ColumnClip) → x ≡ f.first + k → height ≡ start.height → window_at now x ≡ window_at start x →
     clip ≡ clip_after height f.numbers (window_at now x) (edges_at f.shape f.numbers k) → clip ≡ column_after start.height f (window_at start) x
@@ -141,9 +138,9 @@ after_is f k x height start now clip e h w c =
     ∙ ap (clip_after start.height f.numbers (window_at start x)) (edges_are f k x e)
 
 -- the clip that a column leaves, by the windows at the start
-pub column-after : (f : FragmentValue) (k x : ℕ) (start now next : ColumnState) (before between later : PlanesView) (after : ColumnClip) → HasMarked f k start now before between →
-    x ≡ f.first + k → x < FRAME_WIDTH → PassesColumn f.numbers x (edges_at f.shape f.numbers k) now next between later after →
-    after ≡ column_after start.windows.height f (window_at start.windows) x
+column-after : (f : FragmentValue) (k x : ℕ) (start now next : ColumnState) (before between later : PlanesView) (after : ColumnClip) →
+    HasMarked f k start now before between → x ≡ f.first + k → x < FRAME_WIDTH →
+    PassesColumn f.numbers x (edges_at f.shape f.numbers k) now next between later after → after ≡ column_after start.windows.height f (window_at start.windows) x
 column-after f k x start now next before between later after h e l p =
     after_is f k x now.windows.height start.windows now.windows after e h.height (window_is f k x start now before between h e l) p.left_open
 
@@ -151,12 +148,13 @@ by_test : (f : FragmentValue) (k x y : ℕ) (start now next : ColumnState) (befo
     x ≡ f.first + k → x < FRAME_WIDTH → y < FRAME_WIDTH → PassesColumn f.numbers x (edges_at f.shape f.numbers k) now next between later after →
     window_at next.windows y ≡ clip_along start.windows.height f (window_at start.windows) (k + 1) y
 by_test f k x y start now next before between later after true t h e l m p =
-    let s : y ≡ x = grind (arith, nat_tests) in
-    ap (λ (z : ℕ). window_at next.windows z) s ∙ p.own ∙ column-after f k x start now next before between later after h e l p
-    ∙ sym (clip_along-last start.windows.height f (window_at start.windows) k x e) ∙ ap (clip_along start.windows.height f (window_at start.windows) (k + 1)) (sym s)
+    let same : y ≡ x = grind (arith, nat_tests) in
+    ap (λ (z : ℕ). window_at next.windows z) same ∙ p.own ∙ column-after f k x start now next before between later after h e l p
+    ∙ sym (clip_along-last start.windows.height f (window_at start.windows) k x e)
+    ∙ ap (clip_along start.windows.height f (window_at start.windows) (k + 1)) (sym same)
 by_test f k x y start now next before between later after false t h e l m p =
-    let s : y ≢ x = grind (arith, nat_tests) in
-    p.other y s ∙ h.windows y m ∙ clip_along-other start.windows.height f (window_at start.windows) k x y e s
+    let other : y ≢ x = grind (arith, nat_tests) in
+    p.other y other ∙ h.windows y m ∙ clip_along-other start.windows.height f (window_at start.windows) k x y e other
 
 marked_column : (f : FragmentValue) (k x : ℕ) (start : ColumnState) (w : ColumnClip) (e : Edges) (ceiling floor : Option ℕ) (planes : List Plane) → x ≡ f.first + k →
     w ≡ window_at start.windows x → e ≡ column_edges f x →
@@ -195,26 +193,6 @@ has_marked-more f k x start now next before between later after h e l p =
       ceiling = p.ceiling ∙ h.ceiling;
     }
 
-saved_step : (places : SavePlaces) (column : ℕ → ℤ) (after : ℕ → ColumnClip) (first k x : ℕ) (clip : ColumnClip) (xs ys zs : List ℤ) → x ≡ first + k → clip ≡ after x →
-    ys ≡ columns_saved places column after first k xs → zs ≡ column_saved places k (column x) clip ys → zs ≡ columns_saved places column after first (k + 1) xs
-unfolding columns_saved
-saved_step places column after first k x clip xs ys zs e c p q =
-    let n : suc k ≡ k + 1 = omega arith in
-    q ∙ ap (λ (o : ColumnClip). column_saved places k (column x) o ys) c ∙ ap (column_saved places k (column x) (after x)) p
-    ∙ ap (λ (y : ℕ). column_saved places k (column y) (after y) (columns_saved places column after first k xs)) e
-    ∙ ap (λ (m : ℕ). columns_saved places column after first m xs) n
-
-pub has_saved-more : (v : ViewValue) (f : FragmentValue) (places : SavePlaces) (k x : ℕ) (start : ColumnState) (now next : OpeningsView) (after : ColumnClip) → HasSaved v f places k start now →
-    x ≡ f.first + k → after ≡ column_after start.windows.height f (window_at start.windows) x →
-    ((facts : WallFacts) (first last : ℕ) → f ≡ fragment_of v facts first last → next.saved ≡ column_saved places k (texture_column v facts x) after now.saved) →
-    length next.saved ≡ length now.saved → next.room ≡ now.room → HasSaved v f places (k + 1) start next
-has_saved-more v f places k x start now next after h e c s l r = record {
-  saved = λ facts first last is. saved_step places (texture_column v facts) (column_after start.windows.height f (window_at start.windows)) f.first k x after start.openings.saved now.saved next.saved e c
-      (h.saved facts first last is) (s facts first last is);
-  count = l ∙ h.count;
-  room = r ∙ h.room;
-}
-
 -- the same by equal numbers and edges
 pub passes-as : (n m : FragmentNumbers) (x : ℕ) (e g : Edges) (now next : ColumnState) (before later : PlanesView) (after : ColumnClip) → n ≡ m → e ≡ g →
     PassesColumn n x e now next before later after → PassesColumn m x g now next before later after
@@ -222,3 +200,61 @@ passes-as n m x e g now next before later after p q h =
     let P : FragmentNumbers → Type 0 = λ n. PassesColumn n x e now next before later after in
     let Q : Edges → Type 0 = λ e. PassesColumn m x e now next before later after in
     subst Q q (subst P p h)
+
+-- how many columns of a fragment a stepper has passed
+abbrev pub passed_columns : FragmentValue → Stepper → ℕ
+passed_columns f s = s.x - f.first
+
+-- what holds when they are marked
+pub record HasPassed (f : FragmentValue) (s : Stepper) (start now : ColumnState) (before later : PlanesView) : Type 0 where
+  pub at : IsAt f (passed_columns f s) s
+  pub marked : HasMarked f (passed_columns f s) start now before later
+
+pub passed-none : (f : FragmentValue) (s : Stepper) (start : ColumnState) (planes : PlanesView) → IsAt f 0 s → HasPassed f s start start planes planes
+passed-none f s start planes at =
+    let first = at.x in
+    let none : 0 ≡ passed_columns f s = omega arith in
+    record {
+      at = subst (λ (k : ℕ). IsAt f k s) none at;
+      marked = subst (λ (k : ℕ). HasMarked f k start start planes planes) none (has_marked-none f start planes);
+    }
+
+-- one column more, by the clauses of the calls
+pub passed-more : (f : FragmentValue) (n : FragmentNumbers) (s t : Stepper) (e : Edges) (start now next : ColumnState)
+    (before between later : PlanesView) (after : ColumnClip) →
+    HasPassed f s start now before between → n ≡ f.numbers → (e ≡ edges_at f.shape f.numbers (passed_columns f s)) × IsAt f (passed_columns f s + 1) t →
+    PassesColumn n (t.x - 1) e now next between later after → HasPassed f t start next before later
+passed-more f n s t e start now next before between later after passed numbers step column =
+    let k : ℕ = passed_columns f s in
+    let first = passed.at.x in
+    let there = step.1.x in
+    let left = step.1.left in
+    let within = step.1.within in
+    let is : t.x - 1 ≡ f.first + k = omega arith in
+    let inside : t.x - 1 < FRAME_WIDTH = omega arith in
+    let more : k + 1 ≡ passed_columns f t = omega arith in
+    record {
+      at = subst (λ (m : ℕ). IsAt f m t) more step.1;
+      marked = subst (λ (m : ℕ). HasMarked f m start next before later) more
+          (has_marked-more f k (t.x - 1) start now next before between later after passed.marked is inside
+          (passes-as n f.numbers (t.x - 1) e (edges_at f.shape f.numbers k) now next between later after numbers step.0 column));
+    }
+
+-- and all of them
+pub passed-all : {f : FragmentValue} (s : Stepper) {start now : ColumnState} {before later : PlanesView} → f.first + passed_columns f s ≡ f.last + 1 →
+    HasMarked f (passed_columns f s) start now before later → HasMarked f (columns_of f) start now before later
+passed-all {f} s {start} {now} {before} {later} end marked =
+    let all : passed_columns f s ≡ columns_of f = omega arith in
+    subst (λ (k : ℕ). HasMarked f k start now before later) all marked
+
+-- they are still marked when their lists are saved
+pub marked-saved : {v : ViewValue} {f g : FragmentValue} {k first last : ℕ} {places : SavePlaces} {start passed now : ColumnState} {before later : PlanesView} →
+    HasSaved v g first last places passed now → HasMarked f k start passed before later → HasMarked f k start now before later
+marked-saved saved marked = record {
+  windows = λ x l. ap (λ (w : WindowsView). window_at w x) saved.windows ∙ marked.windows x l;
+  height = ap (λ (w : WindowsView). w.height) saved.windows ∙ marked.height;
+  planes = marked.planes;
+  count = marked.count;
+  floor = saved.floor ∙ marked.floor;
+  ceiling = saved.ceiling ∙ marked.ceiling;
+}

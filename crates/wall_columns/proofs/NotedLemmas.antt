@@ -34,7 +34,7 @@ unfolding clip_note
 is_noted true there masked row place h = tt
 is_noted false true masked row place h = tt
 is_noted false false true row place h = tt
-is_noted false false false row place h = absurd (let t : false ≡ true = h in cc)
+is_noted false false false row place h = absurd (let never : false ≡ true = h in cc)
 
 -- a silhouette has its bit
 top_bit : (bottom top masked : Bool) → bit_and (SIL_BOTTOM * from_bool bottom + SIL_TOP * from_bool top) SIL_TOP ≢ 0 → (top || masked) ≡ true
@@ -51,7 +51,7 @@ masked_too : (there masked : Bool) (place : ℕ) → IsSome (place_if masked pla
 unfolding place_if
 masked_too true masked place h = refl
 masked_too false true place h = refl
-masked_too false false place h = absurd (let t : false ≡ true = h in cc)
+masked_too false false place h = absurd (let never : false ≡ true = h in cc)
 
 -- the rows of the clips past a fragment
 past_in : (shape : ViewShape) (walls : List Wall) (k x : ℕ) → shape.height ≤ FRAME_HEIGHT → IsClipIn shape.height (clip_past shape walls k x)
@@ -81,15 +81,15 @@ bottom_clip-in shape walls k w x s = bottom_range shape w.numbers.bottom_is_cons
 room_true : (b : Bool) (w : Wall) → b ≡ true → room_if b w ≡ w.last + 1 - w.first
 unfolding room_if
 room_true true w e = refl
-room_true false w e = absurd (let t : false ≡ true = e in cc)
+room_true false w e = absurd (let never : false ≡ true = e in cc)
 
 -- the scales of a drawn fragment
 drawn_scale : (v : ViewValue) (w : Wall) (k : ℕ) → IsDrawn v w → k ≤ w.last - w.first → pos 0 <ℤ step_at w.numbers.scale1 w.numbers.step k
 unfolding wall_of
 drawn_scale v w k d l =
-    let e : w.numbers ≡ fragment_numbers v w.facts w.first w.last = ap (λ (u : Wall). u.numbers) d.is in
+    let numbers : w.numbers ≡ fragment_numbers v w.facts w.first w.last = ap (λ (u : Wall). u.numbers) d.is in
     let P : FragmentNumbers → Type 0 = λ n. pos 0 <ℤ step_at n.scale1 n.step k in
-    subst P (sym e) (numbers-scale v w.facts w.first w.last k l)
+    subst P (sym numbers) (numbers-scale v w.facts w.first w.last k l)
 
 -- a note is whole where its openings lie at its place
 whole_note : (v : ViewValue) (walls : List Wall) (k : ℕ) (w : Wall) (before after : List ℤ) (place : ℕ) → length before ≡ place → v.shape.height ≤ FRAME_HEIGHT → IsDrawn v w →
@@ -106,9 +106,9 @@ whole_note v walls k w before after place e s d =
       ordered = d.ordered;
       within = d.within;
       scale = λ x l h. drawn_scale v w (x - w.first) d (omega arith);
-      columns = listed_at n.masked openings (note_at v w place) place 0 (λ t. let r = room_true n.masked w t in omega arith);
-      top_list = clip_among n.top_is_constant (saves_top n) (pos v.shape.height) openings (note_at v w place) top_place (λ t. let r = room_true (saves_top n) w t in omega arith);
-      bottom_list = clip_among n.bottom_is_constant (saves_bottom n) minus_one openings (note_at v w place) bottom_place (λ t. let r = room_true (saves_bottom n) w t in omega arith);
+      columns = listed_at n.masked openings (note_at v w place) place 0 (λ t. let room = room_true n.masked w t in omega arith);
+      top_list = clip_among n.top_is_constant (saves_top n) (pos v.shape.height) openings (note_at v w place) top_place (λ t. let room = room_true (saves_top n) w t in omega arith);
+      bottom_list = clip_among n.bottom_is_constant (saves_bottom n) minus_one openings (note_at v w place) bottom_place (λ t. let room = room_true (saves_bottom n) w t in omega arith);
       top = λ h. is_noted n.top_is_constant n.top.is_there n.masked (pos v.shape.height) top_place (top_bit n.bottom.is_there n.top.is_there n.masked h);
       bottom = λ h. is_noted n.bottom_is_constant n.bottom.is_there n.masked minus_one bottom_place (bottom_bit n.bottom.is_there n.top.is_there n.masked h);
       masked_top = λ h. is_noted n.top_is_constant n.top.is_there n.masked (pos v.shape.height) top_place (masked_too n.top.is_there n.masked place h);
@@ -131,7 +131,7 @@ whole_from v walls [] k before place e s d i = tt
 whole_from v walls (w ∷ ws) k before place e s d zero = whole_note v walls k w before (saved_from v walls (k + 1) ws) place e s d.0
 whole_from v walls (w ∷ ws) k before place e s d (suc i) =
     let next : ℕ = place + room_if w.numbers.masked w + room_if (saves_top w.numbers) w + room_if (saves_bottom w.numbers) w in
-    let long : length (before ++ saved_by v walls k w) ≡ next = (let a = length-append before (saved_by v walls k w) in let b = length-saved_by v walls k w in omega arith) in
+    let long : length (before ++ saved_by v walls k w) ≡ next = omega (arith, length-append before (saved_by v walls k w), length-saved_by v walls k w) in
     let P : List ℤ → Type 0 = λ openings. IfSome (slice_get (notes_from v next ws) i) (IsWholeNote v.shape openings) in
     subst P (append_assoc before (saved_by v walls k w) (saved_from v walls (k + 1) ws))
     (whole_from v walls ws (k + 1) (before ++ saved_by v walls k w) next long s d.1 i)

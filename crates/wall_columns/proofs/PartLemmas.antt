@@ -1,11 +1,15 @@
 -- Laws of the parts of a wall state: windows, openings and the planes of a leaf.
-use Rattle.picture_rules.proofs.Common.{[], All-replicate, All-set, ap, arith, Bool, cond, false, get_or-replicate, ints, is_none, length, length-append, length-replicate, length-set, length-take, List, None, Option, pos, replicate, slice_get, Some, sym, take, take-set-lt, true, ℕ, ℤ, ◌+◌, ◌<◌, ◌∙◌, ◌∷◌, ◌≡◌, ◌≤ℤ◌, ◌≤◌}
+use Rattle.picture_rules.proofs.Common.{[], All-replicate, All-set, ap, append_assoc, arith, Bool, cond, drop, false, get_or, get_or-replicate, ints, is_none, length, length-append, length-drop, length-replicate, length-set, length-take, length-take-le, List, None, Option, pos, replicate, slice_get, slice_index_or, Some, sym, take, take-append-drop, take-append-le, true, ℕ, ℤ, ◌++◌, ◌+◌, ◌-◌, ◌<◌, ◌∙◌, ◌∷◌, ◌≡◌, ◌≤ℤ◌, ◌≤◌}
 use Rattle.std.proofs.Common.{set}
-use Rattle.wall_columns.specs.Rules.{ColumnClip, FRAME_HEIGHT, FRAME_WIDTH, Plane, PlaneKey, add, check, check_plane, check_some, empty_plane, find, greatest_clip, is_free, least_clip, minus_one, number_of}
+use Rattle.std.specs.List.{between}
+use Rattle.std.proofs.lemmas.List.{drop-append-le, take_at}
+use Rattle.std.proofs.lemmas.List.Edits.{get_or-between, length-between}
+use Rattle.wall_columns.specs.Rules.{ColumnClip, FRAME_HEIGHT, FRAME_WIDTH, Plane, PlaneKey, add, check, check_plane, check_some, empty_plane, find, greatest_clip, is_free, least_clip, listed_from, minus_one, number_of}
+use Rattle.picture_rules.proofs.Laws.{get_or-listed_from, length-listed_from, listed-all}
 use Rattle.picture_rules.proofs.plane.PlaneLemmas.{length-check, length-find}
 use Rattle.wall_columns.specs.Walls.{AreClips}
-use Rattle.wall_columns.specs.Saved.{OpeningsView, with_saved}
-use Rattle.wall_columns.specs.Windows.{IsClipIn}
+use Rattle.wall_columns.specs.Saved.{OpeningsView, with_list, with_saved}
+use Rattle.wall_columns.specs.Windows.{IsClipIn, WindowsView, ceilings_in, floors_in, window_at, windows_view}
 
 -- a window is narrowed
 pub are_clips-set : (height : ℕ) (ceilings floors : List ℤ) (x : ℕ) (clip : ColumnClip) → AreClips height ceilings floors → IsClipIn height clip →
@@ -58,10 +62,6 @@ are_clips-new ceilings floors e f = rw (e, f) are_clips-blank
 pub are_clips-filled : (height : ℕ) (ceilings floors : List ℤ) → height ≤ FRAME_HEIGHT → ceilings ≡ replicate FRAME_WIDTH minus_one → floors ≡ replicate FRAME_WIDTH (pos height) → AreClips height ceilings floors
 are_clips-filled height ceilings floors s e f = rw (e, f) (are_clips-open height s)
 
--- an opening is saved among those that are used
-pub saved_in_front : (xs : List ℤ) (used i : ℕ) (y : ℤ) → i < used → take used (set xs i y) ≡ set (take used xs) i y
-saved_in_front xs used i y l = take-set-lt used xs i y l
-
 -- a check loses no plane
 pub longer_check : (planes : List Plane) (i first last : ℕ) → length planes ≤ length (check planes i first last).planes
 longer_check planes i first last = length-check planes i first last
@@ -100,26 +100,80 @@ count_found planes key room count l h e = omega (arith, length-find planes key, 
 abbrev shown : List ℤ → ℕ → OpeningsView
 shown xs room = record { saved = xs; room = room }
 
--- the openings after one is saved
-pub saved_view : (list : List ℤ) (used place k : ℕ) (value y : ℤ) (old : OpeningsView) (p : Option ℕ) →
-    old ≡ shown (take used list) (length list) → p ≡ Some place → y ≡ value → place + k < length old.saved →
-    shown (take used (set list (place + k) y)) (length (set list (place + k) y)) ≡ shown (with_saved old.saved p k value) old.room
+-- a list that is written among the openings that are used
+take-with_list : (xs list : List ℤ) (used place : ℕ) → used ≤ length xs → place + length list ≤ used →
+    take used (with_list xs place list) ≡ with_list (take used xs) place list
+unfolding with_list
+take-with_list xs list used place long room =
+    let front : List ℤ = take used xs in
+    let rest : List ℤ = drop used xs in
+    let before : List ℤ = take place front in
+    let behind : List ℤ = drop (place + length list) front in
+    let whole : length front ≡ used = length-take-le used xs long in
+    let split : xs ≡ front ++ rest = sym (take-append-drop used xs) in
+    let joined : (before ++ (list ++ behind)) ++ rest ≡ before ++ (list ++ (behind ++ rest)) =
+    append_assoc before (list ++ behind) rest ∙ ap (λ (ys : List ℤ). before ++ ys) (append_assoc list behind rest) in
+    ap (λ (ys : List ℤ). take used (take place ys ++ (list ++ drop (place + length list) ys))) split
+    ∙ ap (λ (ys : List ℤ). take used (ys ++ (list ++ drop (place + length list) (front ++ rest)))) (take-append-le place front rest (omega arith))
+    ∙ ap (λ (ys : List ℤ). take used (before ++ (list ++ ys))) (drop-append-le (place + length list) front rest (omega arith))
+    ∙ ap (take used) (sym joined)
+    ∙ take_at (before ++ (list ++ behind)) rest used (omega (
+      arith,
+      length-append before (list ++ behind),
+      length-append list behind,
+      length-take-le place front (omega arith),
+      length-drop (place + length list) front,
+    ))
+
+-- the openings after a list is saved
+pub saved_view : (list new values : List ℤ) (used place : ℕ) (old : OpeningsView) (p : Option ℕ) →
+    used ≤ length list → old ≡ shown (take used list) (length list) →
+    p ≡ Some place → place + length values ≤ length old.saved → new ≡ with_list list place values → take used new ≡ with_saved old.saved p values
 unfolding with_saved
-saved_view list used place k value y old p e q s l =
-    let short : length old.saved ≤ used = omega (arith, ap (λ (o : OpeningsView). length o.saved) e, length-take used list) in
-    let a : take used (set list (place + k) y) ≡ set (take used list) (place + k) y = take-set-lt used list (place + k) y (omega arith) in
-    let b = length-set list (place + k) y in
-    ap (λ (xs : List ℤ). shown xs (length (set list (place + k) y))) a
-    ∙ ap (λ (n : ℕ). shown (set (take used list) (place + k) y) n) b
-    ∙ ap (λ (z : ℤ). shown (set (take used list) (place + k) z) (length list)) s
-    ∙ ap (λ (o : OpeningsView). shown (set o.saved (place + k) value) o.room) (sym e)
-    ∙ ap (λ (o : Option ℕ). shown (with_saved old.saved o k value) old.room) (sym q)
+saved_view list new values used place old p long view is room written =
+    let short : length old.saved ≤ used = omega (arith, ap (λ (o : OpeningsView). length o.saved) view, length-take used list) in
+    ap (take used) written ∙ take-with_list list values used place long (omega arith)
+    ∙ ap (λ (o : OpeningsView). with_list o.saved place values) (sym view) ∙ ap (λ (o : Option ℕ). with_saved old.saved o values) (sym is)
+
+-- they are as many as before
+pub saved_count : (list new : List ℤ) (used : ℕ) (old : OpeningsView) → old ≡ shown (take used list) (length list) → length new ≡ length list →
+    length (take used new) ≡ length old.saved
+saved_count list new used old view same =
+    omega (arith, ap (λ (o : OpeningsView). length o.saved) view, same, length-take used list, length-take used new)
+
+-- a list from first to last, by its entries
+pub listed_from-all : (f : ℕ → ℤ) (xs : List ℤ) (first last : ℕ) → length xs ≡ last + 1 - first →
+    ((k : ℕ) → first + k ≤ last → get_or xs k (pos 0) ≡ f (first + k)) → xs ≡ listed_from f first last
+listed_from-all f xs first last long each =
+    let entry : ℕ → ℤ = λ k. f (first + k) in
+    listed-all entry xs (last + 1 - first) (pos 0) long (λ k l. each k (omega arith))
+    ∙ sym (listed-all entry (listed_from f first last) (last + 1 - first) (pos 0) (length-listed_from f first last)
+    (λ k l. get_or-listed_from f first last k (pos 0) (omega arith)))
+
+-- the clips of some columns
+clips_between : (clips : List ℤ) (first last : ℕ) → last < length clips →
+    between first (last + 1) clips ≡ listed_from (λ x. slice_index_or clips x (pos 0)) first last
+clips_between clips first last within =
+    listed_from-all (λ x. slice_index_or clips x (pos 0)) (between first (last + 1) clips) first last (length-between clips first (last + 1) (omega arith))
+    (λ k l. get_or-between clips first (last + 1) k (pos 0) (omega arith))
+
+pub ceilings-lent : (w : WindowsView) (ceilings floors : List ℤ) (height first last : ℕ) → windows_view ceilings floors height ≡ w → last < length ceilings →
+    between first (last + 1) ceilings ≡ ceilings_in w first last
+unfolding window_at
+ceilings-lent w ceilings floors height first last view within =
+    clips_between ceilings first last within ∙ ap (λ (w : WindowsView). ceilings_in w first last) view
+
+pub floors-lent : (w : WindowsView) (ceilings floors : List ℤ) (height first last : ℕ) → windows_view ceilings floors height ≡ w → last < length floors →
+    between first (last + 1) floors ≡ floors_in w first last
+unfolding window_at
+floors-lent w ceilings floors height first last view within =
+    clips_between floors first last within ∙ ap (λ (w : WindowsView). floors_in w first last) view
 
 -- for `search`, of each part
 pub ruleset narrowed = (are_clips-set)
 
 pub ruleset opened = (are_clips-open, are_clips-new, get_or-replicate)
 
-pub ruleset saved_front = (saved_in_front)
+pub ruleset saved_front = (saved_count)
 
 pub ruleset counts = (longer_check, count_checked, count_found)

@@ -1,15 +1,15 @@
--- The columns of a fragment as they are drawn one by one: clips, planes and openings.
+-- The columns of a fragment: clips and planes as they are drawn one by one, and what is saved.
 use Rattle.std.specs.Prelude.{◌≡◌, ◌<◌, ◌≤◌, ◌+◌, ◌-◌, ◌&&◌, ℕ, Bool, List, nat_le, nat_lt, cond, Option, None, option_map, IfSome, length, take}
-use Rattle.wall_columns.specs.Rules.{ColumnClip, Edges, FRAME_WIDTH, FragmentNumbers, IsAmongPlanes, Plane, PlaneWall, ViewValue, WallFacts, ceiling_rows, clip_after, columns_marked, edges_at, floor_rows, marked_rows, texture_column}
+use Rattle.wall_columns.specs.Rules.{ColumnClip, Edges, FRAME_WIDTH, FragmentNumbers, IsAmongPlanes, Plane, PlaneWall, ViewValue, WallFacts, ceiling_rows, clip_after, columns_marked, edges_at, floor_rows, listed_from, marked_rows, texture_column}
 use Rattle.visplanes.specs.Planes.{PlanesView, with_planes}
 use Rattle.visplanes.specs.declared.planes.PlaneNo.{PlaneNo}
 use Rattle.wall_edges.specs.Fragments.{FragmentValue, fragment_of}
 use Rattle.wall_columns.specs.declared.columns.MarkedPlanes.{MarkedPlanes}
 use Rattle.wall_columns.specs.declared.notes.SavePlaces.{SavePlaces}
 use Rattle.wall_columns.specs.declared.column_state.ColumnState.{ColumnState}
-use Rattle.wall_columns.specs.Windows.{window_at}
+use Rattle.wall_columns.specs.Windows.{ceilings_in, floors_in, window_at}
 use Rattle.wall_columns.specs.Places.{places_of}
-use Rattle.wall_columns.specs.Saved.{OpeningsView, columns_saved}
+use Rattle.wall_columns.specs.Saved.{OpeningsView, lists_saved}
 
 -- the number of a plane, where there is one
 abbrev pub plane_number : Option PlaneNo → Option ℕ
@@ -73,15 +73,17 @@ pub record HasMarked (f : FragmentValue) (k : ℕ) (start now : ColumnState)
   pub floor : now.floor ≡ start.floor
   pub ceiling : now.ceiling ≡ start.ceiling
 
--- and what is saved of them
-pub record HasSaved (v : ViewValue) (f : FragmentValue) (places : SavePlaces) (k : ℕ)
-    (start : ColumnState) (openings : OpeningsView) : Type 0 where
-  pub saved : (facts : WallFacts) (first last : ℕ) → f ≡ fragment_of v facts first last →
-      openings.saved ≡ columns_saved places (texture_column v facts)
-      (column_after start.windows.height f (window_at start.windows)) f.first k
+-- the lists of a fragment in columns first to last are saved, and nothing else is changed
+pub record HasSaved (v : ViewValue) (f : FragmentValue) (first last : ℕ) (places : SavePlaces)
+    (start now : ColumnState) : Type 0 where
+  pub saved : (facts : WallFacts) → f ≡ fragment_of v facts first last →
+      now.openings.saved ≡ lists_saved places (listed_from (texture_column v facts) first last)
+      (ceilings_in now.windows first last) (floors_in now.windows first last)
       start.openings.saved
-  pub count : length openings.saved ≡ length start.openings.saved
-  pub room : openings.room ≡ start.openings.room
+  pub room : now.openings.room ≡ start.openings.room
+  pub windows : now.windows ≡ start.windows
+  pub floor : now.floor ≡ start.floor
+  pub ceiling : now.ceiling ≡ start.ceiling
 
 -- a list of n entries lies among the openings, where it is saved
 abbrev pub IsPlaceIn : ℕ → ℕ → Option ℕ → Type 0

@@ -1,6 +1,6 @@
 -- What is open of each column of a frame, row by row (ceilingclip, floorclip, r_plane.c).
 use Rattle.std.specs.Prelude.{◌≤ℤ◌, ℕ, ℤ, pos, List, slice_index_or, slice_set}
-use Rattle.wall_columns.specs.Rules.{ColumnClip, greatest_clip, least_clip, minus_one}
+use Rattle.wall_columns.specs.Rules.{ColumnClip, greatest_clip, least_clip, listed_from, minus_one}
 
 -- the two clips of each column, and the rows of the view
 pub record WindowsView : Type 0 where
@@ -18,6 +18,13 @@ window_at w x = record {
   ceiling_clip = slice_index_or w.ceiling_clips x (pos 0);
   floor_clip = slice_index_or w.floor_clips x (pos 0);
 }
+
+-- the ceiling clips of columns first to last, and the floor clips
+abbrev pub ceilings_in : WindowsView → ℕ → ℕ → List ℤ
+ceilings_in w first last = listed_from (λ x. (window_at w x).ceiling_clip) first last
+
+abbrev pub floors_in : WindowsView → ℕ → ℕ → List ℤ
+floors_in w first last = listed_from (λ x. (window_at w x).floor_clip) first last
 
 -- the windows with another one at a column
 unfoldable pub with_window : WindowsView → ℕ → ColumnClip → WindowsView

@@ -2,13 +2,11 @@
 //
 // Rules: this crate's Columns, Leaves and Saved.
 ghost use Rattle.std.specs.Prelude.{◌≡◌, ◌≢◌, ◌<◌, ◌≤◌, ◌+◌, ◌-◌, ℕ, [], None, Some, IfOk, IfErr, OnOk, length};
-ghost use Rattle.wall_columns.specs.Rules.{FRAME_HEIGHT, FRAME_WIDTH, MOST_OPENINGS, PlanesNow, WallFacts, ceiling_found, ceiling_rows, floor_found, floor_rows, marked_rows, open_clip, set_run, texture_column};
+ghost use Rattle.wall_columns.specs.Rules.{FRAME_HEIGHT, FRAME_WIDTH, MOST_OPENINGS, PlanesNow, ceiling_found, ceiling_rows, floor_found, floor_rows, marked_rows, open_clip, set_run};
 ghost use Rattle.visplanes.specs.Planes.{with_planes};
-ghost use Rattle.wall_edges.specs.Fragments.{fragment_of};
 ghost use Rattle.wall_columns.specs.Faults.{limit_of_result, IsPlanesFault, IsLimitFault};
 ghost use Rattle.wall_columns.specs.Windows.{window_at, with_window, IsClipIn};
 ghost use Rattle.wall_columns.specs.Plans.{plan_of, AreEdgeWords};
-ghost use Rattle.wall_columns.specs.Saved.{column_saved};
 ghost use Rattle.wall_columns.specs.Places.{places_of};
 ghost use Rattle.wall_columns.specs.Columns.{marked_planes, plane_number, columns_of, AreLeafPlanes, HasMarked, HasSaved, HasTaken, ArePlacesIn};
 ghost use Rattle.wall_columns.specs.Leaves.{now_of, both_checks, openings_over, leaf_over, checks_over};
@@ -20,7 +18,7 @@ use crate::leaf::{LeafPlanes, check_plane, find_plane};
 use crate::notes::{SavePlaces, save_places};
 use crate::openings::Openings;
 use crate::windows::Windows;
-use picture_rules::{ColumnClip, Edges, FragmentNumbers};
+use picture_rules::{Edges, FragmentNumbers};
 use std::alloc::{AllocError, Global};
 use view_frame::View;
 use visplanes::{PlaneNo, Planes};
@@ -237,62 +235,52 @@ impl ColumnState {
         plan
     }
 
-    /// Marks and saves the columns of a fragment, from left to right.
+    /// Marks the columns of a fragment, from left to right.
     #[inline(always)]
     pub fn count_columns(
         &mut self,
-        view: &View<'_>,
         planes: &mut Planes,
         fragment: &Fragment,
         numbers: &FragmentNumbers,
-        places: SavePlaces,
     )
         requires numbers { numbers.now ≡ fragment.now.numbers }
-        requires within { fragment.now.last < view.now.shape.width }
-        requires places { ArePlacesIn (columns_of fragment.now)
-            (length self.old.openings.saved) places }
         requires leaf { AreLeafPlanes planes.old.planes self.old }
         ensures marked { HasMarked fragment.now (columns_of fragment.now) self.old self.new
             planes.old planes.new }
-        ensures saved { HasSaved view.now fragment.now places (columns_of fragment.now)
-            self.old self.new.openings }
+        ensures openings { self.new.openings ≡ self.old.openings }
     {
         let marked = self.marked_planes(numbers);
         let mut stepper = Stepper::new(fragment);
-        let mut k: u32 = 0;
         while let Some(edges) = stepper.next() {
             let x = stepper.x - 1;
-            let plan = self.pass_column(planes, numbers, marked, x, &edges);
-            save_column(&mut self.openings, view, fragment, x, k, places, plan.after);
-            k += 1;
+            self.pass_column(planes, numbers, marked, x, &edges);
         }
     }
-}
 
-/// Saves what a fragment saves of its column number `k`, which is column `x` of the view.
-#[inline(always)]
-#[tactic(auto, unfolding(crate::specs::Saved::column_saved, crate::specs::Saved::with_saved))]
-pub fn save_column(
-    openings: &mut Openings,
-    view: &View<'_>,
-    fragment: &Fragment,
-    x: u16,
-    k: u32,
-    places: SavePlaces,
-    after: ColumnClip,
-)
-    requires column { x < view.now.shape.width }
-    requires places { ArePlacesIn (k + 1) (length openings.old.saved) places }
-    ensures saved { (facts : WallFacts) (first last : ℕ) →
-        fragment.now ≡ fragment_of view.now facts first last →
-        openings.new.saved ≡ column_saved places k (texture_column view.now facts x) after
-        openings.old.saved }
-    ensures length { length openings.new.saved ≡ length openings.old.saved }
-    ensures room { openings.new.room ≡ openings.old.room }
-{
-    if places.masked.is_some() {
-        openings.save(places.masked, k, fragment.column_at(view, x));
+    /// Saves the lists of a fragment whose columns `first` to `last` are marked: its texture columns,
+    /// and the clips that it left there.
+    ///
+    /// The original: `maskedtexturecol` in `R_RenderSegLoop`, and the copies at the end of
+    /// `R_StoreWallRange`, r_segs.c.
+    pub fn save_columns(
+        &mut self,
+        view: &View<'_>,
+        fragment: &Fragment,
+        first: u16,
+        last: u16,
+        places: SavePlaces,
+    )
+        requires ordered { first ≤ last }
+        requires within { last < FRAME_WIDTH }
+        requires seen { last < view.now.shape.width }
+        requires places { ArePlacesIn (last + 1 - first) (length self.old.openings.saved) places }
+        ensures saved { HasSaved view.now fragment.now first last places self.old self.new }
+    {
+        self.openings
+            .save_columns(places.masked, view, fragment, first, last);
+        let ceilings = self.windows.ceilings(first, last);
+        self.openings.save_clips(places.top, ceilings);
+        let floors = self.windows.floors(first, last);
+        self.openings.save_clips(places.bottom, floors);
     }
-    openings.save(places.top, k, after.ceiling_clip);
-    openings.save(places.bottom, k, after.floor_clip);
 }

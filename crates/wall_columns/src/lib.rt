@@ -20,8 +20,9 @@
 //!     else an upper texture: paint to pixhigh    clips: top_plan; paint: first_strip
 //!         a lower texture: paint from pixlow     clips: bottom_plan; paint: paint_second
 //!         and leave these clips                  clips: open_plan; windows: narrow
-//!     masked: save the texture's column          column_state: save_column; openings: save
+//!     masked: save the texture's column          behind the loop: openings: put_columns
 //!     step scale, top, bottom, high and low      wall_edges: Stepper::next
+//! and in R_StoreWallRange: copy the clips        column_state: save_columns; openings: put_list
 //! ```
 #![tactic(auto)]
 

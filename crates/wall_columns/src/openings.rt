@@ -1,11 +1,14 @@
 // The openings of a view: this crate's Saved.
-ghost use Rattle.std.specs.Prelude.{◌≡◌, ◌<◌, ◌≤◌, ◌+◌, ◌↔◌, [], IfOk, IfErr, IfSome, IsErr, OnOk, OnErr, length, take};
-ghost use Rattle.picture_rules.specs.declared.wall.TheConstants.{MOST_OPENINGS};
-ghost use Rattle.wall_columns.specs.Saved.{with_saved};
+ghost use Rattle.std.specs.Prelude.{◌≡◌, ◌<◌, ◌≤◌, ◌+◌, ◌-◌, ◌↔◌, [], IfOk, IfErr, IfSome, IsErr, OnOk, OnErr, length, take};
+ghost use Rattle.wall_columns.specs.Rules.{FRAME_WIDTH, MOST_OPENINGS, WallFacts, listed_from, texture_column};
+ghost use Rattle.wall_edges.specs.Fragments.{fragment_of};
+ghost use Rattle.wall_columns.specs.Saved.{with_list, with_saved};
 
 use crate::fault::DrawFault;
 use std::alloc::{AllocError, Global};
 use std::marker::Model;
+use view_frame::View;
+use wall_edges::Fragment;
 
 /// The openings of a view, in the order in which they are saved. Contracts see `OpeningsView`.
 ///
@@ -87,17 +90,75 @@ impl Openings {
         Ok(())
     }
 
-    /// Saves entry number `k` of the list at a place, where it is saved.
-    #[inline(always)]
+    /// Saves the clips of a fragment's columns at a place, where they are saved.
     #[tactic(auto, using(crate::proofs::PartLemmas::saved_front), unfolding(crate::specs::Saved::with_saved))]
-    pub fn save(&mut self, place: Option<u32>, k: u32, value: i32)
-        requires { IfSome place (λ place. place + k < length self.old.saved) }
-        ensures value { self.new ≡ record self.old
-            { saved = with_saved self.old.saved place k value } }
+    pub fn save_clips(&mut self, place: Option<u32>, clips: &[i32])
+        requires { IfSome place (λ place. place + length clips.now ≤ length self.old.saved) }
+        ensures value { self.new.saved ≡ with_saved self.old.saved place clips.now }
         ensures length { length self.new.saved ≡ length self.old.saved }
+        ensures room { self.new.room ≡ self.old.room }
     {
         if let Some(place) = place {
-            self.list[(place + k) as usize] = value;
+            put_list(&mut self.list, place as usize, clips);
         }
+    }
+
+    /// Saves the texture columns of a fragment in columns `first` to `last` at a place, where they
+    /// are saved.
+    #[tactic(auto, using(crate::proofs::PartLemmas::saved_front), unfolding(crate::specs::Saved::with_saved))]
+    pub fn save_columns(
+        &mut self,
+        place: Option<u32>,
+        view: &View<'_>,
+        fragment: &Fragment,
+        first: u16,
+        last: u16,
+    )
+        requires ordered { first ≤ last }
+        requires within { last < FRAME_WIDTH }
+        requires seen { last < view.now.shape.width }
+        requires place { IfSome place (λ place. place + (last + 1 - first)
+            ≤ length self.old.saved) }
+        ensures value { (facts : WallFacts) → fragment.now ≡ fragment_of view.now facts first last →
+            self.new.saved ≡ with_saved self.old.saved place
+            (listed_from (texture_column view.now facts) first last) }
+        ensures length { length self.new.saved ≡ length self.old.saved }
+        ensures room { self.new.room ≡ self.old.room }
+    {
+        if let Some(place) = place {
+            put_columns(&mut self.list, place as usize, view, fragment, first, last);
+        }
+    }
+}
+
+// Writes a list over others from a place on.
+fn put_list(xs: &mut [i32], place: usize, list: &[i32])
+    requires { place + length list.now ≤ length xs.old }
+    ensures value { xs.new ≡ with_list xs.old place list.now }
+    ensures length { length xs.new ≡ length xs.old }
+{
+    xs[place..place + list.len()].copy_from_slice(list);
+}
+
+// Writes the texture columns of a fragment from a place on.
+fn put_columns(
+    xs: &mut [i32],
+    place: usize,
+    view: &View<'_>,
+    fragment: &Fragment,
+    first: u16,
+    last: u16,
+)
+    requires ordered { first ≤ last }
+    requires within { last < FRAME_WIDTH }
+    requires seen { last < view.now.shape.width }
+    requires room { place + (last + 1 - first) ≤ length xs.old }
+    ensures value { (facts : WallFacts) → fragment.now ≡ fragment_of view.now facts first last →
+        xs.new ≡ with_list xs.old place
+        (listed_from (texture_column view.now facts) first last) }
+    ensures length { length xs.new ≡ length xs.old }
+{
+    for x in first..last + 1 {
+        xs[place + (x - first) as usize] = fragment.column_at(view, x);
     }
 }

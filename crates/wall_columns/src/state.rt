@@ -231,7 +231,9 @@ impl WallState {
         let places = self.columns.begin(tools.planes, &numbers, first, last)?;
         let number = self.notes.len() as u16;
         self.columns
-            .draw_columns(tools, number, &fragment, &numbers, places)?;
+            .draw_columns(tools, number, &fragment, &numbers)?;
+        self.columns
+            .save_columns(tools.view, &fragment, first, last, places);
         let note = note_of(facts.seg_no, &fragment, first, last, places, shape.height);
         self.notes.push_reserved(note);
         Ok(())
@@ -283,8 +285,9 @@ impl WallState {
         let fragment = Fragment::new(view, facts, first, last);
         let numbers = fragment.numbers();
         let places = self.columns.begin(planes, &numbers, first, last)?;
+        self.columns.count_columns(planes, &fragment, &numbers);
         self.columns
-            .count_columns(view, planes, &fragment, &numbers, places);
+            .save_columns(view, &fragment, first, last, places);
         let note = note_of(facts.seg_no, &fragment, first, last, places, shape.height);
         self.notes.push_reserved(note);
         Ok(())

@@ -1,7 +1,7 @@
 // What is open of each column of a frame, and the rows of the view: this crate's Windows.
-ghost use Rattle.std.specs.Prelude.{◌≡◌, ◌≢◌, ◌<◌, ◌≤◌, ℕ, replicate};
+ghost use Rattle.std.specs.Prelude.{◌≡◌, ◌≢◌, ◌<◌, ◌≤◌, ◌+◌, ◌-◌, ℕ, length, replicate};
 ghost use Rattle.picture_rules.specs.Words.{FRAME_HEIGHT, FRAME_WIDTH, open_clip};
-ghost use Rattle.wall_columns.specs.Windows.{window_at, with_window, IsClipIn};
+ghost use Rattle.wall_columns.specs.Windows.{ceilings_in, floors_in, window_at, with_window, IsClipIn};
 
 use picture_rules::{ColumnClip, FRAME_WIDTH};
 use std::marker::Model;
@@ -56,6 +56,26 @@ impl Windows {
         ensures most { self.now.height ≤ FRAME_HEIGHT }
     {
         self.height
+    }
+
+    /// The ceiling clips of columns `first` to `last` of the frame.
+    pub fn ceilings(&self, first: u16, last: u16) -> &[i32]
+        requires ordered { first ≤ last }
+        requires within { last < FRAME_WIDTH }
+        ensures value { result.now ≡ ceilings_in self.now first last }
+        ensures length { length result.now ≡ last + 1 - first }
+    {
+        &self.ceiling_clips[first as usize..last as usize + 1]
+    }
+
+    /// The floor clips of columns `first` to `last` of the frame.
+    pub fn floors(&self, first: u16, last: u16) -> &[i32]
+        requires ordered { first ≤ last }
+        requires within { last < FRAME_WIDTH }
+        ensures value { result.now ≡ floors_in self.now first last }
+        ensures length { length result.now ≡ last + 1 - first }
+    {
+        &self.floor_clips[first as usize..last as usize + 1]
     }
 
     /// What is open of column `x` of the frame.

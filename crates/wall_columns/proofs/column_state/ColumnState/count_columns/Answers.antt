@@ -1,46 +1,34 @@
--- A column more is marked and saved.
-use Rattle.std.proofs.Common.{◌≡◌, ◌<◌, ◌+◌, ◌-◌, ℕ, length, ap, ◌∙◌, arith}
-use Rattle.picture_rules.specs.Words.{edges_at, FRAME_WIDTH, texture_column}
+-- A column more is marked.
+use Rattle.std.proofs.Common.{◌-◌, refl, ◌∙◌}
 use Rattle.wall_edges.specs.Fragments.{FragmentValue}
-use Rattle.wall_columns.specs.declared.column_state.ColumnState.{ColumnState}
-use Rattle.wall_columns.specs.Saved.{OpeningsView, column_saved}
-use Rattle.wall_columns.proofs.MarkLemmas.{has_marked-none, has_marked-more, has_saved-none, has_saved-more, passes-column, passes-as, column-after}
+use Rattle.wall_edges.specs.declared.stepper.Stepper.{Stepper}
+use Rattle.wall_columns.proofs.MarkLemmas.{HasPassed, passed_columns, passed-none, passed-more, passed-all, passes-column}
 use Rattle.wall_columns.proofs.column_state.ColumnState.count_columns.Goals as goal
 
 pub loop-edges-init : goal.loop-edges-init
-loop-edges-init c = record {
-  at = c.new-stepper.ensures;
-  marked = has_marked-none c.args.fragment.now c.args.self.now c.args.planes.now;
-  saved = has_saved-none c.args.view.now c.args.fragment.now c.args.places c.args.self.now;
-}
+loop-edges-init c =
+    let passed = passed-none c.args.fragment.now c.new-stepper.result c.args.self.now c.args.planes.now c.new-stepper.ensures in
+    record { at = passed.at; marked = passed.marked; openings = refl }
 
 pub loop-edges-preserved : goal.loop-edges-preserved
 loop-edges-preserved c =
+    let kept = c.loop-edges.invariant in
     let f : FragmentValue = c.args.fragment.now in
-    let k : ℕ = c.loop-edges.k in
-    let x : ℕ = c.next.new.self.x - 1 in
-    let now : ColumnState = c.loop-edges.self in
-    let passed : ColumnState = c.pass_column-plan.new.self in
-    let next : ColumnState = record { windows = passed.windows; openings = c.save_column.new.openings; floor = passed.floor; ceiling = passed.ceiling } in
-    let at = c.loop-edges.invariant.at in
-    let step = c.in-Some.ensures.column f k at in
-    let later = step.1 in
-    let a = later.x in let b = later.left in let d = at.within in
-    let is : x ≡ f.first + k = omega arith in
-    let inside : x < FRAME_WIDTH = omega arith in
-    let p = c.pass_column-plan.ensures in
-    let passes = passes-as c.args.numbers.now f.numbers x c.in-Some.edges (edges_at f.shape f.numbers k) now next c.loop-edges.planes c.pass_column-plan.new.planes c.pass_column-plan.result.after
-    c.requires.numbers step.0
-    (passes-column c.args.numbers.now x c.in-Some.edges now next c.loop-edges.planes c.pass_column-plan.new.planes c.pass_column-plan.result
-    p.plan p.windows p.own p.other p.planes p.count p.same_floor p.same_ceiling) in
-    let marked = c.loop-edges.invariant.marked in
-    record {
-      at = later;
-      marked = has_marked-more f k x c.args.self.now now next c.args.planes.now c.loop-edges.planes c.pass_column-plan.new.planes c.pass_column-plan.result.after marked is inside passes;
-      saved = has_saved-more c.args.view.now f c.args.places k x c.args.self.now now.openings c.save_column.new.openings c.pass_column-plan.result.after c.loop-edges.invariant.saved is
-          (column-after f k x c.args.self.now now next c.args.planes.now c.loop-edges.planes c.pass_column-plan.new.planes c.pass_column-plan.result.after marked is inside passes)
-          (λ facts first last e. c.save_column.ensures.saved facts first last e
-          ∙ ap (λ (o : OpeningsView). column_saved c.args.places k (texture_column c.args.view.now facts x) c.pass_column-plan.result.after o.saved) p.openings)
-          (c.save_column.ensures.length ∙ ap (λ (o : OpeningsView). length o.saved) p.openings)
-          (c.save_column.ensures.room ∙ ap (λ (o : OpeningsView). o.room) p.openings);
-    }
+    let before : Stepper = c.loop-edges.stepper in
+    let after : Stepper = c.next.new.self in
+    let now = c.loop-edges.self in
+    let next = c.pass_column.new.self in
+    let plan = c.pass_column.result in
+    let marks = c.pass_column.ensures in
+    let so_far : HasPassed f before c.args.self.now now c.args.planes.now c.loop-edges.planes = record { at = kept.at; marked = kept.marked } in
+    let passed = passed-more f c.args.numbers.now before after c.in-Some.edges c.args.self.now now next c.args.planes.now c.loop-edges.planes
+    c.pass_column.new.planes plan.after so_far c.requires.numbers (c.in-Some.ensures.column f (passed_columns f before) kept.at)
+    (passes-column c.args.numbers.now (after.x - 1) c.in-Some.edges now next c.loop-edges.planes c.pass_column.new.planes plan
+    marks.plan marks.windows marks.own marks.other marks.planes marks.count marks.same_floor marks.same_ceiling) in
+    record { at = passed.at; marked = passed.marked; openings = marks.openings ∙ kept.openings }
+
+pub returns-clause-marked : goal.returns-clause-marked
+returns-clause-marked c =
+    let f : FragmentValue = c.args.fragment.now in
+    let kept = c.loop-edges.invariant in
+    passed-all c.loop-edges.stepper (c.in_default.ensures.end f (passed_columns f c.loop-edges.stepper) kept.at) kept.marked
