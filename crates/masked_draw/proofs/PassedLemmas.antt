@@ -41,11 +41,13 @@ dots_of_moment v art marks es moment k d drawseg gives a h =
     ap (joined_lists (middle_column v art k drawseg))
     (columns_of_moment marks es moment d drawseg gives d.masked a.masked h ∙ columns_moved es moment drawseg d.first d.last a.first a.last)
 
+-- the mark of one column of a note
 before_at : (seg : FragmentNote → Drawseg) (es : List SpriteEntry) (marks : List Bool) (d : FragmentNote) (i place : ℕ) (masked : Option ℕ) →
     masked ≡ Some place → AreBefore seg es marks d i masked → (x : ℕ) → d.first ≤ x → x ≤ d.last →
     mark_of marks d place x ≡ is_before (sprite_in_front es (seg d) x) i
 before_at seg es marks d i place masked e a = let WithMasked : Option ℕ → Type 0 = λ o. AreBefore seg es marks d i o in subst WithMasked e a
 
+-- the marks of one of the notes
 note_at : (seg : FragmentNote → Drawseg) (notes : List FragmentNote) (es : List SpriteEntry) (n : ℕ) (turn : ℕ → ℕ) (marks : List Bool) (k : ℕ) (d : FragmentNote) → MarkedTo seg notes es n turn marks → k < n → slice_get notes k ≡ Some d → AreBefore seg es marks d (turn k) d.masked
 note_at seg notes es n turn marks k d h l e =
     let OfNote : Option FragmentNote → Type 0 = λ o. IfSome o (λ d. AreBefore seg es marks d (turn k) d.masked) in subst OfNote e (h.at k l)
@@ -95,6 +97,7 @@ outside_high d e x (Some start) l m place h = inr (omega (arith, h))
 pub record ApartNotes (notes : List FragmentNote) : Type 0 where
   pub at : (i k : ℕ) → i < k → IfSome (slice_get notes i) (λ d. IfSome (slice_get notes k) (λ e. ListsApart d d.masked e.masked))
 
+-- the lists of two notes are apart
 pair_at : (notes : List FragmentNote) (i k : ℕ) (d e : FragmentNote) → ApartNotes notes → i < k → slice_get notes i ≡ Some d → slice_get notes k ≡ Some e →
     ListsApart d d.masked e.masked
 pair_at notes i k d e h l f g =
@@ -157,6 +160,7 @@ turn_same i m k l = grind (arith, nat_tests)
 same_some : {X : Type 0} (d e : X) (o : Option X) → o ≡ Some d → o ≡ Some e → d ≡ e
 same_some d e o f g = cc
 
+-- the marks of a note after one was come to: its own, or as they were
 pass_note : (seg : FragmentNote → Drawseg) (notes : List FragmentNote) (es : List SpriteEntry) (n : ℕ) (old new : List Bool) (i m : ℕ) (d : FragmentNote)
     (e : SpriteEntry) →
     ApartNotes notes → slice_get notes m ≡ Some d → m < n → i < length es → slice_get es i ≡ Some e → MarksBy d (is_passed e (seg d)) old new →
@@ -201,6 +205,7 @@ marked-left seg notes es turn gives old new m d a g w h = record {
       other_before seg notes es old new gives k m (turn k) c d a ne r g w (note_at seg notes es (m + 1) turn old k c h (omega arith) r));
 }
 
+-- what is known by some turns is known by equal ones
 pub marked-turn : (seg : FragmentNote → Drawseg) (notes : List FragmentNote) (es : List SpriteEntry) (n : ℕ) (turn other : ℕ → ℕ) (marks : List Bool) →
     ((k : ℕ) → k < n → turn k ≡ other k) → MarkedTo seg notes es n turn marks → MarkedTo seg notes es n other marks
 marked-turn seg notes es n turn other marks e h = record {

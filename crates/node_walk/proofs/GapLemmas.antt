@@ -219,7 +219,7 @@ hidden_here first last width r rs d e o t a =
           let moves_on : max first (r.last + 1) ≡ r.last + 1 = omega arith in
           let range_began : nat_le r.first first ≡ true = grind (arith, nat_tests) in
           let gaps_go_on : range_gaps first last (r ∷ rs) ≡ range_gaps (r.last + 1) last rs =
-              rw (not_past, not_before_range) (ap (λ (i : ℕ). range_gaps i last rs) moves_on) in
+          rw (not_past, not_before_range) (ap (λ (i : ℕ). range_gaps i last rs) moves_on) in
           elim (cases_lt r.last last) [
             | inl short ↦
                 let ends_short : nat_le last r.last ≡ false = grind (arith, nat_tests) in

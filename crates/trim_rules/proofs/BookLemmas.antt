@@ -113,7 +113,7 @@ module _ (trimmed lumps : List Lump) (σ : ℕ → ℕ) (a : ℕ) (pictures : Li
       let all = mentions lumps need.sprite in
       let last_found = and_then-ok (last_mention all need) _ ms e in
       let is : last_that (is_of_frame need.frame) all ≡ Some last_found.0 =
-          some_value (last_that (is_of_frame need.frame) all) (NoFrame need.thing) last_found.0 last_found.1 in
+      some_value (last_that (is_of_frame need.frame) all) (NoFrame need.thing) last_found.0 last_found.1 in
       let kept = last_listed lumps need pictures ms last_found.0 last_found.2 listed is in
       let ns = each-moved (picture_or_missing all need) (picture_or_missing (mentions trimmed need.sprite) need) (renumber σ) (IsPictureMention pictures)
       (λ k m f holds. picture-moved need last_found.0 is kept k m f holds) (range_with_len 0 ROTATIONS) ms last_found.2 listed in

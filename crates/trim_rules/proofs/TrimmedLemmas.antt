@@ -163,7 +163,7 @@ trimmed-flats bytes lumps art name all =
     let pictures = picture_lumps lumps art.pictures in
     let rest = group_parts S_START pictures S_END ++ behind_groups lumps art name in
     let are : AllByRecursion (IsUnmarked lumps) (group_parts F_START flats F_END ++ rest) =
-        subst (AllByRecursion (IsUnmarked lumps)) (trim_parts-are lumps art name) all in
+    subst (AllByRecursion (IsUnmarked lumps)) (trim_parts-are lumps art name) all in
     let unmarked : AllByRecursion (IsUnmarked lumps) rest = all_second (IsUnmarked lumps) (group_parts F_START flats F_END) rest are in
     let plain : AllByRecursion (IsPlain Flats) (map lump rest) =
     subst (AllByRecursion (IsPlain Flats)) (sym (map-append lump (group_parts S_START pictures S_END) (behind_groups lumps art name)))
@@ -190,9 +190,9 @@ trimmed-pictures bytes lumps art name all =
     let flat_parts = group_parts F_START flats F_END in
     let rest = behind_groups lumps art name in
     let are : AllByRecursion (IsUnmarked lumps) (flat_parts ++ (group_parts S_START pictures S_END ++ rest)) =
-        subst (AllByRecursion (IsUnmarked lumps)) (trim_parts-are lumps art name) all in
+    subst (AllByRecursion (IsUnmarked lumps)) (trim_parts-are lumps art name) all in
     let unmarked : AllByRecursion (IsUnmarked lumps) (group_parts S_START pictures S_END ++ rest) =
-        all_second (IsUnmarked lumps) flat_parts (group_parts S_START pictures S_END ++ rest) are in
+    all_second (IsUnmarked lumps) flat_parts (group_parts S_START pictures S_END ++ rest) are in
     let front : AllByRecursion (IsPlain Sprites) (map lump flat_parts) =
     plain_group bytes lumps Sprites F_START flats F_END refl refl refl refl (all_first (IsUnmarked lumps) flat_parts (group_parts S_START pictures S_END ++ rest) are) in
     subst (λ ls. HasGroup Sprites (stored_from HEAD_SIZE ls) (length (map lump flat_parts)) (length (map lump (map copy_part pictures))))

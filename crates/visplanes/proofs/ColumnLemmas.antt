@@ -240,7 +240,7 @@ is_free-false rs first last x r l m n e =
     let is_in_part : x - first < last + 1 - first = omega arith in
     let same_column : first + (x - first) ≡ x = omega arith in
     let has_run : get_or (slice_range rs first (last + 1)) (x - first) None ≡ Some r =
-        part_at rs first last (x - first) is_in_part ∙ ap (λ (j : ℕ). get_or rs j None) same_column ∙ e in
+    part_at rs first last (x - first) is_in_part ∙ ap (λ (j : ℕ). get_or rs j None) same_column ∙ e in
     list_all_at (λ r. is_none r) (slice_range rs first (last + 1)) (x - first) None (omega (arith, length_part rs first last l)) (ap (λ o. is_none o) has_run)
 
 -- the plane itself: only the columns among the marked ones count

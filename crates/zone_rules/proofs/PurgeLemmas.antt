@@ -119,7 +119,7 @@ purge_twice a ch [] = refl
 purge_twice a ch (b ∷ bs) = ap₂ ◌∷◌
     (ap (λ t. cond t (purge_block b) b) (list_any-append (λ x. x.place == b.place) a ch) ∙ two_goes (is_among a b) (is_among ch b) b
     ∙ ap (λ t. cond t (purge_block (cond (is_among a b) (purge_block b) b)) (cond (is_among a b) (purge_block b) b)) (sym (kept_among ch (is_among a b) b)))
-        (purge_twice a ch bs)
+    (purge_twice a ch bs)
 
 pub covers_kept : (ch a bs : List Block) → Covers ch bs → Covers ch (purge_among a bs)
 covers_kept ch a [] c = tt
@@ -183,7 +183,7 @@ count_twice a ch [] = refl
 count_twice a ch (b ∷ bs) =
     let block_counts = counted_twice (is_among a b) (is_among ch b) b in
     let among_both : counted (a ++ ch) b ≡ cond {A = ℕ} ((is_among a b || is_among ch b) && is_purgeable b) 1 0 =
-        ap (λ (t : Bool). cond {A = ℕ} (t && is_purgeable b) 1 0) (list_any-append (λ x. x.place == b.place) a ch) in
+    ap (λ (t : Bool). cond {A = ℕ} (t && is_purgeable b) 1 0) (list_any-append (λ x. x.place == b.place) a ch) in
     let among_later : counted ch (cond (is_among a b) (purge_block b) b) ≡ cond {A = ℕ} (is_among ch b && is_purgeable (cond (is_among a b) (purge_block b) b)) 1 0 = ap (λ (t : Bool). cond {A = ℕ} (t && is_purgeable (cond (is_among a b) (purge_block b) b)) 1 0) (kept_among ch (is_among a b) b) in
     let count_of_both = count_among-cons (a ++ ch) b bs in
     let count_of_a = count_among-cons a b bs in

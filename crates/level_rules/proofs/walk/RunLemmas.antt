@@ -269,9 +269,9 @@ fragment_inside columns first last p q r =
       | inl l ↦
           let same_column : first + (q - first) ≡ q = omega (arith, r.from, r.ordered) in
           let is_open : get_or (take (last + 1 - first) (drop first columns)) (q - first) true ≡ false =
-              r.open_at (q - first) (omega (arith, r.ordered)) (omega arith) in
+          r.open_at (q - first) (omega (arith, r.ordered)) (omega arith) in
           let is_past : get_or (take (last + 1 - first) (drop first columns)) (q - first) true ≡ true =
-              slice_past columns first last (q - first) (omega arith) in cc
+          slice_past columns first last (q - first) (omega arith) in cc
       | inr g ↦ g
     ]
 

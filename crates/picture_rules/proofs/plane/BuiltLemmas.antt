@@ -148,7 +148,7 @@ unfolding after_event ceiling_checked floor_checked
 sound-after_event s (Finds floor ceiling) h = sound-ceiling_found ceiling (floor_found floor s) (sound-floor_found floor s h)
 sound-after_event s (Draws w) h =
     let ceiling_sound : IsSoundNow (ceiling_checked w s) =
-        sound-with_ceiling _ s (sound_checked w.ceiling_mark s.planes s.ceiling w.first w.last h.ceiling h.wide) h in
+    sound-with_ceiling _ s (sound_checked w.ceiling_mark s.planes s.ceiling w.first w.last h.ceiling h.wide) h in
     let now : PlanesNow = ceiling_checked w s in
     sound-wall_marked w (floor_checked w now)
     (sound-with_floor _ now (sound_checked w.floor_mark now.planes now.floor w.first w.last ceiling_sound.floor ceiling_sound.wide) ceiling_sound)

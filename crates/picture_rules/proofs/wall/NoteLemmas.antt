@@ -82,7 +82,7 @@ notes_last v walls k place [] w = let same_place : place ≡ place + 0 = omega a
 notes_last v walls k place (u ∷ us) w =
     let next_place : ℕ = place + room_if u.numbers.masked u + room_if (saves_top u.numbers) u + room_if (saves_bottom u.numbers) u in
     let places_add : next_place + length (saved_from v walls (k + 1) us) ≡ place + length (saved_by v walls k u ++ saved_from v walls (k + 1) us) =
-        omega (arith, length-append (saved_by v walls k u) (saved_from v walls (k + 1) us), length-saved_by v walls k u) in
+    omega (arith, length-append (saved_by v walls k u) (saved_from v walls (k + 1) us), length-saved_by v walls k u) in
     ap (λ ns. note_at v u place ∷ ns) (notes_last v walls (k + 1) next_place us w ∙ ap (λ (q : ℕ). notes_from v next_place us ++ note_at v w q ∷ []) places_add)
 
 -- and its note has its place there

@@ -49,7 +49,7 @@ pub clear-requires-clause-within : goal.clear-requires-clause-within
 clear-requires-clause-within g c =
     let entry = c.args.entry.now in
     let last_within =
-        entry-within entry c.args.scene.now.view.now.shape.width _ c.requires.within (sym (to_z-of_z w32 entry.last (search rules)) ∙ c.column_of-last.ensures) in
+    entry-within entry c.args.scene.now.view.now.shape.width _ c.requires.within (sym (to_z-of_z w32 entry.last (search rules)) ∙ c.column_of-last.ensures) in
     omega (arith, last_within, c.requires.ready.paint.placed.columns)
 
 pub loop-k-init : goal.loop-k-init

@@ -45,7 +45,7 @@ returns-in_err-draw_sprite-clause-paints g c =
     let es = draw_order c.args.sprites.now in
     let known = c.loop-entry.invariant in
     let sprite =
-        c.draw_sprite.ensures.sprite es (length c.loop-entry.yielded) turn.0 (sprite-get es (length c.loop-entry.yielded) c.in-Some.entry turn) known.marked in
+    c.draw_sprite.ensures.sprite es (length c.loop-entry.yielded) turn.0 (sprite-get es (length c.loop-entry.yielded) c.in-Some.entry turn) known.marked in
     paints-then_stop c.in_err-draw_sprite.was c.from_residual.ensures.1 known.paints
     (paints-wider (λ n own k. k) (sprite-among c.args.sprites.now (length c.loop-entry.yielded) c.in-Some.entry turn) sprite.paints)
 

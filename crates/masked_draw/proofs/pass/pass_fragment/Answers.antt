@@ -15,7 +15,7 @@ pub column_of-first-requires : goal.column_of-first-requires
 column_of-first-requires g c =
     let entry = c.args.entry.now in
     let numbers =
-        entry-numbers entry c.args.scene.now.view.now.shape.width (omega (arith, c.requires.note.paint.placed.columns)) c.requires.within c.requires.ordered in
+    entry-numbers entry c.args.scene.now.view.now.shape.width (omega (arith, c.requires.note.paint.placed.columns)) c.requires.within c.requires.ordered in
     let first_is = sym (to_z-of_z w32 entry.first (search rules)) in
     record { least = subst (λ z. pos 0 ≤ℤ z) first_is numbers.first_least; greatest = subst (λ (z : ℤ). z <ℤ pos (2 ^ 16)) first_is numbers.first_greatest }
 
@@ -23,7 +23,7 @@ pub column_of-last-requires-clause-greatest : goal.column_of-last-requires-claus
 column_of-last-requires-clause-greatest g c =
     let entry = c.args.entry.now in
     let numbers =
-        entry-numbers entry c.args.scene.now.view.now.shape.width (omega (arith, c.requires.note.paint.placed.columns)) c.requires.within c.requires.ordered in
+    entry-numbers entry c.args.scene.now.view.now.shape.width (omega (arith, c.requires.note.paint.placed.columns)) c.requires.within c.requires.ordered in
     subst (λ (z : ℤ). z <ℤ pos (2 ^ 16)) (sym (to_z-of_z w32 entry.last (search rules))) numbers.last_greatest
 
 pub returns-then-not-counts-clause-marked : goal.returns-then-not-counts-clause-marked

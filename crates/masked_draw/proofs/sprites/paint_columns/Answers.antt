@@ -26,5 +26,5 @@ loop-x-preserved g c =
     (g.C.Canvas.view c.loop-x.canvas) (g.C.Canvas.view c.paint_own.new.canvas)
     (own ∙ c.picture_column-own.ensures
     ∙ same_words (λ z w. picture_column entry.flip entry.width z w c.loop-x.x) _ _ _ _ (to_z-of_z w32 entry.a1 (search rules))
-        (to_z-of_z w32 entry.iscale (search rules)))
+    (to_z-of_z w32 entry.iscale (search rules)))
     c.clipped_masked-column.ensures c.requires.map c.paint_own.ensures)

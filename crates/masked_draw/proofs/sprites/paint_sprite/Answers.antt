@@ -31,7 +31,7 @@ returns-clause-paints g c =
     (λ view contents count q hold is.
     let own = lent_lump contents scene.dir.now.lumps _ entry.lump c.in-Some.art.bytes.now hold.files.faithful c.requires.lump lent.bytes in
     let shades =
-        lent_lump contents scene.dir.now.lumps _ scene.colormap.0 c.in-Some.art.colormap.now hold.files.faithful c.requires.ready.colormap lent.colormap in
+    lent_lump contents scene.dir.now.lumps _ scene.colormap.0 c.in-Some.art.colormap.now hold.files.faithful c.requires.ready.colormap lent.colormap in
     picture-painted scene.view.now (lump_bytes contents scene.dir.now.lumps) scene.textures.now scene.colormap.0 c.args.clips.now entry c.args.first c.args.last c.shape-shape.result _ _ _ _ _
     c.requires.begins c.requires.ends c.requires.ordered c.shape-shape.ensures.value own shades c.begin.ensures c.paint_columns.ensures)
     (λ view contents count q hold is.

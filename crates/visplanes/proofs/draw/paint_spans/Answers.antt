@@ -28,7 +28,7 @@ loop-y-preserved g c =
       idle = omega (arith, c.loop-y-test.true);
       painted = c.paint_row.ensures
           ∙ ap (λ (v : CanvasView). with_dots g.C.Canvas.mark (row_dots c.args.floor.now v.painter c.loop-y.y (start c.loop-y.y) (c.args.x - 1)) v)
-              known.painted
+          known.painted
           ∙ with_dots-append g.C.Canvas.mark above (row_dots c.args.floor.now old.painter c.loop-y.y (start c.loop-y.y) (c.args.x - 1)) old
           ∙ ap (λ (dots : List Dot). with_dots g.C.Canvas.mark dots old)
           (closed_rows-more c.args.floor.now old.painter start c.args.x c.args.rows.begin (c.loop-y.y - c.args.rows.begin) (c.loop-y.y + 1 - c.args.rows.begin) c.loop-y.y (omega (arith, known.from)) (omega (arith, known.from)));
