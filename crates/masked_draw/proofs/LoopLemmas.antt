@@ -22,9 +22,10 @@ note-get notes k d l = grind (arith, gets)
 
 -- the columns of one moment from fragment m on
 module _ (s : MaskScene) (notes : List FragmentNote) (es : List SpriteEntry) where
-  middles_more : (v : ViewValue) (art : Art) (moment : Option ℕ) (m number : ℕ) (d : FragmentNote) (dots : List Dot) → slice_get notes m ≡ Some d → m < length notes → number ≡ m →
-      dots ≡ middles_of v art es moment m (Some (scene_drawseg s d)) →
-      middles_down v art (scene_drawsegs s notes) es moment (length notes) (length notes - (m + 1)) ++ dots ≡ middles_down v art (scene_drawsegs s notes) es moment (length notes) (length notes - m)
+  middles_more : (v : ViewValue) (art : Art) (moment : Option ℕ) (m number : ℕ) (d : FragmentNote) (dots : List Dot) → slice_get notes m ≡ Some d →
+      m < length notes → number ≡ m → dots ≡ middles_of v art es moment m (Some (scene_drawseg s d)) →
+      middles_down v art (scene_drawsegs s notes) es moment (length notes) (length notes - (m + 1)) ++ dots
+      ≡ middles_down v art (scene_drawsegs s notes) es moment (length notes) (length notes - m)
   middles_more v art moment m number d dots g l n h =
       ap (λ (xs : List Dot). middles_down v art (scene_drawsegs s notes) es moment (length notes) (length notes - (m + 1)) ++ xs)
       (h ∙ ap (middles_of v art es moment m) (sym (scene-get s notes m d g)))
@@ -36,15 +37,17 @@ module _ (s : MaskScene) (notes : List FragmentNote) (es : List SpriteEntry) whe
         (λ art. middles_down s.view.now art (scene_drawsegs s notes) es None (length notes) (length notes - m)) start now (Ok (tt {0}))
     pub marked : MarkedTo (scene_drawseg s) notes es m (λ k. length es) marks
 
-  pub leaves-start : (mark : Painter → ℕ → ℕ) (marks : List Bool) (st : PaintState) → MarkedTo (scene_drawseg s) notes es (length notes) (λ k. length es) marks → LeavesMiddles mark (length notes) marks st st
+  pub leaves-start : (mark : Painter → ℕ → ℕ) (marks : List Bool) (st : PaintState) →
+      MarkedTo (scene_drawseg s) notes es (length notes) (λ k. length es) marks → LeavesMiddles mark (length notes) marks st st
   leaves-start mark marks st h = record {
     paints = paints-same _ (λ contents q is. sym (down-start s.view.now (scene_art contents s) (scene_drawsegs s notes) es None (length notes))) (paints-none st (tt {0}));
     marked = h;
   }
 
-  pub leaves-more : {A : Type 0} {mark : Painter → ℕ → ℕ} {start a b : PaintState} {answer : A} (from m number : ℕ) (d : FragmentNote) (old new : List Bool) → ApartNotes notes → m < length notes → slice_get notes m ≡ Some d → number ≡ m → from ≡ m + 1 →
-      LeavesMiddles mark from old start a →
-      PaintsDots mark s (IsMiddleColumn (scene_lists s) s.openings.now d) (λ (n : ℕ). ⊥) (λ art. unmarked_dots s.view.now art old d (is_between d.first d.last) number (scene_drawseg s d)) a b (Ok answer) →
+  pub leaves-more : {A : Type 0} {mark : Painter → ℕ → ℕ} {start a b : PaintState} {answer : A} (from m number : ℕ) (d : FragmentNote) (old new : List Bool) →
+      ApartNotes notes → m < length notes → slice_get notes m ≡ Some d → number ≡ m → from ≡ m + 1 → LeavesMiddles mark from old start a →
+      PaintsDots mark s (IsMiddleColumn (scene_lists s) s.openings.now d) (λ (n : ℕ). ⊥)
+      (λ art. unmarked_dots s.view.now art old d (is_between d.first d.last) number (scene_drawseg s d)) a b (Ok answer) →
       MarksBy d (is_between d.first d.last) old new → LeavesMiddles mark m new start b
   leaves-more {mark = mark} {start} {a} from m number d old new apart l g n up later call marks =
       let before : LeavesMiddles mark (m + 1) old start a = subst (λ (k : ℕ). LeavesMiddles mark k old start a) up later in record {
@@ -57,7 +60,8 @@ module _ (s : MaskScene) (notes : List FragmentNote) (es : List SpriteEntry) whe
       }
 
   pub leaves-end : {mark : Painter → ℕ → ℕ} {start now : PaintState} (m : ℕ) (marks : List Bool) → m ≡ 0 → LeavesMiddles mark m marks start now →
-      PaintsDots mark s (IsNotedMiddle (scene_lists s) s.openings.now notes) (λ (n : ℕ). ⊥) (λ art. middles_at s.view.now art (scene_drawsegs s notes) es None (length notes)) start now (Ok (tt {0}))
+      PaintsDots mark s (IsNotedMiddle (scene_lists s) s.openings.now notes) (λ (n : ℕ). ⊥)
+      (λ art. middles_at s.view.now art (scene_drawsegs s notes) es None (length notes)) start now (Ok (tt {0}))
   leaves-end m marks z h =
       paints-same _ (λ contents q is. let art = scene_art contents s in ap (λ (k : ℕ). middles_down s.view.now art (scene_drawsegs s notes) es None (length notes) (length notes - k)) z ∙ down-end s.view.now art (scene_drawsegs s notes) es None (length notes)) h.paints
 
@@ -67,7 +71,8 @@ module _ (s : MaskScene) (notes : List FragmentNote) (es : List SpriteEntry) whe
         (λ art. middles_down s.view.now art (scene_drawsegs s notes) es (Some i) (length notes) (length notes - m)) start now (Ok (tt {0}))
     pub marked : MarkedTo (scene_drawseg s) notes es (length notes) (turn_at i m) marks
 
-  pub passes-start : (mark : Painter → ℕ → ℕ) (i : ℕ) (marks : List Bool) (st : PaintState) → MarkedTo (scene_drawseg s) notes es (length notes) (λ k. i) marks → PassesMiddles mark i (length notes) marks st st
+  pub passes-start : (mark : Painter → ℕ → ℕ) (i : ℕ) (marks : List Bool) (st : PaintState) →
+      MarkedTo (scene_drawseg s) notes es (length notes) (λ k. i) marks → PassesMiddles mark i (length notes) marks st st
   passes-start mark i marks st h = record {
     paints = paints-same _ (λ contents q is. sym (down-start s.view.now (scene_art contents s) (scene_drawsegs s notes) es (Some i) (length notes))) (paints-none st (tt {0}));
     marked = marked-turn (scene_drawseg s) notes es (length notes) (λ k. i) (turn_at i (length notes)) marks (λ k l. turns-start i (length notes) k l) h;
@@ -102,10 +107,11 @@ module _ (s : MaskScene) (notes : List FragmentNote) (es : List SpriteEntry) whe
         (λ art. middles_at s.view.now art (scene_drawsegs s notes) es (Some i) (length notes)) start now (Ok (tt {0}))
     pub marked : MarkedTo (scene_drawseg s) notes es (length notes) (λ k. i + 1) marks
 
-  pub passes-end : {mark : Painter → ℕ → ℕ} {start now : PaintState} (i m : ℕ) (marks : List Bool) → m ≡ 0 → PassesMiddles mark i m marks start now → PassesSprite mark i marks start now
+  pub passes-end : {mark : Painter → ℕ → ℕ} {start now : PaintState} (i m : ℕ) (marks : List Bool) → m ≡ 0 → PassesMiddles mark i m marks start now →
+      PassesSprite mark i marks start now
   passes-end i m marks z h = record {
     paints = paints-same _ (λ contents q is. let art = scene_art contents s in ap (λ (k : ℕ). middles_down s.view.now art (scene_drawsegs s notes) es (Some i) (length notes) (length notes - k)) z ∙ down-end s.view.now art (scene_drawsegs s notes) es (Some i) (length notes)) h.paints;
-    marked = marked-turn (scene_drawseg s) notes es (length notes) (turn_at i m) (λ k. i + 1) marks (λ k l. ap (λ (j : ℕ). turn_at i j k) z ∙ turns-end i k) h.marked;
+    marked = marked-turn (scene_drawseg s) notes es (length notes) (turn_at i m) (λ k. i + 1) marks (λ k l. ap (λ j. turn_at i j k) z ∙ turns-end i k) h.marked;
   }
 
 -- the clips of a sprite, from fragment m on
@@ -113,27 +119,29 @@ pub record ClipsFrom (s : MaskScene) (notes : List FragmentNote) (e : SpriteEntr
   pub tops : RowsFrom (λ x d. d.top_clip x) (gives_top e) (scene_drawsegs s notes) (entry_has e) m minus_one greatest_clip clips.tops
   pub bottoms : RowsFrom (λ x d. d.bottom_clip x) (gives_bottom e) (scene_drawsegs s notes) (entry_has e) m least_clip (pos s.view.now.shape.height) clips.bottoms
 
-pub clips-start : (s : MaskScene) (notes : List FragmentNote) (e : SpriteEntry) (clips : SpriteClips) → ((x : ℕ) → entry_has e x ≡ true → row_in clips.tops x ≡ None) → ((x : ℕ) → entry_has e x ≡ true → row_in clips.bottoms x ≡ None) →
+pub clips-start : (s : MaskScene) (notes : List FragmentNote) (e : SpriteEntry) (clips : SpriteClips) →
+    ((x : ℕ) → entry_has e x ≡ true → row_in clips.tops x ≡ None) → ((x : ℕ) → entry_has e x ≡ true → row_in clips.bottoms x ≡ None) →
     ClipsFrom s notes e (length notes) clips
 clips-start s notes e clips t b =
-    let n = scene-length s notes in
+    let same_count = scene-length s notes in
     let ds = scene_drawsegs s notes in
     record {
-      tops = subst (λ (m : ℕ). RowsFrom (λ x d. d.top_clip x) (gives_top e) ds (entry_has e) m minus_one greatest_clip clips.tops) n (rows-start (λ x d. d.top_clip x) (gives_top e) ds (entry_has e) minus_one greatest_clip clips.tops t);
-      bottoms = subst (λ (m : ℕ). RowsFrom (λ x d. d.bottom_clip x) (gives_bottom e) ds (entry_has e) m least_clip (pos s.view.now.shape.height) clips.bottoms) n
+      tops = subst (λ (m : ℕ). RowsFrom (λ x d. d.top_clip x) (gives_top e) ds (entry_has e) m minus_one greatest_clip clips.tops) same_count (rows-start (λ x d. d.top_clip x) (gives_top e) ds (entry_has e) minus_one greatest_clip clips.tops t);
+      bottoms = subst (λ (m : ℕ). RowsFrom (λ x d. d.bottom_clip x) (gives_bottom e) ds (entry_has e) m least_clip (pos s.view.now.shape.height) clips.bottoms) same_count
           (rows-start (λ x d. d.bottom_clip x) (gives_bottom e) ds (entry_has e) least_clip (pos s.view.now.shape.height) clips.bottoms b);
     }
 
-pub clips-more : (s : MaskScene) (notes : List FragmentNote) (e : SpriteEntry) (from m : ℕ) (d : FragmentNote) (old new : SpriteClips) → IsWholeNote s.view.now.shape s.openings.now d → slice_get notes m ≡ Some d →
-    ((x : ℕ) → entry_has e x ≡ true → TakesRows e (scene_drawseg s d) old new x) → from ≡ m + 1 → ClipsFrom s notes e from old → ClipsFrom s notes e m new
+pub clips-more : (s : MaskScene) (notes : List FragmentNote) (e : SpriteEntry) (from m : ℕ) (d : FragmentNote) (old new : SpriteClips) →
+    IsWholeNote s.view.now.shape s.openings.now d → slice_get notes m ≡ Some d → ((x : ℕ) → entry_has e x ≡ true → TakesRows e (scene_drawseg s d) old new x) →
+    from ≡ m + 1 → ClipsFrom s notes e from old → ClipsFrom s notes e m new
 clips-more s notes e from m d old new whole g takes up later =
-    let h : ClipsFrom s notes e (m + 1) old = subst (λ (k : ℕ). ClipsFrom s notes e k old) up later in
+    let from_next : ClipsFrom s notes e (m + 1) old = subst (λ (k : ℕ). ClipsFrom s notes e k old) up later in
     let ds = scene_drawsegs s notes in
     let seg = scene_drawseg s d in
     let here = scene-get s notes m d g in
     record {
-      tops = rows-more (λ x d. d.top_clip x) (gives_top e) ds (entry_has e) m minus_one greatest_clip old.tops new.tops seg here (λ x t. (takes x t).top) (λ x t y. gives_top-bounds s d e x whole y) h.tops;
-      bottoms = rows-more (λ x d. d.bottom_clip x) (gives_bottom e) ds (entry_has e) m least_clip (pos s.view.now.shape.height) old.bottoms new.bottoms seg here (λ x t. (takes x t).bottom) (λ x t y. gives_bottom-bounds s d e x whole y) h.bottoms;
+      tops = rows-more (λ x d. d.top_clip x) (gives_top e) ds (entry_has e) m minus_one greatest_clip old.tops new.tops seg here (λ x t. (takes x t).top) (λ x t y. gives_top-bounds s d e x whole y) from_next.tops;
+      bottoms = rows-more (λ x d. d.bottom_clip x) (gives_bottom e) ds (entry_has e) m least_clip (pos s.view.now.shape.height) old.bottoms new.bottoms seg here (λ x t. (takes x t).bottom) (λ x t y. gives_bottom-bounds s d e x whole y) from_next.bottoms;
     }
 
 lowest : minus_one ≤ℤ greatest_clip
@@ -147,15 +155,16 @@ least_height n = grind (arith, ints)
 refl_le : (z : ℤ) → z ≤ℤ z
 refl_le z = grind (arith, ints)
 
-pub clips-end : (s : MaskScene) (notes : List FragmentNote) (e : SpriteEntry) (m : ℕ) (clips : SpriteClips) → m ≡ 0 → ClipsFrom s notes e m clips → (x : ℕ) → entry_has e x ≡ true → AreSpriteRows s (scene_drawsegs s notes) e clips x
+pub clips-end : (s : MaskScene) (notes : List FragmentNote) (e : SpriteEntry) (m : ℕ) (clips : SpriteClips) → m ≡ 0 → ClipsFrom s notes e m clips → (x : ℕ) →
+    entry_has e x ≡ true → AreSpriteRows s (scene_drawsegs s notes) e clips x
 clips-end s notes e m clips z h x t =
     let ds = scene_drawsegs s notes in
     let height = s.view.now.shape.height in
-    let k : ClipsFrom s notes e 0 clips = subst (λ (n : ℕ). ClipsFrom s notes e n clips) z h in
-    let top = rows-bounds (λ x d. d.top_clip x) (gives_top e) ds (entry_has e) 0 minus_one greatest_clip minus_one clips.tops (refl_le minus_one) lowest k.tops x t in
-    let bottom = rows-bounds (λ x d. d.bottom_clip x) (gives_bottom e) ds (entry_has e) 0 least_clip (pos height) (pos height) clips.bottoms (least_height height) (refl_le (pos height)) k.bottoms x t in
+    let from_start : ClipsFrom s notes e 0 clips = subst (λ (n : ℕ). ClipsFrom s notes e n clips) z h in
+    let top = rows-bounds (λ x d. d.top_clip x) (gives_top e) ds (entry_has e) 0 minus_one greatest_clip minus_one clips.tops (refl_le minus_one) lowest from_start.tops x t in
+    let bottom = rows-bounds (λ x d. d.bottom_clip x) (gives_bottom e) ds (entry_has e) 0 least_clip (pos height) (pos height) clips.bottoms (least_height height) (refl_le (pos height)) from_start.bottoms x t in
     record {
-      top = rows-top ds e (entry_has e) minus_one greatest_clip clips.tops k.tops x t;
-      bottom = rows-bottom height ds e (entry_has e) least_clip (pos height) clips.bottoms k.bottoms x t;
+      top = rows-top ds e (entry_has e) minus_one greatest_clip clips.tops from_start.tops x t;
+      bottom = rows-bottom height ds e (entry_has e) least_clip (pos height) clips.bottoms from_start.bottoms x t;
       rows = record { least_top = top.0; greatest_top = top.1; least_bottom = bottom.0; greatest_bottom = bottom.1 };
     }

@@ -5,7 +5,8 @@ use Rattle.picture_rules.proofs.Laws.{joined_lists-append}
 use Rattle.masked_draw.specs.Marks.{mark_in, mark_of, unmarked_by, unmarked_dots, IsOutside, AreOwnMarked, MarksBy}
 
 -- filters over a range
-pub range_agree : (p q : ℕ → Bool) (a n : ℕ) → ((x : ℕ) → a ≤ x → x < a + n → p x ≡ q x) → filter p (map (λ x. x) (range_with_len a n)) ≡ filter q (map (λ x. x) (range_with_len a n))
+pub range_agree : (p q : ℕ → Bool) (a n : ℕ) → ((x : ℕ) → a ≤ x → x < a + n → p x ≡ q x) →
+    filter p (map (λ x. x) (range_with_len a n)) ≡ filter q (map (λ x. x) (range_with_len a n))
 range_agree p q a zero h = refl
 range_agree p q a (suc n) h =
     ap (λ (b : Bool). cond b (a ∷ filter p (map (λ x. x) (range_with_len (a + 1) n))) (filter p (map (λ x. x) (range_with_len (a + 1) n)))) (h a (omega arith) (omega arith))
@@ -28,9 +29,9 @@ here false = refl
 up_at : (q : ℕ → Bool) (from x : ℕ) → from ≤ x → up_to q from (x + 1) x ≡ q x
 unfolding up_to
 up_at q from x l =
-    let a : nat_le from x ≡ true = grind (arith, nat_tests) in
-    let b : nat_lt x (x + 1) ≡ true = grind (arith, nat_tests) in
-    rw (a, b) (here (q x))
+    let from_reached : nat_le from x ≡ true = grind (arith, nat_tests) in
+    let before_next : nat_lt x (x + 1) ≡ true = grind (arith, nat_tests) in
+    rw (from_reached, before_next) (here (q x))
 
 both_no : (b c : Bool) → (b && (c && false)) ≡ false
 both_no true true = refl
@@ -40,24 +41,24 @@ both_no false c = refl
 up_past : (q : ℕ → Bool) (from x y : ℕ) → x ≤ y → up_to q from x y ≡ false
 unfolding up_to
 up_past q from x y l =
-    let b : nat_lt y x ≡ false = grind (arith, nat_tests) in
-    rw b (both_no (q y) (nat_le from y))
+    let not_below : nat_lt y x ≡ false = grind (arith, nat_tests) in
+    rw not_below (both_no (q y) (nat_le from y))
 
 up_below : (q : ℕ → Bool) (from x y : ℕ) → y < x → up_to q from (x + 1) y ≡ up_to q from x y
 unfolding up_to
 up_below q from x y l =
-    let a : nat_lt y x ≡ true = grind (arith, nat_tests) in
-    let b : nat_lt y (x + 1) ≡ true = grind (arith, nat_tests) in
-    rw (a, b) refl
+    let is_below : nat_lt y x ≡ true = grind (arith, nat_tests) in
+    let below_next : nat_lt y (x + 1) ≡ true = grind (arith, nat_tests) in
+    rw (is_below, below_next) refl
 
 one_more_at : (q : ℕ → Bool) (from x n : ℕ) → from ≤ x → filter (up_to q from (x + 1)) (map (λ x. x) (range_with_len x (suc n))) ≡ filter (up_to q from x) (map (λ x. x) (range_with_len x (suc n))) ++ cond (q x) (x ∷ []) []
 one_more_at q from x n l =
-    let f = up_to q from (x + 1) in
-    let g = up_to q from x in
+    let with_it = up_to q from (x + 1) in
+    let without_it = up_to q from x in
     let rest : List ℕ = map (λ x. x) (range_with_len (x + 1) n) in
-    let none = range_none f (x + 1) n (λ y a b. up_past q from (x + 1) y a) in
-    let none_g = range_none g x (suc n) (λ y a b. up_past q from x y a) in
-    ap (λ (b : Bool). cond b (x ∷ filter f rest) (filter f rest)) (up_at q from x l)
+    let none = range_none with_it (x + 1) n (λ y a b. up_past q from (x + 1) y a) in
+    let none_g = range_none without_it x (suc n) (λ y a b. up_past q from x y a) in
+    ap (λ (b : Bool). cond b (x ∷ filter with_it rest) (filter with_it rest)) (up_at q from x l)
     ∙ ap (λ (xs : List ℕ). cond (q x) (x ∷ xs) xs) none
     ∙ sym (ap (λ (xs : List ℕ). xs ++ cond (q x) (x ∷ []) []) none_g)
 
@@ -66,17 +67,18 @@ head_append true a xs ys zs h = ap (λ (l : List ℕ). a ∷ l) h
 head_append false a xs ys zs h = h
 
 -- one column more at the end of those that were asked
-one_more : (q : ℕ → Bool) (from x a n : ℕ) → from ≤ x → a ≤ x → x < a + n → filter (up_to q from (x + 1)) (map (λ x. x) (range_with_len a n)) ≡ filter (up_to q from x) (map (λ x. x) (range_with_len a n)) ++ cond (q x) (x ∷ []) []
+one_more : (q : ℕ → Bool) (from x a n : ℕ) → from ≤ x → a ≤ x → x < a + n →
+    filter (up_to q from (x + 1)) (map (λ x. x) (range_with_len a n)) ≡ filter (up_to q from x) (map (λ x. x) (range_with_len a n)) ++ cond (q x) (x ∷ []) []
 one_more q from x a zero l m r = absurd (omega arith)
 one_more q from x a (suc n) l m r = elim (cases_lt a x) [
   | inl s ↦
-      let f = up_to q from (x + 1) in
-      let g = up_to q from x in
-      ap (λ (b : Bool). cond b (a ∷ filter f (map (λ x. x) (range_with_len (a + 1) n))) (filter f (map (λ x. x) (range_with_len (a + 1) n)))) (up_below q from x a s)
-      ∙ head_append (g a) a (filter f (map (λ x. x) (range_with_len (a + 1) n))) (filter g (map (λ x. x) (range_with_len (a + 1) n))) (cond (q x) (x ∷ []) []) (one_more q from x (a + 1) n l (omega arith) (omega arith))
+      let with_it = up_to q from (x + 1) in
+      let without_it = up_to q from x in
+      ap (λ (b : Bool). cond b (a ∷ filter with_it (map (λ x. x) (range_with_len (a + 1) n))) (filter with_it (map (λ x. x) (range_with_len (a + 1) n)))) (up_below q from x a s)
+      ∙ head_append (without_it a) a (filter with_it (map (λ x. x) (range_with_len (a + 1) n))) (filter without_it (map (λ x. x) (range_with_len (a + 1) n))) (cond (q x) (x ∷ []) []) (one_more q from x (a + 1) n l (omega arith) (omega arith))
   | inr s ↦
-      let e : x ≡ a = omega arith in
-      subst (λ (z : ℕ). filter (up_to q from (x + 1)) (map (λ x. x) (range_with_len z (suc n))) ≡ filter (up_to q from x) (map (λ x. x) (range_with_len z (suc n))) ++ cond (q x) (x ∷ []) []) e (one_more_at q from x n l)
+      let is_start : x ≡ a = omega arith in
+      subst (λ (z : ℕ). filter (up_to q from (x + 1)) (map (λ x. x) (range_with_len z (suc n))) ≡ filter (up_to q from x) (map (λ x. x) (range_with_len z (suc n))) ++ cond (q x) (x ∷ []) []) is_start (one_more_at q from x n l)
 ]
 
 unmarked_same : (marks : List Bool) (d : FragmentNote) (gives other : ℕ → Bool) (masked : Option ℕ) → ((x : ℕ) → d.first ≤ x → x ≤ d.last → gives x ≡ other x) →
@@ -87,12 +89,13 @@ unmarked_same marks d gives other (Some place) h =
     range_agree (λ x. not (mark_of marks d place x) && gives x) (λ x. not (mark_of marks d place x) && other x) d.first (d.last + 1 - d.first)
     (λ x l m. ap (λ (b : Bool). not (mark_of marks d place x) && b) (h x l (omega arith)))
 
-pub unmarked-same : (v : ViewValue) (art : Art) (marks : List Bool) (d : FragmentNote) (gives other : ℕ → Bool) (k : ℕ) (drawseg : Drawseg) → ((x : ℕ) → d.first ≤ x → x ≤ d.last → gives x ≡ other x) →
-    unmarked_dots v art marks d gives k drawseg ≡ unmarked_dots v art marks d other k drawseg
+pub unmarked-same : (v : ViewValue) (art : Art) (marks : List Bool) (d : FragmentNote) (gives other : ℕ → Bool) (k : ℕ) (drawseg : Drawseg) →
+    ((x : ℕ) → d.first ≤ x → x ≤ d.last → gives x ≡ other x) → unmarked_dots v art marks d gives k drawseg ≡ unmarked_dots v art marks d other k drawseg
 unfolding unmarked_dots
 unmarked-same v art marks d gives other k drawseg h = ap (joined_lists (middle_column v art k drawseg)) (unmarked_same marks d gives other d.masked h)
 
-unmarked_none : (marks : List Bool) (d : FragmentNote) (gives : ℕ → Bool) (masked : Option ℕ) → ((x : ℕ) → d.first ≤ x → x ≤ d.last → gives x ≡ false) → unmarked_by marks d gives masked ≡ []
+unmarked_none : (marks : List Bool) (d : FragmentNote) (gives : ℕ → Bool) (masked : Option ℕ) → ((x : ℕ) → d.first ≤ x → x ≤ d.last → gives x ≡ false) →
+    unmarked_by marks d gives masked ≡ []
 unfolding unmarked_by listed_from
 unmarked_none marks d gives None h = refl
 unmarked_none marks d gives (Some place) h =
@@ -100,12 +103,14 @@ unmarked_none marks d gives (Some place) h =
     (λ x l m. ap (λ (b : Bool). not (mark_of marks d place x) && b) (h x l (omega arith)) ∙ and-false (not (mark_of marks d place x)))
 
 -- none of them passes
-pub unmarked-none : (v : ViewValue) (art : Art) (marks : List Bool) (d : FragmentNote) (gives : ℕ → Bool) (k : ℕ) (drawseg : Drawseg) → ((x : ℕ) → d.first ≤ x → x ≤ d.last → gives x ≡ false) → unmarked_dots v art marks d gives k drawseg ≡ []
+pub unmarked-none : (v : ViewValue) (art : Art) (marks : List Bool) (d : FragmentNote) (gives : ℕ → Bool) (k : ℕ) (drawseg : Drawseg) →
+    ((x : ℕ) → d.first ≤ x → x ≤ d.last → gives x ≡ false) → unmarked_dots v art marks d gives k drawseg ≡ []
 unfolding unmarked_dots joined_lists
 unmarked-none v art marks d gives k drawseg h = ap (joined_lists (middle_column v art k drawseg)) (unmarked_none marks d gives d.masked h)
 
 -- the note is not masked
-pub unmarked-plain : (v : ViewValue) (art : Art) (marks : List Bool) (d : FragmentNote) (gives : ℕ → Bool) (k : ℕ) (drawseg : Drawseg) → d.masked ≡ None → unmarked_dots v art marks d gives k drawseg ≡ []
+pub unmarked-plain : (v : ViewValue) (art : Art) (marks : List Bool) (d : FragmentNote) (gives : ℕ → Bool) (k : ℕ) (drawseg : Drawseg) → d.masked ≡ None →
+    unmarked_dots v art marks d gives k drawseg ≡ []
 unfolding unmarked_dots joined_lists unmarked_by
 unmarked-plain v art marks d gives k drawseg e = ap (λ (m : Option ℕ). joined_lists (middle_column v art k drawseg) (unmarked_by marks d gives m)) e
 
@@ -113,7 +118,8 @@ abbrev pub between : ℕ → ℕ → ℕ → Bool
 between from x y = nat_le from y && nat_lt y x
 
 unmarked_more : (marks : List Bool) (d : FragmentNote) (place from x : ℕ) → d.first ≤ from → from ≤ x → x ≤ d.last →
-    unmarked_by marks d (between from (x + 1)) (Some place) ≡ unmarked_by marks d (between from x) (Some place) ++ cond (not (mark_of marks d place x)) (x ∷ []) []
+    unmarked_by marks d (between from (x + 1)) (Some place)
+    ≡ unmarked_by marks d (between from x) (Some place) ++ cond (not (mark_of marks d place x)) (x ∷ []) []
 unfolding unmarked_by listed_from up_to
 unmarked_more marks d place from x l m r =
     one_more (λ y. not (mark_of marks d place y)) from x d.first (d.last + 1 - d.first) m (omega arith) (omega arith)
@@ -124,17 +130,18 @@ joined_cond f true x = append-nil (f x)
 joined_cond f false x = refl
 
 -- one column more
-pub unmarked-more : (v : ViewValue) (art : Art) (marks : List Bool) (d : FragmentNote) (place from x k : ℕ) (drawseg : Drawseg) → d.masked ≡ Some place → d.first ≤ from → from ≤ x → x ≤ d.last →
+pub unmarked-more : (v : ViewValue) (art : Art) (marks : List Bool) (d : FragmentNote) (place from x k : ℕ) (drawseg : Drawseg) → d.masked ≡ Some place →
+    d.first ≤ from → from ≤ x → x ≤ d.last →
     unmarked_dots v art marks d (between from (x + 1)) k drawseg
     ≡ unmarked_dots v art marks d (between from x) k drawseg ++ cond (not (mark_of marks d place x)) (middle_column v art k drawseg x) []
 unfolding unmarked_dots
 unmarked-more v art marks d place from x k drawseg e l m r =
-    let f = middle_column v art k drawseg in
-    ap (λ (o : Option ℕ). joined_lists f (unmarked_by marks d (between from (x + 1)) o)) e
-    ∙ ap (joined_lists f) (unmarked_more marks d place from x l m r)
-    ∙ joined_lists-append f (unmarked_by marks d (between from x) (Some place)) (cond (not (mark_of marks d place x)) (x ∷ []) [])
-    ∙ ap (λ (ys : List Dot). joined_lists f (unmarked_by marks d (between from x) (Some place)) ++ ys) (joined_cond f (not (mark_of marks d place x)) x)
-    ∙ ap (λ (o : Option ℕ). joined_lists f (unmarked_by marks d (between from x) o) ++ cond (not (mark_of marks d place x)) (f x) []) (sym e)
+    let dots_at = middle_column v art k drawseg in
+    ap (λ (o : Option ℕ). joined_lists dots_at (unmarked_by marks d (between from (x + 1)) o)) e
+    ∙ ap (joined_lists dots_at) (unmarked_more marks d place from x l m r)
+    ∙ joined_lists-append dots_at (unmarked_by marks d (between from x) (Some place)) (cond (not (mark_of marks d place x)) (x ∷ []) [])
+    ∙ ap (λ ys. joined_lists dots_at (unmarked_by marks d (between from x) (Some place)) ++ ys) (joined_cond dots_at (not (mark_of marks d place x)) x)
+    ∙ ap (λ (o : Option ℕ). joined_lists dots_at (unmarked_by marks d (between from x) o) ++ cond (not (mark_of marks d place x)) (dots_at x) []) (sym e)
 
 -- marks of columns: none, one column more, and another test
 or_no : (b : Bool) → b ≡ (b || false)
@@ -145,20 +152,24 @@ or_yes : (b : Bool) → true ≡ (b || true)
 or_yes true = refl
 or_yes false = refl
 
-own_none : (d : FragmentNote) (gives : ℕ → Bool) (marks : List Bool) (masked : Option ℕ) → ((x : ℕ) → d.first ≤ x → x ≤ d.last → gives x ≡ false) → AreOwnMarked d gives marks marks masked
+own_none : (d : FragmentNote) (gives : ℕ → Bool) (marks : List Bool) (masked : Option ℕ) → ((x : ℕ) → d.first ≤ x → x ≤ d.last → gives x ≡ false) →
+    AreOwnMarked d gives marks marks masked
 own_none d gives marks None h = tt
 own_none d gives marks (Some place) h =
     λ x l m. or_no (mark_of marks d place x) ∙ ap (λ (b : Bool). mark_of marks d place x || b) (sym (h x l m))
 
-pub marks-none : (d : FragmentNote) (gives : ℕ → Bool) (marks : List Bool) → ((x : ℕ) → d.first ≤ x → x ≤ d.last → gives x ≡ false) → MarksBy d gives marks marks
+pub marks-none : (d : FragmentNote) (gives : ℕ → Bool) (marks : List Bool) → ((x : ℕ) → d.first ≤ x → x ≤ d.last → gives x ≡ false) →
+    MarksBy d gives marks marks
 marks-none d gives marks h = record { own = own_none d gives marks d.masked h; others = λ p o. refl }
 
-own_same : (d : FragmentNote) (gives other : ℕ → Bool) (old new : List Bool) (masked : Option ℕ) → ((x : ℕ) → d.first ≤ x → x ≤ d.last → gives x ≡ other x) → AreOwnMarked d gives old new masked → AreOwnMarked d other old new masked
+own_same : (d : FragmentNote) (gives other : ℕ → Bool) (old new : List Bool) (masked : Option ℕ) → ((x : ℕ) → d.first ≤ x → x ≤ d.last → gives x ≡ other x) →
+    AreOwnMarked d gives old new masked → AreOwnMarked d other old new masked
 own_same d gives other old new None h a = tt
 own_same d gives other old new (Some place) h a =
     λ x l m. a x l m ∙ ap (λ (b : Bool). mark_of old d place x || b) (h x l m)
 
-pub marks-same : (d : FragmentNote) (gives other : ℕ → Bool) (old new : List Bool) → ((x : ℕ) → d.first ≤ x → x ≤ d.last → gives x ≡ other x) → MarksBy d gives old new → MarksBy d other old new
+pub marks-same : (d : FragmentNote) (gives other : ℕ → Bool) (old new : List Bool) → ((x : ℕ) → d.first ≤ x → x ≤ d.last → gives x ≡ other x) →
+    MarksBy d gives old new → MarksBy d other old new
 marks-same d gives other old new h a = record { own = own_same d gives other old new d.masked h a.own; others = a.others }
 
 between_none : (from y : ℕ) → between from from y ≡ false
@@ -176,24 +187,29 @@ between_other from x y h = grind (arith, nat_tests)
 pub marks-start : (d : FragmentNote) (from : ℕ) (marks : List Bool) → MarksBy d (between from from) marks marks
 marks-start d from marks = marks-none d (between from from) marks (λ x l m. between_none from x)
 
-pub unmarked-start : (v : ViewValue) (art : Art) (marks : List Bool) (d : FragmentNote) (from k : ℕ) (drawseg : Drawseg) → unmarked_dots v art marks d (between from from) k drawseg ≡ []
+pub unmarked-start : (v : ViewValue) (art : Art) (marks : List Bool) (d : FragmentNote) (from k : ℕ) (drawseg : Drawseg) →
+    unmarked_dots v art marks d (between from from) k drawseg ≡ []
 unmarked-start v art marks d from k drawseg = unmarked-none v art marks d (between from from) k drawseg (λ x l m. between_none from x)
 
-pub own_at : (d : FragmentNote) (gives : ℕ → Bool) (old new : List Bool) (place : ℕ) (masked : Option ℕ) → masked ≡ Some place → AreOwnMarked d gives old new masked → (x : ℕ) → d.first ≤ x → x ≤ d.last → mark_of new d place x ≡ (mark_of old d place x || gives x)
-own_at d gives old new place masked e a = let P : Option ℕ → Type 0 = λ o. AreOwnMarked d gives old new o in subst P e a
+pub own_at : (d : FragmentNote) (gives : ℕ → Bool) (old new : List Bool) (place : ℕ) (masked : Option ℕ) → masked ≡ Some place →
+    AreOwnMarked d gives old new masked → (x : ℕ) → d.first ≤ x → x ≤ d.last → mark_of new d place x ≡ (mark_of old d place x || gives x)
+own_at d gives old new place masked e a = let WithMasked : Option ℕ → Type 0 = λ o. AreOwnMarked d gives old new o in subst WithMasked e a
 
-own_from : (d : FragmentNote) (gives : ℕ → Bool) (old new : List Bool) (place : ℕ) (masked : Option ℕ) → masked ≡ Some place → ((x : ℕ) → d.first ≤ x → x ≤ d.last → mark_of new d place x ≡ (mark_of old d place x || gives x)) → AreOwnMarked d gives old new masked
-own_from d gives old new place masked e a = let P : Option ℕ → Type 0 = λ o. AreOwnMarked d gives old new o in subst P (sym e) a
+own_from : (d : FragmentNote) (gives : ℕ → Bool) (old new : List Bool) (place : ℕ) (masked : Option ℕ) → masked ≡ Some place →
+    ((x : ℕ) → d.first ≤ x → x ≤ d.last → mark_of new d place x ≡ (mark_of old d place x || gives x)) → AreOwnMarked d gives old new masked
+own_from d gives old new place masked e a = let WithMasked : Option ℕ → Type 0 = λ o. AreOwnMarked d gives old new o in subst WithMasked (sym e) a
 
-outside_at : (d : FragmentNote) (p place : ℕ) (masked : Option ℕ) → masked ≡ Some place → IsOutside d masked p → (p < place) ⊎ (place + (d.last + 1 - d.first) ≤ p)
-outside_at d p place masked e a = let P : Option ℕ → Type 0 = λ o. IsOutside d o p in subst P e a
+outside_at : (d : FragmentNote) (p place : ℕ) (masked : Option ℕ) → masked ≡ Some place → IsOutside d masked p →
+    (p < place) ⊎ (place + (d.last + 1 - d.first) ≤ p)
+outside_at d p place masked e a = let WithMasked : Option ℕ → Type 0 = λ o. IsOutside d o p in subst WithMasked e a
 
 pub outside_not : (d : FragmentNote) (p place x : ℕ) → d.first ≤ x → x ≤ d.last → (p < place) ⊎ (place + (d.last + 1 - d.first) ≤ p) → p ≢ place + (x - d.first)
 outside_not d p place x l m (inl a) = omega arith
 outside_not d p place x l m (inr b) = omega arith
 
 -- the column that was asked last has its mark as before
-pub marks-here : (d : FragmentNote) (place from x : ℕ) (old now : List Bool) → d.masked ≡ Some place → d.first ≤ x → x ≤ d.last → MarksBy d (between from x) old now → mark_of now d place x ≡ mark_of old d place x
+pub marks-here : (d : FragmentNote) (place from x : ℕ) (old now : List Bool) → d.masked ≡ Some place → d.first ≤ x → x ≤ d.last →
+    MarksBy d (between from x) old now → mark_of now d place x ≡ mark_of old d place x
 marks-here d place from x old now e l m h =
     own_at d (between from x) old now place d.masked e h.own x l m
     ∙ ap (λ (b : Bool). mark_of old d place x || b) (between_past from x) ∙ sym (or_no (mark_of old d place x))
@@ -212,14 +228,15 @@ more_at d place from x y old now new a l g h t s (inr b) = elim (cases_lt x y) [
       let np : place + (y - d.first) ≢ place + (x - d.first) = omega arith in
       s (place + (y - d.first)) np ∙ h ∙ ap (λ (c : Bool). mark_of old d place y || c) (between_other from x y ne)
   | inr c ↦
-      let e : x ≡ y = omega arith in
-      let P : ℕ → Type 0 = λ z. mark_of new d place z ≡ (mark_of old d place z || between from (x + 1) z) in
-      subst P e (t ∙ or_yes (mark_of old d place x) ∙ ap (λ (c : Bool). mark_of old d place x || c) (sym (between_here from x l)))
+      let is_same : x ≡ y = omega arith in
+      let IsMarkedAt : ℕ → Type 0 = λ z. mark_of new d place z ≡ (mark_of old d place z || between from (x + 1) z) in
+      subst IsMarkedAt is_same (t ∙ or_yes (mark_of old d place x) ∙ ap (λ (c : Bool). mark_of old d place x || c) (sym (between_here from x l)))
 ]
 
 -- one column more is marked
-pub marks-more : (d : FragmentNote) (place from x : ℕ) (old now new : List Bool) → d.masked ≡ Some place → d.first ≤ from → from ≤ x → x ≤ d.last → MarksBy d (between from x) old now →
-    mark_of new d place x ≡ true → ((p : ℕ) → p ≢ place + (x - d.first) → mark_in new p ≡ mark_in now p) → MarksBy d (between from (x + 1)) old new
+pub marks-more : (d : FragmentNote) (place from x : ℕ) (old now new : List Bool) → d.masked ≡ Some place → d.first ≤ from → from ≤ x → x ≤ d.last →
+    MarksBy d (between from x) old now → mark_of new d place x ≡ true → ((p : ℕ) → p ≢ place + (x - d.first) → mark_in new p ≡ mark_in now p) →
+    MarksBy d (between from (x + 1)) old new
 marks-more d place from x old now new e a l m h t s = record {
   own = own_from d (between from (x + 1)) old new place d.masked e
       (λ y f g. more_at d place from x y old now new a l f (own_at d (between from x) old now place d.masked e h.own y f g) t s (cases_lt y x));

@@ -17,19 +17,19 @@ before_step p n i b (Some j) l = refl
 -- the least number that passes is below i exactly where there is one below i that passes
 before-least_at : (p : ℕ → Bool) (i k : ℕ) → is_before (least p (i + k)) i ≡ is_some (least p i)
 before-least_at p i zero =
-    let e : i + zero ≡ i = omega arith in
-    ap (λ (m : ℕ). is_before (least p m) i) e ∙ before_here p i (least p i) refl
+    let same_count : i + zero ≡ i = omega arith in
+    ap (λ (m : ℕ). is_before (least p m) i) same_count ∙ before_here p i (least p i) refl
 before-least_at p i (suc k) =
-    let e : i + suc k ≡ (i + k) + 1 = omega arith in
-    ap (λ (m : ℕ). is_before (least p m) i) e
+    let one_more : i + suc k ≡ (i + k) + 1 = omega arith in
+    ap (λ (m : ℕ). is_before (least p m) i) one_more
     ∙ ap (λ (o : Option ℕ). is_before o i) (least-more p (i + k))
     ∙ before_step p (i + k) i (p (i + k)) (least p (i + k)) (omega arith)
     ∙ before-least_at p i k
 
 pub before-least : (p : ℕ → Bool) (n i : ℕ) → i ≤ n → is_before (least p n) i ≡ is_some (least p i)
 before-least p n i l =
-    let e : i + (n - i) ≡ n = omega arith in
-    sym (ap (λ (m : ℕ). is_before (least p m) i) e) ∙ before-least_at p i (n - i)
+    let whole_count : i + (n - i) ≡ n = omega arith in
+    sym (ap (λ (m : ℕ). is_before (least p m) i) whole_count) ∙ before-least_at p i (n - i)
 
 some_or : (o : Option ℕ) (b : Bool) (n : ℕ) → is_some (or_else o (cond b (Some n) None)) ≡ (is_some o || b)
 some_or None true n = refl
@@ -48,7 +48,7 @@ same_number-now (Some j) i = grind (arith, nat_tests)
 same_left : (p : ℕ → Bool) (n : ℕ) (o : Option ℕ) → least p n ≡ o → same_number o None ≡ not (is_before o n)
 unfolding same_number
 same_left p n None e = refl
-same_left p n (Some j) e = let h = lt-true j n (least-is p n j e).0 in sym (ap not h)
+same_left p n (Some j) e = let is_below = lt-true j n (least-is p n j e).0 in sym (ap not is_below)
 
 stands_passed : (d : Drawseg) (x : ℕ) (e : SpriteEntry) (o : Option SpriteEntry) → o ≡ Some e → stands_in_front d x o ≡ is_passed e d x
 unfolding stands_in_front
@@ -62,12 +62,12 @@ or_passed false b c h = h
 pub front-more : (sprites : List SpriteEntry) (d : Drawseg) (x i : ℕ) (e : SpriteEntry) → i < length sprites → slice_get sprites i ≡ Some e →
     is_before (sprite_in_front sprites d x) (i + 1) ≡ (is_before (sprite_in_front sprites d x) i || is_passed e d x)
 front-more sprites d x i e l h =
-    let p = λ (k : ℕ). stands_in_front d x (slice_get sprites k) in
+    let stands = λ (k : ℕ). stands_in_front d x (slice_get sprites k) in
     let least_is = sprite_in_front-least sprites d x in
-    let up = before-least p (length sprites) (i + 1) (omega arith) in
-    let at = before-least p (length sprites) i (omega arith) in
-    ap (λ (o : Option ℕ). is_before o (i + 1)) least_is ∙ up ∙ some-least_more p i
-    ∙ ap (λ (b : Bool). b || p i) (sym (ap (λ (o : Option ℕ). is_before o i) least_is ∙ at))
+    let up = before-least stands (length sprites) (i + 1) (omega arith) in
+    let at = before-least stands (length sprites) i (omega arith) in
+    ap (λ (o : Option ℕ). is_before o (i + 1)) least_is ∙ up ∙ some-least_more stands i
+    ∙ ap (λ (b : Bool). b || stands i) (sym (ap (λ (o : Option ℕ). is_before o i) least_is ∙ at))
     ∙ ap (λ (b : Bool). is_before (sprite_in_front sprites d x) i || b) (stands_passed d x e (slice_get sprites i) h)
 
 -- it is painted just before this sprite
@@ -81,9 +81,9 @@ front-now sprites d x i e l h =
 pub front-left : (sprites : List SpriteEntry) (d : Drawseg) (x : ℕ) →
     same_number (sprite_in_front sprites d x) None ≡ not (is_before (sprite_in_front sprites d x) (length sprites))
 front-left sprites d x =
-    let p = λ (k : ℕ). stands_in_front d x (slice_get sprites k) in
+    let stands = λ (k : ℕ). stands_in_front d x (slice_get sprites k) in
     let least_is = sprite_in_front-least sprites d x in
-    ap (λ (o : Option ℕ). same_number o None) least_is ∙ same_left p (length sprites) (least p (length sprites)) refl
+    ap (λ (o : Option ℕ). same_number o None) least_is ∙ same_left stands (length sprites) (least stands (length sprites)) refl
     ∙ ap (λ (o : Option ℕ). not (is_before o (length sprites))) (sym least_is)
 
 before_none : (o : Option ℕ) → is_before o 0 ≡ false

@@ -41,23 +41,27 @@ dots_of_moment v art marks es moment k d drawseg gives a h =
     ap (joined_lists (middle_column v art k drawseg))
     (columns_of_moment marks es moment d drawseg gives d.masked a.masked h ∙ columns_moved es moment drawseg d.first d.last a.first a.last)
 
-before_at : (seg : FragmentNote → Drawseg) (es : List SpriteEntry) (marks : List Bool) (d : FragmentNote) (i place : ℕ) (masked : Option ℕ) → masked ≡ Some place → AreBefore seg es marks d i masked →
-    (x : ℕ) → d.first ≤ x → x ≤ d.last → mark_of marks d place x ≡ is_before (sprite_in_front es (seg d) x) i
-before_at seg es marks d i place masked e a = let P : Option ℕ → Type 0 = λ o. AreBefore seg es marks d i o in subst P e a
+-- the mark of one column of a note
+before_at : (seg : FragmentNote → Drawseg) (es : List SpriteEntry) (marks : List Bool) (d : FragmentNote) (i place : ℕ) (masked : Option ℕ) →
+    masked ≡ Some place → AreBefore seg es marks d i masked → (x : ℕ) → d.first ≤ x → x ≤ d.last →
+    mark_of marks d place x ≡ is_before (sprite_in_front es (seg d) x) i
+before_at seg es marks d i place masked e a = let WithMasked : Option ℕ → Type 0 = λ o. AreBefore seg es marks d i o in subst WithMasked e a
 
+-- the marks of one of the notes
 note_at : (seg : FragmentNote → Drawseg) (notes : List FragmentNote) (es : List SpriteEntry) (n : ℕ) (turn : ℕ → ℕ) (marks : List Bool) (k : ℕ) (d : FragmentNote) → MarkedTo seg notes es n turn marks → k < n → slice_get notes k ≡ Some d → AreBefore seg es marks d (turn k) d.masked
 note_at seg notes es n turn marks k d h l e =
-    let P : Option FragmentNote → Type 0 = λ o. IfSome o (λ d. AreBefore seg es marks d (turn k) d.masked) in subst P e (h.at k l)
+    let OfNote : Option FragmentNote → Type 0 = λ o. IfSome o (λ d. AreBefore seg es marks d (turn k) d.masked) in subst OfNote e (h.at k l)
 
 -- the unmarked columns of a fragment behind a sprite are those of its moment
-pub passed-middles : (v : ViewValue) (art : Art) (seg : FragmentNote → Drawseg) (notes : List FragmentNote) (es : List SpriteEntry) (n : ℕ) (turn : ℕ → ℕ) (marks : List Bool) (k i : ℕ) (d : FragmentNote) (e : SpriteEntry) →
+pub passed-middles : (v : ViewValue) (art : Art) (seg : FragmentNote → Drawseg) (notes : List FragmentNote) (es : List SpriteEntry) (n : ℕ) (turn : ℕ → ℕ)
+    (marks : List Bool) (k i : ℕ) (d : FragmentNote) (e : SpriteEntry) →
     HasColumnsOf d (seg d) → MarkedTo seg notes es n turn marks → k < n → slice_get notes k ≡ Some d → turn k ≡ i → i < length es → slice_get es i ≡ Some e →
     unmarked_dots v art marks d (is_passed e (seg d)) k (seg d) ≡ middles_of v art es (Some i) k (Some (seg d))
 passed-middles v art seg notes es n turn marks k i d e a h l g t m f =
-    let P : ℕ → Type 0 = λ j. AreBefore seg es marks d j d.masked in
-    let b : AreBefore seg es marks d i d.masked = subst P t (note_at seg notes es n turn marks k d h l g) in
+    let AtTurn : ℕ → Type 0 = λ j. AreBefore seg es marks d j d.masked in
+    let marked_before : AreBefore seg es marks d i d.masked = subst AtTurn t (note_at seg notes es n turn marks k d h l g) in
     dots_of_moment v art marks es (Some i) k d (seg d) (is_passed e (seg d)) a
-    (λ place x s p q. ap (λ (z : Bool). not z && is_passed e (seg d) x) (before_at seg es marks d i place d.masked s b x p q) ∙ sym (front-now es (seg d) x i e m f))
+    (λ place x s p q. ap (λ (z : Bool). not z && is_passed e (seg d) x) (before_at seg es marks d i place d.masked s marked_before x p q) ∙ sym (front-now es (seg d) x i e m f))
 
 between_all : (first last x : ℕ) → first ≤ x → x ≤ last → is_between first last x ≡ true
 between_all first last x l m = grind (arith, nat_tests)
@@ -67,22 +71,25 @@ and_yes true b h = h
 and_yes false b h = refl
 
 -- those of a fragment that are left after all sprites
-pub left-middles : (v : ViewValue) (art : Art) (seg : FragmentNote → Drawseg) (notes : List FragmentNote) (es : List SpriteEntry) (n : ℕ) (turn : ℕ → ℕ) (marks : List Bool) (k : ℕ) (d : FragmentNote) →
+pub left-middles : (v : ViewValue) (art : Art) (seg : FragmentNote → Drawseg) (notes : List FragmentNote) (es : List SpriteEntry) (n : ℕ) (turn : ℕ → ℕ)
+    (marks : List Bool) (k : ℕ) (d : FragmentNote) →
     HasColumnsOf d (seg d) → MarkedTo seg notes es n turn marks → k < n → slice_get notes k ≡ Some d → turn k ≡ length es →
     unmarked_dots v art marks d (is_between d.first d.last) k (seg d) ≡ middles_of v art es None k (Some (seg d))
 left-middles v art seg notes es n turn marks k d a h l g t =
-    let P : ℕ → Type 0 = λ j. AreBefore seg es marks d j d.masked in
-    let b : AreBefore seg es marks d (length es) d.masked = subst P t (note_at seg notes es n turn marks k d h l g) in
+    let AtTurn : ℕ → Type 0 = λ j. AreBefore seg es marks d j d.masked in
+    let marked_before : AreBefore seg es marks d (length es) d.masked = subst AtTurn t (note_at seg notes es n turn marks k d h l g) in
     dots_of_moment v art marks es None k d (seg d) (is_between d.first d.last) a
     (λ place x s p q. and_yes (not (mark_of marks d place x)) (is_between d.first d.last x) (between_all d.first d.last x p q)
-    ∙ ap not (before_at seg es marks d (length es) place d.masked s b x p q) ∙ sym (front-left es (seg d) x))
+    ∙ ap not (before_at seg es marks d (length es) place d.masked s marked_before x p q) ∙ sym (front-left es (seg d) x))
 
 -- places of different notes are apart
-outside_low : (d e : FragmentNote) (other x : ℕ) (masked : Option ℕ) → d.first ≤ x → x ≤ d.last → (place : ℕ) → ListsApart d (Some place) masked → IsOutside e masked (place + (x - d.first))
+outside_low : (d e : FragmentNote) (other x : ℕ) (masked : Option ℕ) → d.first ≤ x → x ≤ d.last → (place : ℕ) → ListsApart d (Some place) masked →
+    IsOutside e masked (place + (x - d.first))
 outside_low d e other x None l m place h = tt
 outside_low d e other x (Some start) l m place h = inl (omega (arith, h))
 
-outside_high : (d e : FragmentNote) (x : ℕ) (masked : Option ℕ) → d.first ≤ x → x ≤ d.last → (place : ℕ) → ListsApart e masked (Some place) → IsOutside e masked (place + (x - d.first))
+outside_high : (d e : FragmentNote) (x : ℕ) (masked : Option ℕ) → d.first ≤ x → x ≤ d.last → (place : ℕ) → ListsApart e masked (Some place) →
+    IsOutside e masked (place + (x - d.first))
 outside_high d e x None l m place h = tt
 outside_high d e x (Some start) l m place h = inr (omega (arith, h))
 
@@ -90,27 +97,30 @@ outside_high d e x (Some start) l m place h = inr (omega (arith, h))
 pub record ApartNotes (notes : List FragmentNote) : Type 0 where
   pub at : (i k : ℕ) → i < k → IfSome (slice_get notes i) (λ d. IfSome (slice_get notes k) (λ e. ListsApart d d.masked e.masked))
 
-pair_at : (notes : List FragmentNote) (i k : ℕ) (d e : FragmentNote) → ApartNotes notes → i < k → slice_get notes i ≡ Some d → slice_get notes k ≡ Some e → ListsApart d d.masked e.masked
+-- the lists of two notes are apart
+pair_at : (notes : List FragmentNote) (i k : ℕ) (d e : FragmentNote) → ApartNotes notes → i < k → slice_get notes i ≡ Some d → slice_get notes k ≡ Some e →
+    ListsApart d d.masked e.masked
 pair_at notes i k d e h l f g =
-    let P : Option FragmentNote → Type 0 = λ o. IfSome o (λ d. IfSome (slice_get notes k) (λ e. ListsApart d d.masked e.masked)) in
-    let Q : Option FragmentNote → Type 0 = λ o. IfSome o (λ e. ListsApart d d.masked e.masked) in
-    subst Q g (subst P f (h.at i k l))
+    let OfLower : Option FragmentNote → Type 0 = λ o. IfSome o (λ d. IfSome (slice_get notes k) (λ e. ListsApart d d.masked e.masked)) in
+    let OfHigher : Option FragmentNote → Type 0 = λ o. IfSome o (λ e. ListsApart d d.masked e.masked) in
+    subst OfHigher g (subst OfLower f (h.at i k l))
 
 masked_left : (d e : FragmentNote) (place : ℕ) (masked : Option ℕ) → d.masked ≡ Some place → ListsApart d d.masked masked → ListsApart d (Some place) masked
-masked_left d e place masked f h = let P : Option ℕ → Type 0 = λ o. ListsApart d o masked in subst P f h
+masked_left d e place masked f h = let WithMasked : Option ℕ → Type 0 = λ o. ListsApart d o masked in subst WithMasked f h
 
 masked_right : (d e : FragmentNote) (place : ℕ) (masked : Option ℕ) → d.masked ≡ Some place → ListsApart e masked d.masked → ListsApart e masked (Some place)
-masked_right d e place masked f h = let P : Option ℕ → Type 0 = λ o. ListsApart e masked o in subst P f h
+masked_right d e place masked f h = let WithMasked : Option ℕ → Type 0 = λ o. ListsApart e masked o in subst WithMasked f h
 
-other_outside : (notes : List FragmentNote) (j k : ℕ) (d e : FragmentNote) → ApartNotes notes → j ≢ k → slice_get notes j ≡ Some d → slice_get notes k ≡ Some e →
-    (place x : ℕ) → d.masked ≡ Some place → d.first ≤ x → x ≤ d.last → IsOutside e e.masked (place + (x - d.first))
+other_outside : (notes : List FragmentNote) (j k : ℕ) (d e : FragmentNote) → ApartNotes notes → j ≢ k → slice_get notes j ≡ Some d →
+    slice_get notes k ≡ Some e → (place x : ℕ) → d.masked ≡ Some place → d.first ≤ x → x ≤ d.last → IsOutside e e.masked (place + (x - d.first))
 other_outside notes j k d e h ne f g place x s l m = elim (cases_lt j k) [
   | inl a ↦ outside_low d e 0 x e.masked l m place (masked_left d e place e.masked s (pair_at notes j k d e h a f g))
-  | inr b ↦ let c : k < j = omega arith in outside_high d e x e.masked l m place (masked_right d e place e.masked s (pair_at notes k j e d h c g f))
+  | inr b ↦ outside_high d e x e.masked l m place (masked_right d e place e.masked s (pair_at notes k j e d h (omega arith) g f))
 ]
 
 before_from : (seg : FragmentNote → Drawseg) (es : List SpriteEntry) (marks : List Bool) (d : FragmentNote) (i : ℕ) (masked : Option ℕ) →
-    ((place x : ℕ) → masked ≡ Some place → d.first ≤ x → x ≤ d.last → mark_of marks d place x ≡ is_before (sprite_in_front es (seg d) x) i) → AreBefore seg es marks d i masked
+    ((place x : ℕ) → masked ≡ Some place → d.first ≤ x → x ≤ d.last → mark_of marks d place x ≡ is_before (sprite_in_front es (seg d) x) i) →
+    AreBefore seg es marks d i masked
 before_from seg es marks d i None h = tt
 before_from seg es marks d i (Some place) h = λ x l m. h place x refl l m
 
@@ -122,8 +132,8 @@ other_before seg notes es old new gives j k i d e h ne f g w b =
     w.others (place + (x - d.first)) (other_outside notes j k d e h ne f g place x s l m) ∙ before_at seg es old d i place d.masked s b x l m)
 
 -- the note that was come to has the marks of one sprite more
-own_before : (seg : FragmentNote → Drawseg) (es : List SpriteEntry) (old new : List Bool) (i : ℕ) (d : FragmentNote) (e : SpriteEntry) → i < length es → slice_get es i ≡ Some e →
-    MarksBy d (is_passed e (seg d)) old new → AreBefore seg es old d i d.masked → AreBefore seg es new d (i + 1) d.masked
+own_before : (seg : FragmentNote → Drawseg) (es : List SpriteEntry) (old new : List Bool) (i : ℕ) (d : FragmentNote) (e : SpriteEntry) → i < length es →
+    slice_get es i ≡ Some e → MarksBy d (is_passed e (seg d)) old new → AreBefore seg es old d i d.masked → AreBefore seg es new d (i + 1) d.masked
 own_before seg es old new i d e l f w b =
     before_from seg es new d (i + 1) d.masked (λ place x s p q.
     own_at d (is_passed e (seg d)) old new place d.masked s w.own x p q
@@ -150,31 +160,35 @@ turn_same i m k l = grind (arith, nat_tests)
 same_some : {X : Type 0} (d e : X) (o : Option X) → o ≡ Some d → o ≡ Some e → d ≡ e
 same_some d e o f g = cc
 
-pass_note : (seg : FragmentNote → Drawseg) (notes : List FragmentNote) (es : List SpriteEntry) (n : ℕ) (old new : List Bool) (i m : ℕ) (d : FragmentNote) (e : SpriteEntry) →
+-- the marks of a note after one was come to: its own, or as they were
+pass_note : (seg : FragmentNote → Drawseg) (notes : List FragmentNote) (es : List SpriteEntry) (n : ℕ) (old new : List Bool) (i m : ℕ) (d : FragmentNote)
+    (e : SpriteEntry) →
     ApartNotes notes → slice_get notes m ≡ Some d → m < n → i < length es → slice_get es i ≡ Some e → MarksBy d (is_passed e (seg d)) old new →
-    MarkedTo seg notes es n (turn_at i (m + 1)) old → (k : ℕ) → k < n → (c : FragmentNote) → slice_get notes k ≡ Some c → (k < m) ⊎ (m ≤ k) → AreBefore seg es new c (turn_at i m k) c.masked
+    MarkedTo seg notes es n (turn_at i (m + 1)) old → (k : ℕ) → k < n → (c : FragmentNote) → slice_get notes k ≡ Some c → (k < m) ⊎ (m ≤ k) →
+    AreBefore seg es new c (turn_at i m k) c.masked
 pass_note seg notes es n old new i m d e a g b l f w h k s c r (inl low) =
     let ne : k ≢ m = omega arith in
-    let P : ℕ → Type 0 = λ j. AreBefore seg es new c j c.masked in
-    subst P (turn_same i m k ne) (other_before seg notes es old new (is_passed e (seg d)) k m (turn_at i (m + 1) k) c d a ne r g w (note_at seg notes es n (turn_at i (m + 1)) old k c h s r))
+    let AtTurn : ℕ → Type 0 = λ j. AreBefore seg es new c j c.masked in
+    subst AtTurn (turn_same i m k ne) (other_before seg notes es old new (is_passed e (seg d)) k m (turn_at i (m + 1) k) c d a ne r g w (note_at seg notes es n (turn_at i (m + 1)) old k c h s r))
 pass_note seg notes es n old new i m d e a g b l f w h k s c r (inr high) = elim (cases_lt m k) [
   | inl up ↦
       let ne : k ≢ m = omega arith in
-      let P : ℕ → Type 0 = λ j. AreBefore seg es new c j c.masked in
-      subst P (turn_same i m k ne) (other_before seg notes es old new (is_passed e (seg d)) k m (turn_at i (m + 1) k) c d a ne r g w (note_at seg notes es n (turn_at i (m + 1)) old k c h s r))
+      let AtTurn : ℕ → Type 0 = λ j. AreBefore seg es new c j c.masked in
+      subst AtTurn (turn_same i m k ne) (other_before seg notes es old new (is_passed e (seg d)) k m (turn_at i (m + 1) k) c d a ne r g w (note_at seg notes es n (turn_at i (m + 1)) old k c h s r))
   | inr here ↦
       let same : m ≡ k = omega arith in
-      let Q : ℕ → Type 0 = λ j. AreBefore seg es old d j d.masked in
-      let before : AreBefore seg es old d i d.masked = subst Q (turn_low i (m + 1) m (omega arith)) (note_at seg notes es n (turn_at i (m + 1)) old m d h b g) in
+      let OldAtTurn : ℕ → Type 0 = λ j. AreBefore seg es old d j d.masked in
+      let before : AreBefore seg es old d i d.masked = subst OldAtTurn (turn_low i (m + 1) m (omega arith)) (note_at seg notes es n (turn_at i (m + 1)) old m d h b g) in
       let now : AreBefore seg es new d (i + 1) d.masked = own_before seg es old new i d e l f w before in
       let both : d ≡ c = same_some d c (slice_get notes k) (ap (slice_get notes) (sym same) ∙ g) r in
-      let P : ℕ → Type 0 = λ j. AreBefore seg es new c j c.masked in
-      let R : FragmentNote → Type 0 = λ z. AreBefore seg es new z (i + 1) z.masked in
-      subst P (sym (turn_high i m k high)) (subst R both now)
+      let AtTurn : ℕ → Type 0 = λ j. AreBefore seg es new c j c.masked in
+      let OfNote : FragmentNote → Type 0 = λ z. AreBefore seg es new z (i + 1) z.masked in
+      subst AtTurn (sym (turn_high i m k high)) (subst OfNote both now)
 ]
 
 -- one note more had its turn
-pub marked-pass : (seg : FragmentNote → Drawseg) (notes : List FragmentNote) (es : List SpriteEntry) (n : ℕ) (old new : List Bool) (i m : ℕ) (d : FragmentNote) (e : SpriteEntry) →
+pub marked-pass : (seg : FragmentNote → Drawseg) (notes : List FragmentNote) (es : List SpriteEntry) (n : ℕ) (old new : List Bool) (i m : ℕ) (d : FragmentNote)
+    (e : SpriteEntry) →
     ApartNotes notes → slice_get notes m ≡ Some d → m < n → i < length es → slice_get es i ≡ Some e → MarksBy d (is_passed e (seg d)) old new →
     MarkedTo seg notes es n (turn_at i (m + 1)) old → MarkedTo seg notes es n (turn_at i m) new
 marked-pass seg notes es n old new i m d e a g b l f w h = record {
@@ -182,7 +196,8 @@ marked-pass seg notes es n old new i m d e a g b l f w h = record {
 }
 
 -- a note whose own columns were painted last is asked no more
-pub marked-left : (seg : FragmentNote → Drawseg) (notes : List FragmentNote) (es : List SpriteEntry) (turn : ℕ → ℕ) (gives : ℕ → Bool) (old new : List Bool) (m : ℕ) (d : FragmentNote) →
+pub marked-left : (seg : FragmentNote → Drawseg) (notes : List FragmentNote) (es : List SpriteEntry) (turn : ℕ → ℕ) (gives : ℕ → Bool) (old new : List Bool)
+    (m : ℕ) (d : FragmentNote) →
     ApartNotes notes → slice_get notes m ≡ Some d → MarksBy d gives old new → MarkedTo seg notes es (m + 1) turn old → MarkedTo seg notes es m turn new
 marked-left seg notes es turn gives old new m d a g w h = record {
   at = λ k s. if_some (λ c. AreBefore seg es new c (turn k) c.masked) (slice_get notes k) (λ c r.
@@ -190,10 +205,11 @@ marked-left seg notes es turn gives old new m d a g w h = record {
       other_before seg notes es old new gives k m (turn k) c d a ne r g w (note_at seg notes es (m + 1) turn old k c h (omega arith) r));
 }
 
-pub marked-turn : (seg : FragmentNote → Drawseg) (notes : List FragmentNote) (es : List SpriteEntry) (n : ℕ) (turn other : ℕ → ℕ) (marks : List Bool) → ((k : ℕ) → k < n → turn k ≡ other k) →
-    MarkedTo seg notes es n turn marks → MarkedTo seg notes es n other marks
+-- what is known by some turns is known by equal ones
+pub marked-turn : (seg : FragmentNote → Drawseg) (notes : List FragmentNote) (es : List SpriteEntry) (n : ℕ) (turn other : ℕ → ℕ) (marks : List Bool) →
+    ((k : ℕ) → k < n → turn k ≡ other k) → MarkedTo seg notes es n turn marks → MarkedTo seg notes es n other marks
 marked-turn seg notes es n turn other marks e h = record {
-  at = λ k s. let P : ℕ → Type 0 = λ j. IfSome (slice_get notes k) (λ d. AreBefore seg es marks d j d.masked) in subst P (e k s) (h.at k s);
+  at = λ k s. let AtTurn : ℕ → Type 0 = λ j. IfSome (slice_get notes k) (λ d. AreBefore seg es marks d j d.masked) in subst AtTurn (e k s) (h.at k s);
 }
 
 pub turns-start : (i n k : ℕ) → k < n → i ≡ turn_at i n k

@@ -16,8 +16,10 @@ use Rattle.masked_draw.proofs.PostLemmas.{posts-nil}
 use Rattle.masked_draw.specs.Clipped.{clipped_column, clipped_dots, clipped_masked, read_column, read_columns}
 
 -- a column that the picture does not have
-pub own-outside : (mark : Painter → ℕ → ℕ) (shape : ViewShape) (x : ℕ) (column : MaskedColumn) (bytes : List ℕ) (shade_of : ℕ → ℕ) (own : ℤ) (canvas : CanvasView) →
-    (int_le (pos 0) own && int_lt own (pos (half_at bytes 0))) ≡ false → canvas ≡ with_dots mark (posts_dots shape canvas.painter x column (byte_at bytes) shade_of (own_posts bytes own)) canvas
+pub own-outside : (mark : Painter → ℕ → ℕ) (shape : ViewShape) (x : ℕ) (column : MaskedColumn) (bytes : List ℕ) (shade_of : ℕ → ℕ) (own : ℤ)
+    (canvas : CanvasView) →
+    (int_le (pos 0) own && int_lt own (pos (half_at bytes 0))) ≡ false →
+    canvas ≡ with_dots mark (posts_dots shape canvas.painter x column (byte_at bytes) shade_of (own_posts bytes own)) canvas
 own-outside mark shape x column bytes shade_of own canvas out =
     let none : own_posts bytes own ≡ [] = ap (λ (b : Bool). cond b (posts bytes (column_place bytes (natural own))) []) out in
     dots_none mark canvas
@@ -28,9 +30,11 @@ unfolding natural
 natural_of z n e = ap natural e
 
 -- one that it has
-pub own-inside : (mark : Painter → ℕ → ℕ) (shape : ViewShape) (x : ℕ) (column : MaskedColumn) (bytes : List ℕ) (shade_of : ℕ → ℕ) (place n : ℕ) (own : ℤ) (old new : CanvasView) →
+pub own-inside : (mark : Painter → ℕ → ℕ) (shape : ViewShape) (x : ℕ) (column : MaskedColumn) (bytes : List ℕ) (shade_of : ℕ → ℕ) (place n : ℕ) (own : ℤ)
+    (old new : CanvasView) →
     (int_le (pos 0) own && int_lt own (pos (half_at bytes 0))) ≡ true → own ≡ pos n → place ≡ column_place bytes n →
-    new ≡ with_dots mark (posts_dots shape old.painter x column (byte_at bytes) shade_of (posts bytes place)) old → new ≡ with_dots mark (posts_dots shape old.painter x column (byte_at bytes) shade_of (own_posts bytes own)) old
+    new ≡ with_dots mark (posts_dots shape old.painter x column (byte_at bytes) shade_of (posts bytes place)) old →
+    new ≡ with_dots mark (posts_dots shape old.painter x column (byte_at bytes) shade_of (own_posts bytes own)) old
 own-inside mark shape x column bytes shade_of place n own old new inside here at h =
     let same : posts bytes place ≡ own_posts bytes own =
     ap (posts bytes) (at ∙ ap (column_place bytes) (sym (natural_of own n here)))
@@ -56,9 +60,9 @@ column-own mark shape bytes colormap map clips e column x own old new is c m h =
 pub columns-none : (mark : Painter → ℕ → ℕ) (shape : ViewShape) (bytes colormap : List ℕ) (clips : SpriteClips) (e : SpriteEntry) (first : ℕ) (canvas : CanvasView) → canvas ≡ with_dots mark (read_columns shape canvas.painter bytes colormap clips e first first) canvas
 unfolding read_columns joined_lists
 columns-none mark shape bytes colormap clips e first canvas =
-    let z : first - first ≡ 0 = omega arith in
+    let no_columns : first - first ≡ 0 = omega arith in
     dots_none mark canvas
-    ∙ ap (λ (n : ℕ). with_dots mark (joined_lists (read_column shape canvas.painter bytes colormap clips e) (map (λ x. x) (range_with_len first n))) canvas) (sym z)
+    ∙ ap (λ (n : ℕ). with_dots mark (joined_lists (read_column shape canvas.painter bytes colormap clips e) (map (λ x. x) (range_with_len first n))) canvas) (sym no_columns)
 
 columns_more : (shape : ViewShape) (painter : Painter) (bytes colormap : List ℕ) (clips : SpriteClips) (e : SpriteEntry) (first x : ℕ) → first ≤ x →
     read_columns shape painter bytes colormap clips e first (x + 1) ≡ read_columns shape painter bytes colormap clips e first x ++ read_column shape painter bytes colormap clips e x

@@ -19,23 +19,23 @@ pub post_first-low : (clip begin : ℤ) → minus_one ≤ℤ clip → clip ≤�
     pos 0 ≤ℤ post_first clip begin
 unfolding post_first plus greatest_clip
 post_first-low clip begin l h =
-    let e : plus clip (pos 1) ≡ clip +ℤ pos 1 = int_wrap_fits w32 (clip +ℤ pos 1)
+    let sum_fits : plus clip (pos 1) ≡ clip +ℤ pos 1 = int_wrap_fits w32 (clip +ℤ pos 1)
     (fits_between _ (omega (arith, ints)) (omega (arith, ints))) in
     let least : pos 0 ≤ℤ (clip +ℤ pos 1) = omega (arith, ints) in
-    above (plus clip (pos 1)) _ (subst (λ (z : ℤ). pos 0 ≤ℤ z) (sym e) least) where
+    above (plus clip (pos 1)) _ (subst (λ (z : ℤ). pos 0 ≤ℤ z) (sym sum_fits) least) where
       above : (a b : ℤ) → pos 0 ≤ℤ a → pos 0 ≤ℤ greater_word a b
-      above a b k = let g = greater_word-first a b in omega (arith, ints)
+      above a b k = let not_less = greater_word-first a b in omega (arith, ints)
 
 pub post_last-high : (clip end : ℤ) (height : ℕ) → height < 2 ^ 16 → least_clip ≤ℤ clip →
     clip ≤ℤ pos height → post_last clip end <ℤ pos height
 unfolding post_last minus least_clip
 post_last-high clip end height few l h =
-    let e : minus clip (pos 1) ≡ clip -ℤ pos 1 = int_wrap_fits w32 (clip -ℤ pos 1)
+    let difference_fits : minus clip (pos 1) ≡ clip -ℤ pos 1 = int_wrap_fits w32 (clip -ℤ pos 1)
     (fits_between _ (omega (arith, ints)) (omega (arith, ints))) in
     let most : (clip -ℤ pos 1) <ℤ pos height = omega (arith, ints) in
-    below (minus clip (pos 1)) _ (subst (λ (z : ℤ). z <ℤ pos height) (sym e) most) where
+    below (minus clip (pos 1)) _ (subst (λ (z : ℤ). z <ℤ pos height) (sym difference_fits) most) where
       below : (a b : ℤ) → a <ℤ pos height → lesser_word a b <ℤ pos height
-      below a b k = let g = lesser_word-first a b in omega (arith, ints)
+      below a b k = let not_more = lesser_word-first a b in omega (arith, ints)
 
 -- no row, no dot
 pub post-none : (shape : ViewShape) (painter : Painter) (x : ℕ) (c : MaskedColumn)
@@ -81,8 +81,8 @@ past_end bytes place r = go (cases_lt (length bytes) place) where
       slice_index bytes (min place (length bytes) + r) ≡ slice_index bytes (place + r)
   go (inl l) = get_or_past bytes (min place (length bytes) + r) 0 (omega arith)
       ∙ sym (get_or_past bytes (place + r) 0 (omega arith))
-  go (inr l) = let e : min place (length bytes) ≡ place = omega arith in
-      ap (λ (n : ℕ). slice_index bytes (n + r)) e
+  go (inr l) = let is_place : min place (length bytes) ≡ place = omega arith in
+      ap (λ (n : ℕ). slice_index bytes (n + r)) is_place
 
 -- a strip that was painted with a post's bytes has the post's dots
 pub post-strip : (shape : ViewShape) (painter : Painter) (x : ℕ) (c : MaskedColumn)
@@ -185,7 +185,7 @@ pub is_post-past : (bytes : List ℕ) (place : ℕ) → length bytes ≤ place �
     is_post bytes place ≡ false
 is_post-past bytes place l = go (is_post bytes place) refl where
   go : (b : Bool) → is_post bytes place ≡ b → is_post bytes place ≡ false
-  go true on = let w = is_post-within bytes place on in absurd (omega arith)
+  go true on = let within = is_post-within bytes place on in absurd (omega arith)
   go false off = off
 
 -- the post after one does not begin before its first texel
@@ -205,9 +205,6 @@ pub record ArePostsLeft (mark : Painter → ℕ → ℕ) (shape : ViewShape) (x 
 
 module _ {mark : Painter → ℕ → ℕ} {shape : ViewShape} {x : ℕ} {c : MaskedColumn}
     {bytes colormap : List ℕ} {m start : ℕ} {first : CanvasView} where
-  pub left-none : ArePostsLeft mark shape x c bytes colormap m start start first first
-  left-none = record { same = refl; left = refl; top = refl }
-
   -- a post was painted
   pub left-more : (place next : ℕ) (now after : CanvasView) (post : Post) →
       ArePostsLeft mark shape x c bytes colormap m start place first now →
@@ -218,14 +215,14 @@ module _ {mark : Painter → ℕ → ℕ} {shape : ViewShape} {x : ℕ} {c : Mas
   left-more place next now after post left at is_next painted =
       let rest : Painter → List Dot = λ painter. posts_dots shape painter x c (byte_at bytes)
       (shade colormap m) (posts bytes next) in
-      let one : List Dot = post_dots shape now.painter x c (byte_at bytes) (shade colormap m) post in
+      let own : List Dot = post_dots shape now.painter x c (byte_at bytes) (shade colormap m) post in
       let all : posts bytes place ≡ post ∷ posts bytes next =
       posts-some bytes place at.on
       ∙ ap (λ (p : Post). p ∷ posts bytes (next_place p)) (sym at.is)
       ∙ ap (λ (n : ℕ). post ∷ posts bytes n) (sym is_next) in
       record {
         same = ap (λ (canvas : CanvasView). with_dots mark (rest canvas.painter) canvas) painted
-            ∙ with_dots-append mark one (rest now.painter) now
+            ∙ with_dots-append mark own (rest now.painter) now
             ∙ ap (λ (dots : List Dot). with_dots mark dots now)
             (sym (ap (posts_dots shape now.painter x c (byte_at bytes) (shade colormap m)) all
             ∙ posts-cons shape now.painter x c (byte_at bytes) (shade colormap m) post

@@ -32,10 +32,10 @@ pub seen_row-more : (clip : Drawseg → ℤ) (test : Drawseg → Bool) (ds : Lis
     or_else old (seen_row clip test ds (m + 1)) ≡ or_else (row_after (test d) (clip d) old) (seen_row clip test ds m)
 unfolding seen_row
 seen_row-more clip test ds m d old h =
-    let p = λ (k : ℕ). passes_at test (slice_get ds k) in
-    ap (λ (o : Option ℕ). or_else old (row_of clip ds o)) (greatest-more p m)
-    ∙ ap (λ (b : Bool). or_else old (row_of clip ds (cond b (Some m) (greatest p m)))) (passes_some test d (slice_get ds m) h)
-    ∙ row_of-step clip ds m d (test d) (greatest p m) old h
+    let passes = λ (k : ℕ). passes_at test (slice_get ds k) in
+    ap (λ (o : Option ℕ). or_else old (row_of clip ds o)) (greatest-more passes m)
+    ∙ ap (λ (b : Bool). or_else old (row_of clip ds (cond b (Some m) (greatest passes m)))) (passes_some test d (slice_get ds m) h)
+    ∙ row_of-step clip ds m d (test d) (greatest passes m) old h
 
 row_of-some : (clip : Drawseg → ℤ) (without : ℤ) (o : Option Drawseg) → unwrap_or (option_map clip o) without ≡ clip_of_some clip without o
 unfolding clip_of_some
@@ -67,10 +67,10 @@ pub record RowsFrom (clip : ℕ → Drawseg → ℤ) (test : ℕ → Drawseg →
   pub bounds : (x : ℕ) → has x ≡ true → IfSome (row_in rows x) (λ r. (low ≤ℤ r) × (r ≤ℤ high))
 
 if_none : (P : ℤ → Type 0) (o : Option ℤ) → o ≡ None → IfSome o P
-if_none P o h = let Q : Option ℤ → Type 0 = λ r. IfSome r P in subst Q (sym h) tt
+if_none P o h = let OnValue : Option ℤ → Type 0 = λ r. IfSome r P in subst OnValue (sym h) tt
 
-pub rows-start : (clip : ℕ → Drawseg → ℤ) (test : ℕ → Drawseg → Bool) (ds : List Drawseg) (has : ℕ → Bool) (low high : ℤ) (rows : List (Option ℤ)) → ((x : ℕ) → has x ≡ true → row_in rows x ≡ None) →
-    RowsFrom clip test ds has (length ds) low high rows
+pub rows-start : (clip : ℕ → Drawseg → ℤ) (test : ℕ → Drawseg → Bool) (ds : List Drawseg) (has : ℕ → Bool) (low high : ℤ) (rows : List (Option ℤ)) →
+    ((x : ℕ) → has x ≡ true → row_in rows x ≡ None) → RowsFrom clip test ds has (length ds) low high rows
 rows-start clip test ds has low high rows h = record {
   seen = λ x l. ap (λ (o : Option ℤ). or_else o (seen_row (clip x) (test x) ds (length ds))) (h x l);
   bounds = λ x l. if_none (λ r. (low ≤ℤ r) × (r ≤ℤ high)) (row_in rows x) (h x l);
@@ -89,16 +89,16 @@ rows-more clip test ds has m low high old new d g s b h = record {
       ap (λ (o : Option ℤ). or_else o (seen_row (clip x) (test x) ds m)) (s x l)
       ∙ sym (seen_row-more (clip x) (test x) ds m d (row_in old x) g) ∙ h.seen x l;
   bounds = λ x l.
-      let P : Option ℤ → Type 0 = λ o. IfSome o (λ z. (low ≤ℤ z) × (z ≤ℤ high)) in
-      subst P (sym (s x l)) (bound_after low high (clip x d) (test x d) (row_in old x) (h.bounds x l) (b x l));
+      let IsWithin : Option ℤ → Type 0 = λ o. IfSome o (λ z. (low ≤ℤ z) × (z ≤ℤ high)) in
+      subst IsWithin (sym (s x l)) (bound_after low high (clip x d) (test x d) (row_in old x) (h.bounds x l) (b x l));
 }
 
 or_else-none : (o : Option ℤ) → or_else o None ≡ o
 or_else-none None = refl
 or_else-none (Some r) = refl
 
-rows_end : (clip : ℕ → Drawseg → ℤ) (test : ℕ → Drawseg → Bool) (ds : List Drawseg) (has : ℕ → Bool) (low high : ℤ) (rows : List (Option ℤ)) → RowsFrom clip test ds has 0 low high rows →
-    (x : ℕ) → has x ≡ true → row_in rows x ≡ seen_row (clip x) (test x) ds (length ds)
+rows_end : (clip : ℕ → Drawseg → ℤ) (test : ℕ → Drawseg → Bool) (ds : List Drawseg) (has : ℕ → Bool) (low high : ℤ) (rows : List (Option ℤ)) →
+    RowsFrom clip test ds has 0 low high rows → (x : ℕ) → has x ≡ true → row_in rows x ≡ seen_row (clip x) (test x) ds (length ds)
 rows_end clip test ds has low high rows h x l =
     sym (ap (or_else (row_in rows x)) (seen_row-none (clip x) (test x) ds) ∙ or_else-none (row_in rows x)) ∙ h.seen x l
 
@@ -106,10 +106,10 @@ rows_end clip test ds has low high rows h x l =
 pub rows-bottom : (height : ℕ) (ds : List Drawseg) (e : SpriteEntry) (has : ℕ → Bool) (low high : ℤ) (rows : List (Option ℤ)) → RowsFrom (λ x d. d.bottom_clip x) (gives_bottom e) ds has 0 low high rows →
     (x : ℕ) → has x ≡ true → unwrap_or (row_in rows x) (pos height) ≡ sprite_bottom height ds e x
 rows-bottom height ds e has low high rows h x l =
-    ap (λ (o : Option ℤ). unwrap_or o (pos height)) (rows_end (λ x d. d.bottom_clip x) (gives_bottom e) ds has low high rows h x l) ∙ seen_row-bottom height ds e x
+    ap (λ o. unwrap_or o (pos height)) (rows_end (λ x d. d.bottom_clip x) (gives_bottom e) ds has low high rows h x l) ∙ seen_row-bottom height ds e x
 
-pub rows-top : (ds : List Drawseg) (e : SpriteEntry) (has : ℕ → Bool) (low high : ℤ) (rows : List (Option ℤ)) → RowsFrom (λ x d. d.top_clip x) (gives_top e) ds has 0 low high rows →
-    (x : ℕ) → has x ≡ true → unwrap_or (row_in rows x) minus_one ≡ sprite_top ds e x
+pub rows-top : (ds : List Drawseg) (e : SpriteEntry) (has : ℕ → Bool) (low high : ℤ) (rows : List (Option ℤ)) →
+    RowsFrom (λ x d. d.top_clip x) (gives_top e) ds has 0 low high rows → (x : ℕ) → has x ≡ true → unwrap_or (row_in rows x) minus_one ≡ sprite_top ds e x
 rows-top ds e has low high rows h x l =
     ap (λ (o : Option ℤ). unwrap_or o minus_one) (rows_end (λ x d. d.top_clip x) (gives_top e) ds has low high rows h x l) ∙ seen_row-top ds e x
 

@@ -36,7 +36,8 @@ pub scene-apart : {shape : ViewShape} {notes : List FragmentNote} {openings : Li
 scene-apart noted = record { at = noted.apart }
 
 pub scene-whole : {shape : ViewShape} {notes : List FragmentNote} {openings : List ℤ} (k : ℕ) (d : FragmentNote) → AreNoted shape notes openings → slice_get notes k ≡ Some d → IsWholeNote shape openings d
-scene-whole {shape} {notes} {openings} k d noted e = let P : Option FragmentNote → Type 0 = λ o. IfSome o (IsWholeNote shape openings) in subst P e (noted.whole k)
+scene-whole {shape} {notes} {openings} k d noted e =
+    let IsWhole : Option FragmentNote → Type 0 = λ o. IfSome o (IsWholeNote shape openings) in subst IsWhole e (noted.whole k)
 
 get_at : {X : Type 0} (xs : List X) (k : ℕ) (x : X) → slice_get xs k ≡ Some x → get_or xs k x ≡ x
 get_at xs k x e = grind (arith, gets)
@@ -44,11 +45,11 @@ get_at xs k x e = grind (arith, gets)
 -- each note that the notes have may be painted
 pub can_pass-note : {s : MaskScene} {notes : List FragmentNote} {st : PaintState} {marks : List Bool} (k : ℕ) (d : FragmentNote) → CanPass s notes st marks → slice_get notes k ≡ Some d → k < length notes → CanPaintNote s d st
 can_pass-note {s} {notes} {st} k d can e l =
-    let P : FragmentNote → Type 0 = IsListed s.dir.now.lumps s.textures.now st.cache (scene_lists s) in
+    let IsListedNote : FragmentNote → Type 0 = IsListed s.dir.now.lumps s.textures.now st.cache (scene_lists s) in
     record {
       paint = can.paint;
       whole = scene-whole k d can.noted e;
-      listed = subst P (get_at notes k d e) (All-get_or P notes k d l can.listed);
+      listed = subst IsListedNote (get_at notes k d e) (All-get_or IsListedNote notes k d l can.listed);
     }
 
 pub scene-middle : (lists : MaskedLists) (openings : List ℤ) (notes : List FragmentNote) (k : ℕ) (d : FragmentNote) → slice_get notes k ≡ Some d → (n : ℕ) (own : ℤ) → IsMiddleColumn lists openings d n own → IsNotedMiddle lists openings notes n own
@@ -66,13 +67,13 @@ listed-later counts one = record {
   side = one.side;
   middle = one.middle;
   masked = λ is.
-      let m = one.masked is in
+      let of_middle = one.masked is in
       record {
-        back = m.back;
-        some = m.some;
-        texture = record { prepared = m.texture.prepared; slot = rw counts.2 m.texture.slot; there = m.texture.there };
-        among = m.among;
-        single = m.single;
+        back = of_middle.back;
+        some = of_middle.some;
+        texture = record { prepared = of_middle.texture.prepared; slot = rw counts.2 of_middle.texture.slot; there = of_middle.texture.there };
+        among = of_middle.among;
+        single = of_middle.single;
       };
 }
 
@@ -100,13 +101,13 @@ not_zero n h e = absurd (grind (arith, nat_tests))
 
 has_parts : (a : Drawseg) (x : ℕ) → drawseg_has a x ≡ true → (a.first ≤ x) × (x ≤ a.last)
 unfolding drawseg_has
-has_parts a x h = let p = and_parts (nat_le a.first x) (nat_le x a.last) h in (leb-true a.first x p.0, leb-true x a.last p.1)
+has_parts a x h = let bounds = and_parts (nat_le a.first x) (nat_le x a.last) h in (leb-true a.first x bounds.0, leb-true x a.last bounds.1)
 
 given_parts : (a : Drawseg) (e : SpriteEntry) (x : ℕ) (has meets : Bool) → (drawseg_has a x && (not (is_behind a e) && (has && meets))) ≡ true → ((a.first ≤ x) × (x ≤ a.last)) × (has ≡ true)
 given_parts a e x has meets g =
-    let one = and_parts (drawseg_has a x) (not (is_behind a e) && (has && meets)) g in
-    let two = and_parts (not (is_behind a e)) (has && meets) one.1 in
-    (has_parts a x one.0, (and_parts has meets two.1).0)
+    let has_column = and_parts (drawseg_has a x) (not (is_behind a e) && (has && meets)) g in
+    let in_front = and_parts (not (is_behind a e)) (has && meets) has_column.1 in
+    (has_parts a x has_column.0, (and_parts has meets in_front.1).0)
 
 pub gives_bottom-bounds : (s : MaskScene) (d : FragmentNote) (e : SpriteEntry) (x : ℕ) → IsWholeNote s.view.now.shape s.openings.now d → gives_bottom e x (scene_drawseg s d) ≡ true →
     (least_clip ≤ℤ (scene_drawseg s d).bottom_clip x) × ((scene_drawseg s d).bottom_clip x ≤ℤ pos s.view.now.shape.height)
@@ -116,8 +117,8 @@ gives_bottom-bounds s d e x whole g =
     let given = given_parts seg e x seg.has_bottom (int_lt e.gz seg.bottom_height) g in
     whole.bottom_rows x given.0.0 given.0.1 (whole.bottom (not_zero _ given.1))
 
-pub gives_top-bounds : (s : MaskScene) (d : FragmentNote) (e : SpriteEntry) (x : ℕ) → IsWholeNote s.view.now.shape s.openings.now d → gives_top e x (scene_drawseg s d) ≡ true →
-    (minus_one ≤ℤ (scene_drawseg s d).top_clip x) × ((scene_drawseg s d).top_clip x ≤ℤ greatest_clip)
+pub gives_top-bounds : (s : MaskScene) (d : FragmentNote) (e : SpriteEntry) (x : ℕ) → IsWholeNote s.view.now.shape s.openings.now d →
+    gives_top e x (scene_drawseg s d) ≡ true → (minus_one ≤ℤ (scene_drawseg s d).top_clip x) × ((scene_drawseg s d).top_clip x ≤ℤ greatest_clip)
 unfolding gives_top noted_drawseg
 gives_top-bounds s d e x whole g =
     let seg = scene_drawseg s d in

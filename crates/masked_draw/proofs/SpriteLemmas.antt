@@ -34,16 +34,16 @@ unfolding joined_lists listed_from
 joined_rows f g a b first last p q h true e = refl
 joined_rows f g a b first last p q h false e =
     joined_range f g (natural a) (natural b + 1 - natural a)
-    (λ x l m. h x (subst (λ (n : ℕ). n ≤ x) (natural_of a first p) l) (upper first last (natural a) (natural b) x (natural_of a first p) (natural_of b last q) l m))
+    (λ x l m. h x (subst (λ n. n ≤ x) (natural_of a first p) l) (upper first last (natural a) (natural b) x (natural_of a first p) (natural_of b last q) l m))
 
 joined-rows : (f g : ℕ → List Dot) (a b : ℤ) (first last : ℕ) → a ≡ pos first → b ≡ pos last → ((x : ℕ) → first ≤ x → x ≤ last → f x ≡ g x) → joined_lists f (rows_between a b) ≡ joined_lists g (rows_between a b)
 unfolding rows_between
 joined-rows f g a b first last p q h = joined_rows f g a b first last p q h (int_lt b a) refl
 
-same_column : (s : MaskScene) (notes : List FragmentNote) (art : Art) (e : SpriteEntry) (clips : SpriteClips) (x : ℕ) → AreSpriteRows s (scene_drawsegs s notes) e clips x →
-    clipped_column s.view.now art clips e x ≡ sprite_column s.view.now art (scene_drawsegs s notes) e x
+same_column : (s : MaskScene) (notes : List FragmentNote) (art : Art) (e : SpriteEntry) (clips : SpriteClips) (x : ℕ) →
+    AreSpriteRows s (scene_drawsegs s notes) e clips x → clipped_column s.view.now art clips e x ≡ sprite_column s.view.now art (scene_drawsegs s notes) e x
 unfolding clipped_column sprite_column clipped_masked sprite_masked
-same_column s notes art e clips x h = let t = h.top in let b = h.bottom in cc (t, b)
+same_column s notes art e clips x h = let top = h.top in let bottom = h.bottom in cc (top, bottom)
 
 between_true : (first last x : ℕ) → first ≤ x → x ≤ last → (nat_le first x && nat_lt x (last + 1)) ≡ true
 between_true first last x l m = grind (arith, nat_tests)
@@ -67,8 +67,8 @@ step_by s notes es art i e dots h =
 
 module _ (s : MaskScene) (notes : List FragmentNote) (es : List SpriteEntry) (i : ℕ) (e : SpriteEntry) {mark : Painter → ℕ → ℕ} where
   -- a sprite without a column
-  pub sprite-none : (marks : List Bool) (st : PaintState) → i < length es → slice_get es i ≡ Some e → int_lt e.last e.first ≡ true → MarkedTo (scene_drawseg s) notes es (length notes) (λ k. i) marks →
-      DrawsSprite mark s notes es i e marks st st (Ok (tt {0}))
+  pub sprite-none : (marks : List Bool) (st : PaintState) → i < length es → slice_get es i ≡ Some e → int_lt e.last e.first ≡ true →
+      MarkedTo (scene_drawseg s) notes es (length notes) (λ k. i) marks → DrawsSprite mark s notes es i e marks st st (Ok (tt {0}))
   sprite-none marks st l g o h = record {
     paints = paints-same _ (λ contents q is. sym (step-none s.view.now (scene_art contents s) (scene_drawsegs s notes) es i e l g o)) (paints-none st (tt {0}));
     marked = marked-skip (scene_drawseg s) notes es (length notes) i marks e l g o h;

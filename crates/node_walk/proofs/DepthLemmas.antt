@@ -53,18 +53,18 @@ deeper v level zero more (LeafChild n) w h = walk-leaf v level (zero + more) n w
 deeper v level zero more (NodeChild n) w h = cc
 deeper v level (suc depth) more (LeafChild n) w h = walk-leaf v level (suc depth + more) n w ∙ sym (walk-leaf v level (suc depth) n w)
 deeper v level (suc depth) more (NodeChild n) w h =
-    let a : suc depth + more - 1 ≡ depth + more = omega arith in
-    let b : suc depth - 1 ≡ depth = omega arith in
+    let one_less_of_sum : suc depth + more - 1 ≡ depth + more = omega arith in
+    let one_less : suc depth - 1 ≡ depth = omega arith in
     walk-node v level (suc depth + more) n w (λ e. omega (arith, e))
-    ∙ ap (λ (d : ℕ). at_node v (walk_child v level d) (slice_get level.nodes n) w) a
+    ∙ ap (λ (d : ℕ). at_node v (walk_child v level d) (slice_get level.nodes n) w) one_less_of_sum
     ∙ node_same v (walk_child v level (depth + more)) (walk_child v level depth) (is_within level.nodes depth) (λ child u k. deeper v level depth more child u k) (slice_get level.nodes n) w h
-    ∙ sym (ap (λ (d : ℕ). at_node v (walk_child v level d) (slice_get level.nodes n) w) b)
+    ∙ sym (ap (λ (d : ℕ). at_node v (walk_child v level d) (slice_get level.nodes n) w) one_less)
     ∙ sym (walk-node v level (suc depth) n w (λ e. omega (arith, e)))
 
 -- the same at the root of lists that are read
-pub deeper_root : (v : ViewValue) (lists level : LevelLists) (depth : ℕ) (root : Child) (w : WalkState) → lists ≡ level → root ≡ lists.root → is_within lists.nodes depth root ≡ true →
-    (more : ℕ) → walk_child v level (depth + more) level.root w ≡ walk_child v level depth level.root w
+pub deeper_root : (v : ViewValue) (lists level : LevelLists) (depth : ℕ) (root : Child) (w : WalkState) → lists ≡ level → root ≡ lists.root →
+    is_within lists.nodes depth root ≡ true → (more : ℕ) → walk_child v level (depth + more) level.root w ≡ walk_child v level depth level.root w
 deeper_root v lists level depth root w e f h more =
-    let g : is_within level.nodes depth level.root ≡ true =
+    let is_within_level : is_within level.nodes depth level.root ≡ true =
     ap (λ (l : LevelLists). is_within l.nodes depth l.root) (sym e) ∙ ap (λ (r : Child). is_within lists.nodes depth r) (sym f) ∙ h in
-    deeper v level depth more level.root w g
+    deeper v level depth more level.root w is_within_level

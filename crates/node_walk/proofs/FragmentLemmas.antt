@@ -6,9 +6,9 @@ use Rattle.level_rules.proofs.walk.RunLemmas.{fragments-are}
 -- the one that comes next is within first to last
 pub next_fragment : (columns : List Bool) (first last p q : ℕ) (before items rest : List (ℕ × ℕ)) → items ≡ (p, q) ∷ rest → before ++ items ≡ fragments columns first last → IsFragment columns first last p q
 next_fragment columns first last p q before items rest e all =
-    let h : before ++ ((p, q) ∷ rest) ≡ fragments columns first last = ap (λ (xs : List (ℕ × ℕ)). before ++ xs) (sym e) ∙ all in
-    let c : Contains (before ++ ((p, q) ∷ rest)) (p, q) = Contains-append_right before ((p, q) ∷ rest) (p, q) (0, omega arith, refl) in
-    All-contains (λ r. IsFragment columns first last r.0 r.1) (fragments columns first last) (p, q) (fragments-are columns first last) (subst (λ (xs : List (ℕ × ℕ)). Contains xs (p, q)) h c)
+    let all_fragments : before ++ ((p, q) ∷ rest) ≡ fragments columns first last = ap (λ (xs : List (ℕ × ℕ)). before ++ xs) (sym e) ∙ all in
+    let contains_it : Contains (before ++ ((p, q) ∷ rest)) (p, q) = Contains-append_right before ((p, q) ∷ rest) (p, q) (0, omega arith, refl) in
+    All-contains (λ r. IsFragment columns first last r.0 r.1) (fragments columns first last) (p, q) (fragments-are columns first last) (subst (λ (xs : List (ℕ × ℕ)). Contains xs (p, q)) all_fragments contains_it)
 
 -- the events of those that were listed, of the next one, and of the rest
 pub fragments_left : (seg : ℕ) (before items rest all : List (ℕ × ℕ)) (p q : ℕ) → items ≡ (p, q) ∷ rest → before ++ items ≡ all →

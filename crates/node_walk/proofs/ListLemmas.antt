@@ -10,7 +10,8 @@ there_child l (NodeChild n) h = ltb-true n (length l.nodes) h
 there_child l (LeafChild n) h = ltb-true n (length l.leaves) h
 
 side_cases : (P : ℕ → Type 0) → P 0 → P 1 → (side : ℕ) → side ≤ 1 → P side
-side_cases P zeroth first side h = elim (cases_eq side 0) [ inl e ↦ subst P (sym e) zeroth | inr n ↦ (let e : 1 ≡ side = omega arith in subst P e first) ]
+side_cases P zeroth first side h =
+    elim (cases_eq side 0) [ inl e ↦ subst P (sym e) zeroth | inr n ↦ (let is_one : 1 ≡ side = omega arith in subst P is_one first) ]
 
 module _ (level : LevelValue) (surfaces : List Surface) (middles : List ℕ) (sound : IsSound level) (es : length surfaces ≡ length level.sectors) (em : length middles ≡ length level.sides) where
   whole_seg : (seg : Seg) → IsSegIn level seg → IsSegOf (walk_lists level surfaces middles) seg

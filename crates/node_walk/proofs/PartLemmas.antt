@@ -22,7 +22,8 @@ behind-covers first last es w = refl
 
 behind-at_columns : (solid pass : Bool) (seg first last : ℕ) (es : List Event) (w : WalkState) → at_columns solid pass seg first last (behind es w) ≡ behind es (at_columns solid pass seg first last w)
 unfolding at_columns
-behind-at_columns true pass seg first last es w = ap (covers first last) (behind-shows seg first last es w) ∙ behind-covers first last es (shows seg first last w)
+behind-at_columns true pass seg first last es w =
+    ap (covers first last) (behind-shows seg first last es w) ∙ behind-covers first last es (shows seg first last w)
 behind-at_columns false true seg first last es w = behind-shows seg first last es w
 behind-at_columns false false seg first last es w = refl
 
@@ -85,41 +86,41 @@ pub leaf_part : (v : ViewValue) (level : LevelLists) (n : ℕ) (leaf : Leaf) (fr
     at_leaf v level n (part_start columns) ≡ behind (LeafEvent n ∷ []) (at_segs v level front leaf.first leaf.count (part_start columns))
 unfolding at_leaf at_leaf_of enters
 leaf_part v level n leaf front columns e f =
-    let g : at_segs v level front leaf.first leaf.count (behind (LeafEvent n ∷ []) (part_start columns)) ≡ behind (LeafEvent n ∷ []) (at_segs v level front leaf.first leaf.count (part_start columns)) =
+    let leaf_first : at_segs v level front leaf.first leaf.count (behind (LeafEvent n ∷ []) (part_start columns)) ≡ behind (LeafEvent n ∷ []) (at_segs v level front leaf.first leaf.count (part_start columns)) =
     behind-at_segs v level front leaf.first leaf.count (LeafEvent n ∷ []) (part_start columns) in
     ap (λ (l : Leaf). at_segs v level (surface_at level l.sector) l.first l.count (behind (LeafEvent n ∷ []) (part_start columns))) (sym e)
     ∙ ap (λ (s : Surface). at_segs v level s leaf.first leaf.count (behind (LeafEvent n ∷ []) (part_start columns))) (sym f)
-    ∙ g
+    ∙ leaf_first
 
 -- the part of so many segs, and of one more
 pub segs_part : (v : ViewValue) (level : LevelLists) (front : Surface) (first k : ℕ) (columns now : List Bool) → now ≡ (at_segs v level front first k (part_start columns)).covered →
     at_segs v level front first (k + 1) (part_start columns) ≡ behind (at_segs v level front first k (part_start columns)).events (at_seg v level front (first + k) (part_start now))
 segs_part v level front first k columns now e =
-    let w : WalkState = at_segs v level front first k (part_start columns) in
+    let walked : WalkState = at_segs v level front first k (part_start columns) in
     sym (at_segs-more v level front first k (k + 1) (part_start columns) refl)
-    ∙ ap (at_seg v level front (first + k)) (part_of w)
-    ∙ behind-at_seg v level front (first + k) w.events (part_start w.covered)
-    ∙ ap (λ (c : List Bool). behind w.events (at_seg v level front (first + k) (part_start c))) (sym e)
+    ∙ ap (at_seg v level front (first + k)) (part_of walked)
+    ∙ behind-at_seg v level front (first + k) walked.events (part_start walked.covered)
+    ∙ ap (λ (c : List Bool). behind walked.events (at_seg v level front (first + k) (part_start c))) (sym e)
 
 -- the events of fewer segs are the front of those of more
 segs_front : (v : ViewValue) (level : LevelLists) (front : Surface) (first j n : ℕ) (columns : List Bool) → j ≤ n →
     (rest : List Event) × ((at_segs v level front first j (part_start columns)).events ++ rest ≡ (at_segs v level front first n (part_start columns)).events)
 segs_front v level front first j zero columns l =
-    let e : j ≡ zero = omega arith in
-    ([], append-nil _ ∙ ap (λ (m : ℕ). (at_segs v level front first m (part_start columns)).events) e)
+    let is_first : j ≡ zero = omega arith in
+    ([], append-nil _ ∙ ap (λ (m : ℕ). (at_segs v level front first m (part_start columns)).events) is_first)
 segs_front v level front first j (suc n) columns l =
     elim (cases_eq j (suc n)) [
       | inl e ↦ ([], append-nil _ ∙ ap (λ (m : ℕ). (at_segs v level front first m (part_start columns)).events) e)
       | inr ne ↦
-          let h : (rest : List Event) × ((at_segs v level front first j (part_start columns)).events ++ rest ≡ (at_segs v level front first n (part_start columns)).events) = segs_front v level front first j n columns (omega arith) in
+          let rest_of : (rest : List Event) × ((at_segs v level front first j (part_start columns)).events ++ rest ≡ (at_segs v level front first n (part_start columns)).events) = segs_front v level front first j n columns (omega arith) in
           let now : List Bool = (at_segs v level front first n (part_start columns)).covered in
           let more : List Event = (at_seg v level front (first + n) (part_start now)).events in
-          let s : n + 1 ≡ suc n = omega arith in (
-            h.0 ++ more,
-            sym (append_assoc (at_segs v level front first j (part_start columns)).events h.0 more)
-                ∙ ap (λ (es : List Event). es ++ more) h.1
+          let one_more : n + 1 ≡ suc n = omega arith in (
+            rest_of.0 ++ more,
+            sym (append_assoc (at_segs v level front first j (part_start columns)).events rest_of.0 more)
+                ∙ ap (λ (es : List Event). es ++ more) rest_of.1
                 ∙ sym (ap (λ (w : WalkState). w.events) (segs_part v level front first n columns now refl))
-                ∙ ap (λ (m : ℕ). (at_segs v level front first m (part_start columns)).events) s,
+                ∙ ap (λ (m : ℕ). (at_segs v level front first m (part_start columns)).events) one_more,
           )
     ]
 
@@ -127,11 +128,11 @@ segs_front v level front first j (suc n) columns l =
 pub segs_left : (v : ViewValue) (level : LevelLists) (front : Surface) (first k n : ℕ) (columns now : List Bool) → k < n → now ≡ (at_segs v level front first k (part_start columns)).covered →
     (rest : List Event) × ((at_segs v level front first k (part_start columns)).events ++ ((at_seg v level front (first + k) (part_start now)).events ++ rest) ≡ (at_segs v level front first n (part_start columns)).events)
 segs_left v level front first k n columns now l e =
-    let h : (rest : List Event) × ((at_segs v level front first (k + 1) (part_start columns)).events ++ rest ≡ (at_segs v level front first n (part_start columns)).events) = segs_front v level front first (k + 1) n columns (omega arith) in (
-      h.0,
-      sym (append_assoc (at_segs v level front first k (part_start columns)).events (at_seg v level front (first + k) (part_start now)).events h.0)
-          ∙ ap (λ (es : List Event). es ++ h.0) (sym (ap (λ (w : WalkState). w.events) (segs_part v level front first k columns now e)))
-          ∙ h.1,
+    let rest_of : (rest : List Event) × ((at_segs v level front first (k + 1) (part_start columns)).events ++ rest ≡ (at_segs v level front first n (part_start columns)).events) = segs_front v level front first (k + 1) n columns (omega arith) in (
+      rest_of.0,
+      sym (append_assoc (at_segs v level front first k (part_start columns)).events (at_seg v level front (first + k) (part_start now)).events rest_of.0)
+          ∙ ap (λ (es : List Event). es ++ rest_of.0) (sym (ap (λ (w : WalkState). w.events) (segs_part v level front first k columns now e)))
+          ∙ rest_of.1,
     )
 
 -- the part of a node: the near child, and then what its far child comes to
@@ -157,8 +158,8 @@ failed_by b x w e = rw e
 -- a child that is a node, whose near child is walked first
 module _ (v : ViewValue) (level : LevelLists) (depth n side : ℕ) (child near : Child) (node : Node) (columns : List Bool) (is : child ≡ NodeChild n) (deep : ¬ (depth ≡ 0)) (found : node_at level n ≡ Some node) (beside : side ≡ eye_side v node) (first : near ≡ child_on node side) where
   node_part :
-      let w = walk_child v level (depth - 1) near (part_start columns) in
-      walk_child v level depth child (part_start columns) ≡ behind w.events (at_far v (walk_child v level (depth - 1)) node (part_start w.covered))
+      let walked = walk_child v level (depth - 1) near (part_start columns) in
+      walk_child v level depth child (part_start columns) ≡ behind walked.events (at_far v (walk_child v level (depth - 1)) node (part_start walked.covered))
   node_part =
       ap (λ (d : Child). walk_child v level depth d (part_start columns)) is
       ∙ far_part v level depth n side node columns deep found beside
@@ -177,29 +178,29 @@ module _ (v : ViewValue) (level : LevelLists) (depth n side : ℕ) (child near :
   unfolding at_far far_box far_child
   node_now now b c e =
       let walk : Child → WalkState → WalkState = walk_child v level (depth - 1) in
-      let w : WalkState = walk near (part_start columns) in
+      let walked : WalkState = walk near (part_start columns) in
       node_part
-      ∙ ap (λ (d : List Bool). behind w.events (at_far v walk node (part_start d))) (sym c)
-      ∙ ap (λ (s : ℕ). behind w.events (cond (box_passes v now (box_on node (1 - s))) (walk (child_on node (1 - s)) (part_start now)) (part_start now))) (sym beside)
-      ∙ ap (λ (d : Box4). behind w.events (cond (box_passes v now d) (walk (child_on node (1 - side)) (part_start now)) (part_start now))) (sym e)
+      ∙ ap (λ (d : List Bool). behind walked.events (at_far v walk node (part_start d))) (sym c)
+      ∙ ap (λ (s : ℕ). behind walked.events (cond (box_passes v now (box_on node (1 - s))) (walk (child_on node (1 - s)) (part_start now)) (part_start now))) (sym beside)
+      ∙ ap (λ (d : Box4). behind walked.events (cond (box_passes v now d) (walk (child_on node (1 - side)) (part_start now)) (part_start now))) (sym e)
 
   -- where the far box is not seen, they are all
   pub node_near : (now : List Bool) (b : Box4) → now ≡ (walk_child v level (depth - 1) near (part_start columns)).covered → b ≡ box_on node (1 - side) → box_passes v now b ≡ false →
       walk_child v level depth child (part_start columns) ≡ record { events = (walk_child v level (depth - 1) near (part_start columns)).events; covered = now }
   node_near now b c e fails =
-      let w : WalkState = walk_child v level (depth - 1) near (part_start columns) in
+      let walked : WalkState = walk_child v level (depth - 1) near (part_start columns) in
       node_now now b c e
-      ∙ ap (behind w.events) (failed_by (box_passes v now b) (walk_child v level (depth - 1) (child_on node (1 - side)) (part_start now)) (part_start now) fails)
-      ∙ ap (λ (es : List Event). record { events = es; covered = now }) (append-nil w.events)
+      ∙ ap (behind walked.events) (failed_by (box_passes v now b) (walk_child v level (depth - 1) (child_on node (1 - side)) (part_start now)) (part_start now) fails)
+      ∙ ap (λ (es : List Event). record { events = es; covered = now }) (append-nil walked.events)
 
   -- where it is, the far child's events follow
   pub node_both : (now : List Bool) (b : Box4) (far : Child) → now ≡ (walk_child v level (depth - 1) near (part_start columns)).covered → b ≡ box_on node (1 - side) → box_passes v now b ≡ true → far ≡ child_on node (1 - side) →
       walk_child v level depth child (part_start columns) ≡ behind (walk_child v level (depth - 1) near (part_start columns)).events (walk_child v level (depth - 1) far (part_start now))
   node_both now b far c e passes last =
-      let w : WalkState = walk_child v level (depth - 1) near (part_start columns) in
+      let walked : WalkState = walk_child v level (depth - 1) near (part_start columns) in
       node_now now b c e
-      ∙ ap (behind w.events) (passed_by (box_passes v now b) (walk_child v level (depth - 1) (child_on node (1 - side)) (part_start now)) (part_start now) passes)
-      ∙ ap (λ (d : Child). behind w.events (walk_child v level (depth - 1) d (part_start now))) (sym last)
+      ∙ ap (behind walked.events) (passed_by (box_passes v now b) (walk_child v level (depth - 1) (child_on node (1 - side)) (part_start now)) (part_start now) passes)
+      ∙ ap (λ (d : Child). behind walked.events (walk_child v level (depth - 1) d (part_start now))) (sym last)
 
 -- the columns of a seg: a solid one, a pass, another
 pub solid_part : (solid pass : Bool) (seg first last : ℕ) (columns now : List Bool) → solid ≡ true → now ≡ cover columns first last →
@@ -229,13 +230,13 @@ module _ (v : ViewValue) (level : LevelLists) (front : Surface) (n : ℕ) (colum
   pub no_columns_part : (x1 x2 : ℕ) → Columns x1 x2 ≡ seg_range v seg → x1 ≡ x2 → at_seg v level front n (part_start columns) ≡ part_start columns
   unfolding at_seg at_seg_of at_range
   no_columns_part x1 x2 e f =
-      let b : (x1 == x2) ≡ true = grind arith in rw (sym is, sym e, b)
+      let same_column : (x1 == x2) ≡ true = grind arith in rw (sym is, sym e, same_column)
 
   pub columns_part : (x1 x2 : ℕ) → Columns x1 x2 ≡ seg_range v seg → ¬ (x1 ≡ x2) →
       at_seg v level front n (part_start columns) ≡ at_columns (is_solid front (back_of level seg)) (is_pass front (back_of level seg) (middle_of level seg)) n x1 (x2 - 1) (part_start columns)
   unfolding at_seg at_seg_of at_range
   columns_part x1 x2 e f =
-      let b : (x1 == x2) ≡ false = grind arith in rw (sym is, sym e, b)
+      let other_column : (x1 == x2) ≡ false = grind arith in rw (sym is, sym e, other_column)
 
 -- the whole walk is the part of the root, where no column is covered
 pub root_part : (v : ViewValue) (lists level : LevelLists) (depth : ℕ) (root : Child) (columns : List Bool) → lists ≡ level → root ≡ lists.root → columns ≡ replicate v.shape.width false →

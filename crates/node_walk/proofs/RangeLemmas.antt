@@ -11,34 +11,38 @@ abbrev pub AreApart : ℕ → ℕ → List Range → Type 0
 AreApart j width [] = Unit {0}
 AreApart j width (r ∷ rs) = (j ≤ r.first) × (r.first ≤ r.last) × (r.last < width) × AreApart (r.last + 2) width rs
 
-three : (a b c d : Bool) → (a && (b && (c && d))) ≡ true → (a ≡ true) × (b ≡ true) × (c ≡ true) × (d ≡ true)
-three true true true true e = (refl, refl, refl, refl)
-three true true true false e = cc
-three true true false d e = cc
-three true false c d e = cc
-three false b c d e = cc
+-- four tests that hold together, one by one
+four_parts : (a b c d : Bool) → (a && (b && (c && d))) ≡ true → (a ≡ true) × (b ≡ true) × (c ≡ true) × (d ≡ true)
+four_parts true true true true e = (refl, refl, refl, refl)
+four_parts true true true false e = cc
+four_parts true true false d e = cc
+four_parts true false c d e = cc
+four_parts false b c d e = cc
 
 -- what the test tells
 pub apart_parts : (j width : ℕ) (rs : List Range) → are_apart j width rs ≡ true → AreApart j width rs
 apart_parts j width [] e = tt
 apart_parts j width (r ∷ rs) e =
-    let h = three (nat_le j r.first) (nat_le r.first r.last) (nat_lt r.last width) (are_apart (r.last + 2) width rs) e in
-    let a : j ≤ r.first = let p : nat_le j r.first ≡ true = h.0 in grind (arith, nat_tests) in
-    let b : r.first ≤ r.last = let p : nat_le r.first r.last ≡ true = h.1 in grind (arith, nat_tests) in
-    let c : r.last < width = let p : nat_lt r.last width ≡ true = h.2 in grind (arith, nat_tests) in
-    (a, b, c, apart_parts (r.last + 2) width rs h.3)
+    let parts = four_parts (nat_le j r.first) (nat_le r.first r.last) (nat_lt r.last width) (are_apart (r.last + 2) width rs) e in
+    let from_j : j ≤ r.first = let starts_test : nat_le j r.first ≡ true = parts.0 in grind (arith, nat_tests) in
+    let in_order : r.first ≤ r.last = let order_test : nat_le r.first r.last ≡ true = parts.1 in grind (arith, nat_tests) in
+    let within_width : r.last < width = let width_test : nat_lt r.last width ≡ true = parts.2 in grind (arith, nat_tests) in
+    (from_j, in_order, within_width, apart_parts (r.last + 2) width rs parts.3)
 
-all_three : (a b c d : Bool) → a ≡ true → b ≡ true → c ≡ true → d ≡ true → (a && (b && (c && d))) ≡ true
-all_three a b c d p q r s = rw (p, q, r, s)
+-- four tests that hold, together
+four_hold : (a b c d : Bool) → a ≡ true → b ≡ true → c ≡ true → d ≡ true → (a && (b && (c && d))) ≡ true
+four_hold a b c d p q r s = rw (p, q, r, s)
 
+-- ranges that are apart pass the test
 pub apart_test : (j width : ℕ) (rs : List Range) → AreApart j width rs → are_apart j width rs ≡ true
 apart_test j width [] a = refl
 apart_test j width (r ∷ rs) a =
-    let p : nat_le j r.first ≡ true = (let l : j ≤ r.first = a.0 in grind (arith, nat_tests)) in
-    let q : nat_le r.first r.last ≡ true = (let l : r.first ≤ r.last = a.1 in grind (arith, nat_tests)) in
-    let s : nat_lt r.last width ≡ true = (let l : r.last < width = a.2 in grind (arith, nat_tests)) in
-    all_three (nat_le j r.first) (nat_le r.first r.last) (nat_lt r.last width) (are_apart (r.last + 2) width rs) p q s (apart_test (r.last + 2) width rs a.3)
+    let starts_test : nat_le j r.first ≡ true = (let from_j : j ≤ r.first = a.0 in grind (arith, nat_tests)) in
+    let order_test : nat_le r.first r.last ≡ true = (let in_order : r.first ≤ r.last = a.1 in grind (arith, nat_tests)) in
+    let width_test : nat_lt r.last width ≡ true = (let within_width : r.last < width = a.2 in grind (arith, nat_tests)) in
+    four_hold _ _ _ _ starts_test order_test width_test (apart_test (r.last + 2) width rs a.3)
 
+-- what is apart from a column on is so from one before it
 pub apart_from : (i j width : ℕ) (rs : List Range) → i ≤ j → AreApart j width rs → AreApart i width rs
 apart_from i j width [] l a = tt
 apart_from i j width (r ∷ rs) l a = (omega arith, a.1, a.2, a.3)
@@ -46,15 +50,16 @@ apart_from i j width (r ∷ rs) l a = (omega arith, a.1, a.2, a.3)
 -- ranges that are apart in a view are so in a wider one
 pub apart_wider : (j width wider : ℕ) (rs : List Range) → width ≤ wider → AreApart j width rs → AreApart j wider rs
 apart_wider j width wider [] l a = tt
-apart_wider j width wider (r ∷ rs) l a = (a.0, a.1, (let h : r.last < width = a.2 in omega arith), apart_wider (r.last + 2) width wider rs l a.3)
+apart_wider j width wider (r ∷ rs) l a = (a.0, a.1, (let within_width : r.last < width = a.2 in omega arith), apart_wider (r.last + 2) width wider rs l a.3)
 
 -- there are at most half as many ranges as columns
 pub length-apart : (j width : ℕ) (rs : List Range) → j ≤ width + 1 → AreApart j width rs → j + 2 * length rs ≤ width + 1
 length-apart j width [] l a = omega arith
 length-apart j width (r ∷ rs) l a =
-    let b : r.last + 2 + 2 * length rs ≤ width + 1 = length-apart (r.last + 2) width rs (omega arith) a.3 in
+    let rest_fits : r.last + 2 + 2 * length rs ≤ width + 1 = length-apart (r.last + 2) width rs (omega arith) a.3 in
     omega arith
 
+-- by whether the first range ends before the new one
 split_at : (range r : Range) (rs : List Range) (n : ℕ) (b : Bool) → with_range range rs ≡ take n rs ++ joined range (drop n rs) →
     cond b (r ∷ with_range range rs) (joined range (r ∷ rs)) ≡ take (cond b (suc n) 0) (r ∷ rs) ++ joined range (drop (cond b (suc n) 0) (r ∷ rs))
 split_at range r rs n true e = ap (λ (xs : List Range). r ∷ xs) e
@@ -96,13 +101,14 @@ next_touches : (m r : Range) (width : ℕ) (rs : List Range) → m.first ≤ r.l
 next_touches m r width [] t a = tt
 next_touches m r width (s ∷ rs) t a = omega arith
 
+-- by whether the next range begins behind the one that is joined
 within_cases : (x : ℕ) (m r : Range) (rs : List Range) (b : Bool) → starts_after m.last r ≡ b → (b ≡ false → is_within_range (joined (union m r) rs) x ≡ (is_in_range x (union m r) || is_within_range rs x)) →
     m.first ≤ m.last → r.first ≤ r.last → m.first ≤ r.last + 1 → is_within_range (cond b (m ∷ (r ∷ rs)) (joined (union m r) rs)) x ≡ (is_in_range x m || is_within_range (r ∷ rs) x)
 unfolding is_within_range
 within_cases x m r rs true e h c d t = refl
 within_cases x m r rs false e h c d t =
-    let b : r.first ≤ m.last + 1 = grind (arith, nat_tests) in
-    h refl ∙ ap (λ (v : Bool). v || is_within_range rs x) (union-is_in x m r t b c d) ∙ or_assoc (is_in_range x m) (is_in_range x r) (is_within_range rs x)
+    let range_touches : r.first ≤ m.last + 1 = grind (arith, nat_tests) in
+    h refl ∙ ap (λ v. v || is_within_range rs x) (union-is_in x m r t range_touches c d) ∙ or_assoc (is_in_range x m) (is_in_range x r) (is_within_range rs x)
 
 -- the columns of a range joined with those that it touches
 joined-is_within : (x j width : ℕ) (m : Range) (rs : List Range) → AreApart j width rs → Touches m rs → m.first ≤ m.last →
@@ -111,7 +117,7 @@ unfolding is_within_range
 joined-is_within x j width m [] a t c = refl
 joined-is_within x j width m (r ∷ rs) a t c =
     within_cases x m r rs (starts_after m.last r) refl
-    (λ _. joined-is_within x (r.last + 2) width (union m r) rs a.3 (next_touches m r width rs t a.3) (let d : r.first ≤ r.last = a.1 in omega arith)) c a.1 t
+    (λ _. joined-is_within x (r.last + 2) width (union m r) rs a.3 (next_touches m r width rs t a.3) (omega (arith, a.1))) c a.1 t
 
 with_cases : (x j width : ℕ) (m r : Range) (rs : List Range) (b : Bool) → ends_before m.first r ≡ b → is_within_range (with_range m rs) x ≡ (is_in_range x m || is_within_range rs x) →
     AreApart j width (r ∷ rs) → m.first ≤ m.last → is_within_range (cond b (r ∷ with_range m rs) (joined m (r ∷ rs))) x ≡ (is_in_range x m || is_within_range (r ∷ rs) x)
@@ -129,15 +135,17 @@ with_range-is_within x j width m (r ∷ rs) a c =
 
 joined_cases : (j width : ℕ) (m r : Range) (rs : List Range) (b : Bool) → starts_after m.last r ≡ b → AreApart j width (joined (union m r) rs) →
     AreApart j width (r ∷ rs) → j ≤ m.first → m.first ≤ m.last → m.last < width → AreApart j width (cond b (m ∷ (r ∷ rs)) (joined (union m r) rs))
-joined_cases j width m r rs true e h a p c q = (p, c, q, ((let l : m.last + 1 < r.first = grind (arith, nat_tests) in omega arith), a.1, a.2, a.3))
+joined_cases j width m r rs true e h a p c q =
+    (p, c, q, ((let joined_lies_before : m.last + 1 < r.first = grind (arith, nat_tests) in omega arith), a.1, a.2, a.3))
 joined_cases j width m r rs false e h a p c q = h
 
+-- a range that took up those that it touches is apart from the others
 joined-apart : (j width : ℕ) (m : Range) (rs : List Range) → AreApart j width rs → j ≤ m.first → m.first ≤ m.last → m.last < width → AreApart j width (joined m rs)
 joined-apart j width m [] a p c q = (p, c, q, tt)
 joined-apart j width m (r ∷ rs) a p c q =
     joined_cases j width m r rs (starts_after m.last r) refl
-    (joined-apart j width (union m r) rs (apart_from j (r.last + 2) width rs (let l : j ≤ r.first = a.0 in let k : r.first ≤ r.last = a.1 in omega arith) a.3)
-    (let l : j ≤ r.first = a.0 in omega arith) (let k : r.first ≤ r.last = a.1 in omega arith) (let l : r.last < width = a.2 in omega arith))
+    (joined-apart j width (union m r) rs (apart_from j (r.last + 2) width rs (omega (arith, a.0, a.1)) a.3)
+    (omega (arith, a.0)) (omega (arith, a.1)) (omega (arith, a.2)))
     a p c q
 
 apart_cases : (j width : ℕ) (m r : Range) (rs : List Range) (b : Bool) → ends_before m.first r ≡ b → (b ≡ true → AreApart (r.last + 2) width (with_range m rs)) →
@@ -150,7 +158,7 @@ pub with_range-apart : (j width : ℕ) (m : Range) (rs : List Range) → AreApar
 with_range-apart j width m [] a p c q = (p, c, q, tt)
 with_range-apart j width m (r ∷ rs) a p c q =
     apart_cases j width m r rs (ends_before m.first r) refl
-    (λ e. with_range-apart (r.last + 2) width m rs a.3 (let l : r.last + 1 < m.first = grind (arith, nat_tests) in omega arith) c q)
+    (λ e. with_range-apart (r.last + 2) width m rs a.3 (let range_lies_before : r.last + 1 < m.first = grind (arith, nat_tests) in omega arith) c q)
     (joined-apart j width m (r ∷ rs) a p c q) a
 
 pub length-columns_of : (width : ℕ) (rs : List Range) → length (columns_of width rs) ≡ width
@@ -175,15 +183,16 @@ out_before x first last a = grind (arith, nat_tests)
 out_after : (x first last : ℕ) → last < x → is_in_range x (record { first = first; last = last }) ≡ false
 out_after x first last a = grind (arith, nat_tests)
 
+-- one column of the wider cover, by whether it lies before, in or behind the new columns
 covered_at : (width first last x : ℕ) (rs : List Range) → first ≤ last → last < width → x < width →
     is_covered (cover (columns_of width rs) first last) x ≡ (is_in_range x (record { first = first; last = last }) || is_within_range rs x)
 covered_at width first last x rs o l h =
-    let n : last < length (columns_of width rs) = omega (arith, length-columns_of width rs) in
+    let last_is_there : last < length (columns_of width rs) = omega (arith, length-columns_of width rs) in
     elim (cases_lt x first) [
-      | inl b ↦ rw (covered-before (columns_of width rs) first last x o n b, columns_of-covered width x rs h, out_before x first last b)
+      | inl b ↦ rw (covered-before (columns_of width rs) first last x o last_is_there b, columns_of-covered width x rs h, out_before x first last b)
       | inr g ↦ elim (cases_lt last x) [
-        | inl a ↦ rw (covered-after (columns_of width rs) first last x o n a, columns_of-covered width x rs h, out_after x first last a)
-        | inr e ↦ rw (covered-between (columns_of width rs) first last x o n g e, in_range x first last g e)
+        | inl a ↦ rw (covered-after (columns_of width rs) first last x o last_is_there a, columns_of-covered width x rs h, out_after x first last a)
+        | inr e ↦ rw (covered-between (columns_of width rs) first last x o last_is_there g e, in_range x first last g e)
       ]
     ]
 
@@ -198,9 +207,9 @@ pub with_range-cover : (width first last : ℕ) (rs : List Range) → AreApart 0
     columns_of width (with_range (record { first = first; last = last }) rs) ≡ cover (columns_of width rs) first last
 unfolding columns_of
 with_range-cover width first last rs a o l =
-    let n : length (cover (columns_of width rs) first last) ≡ width =
+    let same_width : length (cover (columns_of width rs) first last) ≡ width =
     length-cover (columns_of width rs) first last o (omega (arith, length-columns_of width rs)) ∙ length-columns_of width rs in
-    sym (listed-all (is_within_range (with_range (record { first = first; last = last }) rs)) (cover (columns_of width rs) first last) width true n
+    sym (listed-all (is_within_range (with_range (record { first = first; last = last }) rs)) (cover (columns_of width rs) first last) width true same_width
     (λ k h. covered_values width first last k rs a o l h))
 
 -- no range covers no column

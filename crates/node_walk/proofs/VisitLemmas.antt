@@ -16,7 +16,7 @@ grew_more {c} {xs} {ys} all first second e = record {
 stopped_later : {A E : Type 0} {a b : A → List Event → Type 0} {p : A → List Event → E → Type 0} {xs ys : List Event} {stop : E} (all : List Event) →
     Grew a b xs → StoppedAt b p ys stop → xs ++ ys ≡ all → StoppedAt a p all stop
 stopped_later {E} {a} {b} {p} {xs} {ys} {stop} all first second e =
-    let n : length xs + length ys ≡ length all = sym (length-append xs ys) ∙ ap length e in
+    let lengths_add : length xs + length ys ≡ length all = sym (length-append xs ys) ∙ ap length e in
     record {
       count = length xs + second.count;
       some = omega (arith, second.some);
@@ -31,7 +31,7 @@ stopped_later {E} {a} {b} {p} {xs} {ys} {stop} all first second e =
 stopped_front : {A E : Type 0} {a : A → List Event → Type 0} {p : A → List Event → E → Type 0} {xs : List Event} {stop : E} (rest all : List Event) →
     StoppedAt a p xs stop → xs ++ rest ≡ all → StoppedAt a p all stop
 stopped_front {E} {a} {p} {xs} {stop} rest all first e =
-    let n : length xs + length rest ≡ length all = sym (length-append xs rest) ∙ ap length e in
+    let lengths_add : length xs + length rest ≡ length all = sym (length-append xs rest) ∙ ap length e in
     record {
       count = first.count;
       some = first.some;
@@ -59,29 +59,29 @@ visits_none t a p = record {
 visits_then : {A E : Type 0} {t u v : Event → Type 0} {a b c : A → List Event → Type 0} {p q : A → List Event → E → Type 0} {xs ys : List Event} {first last : Result (Unit {0}) E} (all : List Event) →
     Visits t u a b p xs first → (unit : Unit {0}) → first ≡ Ok unit → Visits u v b c q ys last → xs ++ ys ≡ all → Visits t v a c q all last
 visits_then {E} {t} {u} {v} {a} {b} {c} {p} {q} {xs} {ys} {first} {last} all visits unit was next e =
-    let g : Grew a b xs = rw was at visits.ok in
-    let k : StillTakes t u = rw was at visits.takes_on in
+    let grew : Grew a b xs = rw was at visits.ok in
+    let still_takes : StillTakes t u = rw was at visits.takes_on in
     record {
-      ok = on_ok_weaker last (λ h. grew_more all g h e) next.ok;
-      takes_on = on_ok_weaker last (λ h. still_more k h) next.takes_on;
-      err = IfErr-weaker last (StoppedAt b q ys) (StoppedAt a q all) (λ stop h. stopped_later all g h e) next.err;
+      ok = on_ok_weaker last (λ h. grew_more all grew h e) next.ok;
+      takes_on = on_ok_weaker last (λ h. still_more still_takes h) next.takes_on;
+      err = IfErr-weaker last (StoppedAt b q ys) (StoppedAt a q all) (λ stop h. stopped_later all grew h e) next.err;
     }
 
 -- the first part was stopped
 visits_stop : {A E : Type 0} {t u : Event → Type 0} {a b : A → List Event → Type 0} {p : A → List Event → E → Type 0} {xs : List Event} {first : Result (Unit {0}) E} (result : Result (Unit {0}) E) (rest all : List Event) →
     Visits t u a b p xs first → (stop : E) → first ≡ Err stop → result ≡ Err stop → xs ++ rest ≡ all → Visits t u a b p all result
 visits_stop {E} {t} {u} {a} {b} {p} {xs} {first} result rest all visits stop was is e =
-    let s : StoppedAt a p xs stop = rw was at visits.err in
-    subst (Visits t u a b p all) (sym is) (record { ok = tt; takes_on = tt; err = stopped_front rest all s e })
+    let stopped : StoppedAt a p xs stop = rw was at visits.err in
+    subst (Visits t u a b p all) (sym is) (record { ok = tt; takes_on = tt; err = stopped_front rest all stopped e })
 
 -- a visitor that takes every event still does after a part that was given whole
 pub takes_all_after : {A E : Type 0} {t u : Event → Type 0} {a b : A → List Event → Type 0} {p : A → List Event → E → Type 0} {xs : List Event} {first : Result (Unit {0}) E} (leaves segs width : ℕ) →
     Visits t u a b p xs first → (unit : Unit {0}) → first ≡ Ok unit → TakesAll t leaves segs width → TakesAll u leaves segs width
 takes_all_after {E} {t} {u} leaves segs width visits unit was all =
-    let k : StillTakes t u = rw was at visits.takes_on in
+    let still_takes : StillTakes t u = rw was at visits.takes_on in
     record {
-      leaf = λ n h. k.each _ (all.leaf n h);
-      fragment = λ seg first last h o l. k.each _ (all.fragment seg first last h o l);
+      leaf = λ n h. still_takes.each _ (all.leaf n h);
+      fragment = λ seg first last h o l. still_takes.each _ (all.fragment seg first last h o l);
     }
 
 -- the first part was given whole, and the next was stopped
@@ -125,7 +125,7 @@ walks_more {E} {t} {u} {v} {a} {b} {c} {p} {q} {xs} {next} {columns} {first} {la
 pub walks_stop : {A E : Type 0} {t u : Event → Type 0} {a b : A → List Event → Type 0} {p : A → List Event → E → Type 0} {xs : List Event} {first : Result (Unit {0}) E} (result : Result (Unit {0}) E) (state : WalkState) (columns : List Bool) (rest : List Event) →
     Visits t u a b p xs first → (stop : E) → first ≡ Err stop → result ≡ Err stop → xs ++ rest ≡ state.events → Walks t u a b p state columns result
 walks_stop {E} {t} {u} {a} {b} {p} {xs} {first} result state columns rest visits stop was is e =
-    record { visits = visits_stop result rest state.events visits stop was is e; covered = subst (λ (r : Result (Unit {0}) E). OnOk r (columns ≡ state.covered)) (sym is) tt }
+    record { visits = visits_stop result rest state.events visits stop was is e; covered = subst (λ r. OnOk r (columns ≡ state.covered)) (sym is) tt }
 
 -- the same after some events
 pub walks_stopped : {A E : Type 0} {t u v : Event → Type 0} {a b c : A → List Event → Type 0} {p q : A → List Event → E → Type 0} {xs ys : List Event} {first last : Result (Unit {0}) E} (result : Result (Unit {0}) E) (state : WalkState) (columns : List Bool) (rest : List Event) →

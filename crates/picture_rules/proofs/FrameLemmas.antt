@@ -55,7 +55,7 @@ past_window shape x y l m e =
       | inl a ↦ elim (cases_lt y (shape.top + shape.height)) [
         | inr b ↦ inr (omega arith)
         | inl b ↦
-            let t : ((nat_le shape.left x && nat_lt x (shape.left + shape.width)) && (nat_le shape.top y && nat_lt y (shape.top + shape.height))) ≡ true =
+            let inside : ((nat_le shape.left x && nat_lt x (shape.left + shape.width)) && (nat_le shape.top y && nat_lt y (shape.top + shape.height))) ≡ true =
             and_from (nat_le shape.left x && nat_lt x (shape.left + shape.width)) (nat_le shape.top y && nat_lt y (shape.top + shape.height))
             (and_from (nat_le shape.left x) (nat_lt x (shape.left + shape.width)) (le-leb shape.left x l) (lt-ltb x (shape.left + shape.width) a))
             (and_from (nat_le shape.top y) (nat_lt y (shape.top + shape.height)) (le-leb shape.top y m) (lt-ltb y (shape.top + shape.height) b)) in cc
@@ -117,8 +117,8 @@ colours_listed shape dots cells n z =
     (range_with_len 0 n) (λ cell. colour_or (get_or cells cell 0) (frame_dot shape dots (cell % FRAME_WIDTH) (cell / FRAME_WIDTH)) (z cell))
 
 -- a cleared frame that was given the dots, and marks a cell by its colour, is the picture
-pub frame_of-put_dots : (shape : ViewShape) (dots : List Dot) (cells : List ℕ) → FitsFrame shape → AreInView shape dots → length cells ≡ FRAME_CELLS → ((cell : ℕ) → get_or cells cell 0 ≡ 0) →
-    put_dots (λ p k. k) shape.left shape.top dots cells ≡ frame_of shape dots
+pub frame_of-put_dots : (shape : ViewShape) (dots : List Dot) (cells : List ℕ) → FitsFrame shape → AreInView shape dots → length cells ≡ FRAME_CELLS →
+    ((cell : ℕ) → get_or cells cell 0 ≡ 0) → put_dots (λ p k. k) shape.left shape.top dots cells ≡ frame_of shape dots
 unfolding frame_of frame_dots
 frame_of-put_dots shape dots cells f a n z = frame-put_dots shape (λ p k. k) dots cells f a n ∙ colours_listed shape dots cells FRAME_CELLS z
 

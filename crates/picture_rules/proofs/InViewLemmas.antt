@@ -31,16 +31,16 @@ in_view-column shape painter x colour (y ∷ ys) l a = ((l, a.0), in_view-column
 
 natural-below : (first last : ℤ) (height y : ℕ) → first ≤ℤ last → pos 0 ≤ℤ first → last <ℤ pos height → y ≤ natural last → y < height
 unfolding natural
-natural-below first (pos n) height y o l h m = let k : n < height = omega (arith, ints) in omega arith
+natural-below first (pos n) height y o l h m = let number_below : n < height = omega (arith, ints) in omega arith
 natural-below first (negsuc n) height y o l h m = absurd (omega (arith, ints))
 
 rows_by : (height : ℕ) (first last : ℤ) (t : Bool) → int_lt last first ≡ t → (first ≤ℤ last → (pos 0 ≤ℤ first) × (last <ℤ pos height)) →
     AllByRecursion (λ y. y < height) (cond t [] (listed_from (λ y. y) (natural first) (natural last)))
 rows_by height first last true e h = tt
 rows_by height first last false e h =
-    let o : first ≤ℤ last = grind (arith, ints) in
-    let p = h o in
-    numbers_between (λ y. y < height) (natural first) (natural last) (λ y l m. natural-below first last height y o p.0 p.1 m)
+    let in_order : first ≤ℤ last = grind (arith, ints) in
+    let bounds = h in_order in
+    numbers_between (λ y. y < height) (natural first) (natural last) (λ y l m. natural-below first last height y in_order bounds.0 bounds.1 m)
 
 -- rows between two that are rows of the view, where there are some
 pub rows_between-in : (height : ℕ) (first last : ℤ) → (first ≤ℤ last → (pos 0 ≤ℤ first) × (last <ℤ pos height)) → AllByRecursion (λ y. y < height) (rows_between first last)

@@ -62,9 +62,9 @@ all_fragments-leaf es n = ap length (leaf_fragments-append 0 es (LeafEvent n ∷
 longer_step : (steps : List Step) (s : Step) → length (view_planes steps) ≤ length (view_planes (steps ++ s ∷ []))
 unfolding view_planes planes_of
 longer_step steps s =
-    let e = ap (after_events no_planes) (map-append (λ (t : Step). t.event) steps (s ∷ [])) ∙ after_events-more no_planes (map (λ (t : Step). t.event) steps) s.event in
-    let l = after_event-longer (after_events no_planes (map (λ (t : Step). t.event) steps)) s.event in
-    subst (λ (now : PlanesNow). length (after_events no_planes (map (λ (t : Step). t.event) steps)).planes ≤ length now.planes) (sym e) l
+    let one_more = ap (after_events no_planes) (map-append (λ (t : Step). t.event) steps (s ∷ [])) ∙ after_events-more no_planes (map (λ (t : Step). t.event) steps) s.event in
+    let is_longer = after_event-longer (after_events no_planes (map (λ (t : Step). t.event) steps)) s.event in
+    subst (λ (now : PlanesNow). length (after_events no_planes (map (λ (t : Step). t.event) steps)).planes ≤ length now.planes) (sym one_more) is_longer
 
 pub walls_counted : (v : ViewValue) (scene : Scene) (es : List Event) → length (walls_of v scene es) ≡ length (drawsegs es)
 unfolding walls_of
@@ -82,19 +82,19 @@ all_counted es h = omega (arith, length-take MAX_DRAWSEGS (leaf_fragments 0 es))
 pub event_planes-longer : (v : ViewValue) (scene : Scene) (es : List Event) (e : Event) → length (event_planes v scene es) ≤ length (event_planes v scene (es ++ e ∷ []))
 unfolding event_planes view_steps
 event_planes-longer v scene es (LeafEvent n) =
-    let is = ap (λ (walls : List Wall). steps_of v scene walls (es ++ LeafEvent n ∷ [])) (walls_of-leaf v scene es n) ∙ steps_of-leaf v scene (walls_of v scene es) es n in
+    let is = ap (λ walls. steps_of v scene walls (es ++ LeafEvent n ∷ [])) (walls_of-leaf v scene es n) ∙ steps_of-leaf v scene (walls_of v scene es) es n in
     rw is (longer_step (steps_of v scene (walls_of v scene es) es) (leaf_step v (leaf_surface scene n)))
 event_planes-longer v scene es (FragmentEvent seg first last) =
-    let n = walls_counted v scene es in
+    let same_counts = walls_counted v scene es in
     elim (cases_lt (length (walls_of v scene es)) MAX_DRAWSEGS) [
       | inl room ↦ (
-          let w = fragment_wall v scene (record { leaf = last_leaf 0 es; seg = seg; first = first; last = last }) in
-          let r : length (drawsegs es) < MAX_DRAWSEGS = omega arith in
+          let wall = fragment_wall v scene (record { leaf = last_leaf 0 es; seg = seg; first = first; last = last }) in
+          let has_room : length (drawsegs es) < MAX_DRAWSEGS = omega arith in
           let is = ap (λ (walls : List Wall). steps_of v scene walls (es ++ FragmentEvent seg first last ∷ [])) (walls_of-room v scene es seg first last room)
-          ∙ steps_of-room v scene (walls_of v scene es) w es seg first last (n ∙ all_counted es r) in
-          rw is (longer_step (steps_of v scene (walls_of v scene es) es) (wall_step v (walls_of v scene es ++ w ∷ []) (length (walls_of v scene es)) w)))
+          ∙ steps_of-room v scene (walls_of v scene es) wall es seg first last (same_counts ∙ all_counted es has_room) in
+          rw is (longer_step (steps_of v scene (walls_of v scene es) es) (wall_step v (walls_of v scene es ++ wall ∷ []) (length (walls_of v scene es)) wall)))
       | inr full ↦ (
-          let l = drawn_counted es in
+          let drawn_at_most = drawn_counted es in
           let is = ap (λ (walls : List Wall). steps_of v scene walls (es ++ FragmentEvent seg first last ∷ [])) (walls_of-full v scene es seg first last full)
           ∙ steps_of-full v scene (walls_of v scene es) es seg first last (omega arith) in
           rw is (omega arith))
@@ -134,9 +134,9 @@ makers_counted v scene before (e ∷ es) =
     let more = event_planes-longer v scene before e in
     let rest = makers_counted v scene (before ++ e ∷ []) es ∙ ap (λ (fs : List Event). length (event_planes v scene fs)) (append_assoc before (e ∷ []) es) in
     let own = replicate (planes_made v scene before e) (maker_of (length (drawsegs before)) e) in
-    let a = length-append own (makers_from v scene (before ++ e ∷ []) es) in
-    let b = length-replicate (planes_made v scene before e) (maker_of (length (drawsegs before)) e) in
-    omega (arith, more, rest, a, b)
+    let joined_length = length-append own (makers_from v scene (before ++ e ∷ []) es) in
+    let own_length = length-replicate (planes_made v scene before e) (maker_of (length (drawsegs before)) e) in
+    omega (arith, more, rest, joined_length, own_length)
 
 pub plane_makers-count : (v : ViewValue) (scene : Scene) (es : List Event) → length (plane_makers v scene es) ≡ length (event_planes v scene es)
 unfolding plane_makers
@@ -155,7 +155,7 @@ pub shown_things-again : (v : ViewValue) (scene : Scene) (es : List Event) (n : 
 unfolding shown_things
 shown_things-again v scene es n h =
     ap (joined_lists (λ sector. filter (makes_entry v scene sector) (scene.things_of sector)))
-    (sectors_entered-leaf scene es n ∙ ap (λ (b : Bool). sectors_entered scene es ++ cond b [] (leaf_sector scene n ∷ [])) h ∙ append-nil (sectors_entered scene es))
+    (sectors_entered-leaf scene es n ∙ ap (λ b. sectors_entered scene es ++ cond b [] (leaf_sector scene n ∷ [])) h ∙ append-nil (sectors_entered scene es))
 
 pub shown_things-new : (v : ViewValue) (scene : Scene) (es : List Event) (n : ℕ) → is_entered scene es (leaf_sector scene n) ≡ false →
     shown_things v scene (es ++ LeafEvent n ∷ []) ≡ shown_things v scene es ++ filter (makes_entry v scene (leaf_sector scene n)) (scene.things_of (leaf_sector scene n))
@@ -180,30 +180,30 @@ get_push (z ∷ zs) x y (suc k) h = elim (get_push zs x y k h) [ inl l ↦ inl l
 
 module _ (v : ViewValue) (scene : Scene) where
   -- a thing more that makes no entry for want of room
-  without_room : (entries : List SpriteEntry) (things : List PlacedThing) (thing : PlacedThing) → MAX_VISSPRITES ≤ length entries → AreEntriesOf v scene entries things →
-      AreEntriesOf v scene entries (things ++ thing ∷ [])
+  without_room : (entries : List SpriteEntry) (things : List PlacedThing) (thing : PlacedThing) → MAX_VISSPRITES ≤ length entries →
+      AreEntriesOf v scene entries things → AreEntriesOf v scene entries (things ++ thing ∷ [])
   without_room entries things thing full h = record {
-    count = (let a = h.count in let b = length_push things thing in omega (arith, a, b, full));
+    count = omega (arith, h.count, length_push things thing, full);
     each = λ k e t is on. elim (get_push things thing t k on) [
       | inl old ↦ h.each k e t is old
-      | inr new ↦ (let l = slice_get_within entries k e is in let n = new.0 in let a = h.count in absurd (omega (arith, l, n, a)))
+      | inr new ↦ absurd (omega (arith, slice_get_within entries k e is, new.0, h.count))
     ];
   }
 
   -- and one that makes the next entry
-  with_room : (entries : List SpriteEntry) (things : List PlacedThing) (thing : PlacedThing) (e : SpriteEntry) → length entries < MAX_VISSPRITES → IsEntryOf v scene (length entries) thing e → AreEntriesOf v scene entries things →
-      AreEntriesOf v scene (entries ++ e ∷ []) (things ++ thing ∷ [])
+  with_room : (entries : List SpriteEntry) (things : List PlacedThing) (thing : PlacedThing) (e : SpriteEntry) → length entries < MAX_VISSPRITES →
+      IsEntryOf v scene (length entries) thing e → AreEntriesOf v scene entries things → AreEntriesOf v scene (entries ++ e ∷ []) (things ++ thing ∷ [])
   with_room entries things thing e room own h =
-      let same : length entries ≡ length things = (let a = h.count in omega (arith, a, room)) in
+      let same : length entries ≡ length things = omega (arith, h.count, room) in
       record {
-        count = (let b = length_push things thing in let c = length_push entries e in omega (arith, same, b, c, room));
+        count = omega (arith, same, length_push things thing, length_push entries e, room);
         each = λ k f t is on. elim (get_push entries e f k is) [
           | inl old ↦ elim (get_push things thing t k on) [
             | inl on_old ↦ h.each k f t old on_old
-            | inr on_new ↦ (let l = slice_get_within entries k f old in let n = on_new.0 in absurd (omega (arith, l, n, same)))
+            | inr on_new ↦ absurd (omega (arith, slice_get_within entries k f old, on_new.0, same))
           ]
           | inr new ↦ elim (get_push things thing t k on) [
-            | inl on_old ↦ (let l = slice_get_within things k t on_old in let n = new.0 in absurd (omega (arith, l, n, same)))
+            | inl on_old ↦ absurd (omega (arith, slice_get_within things k t on_old, new.0, same))
             | inr on_new ↦
                 subst (λ (f : SpriteEntry). IsEntryOf v scene k t f) new.1
                 (subst (λ (t : PlacedThing). IsEntryOf v scene k t e) on_new.1
@@ -226,8 +226,8 @@ module _ (v : ViewValue) (scene : Scene) where
   shape_with sector entries things thing seen shape true is_seen is_picked is h = rw is (rw (append-nil things) h)
   shape_with sector entries things thing seen shape false is_seen is_picked is h =
       let placed = placed_of v scene sector thing in
-      let e = entry_of v (length entries) placed seen shape (picture_first v seen shape) (picture_last v seen shape) in
-      let own : IsEntryOf v scene (length entries) thing e = record {
+      let entry = entry_of v (length entries) placed seen shape (picture_first v seen shape) (picture_last v seen shape) in
+      let own : IsEntryOf v scene (length entries) thing entry = record {
         sector = sector;
         seen = seen;
         shape = shape;
@@ -235,7 +235,7 @@ module _ (v : ViewValue) (scene : Scene) where
         is_picked = is_picked;
         is_made = rw is refl;
       } in
-      rw is (made_if entries things thing e (nat_lt (length entries) MAX_VISSPRITES) refl own h)
+      rw is (made_if entries things thing entry (nat_lt (length entries) MAX_VISSPRITES) refl own h)
 
   picked_with : (sector : ℕ) (entries : List SpriteEntry) (things : List PlacedThing) (thing : PlacedThing) (seen : Seen) (shape : Option Shape5) →
       project v (placed_of v scene sector thing) ≡ Some seen → scene.pick thing.sprite thing.frame seen.rotation ≡ shape → AreEntriesOf v scene entries things →

@@ -56,8 +56,8 @@ AllNumbered Q k (x ∷ xs) = Q k x × AllNumbered Q (k + 1) xs
 numbered_from : {X : Type 0} (Q : ℕ → X → Type 0) (k : ℕ) (xs : List X) → ((i : ℕ) (x : X) → slice_get xs i ≡ Some x → Q (k + i) x) → AllNumbered Q k xs
 numbered_from Q k [] h = tt
 numbered_from Q k (x ∷ xs) h =
-    let first : k + 0 ≡ k = omega arith in (
-      subst (λ (n : ℕ). Q n x) first (h 0 x refl),
+    let same_number : k + 0 ≡ k = omega arith in (
+      subst (λ (n : ℕ). Q n x) same_number (h 0 x refl),
       numbered_from Q (k + 1) xs (λ i y is. let next : k + suc i ≡ (k + 1) + i = omega arith in subst (λ (n : ℕ). Q n y) next (h (suc i) y is)),
     )
 
@@ -112,7 +112,8 @@ module _ (P : Dot → Type 0) where
 
   posts_all : (shape : ViewShape) (painter : Painter) (x : ℕ) (c : MaskedColumn) (byte shade : ℕ → ℕ) (posts : List Post) → PassAt painter x → AllByRecursion P (posts_dots shape painter x c byte shade posts)
   unfolding posts_dots
-  posts_all shape painter x c byte shade posts h = any_joined (post_dots shape painter x c byte shade) posts (λ post. post_all shape painter x c byte shade post h)
+  posts_all shape painter x c byte shade posts h =
+      any_joined (post_dots shape painter x c byte shade) posts (λ post. post_all shape painter x c byte shade post h)
 
 -- item k of the fragments has these columns
 record IsFragmentAt (list : ViewListValue) (k first last : ℕ) : Type 0 where
@@ -224,8 +225,10 @@ module _ (list : ViewListValue) where
   -- the planes
   plane_by_all : (v : ViewValue) (art : Art) (sky n : ℕ) (p : Plane) (flat : Flat4) → IsPlaneAt list n p → p.key.flat ≡ flat → AllByRecursion (IsNamed list) (plane_dots_by v art sky n p flat)
   unfolding plane_dots_by sky_dots floor_dots
-  plane_by_all v art sky n p Sky h is = any_joined (IsNamed list) _ (listed (λ x. x) v.shape.width) (λ x. run_all (IsNamed list) _ x _ (column p x) (sky_dot n x _ p h is))
-  plane_by_all v art sky n p (Lump lump) h is = any_joined (IsNamed list) _ (listed (λ x. x) v.shape.width) (λ x. run_all (IsNamed list) _ x _ (column p x) (floor_dot n lump x p h is))
+  plane_by_all v art sky n p Sky h is =
+      any_joined (IsNamed list) _ (listed (λ x. x) v.shape.width) (λ x. run_all (IsNamed list) _ x _ (column p x) (sky_dot n x _ p h is))
+  plane_by_all v art sky n p (Lump lump) h is =
+      any_joined (IsNamed list) _ (listed (λ x. x) v.shape.width) (λ x. run_all (IsNamed list) _ x _ (column p x) (floor_dot n lump x p h is))
 
   planes_from_all : (v : ViewValue) (scene : Scene) (n : ℕ) (planes : List Plane) → AllNumbered (IsPlaneAt list) n planes → AllByRecursion (IsNamed list) (planes_from v scene n planes)
   unfolding planes_from plane_dots
@@ -301,8 +304,8 @@ wall_at v scene (s ∷ ss) zero w h =
 wall_at v scene (s ∷ ss) (suc k) w h = wall_at v scene ss k w h
 
 -- so are what the masked pass needs of them
-drawseg_at : (v : ViewValue) (scene : Scene) (walls : List Wall) (k : ℕ) (ws : List Wall) (i : ℕ) (d : Drawseg) → slice_get (drawsegs_from v scene walls k ws) i ≡ Some d →
-    (w : Wall) × (slice_get ws i ≡ Some w) × (w.first ≡ d.first) × (w.last ≡ d.last)
+drawseg_at : (v : ViewValue) (scene : Scene) (walls : List Wall) (k : ℕ) (ws : List Wall) (i : ℕ) (d : Drawseg) →
+    slice_get (drawsegs_from v scene walls k ws) i ≡ Some d → (w : Wall) × (slice_get ws i ≡ Some w) × (w.first ≡ d.first) × (w.last ≡ d.last)
 unfolding drawsegs_from drawseg_of
 drawseg_at v scene walls k [] i d h = absurd (cc)
 drawseg_at v scene walls k (w ∷ ws) zero d h =

@@ -18,7 +18,7 @@ or_same true b c h = rw (h refl) refl
 or_same false b c h = refl
 
 mention_of : (before : List ℕ) (n s : ℕ) → list_any (λ m. m == n) before ≡ true → (n == s) ≡ true → list_any (λ m. m == s) before ≡ true
-mention_of before n s h e = let f : n ≡ s = eqb-true n s e in ap (λ (k : ℕ). list_any (λ m. m == k) before) (sym f) ∙ h
+mention_of before n s h e = let same_number : n ≡ s = eqb-true n s e in ap (λ (k : ℕ). list_any (λ m. m == k) before) (sym same_number) ∙ h
 
 mention_step : (before : List ℕ) (n : ℕ) (ns : List ℕ) (s : ℕ) (b : Bool) → list_any (λ m. m == n) before ≡ b →
     first_mentions before (ns ++ s ∷ []) ≡ first_mentions before ns ++ cond (list_any (λ m. m == s) before || list_any (λ m. m == s) ns) [] (s ∷ []) →
@@ -43,7 +43,7 @@ sectors_more v scene entries (m ∷ ms) n = sectors_more v scene (with_things v 
 pub sectors_entered-fragment : (scene : Scene) (es : List Event) (seg first last : ℕ) → sectors_entered scene (es ++ FragmentEvent seg first last ∷ []) ≡ sectors_entered scene es
 unfolding sectors_entered leaves_entered
 sectors_entered-fragment scene es seg first last =
-    ap (λ (ls : List ℕ). first_mentions [] (map (leaf_sector scene) ls)) (leaves_entered-append es (FragmentEvent seg first last ∷ []) ∙ append-nil (leaves_entered es))
+    ap (λ ls. first_mentions [] (map (leaf_sector scene) ls)) (leaves_entered-append es (FragmentEvent seg first last ∷ []) ∙ append-nil (leaves_entered es))
 
 -- a fragment adds no sprite
 pub view_entries-fragment : (v : ViewValue) (scene : Scene) (es : List Event) (seg first last : ℕ) → view_entries v scene (es ++ FragmentEvent seg first last ∷ []) ≡ view_entries v scene es
@@ -64,7 +64,7 @@ pub view_entries-again : (v : ViewValue) (scene : Scene) (es : List Event) (n : 
 unfolding view_entries
 view_entries-again v scene es n h =
     ap (with_sectors v scene [])
-    (sectors_entered-leaf scene es n ∙ ap (λ (b : Bool). sectors_entered scene es ++ cond b [] (leaf_sector scene n ∷ [])) h ∙ append-nil (sectors_entered scene es))
+    (sectors_entered-leaf scene es n ∙ ap (λ b. sectors_entered scene es ++ cond b [] (leaf_sector scene n ∷ [])) h ∙ append-nil (sectors_entered scene es))
 
 -- and one of another sector adds that sector's things, in drawing order
 pub view_entries-new : (v : ViewValue) (scene : Scene) (es : List Event) (n : ℕ) → is_entered scene es (leaf_sector scene n) ≡ false →

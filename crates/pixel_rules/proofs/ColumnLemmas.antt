@@ -56,12 +56,6 @@ after_columns f x y first (suc n) a l =
     ∙ ap (λ (o : Option Dot). or_else o (last_dot x y (f first))) (after_columns f x y (first + 1) n a (omega arith))
     ∙ last_dot-other_column first x y (f first) (a first) (λ e. absurd (omega arith))
 
--- of lists for each of the columns first to last, the one of column x alone counts there
-pub last_dot-columns : (f : ℕ → List Dot) (x y first last : ℕ) → ((c : ℕ) → AreInColumn c (f c)) → first ≤ x → x ≤ last →
-    last_dot x y (joined_lists f (listed_from (λ c. c) first last)) ≡ last_dot x y (f x)
-unfolding joined_lists listed_from
-last_dot-columns f x y first last a l m = own_column f x y first (last + 1 - first) a l (omega arith)
-
 pub last_dot-no_column : (f : ℕ → List Dot) (x y first last : ℕ) → ((c : ℕ) → AreInColumn c (f c)) → (x < first) ⊎ (last < x) →
     last_dot x y (joined_lists f (listed_from (λ c. c) first last)) ≡ None
 unfolding joined_lists listed_from

@@ -3,7 +3,7 @@ use Rattle.art_rules.proofs.Common.{ap, Err, None, Ok, ok_or, Option, Result, So
 use Rattle.trim_rules.specs.Rules.{from_below}
 
 -- equal answers have equal values
-pub ok_of : {X R : Type 0} (a b : X) → (let l : Result X R = Ok a in l) ≡ Ok b → a ≡ b
+pub ok_of : {X R : Type 0} (a b : X) → (let answer : Result X R = Ok a in answer) ≡ Ok b → a ≡ b
 ok_of a b e = cc
 
 -- where an option or else an error is a value, the option has it

@@ -50,7 +50,7 @@ module _ (bytes : ℕ → List ℕ) (lumps : List Lump) (name : List ℕ) (base 
 
   label_step : (c p : ℕ) (label : Result ℕ MapRefusal) → label_of lumps name ≡ label → base_over bytes lumps name c p (take PALETTE_SIZE (bytes p)) ≡ Ok base → IsMadeOf bytes lumps base
   unfolding base_over level_in
-  label_step c p (Err r) is e = let f : Err (Map r) ≡ Ok base = ap (λ (o : Result ℕ MapRefusal). and_then {A = ℕ × LevelValue} (from_below Map (and_then o (λ l. and_then (level_of (map_bytes bytes l)) (λ v. Ok (l, v))))) (λ map. and_then (from_below Texture (lists_in bytes lumps)) (λ ls. Ok (record { colormap = c; playpal = p; palette = take PALETTE_SIZE (bytes p); label = map.0; level = map.1; lists = ls })))) (sym is) ∙ e in absurd (cc)
+  label_step c p (Err r) is e = let impossible : Err (Map r) ≡ Ok base = ap (λ (o : Result ℕ MapRefusal). and_then {A = ℕ × LevelValue} (from_below Map (and_then o (λ l. and_then (level_of (map_bytes bytes l)) (λ v. Ok (l, v))))) (λ map. and_then (from_below Texture (lists_in bytes lumps)) (λ ls. Ok (record { colormap = c; playpal = p; palette = take PALETTE_SIZE (bytes p); label = map.0; level = map.1; lists = ls })))) (sym is) ∙ e in absurd (cc)
   label_step c p (Ok l) is e =
       made_step c p l (take PALETTE_SIZE (bytes p)) (level_of (map_bytes bytes l)) (lists_in bytes lumps) refl refl refl
       (ap (λ (o : Result ℕ MapRefusal). and_then {A = ℕ × LevelValue} (from_below Map (and_then o (λ l. and_then (level_of (map_bytes bytes l)) (λ v. Ok (l, v))))) (λ map. and_then (from_below Texture (lists_in bytes lumps)) (λ ls. Ok (record { colormap = c; playpal = p; palette = take PALETTE_SIZE (bytes p); label = map.0; level = map.1; lists = ls })))) (sym is) ∙ e)

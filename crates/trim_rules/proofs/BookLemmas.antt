@@ -102,22 +102,23 @@ module _ (trimmed lumps : List Lump) (σ : ℕ → ℕ) (a : ℕ) (pictures : Li
       → (n : Mention) × (picture_or_missing (mentions trimmed need.sprite) need k ≡ Ok n) × (renumber σ n ≡ m)
   unfolding picture_or_missing
   picture-moved need last is kept k m e holds =
-      let n = trimmed_picture trimmed lumps σ (λ n. list_any (λ m. m == n) pictures) need.sprite a need.frame k last m held.are held.stand is kept
+      let moved = trimmed_picture trimmed lumps σ (λ n. list_any (λ m. m == n) pictures) need.sprite a need.frame k last m held.are held.stand is kept
       (found_picture (mentions lumps need.sprite) need k m e) holds in
-      (n.0, rw n.1 refl, n.2)
+      (moved.0, rw moved.1 refl, moved.2)
 
   pictures-moved : (need : Need) (ms : List Mention) → pictures_of (mentions lumps need.sprite) need ≡ Ok ms → AllByRecursion (IsPictureMention pictures) ms
       → (ns : List Mention) × (pictures_of (mentions trimmed need.sprite) need ≡ Ok ns) × (map (renumber σ) ns ≡ ms)
   unfolding pictures_of last_mention
   pictures-moved need ms e listed =
       let all = mentions lumps need.sprite in
-      let one = and_then-ok (last_mention all need) _ ms e in
-      let is : last_that (is_of_frame need.frame) all ≡ Some one.0 = some_value (last_that (is_of_frame need.frame) all) (NoFrame need.thing) one.0 one.1 in
-      let kept = last_listed lumps need pictures ms one.0 one.2 listed is in
+      let last_found = and_then-ok (last_mention all need) _ ms e in
+      let is : last_that (is_of_frame need.frame) all ≡ Some last_found.0 =
+      some_value (last_that (is_of_frame need.frame) all) (NoFrame need.thing) last_found.0 last_found.1 in
+      let kept = last_listed lumps need pictures ms last_found.0 last_found.2 listed is in
       let ns = each-moved (picture_or_missing all need) (picture_or_missing (mentions trimmed need.sprite) need) (renumber σ) (IsPictureMention pictures)
-      (λ k m f holds. picture-moved need one.0 is kept k m f holds) (range_with_len 0 ROTATIONS) ms one.2 listed in
-      let first = picture_by_number all need pictures ms one.2 listed 0 (omega arith) in
-      let moved = picture-moved need one.0 is kept 0 first.0 first.1 first.2 in
+      (λ k m f holds. picture-moved need last_found.0 is kept k m f holds) (range_with_len 0 ROTATIONS) ms last_found.2 listed in
+      let front_picture = picture_by_number all need pictures ms last_found.2 listed 0 (omega arith) in
+      let moved = picture-moved need last_found.0 is kept 0 front_picture.0 front_picture.1 front_picture.2 in
       let last = last_there (mentions trimmed need.sprite) need.frame 0 moved.0 (found_picture (mentions trimmed need.sprite) need 0 moved.0 moved.1) in
       (ns.0, rw last.1 ns.1, ns.2)
 

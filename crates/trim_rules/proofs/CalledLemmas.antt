@@ -44,7 +44,7 @@ module _ (bytes : ℕ → List ℕ) (lumps : List Lump) where
   found_step n m None h true is c later any d same =
       let this : m ≡ n = (Decides-eqb m n).0 is in
       rw (same this) (ap (λ k. Some (bytes k)) this)
-  found_step n m None h false is true later any d same = let e : None ≡ Some (bytes n) = later refl in absurd (cc)
+  found_step n m None h false is true later any d same = let impossible : None ≡ Some (bytes n) = later refl in absurd (cc)
   found_step n m None h false is false later any d same = absurd (cc)
 
   -- a lump among these that are the last of their names is found by its name

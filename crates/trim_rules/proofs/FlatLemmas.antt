@@ -19,8 +19,8 @@ by_value false P whole rest = rest refl
 apart : (trimmed lumps : List Lump) (flats : List ℕ) → HasFlats trimmed lumps flats → (j k : ℕ) → j < k → k < length flats
     → bytes_eq (lump_at lumps (get_or flats k 0)).name (lump_at lumps (get_or flats j 0)).name ≡ false
 apart trimmed lumps flats has j k lt inside =
-    let b = bytes_eq (lump_at lumps (get_or flats k 0)).name (lump_at lumps (get_or flats j 0)).name in
-    by_value b (b ≡ false)
+    let has_same_name = bytes_eq (lump_at lumps (get_or flats k 0)).name (lump_at lumps (get_or flats j 0)).name in
+    by_value has_same_name (has_same_name ≡ false)
     (λ same.
     let names : (lump_at lumps (get_or flats k 0)).name ≡ (lump_at lumps (get_or flats j 0)).name =
     (bytes_eq-Decides (lump_at lumps (get_or flats k 0)).name (lump_at lumps (get_or flats j 0)).name).0 same in
@@ -36,13 +36,13 @@ pub trimmed_flat : (trimmed lumps : List Lump) (flats : List ℕ) → HasFlats t
     → flat_of trimmed (lump_at lumps (get_or flats k 0)).name ≡ Some (suc k)
 trimmed_flat trimmed lumps flats has k inside =
     let name = (lump_at lumps (get_or flats k 0)).name in
-    let p = λ (n : ℕ). is_member Flats trimmed n && has_name trimmed name n in
+    let passes = λ (n : ℕ). is_member Flats trimmed n && has_name trimmed name n in
     let end : 0 + suc (length flats) < length trimmed = has.group.inside in
     let there : suc k < length trimmed = omega arith in
-    let first : 0 < suc k = omega arith in
+    let is_behind : 0 < suc k = omega arith in
     let below : suc k < 0 + suc (length flats) = omega arith in
-    greatest-some p (length trimmed) (suc k) there
-    (rw (between-member Flats trimmed 0 (length flats) has.group (suc k) first below)
+    greatest-some passes (length trimmed) (suc k) there
+    (rw (between-member Flats trimmed 0 (length flats) has.group (suc k) is_behind below)
     (is_lump-at (λ lump. bytes_eq lump.name name) trimmed (suc k) there
     ∙ (bytes_eq-Decides (lump_at trimmed (suc k)).name name).1 (has.names k inside)))
     (λ n above within. elim (cases_lt n (suc (length flats))) [

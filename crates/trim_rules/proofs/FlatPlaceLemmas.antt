@@ -84,7 +84,7 @@ module _ (trimmed : List Lump) (count : ℕ) (has : HasGroup Flats trimmed 0 cou
   member_place n lt is =
       let at = range_place 1 count n (ap (list_any (λ m. m == n)) (sym (group-members Flats trimmed 0 count has))
       ∙ any_kept (is_member Flats trimmed) n (range_with_len 0 (length trimmed)) is (range-any 0 (length trimmed) n (omega arith) (omega arith))) in
-      let e : n ≡ 1 + at.0 = at.1 in
+      let is_place : n ≡ 1 + at.0 = at.1 in
       (at.0, omega arith, at.2)
 
   named_step : (name : List ℕ) (f : Flat) (b : Bool) (o : Option ℕ) → flat_of trimmed name ≡ o → cond b (Some Sky) (option_map lump_flat o) ≡ Some f → IsFlatPlace count (flat_number f)
@@ -117,10 +117,10 @@ module _ (trimmed : List Lump) (count : ℕ) (has : HasGroup Flats trimmed 0 cou
   unfolding each_from
   each_places number [] all e = subst (AllByRecursion (AreFlatPlaces count)) (ok_of [] all e) tt
   each_places number (sector ∷ sectors) all e =
-      let one = and_then-ok (ok_or (flats_of trimmed sector) (SectorFlat number)) _ all e in
-      let rest = and_then-ok (each_from (flats_of trimmed) SectorFlat (suc number) sectors) _ all one.2 in
-      subst (AllByRecursion (AreFlatPlaces count)) (ok_of (one.0 ∷ rest.0) all rest.2)
-      (sector_places sector one.0 (some_value (flats_of trimmed sector) (SectorFlat number) one.0 one.1), each_places (suc number) sectors rest.0 rest.1)
+      let made = and_then-ok (ok_or (flats_of trimmed sector) (SectorFlat number)) _ all e in
+      let rest = and_then-ok (each_from (flats_of trimmed) SectorFlat (suc number) sectors) _ all made.2 in
+      subst (AllByRecursion (AreFlatPlaces count)) (ok_of (made.0 ∷ rest.0) all rest.2)
+      (sector_places sector made.0 (some_value (flats_of trimmed sector) (SectorFlat number) made.0 made.1), each_places (suc number) sectors rest.0 rest.1)
 
   -- the flats of all sectors
   pub places-flats : (sectors : List Sector) (all : List SectorFlats) → sector_flats trimmed sectors ≡ Ok all → AllByRecursion (AreFlatPlaces count) all

@@ -12,13 +12,13 @@ pub each-moved : {X Y Z R : Type 0} (f : X → Result Y R) (g : X → Result Z R
 unfolding each_of
 each-moved f g move P one [] ys e all = ([], refl, ok_of [] ys e)
 each-moved f g move P one (x ∷ xs) ys e all =
-    let first = and_then-ok (f x) _ ys e in
-    let more = and_then-ok (each_of f xs) _ ys first.2 in
-    let same : first.0 ∷ more.0 ≡ ys = ok_of (first.0 ∷ more.0) ys more.2 in
-    let both : AllByRecursion P (first.0 ∷ more.0) = subst (AllByRecursion P) (sym same) all in
-    let here = one x first.0 first.1 both.0 in
+    let made = and_then-ok (f x) _ ys e in
+    let more = and_then-ok (each_of f xs) _ ys made.2 in
+    let same : made.0 ∷ more.0 ≡ ys = ok_of (made.0 ∷ more.0) ys more.2 in
+    let both : AllByRecursion P (made.0 ∷ more.0) = subst (AllByRecursion P) (sym same) all in
+    let here = one x made.0 made.1 both.0 in
     let others = each-moved f g move P one xs more.0 more.1 both.1 in
-    (here.0 ∷ others.0, rw (here.1, others.1) refl, ap (λ y. y ∷ map move others.0) here.2 ∙ ap (λ zs. first.0 ∷ zs) others.2 ∙ same)
+    (here.0 ∷ others.0, rw (here.1, others.1) refl, ap (λ y. y ∷ map move others.0) here.2 ∙ ap (λ zs. made.0 ∷ zs) others.2 ∙ same)
 
 -- What holds of what f gives tells of the items.
 pub each-back : {X Y R : Type 0} (f : X → Result Y R) (P : X → Type 0) (Q : Y → Type 0) → ((x : X) (y : Y) → f x ≡ Ok y → Q y → P x)
@@ -26,18 +26,18 @@ pub each-back : {X Y R : Type 0} (f : X → Result Y R) (P : X → Type 0) (Q : 
 unfolding each_of
 each-back f P Q one [] ys e all = tt
 each-back f P Q one (x ∷ xs) ys e all =
-    let first = and_then-ok (f x) _ ys e in
-    let more = and_then-ok (each_of f xs) _ ys first.2 in
-    let same : first.0 ∷ more.0 ≡ ys = ok_of (first.0 ∷ more.0) ys more.2 in
-    let both : AllByRecursion Q (first.0 ∷ more.0) = subst (AllByRecursion Q) (sym same) all in
-    (one x first.0 first.1 both.0, each-back f P Q one xs more.0 more.1 both.1)
+    let made = and_then-ok (f x) _ ys e in
+    let more = and_then-ok (each_of f xs) _ ys made.2 in
+    let same : made.0 ∷ more.0 ≡ ys = ok_of (made.0 ∷ more.0) ys more.2 in
+    let both : AllByRecursion Q (made.0 ∷ more.0) = subst (AllByRecursion Q) (sym same) all in
+    (one x made.0 made.1 both.0, each-back f P Q one xs more.0 more.1 both.1)
 
 -- of each number of a range
 pub range-all : (P : ℕ → Type 0) (a c n : ℕ) → AllByRecursion P (range_with_len a c) → a ≤ n → n < a + c → P n
 range-all P a zero n all le lt = absurd (omega arith)
 range-all P a (suc c) n all le lt = elim (cases_lt a n) [
   | inl below ↦ range-all P (a + 1) c n all.1 (omega arith) (omega arith)
-  | inr same ↦ let e : a ≡ n = omega arith in subst P e all.0
+  | inr same ↦ let is_here : a ≡ n = omega arith in subst P is_here all.0
 ]
 
 -- each mention has a rotation up to 8
@@ -96,7 +96,7 @@ module _ (passes narrow : Mention → Bool) (within : (m : Mention) → narrow m
       → or_else r (cond b (Some x) None) ≡ None → or_else s (cond c (Some x) None) ≡ None
   none_step x (Some v) s b c is js more e = absurd (cc)
   none_step x None s true c is js more e = absurd (cc)
-  none_step x None s false true is js more e = let f : false ≡ true = sym js ∙ within x is in absurd (cc)
+  none_step x None s false true is js more e = let impossible : false ≡ true = sym js ∙ within x is in absurd (cc)
   none_step x None s false false is js more e = rw (more refl) refl
 
   none_within : (all : List Mention) → last_that passes all ≡ None → last_that narrow all ≡ None

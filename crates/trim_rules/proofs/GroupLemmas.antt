@@ -105,7 +105,7 @@ group-first group x lumps count file is has =
       starts = is;
       ends = ap (λ n. is_end group (lump_at (x ∷ lumps) n).name) at ∙ has.ends;
       no_start = λ k lt after. start_later k lt after;
-      no_end = λ k lt after within. end_later k after (let e : k < suc count = omega arith in e);
+      no_end = λ k lt after within. end_later k after (let is_before_end : k < suc count = omega arith in is_before_end);
       before = λ k lt. absurd (omega arith);
       behind = λ k lt past. behind_all (λ l. (is_start group l.name || is_end group l.name) ≡ false) x lumps count has.behind k lt (omega arith);
     } where
@@ -128,7 +128,7 @@ group-later group x lumps start count file not_start not_end has =
       starts = has.starts;
       ends = ap (λ n. is_end group (lump_at (x ∷ lumps) n).name) at ∙ has.ends;
       no_start = λ k lt after. start_later k lt after;
-      no_end = λ k lt after within. end_later k lt after (let e : k < suc (start + suc count) = omega arith in e);
+      no_end = λ k lt after within. end_later k lt after (let is_before_end : k < suc (start + suc count) = omega arith in is_before_end);
       before = before_some (λ l. (is_start group l.name || is_end group l.name) ≡ false) x lumps start (or-false_false _ _ not_start not_end) has.before;
       behind = λ k lt past. behind_all (λ l. (is_start group l.name || is_end group l.name) ≡ false) x lumps (start + suc count) has.behind k lt (omega arith);
     } where

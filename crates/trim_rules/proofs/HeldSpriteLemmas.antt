@@ -26,10 +26,10 @@ module _ (bytes : ℕ → List ℕ) (lumps : List Lump) (parts : List TrimPart) 
   unfolding trimmed_lumps stored_lumps part_name
   copied-stand a [] at = tt
   copied-stand a (n ∷ ns) at =
-      let here : part_at parts a ≡ copy_part n = (let e : a ≡ a + 0 = omega arith in ap (part_at parts) e) ∙ at 0 (omega arith) in (
+      let here : part_at parts a ≡ copy_part n = (let same_start : a ≡ a + 0 = omega arith in ap (part_at parts) same_start) ∙ at 0 (omega arith) in (
         ap part_source here,
         stored-name bytes lumps HEAD_SIZE parts a ∙ ap (part_name lumps) here,
-        copied-stand (a + 1) ns (λ k lt. (let e : (a + 1) + k ≡ a + suc k = omega arith in ap (part_at parts) e) ∙ at (suc k) (omega arith)),
+        copied-stand (a + 1) ns (λ k lt. (let same_place : (a + 1) + k ≡ a + suc k = omega arith in ap (part_at parts) same_place) ∙ at (suc k) (omega arith)),
       )
 
 -- where part 2 begins: behind the flats and their marks
@@ -40,10 +40,10 @@ picture_part : (lumps : List Lump) (art : SceneArt) (name : List ℕ) (k : ℕ) 
     → part_at (trim_parts lumps art name) (first_picture lumps art + k) ≡ copy_part (get_or (picture_lumps lumps art.pictures) k 0)
 unfolding trim_parts group_parts
 picture_part lumps art name k lt =
-    let first = group_parts F_START (flat_lumps lumps art.flats) F_END in
-    let e : suc (length first) + k ≡ length first + suc k = omega arith in
-    ap (part_at (trim_parts lumps art name)) e
-    ∙ part_at-behind first _ (suc k)
+    let flat_parts = group_parts F_START (flat_lumps lumps art.flats) F_END in
+    let same_place : suc (length flat_parts) + k ≡ length flat_parts + suc k = omega arith in
+    ap (part_at (trim_parts lumps art name)) same_place
+    ∙ part_at-behind flat_parts _ (suc k)
     ∙ ap (λ parts. part_at parts k) (append_assoc (map copy_part (picture_lumps lumps art.pictures)) (Mark S_END ∷ []) _)
     ∙ part_at-copied (picture_lumps lumps art.pictures) _ k lt
 
@@ -52,7 +52,7 @@ fewer_step : (keep member : ℕ → Bool) (n : ℕ) (ns : List ℕ) (b c : Bool)
     → filter keep ns ≡ filter keep (filter member ns) → cond c (n ∷ filter keep ns) (filter keep ns) ≡ filter keep (cond b (n ∷ filter member ns) (filter member ns))
 fewer_step keep member n ns true true is kept only more = rw kept (ap (λ ks. n ∷ ks) more)
 fewer_step keep member n ns true false is kept only more = rw kept more
-fewer_step keep member n ns false true is kept only more = let f : false ≡ true = sym is ∙ only kept in absurd (cc)
+fewer_step keep member n ns false true is kept only more = let impossible : false ≡ true = sym is ∙ only kept in absurd (cc)
 fewer_step keep member n ns false false is kept only more = more
 
 kept-fewer : (keep member : ℕ → Bool) → ((n : ℕ) → keep n ≡ true → member n ≡ true) → (ns : List ℕ) → filter keep ns ≡ filter keep (filter member ns)
@@ -87,19 +87,19 @@ pub pictures-held : (bytes : ℕ → List ℕ) (lumps : List Lump) (art : SceneA
 pictures-held bytes lumps art name sprites unmarked =
     let parts = trim_parts lumps art name in
     let trimmed = trimmed_lumps bytes lumps parts in
-    let first = group_parts F_START (flat_lumps lumps art.flats) F_END in
+    let flat_parts = group_parts F_START (flat_lumps lumps art.flats) F_END in
     let pictures = picture_lumps lumps art.pictures in
     let same = pictures-kept lumps art.pictures sprites in
-    let start : length (map (part_lump bytes lumps) first) ≡ length first = length-map first (part_lump bytes lumps) in
+    let start : length (map (part_lump bytes lumps) flat_parts) ≡ length flat_parts = length-map flat_parts (part_lump bytes lumps) in
     let count : length (map (part_lump bytes lumps) (map copy_part pictures)) ≡ length pictures =
     length-map (map copy_part pictures) (part_lump bytes lumps) ∙ length-map pictures copy_part in
     record {
       are =
-          group-members Sprites trimmed (length (map (part_lump bytes lumps) first)) (length (map (part_lump bytes lumps) (map copy_part pictures))) (trimmed-pictures bytes lumps art name unmarked)
+          group-members Sprites trimmed (length (map (part_lump bytes lumps) flat_parts)) (length (map (part_lump bytes lumps) (map copy_part pictures))) (trimmed-pictures bytes lumps art name unmarked)
           ∙ ap (λ a. range_with_len (suc a) (length (map (part_lump bytes lumps) (map copy_part pictures)))) start
-          ∙ ap (range_with_len (suc (length first))) (count ∙ count-is pictures ∙ ap count_of same);
-      stand = subst (StandFor trimmed lumps (source_of parts) (suc (length first))) same
-          (copied-stand bytes lumps parts (suc (length first)) pictures (λ k lt. picture_part lumps art name k lt));
+          ∙ ap (range_with_len (suc (length flat_parts))) (count ∙ count-is pictures ∙ ap count_of same);
+      stand = subst (StandFor trimmed lumps (source_of parts) (suc (length flat_parts))) same
+          (copied-stand bytes lumps parts (suc (length flat_parts)) pictures (λ k lt. picture_part lumps art name k lt));
     }
 
 -- Each picture of a book comes of a mention, and each mention of a sprite lump.
@@ -137,8 +137,8 @@ by_step : (P : Mention → Type 0) (b : Bool) (last m : Mention) (o : Option Men
 by_step P true last m o one more e = subst P (some-injective last m e) one
 by_step P false last m o one more e = more e
 
-if_step : (P : Mention → Type 0) (all : List Mention) (frame k : ℕ) (o : Option Mention) (m : Mention) → AllByRecursion P all → last_that (is_of_frame frame) all ≡ o
-    → picture_if all frame o k ≡ Some m → P m
+if_step : (P : Mention → Type 0) (all : List Mention) (frame k : ℕ) (o : Option Mention) (m : Mention) → AllByRecursion P all
+    → last_that (is_of_frame frame) all ≡ o → picture_if all frame o k ≡ Some m → P m
 unfolding picture_if picture_by
 if_step P all frame k None m holds is e = absurd (cc)
 if_step P all frame k (Some last) m holds is e =
@@ -150,8 +150,8 @@ unfolding frame_picture
 frame_picture-is P all frame k m holds e = if_step P all frame k (last_that (is_of_frame frame) all) m holds refl e
 
 -- what f gives of each
-each_step : {Y R : Type 0} (Q : Y → Type 0) (a : Result Y R) (b : Result (List Y) R) (ys : List Y) → ((y : Y) → a ≡ Ok y → Q y) → ((more : List Y) → b ≡ Ok more → AllByRecursion Q more)
-    → and_then a (λ y. and_then b (λ more. Ok (y ∷ more))) ≡ Ok ys → AllByRecursion Q ys
+each_step : {Y R : Type 0} (Q : Y → Type 0) (a : Result Y R) (b : Result (List Y) R) (ys : List Y) → ((y : Y) → a ≡ Ok y → Q y)
+    → ((more : List Y) → b ≡ Ok more → AllByRecursion Q more) → and_then a (λ y. and_then b (λ more. Ok (y ∷ more))) ≡ Ok ys → AllByRecursion Q ys
 each_step Q (Err r) b ys one more e = absurd (cc)
 each_step Q (Ok y) (Err r) ys one more e = absurd (cc)
 each_step Q (Ok y) (Ok rest) ys one more e = subst (AllByRecursion Q) (ok_of (y ∷ rest) ys e) (one y refl, more rest refl)

@@ -9,7 +9,7 @@ use Rattle.trim_rules.specs.Files.{stored_from, stored_lumps}
 -- the number that four bytes spell
 pub word_value : (n : ℕ) (xs : List ℕ) → n < 2 ^ 32 → little_number 4 (word_bytes n ++ xs) ≡ n
 unfolding word_bytes
-word_value n xs lt = let e : from_le_bytes w32 (to_le_bytes w32 n) ≡ n = from_le_bytes-to_le_bytes_4 n lt in omega (arith, e)
+word_value n xs lt = let same_word : from_le_bytes w32 (to_le_bytes w32 n) ≡ n = from_le_bytes-to_le_bytes_4 n lt in omega (arith, same_word)
 
 -- a name as a directory spells it
 pub record IsSpelled (lump : made.Lump) : Type 0 where
@@ -17,7 +17,7 @@ pub record IsSpelled (lump : made.Lump) : Type 0 where
   pub name : name_of lump.name ≡ lump.name
 
 same_lump : (p p' s s' : ℕ) (n n' : List ℕ) → p ≡ p' → s ≡ s' → n ≡ n'
-    → (let a : Lump = record { file = 0; place = p; size = s; name = n } in a) ≡ record { file = 0; place = p'; size = s'; name = n' }
+    → (let stored : Lump = record { file = 0; place = p; size = s; name = n } in stored) ≡ record { file = 0; place = p'; size = s'; name = n' }
 same_lump p p' s s' n n' e f g = cc
 
 entry : ℕ → made.Lump → List ℕ
@@ -74,16 +74,16 @@ later_entry place lump rest k spelled =
     ∙ ap (λ n. drop n (entry place lump ++ entries (place + length lump.bytes) rest)) (sym (entry-length place lump spelled))
     ∙ drop-append_seam (entry place lump) (entries (place + length lump.bytes) rest)))
 
-stored-entry : (place : ℕ) (lumps : List made.Lump) (k : ℕ) (d : Lump) → AllByRecursion IsSpelled lumps → place + length (contents lumps) < 2 ^ 32 → k < length lumps
-    → get_or (stored_from place lumps) k d ≡ lump_in 0 (entry_at (entries place lumps) k)
+stored-entry : (place : ℕ) (lumps : List made.Lump) (k : ℕ) (d : Lump) → AllByRecursion IsSpelled lumps → place + length (contents lumps) < 2 ^ 32
+    → k < length lumps → get_or (stored_from place lumps) k d ≡ lump_in 0 (entry_at (entries place lumps) k)
 unfolding stored_from contents
 stored-entry place [] k d spelled fits lt = absurd (omega arith)
 stored-entry place (lump ∷ rest) zero d spelled fits lt =
-    let n : length (lump.bytes ++ contents rest) ≡ length lump.bytes + length (contents rest) = length-append lump.bytes (contents rest) in
-    sym (ap (lump_in 0) (first_entry place lump rest spelled.0) ∙ entry-lump place lump spelled.0 (omega arith) (omega (arith, n)))
+    let length_adds : length (lump.bytes ++ contents rest) ≡ length lump.bytes + length (contents rest) = length-append lump.bytes (contents rest) in
+    sym (ap (lump_in 0) (first_entry place lump rest spelled.0) ∙ entry-lump place lump spelled.0 (omega arith) (omega (arith, length_adds)))
 stored-entry place (lump ∷ rest) (suc k) d spelled fits lt =
-    let n : length (lump.bytes ++ contents rest) ≡ length lump.bytes + length (contents rest) = length-append lump.bytes (contents rest) in
-    stored-entry (place + length lump.bytes) rest k d spelled.1 (omega (arith, n)) (omega arith)
+    let length_adds : length (lump.bytes ++ contents rest) ≡ length lump.bytes + length (contents rest) = length-append lump.bytes (contents rest) in
+    stored-entry (place + length lump.bytes) rest k d spelled.1 (omega (arith, length_adds)) (omega arith)
     ∙ ap (lump_in 0) (sym (later_entry place lump rest k spelled.0))
 
 stored-length : (place : ℕ) (lumps : List made.Lump) → length (stored_from place lumps) ≡ length lumps
@@ -105,12 +105,12 @@ stored-within : (place size : ℕ) (lumps : List made.Lump) → place + length (
 unfolding stored_from contents
 stored-within place size [] fits k d lt = absurd (omega arith)
 stored-within place size (lump ∷ rest) fits zero d lt =
-    let n : length (lump.bytes ++ contents rest) ≡ length lump.bytes + length (contents rest) = length-append lump.bytes (contents rest) in
-    let inside : place + length lump.bytes ≤ size = omega (arith, n) in
+    let length_adds : length (lump.bytes ++ contents rest) ≡ length lump.bytes + length (contents rest) = length-append lump.bytes (contents rest) in
+    let inside : place + length lump.bytes ≤ size = omega (arith, length_adds) in
     and-false_right (not (length lump.bytes == 0)) _ (lt-false size (place + length lump.bytes) inside)
 stored-within place size (lump ∷ rest) fits (suc k) d lt =
-    let n : length (lump.bytes ++ contents rest) ≡ length lump.bytes + length (contents rest) = length-append lump.bytes (contents rest) in
-    stored-within (place + length lump.bytes) size rest (omega (arith, n)) k d (omega arith)
+    let length_adds : length (lump.bytes ++ contents rest) ≡ length lump.bytes + length (contents rest) = length-append lump.bytes (contents rest) in
+    stored-within (place + length lump.bytes) size rest (omega (arith, length_adds)) k d (omega arith)
 
 no_entry-refused : (place size : ℕ) (lumps : List made.Lump) → place + length (contents lumps) ≤ size → entry_refusal 0 size (stored_from place lumps) ≡ None
 unfolding entry_refusal
@@ -147,11 +147,11 @@ file-parts lumps =
 pub wad_file-length : (lumps : List made.Lump) → AllByRecursion IsSpelled lumps
     → length (wad_file lumps) ≡ directory_at lumps + 16 * length lumps
 wad_file-length lumps spelled =
-    let f : ℕ = length (front (length lumps) (directory_at lumps)) in
+    let front_size : ℕ = length (front (length lumps) (directory_at lumps)) in
     ap length (file-parts lumps)
     ∙ length-append (front (length lumps) (directory_at lumps)) (contents lumps ++ entries HEAD_SIZE lumps)
     ∙ rw (front-length (length lumps) (directory_at lumps), length-append (contents lumps) (entries HEAD_SIZE lumps), entries-length HEAD_SIZE lumps spelled)
-    (let e : directory_at lumps ≡ 12 + length (contents lumps) = directory_at-is lumps in omega arith)
+    (let directory_is : directory_at lumps ≡ 12 + length (contents lumps) = directory_at-is lumps in omega arith)
 
 file-header : (lumps : List made.Lump) → header (wad_file lumps) ≡ front (length lumps) (directory_at lumps)
 file-header lumps =
@@ -200,7 +200,7 @@ file-lumps lumps spelled few fits =
     let count : entry_count (header (wad_file lumps)) ≡ length lumps = ap (λ h. entry_count h) (file-header lumps) ∙ front-count (length lumps) (directory_at lumps) few in
     ap (λ n. lumps_in 0 n (entries_in (header (wad_file lumps)) (wad_file lumps))) count
     ∙ ap (lumps_in 0 (length lumps)) (file-entries lumps spelled few fits)
-    ∙ lumps_in-entries HEAD_SIZE lumps spelled (let e : directory_at lumps ≡ 12 + length (contents lumps) = directory_at-is lumps in omega arith)
+    ∙ lumps_in-entries HEAD_SIZE lumps spelled (let directory_is : directory_at lumps ≡ 12 + length (contents lumps) = directory_at-is lumps in omega arith)
 
 header-unrefused : (lumps : List made.Lump) → AllByRecursion IsSpelled lumps → length lumps ≤ MAX_LUMPS → directory_at lumps < 2 ^ 32
     → header_refusal 0 0 (wad_file lumps) ≡ None
@@ -208,7 +208,7 @@ unfolding whole_header_refusal
 header-unrefused lumps spelled few fits =
     let few' : length lumps < 2 ^ 32 = omega arith in
     let size : length (wad_file lumps) ≡ directory_at lumps + 16 * length lumps = wad_file-length lumps spelled in
-    let e : directory_at lumps ≡ 12 + length (contents lumps) = directory_at-is lumps in
+    let directory_is : directory_at lumps ≡ 12 + length (contents lumps) = directory_at-is lumps in
     let place : directory_place (header (wad_file lumps)) ≡ directory_at lumps = ap (λ h. directory_place h) (file-header lumps) ∙ front-place (length lumps) (directory_at lumps) fits in
     let count : entry_count (header (wad_file lumps)) ≡ length lumps = ap (λ h. entry_count h) (file-header lumps) ∙ front-count (length lumps) (directory_at lumps) few' in
     let wad : is_wad (take LETTER_COUNT (header (wad_file lumps))) ≡ true = ap (λ h. is_wad (take LETTER_COUNT h)) (file-header lumps) ∙ front-wad (length lumps) (directory_at lumps) in
@@ -225,7 +225,7 @@ pub directory-of_file : (lumps : List made.Lump) → AllByRecursion IsSpelled lu
 unfolding refusal_from lumps_from stored_lumps
 directory-of_file lumps spelled few fits =
     let few' : length lumps < 2 ^ 32 = omega arith in
-    let e : directory_at lumps ≡ 12 + length (contents lumps) = directory_at-is lumps in
+    let directory_is : directory_at lumps ≡ 12 + length (contents lumps) = directory_at-is lumps in
     let size : length (wad_file lumps) ≡ directory_at lumps + 16 * length lumps = wad_file-length lumps spelled in
     let all : file_lumps 0 (wad_file lumps) ≡ stored_from HEAD_SIZE lumps = file-lumps lumps spelled few' fits in
     let none : entry_refusal 0 (length (wad_file lumps)) (file_lumps 0 (wad_file lumps)) ≡ None =

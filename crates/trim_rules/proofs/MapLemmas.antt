@@ -29,8 +29,8 @@ stored-file bytes lumps place (p ∷ parts) zero = refl
 stored-file bytes lumps place (p ∷ parts) (suc k) = stored-file bytes lumps (place + length (part_lump bytes lumps p).bytes) parts k
 
 length-front : (front rest : List TrimPart) → length (front ++ rest) ≡ length front + length rest
-length-front [] rest = let e : length rest ≡ 0 + length rest = omega arith in e
-length-front (p ∷ front) rest = let e : length (front ++ rest) ≡ length front + length rest = length-front front rest in omega arith
+length-front [] rest = let same_length : length rest ≡ 0 + length rest = omega arith in same_length
+length-front (p ∷ front) rest = let rest_length : length (front ++ rest) ≡ length front + length rest = length-front front rest in omega arith
 
 -- the last part of a name in a new file
 module _ (bytes : ℕ → List ℕ) (lumps : List Lump) (name : List ℕ) (front : List TrimPart) (p : TrimPart) (behind : List TrimPart) where
@@ -42,7 +42,7 @@ module _ (bytes : ℕ → List ℕ) (lumps : List Lump) (name : List ℕ) (front
       ∙ ap (λ n. bytes_eq n name) (stored-name bytes lumps HEAD_SIZE (front ++ p ∷ behind) k)
 
   part_here : part_at (front ++ p ∷ behind) (length front) ≡ p
-  part_here = (let e : length front ≡ length front + 0 = omega arith in ap (part_at (front ++ p ∷ behind)) e) ∙ part_at-behind front (p ∷ behind) 0
+  part_here = (let no_step : length front ≡ length front + 0 = omega arith in ap (part_at (front ++ p ∷ behind)) no_step) ∙ part_at-behind front (p ∷ behind) 0
 
   part_later : (j : ℕ) → part_at (front ++ p ∷ behind) (length front + suc j) ≡ part_at behind j
   part_later j = part_at-behind front (p ∷ behind) (suc j)
@@ -58,18 +58,18 @@ module _ (bytes : ℕ → List ℕ) (lumps : List Lump) (name : List ℕ) (front
       (λ k above below. later k above (omega arith) others) where
         later : (k : ℕ) → length front < k → k < length (front ++ p ∷ behind) → AllByRecursion (IsOther lumps name) behind
             → has_name (stored_from HEAD_SIZE (map (part_lump bytes lumps) (front ++ p ∷ behind))) name k ≡ false
-        later k above below others = let d = gap (length front) k above in
+        later k above below others = let distance = gap (length front) k above in
             let all : length (front ++ p ∷ behind) ≡ length front + suc (length behind) = length-front front (p ∷ behind) in
-            let e : k ≡ length front + suc d.0 = d.1 in
-            let inside : d.0 < length behind = omega arith in
-            named-at k below ∙ ap (λ n. bytes_eq (part_name lumps (part_at (front ++ p ∷ behind) n)) name) e
-            ∙ ap (λ q. bytes_eq (part_name lumps q) name) (part_later d.0)
-            ∙ all-at (IsOther lumps name) behind d.0 (Mark []) others inside where
+            let is_behind : k ≡ length front + suc distance.0 = distance.1 in
+            let inside : distance.0 < length behind = omega arith in
+            named-at k below ∙ ap (λ n. bytes_eq (part_name lumps (part_at (front ++ p ∷ behind) n)) name) is_behind
+            ∙ ap (λ q. bytes_eq (part_name lumps q) name) (part_later distance.0)
+            ∙ all-at (IsOther lumps name) behind distance.0 (Mark []) others inside where
               gap : (a b : ℕ) → a < b → (j : ℕ) × (b ≡ a + suc j)
               gap zero zero lt = absurd (omega arith)
               gap zero (suc b) lt = (b, omega arith)
               gap (suc a) zero lt = absurd (omega arith)
-              gap (suc a) (suc b) lt = let d = gap a b (omega arith) in let e : b ≡ a + suc d.0 = d.1 in (d.0, omega arith)
+              gap (suc a) (suc b) lt = let distance = gap a b (omega arith) in let is_behind : b ≡ a + suc distance.0 = distance.1 in (distance.0, omega arith)
 
 -- a copied part is one of them
 copied-inside : (parts : List TrimPart) (k n : ℕ) → part_at parts k ≡ copy_part n → k < length parts
@@ -97,15 +97,15 @@ module _ (bytes : ℕ → List ℕ) (lumps : List Lump) (parts : List TrimPart) 
   copied-row file a n [] e at = refl
   copied-row file a n (name ∷ names) e at =
       let both = and_parts (is_named_in lumps file name n) (are_named lumps file (suc n) names) e in
-      let here : part_at parts a ≡ copy_part n = (let e : a ≡ a + 0 = omega arith in ap (part_at parts) e) ∙ at 0 (omega arith) ∙ (let e : n + 0 ≡ n = omega arith in ap copy_part e) in
+      let here : part_at parts a ≡ copy_part n = (let same_place : a ≡ a + 0 = omega arith in ap (part_at parts) same_place) ∙ at 0 (omega arith) ∙ (let same_number : n + 0 ≡ n = omega arith in ap copy_part same_number) in
       let there : n < length lumps = passing-there _ lumps n both.0 in
       let has : bytes_eq (lump_at lumps n).name name ≡ true =
       (and_parts ((lump_at lumps n).file == file) (bytes_eq (lump_at lumps n).name name) (sym (is_lump-at (λ lump. lump.file == file && bytes_eq lump.name name) lumps n there) ∙ both.0)).1 in
-      let first : is_named_in (stored_from HEAD_SIZE (map (part_lump bytes lumps) parts)) 0 name a ≡ true = copied-named a n name here ∙ has in
+      let is_named : is_named_in (stored_from HEAD_SIZE (map (part_lump bytes lumps) parts)) 0 name a ≡ true = copied-named a n name here ∙ has in
       let next : (k : ℕ) → k < length names → part_at parts (suc a + k) ≡ copy_part (suc n + k) = λ k lt.
-      (let e : suc a + k ≡ a + suc k = omega arith in ap (part_at parts) e) ∙ at (suc k) (omega arith) ∙ (let e : n + suc k ≡ suc n + k = omega arith in ap copy_part e) in
+      (let same_place : suc a + k ≡ a + suc k = omega arith in ap (part_at parts) same_place) ∙ at (suc k) (omega arith) ∙ (let same_number : n + suc k ≡ suc n + k = omega arith in ap copy_part same_number) in
       let more : are_named (stored_from HEAD_SIZE (map (part_lump bytes lumps) parts)) 0 (suc a) names ≡ true = copied-row file (suc a) (suc n) names both.1 next in
-      rw first more
+      rw is_named more
 
 -- what is found by its name in a level that is accepted
 pub record HasFixed (lumps : List Lump) (p c n t : ℕ) : Type 0 where
@@ -160,8 +160,8 @@ two_names : (lumps : List Lump) (name a b : List ℕ) (x y : ℕ) → last_of lu
     → not (has_name lumps name x) ≡ false → not (has_name lumps name y) ≡ false → ⊥
 two_names lumps name a b x y is js differ e f =
     let same : a ≡ b = named-of lumps name a x is e ∙ sym (named-of lumps name b y js f) in
-    let t : bytes_eq a b ≡ true = (bytes_eq-Decides a b).1 same in
-    let u : false ≡ true = sym differ ∙ t in absurd (cc)
+    let same_bytes : bytes_eq a b ≡ true = (bytes_eq-Decides a b).1 same in
+    let impossible : false ≡ true = sym differ ∙ same_bytes in absurd (cc)
 
 -- what is behind a map's label in the file
 abbrev pub behind_map : List Lump → List (Option PreparedTexture) → List ℕ → ℕ → List TrimPart
@@ -185,8 +185,8 @@ parts-by-map lumps art name label is =
     ∙ sym (append_assoc flats pictures (label_or_copy (is_called lumps art name) label ∷ behind_map lumps art.prepared name label))
 
 -- none of these has the map's name
-numbers_other : (lumps : List Lump) (name : List ℕ) (label a n : ℕ) → last_of lumps name ≡ Some label → label < a → AllByRecursion (IsNumber lumps) (range_with_len a n)
-    → AllByRecursion (IsOther lumps name) (map copy_part (range_with_len a n))
+numbers_other : (lumps : List Lump) (name : List ℕ) (label a n : ℕ) → last_of lumps name ≡ Some label → label < a
+    → AllByRecursion (IsNumber lumps) (range_with_len a n) → AllByRecursion (IsOther lumps name) (map copy_part (range_with_len a n))
 unfolding part_name
 numbers_other lumps name label a zero is above all = tt
 numbers_other lumps name label a (suc n) is above all =
@@ -195,8 +195,8 @@ numbers_other lumps name label a (suc n) is above all =
       numbers_other lumps name label (a + 1) n is (omega arith) all.1,
     )
 
-called_other : (lumps : List Lump) (name : List ℕ) (ns : List ℕ) → AllByRecursion (IsNumber lumps) ns → AllByRecursion (λ n. not (has_name lumps name n) ≡ true) ns
-    → AllByRecursion (IsOther lumps name) (map copy_part ns)
+called_other : (lumps : List Lump) (name : List ℕ) (ns : List ℕ) → AllByRecursion (IsNumber lumps) ns
+    → AllByRecursion (λ n. not (has_name lumps name n) ≡ true) ns → AllByRecursion (IsOther lumps name) (map copy_part ns)
 unfolding part_name
 called_other lumps name [] all keep = tt
 called_other lumps name (n ∷ ns) all keep =
@@ -230,8 +230,8 @@ unfolding last_bytes part_lump
 none_called bytes lumps name [] all = refl
 none_called bytes lumps name (p ∷ ps) all = rw (none_called bytes lumps name ps all.1, all.0) refl
 
-one_called : (bytes : ℕ → List ℕ) (lumps : List Lump) (name : List ℕ) (p : TrimPart) (ps : List TrimPart) → part_name lumps p ≡ name → AllByRecursion (IsOther lumps name) ps
-    → last_bytes (map (part_lump bytes lumps) (p ∷ ps)) name ≡ Some (part_bytes bytes p)
+one_called : (bytes : ℕ → List ℕ) (lumps : List Lump) (name : List ℕ) (p : TrimPart) (ps : List TrimPart) → part_name lumps p ≡ name
+    → AllByRecursion (IsOther lumps name) ps → last_bytes (map (part_lump bytes lumps) (p ∷ ps)) name ≡ Some (part_bytes bytes p)
 unfolding last_bytes part_lump
 one_called bytes lumps name p ps is all =
     let has : bytes_eq (part_name lumps p) name ≡ true = (bytes_eq-Decides (part_name lumps p) name).1 is in
@@ -241,17 +241,17 @@ pub map_name-called : (bytes : ℕ → List ℕ) (lumps : List Lump) (art : Scen
     → last_bytes (map (part_lump bytes lumps) (trim_parts lumps art name)) name ≡ Some (part_bytes bytes (label_or_copy (is_called lumps art name) label))
 map_name-called bytes lumps art name label is =
     let front = front_parts lumps art in
-    let p = label_or_copy (is_called lumps art name) label in
+    let part = label_or_copy (is_called lumps art name) label in
     let behind = behind_map lumps art.prepared name label in
     let lump = part_lump bytes lumps in
     ap (λ ps. last_bytes (map lump ps) name) (parts-by-map lumps art name label is)
-    ∙ ap (λ ls. last_bytes ls name) (map-append lump front (p ∷ behind))
-    ∙ last_bytes-append (map lump front) (map lump (p ∷ behind)) name
+    ∙ ap (λ ls. last_bytes ls name) (map-append lump front (part ∷ behind))
+    ∙ last_bytes-append (map lump front) (map lump (part ∷ behind)) name
     ∙ ap (λ o. or_else o (last_bytes (map lump front) name))
-    (one_called bytes lumps name p behind (label-named lumps name (is_called lumps art name) label is) (behind-other lumps art.prepared name label is))
+    (one_called bytes lumps name part behind (label-named lumps name (is_called lumps art name) label is) (behind-other lumps art.prepared name label is))
 
-pub map_name-bytes : (bytes : ℕ → List ℕ) (lumps : List Lump) (art : SceneArt) (name : List ℕ) (label : ℕ) → map_of lumps name ≡ Some label → is_called lumps art name ≡ true
-    → last_bytes (map (part_lump bytes lumps) (trim_parts lumps art name)) name ≡ Some (bytes label)
+pub map_name-bytes : (bytes : ℕ → List ℕ) (lumps : List Lump) (art : SceneArt) (name : List ℕ) (label : ℕ) → map_of lumps name ≡ Some label
+    → is_called lumps art name ≡ true → last_bytes (map (part_lump bytes lumps) (trim_parts lumps art name)) name ≡ Some (bytes label)
 map_name-bytes bytes lumps art name label is called =
     map_name-called bytes lumps art name label is
     ∙ ap (λ b. Some (part_bytes bytes (label_or_copy b label))) called
@@ -267,15 +267,15 @@ module _ (bytes : ℕ → List ℕ) (lumps : List Lump) (front : List TrimPart) 
       let numbers = range_with_len (suc label) (length MAP_LUMPS) in
       let ps = front ++ p ∷ (map copy_part numbers ++ called) in
       let count : length numbers ≡ length MAP_LUMPS = refl in
-      (let e : suc (length front) + k ≡ length front + suc k = omega arith in ap (part_at ps) e)
+      (let same_place : suc (length front) + k ≡ length front + suc k = omega arith in ap (part_at ps) same_place)
       ∙ part_at-behind front (p ∷ (map copy_part numbers ++ called)) (suc k)
       ∙ part_at-copied numbers called k (omega arith)
       ∙ ap copy_part (get_or-range_with_len (suc label) (length MAP_LUMPS) k 0 lt)
 
   third-at : part_at (front ++ p ∷ (map copy_part (range_with_len (suc label) (length MAP_LUMPS)) ++ called)) (length front + BEHAVIOR_AFTER) ≡ part_at called 2
   third-at =
-      let eight = map copy_part (range_with_len (suc label) (length MAP_LUMPS)) in
-      part_at-behind front (p ∷ (eight ++ called)) BEHAVIOR_AFTER ∙ part_at-behind eight called 2
+      let row = map copy_part (range_with_len (suc label) (length MAP_LUMPS)) in
+      part_at-behind front (p ∷ (row ++ called)) BEHAVIOR_AFTER ∙ part_at-behind row called 2
 
   label-whole : (file m : ℕ) → are_named lumps file (suc label) MAP_LUMPS ≡ true → part_at called 2 ≡ copy_part m → bytes_eq (lump_at lumps m).name BEHAVIOR ≡ false
       → is_label (stored_from HEAD_SIZE (map (part_lump bytes lumps) (front ++ p ∷ (map copy_part (range_with_len (suc label) (length MAP_LUMPS)) ++ called)))) (length front) ≡ true
@@ -283,18 +283,18 @@ module _ (bytes : ℕ → List ℕ) (lumps : List Lump) (front : List TrimPart) 
   label-whole file m named is differ =
       let ps = front ++ p ∷ (map copy_part (range_with_len (suc label) (length MAP_LUMPS)) ++ called) in
       let ls = stored_from HEAD_SIZE (map (part_lump bytes lumps) ps) in
-      let first : (lump_at ls (length front)).file ≡ 0 = stored-file bytes lumps HEAD_SIZE ps (length front) in
+      let in_file : (lump_at ls (length front)).file ≡ 0 = stored-file bytes lumps HEAD_SIZE ps (length front) in
       let row : are_named ls 0 (suc (length front)) MAP_LUMPS ≡ true = copied-row bytes lumps ps file (suc (length front)) (suc label) MAP_LUMPS named (λ k lt. row-at k lt) in
       let none : is_named_in ls 0 BEHAVIOR (length front + BEHAVIOR_AFTER) ≡ false =
       copied-named bytes lumps ps (length front + BEHAVIOR_AFTER) m BEHAVIOR (third-at ∙ is) ∙ differ in
-      rw (first, row, none) refl
+      rw (in_file, row, none) refl
 
 if_whole : (ls : List Lump) (n : ℕ) → is_label ls n ≡ true → if_label ls n ≡ Some n
 if_whole ls n e = rw e refl
 
 -- The map of the trimmed file is the label of part 3.
-pub trimmed-map : (bytes : ℕ → List ℕ) (lumps : List Lump) (art : SceneArt) (name : List ℕ) (label p c n t : ℕ) → map_of lumps name ≡ Some label → HasFixed lumps p c n t
-    → map_of (trimmed_lumps bytes lumps (trim_parts lumps art name)) name ≡ Some (map_place lumps art)
+pub trimmed-map : (bytes : ℕ → List ℕ) (lumps : List Lump) (art : SceneArt) (name : List ℕ) (label p c n t : ℕ) → map_of lumps name ≡ Some label
+    → HasFixed lumps p c n t → map_of (trimmed_lumps bytes lumps (trim_parts lumps art name)) name ≡ Some (map_place lumps art)
 unfolding trimmed_lumps stored_lumps is_label
 trimmed-map bytes lumps art name label p c n t is has =
     let front = front_parts lumps art in
@@ -304,20 +304,20 @@ trimmed-map bytes lumps art name label p c n t is has =
     let behind = behind_map lumps art.prepared name label in
     let found = label-is lumps name label is in
     let named : are_named lumps (lump_at lumps label).file (suc label) MAP_LUMPS ≡ true = (and_parts _ _ found.1).0 in
-    let first = called-first lumps art.prepared p c n t has in
-    let third = third_step keep p c n t first.0 (keep p) (keep c) (keep n) (keep t) refl refl refl refl
+    let four_called = called-first lumps art.prepared p c n t has in
+    let third_called = third_step keep p c n t four_called.0 (keep p) (keep c) (keep n) (keep t) refl refl refl refl
     (two_names lumps name PLAYPAL COLORMAP p c has.playpal has.colormap refl)
     (two_names lumps name PLAYPAL PNAMES p n has.playpal has.pnames refl)
     (two_names lumps name PLAYPAL TEXTURE1 p t has.playpal has.texture1 refl)
     (two_names lumps name COLORMAP PNAMES c n has.colormap has.pnames refl)
     (two_names lumps name COLORMAP TEXTURE1 c t has.colormap has.texture1 refl)
     (two_names lumps name PNAMES TEXTURE1 n t has.pnames has.texture1 refl) in
-    let whole : is_label (stored_from HEAD_SIZE (map (part_lump bytes lumps) (front ++ part ∷ behind))) (length front) ≡ true = elim third [
+    let whole : is_label (stored_from HEAD_SIZE (map (part_lump bytes lumps) (front ++ part ∷ behind))) (length front) ≡ true = elim third_called [
       | inl e ↦ label-whole bytes lumps front label part called (lump_at lumps label).file n named
-          (ap (λ ks. part_at (map copy_part (filter keep ks)) 2) first.1 ∙ e)
+          (ap (λ ks. part_at (map copy_part (filter keep ks)) 2) four_called.1 ∙ e)
           (ap (λ k. bytes_eq k BEHAVIOR) (last_of-name lumps PNAMES n has.pnames))
       | inr e ↦ label-whole bytes lumps front label part called (lump_at lumps label).file t named
-          (ap (λ ks. part_at (map copy_part (filter keep ks)) 2) first.1 ∙ e)
+          (ap (λ ks. part_at (map copy_part (filter keep ks)) 2) four_called.1 ∙ e)
           (ap (λ k. bytes_eq k BEHAVIOR) (last_of-name lumps TEXTURE1 t has.texture1))
     ] in
     let last : last_of (stored_from HEAD_SIZE (map (part_lump bytes lumps) (front ++ part ∷ behind))) name ≡ Some (length front) =

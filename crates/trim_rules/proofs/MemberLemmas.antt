@@ -21,9 +21,6 @@ pub record HasGroup (group : Group) (lumps : List Lump) (start count : ℕ) : Ty
   pub behind : (k : ℕ) → k < length lumps → start + suc count < k → (is_start group (lump_at lumps k).name || is_end group (lump_at lumps k).name) ≡ false
 
 module _ (group : Group) (lumps : List Lump) (start count : ℕ) (has : HasGroup group lumps start count) where
-  is_mark : ℕ → Bool
-  is_mark k = is_lump (λ lump. is_start group lump.name || is_end group lump.name) lumps k
-
   -- the nearest mark before a lump between the two
   pub between-mark : (n : ℕ) → start < n → n ≤ start + suc count → mark_before group lumps n ≡ Some start
   between-mark n after upto =
@@ -40,13 +37,13 @@ module _ (group : Group) (lumps : List Lump) (start count : ℕ) (has : HasGroup
   pub between-member : (n : ℕ) → start < n → n < start + suc count → is_member group lumps n ≡ true
   between-member n after below =
       let lt : n < length lumps = omega (arith, has.inside) in
-      let first : start < length lumps = omega (arith, has.inside) in
+      let start_inside : start < length lumps = omega (arith, has.inside) in
       let file : (lump_at lumps n).file ≡ 0 = has.files n lt in
-      let file' : (lump_at lumps start).file ≡ 0 = has.files start first in
+      let file' : (lump_at lumps start).file ≡ 0 = has.files start start_inside in
       let upto : n ≤ start + suc count = omega arith in
       is_lump-at (λ lump. not (is_end group lump.name) && starts_in group lumps lump.file (mark_before group lumps n)) lumps n lt
       ∙ rw (has.no_end n lt after below, between-mark n after upto, file)
-      (is_lump-at (λ lump. is_start group lump.name && lump.file == 0) lumps start first ∙ rw (has.starts, file') refl)
+      (is_lump-at (λ lump. is_start group lump.name && lump.file == 0) lumps start start_inside ∙ rw (has.starts, file') refl)
 
   -- those up to the start are not
   pub front-member : (n : ℕ) → n ≤ start → is_member group lumps n ≡ false
@@ -81,8 +78,8 @@ module _ (group : Group) (lumps : List Lump) (start count : ℕ) (has : HasGroup
             (is_lump-at (λ lump. is_start group lump.name && lump.file == (lump_at lumps n).file) lumps (start + suc count) there
             ∙ rw (has.no_start (start + suc count) there above) refl))
         | inr same ↦
-            let e : n ≡ start + suc count = omega arith in
-            let ends : is_end group (lump_at lumps n).name ≡ true = ap (λ k. is_end group (lump_at lumps k).name) e ∙ has.ends in
+            let is_end_place : n ≡ start + suc count = omega arith in
+            let ends : is_end group (lump_at lumps n).name ≡ true = ap (λ k. is_end group (lump_at lumps k).name) is_end_place ∙ has.ends in
             rw ends refl
       ] where
         and_false : (a b : Bool) → b ≡ false → (a && b) ≡ false
@@ -102,11 +99,11 @@ filter-passing p a (suc n) passes =
     (ap (λ ks. a ∷ ks) (filter-passing p (a + 1) n (λ k from below. passes k (omega arith) (omega arith))))
 
 range-split : (a m n : ℕ) → range_with_len a (m + n) ≡ range_with_len a m ++ range_with_len (a + m) n
-range-split a zero n = let e : a + 0 ≡ a = omega arith in let f : 0 + n ≡ n = omega arith in rw (e, f) refl
+range-split a zero n = let same_start : a + 0 ≡ a = omega arith in let same_count : 0 + n ≡ n = omega arith in rw (same_start, same_count) refl
 range-split a (suc m) n =
-    let e : (a + 1) + m ≡ a + suc m = omega arith in
-    let f : suc m + n ≡ suc (m + n) = omega arith in
-    rw f (ap (λ ks. a ∷ ks) (range-split (a + 1) m n ∙ ap (λ k. range_with_len (a + 1) m ++ range_with_len k n) e))
+    let same_start : (a + 1) + m ≡ a + suc m = omega arith in
+    let same_count : suc m + n ≡ suc (m + n) = omega arith in
+    rw same_count (ap (λ ks. a ∷ ks) (range-split (a + 1) m n ∙ ap (λ k. range_with_len (a + 1) m ++ range_with_len k n) same_start))
 
 -- the lumps of the group, in order
 pub group-members : (group : Group) (lumps : List Lump) (start count : ℕ) → HasGroup group lumps start count
@@ -117,16 +114,16 @@ group-members group lumps start count has =
     let inside : start + suc count < length lumps = has.inside in
     let whole : length lumps ≡ suc start + (count + (length lumps - (suc start + count))) = omega arith in
     let middle = range_with_len (0 + suc start) count in
-    let p = is_member group lumps in
-    ap (λ n. filter p (range_with_len 0 n)) whole
-    ∙ ap (filter p) (range-split 0 (suc start) (count + (length lumps - (suc start + count)))
+    let passes = is_member group lumps in
+    ap (λ n. filter passes (range_with_len 0 n)) whole
+    ∙ ap (filter passes) (range-split 0 (suc start) (count + (length lumps - (suc start + count)))
     ∙ ap (λ ks. range_with_len 0 (suc start) ++ ks) (range-split (0 + suc start) count (length lumps - (suc start + count))))
-    ∙ filter-append p (range_with_len 0 (suc start)) (range_with_len (0 + suc start) count ++ range_with_len ((0 + suc start) + count) (length lumps - (suc start + count)))
-    ∙ rw (filter-failing p 0 (suc start) (λ k from below. front-member group lumps start count has k (omega arith)))
-    (filter-append p (range_with_len (0 + suc start) count) (range_with_len ((0 + suc start) + count) (length lumps - (suc start + count)))
+    ∙ filter-append passes (range_with_len 0 (suc start)) (range_with_len (0 + suc start) count ++ range_with_len ((0 + suc start) + count) (length lumps - (suc start + count)))
+    ∙ rw (filter-failing passes 0 (suc start) (λ k from below. front-member group lumps start count has k (omega arith)))
+    (filter-append passes (range_with_len (0 + suc start) count) (range_with_len ((0 + suc start) + count) (length lumps - (suc start + count)))
     ∙ rw (
-      filter-passing p (0 + suc start) count (λ k from below. between-member group lumps start count has k (omega arith) (omega arith)),
-      filter-failing p ((0 + suc start) + count) (length lumps - (suc start + count))
+      filter-passing passes (0 + suc start) count (λ k from below. between-member group lumps start count has k (omega arith) (omega arith)),
+      filter-failing passes ((0 + suc start) + count) (length lumps - (suc start + count))
           (λ k from below. behind-member group lumps start count has k (omega (arith, inside)) (omega arith)),
     )
     (append-nil (range_with_len (0 + suc start) count) ∙ ap (λ a. range_with_len a count) (zero-add (suc start))))

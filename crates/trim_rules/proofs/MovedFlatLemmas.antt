@@ -36,7 +36,7 @@ pub range-any : (a c n : ℕ) → a ≤ n → n < a + c → list_any (λ m. m ==
 range-any a zero n le lt = absurd (omega arith)
 range-any a (suc c) n le lt = elim (cases_lt a n) [
   | inl below ↦ or-true_right (a == n) _ (range-any (a + 1) c n (omega arith) (omega arith))
-  | inr same ↦ let e : a ≡ n = omega arith in or-true_left (a == n) _ ((Decides-eqb a n).1 e)
+  | inr same ↦ let is_here : a ≡ n = omega arith in or-true_left (a == n) _ ((Decides-eqb a n).1 is_here)
 ]
 
 -- a lump that a sector has is one of the flats
@@ -61,8 +61,8 @@ module _ (trimmed lumps : List Lump) (σ : ℕ → ℕ) (flats : List ℕ) (has 
       (sym (is_lump-at (λ lump. bytes_eq lump.name name) lumps n is.0) ∙ (and_parts (is_member Flats lumps n) (has_name lumps name n) is.1).1) in
       ap (flat_of trimmed) (sym own ∙ ap (λ m. (lump_at lumps m).name) (sym same)) ∙ trimmed_flat trimmed lumps flats has k lt
 
-  named_step : (name : List ℕ) (f : Flat) (b : Bool) (o : Option ℕ) → is_sky_name name ≡ b → flat_of lumps name ≡ o → cond b (Some Sky) (option_map lump_flat o) ≡ Some f
-      → ((n : ℕ) → n < length lumps → flat_number f ≡ n → IsListed flats n)
+  named_step : (name : List ℕ) (f : Flat) (b : Bool) (o : Option ℕ) → is_sky_name name ≡ b → flat_of lumps name ≡ o
+      → cond b (Some Sky) (option_map lump_flat o) ≡ Some f → ((n : ℕ) → n < length lumps → flat_number f ≡ n → IsListed flats n)
       → (g : Flat) × (cond b (Some Sky) (option_map lump_flat (flat_of trimmed name)) ≡ Some g) × (move_flat σ g ≡ f)
   unfolding lump_flat flat_number
   named_step name f true o sky is e listed = (Sky, refl, some-injective Sky f e)
@@ -109,13 +109,13 @@ module _ (trimmed lumps : List Lump) (σ : ℕ → ℕ) (flats : List ℕ) (has 
   unfolding each_from
   each-moved number [] all e listed = let same : [] ≡ all = cc in ([], refl, same)
   each-moved number (sector ∷ sectors) all e listed =
-      let one = and_then-ok (ok_or (flats_of lumps sector) (SectorFlat number)) _ all e in
-      let rest = and_then-ok (each_from (flats_of lumps) SectorFlat (suc number) sectors) _ all one.2 in
-      let same : one.0 ∷ rest.0 ≡ all = ok_of (one.0 ∷ rest.0) all rest.2 in
-      let first = sector-moved sector one.0 (some_value (flats_of lumps sector) (SectorFlat number) one.0 one.1)
-      (λ n lt is. listed n lt (ap (list_any (has_flat n)) (sym same) ∙ or-true_left (has_flat n one.0) _ is)) in
-      let more = each-moved (suc number) sectors rest.0 rest.1 (λ n lt any. listed n lt (ap (list_any (has_flat n)) (sym same) ∙ or-true_right (has_flat n one.0) _ any)) in
-      (first.0 ∷ more.0, each-made trimmed number sector sectors first.0 more.0 first.1 more.1, ap (λ (b : SectorFlats). b ∷ map (move_both σ) more.0) first.2 ∙ ap (λ bs. one.0 ∷ bs) more.2 ∙ same)
+      let made = and_then-ok (ok_or (flats_of lumps sector) (SectorFlat number)) _ all e in
+      let rest = and_then-ok (each_from (flats_of lumps) SectorFlat (suc number) sectors) _ all made.2 in
+      let same : made.0 ∷ rest.0 ≡ all = ok_of (made.0 ∷ rest.0) all rest.2 in
+      let moved_flats = sector-moved sector made.0 (some_value (flats_of lumps sector) (SectorFlat number) made.0 made.1)
+      (λ n lt is. listed n lt (ap (list_any (has_flat n)) (sym same) ∙ or-true_left (has_flat n made.0) _ is)) in
+      let more = each-moved (suc number) sectors rest.0 rest.1 (λ n lt any. listed n lt (ap (list_any (has_flat n)) (sym same) ∙ or-true_right (has_flat n made.0) _ any)) in
+      (moved_flats.0 ∷ more.0, each-made trimmed number sector sectors moved_flats.0 more.0 moved_flats.1 more.1, ap (λ (b : SectorFlats). b ∷ map (move_both σ) more.0) moved_flats.2 ∙ ap (λ bs. made.0 ∷ bs) more.2 ∙ same)
 
 -- The flats of an accepted level's sectors, by a directory that has its flats.
 pub sectors-moved : (trimmed lumps : List Lump) (σ : ℕ → ℕ) (sectors : List Sector) (all : List SectorFlats) → HasFlats trimmed lumps (flat_lumps lumps all)

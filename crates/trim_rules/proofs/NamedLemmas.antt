@@ -34,7 +34,7 @@ kept_step : (b : Bool) (m n : ℕ) (ns : List ℕ) → (m ≡ n → b ≡ true) 
 kept_step true m n ns same (inl more) = or-true_right (m == n) _ more
 kept_step true m n ns same (inr e) = or-true_left (m == n) _ e
 kept_step false m n ns same (inl more) = more
-kept_step false m n ns same (inr e) = let f : false ≡ true = same ((Decides-eqb m n).0 e) in absurd (cc)
+kept_step false m n ns same (inr e) = let impossible : false ≡ true = same ((Decides-eqb m n).0 e) in absurd (cc)
 
 pub any_kept : (keep : ℕ → Bool) (n : ℕ) (ns : List ℕ) → keep n ≡ true → list_any (λ m. m == n) ns ≡ true → list_any (λ m. m == n) (filter keep ns) ≡ true
 any_kept keep n [] is any = absurd (cc)
@@ -57,7 +57,8 @@ module _ (lumps : List Lump) where
 
   pub colormap-fixed : IsFixed lumps COLORMAP
   unfolding fixed_lumps
-  colormap-fixed n e = any_right (λ m. m == n) (listed_last lumps PLAYPAL) _ (any_left (λ m. m == n) (listed_last lumps COLORMAP) _ (listed_any lumps COLORMAP n e))
+  colormap-fixed n e =
+      any_right (λ m. m == n) (listed_last lumps PLAYPAL) _ (any_left (λ m. m == n) (listed_last lumps COLORMAP) _ (listed_any lumps COLORMAP n e))
 
   pub pnames-fixed : IsFixed lumps PNAMES
   unfolding fixed_lumps
@@ -153,6 +154,6 @@ module _ (bytes : ℕ → List ℕ) (lumps : List Lump) (art : SceneArt) (name :
 
   -- The same bytes by both directories.
   pub named-same : (wanted : List ℕ) → IsFixed lumps wanted → IsNoMark wanted
-      → named_bytes (lump_bytes (trimmed_file bytes lumps (trim_parts lumps art name) ∷ []) (trimmed_lumps bytes lumps (trim_parts lumps art name))) (trimmed_lumps bytes lumps (trim_parts lumps art name)) wanted
-      ≡ named_bytes bytes lumps wanted
+      → named_bytes (lump_bytes (trimmed_file bytes lumps (trim_parts lumps art name) ∷ []) (trimmed_lumps bytes lumps (trim_parts lumps art name)))
+      (trimmed_lumps bytes lumps (trim_parts lumps art name)) wanted ≡ named_bytes bytes lumps wanted
   named-same wanted fixed marks = named-put bytes lumps (trim_parts lumps art name) wanted ∙ same_step wanted (last_of lumps wanted) fixed marks refl

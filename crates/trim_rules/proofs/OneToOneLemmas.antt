@@ -20,9 +20,9 @@ each-length : {X Y R : Type 0} (f : X → Option Y) (refuse : ℕ → R) (number
 unfolding each_from
 each-length f refuse number [] ys e = ap length (sym (ok_of [] ys e))
 each-length f refuse number (x ∷ xs) ys e =
-    let one = and_then-ok (ok_or (f x) (refuse number)) _ ys e in
-    let more = and_then-ok (each_from f refuse (suc number) xs) _ ys one.2 in
-    ap length (sym (ok_of (one.0 ∷ more.0) ys more.2)) ∙ ap suc (each-length f refuse (suc number) xs more.0 more.1)
+    let made = and_then-ok (ok_or (f x) (refuse number)) _ ys e in
+    let more = and_then-ok (each_from f refuse (suc number) xs) _ ys made.2 in
+    ap length (sym (ok_of (made.0 ∷ more.0) ys more.2)) ∙ ap suc (each-length f refuse (suc number) xs more.0 more.1)
 
 -- there are as many flats as sectors
 pub flats-count : (lumps : List Lump) (sectors : List Sector) (flats : List SectorFlats) → sector_flats lumps sectors ≡ Ok flats → length flats ≡ length sectors

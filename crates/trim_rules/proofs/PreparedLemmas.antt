@@ -51,24 +51,25 @@ module _ (σ : ℕ → ℕ) (bytes : ℕ → List ℕ) (last other : List ℕ �
       → (q : PlacedPatch) × (option_map (place_patch entry k) o ≡ Some q) × (moved σ q ≡ p)
   unfolding place_patch
   place_step entry k n None p same e = absurd (cc)
-  place_step entry k n (Some patch) p same e = (place_patch entry k patch, refl, ap (λ m. place_patch entry m patch) same ∙ some-injective (place_patch entry n patch) p e)
+  place_step entry k n (Some patch) p same e =
+      (place_patch entry k patch, refl, ap (λ m. place_patch entry m patch) same ∙ some-injective (place_patch entry n patch) p e)
 
   number_step : (entry : TextureEntry) (n : ℕ) (o : Option Patch) (p : PlacedPatch) → option_map (place_patch entry n) o ≡ Some p → n ≡ p.lump
   unfolding place_patch
   number_step entry n None p e = absurd (cc)
   number_step entry n (Some patch) p e = ap (λ (q : PlacedPatch). q.lump) (some-injective (place_patch entry n patch) p e)
 
-  found_step : (entry : TextureEntry) (name : List ℕ) (o : Option ℕ) (p : PlacedPatch) → last name ≡ o → option_and_then (place_lump bytes entry) o ≡ Some p → Q p.lump
-      → (q : PlacedPatch) × (option_and_then (place_lump (λ n. bytes (σ n)) entry) (other name) ≡ Some q) × (moved σ q ≡ p)
+  found_step : (entry : TextureEntry) (name : List ℕ) (o : Option ℕ) (p : PlacedPatch) → last name ≡ o → option_and_then (place_lump bytes entry) o ≡ Some p
+      → Q p.lump → (q : PlacedPatch) × (option_and_then (place_lump (λ n. bytes (σ n)) entry) (other name) ≡ Some q) × (moved σ q ≡ p)
   unfolding place_lump
   found_step entry name None p is e holds = absurd (cc)
   found_step entry name (Some n) p is e holds =
       let at = finds name n is (subst Q (sym (number_step entry n (patch_of (bytes n)) p e)) holds) in
-      let one = place_step entry at.0 n (patch_of (bytes n)) p at.2 e in
-      (one.0, ap (option_and_then (place_lump (λ m. bytes (σ m)) entry)) at.1 ∙ ap (λ m. option_map (place_patch entry at.0) (patch_of (bytes m))) at.2 ∙ one.1, one.2)
+      let placed = place_step entry at.0 n (patch_of (bytes n)) p at.2 e in
+      (placed.0, ap (option_and_then (place_lump (λ m. bytes (σ m)) entry)) at.1 ∙ ap (λ m. option_map (place_patch entry at.0) (patch_of (bytes m))) at.2 ∙ placed.1, placed.2)
 
-  named_step : (entry : TextureEntry) (o : Option (List ℕ)) (p : PlacedPatch) → option_and_then (place_lump bytes entry) (option_and_then last o) ≡ Some p → Q p.lump
-      → (q : PlacedPatch) × (option_and_then (place_lump (λ n. bytes (σ n)) entry) (option_and_then other o) ≡ Some q) × (moved σ q ≡ p)
+  named_step : (entry : TextureEntry) (o : Option (List ℕ)) (p : PlacedPatch) → option_and_then (place_lump bytes entry) (option_and_then last o) ≡ Some p
+      → Q p.lump → (q : PlacedPatch) × (option_and_then (place_lump (λ n. bytes (σ n)) entry) (option_and_then other o) ≡ Some q) × (moved σ q ≡ p)
   named_step entry None p e holds = absurd (cc)
   named_step entry (Some name) p e holds = found_step entry name (last name) p refl e holds
 
@@ -83,12 +84,12 @@ module _ (σ : ℕ → ℕ) (bytes : ℕ → List ℕ) (last other : List ℕ �
   more_step (Some p) a' (Some rest) b' ps one more e all =
       let same : p ∷ rest ≡ ps = some-injective (p ∷ rest) ps e in
       let both : AllByRecursion (PatchIs Q) (p ∷ rest) = subst (AllByRecursion (PatchIs Q)) (sym same) all in
-      let first = one p refl both.0 in
+      let moved_patch = one p refl both.0 in
       let others = more rest refl both.1 in
-      (first.0 ∷ others.0, rw (first.1, others.1) refl, ap (λ q. q ∷ map (moved σ) others.0) first.2 ∙ ap (λ qs. p ∷ qs) others.2 ∙ same)
+      (moved_patch.0 ∷ others.0, rw (moved_patch.1, others.1) refl, ap (λ q. q ∷ map (moved σ) others.0) moved_patch.2 ∙ ap (λ qs. p ∷ qs) others.2 ∙ same)
 
-  placed-moved : (names : List (List ℕ)) (entries : List TextureEntry) (ps : List PlacedPatch) → placed_patches last bytes names entries ≡ Some ps → AllByRecursion (PatchIs Q) ps
-      → (qs : List PlacedPatch) × (placed_patches other (λ n. bytes (σ n)) names entries ≡ Some qs) × (map (moved σ) qs ≡ ps)
+  placed-moved : (names : List (List ℕ)) (entries : List TextureEntry) (ps : List PlacedPatch) → placed_patches last bytes names entries ≡ Some ps
+      → AllByRecursion (PatchIs Q) ps → (qs : List PlacedPatch) × (placed_patches other (λ n. bytes (σ n)) names entries ≡ Some qs) × (map (moved σ) qs ≡ ps)
   unfolding placed_patches placed_patch
   placed-moved names [] ps e all = ([], refl, some-injective [] ps e)
   placed-moved names (entry ∷ rest) ps e all =
@@ -114,8 +115,8 @@ module _ (σ : ℕ → ℕ) (bytes : ℕ → List ℕ) (last other : List ℕ �
         sym (texture-moved bytes σ t patches.0) ∙ ap (texture_of bytes t) patches.2 ∙ big.1,
       )
 
-  one-moved : (names : List (List ℕ)) (number : ℕ) (t : Texture) (p : PreparedTexture) → prepared last bytes names number t ≡ Ok p → AllByRecursion (PatchIs Q) p.patches
-      → (q : PreparedTexture) × (prepared other (λ n. bytes (σ n)) names number t ≡ Ok q) × (move_texture σ q ≡ p)
+  one-moved : (names : List (List ℕ)) (number : ℕ) (t : Texture) (p : PreparedTexture) → prepared last bytes names number t ≡ Ok p
+      → AllByRecursion (PatchIs Q) p.patches → (q : PreparedTexture) × (prepared other (λ n. bytes (σ n)) names number t ≡ Ok q) × (move_texture σ q ≡ p)
   unfolding prepared
   one-moved names number t p e all =
       missing_step number t (placed_patches last bytes names t.patches) (placed_patches other (λ n. bytes (σ n)) names t.patches) p
@@ -140,16 +141,16 @@ module _ (σ : ℕ → ℕ) (bytes : ℕ → List ℕ) (last other : List ℕ �
   unfolding prepared_from
   from-moved names wanted number [] ts e all = ([], refl, ok_of [] ts e)
   from-moved names wanted number (t ∷ rest) ts e all =
-      let one = and_then-ok (prepared_if (wanted number) (prepared last bytes names number t)) _ ts e in
-      let more = and_then-ok (prepared_from (prepared last bytes names) wanted (suc number) rest) _ ts one.2 in
-      let same : one.0 ∷ more.0 ≡ ts = ok_of (one.0 ∷ more.0) ts more.2 in
-      let both : AllByRecursion (PatchesAre Q) (one.0 ∷ more.0) = subst (AllByRecursion (PatchesAre Q)) (sym same) all in
-      let first = if_step (wanted number) (prepared last bytes names number t) (prepared other (λ n. bytes (σ n)) names number t) one.0
-      (λ p is holds. one-moved names number t p is holds) one.1 both.0 in
+      let made = and_then-ok (prepared_if (wanted number) (prepared last bytes names number t)) _ ts e in
+      let more = and_then-ok (prepared_from (prepared last bytes names) wanted (suc number) rest) _ ts made.2 in
+      let same : made.0 ∷ more.0 ≡ ts = ok_of (made.0 ∷ more.0) ts more.2 in
+      let both : AllByRecursion (PatchesAre Q) (made.0 ∷ more.0) = subst (AllByRecursion (PatchesAre Q)) (sym same) all in
+      let moved_texture = if_step (wanted number) (prepared last bytes names number t) (prepared other (λ n. bytes (σ n)) names number t) made.0
+      (λ p is holds. one-moved names number t p is holds) made.1 both.0 in
       let others = from-moved names wanted (suc number) rest more.0 more.1 both.1 in (
-        first.0 ∷ others.0,
-        rw (first.1, others.1) refl,
-        ap (λ o. o ∷ map (option_map (move_texture σ)) others.0) first.2 ∙ ap (λ os. one.0 ∷ os) others.2 ∙ same,
+        moved_texture.0 ∷ others.0,
+        rw (moved_texture.1, others.1) refl,
+        ap (λ o. o ∷ map (option_map (move_texture σ)) others.0) moved_texture.2 ∙ ap (λ os. made.0 ∷ os) others.2 ∙ same,
       )
 
   -- The prepared textures, by a directory that finds their patches.

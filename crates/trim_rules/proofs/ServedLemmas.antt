@@ -24,23 +24,23 @@ pub record IsFoundBy (lumps : List Lump) (name : List ℕ) (base : LevelBase) : 
 pub base-found : (bytes : ℕ → List ℕ) (lumps : List Lump) (name : List ℕ) (base : LevelBase) → base_in bytes lumps name ≡ Ok base → IsFoundBy lumps name base
 unfolding base_in base_over level_in
 base-found bytes lumps name base e =
-    let a = and_then-ok (from_below Art (colormap_of lumps)) _ base e in
-    let b = and_then-ok (from_below Art (playpal_of lumps)) _ base a.2 in
-    let c = and_then-ok (from_below Map (level_in bytes lumps name)) _ base b.2 in
-    let d = and_then-ok (from_below Texture (lists_in bytes lumps)) _ base c.2 in
-    let found = and_then-ok (label_of lumps name) _ c.0 (below Map (level_in bytes lumps name) c.0 c.1) in
-    let level = and_then-ok (level_of _) _ c.0 found.2 in
-    let made : ◌≡◌ {A = LevelBase} (record { colormap = a.0; playpal = b.0; palette = take PALETTE_SIZE (bytes b.0); label = c.0.0; level = c.0.1; lists = d.0 }) base = cc in
-    let pair : (found.0, level.0) ≡ c.0 = cc in
-    subst (IsFoundBy lumps name) made (record { colormap = below Art (colormap_of lumps) a.0 a.1; playpal = below Art (playpal_of lumps) b.0 b.1; label = found.1 ∙ ap (λ (x : ℕ × _). Ok x.0) pair })
+    let colormap_found = and_then-ok (from_below Art (colormap_of lumps)) _ base e in
+    let playpal_found = and_then-ok (from_below Art (playpal_of lumps)) _ base colormap_found.2 in
+    let map_found = and_then-ok (from_below Map (level_in bytes lumps name)) _ base playpal_found.2 in
+    let lists_found = and_then-ok (from_below Texture (lists_in bytes lumps)) _ base map_found.2 in
+    let found = and_then-ok (label_of lumps name) _ map_found.0 (below Map (level_in bytes lumps name) map_found.0 map_found.1) in
+    let level = and_then-ok (level_of _) _ map_found.0 found.2 in
+    let made : ◌≡◌ {A = LevelBase} (record { colormap = colormap_found.0; playpal = playpal_found.0; palette = take PALETTE_SIZE (bytes playpal_found.0); label = map_found.0.0; level = map_found.0.1; lists = lists_found.0 }) base = cc in
+    let pair : (found.0, level.0) ≡ map_found.0 = cc in
+    subst (IsFoundBy lumps name) made (record { colormap = below Art (colormap_of lumps) colormap_found.0 colormap_found.1; playpal = below Art (playpal_of lumps) playpal_found.0 playpal_found.1; label = found.1 ∙ ap (λ (x : ℕ × _). Ok x.0) pair })
 
 -- a lump that is long enough
 long_step : (lumps : List Lump) (size n number : ℕ) (b : Bool) → nat_le size (lump_at lumps n).size ≡ b → cond b (Some n) None ≡ Some number → (n ≡ number) × (nat_le size (lump_at lumps number).size ≡ true)
 long_step lumps size n number true is e = let same : n ≡ number = cc in (same, ap (λ k. nat_le size (lump_at lumps k).size) (sym same) ∙ is)
 long_step lumps size n number false is e = absurd (cc)
 
-long_found : (lumps : List Lump) (name : List ℕ) (size number : ℕ) (o : Option ℕ) → last_of lumps name ≡ o → option_and_then (if_long lumps size) o ≡ Some number
-    → (last_of lumps name ≡ Some number) × (nat_le size (lump_at lumps number).size ≡ true)
+long_found : (lumps : List Lump) (name : List ℕ) (size number : ℕ) (o : Option ℕ) → last_of lumps name ≡ o
+    → option_and_then (if_long lumps size) o ≡ Some number → (last_of lumps name ≡ Some number) × (nat_le size (lump_at lumps number).size ≡ true)
 long_found lumps name size number None is e = absurd (cc)
 long_found lumps name size number (Some n) is e =
     let both = long_step lumps size n number (nat_le size (lump_at lumps n).size) refl e in
@@ -72,10 +72,9 @@ named_step b (Some c) v e = (c, refl, cc)
 -- a long lump of the given directory is one of the trimmed
 module _ (contents : List (List ℕ)) (lumps : List Lump) (parts : List TrimPart) (listed : directory contents ≡ Ok lumps) where
   long-kept : (wanted : List ℕ) (size n : ℕ) → long_lump lumps wanted size ≡ Some n
-      → named_bytes (lump_bytes (trimmed_file (lump_bytes contents lumps) lumps parts ∷ []) (trimmed_lumps (lump_bytes contents lumps) lumps parts)) (trimmed_lumps (lump_bytes contents lumps) lumps parts) wanted
-      ≡ named_bytes (lump_bytes contents lumps) lumps wanted
-      → (c : ℕ) × (long_lump (trimmed_lumps (lump_bytes contents lumps) lumps parts) wanted size ≡ Some c)
-      × (lump_bytes (trimmed_file (lump_bytes contents lumps) lumps parts ∷ []) (trimmed_lumps (lump_bytes contents lumps) lumps parts) c ≡ lump_bytes contents lumps n)
+      → named_bytes (lump_bytes (trimmed_file (lump_bytes contents lumps) lumps parts ∷ []) (trimmed_lumps (lump_bytes contents lumps) lumps parts))
+      (trimmed_lumps (lump_bytes contents lumps) lumps parts) wanted ≡ named_bytes (lump_bytes contents lumps) lumps wanted
+      → (c : ℕ) × (long_lump (trimmed_lumps (lump_bytes contents lumps) lumps parts) wanted size ≡ Some c) × (lump_bytes (trimmed_file (lump_bytes contents lumps) lumps parts ∷ []) (trimmed_lumps (lump_bytes contents lumps) lumps parts) c ≡ lump_bytes contents lumps n)
   long-kept wanted size n e same =
       let bytes = lump_bytes contents lumps in
       let trimmed = trimmed_lumps bytes lumps parts in
@@ -102,23 +101,23 @@ first_there (Some v) first e = (v, refl)
 
 both_there : (a b : Option (List ℕ)) (textures : List ListedTexture) → both_lists a b ≡ Ok textures → (v : List ℕ) × (a ≡ Some v)
 unfolding both_lists
-both_there a b textures e = let one = and_then-ok (first_list a) _ textures e in first_there a one.0 one.1
+both_there a b textures e = let list_found = and_then-ok (first_list a) _ textures e in first_there a list_found.0 list_found.1
 
 lists_there : (a b c : Option (List ℕ)) (lists : TextureLists) → texture_lists a b c ≡ Ok lists → ((v : List ℕ) × (a ≡ Some v)) × ((w : List ℕ) × (b ≡ Some w))
 unfolding texture_lists
 lists_there a b c lists e =
-    let one = and_then-ok (patch_names a) _ lists e in
-    let two = and_then-ok (both_lists b c) _ lists one.2 in
-    (names_there a one.0 one.1, both_there b c two.0 two.1)
+    let names_found = and_then-ok (patch_names a) _ lists e in
+    let both_found = and_then-ok (both_lists b c) _ lists names_found.2 in
+    (names_there a names_found.0 names_found.1, both_there b c both_found.0 both_found.1)
 
 list-lumps : (bytes : ℕ → List ℕ) (lumps : List Lump) (lists : TextureLists) → lists_in bytes lumps ≡ Ok lists
     → ((n : ℕ) × (last_of lumps PNAMES ≡ Some n)) × ((t : ℕ) × (last_of lumps TEXTURE1 ≡ Some t))
 unfolding lists_in
 list-lumps bytes lumps lists e =
     let both = lists_there (named_bytes bytes lumps PNAMES) (named_bytes bytes lumps TEXTURE1) (named_bytes bytes lumps TEXTURE2) lists e in
-    let n = named_step bytes (last_of lumps PNAMES) both.0.0 both.0.1 in
-    let t = named_step bytes (last_of lumps TEXTURE1) both.1.0 both.1.1 in
-    ((n.0, n.1), (t.0, t.1))
+    let pnames_found = named_step bytes (last_of lumps PNAMES) both.0.0 both.0.1 in
+    let texture_found = named_step bytes (last_of lumps TEXTURE1) both.1.0 both.1.1 in
+    ((pnames_found.0, pnames_found.1), (texture_found.0, texture_found.1))
 
 -- the eight lumps of the map
 copy_bytes : (bytes : ℕ → List ℕ) (n : ℕ) → part_bytes bytes (copy_part n) ≡ bytes n
@@ -132,10 +131,10 @@ module _ (bytes : ℕ → List ℕ) (lumps : List Lump) (art : SceneArt) (name :
       let copied = map copy_part (filter (λ n. not (has_name lumps name n)) (called_lumps lumps art.prepared)) in
       let at : part_at parts (map_place lumps art + suc k) ≡ copy_part (label + suc k) =
       ap (λ ps. part_at ps (map_place lumps art + suc k)) (parts-by-map lumps art name label is)
-      ∙ (let e : map_place lumps art + suc k ≡ suc (map_place lumps art) + k = omega arith in
-      ap (part_at (front_parts lumps art ++ label_or_copy (is_called lumps art name) label ∷ behind_map lumps art.prepared name label)) e)
+      ∙ (let same_place : map_place lumps art + suc k ≡ suc (map_place lumps art) + k = omega arith in
+      ap (part_at (front_parts lumps art ++ label_or_copy (is_called lumps art name) label ∷ behind_map lumps art.prepared name label)) same_place)
       ∙ row-at bytes lumps (front_parts lumps art) label (label_or_copy (is_called lumps art name) label) copied k lt
-      ∙ (let e : suc label + k ≡ label + suc k = omega arith in ap copy_part e) in
+      ∙ (let same_number : suc label + k ≡ label + suc k = omega arith in ap copy_part same_number) in
       part-bytes bytes lumps parts (map_place lumps art + suc k) ∙ ap (part_bytes bytes) at ∙ copy_bytes bytes (label + suc k)
 
   map-kept : map_bytes (lump_bytes (trimmed_file bytes lumps (trim_parts lumps art name) ∷ []) (trimmed_lumps bytes lumps (trim_parts lumps art name))) (map_place lumps art) ≡ map_bytes bytes label
@@ -168,11 +167,7 @@ module _ (lumps : List Lump) where
 pub trimmed-serves : (contents : List (List ℕ)) (lumps : List Lump) (art : SceneArt) (name : List ℕ) (base : LevelBase) (wanted : ℕ → Bool)
     → directory contents ≡ Ok lumps → base_in (lump_bytes contents lumps) lumps name ≡ Ok base
     → prepared_textures (last_of lumps) (lump_bytes contents lumps) base.lists wanted ≡ Ok art.prepared
-    → (c : ℕ) × (p : ℕ)
-    × (lump_bytes (trimmed_file (lump_bytes contents lumps) lumps (trim_parts lumps art name) ∷ []) (trimmed_lumps (lump_bytes contents lumps) lumps (trim_parts lumps art name)) c ≡ lump_bytes contents lumps base.colormap)
-    × ServesBase (lump_bytes contents lumps)
-    (lump_bytes (trimmed_file (lump_bytes contents lumps) lumps (trim_parts lumps art name) ∷ []) (trimmed_lumps (lump_bytes contents lumps) lumps (trim_parts lumps art name)))
-    lumps (trimmed_lumps (lump_bytes contents lumps) lumps (trim_parts lumps art name)) name base c p (map_place lumps art)
+    → (c : ℕ) × (p : ℕ) × (lump_bytes (trimmed_file (lump_bytes contents lumps) lumps (trim_parts lumps art name) ∷ []) (trimmed_lumps (lump_bytes contents lumps) lumps (trim_parts lumps art name)) c ≡ lump_bytes contents lumps base.colormap) × ServesBase (lump_bytes contents lumps) (lump_bytes (trimmed_file (lump_bytes contents lumps) lumps (trim_parts lumps art name) ∷ []) (trimmed_lumps (lump_bytes contents lumps) lumps (trim_parts lumps art name))) lumps (trimmed_lumps (lump_bytes contents lumps) lumps (trim_parts lumps art name)) name base c p (map_place lumps art)
 unfolding colormap_of playpal_of
 trimmed-serves contents lumps art name base wanted listed is prepared =
     let bytes = lump_bytes contents lumps in
@@ -187,22 +182,22 @@ trimmed-serves contents lumps art name base wanted listed is prepared =
     let playpal = named-same bytes lumps art name base.label label all PLAYPAL (playpal-fixed lumps) (record { f_start = refl; f_end = refl; s_start = refl; s_end = refl }) in
     let colours = some_value (long_lump lumps COLORMAP COLORMAP_SIZE) Colormap base.colormap found.colormap in
     let palette = some_value (long_lump lumps PLAYPAL PALETTE_SIZE) Playpal base.playpal found.playpal in
-    let c = long-kept contents lumps parts listed COLORMAP COLORMAP_SIZE base.colormap colours colormap in
-    let p = long-kept contents lumps parts listed PLAYPAL PALETTE_SIZE base.playpal palette playpal in
+    let colormap_kept = long-kept contents lumps parts listed COLORMAP COLORMAP_SIZE base.colormap colours colormap in
+    let playpal_kept = long-kept contents lumps parts listed PLAYPAL PALETTE_SIZE base.playpal palette playpal in
     let fixed : HasFixed lumps base.playpal base.colormap lists.0.0 lists.1.0 = record {
       playpal = (long-is lumps PLAYPAL PALETTE_SIZE base.playpal palette).0;
       colormap = (long-is lumps COLORMAP COLORMAP_SIZE base.colormap colours).0;
       pnames = lists.0.1;
       texture1 = lists.1.1;
     } in (
-      c.0,
-      p.0,
-      c.2,
+      colormap_kept.0,
+      playpal_kept.0,
+      colormap_kept.2,
       record {
         is = is;
-        colormap = ok_some (long_lump trimmed COLORMAP COLORMAP_SIZE) Colormap c.0 c.1;
-        playpal = ok_some (long_lump trimmed PLAYPAL PALETTE_SIZE) Playpal p.0 p.1;
-        palette = p.2;
+        colormap = ok_some (long_lump trimmed COLORMAP COLORMAP_SIZE) Colormap colormap_kept.0 colormap_kept.1;
+        playpal = ok_some (long_lump trimmed PLAYPAL PALETTE_SIZE) Playpal playpal_kept.0 playpal_kept.1;
+        palette = playpal_kept.2;
         label = map_label trimmed name (map_place lumps art) (trimmed-map bytes lumps art name base.label base.playpal base.colormap lists.0.0 lists.1.0 label fixed);
         level = map-kept bytes lumps art name base.label label;
         pnames = named-same bytes lumps art name base.label label all PNAMES (pnames-fixed lumps) (record { f_start = refl; f_end = refl; s_start = refl; s_end = refl });

@@ -18,7 +18,7 @@ abbrev is_end_byte : ℕ → Bool
 is_end_byte byte = byte == 0
 
 one_more : (n x : ℕ) (xs : List ℕ) → take (1 + n) (x ∷ xs) ≡ x ∷ take n xs
-one_more n x xs = let e : 1 + n ≡ suc n = omega arith in ap (λ k. take k (x ∷ xs)) e
+one_more n x xs = let is_suc : 1 + n ≡ suc n = omega arith in ap (λ k. take k (x ∷ xs)) is_suc
 
 first_step : (x : ℕ) (xs : List ℕ) (b : Bool) → is_end_byte x ≡ b → before_first is_end_byte (x ∷ xs) ≡ cond b [] (x ∷ before_first is_end_byte xs)
 first_step x xs true e = rw e refl
@@ -56,7 +56,7 @@ letter_step : (c : ℕ) (b : Bool) → (to_ascii_uppercase c == 0) ≡ b → IsL
 letter_step c false e is = refl
 letter_step c true e is =
     let none : c ≡ 0 = upper_zero c ((Decides-eqb (to_ascii_uppercase c) 0).0 e) in
-    let f : true ≡ false = sym ((Decides-eqb c 0).1 none) ∙ is in absurd (cc)
+    let impossible : true ≡ false = sym ((Decides-eqb c 0).1 none) ∙ is in absurd (cc)
 
 capitals : (xs : List ℕ) → AllByRecursion IsLetter xs → AllByRecursion IsLetter (map to_ascii_uppercase xs)
 capitals [] all = tt
@@ -80,10 +80,11 @@ filled-name text all le =
           ∙ ap (λ n. upper ++ replicate (8 - n) 0) count;
     }
 
-before_step : (x : ℕ) (xs : List ℕ) (b : Bool) → is_end_byte x ≡ b → length (before_first is_end_byte xs) ≤ length xs → length (before_first is_end_byte (x ∷ xs)) ≤ suc (length xs)
-before_step x xs true e le = let n : length (before_first is_end_byte (x ∷ xs)) ≡ 0 = ap length (first_step x xs true e) in omega arith
+before_step : (x : ℕ) (xs : List ℕ) (b : Bool) → is_end_byte x ≡ b → length (before_first is_end_byte xs) ≤ length xs →
+    length (before_first is_end_byte (x ∷ xs)) ≤ suc (length xs)
+before_step x xs true e le = let none_left : length (before_first is_end_byte (x ∷ xs)) ≡ 0 = ap length (first_step x xs true e) in omega arith
 before_step x xs false e le =
-    let n : length (before_first is_end_byte (x ∷ xs)) ≡ suc (length (before_first is_end_byte xs)) = ap length (first_step x xs false e) in omega arith
+    let longer : length (before_first is_end_byte (x ∷ xs)) ≡ suc (length (before_first is_end_byte xs)) = ap length (first_step x xs false e) in omega arith
 
 before-length : (xs : List ℕ) → length (before_first is_end_byte xs) ≤ length xs
 before-length [] = omega arith
@@ -98,7 +99,7 @@ abbrev IsNamed : Lump → Type 0
 IsNamed lump = IsName lump.name
 
 taken : (xs : List ℕ) → length (take 8 xs) ≤ 8
-taken xs = let n : length (take 8 xs) ≡ min 8 (length xs) = length-take 8 xs in omega arith
+taken xs = let length_is : length (take 8 xs) ≡ min 8 (length xs) = length-take 8 xs in omega arith
 
 entry_named : (file : ℕ) (entry : List ℕ) → IsNamed (lump_in file entry)
 entry_named file entry = name_of-name (take 8 (drop 8 entry)) (taken (drop 8 entry))
@@ -119,7 +120,8 @@ from_named file [] = All-nil IsNamed
 from_named file (bytes ∷ rest) = All-append IsNamed (file_lumps file bytes) (lumps_from (suc file) rest) (file_named file bytes) (from_named (suc file) rest)
 
 -- The name of each lump of a directory is one.
-pub directory-named : (contents : List (List ℕ)) (lumps : List Lump) → directory contents ≡ Ok lumps → (n : ℕ) → n < length lumps → IsName (lump_at lumps n).name
+pub directory-named : (contents : List (List ℕ)) (lumps : List Lump) → directory contents ≡ Ok lumps → (n : ℕ) → n < length lumps →
+    IsName (lump_at lumps n).name
 directory-named contents lumps e n lt =
     let same = (unless_refused_ok (refusal_from 0 0 contents) (lumps_from 0 contents) lumps e).1 in
     subst (All IsNamed) same (from_named 0 contents) n no_lump lt
@@ -140,7 +142,8 @@ label_named : (lumps : List Lump) (n : ℕ) → IsName (lump_at lumps n).name �
 unfolding part_name
 label_named lumps n is = is
 
-put_spelled : (bytes : ℕ → List ℕ) (lumps : List Lump) (parts : List TrimPart) → AllByRecursion (IsNamedPart lumps) parts → AllByRecursion IsSpelled (map (part_lump bytes lumps) parts)
+put_spelled : (bytes : ℕ → List ℕ) (lumps : List Lump) (parts : List TrimPart) → AllByRecursion (IsNamedPart lumps) parts →
+    AllByRecursion IsSpelled (map (part_lump bytes lumps) parts)
 unfolding part_lump
 put_spelled bytes lumps [] all = tt
 put_spelled bytes lumps (p ∷ parts) all = (record { size = all.0.size; name = all.0.same }, put_spelled bytes lumps parts all.1)

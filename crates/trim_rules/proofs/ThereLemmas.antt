@@ -51,22 +51,23 @@ listed-there lumps name = last_one lumps name (last_of lumps name) refl
 pub fixed-there : (lumps : List Lump) → AllByRecursion (IsNumber lumps) (fixed_lumps lumps)
 unfolding fixed_lumps
 fixed-there lumps =
-    let P = IsNumber lumps in
-    all-append P (listed_last lumps PLAYPAL) _ (listed-there lumps PLAYPAL)
-    (all-append P (listed_last lumps COLORMAP) _ (listed-there lumps COLORMAP)
-    (all-append P (listed_last lumps PNAMES) _ (listed-there lumps PNAMES)
-    (all-append P (listed_last lumps TEXTURE1) _ (listed-there lumps TEXTURE1) (listed-there lumps TEXTURE2))))
+    let InLumps = IsNumber lumps in
+    all-append InLumps (listed_last lumps PLAYPAL) _ (listed-there lumps PLAYPAL)
+    (all-append InLumps (listed_last lumps COLORMAP) _ (listed-there lumps COLORMAP)
+    (all-append InLumps (listed_last lumps PNAMES) _ (listed-there lumps PNAMES)
+    (all-append InLumps (listed_last lumps TEXTURE1) _ (listed-there lumps TEXTURE1) (listed-there lumps TEXTURE2))))
 
 pub called-there : (lumps : List Lump) (prepared : List (Option PreparedTexture)) → AllByRecursion (IsNumber lumps) (called_lumps lumps prepared)
 unfolding called_lumps patch_lumps
 called-there lumps prepared =
-    let P = IsNumber lumps in
-    all-append P (fixed_lumps lumps) _ (fixed-there lumps)
-    (all-filter P (λ n. not (list_any (λ m. m == n) (fixed_lumps lumps))) (filter (is_patch_of_any prepared) (range_with_len 0 (length lumps)))
-    (all-filter P (is_patch_of_any prepared) (range_with_len 0 (length lumps)) (range-below 0 (length lumps) (length lumps) (omega arith))))
+    let InLumps = IsNumber lumps in
+    all-append InLumps (fixed_lumps lumps) _ (fixed-there lumps)
+    (all-filter InLumps (λ n. not (list_any (λ m. m == n) (fixed_lumps lumps))) (filter (is_patch_of_any prepared) (range_with_len 0 (length lumps)))
+    (all-filter InLumps (is_patch_of_any prepared) (range_with_len 0 (length lumps)) (range-below 0 (length lumps) (length lumps) (omega arith))))
 
 -- what a map's label is: the last lump of its name, with the map's lumps behind it
-label_step : (lumps : List Lump) (n label : ℕ) (b : Bool) → is_label lumps n ≡ b → cond b (Some n) None ≡ Some label → (n ≡ label) × (is_label lumps label ≡ true)
+label_step : (lumps : List Lump) (n label : ℕ) (b : Bool) → is_label lumps n ≡ b → cond b (Some n) None ≡ Some label →
+    (n ≡ label) × (is_label lumps label ≡ true)
 label_step lumps n label true is e = let same : n ≡ label = cc in (same, ap (is_label lumps) (sym same) ∙ is)
 label_step lumps n label false is e = absurd (cc)
 
@@ -77,7 +78,8 @@ label_found lumps name label (Some n) is e =
     let both = label_step lumps n label (is_label lumps n) refl e in
     (is ∙ ap Some both.0, both.1)
 
-pub label-is : (lumps : List Lump) (name : List ℕ) (label : ℕ) → map_of lumps name ≡ Some label → (last_of lumps name ≡ Some label) × (is_label lumps label ≡ true)
+pub label-is : (lumps : List Lump) (name : List ℕ) (label : ℕ) → map_of lumps name ≡ Some label →
+    (last_of lumps name ≡ Some label) × (is_label lumps label ≡ true)
 label-is lumps name label e = label_found lumps name label (last_of lumps name) refl e
 
 named-there : (lumps : List Lump) (file number : ℕ) (names : List (List ℕ)) → are_named lumps file number names ≡ true

@@ -162,13 +162,14 @@ trimmed-flats bytes lumps art name all =
     let flats = flat_lumps lumps art.flats in
     let pictures = picture_lumps lumps art.pictures in
     let rest = group_parts S_START pictures S_END ++ behind_groups lumps art name in
-    let are : AllByRecursion (IsUnmarked lumps) (group_parts F_START flats F_END ++ rest) = subst (AllByRecursion (IsUnmarked lumps)) (trim_parts-are lumps art name) all in
-    let second : AllByRecursion (IsUnmarked lumps) rest = all_second (IsUnmarked lumps) (group_parts F_START flats F_END) rest are in
+    let are : AllByRecursion (IsUnmarked lumps) (group_parts F_START flats F_END ++ rest) =
+    subst (AllByRecursion (IsUnmarked lumps)) (trim_parts-are lumps art name) all in
+    let unmarked : AllByRecursion (IsUnmarked lumps) rest = all_second (IsUnmarked lumps) (group_parts F_START flats F_END) rest are in
     let plain : AllByRecursion (IsPlain Flats) (map lump rest) =
     subst (AllByRecursion (IsPlain Flats)) (sym (map-append lump (group_parts S_START pictures S_END) (behind_groups lumps art name)))
     (all_both (IsPlain Flats) (map lump (group_parts S_START pictures S_END)) (map lump (behind_groups lumps art name))
-    (plain_group bytes lumps Flats S_START pictures S_END refl refl refl refl (all_first (IsUnmarked lumps) (group_parts S_START pictures S_END) (behind_groups lumps art name) second))
-    (plain_behind bytes lumps art name Flats (all_second (IsUnmarked lumps) (group_parts S_START pictures S_END) (behind_groups lumps art name) second))) in
+    (plain_group bytes lumps Flats S_START pictures S_END refl refl refl refl (all_first (IsUnmarked lumps) (group_parts S_START pictures S_END) (behind_groups lumps art name) unmarked))
+    (plain_behind bytes lumps art name Flats (all_second (IsUnmarked lumps) (group_parts S_START pictures S_END) (behind_groups lumps art name) unmarked))) in
     subst (λ ls. HasGroup Flats (stored_from HEAD_SIZE ls) 0 (length (map lump (map copy_part flats))))
     (sym (ap (map lump) (trim_parts-are lumps art name) ∙ group-shape bytes lumps F_START flats F_END rest))
     (stored-group Flats HEAD_SIZE [] (map lump (map copy_part flats)) (map lump rest) (lump (Mark F_START)) (lump (Mark F_END)) tt
@@ -186,17 +187,19 @@ trimmed-pictures bytes lumps art name all =
     let lump = part_lump bytes lumps in
     let flats = flat_lumps lumps art.flats in
     let pictures = picture_lumps lumps art.pictures in
-    let first = group_parts F_START flats F_END in
+    let flat_parts = group_parts F_START flats F_END in
     let rest = behind_groups lumps art name in
-    let are : AllByRecursion (IsUnmarked lumps) (first ++ (group_parts S_START pictures S_END ++ rest)) = subst (AllByRecursion (IsUnmarked lumps)) (trim_parts-are lumps art name) all in
-    let second : AllByRecursion (IsUnmarked lumps) (group_parts S_START pictures S_END ++ rest) = all_second (IsUnmarked lumps) first (group_parts S_START pictures S_END ++ rest) are in
-    let front : AllByRecursion (IsPlain Sprites) (map lump first) =
-    plain_group bytes lumps Sprites F_START flats F_END refl refl refl refl (all_first (IsUnmarked lumps) first (group_parts S_START pictures S_END ++ rest) are) in
-    subst (λ ls. HasGroup Sprites (stored_from HEAD_SIZE ls) (length (map lump first)) (length (map lump (map copy_part pictures))))
+    let are : AllByRecursion (IsUnmarked lumps) (flat_parts ++ (group_parts S_START pictures S_END ++ rest)) =
+    subst (AllByRecursion (IsUnmarked lumps)) (trim_parts-are lumps art name) all in
+    let unmarked : AllByRecursion (IsUnmarked lumps) (group_parts S_START pictures S_END ++ rest) =
+    all_second (IsUnmarked lumps) flat_parts (group_parts S_START pictures S_END ++ rest) are in
+    let front : AllByRecursion (IsPlain Sprites) (map lump flat_parts) =
+    plain_group bytes lumps Sprites F_START flats F_END refl refl refl refl (all_first (IsUnmarked lumps) flat_parts (group_parts S_START pictures S_END ++ rest) are) in
+    subst (λ ls. HasGroup Sprites (stored_from HEAD_SIZE ls) (length (map lump flat_parts)) (length (map lump (map copy_part pictures))))
     (sym (ap (map lump) (trim_parts-are lumps art name)
-    ∙ map-append lump first (group_parts S_START pictures S_END ++ rest)
-    ∙ ap (λ ls. map lump first ++ ls) (group-shape bytes lumps S_START pictures S_END rest)))
-    (stored-group Sprites HEAD_SIZE (map lump first) (map lump (map copy_part pictures)) (map lump rest) (lump (Mark S_START)) (lump (Mark S_END)) front
-    (plain_copies bytes lumps Sprites pictures (inner_copies lumps S_START pictures S_END (all_first (IsUnmarked lumps) (group_parts S_START pictures S_END) rest second)))
-    (plain_behind bytes lumps art name Sprites (all_second (IsUnmarked lumps) (group_parts S_START pictures S_END) rest second))
+    ∙ map-append lump flat_parts (group_parts S_START pictures S_END ++ rest)
+    ∙ ap (λ ls. map lump flat_parts ++ ls) (group-shape bytes lumps S_START pictures S_END rest)))
+    (stored-group Sprites HEAD_SIZE (map lump flat_parts) (map lump (map copy_part pictures)) (map lump rest) (lump (Mark S_START)) (lump (Mark S_END)) front
+    (plain_copies bytes lumps Sprites pictures (inner_copies lumps S_START pictures S_END (all_first (IsUnmarked lumps) (group_parts S_START pictures S_END) rest unmarked)))
+    (plain_behind bytes lumps art name Sprites (all_second (IsUnmarked lumps) (group_parts S_START pictures S_END) rest unmarked))
     (ap (is_start Sprites) (mark_named bytes lumps S_START)) (ap (is_end Sprites) (mark_named bytes lumps S_END)) (ap (is_start Sprites) (mark_named bytes lumps S_END)))

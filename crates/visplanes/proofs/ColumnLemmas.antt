@@ -57,9 +57,9 @@ kept-behind key tops bottoms first last x k behind =
 pub kept-marked : (key : PlaneKey) (tops bottoms : List ℕ) (first last x y : ℕ) → IsKept tops bottoms first last → holds (plane_of key tops bottoms) y x ≡ true → (first ≤ x) × (x ≤ last)
 kept-marked key tops bottoms first last x y k h =
     elim (cases_lt x first) [
-      | inl a ↦ (let n = holds-none (plane_of key tops bottoms) y x (kept-before key tops bottoms first last x k a) in absurd (cc))
+      | inl a ↦ (let no_row = holds-none (plane_of key tops bottoms) y x (kept-before key tops bottoms first last x k a) in absurd (cc))
       | inr a ↦ elim (cases_lt last x) [
-        | inl b ↦ (let n = holds-none (plane_of key tops bottoms) y x (kept-behind key tops bottoms first last x k b) in absurd (cc))
+        | inl b ↦ (let no_row = holds-none (plane_of key tops bottoms) y x (kept-behind key tops bottoms first last x k b) in absurd (cc))
         | inr b ↦ (a, b)
       ]
     ]
@@ -68,23 +68,23 @@ kept-marked key tops bottoms first last x y k h =
 row_of_run : (p : Plane) (x y : ℕ) (r : ℕ × ℕ) → column p x ≡ Some r → holds p y x ≡ true → y ≤ r.1
 unfolding holds holds_row
 row_of_run p x y r e h =
-    let a : (nat_le r.0 y && nat_le y r.1) ≡ true = ap (λ (o : Option (ℕ × ℕ)). holds_row o y) (sym e) ∙ h in
-    leb-true y r.1 (and_parts (nat_le r.0 y) (nat_le y r.1) a).1
+    let in_run : (nat_le r.0 y && nat_le y r.1) ≡ true = ap (λ (o : Option (ℕ × ℕ)). holds_row o y) (sym e) ∙ h in
+    leb-true y r.1 (and_parts (nat_le r.0 y) (nat_le y r.1) in_run).1
 
 frame_row : (key : PlaneKey) (tops bottoms : List ℕ) (first last x y : ℕ) → IsKept tops bottoms first last → holds (plane_of key tops bottoms) y x ≡ true → x < FRAME_WIDTH → y < FRAME_HEIGHT
 frame_row key tops bottoms first last x y k h l =
     elim (cases_eq (slice_index tops x) NO_RUN) [
-      | inl e ↦ (let n = holds-none (plane_of key tops bottoms) y x (column-kept key tops bottoms x l ∙ run_at-none tops bottoms x e) in absurd (cc))
+      | inl e ↦ (let no_row = holds-none (plane_of key tops bottoms) y x (column-kept key tops bottoms x l ∙ run_at-none tops bottoms x e) in absurd (cc))
       | inr n ↦
-          (let a = row_of_run (plane_of key tops bottoms) x y (slice_index tops x, slice_index bottoms x) (column-kept key tops bottoms x l ∙ run_at-some tops bottoms x n) h in
-          omega (arith, a, k.rows x l))
+          (let row_in_run = row_of_run (plane_of key tops bottoms) x y (slice_index tops x, slice_index bottoms x) (column-kept key tops bottoms x l ∙ run_at-some tops bottoms x n) h in
+          omega (arith, row_in_run, k.rows x l))
     ]
 
 pub kept-frame : (key : PlaneKey) (tops bottoms : List ℕ) (first last x y : ℕ) → IsKept tops bottoms first last → holds (plane_of key tops bottoms) y x ≡ true → (x < FRAME_WIDTH) × (y < FRAME_HEIGHT)
 kept-frame key tops bottoms first last x y k h =
     elim (cases_lt x FRAME_WIDTH) [
       | inl l ↦ (l, frame_row key tops bottoms first last x y k h l)
-      | inr l ↦ (let n = holds-none (plane_of key tops bottoms) y x (column-past key tops bottoms x l) in absurd (cc))
+      | inr l ↦ (let no_row = holds-none (plane_of key tops bottoms) y x (column-past key tops bottoms x l) in absurd (cc))
     ]
 
 -- no column is marked
@@ -143,10 +143,10 @@ run_there tops x top k l n h =
       | inr d ↦ (λ q. h d (sym (set_there tops x top k d) ∙ q))
     ]
 
-pub kept-more : (tops bottoms : List ℕ) (first last x top bottom : ℕ) → IsKept tops bottoms first last → x < FRAME_WIDTH → top ≤ bottom → bottom < FRAME_HEIGHT →
-    IsKept (set tops x top) (set bottoms x bottom) (min first x) (max last x)
+pub kept-more : (tops bottoms : List ℕ) (first last x top bottom : ℕ) → IsKept tops bottoms first last → x < FRAME_WIDTH → top ≤ bottom →
+    bottom < FRAME_HEIGHT → IsKept (set tops x top) (set bottoms x bottom) (min first x) (max last x)
 kept-more tops bottoms first last x top bottom k l m h =
-    let n : top ≢ NO_RUN = λ e. absurd (omega (arith, e)) in
+    let is_run : top ≢ NO_RUN = λ e. absurd (omega (arith, e)) in
     let in_tops : x < length tops = omega (arith, k.top_bytes) in
     let in_bottoms : x < length bottoms = omega (arith, k.bottom_bytes) in
     record {
@@ -156,25 +156,25 @@ kept-more tops bottoms first last x top bottom k l m h =
       after = λ i b a. set_there tops x top i (λ e. absurd (omega (arith, e, a))) ∙ k.after i b (omega (arith, a));
       start = omega (arith, k.start);
       within = omega (arith, k.within);
-      least = λ b. run_there tops x top (min first x) in_tops n
-          (λ d. let s : min first x ≡ first = omega (arith, d) in λ q. k.least (omega (arith, d)) (ap (slice_index tops) (sym s) ∙ q));
-      greatest = λ b. run_there tops x top (max last x) in_tops n
-          (λ d. let s : max last x ≡ last = omega (arith, d) in
+      least = λ b. run_there tops x top (min first x) in_tops is_run
+          (λ d. let same_first : min first x ≡ first = omega (arith, d) in λ q. k.least (omega (arith, d)) (ap (slice_index tops) (sym same_first) ∙ q));
+      greatest = λ b. run_there tops x top (max last x) in_tops is_run
+          (λ d. let same_last : max last x ≡ last = omega (arith, d) in
           let some : first < FRAME_WIDTH = elim (cases_lt first FRAME_WIDTH) [
             | inl c ↦ c
-            | inr c ↦ absurd (let e : first ≡ FRAME_WIDTH = omega (arith, c, k.start) in omega (arith, d, k.none e))
-          ] in λ q. k.greatest some (ap (slice_index tops) (sym s) ∙ q));
+            | inr c ↦ absurd (let was_empty : first ≡ FRAME_WIDTH = omega (arith, c, k.start) in omega (arith, d, k.none was_empty))
+          ] in λ q. k.greatest some (ap (slice_index tops) (sym same_last) ∙ q));
       none = λ e. absurd (omega (arith, e));
       ordered = λ i b. elim (cases_eq i x) [
-        | inl e ↦ inr (let t = set_here tops x top i in_tops e in let u = set_here bottoms x bottom i in_bottoms e in omega (arith, t, u))
+        | inl e ↦ inr (omega (arith, set_here tops x top i in_tops e, set_here bottoms x bottom i in_bottoms e))
         | inr d ↦ elim (k.ordered i b) [
           | inl e ↦ inl (set_there tops x top i d ∙ e)
-          | inr o ↦ inr (let t = set_there tops x top i d in let u = set_there bottoms x bottom i d in omega (arith, t, u, o))
+          | inr o ↦ inr (omega (arith, set_there tops x top i d, set_there bottoms x bottom i d, o))
         ]
       ];
       rows = λ i b. elim (cases_eq i x) [
-        | inl e ↦ (let u = set_here bottoms x bottom i in_bottoms e in omega (arith, u))
-        | inr d ↦ (let u = set_there bottoms x bottom i d in omega (arith, u, k.rows i b))
+        | inl e ↦ omega (arith, set_here bottoms x bottom i in_bottoms e)
+        | inr d ↦ omega (arith, set_there bottoms x bottom i d, k.rows i b)
       ];
     }
 
@@ -184,12 +184,12 @@ unfolding runs_of
 marked_run tops bottoms x top bottom k l m h n j =
     elim (cases_eq k x) [
       | inl e ↦
-          let t : slice_index (set tops x top) x ≡ top = get_or-set_same tops x top 0 l in
-          let b : slice_index (set bottoms x bottom) x ≡ bottom = get_or-set_same bottoms x bottom 0 m in
-          let w : x < length (listed (run_at tops bottoms) FRAME_WIDTH) = omega (arith, length-listed (run_at tops bottoms) FRAME_WIDTH) in
+          let top_is : slice_index (set tops x top) x ≡ top = get_or-set_same tops x top 0 l in
+          let bottom_is : slice_index (set bottoms x bottom) x ≡ bottom = get_or-set_same bottoms x bottom 0 m in
+          let is_there : x < length (listed (run_at tops bottoms) FRAME_WIDTH) = omega (arith, length-listed (run_at tops bottoms) FRAME_WIDTH) in
           ap (λ (i : ℕ). get_or (set (listed (run_at tops bottoms) FRAME_WIDTH) x (Some (top, bottom))) i None) e
-          ∙ get_or-set_same (listed (run_at tops bottoms) FRAME_WIDTH) x (Some (top, bottom)) None w
-          ∙ sym (run_at-some (set tops x top) (set bottoms x bottom) x (λ q. n (sym t ∙ q)) ∙ ap (λ (v : ℕ). Some (v, slice_index (set bottoms x bottom) x)) t ∙ ap (λ (v : ℕ). Some (top, v)) b)
+          ∙ get_or-set_same (listed (run_at tops bottoms) FRAME_WIDTH) x (Some (top, bottom)) None is_there
+          ∙ sym (run_at-some (set tops x top) (set bottoms x bottom) x (λ q. n (sym top_is ∙ q)) ∙ ap (λ (v : ℕ). Some (v, slice_index (set bottoms x bottom) x)) top_is ∙ ap (λ (v : ℕ). Some (top, v)) bottom_is)
           ∙ ap (run_at (set tops x top) (set bottoms x bottom)) (sym e)
       | inr e ↦
           get_or-set_other (listed (run_at tops bottoms) FRAME_WIDTH) x k (Some (top, bottom)) None e
@@ -208,8 +208,8 @@ marked_runs tops bottoms x top bottom l m h n =
     (length-set (runs_of tops bottoms) x (Some (top, bottom)) ∙ length-runs_of tops bottoms)
     (λ k j. marked_run tops bottoms x top bottom k (omega arith) (omega arith) h n j)
 
-pub plane_of-marked : (key : PlaneKey) (tops bottoms : List ℕ) (x top bottom : ℕ) → length tops ≡ FRAME_WIDTH → length bottoms ≡ FRAME_WIDTH → x < FRAME_WIDTH → top ≢ NO_RUN →
-    plane_of key (set tops x top) (set bottoms x bottom) ≡ with_run (plane_of key tops bottoms) x (top, bottom)
+pub plane_of-marked : (key : PlaneKey) (tops bottoms : List ℕ) (x top bottom : ℕ) → length tops ≡ FRAME_WIDTH → length bottoms ≡ FRAME_WIDTH → x < FRAME_WIDTH →
+    top ≢ NO_RUN → plane_of key (set tops x top) (set bottoms x bottom) ≡ with_run (plane_of key tops bottoms) x (top, bottom)
 unfolding with_run
 plane_of-marked key tops bottoms x top bottom l m h n =
     ap (λ (runs : List (Option (ℕ × ℕ))). record { key = key; runs = runs }) (sym (marked_runs tops bottoms x top bottom l m h n))
@@ -226,21 +226,22 @@ part_at : (rs : List (Option (ℕ × ℕ))) (first last k : ℕ) → k < last + 
 part_at rs first last k l = get_or-take (last + 1 - first) (drop first rs) k None l ∙ get_or-drop first rs k None
 
 length_part : (rs : List (Option (ℕ × ℕ))) (first last : ℕ) → last < length rs → length (slice_range rs first (last + 1)) ≡ last + 1 - first
-length_part rs first last l = length-take (last + 1 - first) (drop first rs) ∙ (let d = length-drop first rs in omega arith)
+length_part rs first last l = length-take (last + 1 - first) (drop first rs) ∙ (let dropped = length-drop first rs in omega arith)
 
 pub is_free-true : (rs : List (Option (ℕ × ℕ))) (first last : ℕ) → last < length rs → ((x : ℕ) → first ≤ x → x ≤ last → get_or rs x None ≡ None) → is_free rs first last ≡ true
 unfolding is_free
 is_free-true rs first last l h =
     all_none (slice_range rs first (last + 1))
-    (λ k m. (let n : k < last + 1 - first = omega (arith, length_part rs first last l) in part_at rs first last k n ∙ h (first + k) (omega arith) (omega arith)))
+    (λ k m. (let is_in_part : k < last + 1 - first = omega (arith, length_part rs first last l) in part_at rs first last k is_in_part ∙ h (first + k) (omega arith) (omega arith)))
 
 pub is_free-false : (rs : List (Option (ℕ × ℕ))) (first last x : ℕ) (r : ℕ × ℕ) → last < length rs → first ≤ x → x ≤ last → get_or rs x None ≡ Some r → is_free rs first last ≡ false
 unfolding is_free
 is_free-false rs first last x r l m n e =
-    let k : x - first < last + 1 - first = omega arith in
-    let i : first + (x - first) ≡ x = omega arith in
-    let g : get_or (slice_range rs first (last + 1)) (x - first) None ≡ Some r = part_at rs first last (x - first) k ∙ ap (λ (j : ℕ). get_or rs j None) i ∙ e in
-    list_all_at (λ r. is_none r) (slice_range rs first (last + 1)) (x - first) None (omega (arith, length_part rs first last l)) (ap (λ (o : Option (ℕ × ℕ)). is_none o) g)
+    let is_in_part : x - first < last + 1 - first = omega arith in
+    let same_column : first + (x - first) ≡ x = omega arith in
+    let has_run : get_or (slice_range rs first (last + 1)) (x - first) None ≡ Some r =
+    part_at rs first last (x - first) is_in_part ∙ ap (λ (j : ℕ). get_or rs j None) same_column ∙ e in
+    list_all_at (λ r. is_none r) (slice_range rs first (last + 1)) (x - first) None (omega (arith, length_part rs first last l)) (ap (λ o. is_none o) has_run)
 
 -- the plane itself: only the columns among the marked ones count
 free_column : (tops bottoms : List ℕ) (x : ℕ) → x < FRAME_WIDTH → slice_index tops x ≡ NO_RUN → get_or (runs_of tops bottoms) x None ≡ None
@@ -266,8 +267,8 @@ pub kept-taken : (tops bottoms : List ℕ) (least greatest first last : ℕ) →
     HasRun tops (max first least) (min last greatest) → is_free (runs_of tops bottoms) first last ≡ false
 unfolding runs_of
 kept-taken tops bottoms least greatest first last l r =
-    let a : first ≤ r.x = omega (arith, r.from) in
-    let b : r.x ≤ last = omega (arith, r.to) in
+    let from_first : first ≤ r.x = omega (arith, r.from) in
+    let to_last : r.x ≤ last = omega (arith, r.to) in
     is_free-false (listed (run_at tops bottoms) FRAME_WIDTH) first last r.x (slice_index tops r.x, slice_index bottoms r.x)
-    (omega (arith, length-listed (run_at tops bottoms) FRAME_WIDTH)) a b
+    (omega (arith, length-listed (run_at tops bottoms) FRAME_WIDTH)) from_first to_last
     (get_or-listed (run_at tops bottoms) FRAME_WIDTH r.x None (omega arith) ∙ run_at-some tops bottoms r.x r.run)

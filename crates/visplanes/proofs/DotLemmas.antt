@@ -17,7 +17,8 @@ row_dots-beside f painter y first last x o = last_dot-beside_span painter x y (p
 
 row_dots-other : (f : FloorView) (painter : Painter) (r first last x y : ℕ) → r ≢ y → last_dot x y (row_dots f painter r first last) ≡ None
 unfolding row_dots
-row_dots-other f painter r first last x y n = last_dot-other_row r x y (span_dots painter r (pixel_colour f r first) first last) (in_row-span_dots painter r (pixel_colour f r first) first last) n
+row_dots-other f painter r first last x y n =
+    last_dot-other_row r x y (span_dots painter r (pixel_colour f r first) first last) (in_row-span_dots painter r (pixel_colour f r first) first last) n
 
 row_dots-frame : (f : FloorView) (painter : Painter) (left top y first last : ℕ) → last + left < FRAME_WIDTH → y + top < FRAME_HEIGHT → AreInFrame left top (row_dots f painter y first last)
 unfolding row_dots
@@ -32,8 +33,8 @@ pub closed_rows-more : (f : FloorView) (painter : Painter) (start : ℕ → ℕ)
     closed_rows f painter start x from k ++ row_dots f painter y (start y) (x - 1) ≡ closed_rows f painter start x from n
 unfolding closed_rows
 closed_rows-more f painter start x from k n y e a =
-    let b : suc k ≡ n = omega arith in
-    ap (λ (r : ℕ). closed_rows f painter start x from k ++ row_dots f painter r (start r) (x - 1)) (sym a) ∙ ap (closed_rows f painter start x from) b
+    let is_suc : suc k ≡ n = omega arith in
+    ap (λ (r : ℕ). closed_rows f painter start x from k ++ row_dots f painter r (start r) (x - 1)) (sym a) ∙ ap (closed_rows f painter start x from) is_suc
 
 -- the dots of row y among those of the rows that end before column x
 abbrev ended : FloorView → Painter → (ℕ → ℕ) → ℕ → ℕ → ℕ → Option Dot
@@ -41,27 +42,27 @@ ended f painter start x k y = last_dot k y (row_dots f painter y (start y) (x - 
 
 one_row_more : (o : Option Dot) (from n y : ℕ) → y ≢ from + n → cond (nat_le from y && nat_lt y (from + n)) o None ≡ cond (nat_le from y && nat_lt y (from + suc n)) o None
 one_row_more o from n y d =
-    let e : (nat_le from y && nat_lt y (from + n)) ≡ (nat_le from y && nat_lt y (from + suc n)) = grind (arith, nat_tests) in
-    ap (λ (b : Bool). cond b o None) e
+    let same_test : (nat_le from y && nat_lt y (from + n)) ≡ (nat_le from y && nat_lt y (from + suc n)) = grind (arith, nat_tests) in
+    ap (λ (b : Bool). cond b o None) same_test
 
 -- the rows that end have their spans' dots, and the others none
 pub closed_rows-at : (f : FloorView) (painter : Painter) (start : ℕ → ℕ) (x from n k y : ℕ) →
     last_dot k y (closed_rows f painter start x from n) ≡ cond (nat_le from y && nat_lt y (from + n)) (ended f painter start x k y) None
 unfolding closed_rows
 closed_rows-at f painter start x from zero k y =
-    let e : (nat_le from y && nat_lt y (from + 0)) ≡ false = grind (arith, nat_tests) in
-    last_dot-none k y ∙ ap (λ (b : Bool). cond b (ended f painter start x k y) None) (sym e)
+    let no_row : (nat_le from y && nat_lt y (from + 0)) ≡ false = grind (arith, nat_tests) in
+    last_dot-none k y ∙ ap (λ (b : Bool). cond b (ended f painter start x k y) None) (sym no_row)
 closed_rows-at f painter start x from (suc n) k y =
     last_dot-append k y (closed_rows f painter start x from n) (row_dots f painter (from + n) (start (from + n)) (x - 1))
     ∙ ap (or_else (last_dot k y (row_dots f painter (from + n) (start (from + n)) (x - 1)))) (closed_rows-at f painter start x from n k y)
     ∙ elim (cases_eq y (from + n)) [
       | inl e ↦
-          let a : (nat_le from y && nat_lt y (from + n)) ≡ false = grind (arith, nat_tests) in
-          let b : (nat_le from y && nat_lt y (from + suc n)) ≡ true = grind (arith, nat_tests) in
+          let not_before : (nat_le from y && nat_lt y (from + n)) ≡ false = grind (arith, nat_tests) in
+          let now_in : (nat_le from y && nat_lt y (from + suc n)) ≡ true = grind (arith, nat_tests) in
           ap (λ (r : ℕ). or_else (last_dot k y (row_dots f painter r (start r) (x - 1))) (cond (nat_le from y && nat_lt y (from + n)) (ended f painter start x k y) None)) (sym e)
-          ∙ ap (λ (t : Bool). or_else (ended f painter start x k y) (cond t (ended f painter start x k y) None)) a
+          ∙ ap (λ (t : Bool). or_else (ended f painter start x k y) (cond t (ended f painter start x k y) None)) not_before
           ∙ or_else-none_right (ended f painter start x k y)
-          ∙ ap (λ (t : Bool). cond t (ended f painter start x k y) None) (sym b)
+          ∙ ap (λ (t : Bool). cond t (ended f painter start x k y) None) (sym now_in)
       | inr d ↦
           ap (λ (o : Option Dot). or_else o (cond (nat_le from y && nat_lt y (from + n)) (ended f painter start x k y) None)) (row_dots-other f painter (from + n) (start (from + n)) (x - 1) k y (λ e. d (sym e)))
           ∙ one_row_more (ended f painter start x k y) from n y d
@@ -104,10 +105,10 @@ closed_rows-frame : (f : FloorView) (painter : Painter) (start : ℕ → ℕ) (l
 unfolding closed_rows
 closed_rows-frame f painter start left top x from zero h = tt
 closed_rows-frame f painter start left top x from (suc n) h =
-    let i = h (from + n) (omega arith) (omega arith) in
+    let row_fits = h (from + n) (omega arith) (omega arith) in
     in_frame-append left top (closed_rows f painter start x from n) (row_dots f painter (from + n) (start (from + n)) (x - 1))
     (closed_rows-frame f painter start left top x from n (λ y a b. h y a (omega arith)))
-    (row_dots-frame f painter left top (from + n) (start (from + n)) (x - 1) (omega (arith, i.0, i.1)) i.2)
+    (row_dots-frame f painter left top (from + n) (start (from + n)) (x - 1) (omega (arith, row_fits.0, row_fits.1)) row_fits.2)
 
 pub closed_dots-frame : (f : FloorView) (painter : Painter) (start : ℕ → ℕ) (before now : Rows) (left top x : ℕ) →
     ((y : ℕ) → before.begin ≤ y → y < before.end → (0 < x) × (x + left < FRAME_WIDTH + 1) × (y + top < FRAME_HEIGHT)) → AreInFrame left top (closed_dots f painter start before now x)

@@ -25,7 +25,7 @@ held_before p y x = holds_row (run_before p x) y
 
 pub held_before-more : (p : Plane) (y x n : ℕ) → x + 1 ≡ n → held_before p y n ≡ holds p y x
 unfolding run_before holds
-held_before-more p y x n e = let f : n ≡ suc x = omega arith in ap (λ (i : ℕ). holds_row (run_before p i) y) f
+held_before-more p y x n e = let is_suc : n ≡ suc x = omega arith in ap (λ (i : ℕ). holds_row (run_before p i) y) is_suc
 
 held_before-none : (p : Plane) (y : ℕ) → held_before p y 0 ≡ false
 unfolding run_before holds_row
@@ -48,24 +48,24 @@ start-fresh p y (suc x) h = span_start-off (holds p y) x (suc x) (omega arith) (
 pub start-before : (p : Plane) (y x : ℕ) → held_before p y x ≡ true → span_start (holds p y) x < x
 start-before p y zero h = absurd (both_ways (held_before p y 0) (held_before-none p y) h)
 start-before p y (suc x) h =
-    let e : span_start (holds p y) (suc x) ≡ span_start (holds p y) x = span_start-on (holds p y) x (suc x) (omega arith) (sym (held_before-more p y x (suc x) (omega arith)) ∙ h) in
-    let w : span_start (holds p y) x ≤ x = span_start-within (holds p y) x in
+    let begins_alike : span_start (holds p y) (suc x) ≡ span_start (holds p y) x = span_start-on (holds p y) x (suc x) (omega arith) (sym (held_before-more p y x (suc x) (omega arith)) ∙ h) in
+    let not_past : span_start (holds p y) x ≤ x = span_start-within (holds p y) x in
     omega arith
 
 -- such a span may be painted
 pub can_paint : (shape : ViewShape) (left top : ℕ) (p : Plane) → IsSeen shape left top p → (s x y : ℕ) → held_before p y x ≡ true → s ≡ span_start (holds p y) x → CanPaint shape left top s x y
 can_paint shape left top p seen s zero y h e = absurd (both_ways (held_before p y 0) (held_before-none p y) h)
 can_paint shape left top p seen s (suc x) y h e =
-    let t : holds p y x ≡ true = sym (held_before-more p y x (suc x) (omega arith)) ∙ h in
-    let b : span_start (holds p y) (suc x) < suc x = start-before p y (suc x) h in
-    let v : x < shape.width = seen.column x y t in
-    let w : x + left < FRAME_WIDTH = seen.frame_column x y t in
+    let holds_it : holds p y x ≡ true = sym (held_before-more p y x (suc x) (omega arith)) ∙ h in
+    let began : span_start (holds p y) (suc x) < suc x = start-before p y (suc x) h in
+    let in_view : x < shape.width = seen.column x y holds_it in
+    let in_frame : x + left < FRAME_WIDTH = seen.frame_column x y holds_it in
     record {
       begins = omega arith;
       column = omega arith;
-      row = seen.row x y t;
+      row = seen.row x y holds_it;
       frame_column = omega arith;
-      frame_row = seen.frame_row x y t;
+      frame_row = seen.frame_row x y holds_it;
     }
 
 -- the column before a span does not hold its row
@@ -79,8 +79,8 @@ all_pass p y x j e h k a b =
 before_span : (p : Plane) (y x j : ℕ) → j + 1 ≡ span_start (holds p y) x → (b : Bool) → holds p y j ≡ b → b ≡ false
 before_span p y x j e false h = refl
 before_span p y x j e true h =
-    let w : span_start (holds p y) x ≤ x = span_start-within (holds p y) x in
-    let l : span_start (holds p y) x ≤ j = span_start-least (holds p y) x j (omega arith) (all_pass p y x j e h) in
+    let not_past : span_start (holds p y) x ≤ x = span_start-within (holds p y) x in
+    let begins_there : span_start (holds p y) x ≤ j = span_start-least (holds p y) x j (omega arith) (all_pass p y x j e h) in
     absurd (omega arith)
 
 -- in a span the start is that of its first column
@@ -120,12 +120,12 @@ ends : (s x n k : ℕ) (v : Bool) → s < x → x + 1 ≡ n → (s ≤ k → k <
     ((not (nat_lt k s) && nat_lt k x) || (nat_lt k s && v)) ≡ (nat_lt k n && v)
 ends s x n k v l e t f =
     elim (cases_lt k s) [
-      | inl a ↦ (let m : k < n = omega arith in rw (lt-ltb k s a, lt-ltb k n m) refl)
+      | inl a ↦ (let not_reached : k < n = omega arith in rw (lt-ltb k s a, lt-ltb k n not_reached) refl)
       | inr a ↦ elim (cases_lt k x) [
-        | inl b ↦ (let m : k < n = omega arith in rw (le-ltb k s a, lt-ltb k x b, lt-ltb k n m, t a b) refl)
+        | inl b ↦ (let not_reached : k < n = omega arith in rw (le-ltb k s a, lt-ltb k x b, lt-ltb k n not_reached, t a b) refl)
         | inr b ↦ elim (cases_eq k x) [
-          | inl c ↦ (let m : k < n = omega arith in rw (le-ltb k s a, le-ltb k x b, lt-ltb k n m, f c) refl)
-          | inr c ↦ (let m : n ≤ k = omega arith in rw (le-ltb k s a, le-ltb k x b, le-ltb k n m) refl)
+          | inl c ↦ (let not_reached : k < n = omega arith in rw (le-ltb k s a, le-ltb k x b, lt-ltb k n not_reached, f c) refl)
+          | inr c ↦ (let is_past : n ≤ k = omega arith in rw (le-ltb k s a, le-ltb k x b, le-ltb k n is_past) refl)
         ]
       ]
     ]
@@ -133,10 +133,10 @@ ends s x n k v l e t f =
 stays : (x n k : ℕ) (v : Bool) → x + 1 ≡ n → (k ≡ x → v ≡ false) → (nat_lt k x && v) ≡ (nat_lt k n && v)
 stays x n k v e f =
     elim (cases_lt k x) [
-      | inl b ↦ (let m : k < n = omega arith in rw (lt-ltb k x b, lt-ltb k n m) refl)
+      | inl b ↦ (let not_reached : k < n = omega arith in rw (lt-ltb k x b, lt-ltb k n not_reached) refl)
       | inr b ↦ elim (cases_eq k x) [
-        | inl c ↦ (let m : k < n = omega arith in rw (le-ltb k x b, lt-ltb k n m, f c) refl)
-        | inr c ↦ (let m : n ≤ k = omega arith in rw (le-ltb k x b, le-ltb k n m) refl)
+        | inl c ↦ (let not_reached : k < n = omega arith in rw (le-ltb k x b, lt-ltb k n not_reached, f c) refl)
+        | inr c ↦ (let is_past : n ≤ k = omega arith in rw (le-ltb k x b, le-ltb k n is_past) refl)
       ]
     ]
 
@@ -163,7 +163,7 @@ none_yet : (p : Plane) (x k y : ℕ) → ((k y : ℕ) → k < x → holds p y k 
 none_yet p x k y h =
     elim (cases_lt k x) [
       | inl a ↦ and_right (nat_lt k (span_start (holds p y) x)) (holds p y k) (h k y a)
-      | inr a ↦ (let w : span_start (holds p y) x ≤ x = span_start-within (holds p y) x in and_left (nat_lt k (span_start (holds p y) x)) (holds p y k) (le-ltb k (span_start (holds p y) x) (omega arith)))
+      | inr a ↦ (let not_past : span_start (holds p y) x ≤ x = span_start-within (holds p y) x in and_left (nat_lt k (span_start (holds p y) x)) (holds p y k) (le-ltb k (span_start (holds p y) x) (omega arith)))
     ]
 
 pub spans_none : (mark : Painter → ℕ → ℕ) (f : FloorView) (p : Plane) (x : ℕ) (canvas : CanvasView) → ((k y : ℕ) → k < x → holds p y k ≡ false) →
@@ -187,9 +187,9 @@ pub record IsPassing (shape : ViewShape) (p : Plane) (start : ℕ → ℕ) (befo
 passing_frame : (shape : ViewShape) (p : Plane) (start : ℕ → ℕ) (before now : Rows) (x : ℕ) (canvas : CanvasView) → IsPassing shape p start before now x canvas →
     (y : ℕ) → before.begin ≤ y → y < before.end → (0 < x) × (x + canvas.left < FRAME_WIDTH + 1) × (y + canvas.top < FRAME_HEIGHT)
 passing_frame shape p start before now x canvas i y l m =
-    let h : held_before p y x ≡ true = sym (i.held y) ∙ is_in-from before y l m in
-    let c = can_paint shape canvas.left canvas.top p i.seen (span_start (holds p y) x) x y h refl in
-    (omega (arith, c.begins), c.frame_column, c.frame_row)
+    let was_held : held_before p y x ≡ true = sym (i.held y) ∙ is_in-from before y l m in
+    let may_paint = can_paint shape canvas.left canvas.top p i.seen (span_start (holds p y) x) x y was_held refl in
+    (omega (arith, may_paint.begins), may_paint.frame_column, may_paint.frame_row)
 
 -- the pixels when column x is passed
 passed_pixel : (f : FloorView) (painter : Painter) (shape : ViewShape) (p : Plane) (start : ℕ → ℕ) (before now : Rows) (x n : ℕ) (canvas : CanvasView) (dots : List Dot) (k y : ℕ) →
@@ -198,15 +198,15 @@ passed_pixel : (f : FloorView) (painter : Painter) (shape : ViewShape) (p : Plan
     last_dot k y (dots ++ closed_dots f painter start before now x) ≡ cond (nat_lt k (span_start (holds p y) n) && holds p y k) (Some (plane_dot f painter p k y)) None
 passed_pixel f painter shape p start before now x n canvas dots k y e i h =
     let ends_here : Bool = not (nat_lt k (span_start (holds p y) x)) && nat_lt k x in
-    let d : Dot = plane_dot f painter p k y in
+    let dot : Dot = plane_dot f painter p k y in
     last_dot-append k y dots (closed_dots f painter start before now x)
     ∙ ap (λ (o : Option Dot). or_else o (last_dot k y dots))
     (closed_dots-at f painter start before now x k y i.before_ordered i.now_ordered
-    ∙ closed_pixel (is_in before y) (is_in now y) ends_here (last_dot k y (row_dots f painter y (start y) (x - 1))) d
+    ∙ closed_pixel (is_in before y) (is_in now y) ends_here (last_dot k y (row_dots f painter y (start y) (x - 1))) dot
     (λ t. ended_at f painter p (start y) x k y (i.starts y t) (start-before p y x (sym (i.held y) ∙ t))))
-    ∙ ap (or_else (cond ((is_in before y && not (is_in now y)) && ends_here) (Some d) None)) h
-    ∙ both_dots ((is_in before y && not (is_in now y)) && ends_here) (nat_lt k (span_start (holds p y) x) && holds p y k) d
-    ∙ ap (λ (b : Bool). cond b (Some d) None) (painted_more p y x n k e (is_in before y) (is_in now y) (sym (i.held y)) (sym (i.holding y)))
+    ∙ ap (or_else (cond ((is_in before y && not (is_in now y)) && ends_here) (Some dot) None)) h
+    ∙ both_dots ((is_in before y && not (is_in now y)) && ends_here) (nat_lt k (span_start (holds p y) x) && holds p y k) dot
+    ∙ ap (λ (b : Bool). cond b (Some dot) None) (painted_more p y x n k e (is_in before y) (is_in now y) (sym (i.held y)) (sym (i.holding y)))
 
 pub spans_more : (mark : Painter → ℕ → ℕ) (f : FloorView) (shape : ViewShape) (p : Plane) (start : ℕ → ℕ) (before now : Rows) (x n : ℕ) (canvas mid after : CanvasView) →
     x + 1 ≡ n → IsPassing shape p start before now x canvas → HasSpans mark f p (λ y. span_start (holds p y) x) canvas mid →
@@ -222,7 +222,7 @@ spans_more mark f shape p start before now x n canvas mid after e i h g = record
 
 -- all pixels are painted: where that is told otherwise makes no difference
 until_same : (a b k : ℕ) (h : Bool) → (h ≡ true → k < a) → (h ≡ true → k < b) → (nat_lt k a && h) ≡ (nat_lt k b && h)
-until_same a b k true l m = (let i = l refl in let j = m refl in rw (lt-ltb k a i, lt-ltb k b j) refl)
+until_same a b k true l m = (let below_a = l refl in let below_b = m refl in rw (lt-ltb k a below_a, lt-ltb k b below_b) refl)
 until_same a b k false l m = and_right (nat_lt k a) false refl ∙ sym (and_right (nat_lt k b) false refl)
 
 pub spans_all : (mark : Painter → ℕ → ℕ) (f : FloorView) (p : Plane) (u v : ℕ → ℕ) (canvas after : CanvasView) → HasSpans mark f p u canvas after →
@@ -231,5 +231,5 @@ spans_all mark f p u v canvas after h l m = record {
   dots = h.dots;
   painted = h.painted;
   in_frame = h.in_frame;
-  pixels = λ k y. h.pixels k y ∙ ap (λ (b : Bool). cond b (Some (plane_dot f canvas.painter p k y)) None) (until_same (u y) (v y) k (holds p y k) (l k y) (m k y));
+  pixels = λ k y. h.pixels k y ∙ ap (λ b. cond b (Some (plane_dot f canvas.painter p k y)) None) (until_same (u y) (v y) k (holds p y k) (l k y) (m k y));
 }

@@ -41,16 +41,16 @@ holds_at : (p : Plane) (x y : ℕ) (r : ℕ × ℕ) → column p x ≡ Some r �
 unfolding holds holds_row
 holds_at p x y r e l m = rw e (and_from (nat_le r.0 y) (nat_le y r.1) (le-leb r.0 y l) (le-leb y r.1 m))
 
-frame_run : (shape : ViewShape) (left top : ℕ) (p : Plane) → IsSeen shape left top p → (painter : Painter) (x : ℕ) (colour : ℕ → ℕ) (r : Option (ℕ × ℕ)) → column p x ≡ r →
-    AreInFrame left top (run_dots painter x colour r)
+frame_run : (shape : ViewShape) (left top : ℕ) (p : Plane) → IsSeen shape left top p → (painter : Painter) (x : ℕ) (colour : ℕ → ℕ) (r : Option (ℕ × ℕ)) →
+    column p x ≡ r → AreInFrame left top (run_dots painter x colour r)
 unfolding run_dots
 frame_run shape left top p seen painter x colour None e = tt
 frame_run shape left top p seen painter x colour (Some r) e =
     elim (cases_lt r.1 r.0) [
       | inl a ↦ rw (listed_from-none (λ y. y) r.0 r.1 a, column_dots-none) tt
       | inr a ↦
-          let h : holds p r.1 x ≡ true = holds_at p x r.1 r e a (omega arith) in
-          in_frame-column_dots painter left top x colour r.0 r.1 (seen.frame_column x r.1 h) (seen.frame_row x r.1 h)
+          let holds_last : holds p r.1 x ≡ true = holds_at p x r.1 r e a (omega arith) in
+          in_frame-column_dots painter left top x colour r.0 r.1 (seen.frame_column x r.1 holds_last) (seen.frame_row x r.1 holds_last)
     ]
 
 floor_dots-frame : (v : ViewValue) (art : Art) (n lump left top : ℕ) (p : Plane) → IsSeen v.shape left top p → AreInFrame left top (floor_dots v art n lump p)
@@ -71,15 +71,15 @@ same_colour v art lump p flat colormap x y g =
 
 no_pixel : (shape : ViewShape) (left top : ℕ) (p : Plane) → IsSeen shape left top p → (x y : ℕ) → shape.width ≤ x → (b : Bool) → holds p y x ≡ b → b ≡ false
 no_pixel shape left top p seen x y l false h = refl
-no_pixel shape left top p seen x y l true h = absurd (let w : x < shape.width = seen.column x y h in omega arith)
+no_pixel shape left top p seen x y l true h = absurd (let in_view : x < shape.width = seen.column x y h in omega arith)
 
 within_frame : (shape : ViewShape) (left top : ℕ) (p : Plane) → IsSeen shape left top p → (x y : ℕ) (b : Bool) → holds p y x ≡ b → (nat_lt x FRAME_WIDTH && b) ≡ b
-within_frame shape left top p seen x y true h = (let w : x + left < FRAME_WIDTH = seen.frame_column x y h in let m : x < FRAME_WIDTH = omega arith in rw (lt-ltb x FRAME_WIDTH m) refl)
+within_frame shape left top p seen x y true h = (let in_canvas : x + left < FRAME_WIDTH = seen.frame_column x y h in let in_frame : x < FRAME_WIDTH = omega arith in rw (lt-ltb x FRAME_WIDTH in_frame) refl)
 within_frame shape left top p seen x y false h = and_right (nat_lt x FRAME_WIDTH) false refl
 
 -- so each pixel has the same dot
-same_dot : (v : ViewValue) (art : Art) (n lump : ℕ) (p : Plane) (flat colormap : List ℕ) (left top : ℕ) (painter : Painter) (x y : ℕ) → GivesFlat art lump flat colormap →
-    IsSeen v.shape left top p → painter ≡ painter_of PLANE n (lump_source lump) →
+same_dot : (v : ViewValue) (art : Art) (n lump : ℕ) (p : Plane) (flat colormap : List ℕ) (left top : ℕ) (painter : Painter) (x y : ℕ) →
+    GivesFlat art lump flat colormap → IsSeen v.shape left top p → painter ≡ painter_of PLANE n (lump_source lump) →
     cond (nat_lt x FRAME_WIDTH && holds p y x) (Some (plane_dot (record { view = v; key = p.key; flat = flat; colormap = colormap }) painter p x y)) None
     ≡ last_dot x y (floor_dots v art n lump p)
 unfolding plane_dot

@@ -21,7 +21,8 @@ flat_refl (Lump n) = eq-eqb n n refl
 
 same_key-refl : (a : PlaneKey) → same_key a a ≡ true
 unfolding same_key same_word
-same_key-refl a = and_from _ _ (eq-eqb (bits_of a.height) (bits_of a.height) refl) (and_from _ _ (flat_refl a.flat) (eq-eqb (bits_of a.light) (bits_of a.light) refl))
+same_key-refl a =
+    and_from _ _ (eq-eqb (bits_of a.height) (bits_of a.height) refl) (and_from _ _ (flat_refl a.flat) (eq-eqb (bits_of a.light) (bits_of a.light) refl))
 
 -- equal keys are equal to the same keys
 same_key-right : (a b c : PlaneKey) → same_key b c ≡ true → same_key a b ≡ same_key a c
@@ -48,7 +49,7 @@ unfolding number_of
 first-found planes key n e =
     let at = position-Some (λ p. same_key p.key key) planes n no_plane e in
     record {
-      within = (let l = at.0 in omega arith);
+      within = (let is_there = at.0 in omega arith);
       first = λ l. number_of-same planes (plane_at planes n).key key at.1 ∙ e;
     }
 
@@ -67,13 +68,13 @@ position_push_none test planes p e t =
 pub first-push : (planes : List Plane) (p : Plane) (n : ℕ) → IsFirst planes n → IsFirst (planes ++ p ∷ []) n
 unfolding number_of
 first-push [] p n f =
-    let none : n ≡ 0 = (let w = f.within in omega arith) in
+    let none : n ≡ 0 = (let was_within = f.within in omega arith) in
     subst (λ (m : ℕ). IsFirst (p ∷ []) m) (sym none) (record {
       within = omega arith;
       first = λ l. position_push_none (λ q. same_key q.key p.key) [] p refl (same_key-refl p.key);
     })
 first-push (q ∷ qs) p n f =
-    let inside : n < length (q ∷ qs) = (let w = f.within in omega arith) in
+    let inside : n < length (q ∷ qs) = (let was_within = f.within in omega arith) in
     let same : get_or ((q ∷ qs) ++ p ∷ []) n no_plane ≡ get_or (q ∷ qs) n no_plane = get_or_append_left (q ∷ qs) (p ∷ []) no_plane n inside in
     record {
       within = omega (arith, length_push (q ∷ qs) p);
@@ -107,7 +108,7 @@ position_put test planes i p e = grind (arith, common_steps)
 pub first-put : (planes : List Plane) (i n : ℕ) (p : Plane) → p.key ≡ (plane_at planes i).key → i < length planes → IsFirst planes n → IsFirst (set planes i p) n
 unfolding number_of
 first-put planes i n p e l f = record {
-  within = (let w = f.within in omega (arith, length-set planes i p));
+  within = (let was_within = f.within in omega (arith, length-set planes i p));
   first = λ inside.
       ap (number_of (set planes i p)) (keys_put planes i n p e l)
       ∙ position_put (λ q. same_key q.key (plane_at planes n).key) planes i p (ap (λ (k : PlaneKey). same_key k (plane_at planes n).key) e)
@@ -119,8 +120,8 @@ pub first-put_next : (planes : List Plane) (count n : ℕ) (p : Plane) → count
 first-put_next planes count n p l f =
     subst (λ (ps : List Plane). IsFirst ps n) (sym (take_more_set planes count p l)) (first-push (take count planes) p n f)
 
-pub first-marked : (planes : List Plane) (count i n x : ℕ) (rows : ℕ × ℕ) (p marked : Plane) → i < count → count ≤ length planes → p ≡ get_or planes i p → marked ≡ with_run p x rows →
-    IsFirst (take count planes) n → IsFirst (take count (set planes i marked)) n
+pub first-marked : (planes : List Plane) (count i n x : ℕ) (rows : ℕ × ℕ) (p marked : Plane) → i < count → count ≤ length planes → p ≡ get_or planes i p →
+    marked ≡ with_run p x rows → IsFirst (take count planes) n → IsFirst (take count (set planes i marked)) n
 unfolding with_run
 first-marked planes count i n x rows p marked l m e g f =
     let read : p ≡ plane_at (take count planes) i = e ∙ get_or_default planes i p no_plane (omega arith) ∙ sym (get_or-take count planes i no_plane l) in

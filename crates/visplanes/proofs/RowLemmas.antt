@@ -10,7 +10,7 @@ is_in-from rows y l m = and_from (nat_le rows.begin y) (nat_lt y rows.end) (le-l
 
 pub is_in-parts : (rows : Rows) (y : ℕ) → is_in rows y ≡ true → (rows.begin ≤ y) × (y < rows.end)
 unfolding is_in
-is_in-parts rows y h = let a = and_parts (nat_le rows.begin y) (nat_lt y rows.end) h in (leb-true rows.begin y a.0, ltb-true y rows.end a.1)
+is_in-parts rows y h = let bounds = and_parts (nat_le rows.begin y) (nat_lt y rows.end) h in (leb-true rows.begin y bounds.0, ltb-true y rows.end bounds.1)
 
 -- a row that is not in them is above or below
 pub is_in-not : (rows : Rows) (y : ℕ) → is_in rows y ≡ false → (y < rows.begin) ⊎ (rows.end ≤ y)

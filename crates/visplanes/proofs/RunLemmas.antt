@@ -26,9 +26,9 @@ row_runs-from p y l = ap (runs 0) (take_all FRAME_WIDTH (plane_gaps p y) (omega 
 pub runs_from-off : (p : Plane) (y x n : ℕ) → x + 1 ≡ n → x < length p.runs → holds p y x ≡ false → runs_from p y n ≡ runs_from p y x
 unfolding runs_from runs
 runs_from-off p y x n e l h =
-    let w : x < length (plane_gaps p y) = omega (arith, length-gaps p y) in
+    let is_there : x < length (plane_gaps p y) = omega (arith, length-gaps p y) in
     ap (λ (i : ℕ). runs i (drop i (plane_gaps p y))) (sym e)
-    ∙ sym (ap (runs x) (drop_more (plane_gaps p y) x true w ∙ ap (λ (b : Bool). b ∷ drop (x + 1) (plane_gaps p y)) (gap_off p y x l h)))
+    ∙ sym (ap (runs x) (drop_more (plane_gaps p y) x true is_there ∙ ap (λ (b : Bool). b ∷ drop (x + 1) (plane_gaps p y)) (gap_off p y x l h)))
 
 -- so are all columns before the first one that holds it
 skipped : (p : Plane) (y x : ℕ) → x ≤ length p.runs → ((k : ℕ) → k < x → holds p y k ≡ false) → runs_from p y x ≡ runs_from p y 0
@@ -51,12 +51,12 @@ runs_from-past p y x l = ap (runs x) (drop_none (plane_gaps p y) x (omega (arith
 
 -- n columns that hold the row come first
 held : (n x : ℕ) (g : List Bool) → x + n ≤ length g → ((k : ℕ) → x ≤ k → k < x + n → get_or g k true ≡ false) → drop x g ≡ replicate n false ++ drop (x + n) g
-held zero x g l h = let e : x ≡ x + 0 = omega arith in ap (λ (i : ℕ). drop i g) e
+held zero x g l h = let same_place : x ≡ x + 0 = omega arith in ap (λ (i : ℕ). drop i g) same_place
 held (suc n) x g l h =
-    let e : x + 1 + n ≡ x + suc n = omega arith in
+    let same_place : x + 1 + n ≡ x + suc n = omega arith in
     drop_more g x true (omega arith)
     ∙ ap (λ (b : Bool). b ∷ drop (x + 1) g) (h x (omega arith) (omega arith))
-    ∙ ap (λ (bs : List Bool). false ∷ bs) (held n (x + 1) g (omega arith) (λ k a b. h k (omega arith) (omega arith)) ∙ ap (λ (i : ℕ). replicate n false ++ drop i g) e)
+    ∙ ap (λ bs. false ∷ bs) (held n (x + 1) g (omega arith) (λ k a b. h k (omega arith) (omega arith)) ∙ ap (λ i. replicate n false ++ drop i g) same_place)
 
 gap_end : (p : Plane) (y end : ℕ) → holds p y end ≡ false → get_or (plane_gaps p y) end true ≡ true
 gap_end p y end h =
@@ -68,19 +68,19 @@ gap_end p y end h =
 open_end : (p : Plane) (y end : ℕ) → (end ≡ length p.runs) ⊎ (holds p y end ≡ false) → get_or (drop end (plane_gaps p y)) 0 true ≡ true
 open_end p y end (inl e) = get_or-drop end (plane_gaps p y) 0 true ∙ get_or_past (plane_gaps p y) (end + 0) true (omega (arith, length-gaps p y))
 open_end p y end (inr h) =
-    let i : end + 0 ≡ end = omega arith in
-    get_or-drop end (plane_gaps p y) 0 true ∙ ap (λ (k : ℕ). get_or (plane_gaps p y) k true) i ∙ gap_end p y end h
+    let same_place : end + 0 ≡ end = omega arith in
+    get_or-drop end (plane_gaps p y) 0 true ∙ ap (λ (k : ℕ). get_or (plane_gaps p y) k true) same_place ∙ gap_end p y end h
 
 -- a run of columns that hold the row, which ends before `end`
 pub runs_from-run : (p : Plane) (y first end : ℕ) → first < end → end ≤ length p.runs → ((k : ℕ) → first ≤ k → k < end → holds p y k ≡ true) →
     (end ≡ length p.runs) ⊎ (holds p y end ≡ false) → runs_from p y first ≡ (first, end - 1) ∷ runs_from p y end
 unfolding runs_from
 runs_from-run p y first end l m h o =
-    let n : ℕ = end - first - 1 in
-    let a : first + suc n ≡ end = omega arith in
-    let b : first + n ≡ end - 1 = omega arith in
-    let c : first + n + 1 ≡ end = omega arith in
-    ap (runs first) (held (suc n) first (plane_gaps p y) (omega (arith, length-gaps p y)) (λ k d e. gap_on p y k (omega arith) (h k d (omega arith))) ∙ ap (λ (i : ℕ). replicate (suc n) false ++ drop i (plane_gaps p y)) a)
-    ∙ runs-open n first (drop end (plane_gaps p y)) (open_end p y end o)
-    ∙ ap (λ (i : ℕ). (first, i) ∷ runs (first + n + 1) (drop end (plane_gaps p y))) b
-    ∙ ap (λ (i : ℕ). (first, end - 1) ∷ runs i (drop end (plane_gaps p y))) c
+    let more : ℕ = end - first - 1 in
+    let reaches_end : first + suc more ≡ end = omega arith in
+    let reaches_last : first + more ≡ end - 1 = omega arith in
+    let goes_on : first + more + 1 ≡ end = omega arith in
+    ap (runs first) (held (suc more) first (plane_gaps p y) (omega (arith, length-gaps p y)) (λ k d e. gap_on p y k (omega arith) (h k d (omega arith))) ∙ ap (λ (i : ℕ). replicate (suc more) false ++ drop i (plane_gaps p y)) reaches_end)
+    ∙ runs-open more first (drop end (plane_gaps p y)) (open_end p y end o)
+    ∙ ap (λ (i : ℕ). (first, i) ∷ runs (first + more + 1) (drop end (plane_gaps p y))) reaches_last
+    ∙ ap (λ (i : ℕ). (first, end - 1) ∷ runs i (drop end (plane_gaps p y))) goes_on

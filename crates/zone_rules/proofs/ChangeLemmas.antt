@@ -42,7 +42,8 @@ free_same x y e = by_use is_none (λ u. is_none u) told x y e where
 owns_same : (bs : List Block) (x y : Option Holding) → use_of x ≡ use_of y → OwnsOnce y bs → OwnsOnce x bs
 owns_same bs None y e k = tt
 owns_same bs (Some g) None e k = cc
-owns_same bs (Some g) (Some h) e k = let i : item g.owner g.asked ≡ item h.owner h.asked = cc in subst (λ (u : Item). Lacks u.owner bs) (sym i) k
+owns_same bs (Some g) (Some h) e k =
+    let same_item : item g.owner g.asked ≡ item h.owner h.asked = cc in subst (λ (u : Item). Lacks u.owner bs) (sym same_item) k
 
 module _ (f : Block → Block) (k : KeepsUse f) where
   pub Tiles-map : (p q : ℕ) (bs : List Block) → Tiles p q bs → Tiles p q (map f bs)
@@ -144,7 +145,8 @@ module _ (o : Owner) (w : List ℕ) where
 
     go : (t : Bool) → is_held_by o b ≡ t → (is_held_by o b ≡ false → AllFit l m (map (write_block o w) bs))
         → FitsHolding l m (cond t (record b { holding = write_holding w b.holding }) b).size (cond t (record b { holding = write_holding w b.holding }) b).holding × AllFit l m (map (write_block o w) bs)
-    go true k rest = (fits_same l m b.size b.holding (λ h x. e h (holding_here k ∙ x)) f.0, subst (AllFit l m) (sym (write_none bs (lacks_held o b.holding bs k u.0))) f.1)
+    go true k rest =
+        (fits_same l m b.size b.holding (λ h x. e h (holding_here k ∙ x)) f.0, subst (AllFit l m) (sym (write_none bs (lacks_held o b.holding bs k u.0))) f.1)
     go false k rest = (f.0, rest k)
 
   pub with_bytes_sound : (z : Heap) → IsSound z → ((h : Holding) → holding_of o z.blocks ≡ Some h → length w ≡ h.asked) → IsSound (with_bytes o w z)

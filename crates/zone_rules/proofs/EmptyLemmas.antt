@@ -16,7 +16,7 @@ no_holding b bs e = go b.holding refl where
   go None k = refl
   go (Some h) k =
       let same : same_owner h.owner h.owner ≡ true = and_from (h.owner.kind == h.owner.kind) (h.owner.number == h.owner.number) (eq-eqb h.owner.kind h.owner.kind refl) (eq-eqb h.owner.number h.owner.number refl) in
-      let x : Some b ≡ None = sym (cond-true (is_held_by h.owner b) (Some b) (owned_block h.owner bs) (ap (holds_for h.owner) k ∙ same)) ∙ e h.owner in
+      let impossible : Some b ≡ None = sym (cond-true (is_held_by h.owner b) (Some b) (owned_block h.owner bs) (ap (holds_for h.owner) k ∙ same)) ∙ e h.owner in
       cc
 
 none_free : (b : Block) → b.holding ≡ None → is_free b ≡ true
@@ -25,21 +25,21 @@ none_free b e = ap (λ h. is_free (record b { holding = h })) e
 pub empty_is : (q : ℕ) (bs : List Block) → Tiles 0 q bs → Apart bs → ((o : Owner) → owned_block o bs ≡ None) → 0 < q → bs ≡ free_block 0 q ∷ []
 empty_is q [] t a e pos = absurd (omega (arith, t, pos))
 empty_is q (b ∷ []) t a e pos =
-    let h = no_holding b [] e in
-    let s : b.size ≡ q = omega (arith, t.2) in
-    let p = t.0 in
-    let k : b ≡ free_block 0 q = λ i. record { place = p i; size = s i; holding = h i } in
-    ap (λ (c : Block). c ∷ []) k
+    let holds_none = no_holding b [] e in
+    let size_is : b.size ≡ q = omega (arith, t.2) in
+    let place_is = t.0 in
+    let is_free_block : b ≡ free_block 0 q = λ i. record { place = place_is i; size = size_is i; holding = holds_none i } in
+    ap (λ (c : Block). c ∷ []) is_free_block
 empty_is q (b ∷ c ∷ bs) t a e pos =
-    let h = no_holding b (c ∷ bs) e in
-    let k = no_holding c bs (λ o. sym (cond-false (is_held_by o b) (Some b) (owned_block o (c ∷ bs)) (ap (holds_for o) h)) ∙ e o) in
-    absurd (false≢true (sym a.0 ∙ and_from (is_free b) (is_free c) (none_free b h) (none_free c k)))
+    let holds_none = no_holding b (c ∷ bs) e in
+    let next_holds_none = no_holding c bs (λ o. sym (cond-false (is_held_by o b) (Some b) (owned_block o (c ∷ bs)) (ap (holds_for o) holds_none)) ∙ e o) in
+    absurd (false≢true (sym a.0 ∙ and_from (is_free b) (is_free c) (none_free b holds_none) (none_free c next_holds_none)))
 
 pub sound_size : (z : Heap) → IsSound z → 0 < z.size
 sound_size z s = go z.blocks s.tiles s.rover where
   go : (bs : List Block) → Tiles 0 z.size bs → has_place z.rover bs ≡ true → 0 < z.size
   go [] t r = absurd (false≢true r)
-  go (b ∷ bs) t r = let k = tiles_le (0 + b.size) z.size bs t.2 in omega (arith, k, t.1)
+  go (b ∷ bs) t r = let rest_fits = tiles_le (0 + b.size) z.size bs t.2 in omega (arith, rest_fits, t.1)
 
 -- where a request of an empty zone goes
 pub empty_place : (w p : ℕ) (z : Heap) → IsSound z → 0 < w → ((o : Owner) → owned_block o z.blocks ≡ None) → first_room w (stretches z.rover z.blocks) ≡ Some p → p ≡ 0
@@ -58,10 +58,10 @@ empty_place w p z s pos e found = go (cases_lt z.size w) where
 
   go : (z.size < w) ⊎ (w ≤ z.size) → p ≡ 0
   go (inl small) =
-      let t = total-cons (free_block 0 z.size) [] in
-      let none = All-cons (λ g. total g < w) (free_block 0 z.size ∷ []) [] (omega (arith, t, small)) (All-nil (λ g. total g < w)) in
+      let total_is = total-cons (free_block 0 z.size) [] in
+      let none = All-cons (λ g. total g < w) (free_block 0 z.size ∷ []) [] (omega (arith, total_is, small)) (All-nil (λ g. total g < w)) in
       absurd (full_some w z.rover p z.size z.blocks pos s.tiles found (subst (λ bs. All (λ g. total g < w) (gaps bs)) (sym is) none))
   go (inr large) =
-      let k : first_room w (stretches z.rover z.blocks) ≡ Some 0 = ap (λ bs. first_room w (stretches z.rover bs)) is ∙ ap (λ r. first_room w (stretches r (free_block 0 z.size ∷ []))) rover_is ∙ rest_found w 0 z.size size large [] tt tt in
-      let x : Some p ≡ Some 0 = sym found ∙ k in
+      let found_at_start : first_room w (stretches z.rover z.blocks) ≡ Some 0 = ap (λ bs. first_room w (stretches z.rover bs)) is ∙ ap (λ r. first_room w (stretches r (free_block 0 z.size ∷ []))) rover_is ∙ rest_found w 0 z.size size large [] tt tt in
+      let same_place : Some p ≡ Some 0 = sym found ∙ found_at_start in
       cc

@@ -17,13 +17,13 @@ one_part size (Some h) = go (is_purgeable_tag h.tag) where
 pub parts_total : (bs : List Block) → used_size bs + purgeable_size bs + free_size bs ≡ total bs
 parts_total [] = refl
 parts_total (b ∷ bs) =
-    let a = sum_by-cons (λ (c : Block). cond (is_pinned c) c.size 0) b bs in
-    let d = sum_by-cons (λ (c : Block). cond (is_purgeable c) c.size 0) b bs in
-    let e = sum_by-cons (λ (c : Block). cond (is_free c) c.size 0) b bs in
-    let f = total-cons b bs in
-    let g = one_part b.size b.holding in
-    let k = parts_total bs in
+    let used_sum = sum_by-cons (λ (c : Block). cond (is_pinned c) c.size 0) b bs in
+    let purgeable_sum = sum_by-cons (λ (c : Block). cond (is_purgeable c) c.size 0) b bs in
+    let free_sum = sum_by-cons (λ (c : Block). cond (is_free c) c.size 0) b bs in
+    let total_is = total-cons b bs in
+    let block_parts = one_part b.size b.holding in
+    let rest_parts = parts_total bs in
     omega arith
 
 pub parts_are_size : (size : ℕ) (bs : List Block) → Tiles 0 size bs → used_size bs + purgeable_size bs + free_size bs ≡ size
-parts_are_size size bs t = let e = tiles_end 0 size bs t in let k = parts_total bs in omega arith
+parts_are_size size bs t = let end_is = tiles_end 0 size bs t in let parts_sum = parts_total bs in omega arith

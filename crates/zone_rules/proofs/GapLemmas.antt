@@ -14,7 +14,7 @@ total-cons b g = sum_by-cons (λ (c : Block). c.size) b g
 in_front_wider : (b : Block) (o : Bool) (gs : List (List Block)) → widest gs ≤ widest (in_front b o gs)
 in_front_wider b false gs = omega arith
 in_front_wider b true [] = omega arith
-in_front_wider b true (g ∷ gs) = let e = total-cons b g in omega arith
+in_front_wider b true (g ∷ gs) = let total_is = total-cons b g in omega arith
 
 wider_more : (b : Block) (bs : List Block) → widest (gaps bs) ≤ widest (gaps (b ∷ bs))
 wider_more b bs = go (is_pinned b) where
@@ -47,18 +47,18 @@ none_found w [] pos e = pos
 none_found w (g ∷ gs) pos e = go (holds w g) refl e (λ k. none_found w gs pos k) where
   go : (t : Bool) → holds w g ≡ t → option_map first_place (cond t (Some g) (find (holds w) gs)) ≡ None → (first_room w gs ≡ None → widest gs < w) → max (total g) (widest gs) < w
   go true h e rest = cc
-  go false h e rest = let k = rest e in let l = leb-false w (total g) h in omega arith
+  go false h e rest = let rest_is_less = rest e in let gap_is_less = leb-false w (total g) h in omega arith
 
 pub some_found : (w p : ℕ) (gs : List (List Block)) → first_room w gs ≡ Some p → w ≤ widest gs
 some_found w p [] e = cc
 some_found w p (g ∷ gs) e = go (holds w g) refl e (λ k. some_found w p gs k) where
   go : (t : Bool) → holds w g ≡ t → option_map first_place (cond t (Some g) (find (holds w) gs)) ≡ Some p → (first_room w gs ≡ Some p → w ≤ widest gs) → w ≤ max (total g) (widest gs)
-  go true h e rest = let l = leb-true w (total g) h in omega arith
-  go false h e rest = let k = rest e in omega arith
+  go true h e rest = let gap_is_enough = leb-true w (total g) h in omega arith
+  go false h e rest = let rest_is_enough = rest e in omega arith
 
 pub widest-append : (xs bs : List (List Block)) → widest (xs ++ bs) ≡ max (widest xs) (widest bs)
 widest-append [] bs = omega arith
-widest-append (a ∷ xs) bs = let e = widest-append xs bs in omega arith
+widest-append (a ∷ xs) bs = let rest_is_widest = widest-append xs bs in omega arith
 
 pub all_small : (w : ℕ) (gs : List (List Block)) → widest gs < w → All (λ g. total g < w) gs
 all_small w [] h = All-nil (λ g. total g < w)
@@ -67,6 +67,6 @@ all_small w (g ∷ gs) h = All-cons (λ x. total x < w) g gs (omega arith) (all_
 pub small_all : (w : ℕ) (gs : List (List Block)) → 0 < w → All (λ g. total g < w) gs → widest gs < w
 small_all w [] pos a = pos
 small_all w (g ∷ gs) pos a =
-    let h = All-head (λ x. total x < w) g gs a in
-    let k = small_all w gs pos (All-tail (λ x. total x < w) g gs a) in
+    let gap_is_less = All-head (λ x. total x < w) g gs a in
+    let rest_is_less = small_all w gs pos (All-tail (λ x. total x < w) g gs a) in
     omega arith

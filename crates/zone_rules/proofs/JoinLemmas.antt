@@ -11,7 +11,7 @@ tiles_on : (p q : ℕ) (b : Block) (bs : List Block) → b.place ≡ p → 24 �
 tiles_on p q b [] e h t = (e, h, t)
 tiles_on p q b (c ∷ cs) e h t = go (is_free b && is_free c) where
   go : (u : Bool) → Tiles p q (cond u (free_block b.place (b.size + c.size) ∷ cs) (b ∷ c ∷ cs))
-  go true = (e, omega arith, let k : p + b.size + c.size ≡ p + (b.size + c.size) = omega arith in subst (λ n. Tiles n q cs) k t.2)
+  go true = (e, omega arith, let same_end : p + b.size + c.size ≡ p + (b.size + c.size) = omega arith in subst (λ n. Tiles n q cs) same_end t.2)
   go false = (e, h, t)
 
 pub Tiles-join_free : (p q : ℕ) (bs : List Block) → Tiles p q bs → Tiles p q (join_free bs)
@@ -22,7 +22,7 @@ apart_on : (b : Block) (bs : List Block) → Apart bs → Apart (join_on b bs)
 apart_on b [] a = (and_right (is_free b) false refl, tt)
 apart_on b (c ∷ cs) a = go (is_free b && is_free c) refl where
   go : (u : Bool) → (is_free b && is_free c) ≡ u → Apart (cond u (free_block b.place (b.size + c.size) ∷ cs) (b ∷ c ∷ cs))
-  go true e = let k : is_free c ≡ true = (and_parts (is_free b) (is_free c) e).1 in (ap (λ t. t && starts_free cs) (sym k) ∙ a.0, a.1)
+  go true e = let next_is_free : is_free c ≡ true = (and_parts (is_free b) (is_free c) e).1 in (ap (λ t. t && starts_free cs) (sym next_is_free) ∙ a.0, a.1)
   go false e = (e, a)
 
 pub Apart-join_free : (bs : List Block) → Apart (join_free bs)
@@ -99,8 +99,8 @@ pub join_free-append : (xs ys : List Block) → EndsHeld xs → join_free (xs ++
 join_free-append [] ys h = refl
 join_free-append (x ∷ []) ys h = on_held x (join_free ys) h
 join_free-append (x ∷ y ∷ xs) ys h =
-    let k = on_headed y (join_free xs) in
-    ap (join_on x) (join_free-append (y ∷ xs) ys h ∙ ap (λ zs. zs ++ join_free ys) k.is) ∙ on_append x k.tail (join_free ys) k.head ∙ ap (λ zs. join_on x zs ++ join_free ys) (sym k.is)
+    let headed = on_headed y (join_free xs) in
+    ap (join_on x) (join_free-append (y ∷ xs) ys h ∙ ap (λ zs. zs ++ join_free ys) headed.is) ∙ on_append x headed.tail (join_free ys) headed.head ∙ ap (λ zs. join_on x zs ++ join_free ys) (sym headed.is)
 
 abbrev pub AllFree : List Block → Type 0
 AllFree [] = ⊤
@@ -128,9 +128,9 @@ begin_on b (c ∷ cs) e = go (is_free b && is_free c) where
 
 begin_more : (b : Block) (place least : ℕ) (bs : List Block) → is_free b ≡ true → Begins place least bs → Begins b.place (b.size + least) (join_on b bs)
 begin_more b place least bs e k =
-    record { size = b.size + k.size; rest = k.rest; is = ap (join_on b) k.is ∙ cond-true _ _ _ (and_from (is_free b) true e refl); large = let l = k.large in omega arith }
+    record { size = b.size + k.size; rest = k.rest; is = ap (join_on b) k.is ∙ cond-true _ _ _ (and_from (is_free b) true e refl); large = let is_large = k.large in omega arith }
 
 pub run_begins : (b : Block) (bs ys : List Block) → AllFree (b ∷ bs) → Begins b.place (total (b ∷ bs)) (join_free ((b ∷ bs) ++ ys))
-run_begins b [] ys f = let k = begin_on b (join_free ys) f.0 in record { size = k.size; rest = k.rest; is = k.is; large = let e = total-cons b [] in let l = k.large in omega arith }
+run_begins b [] ys f = let begun = begin_on b (join_free ys) f.0 in record { size = begun.size; rest = begun.rest; is = begun.is; large = let total_is = total-cons b [] in let is_large = begun.large in omega arith }
 run_begins b (c ∷ bs) ys f =
-    let k = begin_more b c.place (total (c ∷ bs)) (join_free ((c ∷ bs) ++ ys)) f.0 (run_begins c bs ys f.1) in record { size = k.size; rest = k.rest; is = k.is; large = let e = total-cons b (c ∷ bs) in let l = k.large in omega arith }
+    let begun = begin_more b c.place (total (c ∷ bs)) (join_free ((c ∷ bs) ++ ys)) f.0 (run_begins c bs ys f.1) in record { size = begun.size; rest = begun.rest; is = begun.is; large = let total_is = total-cons b (c ∷ bs) in let is_large = begun.large in omega arith }

@@ -23,7 +23,8 @@ exact_same : (size : ℕ) (x y : Option Holding) → use_of x ≡ use_of y → I
 exact_same size None None e k = k
 exact_same size None (Some h) e k = cc
 exact_same size (Some h) None e k = absurd k
-exact_same size (Some g) (Some h) e k = let i : item g.owner g.asked ≡ item h.owner h.asked = cc in k ∙ ap (λ (u : Item). block_size u.size) (sym i)
+exact_same size (Some g) (Some h) e k =
+    let same_item : item g.owner g.asked ≡ item h.owner h.asked = cc in k ∙ ap (λ (u : Item). block_size u.size) (sym same_item)
 
 none_same : (x : Option Holding) → use_of x ≡ None → x ≡ None
 none_same None e = refl
@@ -53,11 +54,11 @@ module _ (f : Block → Block) (k : KeepsUse f) where
 
   free-map : (r n : ℕ) → f (free_block r n) ≡ free_block r n
   free-map r n =
-      let b = free_block r n in
-      let p = k.place b in
-      let s = k.size b in
-      let h = none_same (f b).holding (k.same b) in
-      λ i. record { place = p i; size = s i; holding = h i }
+      let block = free_block r n in
+      let place_is = k.place block in
+      let size_is = k.size block in
+      let holding_is = none_same (f block).holding (k.same block) in
+      λ i. record { place = place_is i; size = size_is i; holding = holding_is i }
 
   rest-map : (r : ℕ) (bs : List Block) → LeavesRest r bs → LeavesRest r (map f bs)
   rest-map r bs l = record {
@@ -79,7 +80,7 @@ module _ (f : Block → Block) (k : KeepsUse f) where
   order-map items z taken o = record {
     order = record { roomy = o.roomy; listed = listed-map items z.blocks o.listed; first = first-map z.blocks o.first; left = left-map items z.rover z.blocks o.left };
     stays = λ p e. live-map p z.blocks ∙ e;
-    taken = let s = sum-map items z.blocks in omega (arith, s);
+    taken = let same_sum = sum-map items z.blocks in omega (arith, same_sum);
   }
 
 -- a new tag

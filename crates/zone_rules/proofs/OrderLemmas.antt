@@ -14,7 +14,8 @@ use Rattle.zone_rules.proofs.OrderRequestLemmas.{Below, front_total, front_ends,
 
 -- a new zone is in order for every list that it has room for
 pub order_fresh : (items : List Item) (size lumps composites : ℕ) → AreRoomy size items → IsInOrder items (fresh_heap size lumps composites)
-order_fresh items size lumps composites a = record { roomy = a; listed = (refl, tt); first = tt; left = inr (record { front = []; rest = size; is = refl; exact = tt }) }
+order_fresh items size lumps composites a =
+    record { roomy = a; listed = (refl, tt); first = tt; left = inr (record { front = []; rest = size; is = refl; exact = tt }) }
 
 -- no call, and one after another
 pub order_none : (items : List Item) (z : Heap) (taken : ℕ) → IsInOrder items z → KeepsOrder items z z taken taken
@@ -52,29 +53,29 @@ module _ (items : List Item) (z : Heap) (s : IsSound z) (ord : IsInOrder items z
   below = front_below 0 z.size z.rover r.rest r.front tiles
 
   front_sum : (f : Item → ℕ) → live_sum f items z.blocks ≡ held_sum f r.front
-  front_sum f = let a = ap (held_sum f) r.is in let b = held_sum-append f r.front (free_block z.rover r.rest ∷ []) in let c = live_is_held f items z.blocks ord.roomy.distinct ord.listed s.unique in omega (arith, a, b, c)
+  front_sum f = let of_blocks = ap (held_sum f) r.is in let of_front_and_rest = held_sum-append f r.front (free_block z.rover r.rest ∷ []) in let of_live = live_is_held f items z.blocks ord.roomy.distinct ord.listed s.unique in omega (arith, of_blocks, of_front_and_rest, of_live)
 
   used : held_sum item_block r.front ≡ z.rover
-  used = let t = front_total r.front r.exact in let e = ends in omega (arith, t, e.0)
+  used = let fills = front_total r.front r.exact in let front_end = ends in omega (arith, fills, front_end.0)
 
   room : w + 64 ≤ r.rest
   room =
-      let a = live_room item_block items z.blocks o size in_list dead in
-      let b = front_sum item_block in
-      let c = used in
-      let d = ord.roomy.room in
-      let e = ends in
-      omega (arith, a, b, c, d, e.1)
+      let item_fits = live_room item_block items z.blocks o size in_list dead in
+      let live_is_front = front_sum item_block in
+      let front_used = used in
+      let all_fit = ord.roomy.room in
+      let front_end = ends in
+      omega (arith, item_fits, live_is_front, front_used, all_fit, front_end.1)
 
   -- there is room
   found : first_room w (stretches z.rover z.blocks) ≡ Some z.rover
-  found = let k = room in ap (λ bs. first_room w (stretches z.rover bs)) r.is ∙ rest_found w z.rover r.rest (omega arith) (omega arith) r.front r.exact below
+  found = let fits = room in ap (λ bs. first_room w (stretches z.rover bs)) r.is ∙ rest_found w z.rover r.rest (omega arith) (omega arith) r.front r.exact below
 
   pub order_has_room : All (λ g. total g < w) (gaps z.blocks) → ⊥
   order_has_room a = full_some w z.rover z.rover z.size z.blocks (omega arith) s.tiles found a
 
   searched : after_search w z ≡ r.front ++ (free_block z.rover r.rest ∷ [])
-  searched = let k = room in ap (λ bs. after_search w (record z { blocks = bs })) r.is ∙ rest_searched w z.rover r.rest (omega arith) (omega arith) r.front r.exact below
+  searched = let fits = room in ap (λ bs. after_search w (record z { blocks = bs })) r.is ∙ rest_searched w z.rover r.rest (omega arith) (omega arith) r.front r.exact below
 
   module _ (h : Holding) (owner_is : h.owner ≡ o) (asked_is : h.asked ≡ size) where
     abbrev cut : List Block
@@ -113,12 +114,12 @@ module _ (items : List Item) (z : Heap) (s : IsSound z) (ord : IsInOrder items z
     -- the sum of what is live has the item more
     new_sum : (f : Item → ℕ) → live_sum f items new ≡ f (item o size) + live_sum f items z.blocks
     new_sum f =
-        let a = live_is_held f items new ord.roomy.distinct new_listed new_unique in
-        let b = ap (held_sum f) new_is in
-        let c = held_sum-append f r.front (cut ++ []) in
-        let d = cut_sum f in
-        let e = front_sum f in
-        omega (arith, a, b, c, d, e)
+        let of_live = live_is_held f items new ord.roomy.distinct new_listed new_unique in
+        let of_new = ap (held_sum f) new_is in
+        let of_parts = held_sum-append f r.front (cut ++ []) in
+        let of_cut = cut_sum f in
+        let of_front = front_sum f in
+        omega (arith, of_live, of_new, of_parts, of_cut, of_front)
 
     new_first : LiveFirst new
     new_first = subst LiveFirst (sym new_is) (go (nat_lt 64 (r.rest - w))) where
@@ -134,8 +135,8 @@ module _ (items : List Item) (z : Heap) (s : IsSound z) (ord : IsInOrder items z
     -- a rest of more than 64 bytes stays behind the new block, and the rover stands there
     rest_left : 64 < r.rest - w → new ≡ r.front ++ (taken_block ∷ free_block (z.rover + w) (r.rest - w) ∷ []) → LeavesRest (place_after z.rover z.size new) new
     rest_left big is =
-        let e = ends in
-        let next : place_after z.rover z.size new ≡ z.rover + w = ap (place_after z.rover z.size) is ∙ after_front z.rover z.size r.front (free_block (z.rover + w) (r.rest - w) ∷ []) taken_block below refl ∙ cond-false (z.rover + w == z.size) 0 (z.rover + w) (ne_eqb (z.rover + w) z.size (λ x. omega (arith, e.1, x, big))) in
+        let front_end = ends in
+        let next : place_after z.rover z.size new ≡ z.rover + w = ap (place_after z.rover z.size) is ∙ after_front z.rover z.size r.front (free_block (z.rover + w) (r.rest - w) ∷ []) taken_block below refl ∙ cond-false (z.rover + w == z.size) 0 (z.rover + w) (ne_eqb (z.rover + w) z.size (λ x. omega (arith, front_end.1, x, big))) in
         subst (λ n. LeavesRest n new) (sym next) (record {
           front = r.front ++ (taken_block ∷ []);
           rest = r.rest - w;
@@ -146,13 +147,13 @@ module _ (items : List Item) (z : Heap) (s : IsSound z) (ord : IsInOrder items z
     -- a rest of 64 bytes is left only by the last item
     all_left : r.rest - w ≤ 64 → AllLive items new
     all_left small =
-        let k = room in
-        let a = new_sum item_block in
-        let b = front_sum item_block in
-        let c = used in
-        let d = ord.roomy.room in
-        let e = ends in
-        full_live items new (omega (arith, small, k, a, b, c, d, e.1))
+        let fits = room in
+        let item_more = new_sum item_block in
+        let live_is_front = front_sum item_block in
+        let front_used = used in
+        let all_fit = ord.roomy.room in
+        let front_end = ends in
+        full_live items new (omega (arith, small, fits, item_more, live_is_front, front_used, all_fit, front_end.1))
 
     new_left : AllLive items new ⊎ LeavesRest (place_after z.rover z.size new) new
     new_left = go (nat_lt 64 (r.rest - w)) refl new_is where
@@ -167,7 +168,7 @@ module _ (items : List Item) (z : Heap) (s : IsSound z) (ord : IsInOrder items z
     with_block_order before after le = record {
       order = record { roomy = ord.roomy; listed = new_listed; first = new_first; left = new_left };
       stays = new_stays;
-      taken = let a = new_sum lump_size in omega (arith, a, le);
+      taken = let item_more = new_sum lump_size in omega (arith, item_more, le);
     }
 
   -- a request for it keeps the order, empties no slot, and adds the item to what is live
@@ -176,7 +177,7 @@ module _ (items : List Item) (z : Heap) (s : IsSound z) (ord : IsInOrder items z
     made_holding = record { owner = o; tag = tag; asked = size; bytes = t.bytes }
 
     made_is : made ≡ with_block w made_holding z.rover z
-    made_is = let e : Some t.place ≡ Some z.rover = sym t.place_is ∙ found in let k : t.place ≡ z.rover = cc in t.zone ∙ ap (λ p. with_block w made_holding p z) k
+    made_is = let same_some : Some t.place ≡ Some z.rover = sym t.place_is ∙ found in let same_place : t.place ≡ z.rover = cc in t.zone ∙ ap (λ p. with_block w made_holding p z) same_place
 
     pub order_taken : (before after : ℕ) → after ≤ before + lump_size (item o size) → KeepsOrder items z made before after
-    order_taken before after le = subst (λ (y : Heap). KeepsOrder items z y before after) (sym made_is) (with_block_order made_holding refl refl before after le)
+    order_taken before after le = subst (λ y. KeepsOrder items z y before after) (sym made_is) (with_block_order made_holding refl refl before after le)

@@ -29,11 +29,13 @@ front_total (b ∷ front) x = total-cons b front ∙ ap₂ ◌+◌ (one b.holdin
 -- the free block begins where the live ones end, and ends the region
 pub front_ends : (p q r n : ℕ) (front : List Block) → Tiles p q (front ++ (free_block r n ∷ [])) → (p + total front ≡ r) × (r + n ≡ q)
 front_ends p q r n [] t = (omega (arith, t.0), omega (arith, t.0, t.2))
-front_ends p q r n (b ∷ front) t = let k = front_ends (p + b.size) q r n front t.2 in let s = total-cons b front in (omega (arith, k.0, s), k.1)
+front_ends p q r n (b ∷ front) t =
+    let rest_ends = front_ends (p + b.size) q r n front t.2 in let total_is = total-cons b front in (omega (arith, rest_ends.0, total_is), rest_ends.1)
 
 pub front_below : (p q r n : ℕ) (front : List Block) → Tiles p q (front ++ (free_block r n ∷ [])) → Below r front
 front_below p q r n [] t = tt
-front_below p q r n (b ∷ front) t = let k = front_ends (p + b.size) q r n front t.2 in (omega (arith, k.0, t.0, t.1), front_below (p + b.size) q r n front t.2)
+front_below p q r n (b ∷ front) t =
+    let rest_ends = front_ends (p + b.size) q r n front t.2 in (omega (arith, rest_ends.0, t.0, t.1), front_below (p + b.size) q r n front t.2)
 
 pub exact_first : (front : List Block) (b : Block) → AllExact front → LiveFirst (front ++ (b ∷ []))
 exact_first [] b x = tt
@@ -46,7 +48,8 @@ exact_push (c ∷ front) b x e = (x.0, exact_push front b x.1 e)
 
 pub after_front : (r q : ℕ) (front rest : List Block) (b : Block) → Below r front → b.place ≡ r → place_after r q (front ++ (b ∷ rest)) ≡ cond (b.place + b.size == q) 0 (b.place + b.size)
 after_front r q [] rest b l e = cond-true (b.place == r) _ _ (eq-eqb b.place r e)
-after_front r q (c ∷ front) rest b l e = cond-false (c.place == r) _ _ (ne_eqb c.place r (λ x. let k = l.0 in omega arith)) ∙ after_front r q front rest b l.1 e
+after_front r q (c ∷ front) rest b l e =
+    cond-false (c.place == r) _ _ (ne_eqb c.place r (λ x. let is_below = l.0 in omega arith)) ∙ after_front r q front rest b l.1 e
 
 module _ (w r n : ℕ) (pos : 0 < n) (large : w ≤ n) where
   abbrev pub rest : Block
@@ -64,7 +67,7 @@ module _ (w r n : ℕ) (pos : 0 < n) (large : w ≤ n) where
   searched_from front x l = ap (λ o. blocks_from (place_or r o) (front ++ (rest ∷ []))) (none_ends front x) ∙ from_rest front l
 
   rest_holds : holds w (rest ∷ []) ≡ true
-  rest_holds = let t = total-cons rest [] in le-leb w (total (rest ∷ [])) (omega (arith, t))
+  rest_holds = let total_is = total-cons rest [] in le-leb w (total (rest ∷ [])) (omega (arith, total_is))
 
   pub rest_found : (front : List Block) → AllExact front → Below r front → first_room w (stretches r (front ++ (rest ∷ []))) ≡ Some r
   rest_found front x l =
@@ -83,7 +86,7 @@ module _ (w r n : ℕ) (pos : 0 < n) (large : w ≤ n) where
     same true = refl
     same false = refl
   rest_unpurged (b ∷ front) l =
-      ap₂ ◌∷◌ (cond-false (is_among (rest ∷ []) b) (purge_block b) b (or_from (r == b.place) false (ne_eqb r b.place (λ e. let k = l.0 in omega arith)) refl)) (rest_unpurged front l.1)
+      ap₂ ◌∷◌ (cond-false (is_among (rest ∷ []) b) (purge_block b) b (or_from (r == b.place) false (ne_eqb r b.place (λ e. let is_below = l.0 in omega arith)) refl)) (rest_unpurged front l.1)
 
   rest_joined : (front : List Block) → AllExact front → join_free (front ++ (rest ∷ [])) ≡ front ++ (rest ∷ [])
   rest_joined [] x = refl
@@ -91,4 +94,5 @@ module _ (w r n : ℕ) (pos : 0 < n) (large : w ≤ n) where
 
   -- the search changes nothing
   pub rest_searched : (front : List Block) → AllExact front → Below r front → join_free (purge_among (passed_blocks w (stretches r (front ++ (rest ∷ [])))) (front ++ (rest ∷ []))) ≡ front ++ (rest ∷ [])
-  rest_searched front x l = ap (λ ch. join_free (purge_among ch (front ++ (rest ∷ [])))) (rest_passed front x l) ∙ ap join_free (rest_unpurged front l) ∙ rest_joined front x
+  rest_searched front x l =
+      ap (λ ch. join_free (purge_among ch (front ++ (rest ∷ [])))) (rest_passed front x l) ∙ ap join_free (rest_unpurged front l) ∙ rest_joined front x

@@ -37,10 +37,10 @@ item_block i = block_size i.size
 
 same_item : (o : Owner) (size : ℕ) (i : Item) → (same_owner o i.owner && (i.size == size)) ≡ true → item o size ≡ i
 same_item o size i e =
-    let p = and_parts (same_owner o i.owner) (i.size == size) e in
-    let a = owner_eq o i.owner p.0 in
-    let b = sym (eqb-true i.size size p.1) in
-    λ k. record { owner = a k; size = b k }
+    let parts = and_parts (same_owner o i.owner) (i.size == size) e in
+    let same_owners = owner_eq o i.owner parts.0 in
+    let same_sizes = sym (eqb-true i.size size parts.1) in
+    λ k. record { owner = same_owners k; size = same_sizes k }
 
 item_owner : (items : List Item) (o : Owner) (size : ℕ) → has_item items o size ≡ true → has_owner items o ≡ true
 item_owner [] o size e = e
@@ -54,8 +54,8 @@ module _ (f : Item → ℕ) (b : Block) (h : Holding) (is : b.holding ≡ Some h
   sum_beside : (items : List Item) → has_owner items h.owner ≡ false → live_sum f items (b ∷ bs) ≡ live_sum f items bs
   sum_beside [] e = refl
   sum_beside (i ∷ items) e =
-      let p = or_parts (same_owner h.owner i.owner) (has_owner items h.owner) e in
-      ap₂ ◌+◌ (ap (λ t. cond t (f i) 0) (live_past i.owner b bs (ap (holds_for i.owner) is ∙ p.0))) (sum_beside items p.1)
+      let parts = or_parts (same_owner h.owner i.owner) (has_owner items h.owner) e in
+      ap₂ ◌+◌ (ap (λ t. cond t (f i) 0) (live_past i.owner b bs (ap (holds_for i.owner) is ∙ parts.0))) (sum_beside items parts.1)
 
   not_again : (i : Item) (items : List Item) → has_owner items i.owner ≡ false → has_item items h.owner h.asked ≡ true → (t : Bool) → same_owner h.owner i.owner ≡ t → t ≡ false
   not_again i items d e true x = absurd (false≢true (sym d ∙ ap (has_owner items) (sym (owner_eq h.owner i.owner x)) ∙ item_owner items h.owner h.asked e))
@@ -72,13 +72,13 @@ module _ (f : Item → ℕ) (b : Block) (h : Holding) (is : b.holding ≡ Some h
         let now = cond-true (is_live (b ∷ bs) i.owner) (f i) 0 (live_here i.owner b bs (ap (holds_for i.owner) is ∙ own)) in
         let before = cond-false (is_live bs i.owner) (f i) 0 (ap (is_live bs) (sym o_is) ∙ n) in
         let beside = sum_beside items (ap (has_owner items) o_is ∙ d.0) in
-        let g = ap f (same_item h.owner h.asked i x) in
-        omega (arith, now, before, beside, g)
+        let same_value = ap f (same_item h.owner h.asked i x) in
+        omega (arith, now, before, beside, same_value)
     go false x e rest =
         let apart = not_again i items d.0 e (same_owner h.owner i.owner) refl in
         let same = ap (λ t. cond t (f i) 0) (live_past i.owner b bs (ap (holds_for i.owner) is ∙ apart)) in
-        let r = rest e in
-        omega (arith, same, r)
+        let rest_sum = rest e in
+        omega (arith, same, rest_sum)
 
 -- what live blocks add up to
 abbrev pub held_one : (Item → ℕ) → Option Holding → ℕ
@@ -91,7 +91,7 @@ held_sum f (b ∷ bs) = held_one f b.holding + held_sum f bs
 
 pub held_sum-append : (f : Item → ℕ) (xs ys : List Block) → held_sum f (xs ++ ys) ≡ held_sum f xs + held_sum f ys
 held_sum-append f [] ys = omega arith
-held_sum-append f (b ∷ xs) ys = let k = held_sum-append f xs ys in omega arith
+held_sum-append f (b ∷ xs) ys = let rest_adds = held_sum-append f xs ys in omega arith
 
 free_beside : (f : Item → ℕ) (b : Block) (bs : List Block) (items : List Item) → b.holding ≡ None → live_sum f items (b ∷ bs) ≡ live_sum f items bs
 free_beside f b bs [] e = refl
@@ -99,15 +99,15 @@ free_beside f b bs (i ∷ items) e = ap₂ ◌+◌ (ap (λ t. cond t (f i) 0) (l
 
 nobody : (f : Item → ℕ) (items : List Item) → live_sum f items [] ≡ 0
 nobody f [] = refl
-nobody f (i ∷ items) = let k = nobody f items in omega arith
+nobody f (i ∷ items) = let rest_is_zero = nobody f items in omega arith
 
 -- live items and live blocks are the same
 pub live_is_held : (f : Item → ℕ) (items : List Item) (bs : List Block) → AreDistinct items → AllListed items bs → Unique bs → live_sum f items bs ≡ held_sum f bs
 live_is_held f items [] d l u = nobody f items
 live_is_held f items (b ∷ bs) d l u = go b.holding refl l.0 u.0 (live_is_held f items bs d l.1 u.1) where
   go : (x : Option Holding) → b.holding ≡ x → is_listed items x ≡ true → OwnsOnce x bs → live_sum f items bs ≡ held_sum f bs → live_sum f items (b ∷ bs) ≡ held_one f x + held_sum f bs
-  go None e l u k = let a = free_beside f b bs items e in omega arith
-  go (Some h) e l u k = let a = sum_with f b h e bs items d l (lacks_dead h.owner bs u) in omega arith
+  go None e l u k = let block_adds_nothing = free_beside f b bs items e in omega arith
+  go (Some h) e l u k = let block_adds_item = sum_with f b h e bs items d l (lacks_dead h.owner bs u) in omega arith
 
 at_most : (n : ℕ) (t : Bool) → cond t n 0 ≤ n
 at_most n true = omega arith
@@ -117,10 +117,10 @@ at_most n false = omega arith
 pub live_most : (f : Item → ℕ) (items : List Item) (bs : List Block) → live_sum f items bs ≤ sum_by f items
 live_most f [] bs = omega arith
 live_most f (i ∷ items) bs =
-    let k = live_most f items bs in
-    let s = sum_by-cons f i items in
-    let m = at_most (f i) (is_live bs i.owner) in
-    omega (arith, k, s, m)
+    let rest_is_most = live_most f items bs in
+    let sum_of_all = sum_by-cons f i items in
+    let item_is_most = at_most (f i) (is_live bs i.owner) in
+    omega (arith, rest_is_most, sum_of_all, item_is_most)
 
 pub live_room : (f : Item → ℕ) (items : List Item) (bs : List Block) (o : Owner) (size : ℕ) → has_item items o size ≡ true → is_live bs o ≡ false → f (item o size) + live_sum f items bs ≤ sum_by f items
 live_room f [] bs o size e n = absurd (false≢true e)
@@ -129,15 +129,15 @@ live_room f (i ∷ items) bs o size e n = go (same_owner o i.owner && (i.size ==
   go true x e rest =
       let own = (and_parts (same_owner o i.owner) (i.size == size) x).0 in
       let before = cond-false (is_live bs i.owner) (f i) 0 (ap (is_live bs) (sym (owner_eq o i.owner own)) ∙ n) in
-      let g = ap f (same_item o size i x) in
-      let k = live_most f items bs in
-      let s = sum_by-cons f i items in
-      omega (arith, before, g, k, s)
+      let same_value = ap f (same_item o size i x) in
+      let rest_is_most = live_most f items bs in
+      let sum_of_all = sum_by-cons f i items in
+      omega (arith, before, same_value, rest_is_most, sum_of_all)
   go false x e rest =
-      let k = rest e in
-      let s = sum_by-cons f i items in
-      let m = at_most (f i) (is_live bs i.owner) in
-      omega (arith, k, s, m)
+      let rest_has_room = rest e in
+      let sum_of_all = sum_by-cons f i items in
+      let item_is_most = at_most (f i) (is_live bs i.owner) in
+      omega (arith, rest_has_room, sum_of_all, item_is_most)
 
 pub block_least : (n : ℕ) → 24 ≤ block_size n
 block_least n = omega arith
@@ -151,7 +151,8 @@ full_live (i ∷ items) bs h = go (is_live bs i.owner) h (λ k. full_live items 
 
   go : (t : Bool) → items_size (i ∷ items) ≤ cond t (item_block i) 0 + live_sum item_block items bs → (items_size items ≤ live_sum item_block items bs → AllLive items bs) → (t ≡ true) × AllLive items bs
   go true h rest = (refl, rest (omega (arith, s, h)))
-  go false h rest = let m = live_most item_block items bs in let l = block_least i.size in absurd (omega (arith, s, h, m, l))
+  go false h rest =
+      let rest_is_most = live_most item_block items bs in let block_takes = block_least i.size in absurd (omega (arith, s, h, rest_is_most, block_takes))
 
 pub all_live_has : (items : List Item) (bs : List Block) (o : Owner) (size : ℕ) → AllLive items bs → has_item items o size ≡ true → is_live bs o ≡ true
 all_live_has [] bs o size a e = absurd (false≢true e)

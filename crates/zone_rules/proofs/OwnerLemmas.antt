@@ -21,8 +21,8 @@ owned_on o b [] = refl
 owned_on o b (c ∷ cs) = go (is_free b && is_free c) refl where
   go : (t : Bool) → (is_free b && is_free c) ≡ t → owned_block o (cond t (free_block b.place (b.size + c.size) ∷ cs) (b ∷ c ∷ cs)) ≡ owned_block o (b ∷ c ∷ cs)
   go true e =
-      let p = and_parts (is_free b) (is_free c) e in
-      sym (cond-false (is_held_by o b) (Some b) (owned_block o (c ∷ cs)) (free_holds_none o b.holding p.0) ∙ cond-false (is_held_by o c) (Some c) (owned_block o cs) (free_holds_none o c.holding p.1))
+      let parts = and_parts (is_free b) (is_free c) e in
+      sym (cond-false (is_held_by o b) (Some b) (owned_block o (c ∷ cs)) (free_holds_none o b.holding parts.0) ∙ cond-false (is_held_by o c) (Some c) (owned_block o cs) (free_holds_none o c.holding parts.1))
   go false e = refl
 
 pub owned_block-join_free : (o : Owner) (bs : List Block) → owned_block o (join_free bs) ≡ owned_block o bs
@@ -34,7 +34,7 @@ none_owned o [] l = refl
 none_owned o (b ∷ bs) l = cond-false (is_held_by o b) (Some b) (owned_block o bs) l.0 ∙ none_owned o bs l.1
 
 pub owner_eq : (a b : Owner) → same_owner a b ≡ true → a ≡ b
-owner_eq a b e = let p = and_parts (a.kind == b.kind) (a.number == b.number) e in let k = eqb-true a.kind b.kind p.0 in let n = eqb-true a.number b.number p.1 in λ i. record { kind = k i; number = n i }
+owner_eq a b e = let parts = and_parts (a.kind == b.kind) (a.number == b.number) e in let same_kind = eqb-true a.kind b.kind parts.0 in let same_number = eqb-true a.number b.number parts.1 in λ i. record { kind = same_kind i; number = same_number i }
 
 pub lacks_held : (o : Owner) (h : Option Holding) (bs : List Block) → holds_for o h ≡ true → OwnsOnce h bs → Lacks o bs
 lacks_held o None bs e u = absurd (false≢true e)
@@ -43,11 +43,13 @@ lacks_held o (Some h) bs e u = subst (λ p. Lacks p bs) (owner_eq h.owner o e) u
 -- a search leaves a live block, or purges it
 owned_front : (o : Owner) (b : Block) (bs cs ch : List Block) → OwnsOnce b.holding bs → (Lacks o bs → Lacks o cs) → owned_block o cs ≡ block_left ch (owned_block o bs) → (x y t : Bool) → is_among ch b ≡ x → is_purgeable b ≡ y → is_held_by o b ≡ t
     → owned_block o (cond x (cond y (free_block b.place b.size) b) b ∷ cs) ≡ block_left ch (cond t (Some b) (owned_block o bs))
-owned_front o b bs cs ch u l k false y true a p e = cond-true _ _ _ e ∙ sym (cond-false (is_among ch b && is_purgeable b) None (Some b) (and_left (is_among ch b) (is_purgeable b) a))
+owned_front o b bs cs ch u l k false y true a p e =
+    cond-true _ _ _ e ∙ sym (cond-false (is_among ch b && is_purgeable b) None (Some b) (and_left (is_among ch b) (is_purgeable b) a))
 owned_front o b bs cs ch u l k false y false a p e = cond-false _ _ _ e ∙ k
 owned_front o b bs cs ch u l k true true true a p e = none_owned o cs (l (lacks_held o b.holding bs e u)) ∙ sym (cond-true (is_among ch b && is_purgeable b) None (Some b) (and_from (is_among ch b) (is_purgeable b) a p))
 owned_front o b bs cs ch u l k true true false a p e = k
-owned_front o b bs cs ch u l k true false true a p e = cond-true _ _ _ e ∙ sym (cond-false (is_among ch b && is_purgeable b) None (Some b) (ap (λ t. is_among ch b && t) p ∙ ap (λ t. t && false) a))
+owned_front o b bs cs ch u l k true false true a p e =
+    cond-true _ _ _ e ∙ sym (cond-false (is_among ch b && is_purgeable b) None (Some b) (ap (λ t. is_among ch b && t) p ∙ ap (λ t. t && false) a))
 owned_front o b bs cs ch u l k true false false a p e = cond-false _ _ _ e ∙ k
 
 pub owned_block-purge_among : (o : Owner) (ch bs : List Block) → Unique bs → owned_block o (purge_among ch bs) ≡ block_left ch (owned_block o bs)
@@ -89,7 +91,7 @@ module _ (p size wanted : ℕ) (h : Holding) where
   cut_most = go (nat_lt 64 (size - wanted)) refl where
     go : (u : Bool) → nat_lt 64 (size - wanted) ≡ u → cond u wanted size ≤ wanted + 64
     go true e = omega arith
-    go false e = let k = ltb-false 64 (size - wanted) e in omega arith
+    go false e = let rest_is_small = ltb-false 64 (size - wanted) e in omega arith
 
 module _ (w p : ℕ) (z : Heap) (h : Holding) (s : IsSound z) (lacks : Lacks h.owner z.blocks) (r : RoomAt p w (after_search w z)) where
   shape : take_at p w h (after_search w z) ≡ r.front ++ (cut_block w h (free_block p r.size) ++ r.rest)
@@ -137,7 +139,8 @@ module _ (o p : Owner) (apart : same_owner p o ≡ false) where
     go false e = refl
 
   pub owned_freed_others : (bs : List Block) → owned_block o (join_free (free_owner p bs)) ≡ owned_block o bs
-  owned_freed_others bs = owned_block-join_free o (free_owner p bs) ∙ owned_same (λ b. cond (is_held_by p b) (free_block b.place b.size) b) free_held (λ b e. cond-false _ _ _ e) bs
+  owned_freed_others bs =
+      owned_block-join_free o (free_owner p bs) ∙ owned_same (λ b. cond (is_held_by p b) (free_block b.place b.size) b) free_held (λ b e. cond-false _ _ _ e) bs
 
 nothing_owned : (o : Owner) (bs : List Block) → owned_block o (free_owner o bs) ≡ None
 nothing_owned o [] = refl
@@ -182,8 +185,8 @@ low_place : (o : Owner) (p q : ℕ) (bs : List Block) (b : Block) → Tiles p q 
 low_place o p q [] b t e = cc
 low_place o p q (c ∷ bs) b t e = go (is_held_by o c) e (λ k. low_place o (p + c.size) q bs b t.2 k) where
   go : (u : Bool) → cond u (Some c) (owned_block o bs) ≡ Some b → (owned_block o bs ≡ Some b → p + c.size ≤ b.place) → p ≤ b.place
-  go true k rest = let x : c ≡ b = cc in let y = ap (λ (d : Block). d.place) x in let z = t.0 in omega arith
-  go false k rest = let y = rest k in omega arith
+  go true k rest = let same_block : c ≡ b = cc in let same_place = ap (λ (d : Block). d.place) same_block in let place_is = t.0 in omega arith
+  go false k rest = let lies_behind = rest k in omega arith
 
 -- the blocks of two owners do not meet
 beside_owner : (o q : Owner) (h : Option Holding) → same_owner o q ≡ false → holds_for o h ≡ true → holds_for q h ≡ false
@@ -199,7 +202,7 @@ before_owned q p end' a b c bs t e f =
     let pl = ap (λ (d : Block). d.place) e in
     let sz = ap (λ (d : Block). d.size) e in
     let low = low_place q (p + a.size) end' bs c t.2 f in
-    let z = t.0 in
+    let place_is = t.0 in
     omega arith
 
 pub owned_apart : (o q : Owner) (p end' : ℕ) (bs : List Block) (b c : Block) → same_owner o q ≡ false → Tiles p end' bs → owned_block o bs ≡ Some b → owned_block q bs ≡ Some c → (b.place + b.size ≤ c.place) ⊎ (c.place + c.size ≤ b.place)

@@ -35,8 +35,8 @@ pinned_stays (Some h) p = go (is_purgeable_tag h.tag) p where
 pub purged_twice : (b : Block) → purge_block (purge_block b) ≡ purge_block b
 purged_twice b = go (is_purgeable b) refl where
   go : (t : Bool) → is_purgeable b ≡ t → purge_block (purge_block b) ≡ purge_block b
-  go true e = let k : purge_block b ≡ free_block b.place b.size = cond-true _ _ _ e in ap purge_block k ∙ sym k
-  go false e = let k : purge_block b ≡ b = cond-false _ _ _ e in ap purge_block k
+  go true e = let becomes_free : purge_block b ≡ free_block b.place b.size = cond-true _ _ _ e in ap purge_block becomes_free ∙ sym becomes_free
+  go false e = let stays_same : purge_block b ≡ b = cond-false _ _ _ e in ap purge_block stays_same
 
 pub purged_place : (b : Block) → (purge_block b).place ≡ b.place
 purged_place b = go (is_purgeable b) where
@@ -75,15 +75,15 @@ pub covers_itself : (bs : List Block) → Covers (unpinned bs) bs
 covers_itself [] = tt
 covers_itself (b ∷ bs) = go b bs (is_pinned b) refl (covers_itself bs) where
   go : (b : Block) (bs : List Block) (t : Bool) → is_pinned b ≡ t → Covers (unpinned bs) bs → Covers (unpinned (b ∷ bs)) (b ∷ bs)
-  go b bs true e c = let k : unpinned (b ∷ bs) ≡ unpinned bs = cond-false _ _ _ (ap not e) in subst (λ ch. Covers ch (b ∷ bs)) (sym k) (λ p. absurd (false≢true (sym p ∙ e)), c)
+  go b bs true e c = let skips_it : unpinned (b ∷ bs) ≡ unpinned bs = cond-false _ _ _ (ap not e) in subst (λ ch. Covers ch (b ∷ bs)) (sym skips_it) (λ p. absurd (false≢true (sym p ∙ e)), c)
   go b bs false e c =
-      let k : unpinned (b ∷ bs) ≡ b ∷ unpinned bs = cond-true _ _ _ (ap not e) in subst (λ ch. Covers ch (b ∷ bs)) (sym k) (λ p. or_left (b.place == b.place) _ (eq-eqb b.place b.place refl), covers_cons b (unpinned bs) bs c)
+      let takes_it : unpinned (b ∷ bs) ≡ b ∷ unpinned bs = cond-true _ _ _ (ap not e) in subst (λ ch. Covers ch (b ∷ bs)) (sym takes_it) (λ p. or_left (b.place == b.place) _ (eq-eqb b.place b.place refl), covers_cons b (unpinned bs) bs c)
 
 pub purge_covered : (ch bs : List Block) → Covers ch bs → purge_among ch bs ≡ map purge_block bs
 purge_covered ch [] c = refl
 purge_covered ch (b ∷ bs) c = ap₂ ◌∷◌ (go (is_pinned b) refl) (purge_covered ch bs c.1) where
   go : (t : Bool) → is_pinned b ≡ t → cond (is_among ch b) (purge_block b) b ≡ purge_block b
-  go true e = let k : purge_block b ≡ b = cond-false _ _ _ (pinned_stays b.holding e) in rw k (same (is_among ch b)) where
+  go true e = let stays_same : purge_block b ≡ b = cond-false _ _ _ (pinned_stays b.holding e) in rw stays_same (same (is_among ch b)) where
     same : (t : Bool) → cond t b b ≡ b
     same true = refl
     same false = refl
@@ -118,7 +118,8 @@ pub purge_twice : (a ch bs : List Block) → purge_among (a ++ ch) bs ≡ purge_
 purge_twice a ch [] = refl
 purge_twice a ch (b ∷ bs) = ap₂ ◌∷◌
     (ap (λ t. cond t (purge_block b) b) (list_any-append (λ x. x.place == b.place) a ch) ∙ two_goes (is_among a b) (is_among ch b) b
-    ∙ ap (λ t. cond t (purge_block (cond (is_among a b) (purge_block b) b)) (cond (is_among a b) (purge_block b) b)) (sym (kept_among ch (is_among a b) b))) (purge_twice a ch bs)
+    ∙ ap (λ t. cond t (purge_block (cond (is_among a b) (purge_block b) b)) (cond (is_among a b) (purge_block b) b)) (sym (kept_among ch (is_among a b) b)))
+    (purge_twice a ch bs)
 
 pub covers_kept : (ch a bs : List Block) → Covers ch bs → Covers ch (purge_among a bs)
 covers_kept ch a [] c = tt
@@ -142,7 +143,7 @@ abbrev pub one_if : Block → ℕ
 one_if b = cond (is_purgeable b) 1 0
 
 purgeable_stays_free : (b : Block) → is_purgeable b ≡ true → is_purgeable (purge_block b) ≡ false
-purgeable_stays_free b e = let k : purge_block b ≡ free_block b.place b.size = cond-true _ _ _ e in ap is_purgeable k
+purgeable_stays_free b e = let becomes_free : purge_block b ≡ free_block b.place b.size = cond-true _ _ _ e in ap is_purgeable becomes_free
 
 counted_covered : (ch : List Block) (b : Block) → (is_pinned b ≡ false → is_among ch b ≡ true) → counted ch b ≡ one_if b
 counted_covered ch b c = go (is_purgeable b) refl where
@@ -171,7 +172,7 @@ counted_twice true y b = go (is_purgeable b) refl where
     drop_and : (x : Bool) → cond (is_purgeable b) 1 0 ≡ cond (is_purgeable b) 1 0 + cond (x && false) 1 0
     drop_and true = omega arith
     drop_and false = omega arith
-  go false e = let k : purge_block b ≡ b = cond-false _ _ _ e in rw (k, e) (drop_and y) where
+  go false e = let stays_same : purge_block b ≡ b = cond-false _ _ _ e in rw (stays_same, e) (drop_and y) where
     drop_and : (x : Bool) → ◌≡◌ {A = ℕ} 0 (0 + cond (x && false) 1 0)
     drop_and true = refl
     drop_and false = refl
@@ -180,21 +181,22 @@ counted_twice false y b = sym (zero-add _)
 pub count_twice : (a ch bs : List Block) → count_among (a ++ ch) bs ≡ count_among a bs + count_among ch (purge_among a bs)
 count_twice a ch [] = refl
 count_twice a ch (b ∷ bs) =
-    let one = counted_twice (is_among a b) (is_among ch b) b in
-    let two : counted (a ++ ch) b ≡ cond {A = ℕ} ((is_among a b || is_among ch b) && is_purgeable b) 1 0 = ap (λ (t : Bool). cond {A = ℕ} (t && is_purgeable b) 1 0) (list_any-append (λ x. x.place == b.place) a ch) in
-    let three : counted ch (cond (is_among a b) (purge_block b) b) ≡ cond {A = ℕ} (is_among ch b && is_purgeable (cond (is_among a b) (purge_block b) b)) 1 0 = ap (λ (t : Bool). cond {A = ℕ} (t && is_purgeable (cond (is_among a b) (purge_block b) b)) 1 0) (kept_among ch (is_among a b) b) in
-    let four = count_among-cons (a ++ ch) b bs in
-    let five = count_among-cons a b bs in
-    let six = count_among-cons ch (cond (is_among a b) (purge_block b) b) (purge_among a bs) in
-    let seven = count_twice a ch bs in
+    let block_counts = counted_twice (is_among a b) (is_among ch b) b in
+    let among_both : counted (a ++ ch) b ≡ cond {A = ℕ} ((is_among a b || is_among ch b) && is_purgeable b) 1 0 =
+    ap (λ (t : Bool). cond {A = ℕ} (t && is_purgeable b) 1 0) (list_any-append (λ x. x.place == b.place) a ch) in
+    let among_later : counted ch (cond (is_among a b) (purge_block b) b) ≡ cond {A = ℕ} (is_among ch b && is_purgeable (cond (is_among a b) (purge_block b) b)) 1 0 = ap (λ (t : Bool). cond {A = ℕ} (t && is_purgeable (cond (is_among a b) (purge_block b) b)) 1 0) (kept_among ch (is_among a b) b) in
+    let count_of_both = count_among-cons (a ++ ch) b bs in
+    let count_of_a = count_among-cons a b bs in
+    let count_of_ch = count_among-cons ch (cond (is_among a b) (purge_block b) b) (purge_among a bs) in
+    let rest_counts = count_twice a ch bs in
     omega arith
 
 pub tiles_end : (p q : ℕ) (bs : List Block) → Tiles p q bs → p + total bs ≡ q
 tiles_end p q [] t = omega arith
-tiles_end p q (b ∷ bs) t = let e = total-cons b bs in let f = tiles_end (p + b.size) q bs t.2 in omega arith
+tiles_end p q (b ∷ bs) t = let total_is = total-cons b bs in let rest_end = tiles_end (p + b.size) q bs t.2 in omega arith
 
 pub tiles_le : (p q : ℕ) (bs : List Block) → Tiles p q bs → p ≤ q
-tiles_le p q bs t = let e = tiles_end p q bs t in omega arith
+tiles_le p q bs t = let end_is = tiles_end p q bs t in omega arith
 
 pub Sized-tiles : (p q : ℕ) (bs : List Block) → Tiles p q bs → Sized bs
 Sized-tiles p q [] t = tt
@@ -241,7 +243,8 @@ pub record Cut (p q : ℕ) (xs ys : List Block) : Type 0 where
 pub tiles_cut : (n p q : ℕ) (bs : List Block) → Tiles p q bs → Cut p q (take n bs) (drop n bs)
 tiles_cut zero p q bs t = record { at = p; first = refl; second = t }
 tiles_cut (suc n) p q [] t = record { at = p; first = refl; second = t }
-tiles_cut (suc n) p q (b ∷ bs) t = let c = tiles_cut n (p + b.size) q bs t.2 in record { at = c.at; first = (t.0, t.1, c.first); second = c.second }
+tiles_cut (suc n) p q (b ∷ bs) t =
+    let rest_cut = tiles_cut n (p + b.size) q bs t.2 in record { at = rest_cut.at; first = (t.0, t.1, rest_cut.first); second = rest_cut.second }
 
 pub tiles_joined : (p m q : ℕ) (xs ys : List Block) → Tiles p m xs → Tiles m q ys → Tiles p q (xs ++ ys)
 tiles_joined p m q [] ys t u = rw t u
@@ -249,7 +252,9 @@ tiles_joined p m q (x ∷ xs) ys t u = (t.0, t.1, tiles_joined (p + x.size) m q 
 
 -- the parts of a cut do not see each other's purges
 pub misses_after : (p q : ℕ) (xs ys : List Block) → Cut p q xs ys → Misses (unpinned xs) ys
-misses_after p q xs ys c = misses_above p c.at c.at q (unpinned xs) ys (unpinned_within p c.at xs (tiles_within p c.at xs c.first)) (omega arith) (tiles_within c.at q ys c.second)
+misses_after p q xs ys c =
+    misses_above p c.at c.at q (unpinned xs) ys (unpinned_within p c.at xs (tiles_within p c.at xs c.first)) (omega arith) (tiles_within c.at q ys c.second)
 
 pub misses_before : (p q : ℕ) (xs ys : List Block) → Cut p q xs ys → Misses (unpinned ys) xs
-misses_before p q xs ys c = misses_below c.at q p c.at (unpinned ys) xs (unpinned_within c.at q ys (tiles_within c.at q ys c.second)) (omega arith) (tiles_within p c.at xs c.first)
+misses_before p q xs ys c =
+    misses_below c.at q p c.at (unpinned ys) xs (unpinned_within c.at q ys (tiles_within c.at q ys c.second)) (omega arith) (tiles_within p c.at xs c.first)

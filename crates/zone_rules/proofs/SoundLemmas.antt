@@ -14,11 +14,12 @@ use Rattle.zone_rules.specs.Frees.{free_owner, without_block}
 
 pub few_tiles : (p q : ℕ) (bs : List Block) → Tiles p q bs → p + 24 * length bs ≤ q
 few_tiles p q [] t = omega arith
-few_tiles p q (b ∷ bs) t = let k = few_tiles (p + b.size) q bs t.2 in let l : length (b ∷ bs) ≡ length bs + 1 = omega arith in omega arith
+few_tiles p q (b ∷ bs) t = let rest_fits = few_tiles (p + b.size) q bs t.2 in let one_more : length (b ∷ bs) ≡ length bs + 1 = omega arith in omega arith
 
 -- after a search
 pub searched_tiles : (wanted : ℕ) (z : Heap) → IsSound z → Tiles 0 z.size (after_search wanted z)
-searched_tiles wanted z s = Tiles-join_free 0 z.size _ (Tiles-freed _ (purge_frees (passed_blocks wanted (stretches z.rover z.blocks))) 0 z.size z.blocks s.tiles)
+searched_tiles wanted z s =
+    Tiles-join_free 0 z.size _ (Tiles-freed _ (purge_frees (passed_blocks wanted (stretches z.rover z.blocks))) 0 z.size z.blocks s.tiles)
 
 pub searched_apart : (wanted : ℕ) (z : Heap) → Apart (after_search wanted z)
 searched_apart wanted z = Apart-join_free (purge_among (passed_blocks wanted (stretches z.rover z.blocks)) z.blocks)
@@ -75,40 +76,40 @@ module _ (w p : ℕ) (z : Heap) (h : Holding) (s : IsSound z) (pos : 0 < z.size)
 
 pub in_range_of : (z : Heap) (kind number : ℕ) → kind ≤ 1 → number < slot_count z kind → InRange z.lumps z.composites (owner_at kind number)
 in_range_of z kind number k n = (
-  (λ e. let s : slot_count z kind ≡ z.lumps = cond-true (kind == 0) _ _ (eq-eqb kind 0 e) in omega arith),
-  (λ e. let s : slot_count z kind ≡ z.composites = cond-false (kind == 0) _ _ (ne_eqb kind 0 (λ x. omega arith)) ∙ cond-true (kind == 1) _ _ (eq-eqb kind 1 e) in omega arith),
+  (λ e. let count_is : slot_count z kind ≡ z.lumps = cond-true (kind == 0) _ _ (eq-eqb kind 0 e) in omega arith),
+  (λ e. let count_is : slot_count z kind ≡ z.composites = cond-false (kind == 0) _ _ (ne_eqb kind 0 (λ x. omega arith)) ∙ cond-true (kind == 1) _ _ (eq-eqb kind 1 e) in omega arith),
   k,
 )
 
 pub room_end : (p least q : ℕ) (bs : List Block) → RoomAt p least bs → Tiles 0 q bs → p + least ≤ q
 room_end p least q bs r t = go 0 r.front (subst (Tiles 0 q) r.is t) where
   go : (x : ℕ) (front : List Block) → Tiles x q (front ++ (free_block p r.size ∷ r.rest)) → p + least ≤ q
-  go x [] u = let e = tiles_le (x + r.size) q r.rest u.2 in let l = r.large in omega arith
+  go x [] u = let rest_end = tiles_le (x + r.size) q r.rest u.2 in let is_large = r.large in omega arith
   go x (b ∷ front) u = go (x + b.size) front u.2
 
 -- no gap holds what is wanted, exactly where a search finds none
 pub full_none : (w r : ℕ) (bs : List Block) → 0 < w → first_room w (stretches r bs) ≡ None → All (λ g. total g < w) (gaps bs)
 full_none w r bs pos e =
-    let k = none_found w (stretches r bs) pos e in
-    let a = widest-append (gaps (blocks_from (start_in r bs) bs)) (gaps bs) in
+    let widest_is_less = none_found w (stretches r bs) pos e in
+    let widest_of_both = widest-append (gaps (blocks_from (start_in r bs) bs)) (gaps bs) in
     all_small w (gaps bs) (omega arith)
 
 pub full_some : (w r p q : ℕ) (bs : List Block) → 0 < w → Tiles 0 q bs → first_room w (stretches r bs) ≡ Some p → All (λ g. total g < w) (gaps bs) → ⊥
 full_some w r p q bs pos t e a =
-    let k = some_found w p (stretches r bs) e in
-    let m = widest-append (gaps (blocks_from (start_in r bs) bs)) (gaps bs) in
-    let o = wider_from (start_in r bs) 0 q bs t in
-    let s = small_all w (gaps bs) pos a in
+    let widest_is_enough = some_found w p (stretches r bs) e in
+    let widest_of_both = widest-append (gaps (blocks_from (start_in r bs) bs)) (gaps bs) in
+    let part_is_less = wider_from (start_in r bs) 0 q bs t in
+    let widest_is_less = small_all w (gaps bs) pos a in
     omega arith
 
 -- what a release keeps
 pub without_block_sound : (o : Owner) (z : Heap) → IsSound z → 0 < z.size → IsSound (without_block o z)
 without_block_sound o z s pos =
-    let t = Tiles-join_free 0 z.size (free_owner o z.blocks) (Tiles-freed _ (release_frees o) 0 z.size z.blocks s.tiles) in
+    let tiled = Tiles-join_free 0 z.size (free_owner o z.blocks) (Tiles-freed _ (release_frees o) 0 z.size z.blocks s.tiles) in
     record {
-      tiles = t;
+      tiles = tiled;
       apart = Apart-join_free (free_owner o z.blocks);
       unique = Unique-join_free (free_owner o z.blocks) (Unique-freed _ (release_frees o) z.blocks s.unique);
       fits = AllFit-join_free z.lumps z.composites (free_owner o z.blocks) (AllFit-freed _ (release_frees o) z.lumps z.composites z.blocks s.fits);
-      rover = around_is_place z.rover z.size (join_free (free_owner o z.blocks)) t pos;
+      rover = around_is_place z.rover z.size (join_free (free_owner o z.blocks)) tiled pos;
     }

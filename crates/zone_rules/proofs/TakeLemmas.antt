@@ -20,7 +20,7 @@ module _ (p size wanted : ℕ) (h : Holding) where
       cond-false (x.place == p) _ _ (ne_eqb x.place p (λ z. omega arith)) ∙ ap (λ xs. x ∷ xs) (take_at_is (q + x.size) e front rest t.2) where
         front_low : (r : ℕ) (front : List Block) → Tiles r e (front ++ (fb ∷ rest)) → r ≤ p
         front_low r [] t = omega arith
-        front_low r (y ∷ front) t = let k = front_low (r + y.size) front t.2 in omega arith
+        front_low r (y ∷ front) t = let rest_low = front_low (r + y.size) front t.2 in omega arith
 
   -- the tiling stays
   pub tiles_cut_block : 24 ≤ wanted → wanted ≤ size → (q e : ℕ) (front rest : List Block) → Tiles q e (front ++ (fb ∷ rest)) → Tiles q e (front ++ (cut ++ rest))
@@ -28,8 +28,8 @@ module _ (p size wanted : ℕ) (h : Holding) where
     go : (u : Bool) → nat_lt 64 (size - wanted) ≡ u → Tiles q e (cond u (record { place = p; size = wanted; holding = Some h } ∷ free_block (p + wanted) (size - wanted) ∷ []) (record { place = p; size = size; holding = Some h } ∷ []) ++ rest)
     go true x =
         let big = ltb-true 64 (size - wanted) x in
-        let k : q + size ≡ q + wanted + (size - wanted) = omega arith in
-        (t.0, l, (ap (λ n. n + wanted) t.0, omega arith, subst (λ n. Tiles n e rest) k t.2))
+        let same_end : q + size ≡ q + wanted + (size - wanted) = omega arith in
+        (t.0, l, (ap (λ n. n + wanted) t.0, omega arith, subst (λ n. Tiles n e rest) same_end t.2))
     go false x = (t.0, t.1, t.2)
   tiles_cut_block l m q e (y ∷ front) rest t = (t.0, t.1, tiles_cut_block l m (q + y.size) e front rest t.2)
 
@@ -92,16 +92,15 @@ module _ (l m : ℕ) where
   abbrev pub InRange : Owner → Type 0
   InRange o = ((o.kind ≡ 0) → o.number < l) × ((o.kind ≡ 1) → o.number < m) × (o.kind ≤ 1)
 
-  pub code_small : (o : Owner) → InRange o → code o < l + m
-  code_small o r = elim (cases_eq o.kind 0) [
-    | inl e ↦ (let k : code o ≡ o.number = cond-true _ _ _ (eq-eqb o.kind 0 e) in let n = r.0 e in omega arith)
-    | inr e ↦ (let k : code o ≡ l + o.number = cond-false _ _ _ (ne_eqb o.kind 0 e) in let n = r.1 (one_of o.kind e r.2) in omega arith)
-  ] where
-    one_of : (k : ℕ) → (k ≡ 0 → ⊥) → k ≤ 1 → k ≡ 1
-    one_of k e h = elim (cases_lt k 1) [ inl x ↦ absurd (e (omega arith)) | inr x ↦ omega arith ]
-
+  -- a kind that is not 0 is 1, that of composites
   one_kind : (k : ℕ) → (k ≡ 0 → ⊥) → k ≤ 1 → k ≡ 1
   one_kind k e h = elim (cases_lt k 1) [ inl x ↦ absurd (e (omega arith)) | inr x ↦ omega arith ]
+
+  pub code_small : (o : Owner) → InRange o → code o < l + m
+  code_small o r = elim (cases_eq o.kind 0) [
+    | inl e ↦ (let code_is : code o ≡ o.number = cond-true _ _ _ (eq-eqb o.kind 0 e) in let number_fits = r.0 e in omega arith)
+    | inr e ↦ (let code_is : code o ≡ l + o.number = cond-false _ _ _ (ne_eqb o.kind 0 e) in let number_fits = r.1 (one_kind o.kind e r.2) in omega arith)
+  ]
 
   -- two owners of one code are one
   pub code_same : (o p : Owner) → InRange o → InRange p → code o ≡ code p → same_owner o p ≡ true
@@ -113,7 +112,8 @@ module _ (l m : ℕ) where
     comp q x = cond-false _ _ _ (ne_eqb q.kind 0 x)
 
     go : (o.kind ≡ 0) ⊎ (o.kind ≡ 0 → ⊥) → (p.kind ≡ 0) ⊎ (p.kind ≡ 0 → ⊥) → same_owner o p ≡ true
-    go (inl x) (inl y) = let a = lum o x in let b = lum p y in and_from _ _ (eq-eqb o.kind p.kind (omega arith)) (eq-eqb o.number p.number (omega arith))
-    go (inl x) (inr y) = let a = lum o x in let b = comp p y in let n = r.0 x in absurd (omega arith)
-    go (inr x) (inl y) = let a = comp o x in let b = lum p y in let n = s.0 y in absurd (omega arith)
-    go (inr x) (inr y) = let a = comp o x in let b = comp p y in let u = one_kind o.kind x r.2 in let v = one_kind p.kind y s.2 in and_from _ _ (eq-eqb o.kind p.kind (omega arith)) (eq-eqb o.number p.number (omega arith))
+    go (inl x) (inl y) =
+        let code_of_o = lum o x in let code_of_p = lum p y in and_from _ _ (eq-eqb o.kind p.kind (omega arith)) (eq-eqb o.number p.number (omega arith))
+    go (inl x) (inr y) = let code_of_o = lum o x in let code_of_p = comp p y in let o_fits = r.0 x in absurd (omega arith)
+    go (inr x) (inl y) = let code_of_o = comp o x in let code_of_p = lum p y in let p_fits = s.0 y in absurd (omega arith)
+    go (inr x) (inr y) = let code_of_o = comp o x in let code_of_p = comp p y in let o_is_composite = one_kind o.kind x r.2 in let p_is_composite = one_kind p.kind y s.2 in and_from _ _ (eq-eqb o.kind p.kind (omega arith)) (eq-eqb o.number p.number (omega arith))

@@ -24,7 +24,8 @@ module _ (o : Owner) (w : List ℕ) (h : Holding) (owner_is : h.owner ≡ o) whe
   held_new = ap (λ q. same_owner q o) owner_is ∙ and_from (o.kind == o.kind) (o.number == o.number) (eq-eqb o.kind o.kind refl) (eq-eqb o.number o.number refl)
 
   new_written : (p s : ℕ) → write_block o w (record { place = p; size = s; holding = Some h }) ≡ record { place = p; size = s; holding = Some rewritten }
-  new_written p s = cond-true (same_owner h.owner o) (record { place = p; size = s; holding = Some rewritten }) (record { place = p; size = s; holding = Some h }) held_new
+  new_written p s =
+      cond-true (same_owner h.owner o) (record { place = p; size = s; holding = Some rewritten }) (record { place = p; size = s; holding = Some h }) held_new
 
   cut_written : (n : ℕ) (b : Block) → map (write_block o w) (cut_block n h b) ≡ cut_block n rewritten b
   cut_written n b = go (nat_lt 64 (b.size - n)) where
@@ -41,6 +42,6 @@ module _ (o : Owner) (w : List ℕ) (h : Holding) (owner_is : h.owner ≡ o) whe
 
   pub block_written : (n p : ℕ) (z : Heap) → Lacks o (after_search n z) → with_bytes o w (with_block n h p z) ≡ with_block n rewritten p z
   block_written n p z l =
-      let e = take_written p n (after_search n z) l in
-      let r = sym (after_written o w p z.size (take_at p n h (after_search n z))) ∙ ap (place_after p z.size) e in
-      λ i. record (with_block n h p z) { blocks = e i; rover = r i }
+      let same_blocks = take_written p n (after_search n z) l in
+      let same_rover = sym (after_written o w p z.size (take_at p n h (after_search n z))) ∙ ap (place_after p z.size) same_blocks in
+      λ i. record (with_block n h p z) { blocks = same_blocks i; rover = same_rover i }

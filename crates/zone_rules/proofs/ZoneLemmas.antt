@@ -71,10 +71,10 @@ around_later x p q d (b ∷ bs) t = go (nat_le b.place x) (around_later x (p + b
     keep false e = e
 
 pub around_is_place : (x q : ℕ) (bs : List Block) → Tiles 0 q bs → 0 < q → has_place (place_around x 0 bs) bs ≡ true
-around_is_place x q [] t pos = absurd (let e : 0 ≡ q = t in omega arith)
-around_is_place x q (b ∷ bs) t pos = go (around_later x b.size q b.place bs (let e : 0 + b.size ≡ b.size = zero-add b.size in subst (λ n. Tiles n q bs) e t.2)) where
+around_is_place x q [] t pos = absurd (let is_empty : 0 ≡ q = t in omega arith)
+around_is_place x q (b ∷ bs) t pos = go (around_later x b.size q b.place bs (let same_start : 0 + b.size ≡ b.size = zero-add b.size in subst (λ n. Tiles n q bs) same_start t.2)) where
   start : place_around x 0 (b ∷ bs) ≡ place_around x b.place bs
-  start = cond-true (nat_le b.place x) _ _ (le-leb b.place x (let e : b.place ≡ 0 = t.0 in omega arith))
+  start = cond-true (nat_le b.place x) _ _ (le-leb b.place x (let at_start : b.place ≡ 0 = t.0 in omega arith))
 
   go : (place_around x b.place bs ≡ b.place) ⊎ (has_place (place_around x b.place bs) bs ≡ true) → has_place (place_around x 0 (b ∷ bs)) (b ∷ bs) ≡ true
   go (inl e) = ap (λ n. has_place n (b ∷ bs)) start ∙ cond-true _ _ _ (eq-eqb _ _ (sym e))
@@ -105,7 +105,7 @@ after_cases x p q (b ∷ bs) t = go (b.place == x) (b.place + b.size == q) refl 
   go false v e (inr k) = inr (keep (b.place == place_after x q bs) k)
 
 pub after_is_place : (x q : ℕ) (bs : List Block) → Tiles 0 q bs → 0 < q → has_place (place_after x q bs) bs ≡ true
-after_is_place x q [] t pos = absurd (let e : 0 ≡ q = t in omega arith)
+after_is_place x q [] t pos = absurd (let is_empty : 0 ≡ q = t in omega arith)
 after_is_place x q (b ∷ bs) t pos = go (after_cases x 0 q (b ∷ bs) t) where
   go : (place_after x q (b ∷ bs) ≡ 0) ⊎ (has_place (place_after x q (b ∷ bs)) (b ∷ bs) ≡ true) → has_place (place_after x q (b ∷ bs)) (b ∷ bs) ≡ true
   go (inl e) = ap (λ n. has_place n (b ∷ bs)) e ∙ cond-true _ _ _ (eq-eqb _ _ t.0)

@@ -13,7 +13,8 @@ use Rattle.level_rules.specs.maps.Sound.{IsTree}
 use Rattle.level_rules.proofs.maps.VisitLemmas.{visits_refusal-append, visits_refusal-cons}
 
 -- what both children pass, the child on a side passes
-pub child_passes : (passes : Child → Bool) (node : Node) (side : ℕ) → side ≤ 1 → (passes (child_on node 0) && passes (child_on node 1)) ≡ true → passes (child_on node side) ≡ true
+pub child_passes : (passes : Child → Bool) (node : Node) (side : ℕ) → side ≤ 1 → (passes (child_on node 0) && passes (child_on node 1)) ≡ true →
+    passes (child_on node side) ≡ true
 child_passes passes node side low both =
     let each = and_parts (passes (child_on node 0)) (passes (child_on node 1)) both in
     elim (cases_eq side 0) [
@@ -38,7 +39,8 @@ within-node nodes k reached visits h (Some node) e =
     rw (h (child_on node 0) reached parts.0, h (child_on node 1) _ parts.1) refl
 
 -- where no visit is refused, no way is longer than the limit
-pub within : (nodes : List Node) (k depth : ℕ) (c : Child) (reached : List Bool) → k + depth ≡ MAX_DEPTH + 1 → visits_refusal reached (preorder nodes (suc k) depth c) ≡ None → is_within nodes k c ≡ true
+pub within : (nodes : List Node) (k depth : ℕ) (c : Child) (reached : List Bool) → k + depth ≡ MAX_DEPTH + 1 →
+    visits_refusal reached (preorder nodes (suc k) depth c) ≡ None → is_within nodes k c ≡ true
 unfolding is_within preorder
 within nodes zero depth (LeafChild leaf) reached d e = refl
 within nodes (suc k) depth (LeafChild leaf) reached d e = refl
@@ -91,7 +93,8 @@ set-mark : (reached : List Bool) (v : Visit) → v.node < length reached → sli
 set-mark reached v l = get_or-set_same reached v.node true false l
 
 -- where no visit is refused, none is of a node that was reached before
-pub unreached : (reached : List Bool) (vs : List Visit) → AreInside reached vs → visits_refusal reached vs ≡ None → (i : ℕ) (d : Visit) → i < length vs → slice_index_or reached (slice_index_or vs i d).node false ≡ false
+pub unreached : (reached : List Bool) (vs : List Visit) → AreInside reached vs → visits_refusal reached vs ≡ None → (i : ℕ) (d : Visit) → i < length vs →
+    slice_index_or reached (slice_index_or vs i d).node false ≡ false
 unfolding visits_refusal
 unreached reached [] inside e i d l = absurd (omega arith)
 unreached reached (v ∷ vs) inside e zero d l = visit-new reached v (or_else-none _ _ e).0
@@ -127,13 +130,15 @@ inside-found nodes leaves visits h (Some node) e =
     let parts = and_parts _ _ e in
     list_all-append (λ v. nat_lt v.node nodes) (visits (child_on node 0)) (visits (child_on node 1)) ∙ rw (h (child_on node 0) parts.0, h (child_on node 1) parts.1) refl
 
-found-children : (count leaves : ℕ) (some : List Node) (n : ℕ) → list_all (has_children count leaves) some ≡ true → option_map_or (has_children count leaves) (slice_get some n) true ≡ true
+found-children : (count leaves : ℕ) (some : List Node) (n : ℕ) → list_all (has_children count leaves) some ≡ true →
+    option_map_or (has_children count leaves) (slice_get some n) true ≡ true
 found-children count leaves [] n e = refl
 found-children count leaves (x ∷ xs) zero e = (and_parts _ _ e).0
 found-children count leaves (x ∷ xs) (suc n) e = found-children count leaves xs n (and_parts _ _ e).1
 
 -- where each child is there, so is each node that is visited
-pub preorder-inside : (nodes : List Node) (count leaves levels depth : ℕ) (c : Child) → list_all (has_children count leaves) nodes ≡ true → is_there count leaves c ≡ true → list_all (λ v. nat_lt v.node count) (preorder nodes levels depth c) ≡ true
+pub preorder-inside : (nodes : List Node) (count leaves levels depth : ℕ) (c : Child) → list_all (has_children count leaves) nodes ≡ true →
+    is_there count leaves c ≡ true → list_all (λ v. nat_lt v.node count) (preorder nodes levels depth c) ≡ true
 unfolding preorder is_there
 preorder-inside nodes count leaves zero depth c e q = refl
 preorder-inside nodes count leaves (suc levels) depth (LeafChild leaf) e q = refl
@@ -147,11 +152,13 @@ root-there [] leaves l = grind arith
 root-there (n ∷ nodes) leaves l = grind arith
 
 -- where no visit from the start is refused, no node is visited twice
-once-all : (nodes : List Node) (reached : List Bool) (vs : List Visit) → length reached ≡ length nodes → list_all (λ v. nat_lt v.node (length nodes)) vs ≡ true → visits_refusal reached vs ≡ None → AreOnce vs
-once-all nodes reached vs l e h = once reached vs (λ v i m. let t : nat_lt (slice_index_or vs i v).node (length nodes) ≡ true = AllPass-from_list_all (λ (v : Visit). nat_lt v.node (length nodes)) vs e i v m in rw l (grind (arith, t))) h
+once-all : (nodes : List Node) (reached : List Bool) (vs : List Visit) → length reached ≡ length nodes →
+    list_all (λ v. nat_lt v.node (length nodes)) vs ≡ true → visits_refusal reached vs ≡ None → AreOnce vs
+once-all nodes reached vs l e h = once reached vs (λ v i m. let is_number : nat_lt (slice_index_or vs i v).node (length nodes) ≡ true = AllPass-from_list_all (λ (v : Visit). nat_lt v.node (length nodes)) vs e i v m in rw l (grind (arith, is_number))) h
 
 -- nodes whose children are there, and of which none is refused, are a tree
-pub tree_refusal-none : (nodes : List Node) (leaves : ℕ) → 0 < leaves → list_all (has_children (length nodes) leaves) nodes ≡ true → tree_refusal nodes ≡ None → IsTree nodes (root_of nodes)
+pub tree_refusal-none : (nodes : List Node) (leaves : ℕ) → 0 < leaves → list_all (has_children (length nodes) leaves) nodes ≡ true → tree_refusal nodes ≡ None →
+    IsTree nodes (root_of nodes)
 unfolding tree_refusal
 tree_refusal-none nodes leaves l e h =
     let inside = preorder-inside nodes (length nodes) leaves (MAX_DEPTH + 1) 1 (root_of nodes) e (root-there nodes leaves l) in

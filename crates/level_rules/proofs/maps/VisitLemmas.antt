@@ -14,15 +14,16 @@ preorder-leaf nodes (suc levels) depth leaf = refl
 pub preorder-node : (nodes : List Node) (levels depth n : ℕ) → 0 < levels → preorder nodes levels depth (NodeChild n) ≡ (record { node = n; depth = depth }) ∷ visits_of (preorder nodes (levels - 1) (depth + 1)) (slice_get nodes n)
 unfolding preorder
 preorder-node nodes zero depth n l = absurd (omega arith)
-preorder-node nodes (suc levels) depth n l = let e : suc levels - 1 ≡ levels = omega arith in rw e refl
+preorder-node nodes (suc levels) depth n l = let one_less : suc levels - 1 ≡ levels = omega arith in rw one_less refl
 
 -- visits one after the other
-pub visits_refusal-append : (reached : List Bool) (xs ys : List Visit) → visits_refusal reached (xs ++ ys) ≡ or_else (visits_refusal reached xs) (visits_refusal (reached_after reached xs) ys)
+pub visits_refusal-append : (reached : List Bool) (xs ys : List Visit) →
+    visits_refusal reached (xs ++ ys) ≡ or_else (visits_refusal reached xs) (visits_refusal (reached_after reached xs) ys)
 unfolding visits_refusal reached_after
 visits_refusal-append reached [] ys = refl
 visits_refusal-append reached (v ∷ xs) ys =
-    let e = visits_refusal-append (slice_set reached v.node true) xs ys in
-    rw e (or_else-assoc (visit_refusal reached v) (visits_refusal (slice_set reached v.node true) xs) (visits_refusal (reached_after (slice_set reached v.node true) xs) ys))
+    let rest_refusal = visits_refusal-append (slice_set reached v.node true) xs ys in
+    rw rest_refusal (or_else-assoc (visit_refusal reached v) (visits_refusal (slice_set reached v.node true) xs) (visits_refusal (reached_after (slice_set reached v.node true) xs) ys))
 
 pub reached_after-append : (reached : List Bool) (xs ys : List Visit) → reached_after reached (xs ++ ys) ≡ reached_after (reached_after reached xs) ys
 unfolding reached_after
@@ -30,7 +31,8 @@ reached_after-append reached [] ys = refl
 reached_after-append reached (v ∷ xs) ys = reached_after-append (slice_set reached v.node true) xs ys
 
 -- one visit, and then others
-pub visits_refusal-cons : (reached : List Bool) (v : Visit) (vs : List Visit) → visits_refusal reached (v ∷ vs) ≡ or_else (visit_refusal reached v) (visits_refusal (slice_set reached v.node true) vs)
+pub visits_refusal-cons : (reached : List Bool) (v : Visit) (vs : List Visit) →
+    visits_refusal reached (v ∷ vs) ≡ or_else (visit_refusal reached v) (visits_refusal (slice_set reached v.node true) vs)
 unfolding visits_refusal
 visits_refusal-cons reached v vs = refl
 

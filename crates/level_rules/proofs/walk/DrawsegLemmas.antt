@@ -33,20 +33,20 @@ pub drawsegs-room : (es : List Event) (seg first last : ℕ) → length (leaf_fr
     drawsegs (es ++ FragmentEvent seg first last ∷ []) ≡ drawsegs es ++ record { leaf = last_leaf 0 es; seg = seg; first = first; last = last } ∷ []
 unfolding drawsegs leaf_fragments
 drawsegs-room es seg first last h =
-    let f : LeafFragment = record { leaf = last_leaf 0 es; seg = seg; first = first; last = last } in
-    let e : leaf_fragments 0 (es ++ FragmentEvent seg first last ∷ []) ≡ leaf_fragments 0 es ++ (f ∷ []) = leaf_fragments-append 0 es (FragmentEvent seg first last ∷ []) in
-    ap (take MAX_DRAWSEGS) e
-    ∙ take_all MAX_DRAWSEGS (leaf_fragments 0 es ++ (f ∷ [])) (omega (arith, length_push (leaf_fragments 0 es) f))
-    ∙ ap (λ (fs : List LeafFragment). fs ++ (f ∷ [])) (sym (take_all MAX_DRAWSEGS (leaf_fragments 0 es) (omega arith)))
+    let fragment : LeafFragment = record { leaf = last_leaf 0 es; seg = seg; first = first; last = last } in
+    let one_more : leaf_fragments 0 (es ++ FragmentEvent seg first last ∷ []) ≡ leaf_fragments 0 es ++ (fragment ∷ []) = leaf_fragments-append 0 es (FragmentEvent seg first last ∷ []) in
+    ap (take MAX_DRAWSEGS) one_more
+    ∙ take_all MAX_DRAWSEGS (leaf_fragments 0 es ++ (fragment ∷ [])) (omega (arith, length_push (leaf_fragments 0 es) fragment))
+    ∙ ap (λ (fs : List LeafFragment). fs ++ (fragment ∷ [])) (sym (take_all MAX_DRAWSEGS (leaf_fragments 0 es) (omega arith)))
 
 -- past the most that a view keeps nothing is added
 pub drawsegs-full : (es : List Event) (seg first last : ℕ) → MAX_DRAWSEGS ≤ length (leaf_fragments 0 es) →
     drawsegs (es ++ FragmentEvent seg first last ∷ []) ≡ drawsegs es
 unfolding drawsegs leaf_fragments
 drawsegs-full es seg first last h =
-    let f : LeafFragment = record { leaf = last_leaf 0 es; seg = seg; first = first; last = last } in
-    let e : leaf_fragments 0 (es ++ FragmentEvent seg first last ∷ []) ≡ leaf_fragments 0 es ++ (f ∷ []) = leaf_fragments-append 0 es (FragmentEvent seg first last ∷ []) in
-    ap (take MAX_DRAWSEGS) e ∙ take-append-le MAX_DRAWSEGS (leaf_fragments 0 es) (f ∷ []) h
+    let fragment : LeafFragment = record { leaf = last_leaf 0 es; seg = seg; first = first; last = last } in
+    let one_more : leaf_fragments 0 (es ++ FragmentEvent seg first last ∷ []) ≡ leaf_fragments 0 es ++ (fragment ∷ []) = leaf_fragments-append 0 es (FragmentEvent seg first last ∷ []) in
+    ap (take MAX_DRAWSEGS) one_more ∙ take-append-le MAX_DRAWSEGS (leaf_fragments 0 es) (fragment ∷ []) h
 
 -- there is room exactly where fewer are drawn than a view keeps
 pub room-drawsegs : (es : List Event) → length (drawsegs es) < MAX_DRAWSEGS → length (leaf_fragments 0 es) < MAX_DRAWSEGS

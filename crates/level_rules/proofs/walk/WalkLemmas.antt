@@ -22,7 +22,7 @@ pub walk-node : (v : ViewValue) (level : LevelLists) (depth n : ℕ) (w : WalkSt
     walk_child v level depth (NodeChild n) w ≡ at_node v (walk_child v level (depth - 1)) (node_at level n) w
 unfolding walk_child
 walk-node v level zero n w e = absurd (e refl)
-walk-node v level (suc depth) n w e = let q : suc depth - 1 ≡ depth = omega arith in rw q
+walk-node v level (suc depth) n w e = let one_less : suc depth - 1 ≡ depth = omega arith in rw one_less
 
 -- no seg, and one seg more
 pub at_segs-none : (v : ViewValue) (level : LevelLists) (front : Surface) (first n : ℕ) (w : WalkState) → n ≡ 0 → w ≡ at_segs v level front first n w
@@ -32,7 +32,7 @@ at_segs-none v level front first n w e = rw e
 pub at_segs-more : (v : ViewValue) (level : LevelLists) (front : Surface) (first k n : ℕ) (w : WalkState) → k + 1 ≡ n →
     at_seg v level front (first + k) (at_segs v level front first k w) ≡ at_segs v level front first n w
 unfolding at_segs
-at_segs-more v level front first k n w e = let f : suc k ≡ n = omega arith in ap (λ (m : ℕ). at_segs v level front first m w) f
+at_segs-more v level front first k n w e = let is_suc : suc k ≡ n = omega arith in ap (λ (m : ℕ). at_segs v level front first m w) is_suc
 
 -- for `grind`
 pub ruleset walk_cases = (walk-leaf, walk-too_deep, walk-node)

@@ -26,7 +26,7 @@ columns_marked-none w ceiling floor n planes e = rw e
 pub columns_marked-more : (w : PlaneWall) (ceiling floor : Option ℕ) (k n : ℕ) (planes : List Plane) → k + 1 ≡ n →
     column_marked w ceiling floor (w.first + k) (columns_marked w ceiling floor k planes) ≡ columns_marked w ceiling floor n planes
 unfolding columns_marked
-columns_marked-more w ceiling floor k n planes e = let f : suc k ≡ n = omega arith in ap (λ (m : ℕ). columns_marked w ceiling floor m planes) f
+columns_marked-more w ceiling floor k n planes e = let is_suc : suc k ≡ n = omega arith in ap (λ (m : ℕ). columns_marked w ceiling floor m planes) is_suc
 
 column_alike : (a b : PlaneWall) → MarkAlike a b → (ceiling floor : Option ℕ) (x : ℕ) (planes : List Plane) → a.first ≤ x → x ≤ a.last → column_marked a ceiling floor x planes ≡ column_marked b ceiling floor x planes
 unfolding column_marked
@@ -47,15 +47,15 @@ unfolding wall_marked
 marked_alike a b h l s =
     ap (λ (p : List Plane). record { planes = p; floor = s.floor; ceiling = s.ceiling })
     (columns_alike a b h s.ceiling s.floor (a.last + 1 - a.first) s.planes (omega arith)
-    ∙ (let e : a.last + 1 - a.first ≡ b.last + 1 - b.first = (let f = h.first in let g = h.last in omega arith) in ap (λ (n : ℕ). columns_marked b s.ceiling s.floor n s.planes) e))
+    ∙ (let same_count : a.last + 1 - a.first ≡ b.last + 1 - b.first = (let same_first = h.first in let same_last = h.last in omega arith) in ap (λ (n : ℕ). columns_marked b s.ceiling s.floor n s.planes) same_count))
 
 ceiling_alike : (a b : PlaneWall) → MarkAlike a b → (s : PlanesNow) → ceiling_checked a s ≡ ceiling_checked b s
 unfolding ceiling_checked
-ceiling_alike a b h s = let c = h.ceiling_mark in let f = h.first in let g = h.last in cc
+ceiling_alike a b h s = let same_marks = h.ceiling_mark in let same_first = h.first in let same_last = h.last in cc
 
 floor_alike : (a b : PlaneWall) → MarkAlike a b → (s : PlanesNow) → floor_checked a s ≡ floor_checked b s
 unfolding floor_checked
-floor_alike a b h s = let c = h.floor_mark in let f = h.first in let g = h.last in cc
+floor_alike a b h s = let same_marks = h.floor_mark in let same_first = h.first in let same_last = h.last in cc
 
 pub after_event-alike : (s : PlanesNow) (a b : PlaneWall) → MarkAlike a b → a.first ≤ a.last + 1 → after_event s (Draws a) ≡ after_event s (Draws b)
 unfolding after_event
@@ -147,10 +147,11 @@ pub sound-after_event : (s : PlanesNow) (e : PlaneEvent) → IsSoundNow s → Is
 unfolding after_event ceiling_checked floor_checked
 sound-after_event s (Finds floor ceiling) h = sound-ceiling_found ceiling (floor_found floor s) (sound-floor_found floor s h)
 sound-after_event s (Draws w) h =
-    let c : IsSoundNow (ceiling_checked w s) = sound-with_ceiling _ s (sound_checked w.ceiling_mark s.planes s.ceiling w.first w.last h.ceiling h.wide) h in
+    let ceiling_sound : IsSoundNow (ceiling_checked w s) =
+    sound-with_ceiling _ s (sound_checked w.ceiling_mark s.planes s.ceiling w.first w.last h.ceiling h.wide) h in
     let now : PlanesNow = ceiling_checked w s in
     sound-wall_marked w (floor_checked w now)
-    (sound-with_floor _ now (sound_checked w.floor_mark now.planes now.floor w.first w.last c.floor c.wide) c)
+    (sound-with_floor _ now (sound_checked w.floor_mark now.planes now.floor w.first w.last ceiling_sound.floor ceiling_sound.wide) ceiling_sound)
 
 pub sound-after_events : (s : PlanesNow) (es : List PlaneEvent) → IsSoundNow s → IsSoundNow (after_events s es)
 unfolding after_events
@@ -187,12 +188,12 @@ longer_marked w s = omega (arith, length_columns w s.ceiling s.floor (w.last + 1
 pub after_event-longer : (s : PlanesNow) (e : PlaneEvent) → length s.planes ≤ length (after_event s e).planes
 unfolding after_event ceiling_checked floor_checked
 after_event-longer s (Finds floor ceiling) =
-    let a = longer_floor floor s in
-    let b = longer_ceiling ceiling (floor_found floor s) in
-    omega (arith, a, b)
+    let floor_longer = longer_floor floor s in
+    let ceiling_longer = longer_ceiling ceiling (floor_found floor s) in
+    omega (arith, floor_longer, ceiling_longer)
 after_event-longer s (Draws w) =
-    let a = longer_ceiling_checked w.ceiling_mark s.ceiling s w.first w.last in
+    let ceiling_longer = longer_ceiling_checked w.ceiling_mark s.ceiling s w.first w.last in
     let now : PlanesNow = ceiling_checked w s in
-    let b = longer_floor_checked w.floor_mark now.floor now w.first w.last in
-    let c = longer_marked w (floor_checked w now) in
-    omega (arith, a, b, c)
+    let floor_longer = longer_floor_checked w.floor_mark now.floor now w.first w.last in
+    let marked_longer = longer_marked w (floor_checked w now) in
+    omega (arith, ceiling_longer, floor_longer, marked_longer)

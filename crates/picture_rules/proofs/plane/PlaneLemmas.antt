@@ -1,5 +1,5 @@
 -- Laws of the list of planes: what find, check and mark give, how many planes there are, and what a column holds.
-use Rattle.word_rules.proofs.Common.{[], All-push, All-set, arith, Bool, cond, false, get_or, get_or-set_other, get_or-set_same, is_none, length, length-replicate, length-set, length_push, List, None, Option, position-Some, refl, replicate, slice_get, slice_index_or, slice_set, Some, subst, suc, true, zero, ℕ, ◌+◌, ◌<◌, ◌∙◌, ◌∷◌, ◌≡◌, ◌≢◌, ◌≤◌}
+use Rattle.word_rules.proofs.Common.{[], All-push, All-set, arith, Bool, cond, false, get_or, is_none, length, length-replicate, length-set, length_push, List, None, Option, position-Some, refl, replicate, slice_get, slice_index_or, slice_set, Some, subst, suc, true, zero, ℕ, ◌+◌, ◌<◌, ◌∙◌, ◌∷◌, ◌≡◌, ◌≤◌}
 use Rattle.view_rules.specs.declared.TheConstants.{FRAME_WIDTH}
 use Rattle.picture_rules.specs.declared.plane.PlaneKey.{PlaneKey}
 use Rattle.picture_rules.specs.plane.Keys.{same_key}
@@ -22,15 +22,6 @@ check-some planes i first last p e = rw e refl
 pub mark-some : (planes : List Plane) (i x : ℕ) (rows : ℕ × ℕ) (p : Plane) → slice_get planes i ≡ Some p → mark planes i x rows ≡ slice_set planes i (with_run p x rows)
 unfolding mark mark_some
 mark-some planes i x rows p e = rw e refl
-
--- the run that was marked, and those that stay
-pub column-with_run_same : (p : Plane) (x : ℕ) (rows : ℕ × ℕ) → x < length p.runs → column (with_run p x rows) x ≡ Some rows
-unfolding column with_run
-column-with_run_same p x rows l = get_or-set_same p.runs x (Some rows) None l
-
-pub column-with_run_other : (p : Plane) (x k : ℕ) (rows : ℕ × ℕ) → k ≢ x → column (with_run p x rows) k ≡ column p k
-unfolding column with_run
-column-with_run_other p x k rows n = get_or-set_other p.runs x k (Some rows) None n
 
 same_at : (n x : ℕ) (d : Option (ℕ × ℕ)) → slice_index_or (replicate n d) x d ≡ d
 same_at zero x d = refl
@@ -131,16 +122,16 @@ wide-check planes i first last w = wide_check_some planes i (slice_get planes i)
 
 get_is : (planes : List Plane) (i : ℕ) (p : Plane) → slice_get planes i ≡ Some p → (i < length planes) × (get_or planes i p ≡ p)
 get_is [] i p e = cc
-get_is (q ∷ qs) zero p e = (omega arith, (let f : Some q ≡ Some p = e in cc))
-get_is (q ∷ qs) (suc i) p e = let r = get_is qs i p e in (omega (arith, r.0), r.1)
+get_is (q ∷ qs) zero p e = (omega arith, (let same_some : Some q ≡ Some p = e in cc))
+get_is (q ∷ qs) (suc i) p e = let is_rest = get_is qs i p e in (omega (arith, is_rest.0), is_rest.1)
 
 wide_mark_some : (planes : List Plane) (i : ℕ) (o : Option Plane) → slice_get planes i ≡ o → (x : ℕ) (rows : ℕ × ℕ) → AreWide planes → AreWide (mark_some planes i o x rows)
 unfolding mark_some with_run
 wide_mark_some planes i None e x rows w = w
 wide_mark_some planes i (Some p) e x rows w =
-    let g = get_is planes i p e in
-    let n : length p.runs ≡ FRAME_WIDTH = subst (λ (q : Plane). length q.runs ≡ FRAME_WIDTH) g.1 (w i p g.0) in
-    All-set (λ q. length q.runs ≡ FRAME_WIDTH) planes i (with_run p x rows) (length-set p.runs x (Some rows) ∙ n) w
+    let is_there = get_is planes i p e in
+    let is_wide : length p.runs ≡ FRAME_WIDTH = subst (λ (q : Plane). length q.runs ≡ FRAME_WIDTH) is_there.1 (w i p is_there.0) in
+    All-set (λ q. length q.runs ≡ FRAME_WIDTH) planes i (with_run p x rows) (length-set p.runs x (Some rows) ∙ is_wide) w
 
 pub wide-mark : (planes : List Plane) (i x : ℕ) (rows : ℕ × ℕ) → AreWide planes → AreWide (mark planes i x rows)
 unfolding mark

@@ -11,11 +11,11 @@ span_start-zero passes = refl
 
 pub span_start-on : (passes : ℕ → Bool) (x n : ℕ) → x + 1 ≡ n → passes x ≡ true → span_start passes n ≡ span_start passes x
 unfolding span_start
-span_start-on passes x n e h = let f : suc x ≡ n = omega arith in ap (span_start passes) (sym f) ∙ (rw h refl)
+span_start-on passes x n e h = let is_suc : suc x ≡ n = omega arith in ap (span_start passes) (sym is_suc) ∙ (rw h refl)
 
 pub span_start-off : (passes : ℕ → Bool) (x n : ℕ) → x + 1 ≡ n → passes x ≡ false → span_start passes n ≡ n
 unfolding span_start
-span_start-off passes x n e h = let f : suc x ≡ n = omega arith in ap (span_start passes) (sym f) ∙ (rw h f)
+span_start-off passes x n e h = let is_suc : suc x ≡ n = omega arith in ap (span_start passes) (sym is_suc) ∙ (rw h is_suc)
 
 within_cond : (a x : ℕ) (b : Bool) → a ≤ x → cond b a (suc x) ≤ suc x
 within_cond a x true l = omega arith
@@ -29,7 +29,7 @@ span_start-within passes (suc x) = within_cond (span_start passes x) x (passes x
 
 passes_step : (passes : ℕ → Bool) (x k s : ℕ) → (s ≤ k → k < x → passes k ≡ true) → (b : Bool) → passes x ≡ b → cond b s (suc x) ≤ k → k < suc x → passes k ≡ true
 passes_step passes x k s h true e l m =
-    elim (cases_lt k x) [ inl a ↦ h l a | inr a ↦ (let d : k ≡ x = omega arith in ap passes d ∙ e) ]
+    elim (cases_lt k x) [ inl a ↦ h l a | inr a ↦ (let is_last : k ≡ x = omega arith in ap passes is_last ∙ e) ]
 passes_step passes x k s h false e l m = absurd (omega arith)
 
 -- from it on every column before x passes
@@ -48,18 +48,18 @@ unfolding span_start
 span_start-least passes zero j l h = omega arith
 span_start-least passes (suc x) j l h =
     elim (cases_lt x j) [
-      | inl b ↦ (let w : span_start passes (suc x) ≤ suc x = span_start-within passes (suc x) in omega arith)
+      | inl b ↦ (let not_past : span_start passes (suc x) ≤ suc x = span_start-within passes (suc x) in omega arith)
       | inr b ↦ least_step (span_start passes x) x j (passes x) (h x b (omega arith)) (span_start-least passes x j b (λ k a c. h k a (omega arith)))
     ]
 
 -- the one column from which on all pass, and before which none does
 pub span_start-is : (passes : ℕ → Bool) (x p : ℕ) → p ≤ x → ((k : ℕ) → p ≤ k → k < x → passes k ≡ true) → ((k : ℕ) → k + 1 ≡ p → passes k ≡ false) → span_start passes x ≡ p
 span_start-is passes x p l h b =
-    let n : span_start passes x ≤ p = span_start-least passes x p l h in
+    let not_later : span_start passes x ≤ p = span_start-least passes x p l h in
     elim (cases_lt (span_start passes x) p) [
       | inl m ↦
-          (let t : passes (p - 1) ≡ true = span_start-passes passes x (p - 1) (omega arith) (omega arith) in
-          let f : passes (p - 1) ≡ false = b (p - 1) (omega arith) in cc)
+          (let passes_before : passes (p - 1) ≡ true = span_start-passes passes x (p - 1) (omega arith) (omega arith) in
+          let fails_before : passes (p - 1) ≡ false = b (p - 1) (omega arith) in cc)
       | inr m ↦ omega arith
     ]
 
@@ -76,8 +76,8 @@ covered-gaps p y x l = gap_at p.runs y x l
 before_run : (p : Plane) (y first k : ℕ) → length p.runs ≡ FRAME_WIDTH → k + 1 ≡ first → first < FRAME_WIDTH → (first ≡ 0) ⊎ (is_covered (plane_gaps p y) (first - 1) ≡ true) → holds p y k ≡ false
 before_run p y first k n e l (inl z) = absurd (omega arith)
 before_run p y first k n e l (inr c) =
-    let d : first - 1 ≡ k = omega arith in
-    not-true (holds p y k) (sym (covered-gaps p y k (omega arith)) ∙ ap (is_covered (plane_gaps p y)) (sym d) ∙ c)
+    let one_back : first - 1 ≡ k = omega arith in
+    not-true (holds p y k) (sym (covered-gaps p y k (omega arith)) ∙ ap (is_covered (plane_gaps p y)) (sym one_back) ∙ c)
 
 -- in each maximal run of columns that hold the row, spans begin at the run's first column
 pub span_start-run : (p : Plane) (y first last x : ℕ) → length p.runs ≡ FRAME_WIDTH → IsFragment (plane_gaps p y) 0 (FRAME_WIDTH - 1) first last → first ≤ x → x ≤ last → span_start (holds p y) x ≡ first

@@ -29,7 +29,7 @@ get_some (x ∷ xs) (suc k) d l = get_some xs k d (omega arith)
 
 not_short : {X : Type 0} (p : X → Bool) (xs : List X) → position p xs ≡ None → length xs ≤ position_or_len p xs
 not_short p xs e = elim (cases_lt (position_or_len p xs) (length xs)) [
-  | inl l ↦ (let f : position p xs ≡ Some (position_or_len p xs) = rw (lt-ltb (position_or_len p xs) (length xs) l) refl in cc)
+  | inl l ↦ (let is_found : position p xs ≡ Some (position_or_len p xs) = rw (lt-ltb (position_or_len p xs) (length xs) l) refl in cc)
   | inr l ↦ l
 ]
 
@@ -38,8 +38,8 @@ unfolding passes_some
 position_least p xs d None e =
     sym (least-none (λ k. passes_some p (slice_get xs k)) (length xs) (λ k l. none_pass p xs k (not_short p xs e) l))
 position_least p xs d (Some i) e =
-    let f = position-Some p xs i d e in
-    sym (least-some (λ k. passes_some p (slice_get xs k)) (length xs) i f.0 (ap (passes_some p) (get_some xs i d f.0) ∙ f.1) (λ k l. ap (passes_some p) (get_some xs k d (omega (arith, f.0))) ∙ f.2 k l))
+    let found_at = position-Some p xs i d e in
+    sym (least-some (λ k. passes_some p (slice_get xs k)) (length xs) i found_at.0 (ap (passes_some p) (get_some xs i d found_at.0) ∙ found_at.1) (λ k l. ap (passes_some p) (get_some xs k d (omega (arith, found_at.0))) ∙ found_at.2 k l))
 
 none_stands : (d : Drawseg) (x : ℕ) → None ≡ least (λ k. stands_in_front d x (slice_get [] k)) 0
 unfolding least
@@ -55,8 +55,8 @@ stands : (d : Drawseg) (x : ℕ) (sprites : List SpriteEntry) (n : ℕ) →
 unfolding least
 stands d x sprites zero = refl
 stands d x sprites (suc n) =
-    let a = stands d x sprites n in
-    let b = stands_some d x (slice_get sprites n) in cc
+    let rest_alike = stands d x sprites n in
+    let same_test = stands_some d x (slice_get sprites n) in cc
 
 -- a masked column is drawn just before the least sprite that stands in front of it
 pub sprite_in_front-least : (sprites : List SpriteEntry) (d : Drawseg) (x : ℕ) → sprite_in_front sprites d x ≡ least (λ k. stands_in_front d x (slice_get sprites k)) (length sprites)
@@ -68,19 +68,19 @@ sprite_in_front-least (e ∷ es) d x =
 -- fragments alike are behind the same sprites, and give the same clips
 pub alike-is_behind : (a b : Drawseg) → DrawAlike a b → (e : SpriteEntry) → is_behind a e ≡ is_behind b e
 unfolding is_behind
-alike-is_behind a b h e = let p = h.scale1 in let q = h.scale2 in let r = h.seg in cc
+alike-is_behind a b h e = let same_first_scale = h.scale1 in let same_last_scale = h.scale2 in let same_seg = h.seg in cc
 
 pub alike-drawseg_has : (a b : Drawseg) → DrawAlike a b → (x : ℕ) → drawseg_has a x ≡ drawseg_has b x
 unfolding drawseg_has
-alike-drawseg_has a b h x = let p = h.first in let q = h.last in cc
+alike-drawseg_has a b h x = let same_first = h.first in let same_last = h.last in cc
 
 alike_gives_bottom : (a b : Drawseg) → DrawAlike a b → (e : SpriteEntry) (x : ℕ) → gives_bottom e x a ≡ gives_bottom e x b
 unfolding gives_bottom
-alike_gives_bottom a b h e x = let p = alike-drawseg_has a b h x in let q = alike-is_behind a b h e in let r = h.has_bottom in let s = h.bottom_height in cc
+alike_gives_bottom a b h e x = cc (alike-drawseg_has a b h x, alike-is_behind a b h e, h.has_bottom, h.bottom_height)
 
 alike_gives_top : (a b : Drawseg) → DrawAlike a b → (e : SpriteEntry) (x : ℕ) → gives_top e x a ≡ gives_top e x b
 unfolding gives_top
-alike_gives_top a b h e x = let p = alike-drawseg_has a b h x in let q = alike-is_behind a b h e in let r = h.has_top in let s = h.top_height in cc
+alike_gives_top a b h e x = cc (alike-drawseg_has a b h x, alike-is_behind a b h e, h.has_top, h.top_height)
 
 -- at each number the two lists have fragments alike, or none
 AreAlike : Option Drawseg → Option Drawseg → Type 0
@@ -107,7 +107,7 @@ same_passes t h (Some c) (Some b) a = h c b a
 same_greatest : (p q : ℕ → Bool) → ((k : ℕ) → p k ≡ q k) → (n : ℕ) → greatest p n ≡ greatest q n
 unfolding greatest
 same_greatest p q h zero = refl
-same_greatest p q h (suc n) = let a = h n in let b = same_greatest p q h n in cc
+same_greatest p q h (suc n) = let same_last = h n in let same_rest = same_greatest p q h n in cc
 
 same_some_clip : (t : Drawseg → Bool) (f : Drawseg → ℤ) (without : ℤ) → ((a b : Drawseg) → DrawAlike a b → t a ≡ true → f a ≡ f b) → (o r : Option Drawseg) → AreAlike o r → passes_at t o ≡ true → clip_of_some f without o ≡ clip_of_some f without r
 unfolding clip_of_some AreAlike passes_at
@@ -134,19 +134,19 @@ same_that t h ds es n z =
 
 has_parts : (a : Drawseg) (x : ℕ) → drawseg_has a x ≡ true → (a.first ≤ x) × (x ≤ a.last)
 unfolding drawseg_has
-has_parts a x h = let p = and_parts (nat_le a.first x) (nat_le x a.last) h in (leb-true a.first x p.0, leb-true x a.last p.1)
+has_parts a x h = let bounds = and_parts (nat_le a.first x) (nat_le x a.last) h in (leb-true a.first x bounds.0, leb-true x a.last bounds.1)
 
 given_bottom : (a b : Drawseg) (e : SpriteEntry) (x : ℕ) → DrawAlike a b → gives_bottom e x a ≡ true → a.bottom_clip x ≡ b.bottom_clip x
 unfolding gives_bottom
 given_bottom a b e x h g =
-    let p = has_parts a x (and_parts (drawseg_has a x) (not (is_behind a e) && (a.has_bottom && int_lt e.gz a.bottom_height)) g).0 in
-    h.bottom_clip x p.0 p.1
+    let bounds = has_parts a x (and_parts (drawseg_has a x) (not (is_behind a e) && (a.has_bottom && int_lt e.gz a.bottom_height)) g).0 in
+    h.bottom_clip x bounds.0 bounds.1
 
 given_top : (a b : Drawseg) (e : SpriteEntry) (x : ℕ) → DrawAlike a b → gives_top e x a ≡ true → a.top_clip x ≡ b.top_clip x
 unfolding gives_top
 given_top a b e x h g =
-    let p = has_parts a x (and_parts (drawseg_has a x) (not (is_behind a e) && (a.has_top && int_lt a.top_height e.gzt)) g).0 in
-    h.top_clip x p.0 p.1
+    let bounds = has_parts a x (and_parts (drawseg_has a x) (not (is_behind a e) && (a.has_top && int_lt a.top_height e.gzt)) g).0 in
+    h.top_clip x bounds.0 bounds.1
 
 -- so a sprite is seen as far over fragments alike
 pub alike-sprite_bottom : (height : ℕ) (ds es : List Drawseg) → AllZip DrawAlike ds es → length ds ≡ length es → (e : SpriteEntry) (x : ℕ) → sprite_bottom height ds e x ≡ sprite_bottom height es e x

@@ -25,13 +25,14 @@ in_column_posts shape painter x c byte shade (p ∷ ps) =
 pub middles_at-more : (v : ViewValue) (art : Art) (ds : List Drawseg) (sprites : List SpriteEntry) (moment : Option ℕ) (k n : ℕ) → k + 1 ≡ n →
     middles_at v art ds sprites moment n ≡ middles_of v art sprites moment k (slice_get ds k) ++ middles_at v art ds sprites moment k
 unfolding middles_at
-middles_at-more v art ds sprites moment k n e = let f : suc k ≡ n = omega arith in ap (middles_at v art ds sprites moment) (sym f)
+middles_at-more v art ds sprites moment k n e = let is_suc : suc k ≡ n = omega arith in ap (middles_at v art ds sprites moment) (sym is_suc)
 
 -- one sprite more is drawn behind the others in the list
-pub sprites_from-more : (v : ViewValue) (art : Art) (ds : List Drawseg) (sprites : List SpriteEntry) (i n : ℕ) (es : List SpriteEntry) (e : SpriteEntry) → i + length es ≡ n →
-    sprites_from v art ds sprites i (es ++ e ∷ []) ≡ sprites_from v art ds sprites i es ++ sprite_step v art ds sprites n e
+pub sprites_from-more : (v : ViewValue) (art : Art) (ds : List Drawseg) (sprites : List SpriteEntry) (i n : ℕ) (es : List SpriteEntry) (e : SpriteEntry) →
+    i + length es ≡ n → sprites_from v art ds sprites i (es ++ e ∷ []) ≡ sprites_from v art ds sprites i es ++ sprite_step v art ds sprites n e
 unfolding sprites_from
-sprites_from-more v art ds sprites i n [] e h = append-nil (sprite_step v art ds sprites i e) ∙ (let f : i ≡ n = omega arith in ap (λ (j : ℕ). sprite_step v art ds sprites j e) f)
+sprites_from-more v art ds sprites i n [] e h =
+    append-nil (sprite_step v art ds sprites i e) ∙ (let is_last : i ≡ n = omega arith in ap (λ (j : ℕ). sprite_step v art ds sprites j e) is_last)
 sprites_from-more v art ds sprites i n (f ∷ fs) e h =
     ap (λ (xs : List Dot). sprite_step v art ds sprites i f ++ xs) (sprites_from-more v art ds sprites (i + 1) n fs e (omega arith))
     ∙ sym (append_assoc (sprite_step v art ds sprites i f) (sprites_from v art ds sprites (i + 1) fs) (sprite_step v art ds sprites n e))
@@ -43,7 +44,7 @@ range_within low first (suc n) last k l = ((k, omega arith), range_within low (f
 
 pub from_first : (first last : ℕ) → AllByRecursion (λ x. (first ≤ x) × (x ≤ last)) (map (λ x. x) (range_with_len first (last + 1 - first)))
 from_first first last = elim (cases_lt last first) [
-  | inl l ↦ (let e : last + 1 - first ≡ 0 = omega arith in rw e tt)
+  | inl l ↦ (let no_columns : last + 1 - first ≡ 0 = omega arith in rw no_columns tt)
   | inr l ↦ range_within first first (last + 1 - first) last (omega arith) (omega arith)
 ]
 
@@ -55,16 +56,18 @@ joined_alike f g first last (x ∷ xs) a h =
 alike_masked : (a b : Drawseg) → DrawAlike a b → (x : ℕ) → a.first ≤ x → x ≤ a.last → middle_masked a x ≡ middle_masked b x
 unfolding middle_masked drawseg_scale
 alike_masked a b h x l m =
-    let p = h.first in let q = h.scale1 in let r = h.step in let s = h.mid in let t = h.top_clip x l m in let u = h.bottom_clip x l m in cc
+    let same_first = h.first in let same_scale = h.scale1 in let same_step = h.step in
+    let same_mid = h.mid in let same_top = h.top_clip x l m in let same_bottom = h.bottom_clip x l m in cc
 
 alike_scale : (a b : Drawseg) → DrawAlike a b → (x : ℕ) → drawseg_scale a x ≡ drawseg_scale b x
 unfolding drawseg_scale
-alike_scale a b h x = let p = h.first in let q = h.scale1 in let r = h.step in cc
+alike_scale a b h x = let same_first = h.first in let same_scale = h.scale1 in let same_step = h.step in cc
 
 alike_column : (v : ViewValue) (art : Art) (k : ℕ) (a b : Drawseg) → DrawAlike a b → (x : ℕ) → a.first ≤ x → x ≤ a.last → middle_column v art k a x ≡ middle_column v art k b x
 unfolding middle_column middle_by
 alike_column v art k a b h x l m =
-    let p = alike_masked a b h x l m in let q = alike_scale a b h x in let r = h.middle in let s = h.light in let t = h.column x l m in cc
+    let same_masked = alike_masked a b h x l m in let same_scale = alike_scale a b h x in
+    let same_middle = h.middle in let same_light = h.light in let same_column = h.column x l m in cc
 
 alike_columns : (sprites : List SpriteEntry) (moment : Option ℕ) (a b : Drawseg) → DrawAlike a b → columns_at sprites moment a ≡ columns_at sprites moment b
 unfolding columns_at sprite_in_front is_behind
@@ -106,7 +109,8 @@ alike_middles_at v art sprites moment ds es h l (suc n) =
 
 alike_sprite_column : (v : ViewValue) (art : Art) (ds es : List Drawseg) → AllZip DrawAlike ds es → length ds ≡ length es → (e : SpriteEntry) (x : ℕ) → sprite_column v art ds e x ≡ sprite_column v art es e x
 unfolding sprite_column sprite_masked
-alike_sprite_column v art ds es h l e x = let p = alike-sprite_bottom v.shape.height ds es h l e x in let q = alike-sprite_top ds es h l e x in cc
+alike_sprite_column v art ds es h l e x =
+    let same_bottom = alike-sprite_bottom v.shape.height ds es h l e x in let same_top = alike-sprite_top ds es h l e x in cc
 
 alike_sprite : (v : ViewValue) (art : Art) (ds es : List Drawseg) → AllZip DrawAlike ds es → length ds ≡ length es → (e : SpriteEntry) (xs : List ℕ) → flat_map (sprite_column v art ds e) xs ≡ flat_map (sprite_column v art es e) xs
 alike_sprite v art ds es h l e [] = refl
@@ -117,18 +121,18 @@ alike_sprite v art ds es h l e (x ∷ xs) =
 alike_step : (v : ViewValue) (art : Art) (ds es : List Drawseg) (sprites : List SpriteEntry) (i : ℕ) (e : SpriteEntry) → AllZip DrawAlike ds es → length ds ≡ length es → sprite_step v art ds sprites i e ≡ sprite_step v art es sprites i e
 unfolding sprite_step sprite_dots joined_lists
 alike_step v art ds es sprites i e h l =
-    let p = alike_middles_at v art sprites (Some i) ds es h l (length ds) in
-    let q = alike_sprite v art ds es h l e (rows_between e.first e.last) in cc
+    let same_middles = alike_middles_at v art sprites (Some i) ds es h l (length ds) in
+    let same_sprite = alike_sprite v art ds es h l e (rows_between e.first e.last) in cc
 
 alike_sprites : (v : ViewValue) (art : Art) (ds es : List Drawseg) (sprites : List SpriteEntry) (i : ℕ) (fs : List SpriteEntry) → AllZip DrawAlike ds es → length ds ≡ length es → sprites_from v art ds sprites i fs ≡ sprites_from v art es sprites i fs
 unfolding sprites_from
 alike_sprites v art ds es sprites i [] h l = refl
 alike_sprites v art ds es sprites i (f ∷ fs) h l =
-    let p = alike_step v art ds es sprites i f h l in let q = alike_sprites v art ds es sprites (i + 1) fs h l in cc
+    let same_step = alike_step v art ds es sprites i f h l in let same_rest = alike_sprites v art ds es sprites (i + 1) fs h l in cc
 
 -- the masked pass reads of a fragment its own columns alone
 pub masked_dots-alike : (v : ViewValue) (art : Art) (ds es : List Drawseg) (sprites : List SpriteEntry) → AllZip DrawAlike ds es → length ds ≡ length es → masked_dots v art ds sprites ≡ masked_dots v art es sprites
 unfolding masked_dots
 masked_dots-alike v art ds es sprites h l =
-    let p = alike_sprites v art ds es sprites 0 sprites h l in
-    let q = alike_middles_at v art sprites None ds es h l (length ds) in cc
+    let same_sprites = alike_sprites v art ds es sprites 0 sprites h l in
+    let same_middles = alike_middles_at v art sprites None ds es h l (length ds) in cc

@@ -55,26 +55,27 @@ rises-draw_order : (es : List SpriteEntry) → RisesFromSome (draw_order es)
 unfolding draw_order
 rises-draw_order [] = (pos 0, tt)
 rises-draw_order (e ∷ es) =
-    let r = rises-draw_order es in
-    (int_min e.scale r.0, rises-insert_entry (int_min e.scale r.0) e (draw_order es) (min_left e.scale r.0) (rises_from r.0 (int_min e.scale r.0) (draw_order es) (min_right e.scale r.0) r.1))
+    let rest_rises = rises-draw_order es in
+    (int_min e.scale rest_rises.0, rises-insert_entry (int_min e.scale rest_rises.0) e (draw_order es) (min_left e.scale rest_rises.0) (rises_from rest_rises.0 (int_min e.scale rest_rises.0) (draw_order es) (min_right e.scale rest_rises.0) rest_rises.1))
 
 pairs_rise : (s : ℤ) (fs : List SpriteEntry) → Rises s fs → (k : ℕ) (d : SpriteEntry) → k + 1 < length fs → int_lt (get_or fs (k + 1) d).scale (get_or fs k d).scale ≡ false
 pairs_rise s [] r k d l = absurd (omega arith)
 pairs_rise s (f ∷ []) r k d l = absurd (omega arith)
 pairs_rise s (f ∷ (g ∷ gs)) r zero d l = r.1.0
 pairs_rise s (f ∷ (g ∷ gs)) r (suc k) d l =
-    let e : suc k + 1 ≡ suc (k + 1) = omega arith in
-    rw e (pairs_rise f.scale (g ∷ gs) r.1 k d (omega arith))
+    let same_place : suc k + 1 ≡ suc (k + 1) = omega arith in
+    rw same_place (pairs_rise f.scale (g ∷ gs) r.1 k d (omega arith))
 
 -- no entry is smaller than the one before it
 pub draw_order-sorted : (es : List SpriteEntry) → IsSortedBy is_smaller (draw_order es)
 unfolding is_smaller
-draw_order-sorted es k d z l = let r = rises-draw_order es in pairs_rise r.0 (draw_order es) r.1 k d l
+draw_order-sorted es k d z l = let rises = rises-draw_order es in pairs_rise rises.0 (draw_order es) rises.1 k d l
 
 -- the same entries
 permuted : (e f : SpriteEntry) (fs gs : List SpriteEntry) → IsPermutation (e ∷ fs) gs → (b : Bool) → IsPermutation (e ∷ (f ∷ fs)) (cond b (e ∷ (f ∷ fs)) (f ∷ gs))
 permuted e f fs gs p true = IsPermutation-refl (e ∷ (f ∷ fs))
-permuted e f fs gs p false = IsPermutation-trans (e ∷ (f ∷ fs)) (f ∷ (e ∷ fs)) (f ∷ gs) (IsPermutation-middle (e ∷ []) f fs) (IsPermutation-cons f (e ∷ fs) gs p)
+permuted e f fs gs p false =
+    IsPermutation-trans (e ∷ (f ∷ fs)) (f ∷ (e ∷ fs)) (f ∷ gs) (IsPermutation-middle (e ∷ []) f fs) (IsPermutation-cons f (e ∷ fs) gs p)
 
 permutation-insert_entry : (e : SpriteEntry) (fs : List SpriteEntry) → IsPermutation (e ∷ fs) (insert_entry e fs)
 unfolding insert_entry
@@ -102,11 +103,11 @@ skip_one : (x e f : SpriteEntry) (fs gs : List SpriteEntry) → filter (ties is_
     filter (ties is_smaller x) (f ∷ gs) ≡ filter (ties is_smaller x) (e ∷ (f ∷ fs))
 skip_one x e f fs gs i l true u p q = rw (no_tie x e f l p) i
 skip_one x e f fs gs i l false u p q =
-    let j : filter (ties is_smaller x) gs ≡ filter (ties is_smaller x) fs = i ∙ cond-false (ties is_smaller x e) (e ∷ filter (ties is_smaller x) fs) (filter (ties is_smaller x) fs) p in
-    rw p (ap (λ (hs : List SpriteEntry). cond (ties is_smaller x f) (f ∷ hs) hs) j)
+    let same_rest : filter (ties is_smaller x) gs ≡ filter (ties is_smaller x) fs = i ∙ cond-false (ties is_smaller x e) (e ∷ filter (ties is_smaller x) fs) (filter (ties is_smaller x) fs) p in
+    rw p (ap (λ (hs : List SpriteEntry). cond (ties is_smaller x f) (f ∷ hs) hs) same_rest)
 
-filtered : (x e f : SpriteEntry) (fs gs : List SpriteEntry) → filter (ties is_smaller x) gs ≡ filter (ties is_smaller x) (e ∷ fs) → (b : Bool) → int_le e.scale f.scale ≡ b →
-    filter (ties is_smaller x) (cond b (e ∷ (f ∷ fs)) (f ∷ gs)) ≡ filter (ties is_smaller x) (e ∷ (f ∷ fs))
+filtered : (x e f : SpriteEntry) (fs gs : List SpriteEntry) → filter (ties is_smaller x) gs ≡ filter (ties is_smaller x) (e ∷ fs) → (b : Bool) →
+    int_le e.scale f.scale ≡ b → filter (ties is_smaller x) (cond b (e ∷ (f ∷ fs)) (f ∷ gs)) ≡ filter (ties is_smaller x) (e ∷ (f ∷ fs))
 filtered x e f fs gs i true q = refl
 filtered x e f fs gs i false q = skip_one x e f fs gs i (not_le_lt e.scale f.scale q) (ties is_smaller x e) (ties is_smaller x f) refl refl
 

@@ -19,21 +19,18 @@ edge_zero shape height scale step =
 pub edges_at-zero : (shape : ViewShape) (n : FragmentNumbers) → FitsSigned w32 n.scale1 → edges_first shape n ≡ edges_at shape n 0
 unfolding edges_first edges_at
 edges_at-zero shape n f =
-    let a = step_at-zero n.scale1 n.step f in
-    let b = edge_zero shape n.world_top n.scale1 n.step in
-    let c = edge_zero shape n.world_bottom n.scale1 n.step in
-    let d = edge_zero shape n.world_high n.scale1 n.step in
-    let e = edge_zero shape n.world_low n.scale1 n.step in cc
+    let scale_at = step_at-zero n.scale1 n.step f in
+    let top_at = edge_zero shape n.world_top n.scale1 n.step in
+    let bottom_at = edge_zero shape n.world_bottom n.scale1 n.step in
+    let high_at = edge_zero shape n.world_high n.scale1 n.step in
+    let low_at = edge_zero shape n.world_low n.scale1 n.step in cc
 
 -- one column more
 pub edges_at-more : (shape : ViewShape) (n : FragmentNumbers) (k m : ℕ) → k + 1 ≡ m → edges_plus (edges_at shape n k) (edges_step n) ≡ edges_at shape n m
 unfolding edges_at edges_step edges_plus edge_at
 edges_at-more shape n k m h =
-    let a = step_at-more n.scale1 n.step k m h in
-    let b = step_at-more (edge_first shape (shr_word n.world_top HEIGHT_SHIFT) n.scale1) (edge_step (shr_word n.world_top HEIGHT_SHIFT) n.step) k m h in
-    let c = step_at-more (edge_first shape (shr_word n.world_bottom HEIGHT_SHIFT) n.scale1) (edge_step (shr_word n.world_bottom HEIGHT_SHIFT) n.step) k m h in
-    let d = step_at-more (edge_first shape (shr_word n.world_high HEIGHT_SHIFT) n.scale1) (edge_step (shr_word n.world_high HEIGHT_SHIFT) n.step) k m h in
-    let e = step_at-more (edge_first shape (shr_word n.world_low HEIGHT_SHIFT) n.scale1) (edge_step (shr_word n.world_low HEIGHT_SHIFT) n.step) k m h in cc
+    let more = λ (height : ℤ). step_at-more (edge_first shape (shr_word height HEIGHT_SHIFT) n.scale1) (edge_step (shr_word height HEIGHT_SHIFT) n.step) k m h in
+    cc (step_at-more n.scale1 n.step k m h, more n.world_top, more n.world_bottom, more n.world_high, more n.world_low)
 
 -- for `grind`: a loop that steps the edges
 pub ruleset edge_stepping = (edges_at-zero, edges_at-more)

@@ -2,13 +2,7 @@
 use Rattle.word_rules.proofs.Common.{[], ap, arith, Bool, cond, false, length, List, None, Option, refl, slice_get, Some, suc, true, zero, ℕ, ◌++◌, ◌<◌, ◌∙◌, ◌∷◌, ◌≡◌, ◌≤◌}
 use Rattle.picture_rules.specs.Rules.{ViewShape, greatest}
 use Rattle.picture_rules.specs.declared.wall.ColumnClip.{ColumnClip}
-use Rattle.picture_rules.specs.wall.Clips.{clip_after}
-use Rattle.picture_rules.specs.wall.Walls.{Wall, has_column, wall_edges, past_wall, past_some, clip_before, clip_past, some_has, wall_has, last_wall, clip_by}
-
--- a fragment changes its own columns alone
-pub past_wall-own : (shape : ViewShape) (x : ℕ) (w : Wall) (clip : ColumnClip) → has_column w x ≡ true → past_wall shape x w clip ≡ clip_after shape.height w.numbers clip (wall_edges shape w x)
-unfolding past_wall
-past_wall-own shape x w clip h = rw h refl
+use Rattle.picture_rules.specs.wall.Walls.{Wall, has_column, past_wall, past_some, clip_before, clip_past, some_has, wall_has, last_wall, clip_by}
 
 pub past_wall-other : (shape : ViewShape) (x : ℕ) (w : Wall) (clip : ColumnClip) → has_column w x ≡ false → past_wall shape x w clip ≡ clip
 unfolding past_wall
@@ -19,8 +13,8 @@ unfolding past_some some_has
 some_other shape x None clip h = refl
 some_other shape x (Some w) clip h = past_wall-other shape x w clip h
 
-by_step : (shape : ViewShape) (walls : List Wall) (x k : ℕ) (r : Option ℕ) (b : Bool) → wall_has walls x k ≡ b → clip_before shape walls k x ≡ clip_by shape walls x r →
-    clip_before shape walls (suc k) x ≡ clip_by shape walls x (cond b (Some k) r)
+by_step : (shape : ViewShape) (walls : List Wall) (x k : ℕ) (r : Option ℕ) (b : Bool) → wall_has walls x k ≡ b →
+    clip_before shape walls k x ≡ clip_by shape walls x r → clip_before shape walls (suc k) x ≡ clip_by shape walls x (cond b (Some k) r)
 unfolding clip_before clip_by clip_past wall_has
 by_step shape walls x k r true e i = refl
 by_step shape walls x k r false e i = some_other shape x (slice_get walls k) (clip_before shape walls k x) e ∙ i

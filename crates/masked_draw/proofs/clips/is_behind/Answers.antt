@@ -34,30 +34,30 @@ pair f a b p q x y r t g h i j k l = cc
 
 pub returns-then-greater_word-entry : goal.returns-then-greater_word-entry
 returns-then-greater_word-entry c = λ d p q r.
-    let n = c.args.note.now in
-    let e = c.args.entry.now in
-    smaller d e _ _
-    (pair greater_word _ _ d.scale1 d.scale2 n.scale1 n.scale2 c.greater_word.result _ (to_z-of_z w32 n.scale1 (search rules)) (to_z-of_z w32 n.scale2 (search rules)) q r c.greater_word.ensures (to_z-of_z w32 c.greater_word.result (search rules)))
-    (to_z-of_z w32 e.scale (search rules)) c.if-greater_word-entry.true
+    let note = c.args.note.now in
+    let entry = c.args.entry.now in
+    smaller d entry _ _
+    (pair greater_word _ _ d.scale1 d.scale2 note.scale1 note.scale2 c.greater_word.result _ (to_z-of_z w32 note.scale1 (search rules)) (to_z-of_z w32 note.scale2 (search rules)) q r c.greater_word.ensures (to_z-of_z w32 c.greater_word.result (search rules)))
+    (to_z-of_z w32 entry.scale (search rules)) c.if-greater_word-entry.true
 
 pub returns-then-lesser_word-entry : goal.returns-then-lesser_word-entry
 returns-then-lesser_word-entry c = λ d p q r.
-    let n = c.args.note.now in
-    let e = c.args.entry.now in
-    let x = to_z-of_z w32 e.x (search rules) in
-    let y = to_z-of_z w32 e.y (search rules) in
+    let note = c.args.note.now in
+    let entry = c.args.entry.now in
+    let x_is = to_z-of_z w32 entry.x (search rules) in
+    let y_is = to_z-of_z w32 entry.y (search rules) in
     let line = c.seg_line.ensures in
-    let side : c.side_of.result ≡ side_of (seg_line d.seg) e.x e.y = cc (x, y, line, p, c.side_of.ensures.value) in
-    between d e _ _ _ c.side_of.result
-    (pair greater_word _ _ d.scale1 d.scale2 n.scale1 n.scale2 c.greater_word.result _ (to_z-of_z w32 n.scale1 (search rules)) (to_z-of_z w32 n.scale2 (search rules)) q r c.greater_word.ensures (to_z-of_z w32 c.greater_word.result (search rules)))
-    (pair lesser_word _ _ d.scale1 d.scale2 n.scale1 n.scale2 c.lesser_word.result _ (to_z-of_z w32 n.scale1 (search rules)) (to_z-of_z w32 n.scale2 (search rules)) q r c.lesser_word.ensures (to_z-of_z w32 c.lesser_word.result (search rules)))
-    (to_z-of_z w32 e.scale (search rules)) side c.if-greater_word-entry.false c.if-lesser_word-entry.true
+    let side : c.side_of.result ≡ side_of (seg_line d.seg) entry.x entry.y = cc (x_is, y_is, line, p, c.side_of.ensures.value) in
+    between d entry _ _ _ c.side_of.result
+    (pair greater_word _ _ d.scale1 d.scale2 note.scale1 note.scale2 c.greater_word.result _ (to_z-of_z w32 note.scale1 (search rules)) (to_z-of_z w32 note.scale2 (search rules)) q r c.greater_word.ensures (to_z-of_z w32 c.greater_word.result (search rules)))
+    (pair lesser_word _ _ d.scale1 d.scale2 note.scale1 note.scale2 c.lesser_word.result _ (to_z-of_z w32 note.scale1 (search rules)) (to_z-of_z w32 note.scale2 (search rules)) q r c.lesser_word.ensures (to_z-of_z w32 c.lesser_word.result (search rules)))
+    (to_z-of_z w32 entry.scale (search rules)) side c.if-greater_word-entry.false c.if-lesser_word-entry.true
 
 pub returns-else-lesser_word-entry : goal.returns-else-lesser_word-entry
 returns-else-lesser_word-entry c = λ d p q r.
-    let n = c.args.note.now in
-    let e = c.args.entry.now in
-    larger d e _ _ _
-    (pair greater_word _ _ d.scale1 d.scale2 n.scale1 n.scale2 c.greater_word.result _ (to_z-of_z w32 n.scale1 (search rules)) (to_z-of_z w32 n.scale2 (search rules)) q r c.greater_word.ensures (to_z-of_z w32 c.greater_word.result (search rules)))
-    (pair lesser_word _ _ d.scale1 d.scale2 n.scale1 n.scale2 c.lesser_word.result _ (to_z-of_z w32 n.scale1 (search rules)) (to_z-of_z w32 n.scale2 (search rules)) q r c.lesser_word.ensures (to_z-of_z w32 c.lesser_word.result (search rules)))
-    (to_z-of_z w32 e.scale (search rules)) c.if-greater_word-entry.false c.if-lesser_word-entry.false
+    let note = c.args.note.now in
+    let entry = c.args.entry.now in
+    larger d entry _ _ _
+    (pair greater_word _ _ d.scale1 d.scale2 note.scale1 note.scale2 c.greater_word.result _ (to_z-of_z w32 note.scale1 (search rules)) (to_z-of_z w32 note.scale2 (search rules)) q r c.greater_word.ensures (to_z-of_z w32 c.greater_word.result (search rules)))
+    (pair lesser_word _ _ d.scale1 d.scale2 note.scale1 note.scale2 c.lesser_word.result _ (to_z-of_z w32 note.scale1 (search rules)) (to_z-of_z w32 note.scale2 (search rules)) q r c.lesser_word.ensures (to_z-of_z w32 c.lesser_word.result (search rules)))
+    (to_z-of_z w32 entry.scale (search rules)) c.if-greater_word-entry.false c.if-lesser_word-entry.false

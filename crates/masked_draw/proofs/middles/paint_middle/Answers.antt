@@ -19,18 +19,18 @@ one_more v art old now d place from x k number drawseg e a b l h n =
 
 pub returns-in_default-clause-paints : goal.returns-in_default-clause-paints
 returns-in_default-clause-paints g c =
-    let s = c.args.scene.now in
-    paints-same _ (λ contents q is. sym (unmarked-plain s.view.now (scene_art contents s) c.args.hands.now.marks.now c.args.note.now (is_between c.args.first c.args.last) c.args.number (scene_drawseg s c.args.note.now) c.in_default.is)) (paints-none _ _)
+    let scene = c.args.scene.now in
+    paints-same _ (λ contents q is. sym (unmarked-plain scene.view.now (scene_art contents scene) c.args.hands.now.marks.now c.args.note.now (is_between c.args.first c.args.last) c.args.number (scene_drawseg scene c.args.note.now) c.in_default.is)) (paints-none _ _)
 
 pub loop-x-init : goal.loop-x-init
 loop-x-init g c =
-    let s = c.args.scene.now in
+    let scene = c.args.scene.now in
     record {
       kept = keeps-none _;
       ready = c.requires.note.paint;
       listed = c.requires.note.listed;
       marked = marks-start c.args.note.now c.args.first c.args.hands.now.marks.now;
-      paints = paints-same _ (λ contents q is. sym (unmarked-start s.view.now (scene_art contents s) c.args.hands.now.marks.now c.args.note.now c.args.first c.args.number (scene_drawseg s c.args.note.now))) (paints-none _ _);
+      paints = paints-same _ (λ contents q is. sym (unmarked-start scene.view.now (scene_art contents scene) c.args.hands.now.marks.now c.args.note.now c.args.first c.args.number (scene_drawseg scene c.args.note.now))) (paints-none _ _);
     }
 
 pub returns-in_err-paint_unmarked-clause-paints : goal.returns-in_err-paint_unmarked-clause-paints
@@ -39,22 +39,22 @@ returns-in_err-paint_unmarked-clause-paints g c =
 
 pub loop-x-preserved : goal.loop-x-preserved
 loop-x-preserved g c =
-    let s = c.args.scene.now in
-    let d = c.args.note.now in
-    let i = c.loop-x.invariant in
-    let e = c.in_ok-paint_unmarked.ensures in
+    let scene = c.args.scene.now in
+    let note = c.args.note.now in
+    let known = c.loop-x.invariant in
+    let painted = c.in_ok-paint_unmarked.ensures in
     let masked = c.middle_of-middle.ensures.middle.place in
     record {
-      kept = keeps-then i.kept e.same e.marks;
-      ready = can_paint-later e.paints i.ready;
-      listed = listed-later e.paints.draws.keeps.counts i.listed;
-      marked = marks-more d c.middle_of-middle.result.place c.args.first c.loop-x.x _ _ _ masked c.requires.begins c.loop-x.auto.x (omega arith) i.marked e.marked e.others;
-      paints = paints-same _ (λ contents q is. one_more s.view.now (scene_art contents s) c.args.hands.now.marks.now c.loop-x.hands.marks.now d c.middle_of-middle.result.place c.args.first c.loop-x.x c.args.number c.middle_of-middle.result.number (scene_drawseg s d)
-          masked c.requires.begins c.loop-x.auto.x (omega arith) i.marked c.middle_of-middle.ensures.number) (paints-then i.paints e.paints);
+      kept = keeps-then known.kept painted.same painted.marks;
+      ready = can_paint-later painted.paints known.ready;
+      listed = listed-later painted.paints.draws.keeps.counts known.listed;
+      marked = marks-more note c.middle_of-middle.result.place c.args.first c.loop-x.x _ _ _ masked c.requires.begins c.loop-x.auto.x (omega arith) known.marked painted.marked painted.others;
+      paints = paints-same _ (λ contents q is. one_more scene.view.now (scene_art contents scene) c.args.hands.now.marks.now c.loop-x.hands.marks.now note c.middle_of-middle.result.place c.args.first c.loop-x.x c.args.number c.middle_of-middle.result.number (scene_drawseg scene note)
+          masked c.requires.begins c.loop-x.auto.x (omega arith) known.marked c.middle_of-middle.ensures.number) (paints-then known.paints painted.paints);
     }
 
 pub returns-clause-paints : goal.returns-clause-paints
 returns-clause-paints g c =
-    let s = c.args.scene.now in
+    let scene = c.args.scene.now in
     let end : c.loop-x.x ≡ c.args.last + 1 = omega arith in
-    paints-same _ (λ contents q is. ap (λ (x : ℕ). unmarked_dots s.view.now (scene_art contents s) c.args.hands.now.marks.now c.args.note.now (between c.args.first x) c.args.number (scene_drawseg s c.args.note.now)) end) c.loop-x.invariant.paints
+    paints-same _ (λ contents q is. ap (λ (x : ℕ). unmarked_dots scene.view.now (scene_art contents scene) c.args.hands.now.marks.now c.args.note.now (between c.args.first x) c.args.number (scene_drawseg scene c.args.note.now)) end) c.loop-x.invariant.paints

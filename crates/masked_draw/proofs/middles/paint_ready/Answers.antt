@@ -29,37 +29,37 @@ lend_art-requires-clause-lump g c =
 
 pub returns-in-Some-clause-painted : goal.returns-in-Some-clause-painted
 returns-in-Some-clause-painted g c = λ view contents count hold.
-    let s = c.args.scene.now in
+    let scene = c.args.scene.now in
     let read = read-live c.args.hands.now.cache.now (to_z-of_z w32 c.args.col (search rules)) c.requires.middle
     c.requires.column c.requires.there c.requires.live c.posts_place-place.ensures in
-    let map : c.scale_map-map.result ≡ scale_map s.view.now c.args.middle.light
+    let map : c.scale_map-map.result ≡ scale_map scene.view.now c.args.middle.light
     c.masked_column-column.result.scale = search (rules, to_z-of_z) in
-    middle-painted g.C.Canvas.mark s.view.now (lump_bytes contents s.dir.now.lumps) s.textures.now
-    s.colormap.0 c.args.middle.number (scene_drawseg s c.args.note.now) c.args.x
+    middle-painted g.C.Canvas.mark scene.view.now (lump_bytes contents scene.dir.now.lumps) scene.textures.now
+    scene.colormap.0 c.args.middle.number (scene_drawseg scene c.args.note.now) c.args.x
     c.posts_place-place.result.0.0 c.posts_place-place.result.1 c.shape-shape.result
     c.masked_column-column.result c.in-Some.art.bytes.now c.in-Some.art.colormap.now
     c.in-Some.art.map c.args.middle.light (g.C.Canvas.view c.args.hands.now.canvas.now)
     (g.C.Canvas.view c.begin.new.self) (g.C.Canvas.view c.paint_posts.new.canvas) c.begin.ensures
     c.paint_posts.ensures c.shape-shape.ensures.value c.masked_column-column.ensures.value
-    (lent_lump contents s.dir.now.lumps c.args.hands.now.cache.now c.posts_place-place.result.0.0
+    (lent_lump contents scene.dir.now.lumps c.args.hands.now.cache.now c.posts_place-place.result.0.0
     c.in-Some.art.bytes.now hold.files.faithful read.there c.in-Some.ensures.bytes)
-    (lent_lump contents s.dir.now.lumps c.args.hands.now.cache.now s.colormap.0
+    (lent_lump contents scene.dir.now.lumps c.args.hands.now.cache.now scene.colormap.0
     c.in-Some.art.colormap.now hold.files.faithful c.requires.note.paint.colormap
     c.in-Some.ensures.colormap)
     (c.in-Some.ensures.map ∙ map) c.requires.middle.light read.from
 
 pub returns-in-Some-clause-fits : goal.returns-in-Some-clause-fits
 returns-in-Some-clause-fits g c = λ view contents count hold.
-    let s = c.args.scene.now in
+    let scene = c.args.scene.now in
     let read = read-live c.args.hands.now.cache.now (to_z-of_z w32 c.args.col (search rules)) c.requires.middle
     c.requires.column c.requires.there c.requires.live c.posts_place-place.ensures in
-    middle-fits s.dir.now.lumps s.view.now (lump_bytes contents s.dir.now.lumps) s.textures.now
-    s.colormap.0 count c.args.hands.now.cache.now.size c.args.middle.number
-    (scene_drawseg s c.args.note.now) c.args.x c.posts_place-place.result.0.0
+    middle-fits scene.dir.now.lumps scene.view.now (lump_bytes contents scene.dir.now.lumps) scene.textures.now
+    scene.colormap.0 count c.args.hands.now.cache.now.size c.args.middle.number
+    (scene_drawseg scene c.args.note.now) c.args.x c.posts_place-place.result.0.0
     c.posts_place-place.result.1 read.from
     (fits-lump hold MIDDLE c.args.middle.number c.posts_place-place.result.0.0
     c.in-Some.art.bytes.now read.there (sym c.in-Some.ensures.bytes)
-    (c.in-Some.ensures.fits s.colormap.0 count (rest_static hold.rest)))
+    (c.in-Some.ensures.fits scene.colormap.0 count (rest_static hold.rest)))
 
 pub returns-in_default : goal.returns-in_default
 returns-in_default g c =

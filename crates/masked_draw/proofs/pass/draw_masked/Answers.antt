@@ -20,6 +20,6 @@ returns-in_err-draw_sprites-clause-paints g c =
 pub returns-clause-paints : goal.returns-clause-paints
 returns-clause-paints g c =
     let sprites = c.in_ok-draw_sprites.ensures in
-    let t = c.args.tools.now in
-    let scene : MaskScene = record { view = t.view; textures = t.textures; dir = t.dir; colormap = t.colormap; openings = t.openings; segs = t.segs; sides = t.sides; sectors = t.sectors; middles = t.middles } in
+    let tools = c.args.tools.now in
+    let scene : MaskScene = record { view = tools.view; textures = tools.textures; dir = tools.dir; colormap = tools.colormap; openings = tools.openings; segs = tools.segs; sides = tools.sides; sectors = tools.sectors; middles = tools.middles } in
     pass-end scene c.args.notes.now c.args.sprites.now sprites.paints (c.draw_middles.ensures.paints (draw_order c.args.sprites.now) sprites.marked)

@@ -19,18 +19,19 @@ paint_middle-requires-clause-note g c =
     can_pass-note (c.loop-k.k - 1) _ c.loop-k.invariant.kept.ready (note-get c.args.notes.now (c.loop-k.k - 1) _ below) below
 
 pub paint_middle-requires-clause-ordered : goal.paint_middle-requires-clause-ordered
-paint_middle-requires-clause-ordered g c = (scene-whole (c.loop-k.k - 1) _ c.requires.ready.noted (note-get c.args.notes.now (c.loop-k.k - 1) _ (omega arith))).ordered
+paint_middle-requires-clause-ordered g c =
+    (scene-whole (c.loop-k.k - 1) _ c.requires.ready.noted (note-get c.args.notes.now (c.loop-k.k - 1) _ (omega arith))).ordered
 
 pub loop-k-preserved : goal.loop-k-preserved
 loop-k-preserved g c =
-    let i = c.loop-k.invariant in
-    let e = c.in_ok-paint_middle.ensures in
+    let known = c.loop-k.invariant in
+    let painted = c.in_ok-paint_middle.ensures in
     record {
-      kept = keeps-more i.kept e.same e.marks e.paints;
+      kept = keeps-more known.kept painted.same painted.marks painted.paints;
       leaves = λ es h.
           let up : c.loop-k.k ≡ c.loop-k.k - 1 + 1 = omega arith in
           let below : c.loop-k.k - 1 < length c.args.notes.now = omega arith in
-          leaves-more c.args.scene.now c.args.notes.now es c.loop-k.k (c.loop-k.k - 1) _ _ _ _ (scene-apart i.kept.ready.noted) below (note-get c.args.notes.now (c.loop-k.k - 1) _ below) refl up (i.leaves es h) e.paints e.marked;
+          leaves-more c.args.scene.now c.args.notes.now es c.loop-k.k (c.loop-k.k - 1) _ _ _ _ (scene-apart known.kept.ready.noted) below (note-get c.args.notes.now (c.loop-k.k - 1) _ below) refl up (known.leaves es h) painted.paints painted.marked;
     }
 
 pub returns-in_err-paint_middle-clause-paints : goal.returns-in_err-paint_middle-clause-paints

@@ -19,46 +19,48 @@ empty_by a b first last p q h = sym (ap (λ (z : ℤ). int_lt z a) q ∙ ap (λ 
 
 column_in : (e : SpriteEntry) (first last x : ℕ) → e.first ≡ pos first → e.last ≡ pos last → entry_has e x ≡ true → (first ≤ x) × (x < last + 1)
 column_in e first last x p q t =
-    let h = and_parts (nat_le first x) (nat_lt x (last + 1)) (sym (entry-between e first last x p q) ∙ t) in
-    (leb-true first x h.0, ltb-true x (last + 1) h.1)
+    let bounds = and_parts (nat_le first x) (nat_lt x (last + 1)) (sym (entry-between e first last x p q) ∙ t) in
+    (leb-true first x bounds.0, ltb-true x (last + 1) bounds.1)
 
 rows_in : (e : SpriteEntry) (rows : List (Option ℤ)) (first last : ℕ) → e.first ≡ pos first → e.last ≡ pos last → ((x : ℕ) → first ≤ x → x ≤ last → row_in rows x ≡ None) → (x : ℕ) → entry_has e x ≡ true → row_in rows x ≡ None
-rows_in e rows first last p q h x t = let c = column_in e first last x p q t in h x c.0 (omega (arith, c.1))
+rows_in e rows first last p q h x t = let column = column_in e first last x p q t in h x column.0 (omega (arith, column.1))
 
 pub returns-then-entry-clause-sprite : goal.returns-then-entry-clause-sprite
 returns-then-entry-clause-sprite g c = λ es i l f h.
-    let e = c.args.entry.now in
-    sprite-none c.args.scene.now c.args.notes.now es i e _ _ l f (empty_by _ _ e.first e.last (to_z-of_z w32 e.first (search rules)) (to_z-of_z w32 e.last (search rules)) c.if-entry.true) h
+    let entry = c.args.entry.now in
+    sprite-none c.args.scene.now c.args.notes.now es i entry _ _ l f (empty_by _ _ entry.first entry.last (to_z-of_z w32 entry.first (search rules)) (to_z-of_z w32 entry.last (search rules)) c.if-entry.true) h
 
 pub column_of-first-requires : goal.column_of-first-requires
 column_of-first-requires g c =
-    let e = c.args.entry.now in
-    let o = ordered_by _ _ e.first e.last (to_z-of_z w32 e.first (search rules)) (to_z-of_z w32 e.last (search rules)) c.if-entry.false in
-    let n = entry-numbers e c.args.scene.now.view.now.shape.width (omega (arith, c.requires.ready.paint.placed.columns)) c.requires.within o in
-    let first = sym (to_z-of_z w32 e.first (search rules)) in
-    record { least = subst (λ (z : ℤ). pos 0 ≤ℤ z) first n.first_least; greatest = subst (λ (z : ℤ). z <ℤ pos (2 ^ 16)) first n.first_greatest }
+    let entry = c.args.entry.now in
+    let ordered = ordered_by _ _ entry.first entry.last (to_z-of_z w32 entry.first (search rules)) (to_z-of_z w32 entry.last (search rules)) c.if-entry.false in
+    let numbers = entry-numbers entry c.args.scene.now.view.now.shape.width (omega (arith, c.requires.ready.paint.placed.columns)) c.requires.within ordered in
+    let first_is = sym (to_z-of_z w32 entry.first (search rules)) in
+    record { least = subst (λ z. pos 0 ≤ℤ z) first_is numbers.first_least; greatest = subst (λ (z : ℤ). z <ℤ pos (2 ^ 16)) first_is numbers.first_greatest }
 
 pub column_of-last-requires-clause-greatest : goal.column_of-last-requires-clause-greatest
 column_of-last-requires-clause-greatest g c =
-    let e = c.args.entry.now in
-    let o = ordered_by _ _ e.first e.last (to_z-of_z w32 e.first (search rules)) (to_z-of_z w32 e.last (search rules)) c.if-entry.false in
-    let n = entry-numbers e c.args.scene.now.view.now.shape.width (omega (arith, c.requires.ready.paint.placed.columns)) c.requires.within o in
-    subst (λ (z : ℤ). z <ℤ pos (2 ^ 16)) (sym (to_z-of_z w32 e.last (search rules))) n.last_greatest
+    let entry = c.args.entry.now in
+    let ordered = ordered_by _ _ entry.first entry.last (to_z-of_z w32 entry.first (search rules)) (to_z-of_z w32 entry.last (search rules)) c.if-entry.false in
+    let numbers = entry-numbers entry c.args.scene.now.view.now.shape.width (omega (arith, c.requires.ready.paint.placed.columns)) c.requires.within ordered in
+    subst (λ (z : ℤ). z <ℤ pos (2 ^ 16)) (sym (to_z-of_z w32 entry.last (search rules))) numbers.last_greatest
 
 pub clear-requires-clause-within : goal.clear-requires-clause-within
 clear-requires-clause-within g c =
-    let e = c.args.entry.now in
-    let l = entry-within e c.args.scene.now.view.now.shape.width _ c.requires.within (sym (to_z-of_z w32 e.last (search rules)) ∙ c.column_of-last.ensures) in
-    omega (arith, l, c.requires.ready.paint.placed.columns)
+    let entry = c.args.entry.now in
+    let last_within =
+    entry-within entry c.args.scene.now.view.now.shape.width _ c.requires.within (sym (to_z-of_z w32 entry.last (search rules)) ∙ c.column_of-last.ensures) in
+    omega (arith, last_within, c.requires.ready.paint.placed.columns)
 
 pub loop-k-init : goal.loop-k-init
 loop-k-init g c =
-    let e = c.args.entry.now in
-    let p = sym (to_z-of_z w32 e.first (search rules)) ∙ c.column_of-first.ensures in
-    let q = sym (to_z-of_z w32 e.last (search rules)) ∙ c.column_of-last.ensures in
+    let entry = c.args.entry.now in
+    let first_is = sym (to_z-of_z w32 entry.first (search rules)) ∙ c.column_of-first.ensures in
+    let last_is = sym (to_z-of_z w32 entry.last (search rules)) ∙ c.column_of-last.ensures in
     record {
       kept = keeps-start c.requires.ready;
-      clips = clips-start c.args.scene.now c.args.notes.now e _ (rows_in e _ _ _ p q c.clear.ensures.tops) (rows_in e _ _ _ p q c.clear.ensures.bottoms);
+      clips = clips-start c.args.scene.now c.args.notes.now entry _ (rows_in entry _ _ _ first_is last_is c.clear.ensures.tops)
+          (rows_in entry _ _ _ first_is last_is c.clear.ensures.bottoms);
       passes = λ es i l f h. passes-start c.args.scene.now c.args.notes.now es g.C.Canvas.mark i _ _ h;
     }
 
@@ -69,16 +71,16 @@ pass_fragment-requires-clause-note g c =
 
 pub loop-k-preserved : goal.loop-k-preserved
 loop-k-preserved g c =
-    let i = c.loop-k.invariant in
-    let e = c.in_ok-pass_fragment.ensures in
+    let known = c.loop-k.invariant in
+    let passed = c.in_ok-pass_fragment.ensures in
     let up : c.loop-k.k ≡ c.loop-k.k - 1 + 1 = omega arith in
     let below : c.loop-k.k - 1 < length c.args.notes.now = omega arith in
     record {
-      kept = keeps-more i.kept e.same e.marks e.paints;
-      clips = clips-more c.args.scene.now c.args.notes.now c.args.entry.now c.loop-k.k (c.loop-k.k - 1) _ _ _ (scene-whole (c.loop-k.k - 1) _ i.kept.ready.noted (note-get c.args.notes.now (c.loop-k.k - 1) _ below))
-          (note-get c.args.notes.now (c.loop-k.k - 1) _ below) e.rows up i.clips;
+      kept = keeps-more known.kept passed.same passed.marks passed.paints;
+      clips = clips-more c.args.scene.now c.args.notes.now c.args.entry.now c.loop-k.k (c.loop-k.k - 1) _ _ _ (scene-whole (c.loop-k.k - 1) _ known.kept.ready.noted (note-get c.args.notes.now (c.loop-k.k - 1) _ below))
+          (note-get c.args.notes.now (c.loop-k.k - 1) _ below) passed.rows up known.clips;
       passes = λ es n l f h.
-          passes-more c.args.scene.now c.args.notes.now es c.args.entry.now n c.loop-k.k (c.loop-k.k - 1) _ _ _ _ (scene-apart i.kept.ready.noted) below (note-get c.args.notes.now (c.loop-k.k - 1) _ below) refl l f up (i.passes es n l f h) e.paints e.marked;
+          passes-more c.args.scene.now c.args.notes.now es c.args.entry.now n c.loop-k.k (c.loop-k.k - 1) _ _ _ _ (scene-apart known.kept.ready.noted) below (note-get c.args.notes.now (c.loop-k.k - 1) _ below) refl l f up (known.passes es n l f h) passed.paints passed.marked;
     }
 
 pub returns-in_err-pass_fragment-clause-sprite : goal.returns-in_err-pass_fragment-clause-sprite
@@ -87,19 +89,19 @@ returns-in_err-pass_fragment-clause-sprite g c = λ es n l f h.
 
 pub paint_sprite-requires-clause-within : goal.paint_sprite-requires-clause-within
 paint_sprite-requires-clause-within g c =
-    let e = c.args.entry.now in
-    entry-within e c.args.scene.now.view.now.shape.width _ c.requires.within (sym (to_z-of_z w32 e.last (search rules)) ∙ c.column_of-last.ensures)
+    let entry = c.args.entry.now in
+    entry-within entry c.args.scene.now.view.now.shape.width _ c.requires.within (sym (to_z-of_z w32 entry.last (search rules)) ∙ c.column_of-last.ensures)
 
 pub paint_sprite-requires-clause-rows : goal.paint_sprite-requires-clause-rows
 paint_sprite-requires-clause-rows g c = λ x l m.
-    let e = c.args.entry.now in
-    (clips-end c.args.scene.now c.args.notes.now e c.loop-k.k c.loop-k.clips (omega arith) c.loop-k.invariant.clips x (has-column e _ _ x (sym (to_z-of_z w32 e.first (search rules)) ∙ c.column_of-first.ensures) (sym (to_z-of_z w32 e.last (search rules)) ∙ c.column_of-last.ensures) l m)).rows
+    let entry = c.args.entry.now in
+    (clips-end c.args.scene.now c.args.notes.now entry c.loop-k.k c.loop-k.clips (omega arith) c.loop-k.invariant.clips x (has-column entry _ _ x (sym (to_z-of_z w32 entry.first (search rules)) ∙ c.column_of-first.ensures) (sym (to_z-of_z w32 entry.last (search rules)) ∙ c.column_of-last.ensures) l m)).rows
 
 pub returns-clause-sprite : goal.returns-clause-sprite
 returns-clause-sprite g c = λ es i l f h.
-    let e = c.args.entry.now in
-    let p = sym (to_z-of_z w32 e.first (search rules)) ∙ c.column_of-first.ensures in
-    let q = sym (to_z-of_z w32 e.last (search rules)) ∙ c.column_of-last.ensures in
-    let ordered = ordered_by _ _ e.first e.last (to_z-of_z w32 e.first (search rules)) (to_z-of_z w32 e.last (search rules)) c.if-entry.false in
-    sprite-then c.args.scene.now c.args.notes.now es i e c.loop-k.clips _ _ _ _ p q ordered (clips-end c.args.scene.now c.args.notes.now e c.loop-k.k c.loop-k.clips (omega arith) c.loop-k.invariant.clips)
+    let entry = c.args.entry.now in
+    let first_is = sym (to_z-of_z w32 entry.first (search rules)) ∙ c.column_of-first.ensures in
+    let last_is = sym (to_z-of_z w32 entry.last (search rules)) ∙ c.column_of-last.ensures in
+    let ordered = ordered_by _ _ entry.first entry.last (to_z-of_z w32 entry.first (search rules)) (to_z-of_z w32 entry.last (search rules)) c.if-entry.false in
+    sprite-then c.args.scene.now c.args.notes.now es i entry c.loop-k.clips _ _ _ _ first_is last_is ordered (clips-end c.args.scene.now c.args.notes.now entry c.loop-k.k c.loop-k.clips (omega arith) c.loop-k.invariant.clips)
     c.paint_sprite.ensures.marks (passes-end c.args.scene.now c.args.notes.now es i c.loop-k.k _ (omega arith) (c.loop-k.invariant.passes es i l f h)) c.paint_sprite.ensures.paints

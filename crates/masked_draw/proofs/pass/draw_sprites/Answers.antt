@@ -17,40 +17,41 @@ loop-entry-init g c = record {
 
 pub draw_sprite-requires-clause-within : goal.draw_sprite-requires-clause-within
 draw_sprite-requires-clause-within g c =
-    let t = YieldsList-turn (YieldsList-from_first (λ (x : SpriteEntry). x) (λ (es : List SpriteEntry). es) (draw_order c.args.sprites.now) cc) c.loop-entry.yielded _ c.loop-entry.yielded_by _ _ c.in-Some.entry c.in-Some.is c.next.ensures.steps in
-    sprite-lies _ c.args.sprites.now (length c.loop-entry.yielded) c.in-Some.entry c.requires.columns t
+    let turn = YieldsList-turn (YieldsList-from_first (λ (x : SpriteEntry). x) (λ (es : List SpriteEntry). es) (draw_order c.args.sprites.now) cc) c.loop-entry.yielded _ c.loop-entry.yielded_by _ _ c.in-Some.entry c.in-Some.is c.next.ensures.steps in
+    sprite-lies _ c.args.sprites.now (length c.loop-entry.yielded) c.in-Some.entry c.requires.columns turn
 
 pub draw_sprite-requires-clause-lump : goal.draw_sprite-requires-clause-lump
 draw_sprite-requires-clause-lump g c =
-    let t = YieldsList-turn (YieldsList-from_first (λ (x : SpriteEntry). x) (λ (es : List SpriteEntry). es) (draw_order c.args.sprites.now) cc) c.loop-entry.yielded _ c.loop-entry.yielded_by _ _ c.in-Some.entry c.in-Some.is c.next.ensures.steps in
-    sprite-lump _ c.args.sprites.now (length c.loop-entry.yielded) c.in-Some.entry c.requires.lumps t
+    let turn = YieldsList-turn (YieldsList-from_first (λ (x : SpriteEntry). x) (λ (es : List SpriteEntry). es) (draw_order c.args.sprites.now) cc) c.loop-entry.yielded _ c.loop-entry.yielded_by _ _ c.in-Some.entry c.in-Some.is c.next.ensures.steps in
+    sprite-lump _ c.args.sprites.now (length c.loop-entry.yielded) c.in-Some.entry c.requires.lumps turn
 
 pub loop-entry-preserved : goal.loop-entry-preserved
 loop-entry-preserved g c =
-    let t = YieldsList-turn (YieldsList-from_first (λ (x : SpriteEntry). x) (λ (es : List SpriteEntry). es) (draw_order c.args.sprites.now) cc) c.loop-entry.yielded _ c.loop-entry.yielded_by _ _ c.in-Some.entry c.in-Some.is c.next.ensures.steps in
-    let s = c.args.scene.now in
+    let turn = YieldsList-turn (YieldsList-from_first (λ (x : SpriteEntry). x) (λ (es : List SpriteEntry). es) (draw_order c.args.sprites.now) cc) c.loop-entry.yielded _ c.loop-entry.yielded_by _ _ c.in-Some.entry c.in-Some.is c.next.ensures.steps in
+    let scene = c.args.scene.now in
     let es = draw_order c.args.sprites.now in
-    let i = c.loop-entry.invariant in
-    let e = c.in_ok-draw_sprite.ensures in
-    let sprite = e.sprite es (length c.loop-entry.yielded) t.0 (sprite-get es (length c.loop-entry.yielded) c.in-Some.entry t) i.marked in
+    let known = c.loop-entry.invariant in
+    let drawn = c.in_ok-draw_sprite.ensures in
+    let sprite = drawn.sprite es (length c.loop-entry.yielded) turn.0 (sprite-get es (length c.loop-entry.yielded) c.in-Some.entry turn) known.marked in
     record {
-      kept = keeps-more i.kept e.same e.marks sprite.paints;
-      marked = subst (λ (n : ℕ). MarkedTo (scene_drawseg s) c.args.notes.now es (length c.args.notes.now) (λ k. n) c.draw_sprite.new.hands.marks.now) (sym (length_push c.loop-entry.yielded c.in-Some.entry)) sprite.marked;
-      paints = sprites-more s c.args.notes.now c.args.sprites.now c.loop-entry.yielded c.in-Some.entry _ t i.paints sprite;
+      kept = keeps-more known.kept drawn.same drawn.marks sprite.paints;
+      marked = subst (λ (n : ℕ). MarkedTo (scene_drawseg scene) c.args.notes.now es (length c.args.notes.now) (λ k. n) c.draw_sprite.new.hands.marks.now) (sym (length_push c.loop-entry.yielded c.in-Some.entry)) sprite.marked;
+      paints = sprites-more scene c.args.notes.now c.args.sprites.now c.loop-entry.yielded c.in-Some.entry _ turn known.paints sprite;
     }
 
 pub returns-in_err-draw_sprite-clause-paints : goal.returns-in_err-draw_sprite-clause-paints
 returns-in_err-draw_sprite-clause-paints g c =
-    let t = YieldsList-turn (YieldsList-from_first (λ (x : SpriteEntry). x) (λ (es : List SpriteEntry). es) (draw_order c.args.sprites.now) cc) c.loop-entry.yielded _ c.loop-entry.yielded_by _ _ c.in-Some.entry c.in-Some.is c.next.ensures.steps in
+    let turn = YieldsList-turn (YieldsList-from_first (λ (x : SpriteEntry). x) (λ (es : List SpriteEntry). es) (draw_order c.args.sprites.now) cc) c.loop-entry.yielded _ c.loop-entry.yielded_by _ _ c.in-Some.entry c.in-Some.is c.next.ensures.steps in
     let es = draw_order c.args.sprites.now in
-    let i = c.loop-entry.invariant in
-    let sprite = c.draw_sprite.ensures.sprite es (length c.loop-entry.yielded) t.0 (sprite-get es (length c.loop-entry.yielded) c.in-Some.entry t) i.marked in
-    paints-then_stop c.in_err-draw_sprite.was c.from_residual.ensures.1 i.paints
-    (paints-wider (λ n own k. k) (sprite-among c.args.sprites.now (length c.loop-entry.yielded) c.in-Some.entry t) sprite.paints)
+    let known = c.loop-entry.invariant in
+    let sprite =
+    c.draw_sprite.ensures.sprite es (length c.loop-entry.yielded) turn.0 (sprite-get es (length c.loop-entry.yielded) c.in-Some.entry turn) known.marked in
+    paints-then_stop c.in_err-draw_sprite.was c.from_residual.ensures.1 known.paints
+    (paints-wider (λ n own k. k) (sprite-among c.args.sprites.now (length c.loop-entry.yielded) c.in-Some.entry turn) sprite.paints)
 
 pub returns-clause-paints : goal.returns-clause-paints
 returns-clause-paints g c =
-    let t = YieldsList-end (YieldsList-from_first (λ (x : SpriteEntry). x) (λ (es : List SpriteEntry). es) (draw_order c.args.sprites.now) cc) c.loop-entry.yielded _ c.loop-entry.yielded_by _ _ c.in-None.is c.next.ensures.steps in
-    let s = c.args.scene.now in
-    let all : c.loop-entry.yielded ≡ draw_order c.args.sprites.now = sym (map-id c.loop-entry.yielded) ∙ t.0 in
-    paints-same _ (λ contents q is. ap (λ (es : List SpriteEntry). sprites_from s.view.now (scene_art contents s) (scene_drawsegs s c.args.notes.now) (draw_order c.args.sprites.now) 0 es) all) c.loop-entry.invariant.paints
+    let yielded_all = YieldsList-end (YieldsList-from_first (λ (x : SpriteEntry). x) (λ (es : List SpriteEntry). es) (draw_order c.args.sprites.now) cc) c.loop-entry.yielded _ c.loop-entry.yielded_by _ _ c.in-None.is c.next.ensures.steps in
+    let scene = c.args.scene.now in
+    let all : c.loop-entry.yielded ≡ draw_order c.args.sprites.now = sym (map-id c.loop-entry.yielded) ∙ yielded_all.0 in
+    paints-same _ (λ contents q is. ap (λ (es : List SpriteEntry). sprites_from scene.view.now (scene_art contents scene) (scene_drawsegs scene c.args.notes.now) (draw_order c.args.sprites.now) 0 es) all) c.loop-entry.invariant.paints

@@ -13,46 +13,48 @@ use Rattle.masked_draw.proofs.pass.pass_fragment.Goals as goal
 
 pub column_of-first-requires : goal.column_of-first-requires
 column_of-first-requires g c =
-    let e = c.args.entry.now in
-    let n = entry-numbers e c.args.scene.now.view.now.shape.width (omega (arith, c.requires.note.paint.placed.columns)) c.requires.within c.requires.ordered in
-    let first = sym (to_z-of_z w32 e.first (search rules)) in
-    record { least = subst (λ (z : ℤ). pos 0 ≤ℤ z) first n.first_least; greatest = subst (λ (z : ℤ). z <ℤ pos (2 ^ 16)) first n.first_greatest }
+    let entry = c.args.entry.now in
+    let numbers =
+    entry-numbers entry c.args.scene.now.view.now.shape.width (omega (arith, c.requires.note.paint.placed.columns)) c.requires.within c.requires.ordered in
+    let first_is = sym (to_z-of_z w32 entry.first (search rules)) in
+    record { least = subst (λ z. pos 0 ≤ℤ z) first_is numbers.first_least; greatest = subst (λ (z : ℤ). z <ℤ pos (2 ^ 16)) first_is numbers.first_greatest }
 
 pub column_of-last-requires-clause-greatest : goal.column_of-last-requires-clause-greatest
 column_of-last-requires-clause-greatest g c =
-    let e = c.args.entry.now in
-    let n = entry-numbers e c.args.scene.now.view.now.shape.width (omega (arith, c.requires.note.paint.placed.columns)) c.requires.within c.requires.ordered in
-    subst (λ (z : ℤ). z <ℤ pos (2 ^ 16)) (sym (to_z-of_z w32 e.last (search rules))) n.last_greatest
+    let entry = c.args.entry.now in
+    let numbers =
+    entry-numbers entry c.args.scene.now.view.now.shape.width (omega (arith, c.requires.note.paint.placed.columns)) c.requires.within c.requires.ordered in
+    subst (λ (z : ℤ). z <ℤ pos (2 ^ 16)) (sym (to_z-of_z w32 entry.last (search rules))) numbers.last_greatest
 
 pub returns-then-not-counts-clause-marked : goal.returns-then-not-counts-clause-marked
 returns-then-not-counts-clause-marked g c =
-    let e = c.args.entry.now in
-    let f = sym (to_z-of_z w32 e.first (search rules)) ∙ c.column_of-first.ensures in
-    let l = sym (to_z-of_z w32 e.last (search rules)) ∙ c.column_of-last.ensures in
-    misses-marks e c.args.note.now (scene_drawseg c.args.scene.now c.args.note.now) _ _ c.args.hands.now.marks.now f l (c.counts.ensures.no c.if-not-counts.true)
+    let entry = c.args.entry.now in
+    let first_is = sym (to_z-of_z w32 entry.first (search rules)) ∙ c.column_of-first.ensures in
+    let last_is = sym (to_z-of_z w32 entry.last (search rules)) ∙ c.column_of-last.ensures in
+    misses-marks entry c.args.note.now (scene_drawseg c.args.scene.now c.args.note.now) _ _ c.args.hands.now.marks.now first_is last_is (c.counts.ensures.no c.if-not-counts.true)
 
 pub returns-then-not-counts-clause-rows : goal.returns-then-not-counts-clause-rows
 returns-then-not-counts-clause-rows g c = λ x t.
-    let e = c.args.entry.now in
-    let d = c.args.note.now in
-    let seg = scene_drawseg c.args.scene.now d in
-    let is_seg = scene-seg c.args.scene.now d in
-    let f = sym (to_z-of_z w32 e.first (search rules)) ∙ c.column_of-first.ensures in
-    let l = sym (to_z-of_z w32 e.last (search rules)) ∙ c.column_of-last.ensures in
+    let entry = c.args.entry.now in
+    let note = c.args.note.now in
+    let seg = scene_drawseg c.args.scene.now note in
+    let is_seg = scene-seg c.args.scene.now note in
+    let first_is = sym (to_z-of_z w32 entry.first (search rules)) ∙ c.column_of-first.ensures in
+    let last_is = sym (to_z-of_z w32 entry.last (search rules)) ∙ c.column_of-last.ensures in
     let misses = c.counts.ensures.no c.if-not-counts.true in
     record {
-      top = misses-top e d seg _ _ x (seg.top_clip x) _ is_seg f l misses t;
-      bottom = misses-bottom e d seg _ _ x (seg.bottom_clip x) _ is_seg f l misses t;
+      top = misses-top entry note seg _ _ x (seg.top_clip x) _ is_seg first_is last_is misses t;
+      bottom = misses-bottom entry note seg _ _ x (seg.bottom_clip x) _ is_seg first_is last_is misses t;
     }
 
 pub returns-then-not-counts-clause-paints : goal.returns-then-not-counts-clause-paints
 returns-then-not-counts-clause-paints g c =
-    let e = c.args.entry.now in
-    let s = c.args.scene.now in
-    let f = sym (to_z-of_z w32 e.first (search rules)) ∙ c.column_of-first.ensures in
-    let l = sym (to_z-of_z w32 e.last (search rules)) ∙ c.column_of-last.ensures in
+    let entry = c.args.entry.now in
+    let scene = c.args.scene.now in
+    let first_is = sym (to_z-of_z w32 entry.first (search rules)) ∙ c.column_of-first.ensures in
+    let last_is = sym (to_z-of_z w32 entry.last (search rules)) ∙ c.column_of-last.ensures in
     let misses = c.counts.ensures.no c.if-not-counts.true in
-    paints-same _ (λ contents q is. sym (misses-dots s.view.now (scene_art contents s) c.args.number e c.args.note.now (scene_drawseg s c.args.note.now) _ _ c.args.hands.now.marks.now f l misses)) (paints-none _ _)
+    paints-same _ (λ contents q is. sym (misses-dots scene.view.now (scene_art contents scene) c.args.number entry c.args.note.now (scene_drawseg scene c.args.note.now) _ _ c.args.hands.now.marks.now first_is last_is misses)) (paints-none _ _)
 
 -- the columns of both
 both_ordered : (first last a b from to : ℕ) → first ≤ last → a ≤ b → a ≤ last → first ≤ b → from ≡ max first a → to ≡ min last b → from ≤ to
@@ -95,27 +97,27 @@ dots_behind {e} {d} {first} {last} {to = to} v art k seg marks both b =
 pub returns-then-is_behind : goal.returns-then-is_behind
 unfolding noted_drawseg note_seg
 returns-then-is_behind g c =
-    let e = c.args.entry.now in
+    let entry = c.args.entry.now in
     let seg = scene_drawseg c.args.scene.now c.args.note.now in
-    let both : AreShared e c.args.note.now c.column_of-first.result c.column_of-last.result c.max-from.result c.min-to.result =
+    let both : AreShared entry c.args.note.now c.column_of-first.result c.column_of-last.result c.max-from.result c.min-to.result =
     record { first_is = search (rules, to_z-of_z); last_is = search (rules, to_z-of_z); from_is = c.max-from.ensures; to_is = c.min-to.ensures } in
-    let b : is_behind seg e ≡ true = sym (c.is_behind.ensures _ refl refl refl) ∙ c.if-is_behind.true in
+    let behind : is_behind seg entry ≡ true = sym (c.is_behind.ensures _ refl refl refl) ∙ c.if-is_behind.true in
     record {
       same = search rules;
       marks = search rules;
-      marked = on_ok_weaker c.paint_middle.result (λ h. marks_behind seg both b h) c.paint_middle.ensures.marked;
-      rows = λ x t. record { top = behind-top e seg x (seg.top_clip x) _ b; bottom = behind-bottom e seg x (seg.bottom_clip x) _ b };
-      paints = paints-same _ (λ contents q is. dots_behind c.args.scene.now.view.now (scene_art contents c.args.scene.now) c.args.number seg c.args.hands.now.marks.now both b) c.paint_middle.ensures.paints;
+      marked = on_ok_weaker c.paint_middle.result (λ h. marks_behind seg both behind h) c.paint_middle.ensures.marked;
+      rows = λ x t. record { top = behind-top entry seg x (seg.top_clip x) _ behind; bottom = behind-bottom entry seg x (seg.bottom_clip x) _ behind };
+      paints = paints-same _ (λ contents q is. dots_behind c.args.scene.now.view.now (scene_art contents c.args.scene.now) c.args.number seg c.args.hands.now.marks.now both behind) c.paint_middle.ensures.paints;
     }
 
 pub returns-clause-marked : goal.returns-clause-marked
 unfolding noted_drawseg note_seg
 returns-clause-marked g c =
-    let e = c.args.entry.now in
-    let d = c.args.note.now in
-    let seg = scene_drawseg c.args.scene.now d in
-    let b : is_behind seg e ≡ false = sym (c.is_behind.ensures seg refl refl refl) ∙ c.if-is_behind.false in
-    front-marks e d seg c.args.hands.now.marks.now b
+    let entry = c.args.entry.now in
+    let note = c.args.note.now in
+    let seg = scene_drawseg c.args.scene.now note in
+    let in_front : is_behind seg entry ≡ false = sym (c.is_behind.ensures seg refl refl refl) ∙ c.if-is_behind.false in
+    front-marks entry note seg c.args.hands.now.marks.now in_front
 
 -- where it is in front, the columns in which its clips are taken are those of both
 rows_taken : {e : SpriteEntry} {d : FragmentNote} {first last from to : ℕ} (x : ℕ) (clips : Bool) (row : ℤ) (old new : Option ℤ) → AreShared e d first last from to →
@@ -126,23 +128,26 @@ rows_taken {d = d} {first} {to = to} x clips row old new both h =
 pub returns-clause-rows : goal.returns-clause-rows
 unfolding noted_drawseg note_seg
 returns-clause-rows g c = λ x t.
-    let e = c.args.entry.now in
-    let d = c.args.note.now in
-    let both : AreShared e d c.column_of-first.result c.column_of-last.result c.max-from.result c.min-to.result =
+    let entry = c.args.entry.now in
+    let note = c.args.note.now in
+    let both : AreShared entry note c.column_of-first.result c.column_of-last.result c.max-from.result c.min-to.result =
     record { first_is = search (rules, to_z-of_z); last_is = search (rules, to_z-of_z); from_is = c.max-from.ensures; to_is = c.min-to.ensures } in
-    let is_seg = scene-seg c.args.scene.now d in
-    let b : is_behind (scene_drawseg c.args.scene.now d) e ≡ false = sym (c.is_behind.ensures _ refl refl refl) ∙ c.if-is_behind.false in
+    let is_seg = scene-seg c.args.scene.now note in
+    let in_front : is_behind (scene_drawseg c.args.scene.now note) entry ≡ false = sym (c.is_behind.ensures _ refl refl refl) ∙ c.if-is_behind.false in
     record {
-      top = front-top e d _ _ _ x _ _ _ is_seg both.first_is both.last_is t b (rows_taken x (clips_top d e) _ _ _ both (c.take.ensures.tops x));
-      bottom = front-bottom e d _ _ _ x _ _ _ is_seg both.first_is both.last_is t b (rows_taken x (clips_bottom d e) _ _ _ both (c.take.ensures.bottoms x));
+      top = front-top entry note _ _ _ x _ _ _ is_seg both.first_is both.last_is t in_front
+          (rows_taken x (clips_top note entry) _ _ _ both (c.take.ensures.tops x));
+      bottom = front-bottom entry note _ _ _ x _ _ _ is_seg both.first_is both.last_is t in_front
+          (rows_taken x (clips_bottom note entry) _ _ _ both (c.take.ensures.bottoms x));
     }
 
 pub returns-clause-paints : goal.returns-clause-paints
 unfolding noted_drawseg note_seg
 returns-clause-paints g c =
-    let e = c.args.entry.now in
-    let d = c.args.note.now in
-    let s = c.args.scene.now in
-    let seg = scene_drawseg s d in
-    let b : is_behind seg e ≡ false = sym (c.is_behind.ensures seg refl refl refl) ∙ c.if-is_behind.false in
-    paints-same _ (λ contents q is. sym (front-dots s.view.now (scene_art contents s) c.args.number e d seg c.args.hands.now.marks.now b)) (paints-none _ _)
+    let entry = c.args.entry.now in
+    let note = c.args.note.now in
+    let scene = c.args.scene.now in
+    let seg = scene_drawseg scene note in
+    let in_front : is_behind seg entry ≡ false = sym (c.is_behind.ensures seg refl refl refl) ∙ c.if-is_behind.false in
+    paints-same _ (λ contents q is. sym (front-dots scene.view.now (scene_art contents scene) c.args.number entry note seg c.args.hands.now.marks.now in_front))
+    (paints-none _ _)

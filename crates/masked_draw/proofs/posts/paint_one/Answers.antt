@@ -45,28 +45,28 @@ returns-then-first-last g c =
     search (rules, to_z-of_z) in
     let last_no : c.post_strip.result.last ≡ nat_abs c.last_row-last.result =
     search (rules, to_z-of_z) in
-    let r = c.post_strip.result in
-    let t = c.post_strip.ensures in
+    let strip = c.post_strip.result in
+    let strip_is = c.post_strip.ensures in
     let painter : Painter = (g.C.Canvas.view c.args.canvas.now).painter in
     let bytes : List ℕ = c.args.art.now.bytes.now in
     let shades : List ℕ = c.args.art.now.colormap.now in
-    let m : ℕ = c.args.art.now.map in
+    let map : ℕ = c.args.art.now.map in
     c.paint_post.ensures
     ∙ ap (λ (dots : List Dot). with_dots g.C.Canvas.mark dots (g.C.Canvas.view c.args.canvas.now))
-    (ap (λ (n : ℕ). column_strip_dots painter n (strip_colour r.source.now r.base r.colormap.now r.map
-    r.fraction r.step r.first) r.first r.last) t.x
-    ∙ ap (λ (xs : List ℕ). column_strip_dots painter c.args.look.now.x (strip_colour xs r.base r.colormap.now
-    r.map r.fraction r.step r.first) r.first r.last) t.source
-    ∙ ap (λ (xs : List ℕ). column_strip_dots painter c.args.look.now.x (strip_colour bytes r.base xs r.map
-    r.fraction r.step r.first) r.first r.last) t.colormap
-    ∙ ap (λ (n : ℕ). column_strip_dots painter c.args.look.now.x (strip_colour bytes r.base shades n
-    r.fraction r.step r.first) r.first r.last) t.map
-    ∙ post-strip c.args.look.now.shape painter c.args.look.now.x c.args.look.now.column bytes shades m c.args.post
-    c.plus-begin.result r.first r.last r.base r.fraction r.step rows.top t.base t.step
-    (t.fraction ∙ ap (row_fraction c.args.look.now.shape.centre_y (minus c.args.look.now.column.mid
-    (fixed (pos c.args.post.topdelta))) c.args.look.now.column.iscale) (sym t.first))
-    (by_number r.first c.first_row-first.result first_no low ∙ rows.first)
-    (by_number r.last c.last_row-last.result last_no high ∙ rows.last)
+    (ap (λ (n : ℕ). column_strip_dots painter n (strip_colour strip.source.now strip.base strip.colormap.now strip.map
+    strip.fraction strip.step strip.first) strip.first strip.last) strip_is.x
+    ∙ ap (λ (xs : List ℕ). column_strip_dots painter c.args.look.now.x (strip_colour xs strip.base strip.colormap.now
+    strip.map strip.fraction strip.step strip.first) strip.first strip.last) strip_is.source
+    ∙ ap (λ (xs : List ℕ). column_strip_dots painter c.args.look.now.x (strip_colour bytes strip.base xs strip.map
+    strip.fraction strip.step strip.first) strip.first strip.last) strip_is.colormap
+    ∙ ap (λ (n : ℕ). column_strip_dots painter c.args.look.now.x (strip_colour bytes strip.base shades n
+    strip.fraction strip.step strip.first) strip.first strip.last) strip_is.map
+    ∙ post-strip c.args.look.now.shape painter c.args.look.now.x c.args.look.now.column bytes shades map c.args.post
+    c.plus-begin.result strip.first strip.last strip.base strip.fraction strip.step rows.top strip_is.base strip_is.step
+    (strip_is.fraction ∙ ap (row_fraction c.args.look.now.shape.centre_y (minus c.args.look.now.column.mid
+    (fixed (pos c.args.post.topdelta))) c.args.look.now.column.iscale) (sym strip_is.first))
+    (by_number strip.first c.first_row-first.result first_no low ∙ rows.first)
+    (by_number strip.last c.last_row-last.result last_no high ∙ rows.last)
     (subst (λ (z : ℤ). int_lt z (post_first c.args.look.now.column.top_clip c.plus-begin.result) ≡ false)
     rows.last (subst (λ (z : ℤ). int_lt c.last_row-last.result z ≡ false) rows.first
     (in_order c.first_row-first.result c.last_row-last.result ordered))))

@@ -24,16 +24,17 @@ returns-in_default-clause-paints g c =
 pub returns-clause-paints : goal.returns-clause-paints
 unfolding lump_source
 returns-clause-paints g c =
-    let s = c.args.scene.now in
-    let e = c.args.entry.now in
+    let scene = c.args.scene.now in
+    let entry = c.args.entry.now in
     let lent = c.in-Some.ensures in
-    paints-live tt (draws-fetch e.lump c.requires.lump c.in_ok-fetch.ensures.fetches)
+    paints-live tt (draws-fetch entry.lump c.requires.lump c.in_ok-fetch.ensures.fetches)
     (λ view contents count q hold is.
-    let own = lent_lump contents s.dir.now.lumps _ e.lump c.in-Some.art.bytes.now hold.files.faithful c.requires.lump lent.bytes in
-    let shades = lent_lump contents s.dir.now.lumps _ s.colormap.0 c.in-Some.art.colormap.now hold.files.faithful c.requires.ready.colormap lent.colormap in
-    picture-painted s.view.now (lump_bytes contents s.dir.now.lumps) s.textures.now s.colormap.0 c.args.clips.now e c.args.first c.args.last c.shape-shape.result _ _ _ _ _
+    let own = lent_lump contents scene.dir.now.lumps _ entry.lump c.in-Some.art.bytes.now hold.files.faithful c.requires.lump lent.bytes in
+    let shades =
+    lent_lump contents scene.dir.now.lumps _ scene.colormap.0 c.in-Some.art.colormap.now hold.files.faithful c.requires.ready.colormap lent.colormap in
+    picture-painted scene.view.now (lump_bytes contents scene.dir.now.lumps) scene.textures.now scene.colormap.0 c.args.clips.now entry c.args.first c.args.last c.shape-shape.result _ _ _ _ _
     c.requires.begins c.requires.ends c.requires.ordered c.shape-shape.ensures.value own shades c.begin.ensures c.paint_columns.ensures)
     (λ view contents count q hold is.
-    fit-columns s.dir.now.lumps s.textures.now s.colormap.0 count _ s.view.now (lump_bytes contents s.dir.now.lumps) c.args.clips.now e c.args.first c.args.last c.requires.begins c.requires.ends c.requires.ordered
-    (fits-lump hold SPRITE e.number e.lump c.in-Some.art.bytes.now c.requires.lump (sym lent.bytes) (λ apart. lent.fits s.colormap.0 count (rest_static hold.rest) apart)))
+    fit-columns scene.dir.now.lumps scene.textures.now scene.colormap.0 count _ scene.view.now (lump_bytes contents scene.dir.now.lumps) c.args.clips.now entry c.args.first c.args.last c.requires.begins c.requires.ends c.requires.ordered
+    (fits-lump hold SPRITE entry.number entry.lump c.in-Some.art.bytes.now c.requires.lump (sym lent.bytes) (λ apart. lent.fits scene.colormap.0 count (rest_static hold.rest) apart)))
     (search rules) refl refl

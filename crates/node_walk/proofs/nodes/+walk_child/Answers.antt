@@ -21,9 +21,9 @@ returns-then-depth-eq0-clause-walks g t c =
 -- the visitor stopped under the near child
 pub returns-in_err-walk_child-in-Node-clause-walks : goal.returns-in_err-walk_child-in-Node-clause-walks
 returns-in_err-walk_child-in-Node-clause-walks g t c =
-    let p = err_from_is_err_and c.from_residual.result c.from_residual.ensures.1 in
+    let failed = err_from_is_err_and c.from_residual.result c.from_residual.ensures.1 in
     let rest = node_front c.args.view.now c.args.lists.now c.args.depth c.in-Node.n c.eye_side-near.result c.args.child c.child_on.result c.node-node.result.now c.args.cover.now c.in-Node.is c.if-depth-eq0.false c.node-node.ensures.value c.eye_side-near.ensures.value c.child_on.ensures in
-    walks_stop c.from_residual.result _ _ rest.0 c.walk_child.ensures.walks.visits _ c.in_err-walk_child-in-Node.was (p.1 ∙ ap Err p.2) rest.1
+    walks_stop c.from_residual.result _ _ rest.0 c.walk_child.ensures.walks.visits _ c.in_err-walk_child-in-Node.was (failed.1 ∙ ap Err failed.2) rest.1
 
 -- the near child alone
 pub returns-then-not-box_passes-clause-walks : goal.returns-then-not-box_passes-clause-walks

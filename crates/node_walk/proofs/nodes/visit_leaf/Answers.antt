@@ -8,11 +8,11 @@ use Rattle.node_walk.proofs.nodes.visit_leaf.Goals as goal
 
 pub returns-in_err-leaf-clause-walks : goal.returns-in_err-leaf-clause-walks
 returns-in_err-leaf-clause-walks g c =
-    let p = err_from_is_err_and c.from_residual.result c.from_residual.ensures.1 in
+    let failed = err_from_is_err_and c.from_residual.result c.from_residual.ensures.1 in
     let leaf = leaf_at c.args.lists.now c.args.n in
     let front = surface_at c.args.lists.now leaf.sector in
-    let e = leaf_part c.args.view.now c.args.lists.now c.args.n leaf front c.args.cover.now refl refl in
-    walks_stop c.from_residual.result _ _ _ c.leaf.ensures _ c.in_err-leaf.was (p.1 ∙ ap Err p.2) (sym (ap (λ (w : WalkState). w.events) e))
+    let leaf_is = leaf_part c.args.view.now c.args.lists.now c.args.n leaf front c.args.cover.now refl refl in
+    walks_stop c.from_residual.result _ _ _ c.leaf.ensures _ c.in_err-leaf.was (failed.1 ∙ ap Err failed.2) (sym (ap (λ (w : WalkState). w.events) leaf_is))
 
 pub visit_seg-requires-clause-takes : goal.visit_seg-requires-clause-takes
 visit_seg-requires-clause-takes g c =
@@ -23,10 +23,10 @@ returns-in_err-visit_seg-clause-walks g c =
     let lists = c.args.lists.now in
     let leaf = c.leaf-leaf.result.now in
     let front = c.surface-front.result.now in
-    let p = err_from_is_err_and c.from_residual-in_err-visit_seg.result c.from_residual-in_err-visit_seg.ensures.1 in
+    let failed = err_from_is_err_and c.from_residual-in_err-visit_seg.result c.from_residual-in_err-visit_seg.ensures.1 in
     let left = segs_left c.args.view.now lists front leaf.first c.loop-k.k leaf.count c.args.cover.now c.loop-k.cover (omega arith) c.loop-k.invariant.walks.covered in
     walks_then _ c.leaf.ensures _ c.in_ok-leaf.was
-    (walks_stopped c.from_residual-in_err-visit_seg.result _ _ left.0 c.loop-k.invariant.walks.visits tt refl c.visit_seg.ensures.walks.visits _ c.in_err-visit_seg.was (p.1 ∙ ap Err p.2) left.1)
+    (walks_stopped c.from_residual-in_err-visit_seg.result _ _ left.0 c.loop-k.invariant.walks.visits tt refl c.visit_seg.ensures.walks.visits _ c.in_err-visit_seg.was (failed.1 ∙ ap Err failed.2) left.1)
     (leaf_part c.args.view.now lists c.args.n leaf front c.args.cover.now c.leaf-leaf.ensures.value c.surface-front.ensures)
 
 pub loop-k-init : goal.loop-k-init

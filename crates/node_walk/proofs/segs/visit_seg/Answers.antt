@@ -19,8 +19,8 @@ returns-then-x1-x2-clause-walks g c =
 -- what is nothing of the runs is shown before the Stop
 pub returns-in_err-show-in-Columns-clause-walks : goal.returns-in_err-show-in-Columns-clause-walks
 returns-in_err-show-in-Columns-clause-walks g c =
-    let p = err_from_is_err_and c.from_residual.result c.from_residual.ensures.1 in
-    walks_same _ (walks_stop c.from_residual.result _ _ [] c.show.ensures _ c.in_err-show-in-Columns.was (p.1 ∙ ap Err p.2)
+    let failed = err_from_is_err_and c.from_residual.result c.from_residual.ensures.1 in
+    walks_same _ (walks_stop c.from_residual.result _ _ [] c.show.ensures _ c.in_err-show-in-Columns.was (failed.1 ∙ ap Err failed.2)
     (append-nil _ ∙ sym (ap (λ (w : WalkState). w.events) (solid_part _ _ c.args.n c.in-Columns.x1 (c.in-Columns.x2 - 1) c.args.cover.now _ (sym c.if-is_solid.ensures) refl))))
     (columns_part c.args.view.now c.args.lists.now c.args.front.now c.args.n c.args.cover.now _ c.seg-seg.ensures.value c.in-Columns.x1 c.in-Columns.x2 c.in-Columns.ensures.value c.if-x1-x2.false)
 

@@ -9,12 +9,12 @@ unfolding closed_dots
 returns g c =
     let old = g.C.Canvas.view c.args.canvas.now in
     let mark = g.C.Canvas.mark in
-    let f = c.args.floor.now in
+    let floor = c.args.floor.now in
     let start : ℕ → ℕ = slice_index c.args.starts.now in
-    let b = c.args.before in
-    let n = c.args.now in
+    let before = c.args.before in
+    let now = c.args.now in
     c.paint_rows-2.ensures
-    ∙ ap (λ (v : CanvasView). with_dots mark (closed_rows f v.painter start c.args.x c.max.result (b.end - c.max.result)) v) c.paint_rows.ensures
-    ∙ with_dots-append mark (closed_rows f old.painter start c.args.x b.begin (c.min.result - b.begin)) (closed_rows f old.painter start c.args.x c.max.result (b.end - c.max.result)) old
-    ∙ ap (λ (m : ℕ). with_dots mark (closed_rows f old.painter start c.args.x b.begin (m - b.begin) ++ closed_rows f old.painter start c.args.x c.max.result (b.end - c.max.result)) old) c.min.ensures
-    ∙ ap (λ (m : ℕ). with_dots mark (closed_rows f old.painter start c.args.x b.begin (min b.end n.begin - b.begin) ++ closed_rows f old.painter start c.args.x m (b.end - m)) old) c.max.ensures
+    ∙ ap (λ (v : CanvasView). with_dots mark (closed_rows floor v.painter start c.args.x c.max.result (before.end - c.max.result)) v) c.paint_rows.ensures
+    ∙ with_dots-append mark (closed_rows floor old.painter start c.args.x before.begin (c.min.result - before.begin)) (closed_rows floor old.painter start c.args.x c.max.result (before.end - c.max.result)) old
+    ∙ ap (λ (m : ℕ). with_dots mark (closed_rows floor old.painter start c.args.x before.begin (m - before.begin) ++ closed_rows floor old.painter start c.args.x c.max.result (before.end - c.max.result)) old) c.min.ensures
+    ∙ ap (λ (m : ℕ). with_dots mark (closed_rows floor old.painter start c.args.x before.begin (min before.end now.begin - before.begin) ++ closed_rows floor old.painter start c.args.x m (before.end - m)) old) c.max.ensures

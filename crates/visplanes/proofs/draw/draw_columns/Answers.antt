@@ -9,66 +9,66 @@ use Rattle.visplanes.proofs.draw.draw_columns.Goals as goal
 
 pub loop-x-init : goal.loop-x-init
 loop-x-init g c =
-    let p = c.args.plane.now in
-    let none : (k y : ℕ) → k < c.marked-first.result.0 → holds p y k ≡ false =
-    λ k y l. false_from_ne_true (holds p y k) (λ t. absurd (omega (arith, l, (c.marked-first.ensures.pixels k y t).0))) in
+    let plane = c.args.plane.now in
+    let none : (k y : ℕ) → k < c.marked-first.result.0 → holds plane y k ≡ false =
+    λ k y l. false_from_ne_true (holds plane y k) (λ t. absurd (omega (arith, l, (c.marked-first.ensures.pixels k y t).0))) in
     record {
-      spans = spans_none g.C.Canvas.mark c.args.floor.now p c.marked-first.result.0 (g.C.Canvas.view c.args.canvas.now) none;
+      spans = spans_none g.C.Canvas.mark c.args.floor.now plane c.marked-first.result.0 (g.C.Canvas.view c.args.canvas.now) none;
       starts = λ y h. absurd (both_ways _ (is_in-none y) h);
-      held = λ y. is_in-none y ∙ sym (held_before-nowhere p y c.marked-first.result.0 (λ k l. none k y l));
+      held = λ y. is_in-none y ∙ sym (held_before-nowhere plane y c.marked-first.result.0 (λ k l. none k y l));
       ordered = omega arith;
       within = omega arith;
     }
 
 pub change_rows-requires-clause-spans : goal.change_rows-requires-clause-spans
 change_rows-requires-clause-spans g c =
-    let i = c.loop-x.invariant in
+    let known = c.loop-x.invariant in
     let old = g.C.Canvas.view c.args.canvas.now in
     let room : c.loop-x.before.end ≤ length c.loop-x.starts = search rules in
     let spans : (y : ℕ) → c.loop-x.before.begin ≤ y → y < c.loop-x.before.end → CanPaint c.args.floor.now.view.shape (g.C.Canvas.view c.loop-x.canvas).left (g.C.Canvas.view c.loop-x.canvas).top (slice_index c.loop-x.starts y) c.loop-x.x y = λ y l m.
-    let h : is_in c.loop-x.before y ≡ true = is_in-from c.loop-x.before y l m in
-    subst (λ (v : CanvasView). CanPaint c.args.floor.now.view.shape v.left v.top (slice_index c.loop-x.starts y) c.loop-x.x y) (sym i.spans.painted)
-    (can_paint c.args.floor.now.view.shape old.left old.top c.args.plane.now c.requires.seen (slice_index c.loop-x.starts y) c.loop-x.x y (sym (i.held y) ∙ h) (i.starts y h)) in
+    let is_inside : is_in c.loop-x.before y ≡ true = is_in-from c.loop-x.before y l m in
+    subst (λ (v : CanvasView). CanPaint c.args.floor.now.view.shape v.left v.top (slice_index c.loop-x.starts y) c.loop-x.x y) (sym known.spans.painted)
+    (can_paint c.args.floor.now.view.shape old.left old.top c.args.plane.now c.requires.seen (slice_index c.loop-x.starts y) c.loop-x.x y (sym (known.held y) ∙ is_inside) (known.starts y is_inside)) in
     (room, spans)
 
 pub loop-x-preserved : goal.loop-x-preserved
 unfolding holds
 loop-x-preserved g c =
-    let i = c.loop-x.invariant in
-    let p : Plane = c.args.plane.now in
-    let x : ℕ = c.loop-x.x in
-    let n : ℕ = c.loop-x.x + 1 in
+    let known = c.loop-x.invariant in
+    let plane : Plane = c.args.plane.now in
+    let here : ℕ = c.loop-x.x in
+    let next : ℕ = c.loop-x.x + 1 in
     let before : Rows = c.loop-x.before in
     let now : Rows = c.rows_of-now.result in
     let old = g.C.Canvas.view c.args.canvas.now in
-    let holding : (y : ℕ) → is_in now y ≡ holds p y x =
-    λ y. ap (λ (r : Rows). is_in r y) (c.rows_of-now.ensures.rows ∙ ap rows_of c.column.ensures.run) ∙ is_in-rows_of (column p x) y in
-    let passing : IsPassing c.args.floor.now.view.shape p (slice_index c.loop-x.starts) before now x old =
-    record { seen = c.requires.seen; before_ordered = i.ordered; now_ordered = c.rows_of-now.ensures.ordered; held = i.held; holding = holding; starts = i.starts } in
+    let holding : (y : ℕ) → is_in now y ≡ holds plane y here =
+    λ y. ap (λ (r : Rows). is_in r y) (c.rows_of-now.ensures.rows ∙ ap rows_of c.column.ensures.run) ∙ is_in-rows_of (column plane here) y in
+    let passing : IsPassing c.args.floor.now.view.shape plane (slice_index c.loop-x.starts) before now here old =
+    record { seen = c.requires.seen; before_ordered = known.ordered; now_ordered = c.rows_of-now.ensures.ordered; held = known.held; holding = holding; starts = known.starts } in
     record {
-      spans = spans_more g.C.Canvas.mark c.args.floor.now c.args.floor.now.view.shape p (slice_index c.loop-x.starts) before now x n old
-          (g.C.Canvas.view c.loop-x.canvas) (g.C.Canvas.view c.change_rows.new.canvas) refl passing i.spans c.change_rows.ensures.closed;
+      spans = spans_more g.C.Canvas.mark c.args.floor.now c.args.floor.now.view.shape plane (slice_index c.loop-x.starts) before now here next old
+          (g.C.Canvas.view c.loop-x.canvas) (g.C.Canvas.view c.change_rows.new.canvas) refl passing known.spans c.change_rows.ensures.closed;
       starts = λ y h.
-          let on : holds p y x ≡ true = sym (holding y) ∙ h in
+          let on : holds plane y here ≡ true = sym (holding y) ∙ h in
           elim (cases_Bool (is_in before y)) [
-            | inl t ↦ c.change_rows.ensures.kept y t ∙ i.starts y t ∙ sym (start-kept p y x n refl on)
-            | inr f ↦ c.change_rows.ensures.opened y h f ∙ sym (start-kept p y x n refl on ∙ start-fresh p y x (sym (i.held y) ∙ f))
+            | inl t ↦ c.change_rows.ensures.kept y t ∙ known.starts y t ∙ sym (start-kept plane y here next refl on)
+            | inr f ↦ c.change_rows.ensures.opened y h f ∙ sym (start-kept plane y here next refl on ∙ start-fresh plane y here (sym (known.held y) ∙ f))
           ];
-      held = λ y. holding y ∙ sym (held_before-more p y x n refl);
+      held = λ y. holding y ∙ sym (held_before-more plane y here next refl);
       ordered = c.rows_of-now.ensures.ordered;
       within = c.rows_of-now.ensures.within;
     }
 
 pub returns : goal.returns
 returns g c =
-    let p = c.args.plane.now in
-    let x = c.loop-x.x in
-    let m = c.marked-first in
-    let closed : (k y : ℕ) → holds p y k ≡ true → k < span_start (holds p y) x = λ k y t.
-    let a = m.ensures.pixels k y t in
-    let e : m.result.1 + 1 + 1 ≡ x = omega (arith, a.0, a.1, c.loop-x-test.false, c.loop-x.auto.x-end) in
-    let off : holds p y (m.result.1 + 1) ≡ false = false_from_ne_true (holds p y (m.result.1 + 1)) (λ q. absurd (omega (arith, (m.ensures.pixels (m.result.1 + 1) y q).1))) in
-    let s : span_start (holds p y) x ≡ x = start-fresh p y x (held_before-more p y (m.result.1 + 1) x e ∙ off) in
-    omega (arith, a.1, e, s) in
-    spans_all g.C.Canvas.mark c.args.floor.now p (λ y. span_start (holds p y) x) (λ y. FRAME_WIDTH) (g.C.Canvas.view c.args.canvas.now) (g.C.Canvas.view c.loop-x.canvas) c.loop-x.invariant.spans closed
-    (λ k y t. omega (arith, (m.ensures.pixels k y t).1, m.ensures.last))
+    let plane = c.args.plane.now in
+    let end = c.loop-x.x in
+    let marked = c.marked-first in
+    let closed : (k y : ℕ) → holds plane y k ≡ true → k < span_start (holds plane y) end = λ k y t.
+    let in_marked = marked.ensures.pixels k y t in
+    let is_end : marked.result.1 + 1 + 1 ≡ end = omega (arith, in_marked.0, in_marked.1, c.loop-x-test.false, c.loop-x.auto.x-end) in
+    let off : holds plane y (marked.result.1 + 1) ≡ false = false_from_ne_true (holds plane y (marked.result.1 + 1)) (λ q. absurd (omega (arith, (marked.ensures.pixels (marked.result.1 + 1) y q).1))) in
+    let starts_at_end : span_start (holds plane y) end ≡ end = start-fresh plane y end (held_before-more plane y (marked.result.1 + 1) end is_end ∙ off) in
+    omega (arith, in_marked.1, is_end, starts_at_end) in
+    spans_all g.C.Canvas.mark c.args.floor.now plane (λ y. span_start (holds plane y) end) (λ y. FRAME_WIDTH) (g.C.Canvas.view c.args.canvas.now) (g.C.Canvas.view c.loop-x.canvas) c.loop-x.invariant.spans closed
+    (λ k y t. omega (arith, (marked.ensures.pixels k y t).1, marked.ensures.last))

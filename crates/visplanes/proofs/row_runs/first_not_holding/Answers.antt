@@ -6,13 +6,13 @@ use Rattle.visplanes.proofs.row_runs.first_not_holding.Goals as goal
 pub loop-x-preserved : goal.loop-x-preserved
 unfolding holds
 loop-x-preserved c =
-    let p = c.args.plane.now in
-    let y = c.args.row in
-    let x = c.loop-x.x in
-    let on : holds p y x ≡ true =
-    ap (λ (r : Option (ℕ × ℕ)). holds_row r y) (sym c.column.ensures.run) ∙ sym c.holds_row.ensures ∙ c.if-holds_row.true in
+    let plane = c.args.plane.now in
+    let row = c.args.row in
+    let here = c.loop-x.x in
+    let on : holds plane row here ≡ true =
+    ap (λ (r : Option (ℕ × ℕ)). holds_row r row) (sym c.column.ensures.run) ∙ sym c.holds_row.ensures ∙ c.if-holds_row.true in
     record {
-      held = λ k a b. elim (cases_lt k x) [ inl l ↦ c.loop-x.invariant.held k a l | inr m ↦ (let e : k ≡ x = omega arith in ap (λ (i : ℕ). holds p y i) e ∙ on) ];
+      held = λ k a b. elim (cases_lt k here) [ inl l ↦ c.loop-x.invariant.held k a l | inr m ↦ (let is_here : k ≡ here = omega arith in ap (λ (i : ℕ). holds plane row i) is_here ∙ on) ];
       after = omega (arith, c.loop-x.invariant.after);
       within = omega arith;
     }

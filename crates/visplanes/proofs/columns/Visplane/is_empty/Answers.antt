@@ -6,14 +6,15 @@ use Rattle.visplanes.proofs.columns.Visplane.is_empty.Goals as goal
 
 pub returns : goal.returns
 returns c =
-    let i = c.self.inside in (
-      λ e x. sym (ap (λ (p : Plane). column p x) c.self.view_is) ∙ kept-blank i.key i.tops i.bottoms i.first i.last x c.self.invariant (eqb-true i.first FRAME_WIDTH e),
-      λ h. elim (cases_eq i.first FRAME_WIDTH) [
-        | inl e ↦ eq-eqb i.first FRAME_WIDTH e
+    let fields = c.self.inside in (
+      λ e x. sym (ap (λ (p : Plane). column p x) c.self.view_is) ∙ kept-blank fields.key fields.tops fields.bottoms fields.first fields.last x c.self.invariant (eqb-true fields.first FRAME_WIDTH e),
+      λ h. elim (cases_eq fields.first FRAME_WIDTH) [
+        | inl e ↦ eq-eqb fields.first FRAME_WIDTH e
         | inr n ↦
-            (let l : i.first < FRAME_WIDTH = omega (arith, n, c.self.invariant.start) in
-            let some = kept-run i.key i.tops i.bottoms i.first i.last c.self.invariant l in
-            let none : column (plane_of i.key i.tops i.bottoms) i.first ≡ None = ap (λ (p : Plane). column p i.first) c.self.view_is ∙ h i.first in
+            (let is_marked : fields.first < FRAME_WIDTH = omega (arith, n, c.self.invariant.start) in
+            let some = kept-run fields.key fields.tops fields.bottoms fields.first fields.last c.self.invariant is_marked in
+            let none : column (plane_of fields.key fields.tops fields.bottoms) fields.first ≡ None =
+            ap (λ (p : Plane). column p fields.first) c.self.view_is ∙ h fields.first in
             absurd (cc))
       ],
     )

@@ -5,5 +5,5 @@ use Rattle.visplanes.proofs.columns.Visplane.key.Goals as goal
 
 pub returns-clause-frame : goal.returns-clause-frame
 returns-clause-frame c = λ x y h.
-    let i = c.self.inside in
-    kept-frame i.key i.tops i.bottoms i.first i.last x y c.self.invariant (ap (λ (p : Plane). holds p y x) c.self.view_is ∙ h)
+    let fields = c.self.inside in
+    kept-frame fields.key fields.tops fields.bottoms fields.first fields.last x y c.self.invariant (ap (λ (p : Plane). holds p y x) c.self.view_is ∙ h)

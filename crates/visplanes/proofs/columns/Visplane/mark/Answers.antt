@@ -7,15 +7,15 @@ use Rattle.visplanes.proofs.columns.Visplane.mark.Goals as goal
 
 pub invariant_of-self : goal.invariant_of-self
 invariant_of-self c =
-    let i = c.self.inside in
-    let tops = set i.tops c.args.x c.args.top in
-    let bottoms = set i.bottoms c.args.x c.args.bottom in
-    let kept = kept-more i.tops i.bottoms i.first i.last c.args.x c.args.top c.args.bottom c.self.invariant c.requires.column c.requires.ordered c.requires.row in
+    let fields = c.self.inside in
+    let tops = set fields.tops c.args.x c.args.top in
+    let bottoms = set fields.bottoms c.args.x c.args.bottom in
+    let kept = kept-more fields.tops fields.bottoms fields.first fields.last c.args.x c.args.top c.args.bottom c.self.invariant c.requires.column c.requires.ordered c.requires.row in
     subst (λ (last : ℕ). IsKept tops bottoms c.min-self-inside.result last) (sym c.max-self-inside.ensures)
-    (subst (λ (first : ℕ). IsKept tops bottoms first (max i.last c.args.x)) (sym c.min-self-inside.ensures) kept)
+    (subst (λ (first : ℕ). IsKept tops bottoms first (max fields.last c.args.x)) (sym c.min-self-inside.ensures) kept)
 
 pub returns : goal.returns
 returns c =
-    let i = c.self.inside in
-    plane_of-marked i.key i.tops i.bottoms c.args.x c.args.top c.args.bottom c.self.invariant.top_bytes c.self.invariant.bottom_bytes c.requires.column (λ e. absurd (omega (arith, e)))
+    let fields = c.self.inside in
+    plane_of-marked fields.key fields.tops fields.bottoms c.args.x c.args.top c.args.bottom c.self.invariant.top_bytes c.self.invariant.bottom_bytes c.requires.column (λ e. absurd (omega (arith, e)))
     ∙ ap (λ (p : Plane). with_run p c.args.x (c.args.top, c.args.bottom)) c.self.view_is

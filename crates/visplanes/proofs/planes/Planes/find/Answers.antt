@@ -26,5 +26,5 @@ returns-in-Some-clause-full c = (
 
 pub remember-requires : goal.remember-requires
 remember-requires c =
-    let e = c.in_ok-plane.ensures in
-    rw (ap (λ (t : PlanesView). t.planes) e.ok, e.number) (first-find c.args.self.now.planes c.args.key)
+    let found = c.in_ok-plane.ensures in
+    rw (ap (λ (t : PlanesView). t.planes) found.ok, found.number) (first-find c.args.self.now.planes c.args.key)
