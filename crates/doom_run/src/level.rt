@@ -1,10 +1,10 @@
 // A job over a level: its scene is loaded, and then what the task says is done with it.
 //
-// Rules: `run_verdict`, Jobs (the table) and Performs.
+// Rules: specs, Jobs (the table) and Performs.
 ghost use Rattle.std.specs.Prelude.{map};
 ghost use Rattle.doom_run.specs.Rules.{AreSettings, level_job_value};
-ghost use Rattle.run_verdict.specs.Jobs.{delivery_of, job_over};
-ghost use Rattle.run_verdict.specs.Performs.{Performs};
+ghost use Rattle.doom_run.specs.Jobs.{delivery_of, job_over};
+ghost use Rattle.doom_run.specs.Performs.{Performs};
 
 use crate::audit::perform_audit;
 use crate::limits::CountLines;
@@ -16,7 +16,7 @@ use frame_core::ViewList;
 use job_files::Status;
 use job_rules::{LevelJob, LevelTask};
 use level_audit::load_scene;
-use run_verdict::ViewForm;
+use crate::form::ViewForm;
 use std::alloc::Global;
 
 // A job over a level in these WADs.
