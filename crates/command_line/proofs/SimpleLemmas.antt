@@ -6,15 +6,15 @@ use Rattle.clap.specs.declared.error.kind.ErrorKind.TheVariants.{OutOfMemory}
 use Rattle.clap.specs.declared.parser.matches.ArgMatches.{ArgMatches}
 use Rattle.clap.proofs.OnLiterals.{clap_on_literals}
 use Rattle.clap.proofs.WalkLemmas.{first_value-rows, raw_values-rows}
-use Rattle.command_line.specs.Simple.{simple_command, with_files, with_limits, with_option, with_settings}
+use Rattle.command_line.specs.Simple.{simple_command, with_option, with_options}
 
 -- clap says what it finds in the words of the command
 pub command-simple : is_simple simple_command ≡ true
-unfolding clap_on_literals simple_command with_limits with_settings with_files with_option
+unfolding clap_on_literals simple_command with_options with_option
 command-simple = refl
 
 pub command-free : is_simple_and_free simple_command ≡ true
-unfolding clap_on_literals simple_command with_limits with_settings with_files with_option
+unfolding clap_on_literals simple_command with_options with_option
 command-free = refl
 
 -- of the command that clap reads
