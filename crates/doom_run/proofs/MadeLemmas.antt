@@ -10,7 +10,7 @@ use Rattle.csv_tables.specs.Paths.{path_in, path_of_records, path_row, path_widt
 use Rattle.csv_tables.proofs.RowSentences.{rows_after-within}
 use Rattle.refusals.specs.declared.refusal.Refusal.{Refusal}
 use Rattle.refusals.specs.declared.refusal.Refusal.TheVariants as refusal
-use Rattle.refusals.specs.Groups.{of_audit}
+use Rattle.refusals.specs.declared.refusal.Refusal.TheVariants.{Level}
 use Rattle.sound_scene.proofs.SceneLemmas.{from_below-ok}
 use Rattle.job_files.specs.declared.texts.TextTables.{TextTables}
 use Rattle.job_files.specs.Files.{FilesValue, files_in, files_named, in_file, in_optional_file, lumps_in, path_file, tables_file, texts_in, things_file, wad_files, weapons_file}
@@ -77,8 +77,8 @@ pub loaded_few : (level : LevelJobValue) (wads : List (List ℕ)) (files : List 
 unfolding load_in
 loaded_few level wads files loaded e =
     let a = and_then-ok (files_in level.files wads level.settings files) _ loaded e in
-    let b = no_file-ok (from_below of_audit (audited_in (wad_bytes wads files a.0.lumps) level a.0)) loaded a.2 in
-    let c = from_below-ok of_audit (audited_in (wad_bytes wads files a.0.lumps) level a.0) loaded b in
+    let b = no_file-ok (from_below Level (audited_in (wad_bytes wads files a.0.lumps) level a.0)) loaded a.2 in
+    let c = from_below-ok Level (audited_in (wad_bytes wads files a.0.lumps) level a.0) loaded b in
     audited_by (λ (l : LoadedValue). length l.files.path ≤ MAX_VIEWS) (wad_bytes wads files a.0.lumps) level a.0 loaded c
     (λ scene weapons s w. files_few level.files wads level.settings files a.0 a.1)
 
@@ -155,7 +155,7 @@ module _ (n zone : ℕ) where
   -- over the made files no file is absent
   pub made_found : load_in (made_level zone) made_wads (made_files n) ≡ Err absent → ⊥
   unfolding load_in
-  made_found = both_held _ _ files_held (λ values. none_asked (from_below of_audit (audited_in (wad_bytes made_wads (made_files n) values.lumps) (made_level zone) values)))
+  made_found = both_held _ _ files_held (λ values. none_asked (from_below Level (audited_in (wad_bytes made_wads (made_files n) values.lumps) (made_level zone) values)))
 
 -- the name of the made level
 pub map_named : name_of (77 ∷ 65 ∷ 80 ∷ 48 ∷ 49 ∷ 0 ∷ 0 ∷ 0 ∷ []) ≡ 77 ∷ 65 ∷ 80 ∷ 48 ∷ 49 ∷ 0 ∷ 0 ∷ 0 ∷ []

@@ -5,7 +5,7 @@ use Rattle.art_rules.specs.Words.{Lump}
 use Rattle.art_rules.proofs.Laws.{and_then-ok}
 use Rattle.refusals.specs.declared.refusal.Refusal.{Refusal}
 use Rattle.refusals.specs.declared.refusal.Refusal.TheVariants.{Wad}
-use Rattle.refusals.specs.Groups.{of_audit}
+use Rattle.refusals.specs.declared.refusal.Refusal.TheVariants.{Level}
 use Rattle.job_files.specs.declared.texts.TextTables.{TextTables}
 use Rattle.job_files.specs.Files.{FilesValue, files_in, files_named, in_file, in_optional_file, lumps_in, path_file, tables_file, texts_in, things_file, wad_files, weapons_file}
 use Rattle.job_files.specs.Sizes.{wad_contents}
@@ -73,7 +73,7 @@ unfolding load_in audited_in
 load-steps level wads files loaded e =
     let values = and_then-ok (files_in level.files wads level.settings files) _ loaded e in
     let bytes = wad_bytes wads files values.0.lumps in
-    let audited = below of_audit (audited_in bytes level values.0) loaded (no_file-ok (from_below of_audit (audited_in bytes level values.0)) loaded values.2) in
+    let audited = below Level (audited_in bytes level values.0) loaded (no_file-ok (from_below Level (audited_in bytes level values.0)) loaded values.2) in
     let scene = and_then-ok (scene_in bytes values.0.lumps values.0.things level.map_name level.settings.skill) _ loaded audited in
     let weapons = and_then-ok (weapons_of bytes values.0.lumps values.0.weapons) _ loaded scene.2 in
     let made : ◌≡◌ {A = LoadedValue} (record { files = values.0; scene = scene.0; weapons = weapons.0 }) loaded = ok_of _ loaded weapons.2 in

@@ -6,7 +6,7 @@ ghost use Rattle.level_audit.specs.Rules.{AreRoomy, IsInOrder, IsSkill, IsZoneSi
 ghost use Rattle.std.specs.Prelude.{◌≡◌, ◌<◌, ◌≤◌, ◌^◌, ℕ, List, length, map, IfOk, IfErr};
 ghost use Rattle.texture_build.specs.Caches.{IsEmpty, IsFaithful};
 ghost use Rattle.texture_build.specs.Calls.{ReadsLumps};
-ghost use Rattle.refusals.specs.Groups.{of_audit};
+ghost use Rattle.refusals.specs.declared.refusal.Refusal.TheVariants.{Level};
 ghost use Rattle.level_audit.specs.Weapons.{AreThere};
 ghost use Rattle.level_audit.specs.scene_load.Calls.{AuditsLevel, LoadsScene};
 ghost use Rattle.level_audit.specs.scene_load.Fulls.{IsOfLayers};
@@ -126,7 +126,7 @@ fn audit_level<S: Shelf>(
     requires slots { length files.now.dir.lumps ≤ cache.old.lumps }
     requires empty { IsEmpty cache.old }
     requires size { cache.old.size ≡ level.now.settings.zone }
-    ensures { AuditsLevel (from_below of_audit) (level_job_value level.now) files.now
+    ensures { AuditsLevel (from_below Level) (level_job_value level.now) files.now
         (S.view shelf.old) (S.view shelf.new) cache.old cache.new result }
 {
     audit_files(alloc, level, files, cache, shelf).map_err(audit_fault)
