@@ -60,10 +60,14 @@ format_or_index (Some name) = format_named name
 unfoldable pub format_in : List Row → Option Format
 format_in rows = format_or_index (first_of (codes "format") rows)
 
--- the job takes each of these options that is given
-unfoldable pub takes_each : List Row → Text → List Text → Bool
+-- an option is not given, or the job takes it
+unfoldable pub allows : List Row → Text → Text → Bool
+allows rows job option = not (is_some (first_of option rows)) || takes job option
+
+-- so it is for each of these options
+abbrev pub takes_each : List Row → Text → List Text → Bool
 takes_each rows job [] = true
-takes_each rows job (option ∷ options) = (not (is_some (first_of option rows)) || takes job option) && takes_each rows job options
+takes_each rows job (option ∷ options) = allows rows job option && takes_each rows job options
 
 -- and each of all
 unfoldable pub takes_given : List Row → Text → Bool

@@ -22,7 +22,7 @@ unfoldable pub with_option : App → Text → App
 with_option command name = with_rule command (option_rule name)
 
 -- with these options, in this order
-unfoldable pub with_options : App → List Text → App
+abbrev pub with_options : App → List Text → App
 with_options command [] = command
 with_options command (name ∷ names) = with_options (with_option command name) names
 

@@ -4,7 +4,7 @@
 ghost use Rattle.std.specs.Prelude.{◌≡◌, map};
 ghost use Rattle.clap.specs.Words.{found_of, rows_of};
 ghost use Rattle.command_line.specs.Rules.{takes};
-ghost use Rattle.command_line.specs.Choices.{takes_each, takes_given};
+ghost use Rattle.command_line.specs.Choices.{allows, takes_each, takes_given};
 
 use crate::simple::value;
 use clap::ArgMatches;
@@ -25,11 +25,19 @@ fn takes_each(found: &ArgMatches<'_>, job: &str, options: &[&str]) -> bool
         (map (λ w. w.now) options.now) }
 {
     for option in options {
-        if value(found, option).is_some() && !takes(job, option) {
+        if !allows(found, job, option) {
             return false;
         }
     }
     true
+}
+
+// Whether an option is not given, or the job takes it.
+#[tactic(auto, unfolding(crate::specs::Choices::allows))]
+fn allows(found: &ArgMatches<'_>, job: &str, option: &str) -> bool
+    ensures { result ≡ allows (rows_of (found_of found.now)) job.now option.now }
+{
+    value(found, option).is_none() || takes(job, option)
 }
 
 // Whether a job takes an option.

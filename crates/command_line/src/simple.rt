@@ -76,7 +76,7 @@ fn simple_command<'a>(alloc: Global) -> Result<Command<'a>, AllocError>
     ensures { IfOk result (λ c. app_of c ≡ simple_command) }
 {
     let parser = bare_parser(alloc).with(Arg::new(alloc, "job"))?;
-    let options: [&str; 11] = OPTIONS;
+    let options: [&'static str; 11] = OPTIONS;
     let parser = parser.with_options(alloc, options.as_slice())?;
     let parser = parser.with(Arg::new(alloc, "rest").action(ArgAction::Append))?;
     Ok(parser.command())
@@ -115,7 +115,7 @@ impl<'a> Parser<'a> {
     }
 
     // The command with these options.
-    fn with_options(self, alloc: Global, names: &[&'a str]) -> Result<Parser<'a>, AllocError>
+    fn with_options(self, alloc: Global, names: &[&'static str]) -> Result<Parser<'a>, AllocError>
         ensures { IfOk result (λ p. app_of p.command
             ≡ with_options (app_of self.entry.command) (map (λ w. w.now) names.entry.now)) }
     {

@@ -6,12 +6,12 @@ ghost use Rattle.frame_writer.specs.declared.TheConstants.{PALETTE_BYTES};
 ghost use Rattle.art_rules.specs.Words.{Writes};
 ghost use Rattle.std.specs.Prelude.{◌≡◌, length, IfOk};
 
+use crate::form::ViewForm;
 use art_rules::{Failed, Sink};
 use frame_writer::{put_index, put_ppm};
 use job_rules::Format;
 use pixel_strips::Frame;
 use pixel_trace::{TraceFrame, put_trace};
-use crate::form::ViewForm;
 use std::alloc::{AllocError, Global};
 
 // A canvas for views in one form.

@@ -7,6 +7,7 @@ ghost use Rattle.doom_run.specs.Jobs.{job_of};
 ghost use Rattle.doom_run.specs.Performs.{Performs};
 
 use crate::level::perform_level;
+use crate::summary::Summary;
 use art_rules::{Failed, MemoryFile, MemoryShelf, Name8, OutOfMemory, Sink, TallySink};
 use command_line::{DEFAULT_OPENINGS, DEFAULT_PLANES, DEFAULT_SIZE, DEFAULT_SKILL};
 use frame_writer::{FRAME_BYTES, PPM_BYTES};
@@ -15,7 +16,6 @@ use job_rules::{Files, Format, LevelJob, LevelTask, Settings};
 use level_maker::{make_path, make_tables, make_things, make_wad};
 use picture_rules::Spans;
 use refusals::Line;
-use crate::summary::Summary;
 use std::alloc::Global;
 
 // The made files of a number, by name.

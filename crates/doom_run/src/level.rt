@@ -7,6 +7,7 @@ ghost use Rattle.doom_run.specs.Jobs.{delivery_of, job_over};
 ghost use Rattle.doom_run.specs.Performs.{Performs};
 
 use crate::audit::perform_audit;
+use crate::form::ViewForm;
 use crate::limits::CountLines;
 use crate::lines::perform_lines;
 use crate::render::perform_views;
@@ -16,7 +17,6 @@ use frame_core::ViewList;
 use job_files::Status;
 use job_rules::{LevelJob, LevelTask};
 use level_audit::load_scene;
-use crate::form::ViewForm;
 use std::alloc::Global;
 
 // A job over a level in these WADs.

@@ -10,6 +10,7 @@ ghost use Rattle.level_audit.specs.scene_load.Calls.{IsLoadedScene};
 ghost use Rattle.std.specs.Prelude.{◌≡◌, ◌<◌, ℕ, List, length, slice_get, Some, IfOk};
 
 use crate::canvas::ViewCanvas;
+use crate::form::ViewForm;
 use crate::layers::draw_layered;
 use art_rules::{Shelf, Sink};
 use csv_tables::PathTable;
@@ -18,7 +19,6 @@ use job_files::Status;
 use job_rules::{LevelJob, Settings};
 use level_audit::LoadedScene;
 use picture_rules::Eye;
-use crate::form::ViewForm;
 use std::alloc::{AllocError, Global};
 
 // A scene that is ready to be drawn, with all the memory of drawing.

@@ -152,8 +152,6 @@ fn read_flat<S: Shelf>(
 {
     match dir.flat(name) {
         Some(lump) => read_lump(alloc, shelf, dir, lump),
-        None => Err(Fault::Refused(Refusal::Level(AuditRefusal::Scene(
-            SceneRefusal::FlatName,
-        )))),
+        None => Err(Fault::Refused(Refusal::Level(AuditRefusal::Scene(SceneRefusal::FlatName)))),
     }
 }

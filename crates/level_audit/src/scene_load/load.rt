@@ -84,8 +84,9 @@ pub fn load_scene<S: Shelf>(
 {
     let files = read_files(alloc, &level.files, wads, &level.settings, shelf)?;
     let mut cache = make_cache(alloc, &files.dir, level.settings.zone)?;
-    let (scene, weapons) =
-        audit_level(alloc, level, &files, &mut cache, shelf).map_err(audit_fault)?;
+    let (scene, weapons) = audit_level(alloc, level, &files, &mut cache, shelf).map_err(
+        audit_fault,
+    )?;
     Ok(LoadedScene {
         files,
         cache,

@@ -2,8 +2,8 @@
 // person who mends the file reads it.
 
 use refusals::{
-    ArtRefusal, AuditRefusal, CsvRefusal, DirRefusal, Line, MapRefusal, Refusal, SceneRefusal, SpriteRefusal,
-    TablesRefusal, TexRefusal, TrimRefusal, WeaponRefusal, add_refusal,
+    ArtRefusal, AuditRefusal, CsvRefusal, DirRefusal, Line, MapRefusal, Refusal, SceneRefusal,
+    SpriteRefusal, TablesRefusal, TexRefusal, TrimRefusal, WeaponRefusal, add_refusal,
 };
 use scene_rules::{MemorySink, Sink};
 use std::alloc::Global;
