@@ -1,21 +1,28 @@
 -- What clap's calls give, in the words of its rows.
-use Rattle.std.proofs.Common.{◌≡◌, ◌≢◌, ◌∙◌, true, refl, sym, ap, subst, inl, inr, List, []}
-use Rattle.clap.specs.Words.{App, HasKind, HasMatchesOf, Kinds, Text, fault_of, found_of, is_simple, is_simple_and_free, kind_of, matches_of, rows_of}
+use Rattle.std.proofs.Common.{◌≡◌, ◌≢◌, ◌∙◌, true, refl, sym, ap, subst, inl, inr, List, [], codes, map}
+use Rattle.clap.specs.Words.{App, HasKind, HasMatchesOf, Kinds, Rule, Text, fault_of, found_of, is_simple, is_simple_and_free, kind_of, matches_of, new_rule, rows_of, with_rule}
 use Rattle.clap.specs.declared.error.Error.{Error}
 use Rattle.clap.specs.declared.error.kind.ErrorKind.TheVariants.{OutOfMemory}
 use Rattle.clap.specs.declared.parser.matches.ArgMatches.{ArgMatches}
 use Rattle.clap.proofs.OnLiterals.{clap_on_literals}
 use Rattle.clap.proofs.WalkLemmas.{first_value-rows, raw_values-rows}
-use Rattle.command_line.specs.Simple.{simple_command, with_files, with_limits, with_option, with_settings}
+use Rattle.command_line.specs.Rules.{OPTIONS}
+use Rattle.command_line.specs.Simple.{bare_command, rest_rule, simple_command, with_option, with_options}
 
 -- clap says what it finds in the words of the command
 pub command-simple : is_simple simple_command ≡ true
-unfolding clap_on_literals simple_command with_limits with_settings with_files with_option
+unfolding clap_on_literals simple_command with_option
 command-simple = refl
 
 pub command-free : is_simple_and_free simple_command ≡ true
-unfolding clap_on_literals simple_command with_limits with_settings with_files with_option
+unfolding clap_on_literals simple_command with_option
 command-free = refl
+
+-- a command that was put together as the simple one is
+pub simple-whole : {bare with_job with_all whole : App} {job rest : Rule} {names : List Text} → bare ≡ bare_command → with_job ≡ with_rule bare job → job ≡ new_rule (codes "job") →
+    with_all ≡ with_options with_job names → names ≡ map (λ w. w.now) OPTIONS → whole ≡ with_rule with_all rest → rest ≡ rest_rule → whole ≡ simple_command
+unfolding simple_command
+simple-whole is_bare has_job is_job has_options are_options has_rest is_rest = cc
 
 -- of the command that clap reads
 pub ruleset simple_rules = (command-simple, command-free)

@@ -1,8 +1,8 @@
--- The options of a job, by what clap finds: numbers within a range, the format, and which are absent.
-use Rattle.std.specs.Prelude.{ℕ, Bool, cond, not, ◌%◌, nat_le, ◌==◌, ◌&&◌, List, Option, Some, None, option_and_then, is_some, codes, bytes_eq}
+-- The options of a job, by what clap finds: numbers within a range, the format, and whether the job takes them.
+use Rattle.std.specs.Prelude.{ℕ, Bool, true, cond, not, ◌%◌, nat_le, ◌==◌, ◌&&◌, ◌||◌, List, [], ◌∷◌, map, Option, Some, None, option_and_then, is_some, codes, bytes_eq}
 use Rattle.clap.specs.Words.{Row, Text, first_of}
 use Rattle.numerals.specs.Numerals.{numeral}
-use Rattle.command_line.specs.Rules.{Format, Full, Index, MAX_PLANES, MAX_SIZE, MAX_SKILL, MAX_ZONE, MIN_OPENINGS, MIN_PLANES, MIN_SIZE, MIN_SKILL, MIN_ZONE, MOST_OPENINGS, Packed, Ppm, Settings, Spans, ZONE_STEP}
+use Rattle.command_line.specs.Rules.{Format, Full, Index, MAX_PLANES, MAX_SIZE, MAX_SKILL, MAX_ZONE, MIN_OPENINGS, MIN_PLANES, MIN_SIZE, MIN_SKILL, MIN_ZONE, MOST_OPENINGS, OPTIONS, Packed, Ppm, Settings, Spans, ZONE_STEP, takes}
 use Rattle.command_line.specs.declared.choices.TheConstants.{DEFAULT_OPENINGS, DEFAULT_PLANES, DEFAULT_SIZE, DEFAULT_SKILL, DEFAULT_ZONE}
 
 -- the number that a word writes, from low to high
@@ -60,16 +60,15 @@ format_or_index (Some name) = format_named name
 unfoldable pub format_in : List Row → Option Format
 format_in rows = format_or_index (first_of (codes "format") rows)
 
--- an option is not given
-abbrev pub lacks : Text → List Row → Bool
-lacks name rows = not (is_some (first_of name rows))
+-- an option is not given, or the job takes it
+unfoldable pub allows : List Row → Text → Text → Bool
+allows rows job option = not (is_some (first_of option rows)) || takes job option
 
--- none of the options of files is given; nor another one but the zone and the format; nor these
-unfoldable pub has_no_files : List Row → Bool
-has_no_files rows = lacks (codes "tables") rows && (lacks (codes "things") rows && (lacks (codes "path") rows && lacks (codes "weapon") rows))
+-- so it is for each of these options
+abbrev pub takes_each : List Row → Text → List Text → Bool
+takes_each rows job [] = true
+takes_each rows job (option ∷ options) = allows rows job option && takes_each rows job options
 
-unfoldable pub has_no_settings : List Row → Bool
-has_no_settings rows = has_no_files rows && (lacks (codes "skill") rows && (lacks (codes "size") rows && (lacks (codes "planes") rows && (lacks (codes "openings") rows && lacks (codes "spans") rows))))
-
-unfoldable pub has_no_options : List Row → Bool
-has_no_options rows = has_no_settings rows && (lacks (codes "zone") rows && lacks (codes "format") rows)
+-- and each of all
+unfoldable pub takes_given : List Row → Text → Bool
+takes_given rows job = takes_each rows job (map (λ w. w.now) OPTIONS)

@@ -5,7 +5,7 @@ use Rattle.command_line.specs.Rules.{Command, CommandValue, Format, IsCounted, L
 use Rattle.command_line.specs.declared.fault.CommandFault.{CommandFault}
 use Rattle.command_line.specs.declared.fault.CommandFault.TheVariants.{Usage}
 use Rattle.command_line.specs.Simple.{simple_command}
-use Rattle.command_line.specs.Choices.{format_in, has_no_options, has_no_settings, number_within, zone_in}
+use Rattle.command_line.specs.Choices.{format_in, number_within, takes_given, zone_in}
 use Rattle.command_line.specs.LevelJobs.{are_wads, level_task_in, level_job_of}
 
 -- a call gives the command of a rule: `Usage` only where there is none
@@ -20,12 +20,12 @@ pub record IsDecidedBy (rule : Option CommandValue) (result : Result Command Com
   pub counted : IfOk result (λ command. IsCounted (command_value command))
   pub usage : IfErr result (λ _. rule ≡ None)
 
--- flat NAME FILE, and no option
-unfoldable pub flat_command : List Row → List Text → Option CommandValue
-flat_command rows [] = None
-flat_command rows (name ∷ []) = None
-flat_command rows (name ∷ file ∷ []) = cond (has_no_options rows) (option_map (λ n. flat n file) (name_of_text name)) None
-flat_command rows (name ∷ file ∷ more ∷ rest) = None
+-- flat NAME FILE
+unfoldable pub flat_command : List Text → Option CommandValue
+flat_command [] = None
+flat_command (name ∷ []) = None
+flat_command (name ∷ file ∷ []) = option_map (λ n. flat n file) (name_of_text name)
+flat_command (name ∷ file ∷ more ∷ rest) = None
 
 -- the number of made files
 unfoldable pub count_of : Text → Option ℕ
@@ -47,19 +47,18 @@ make_job_of (what ∷ []) = plain_make what
 make_job_of (what ∷ count ∷ []) = numbered_make what count
 make_job_of (what ∷ count ∷ more ∷ rest) = None
 
--- and no option
-unfoldable pub make_command : List Row → List Text → Option CommandValue
-make_command rows rest = cond (has_no_options rows) (option_map make (make_job_of rest)) None
+unfoldable pub make_command : List Text → Option CommandValue
+make_command rest = option_map make (make_job_of rest)
 
 unfoldable pub exercise_numbers : List Row → Text → Option (ℕ × ℕ × Format)
 exercise_numbers rows text =
     option_and_then (λ count. option_and_then (λ zone. option_and_then (λ format. Some (count, zone, format)) (format_in rows)) (zone_in rows))
     (count_of text)
 
--- exercise N, and no option but the zone and the format
+-- exercise N
 unfoldable pub exercise_command : List Row → List Text → Option CommandValue
 exercise_command rows [] = None
-exercise_command rows (count ∷ []) = cond (has_no_settings rows) (option_map (λ n. exercise n.0 n.1 n.2) (exercise_numbers rows count)) None
+exercise_command rows (count ∷ []) = option_map (λ n. exercise n.0 n.1 n.2) (exercise_numbers rows count)
 exercise_command rows (count ∷ more ∷ rest) = None
 
 -- a job over a level in 1 to 16 WADs
@@ -72,14 +71,18 @@ level_command rows job (level ∷ wads) = option_and_then (λ task. level_with r
 
 unfoldable pub job_named : List Row → Text → List Text → Option CommandValue
 job_named rows job rest =
-    cond (bytes_eq job (codes "flat")) (flat_command rows rest)
-    (cond (bytes_eq job (codes "make")) (make_command rows rest)
+    cond (bytes_eq job (codes "flat")) (flat_command rest)
+    (cond (bytes_eq job (codes "make")) (make_command rest)
     (cond (bytes_eq job (codes "exercise")) (exercise_command rows rest)
     (level_command rows job rest)))
 
+-- a job that takes each option that is given
+unfoldable pub job_taken : List Row → Text → List Text → Option CommandValue
+job_taken rows job rest = cond (takes_given rows job) (job_named rows job rest) None
+
 -- the command of what clap found: a job, and words after it
 unfoldable pub command_in : List Row → Option CommandValue
-command_in rows = option_and_then (λ job. option_and_then (λ rest. job_named rows job rest) (all_of (codes "rest") rows)) (first_of (codes "job") rows)
+command_in rows = option_and_then (λ job. option_and_then (λ rest. job_taken rows job rest) (all_of (codes "rest") rows)) (first_of (codes "job") rows)
 
 -- the words are a command where clap finds no fault in them, and the table takes what it finds
 unfoldable pub command_of : List Text → Option CommandValue

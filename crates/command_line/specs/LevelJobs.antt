@@ -3,26 +3,17 @@ use Rattle.std.specs.Prelude.{Bool, cond, nat_lt, nat_le, ◌&&◌, List, length
 use Rattle.clap.specs.Words.{Row, Text, first_of}
 use Rattle.command_line.specs.Rules.{Audit, FileNames, LevelJobValue, LevelTask, Limits, MAX_WADS, Render, Trace, Trim, name_of_text}
 use Rattle.job_rules.specs.declared.command.LevelTask.TheVariants.{List as Lists}
-use Rattle.command_line.specs.Choices.{format_in, lacks, settings_in}
+use Rattle.command_line.specs.Choices.{format_in, settings_in}
 
-unfoldable pub other_level_task : Text → Option LevelTask
-other_level_task job =
-    cond (bytes_eq job (codes "audit")) (Some Audit)
-    (cond (bytes_eq job (codes "limits")) (Some Limits)
-    (cond (bytes_eq job (codes "trim")) (Some Trim) None))
-
--- `trace` and `list` take how spans are stepped too (a list is the same for both), the others do not
-unfoldable pub plain_level_task : List Row → Text → Option LevelTask
-plain_level_task rows job =
-    cond (bytes_eq job (codes "trace")) (Some Trace)
-    (cond (bytes_eq job (codes "list")) (Some Lists)
-    (cond (lacks (codes "spans") rows) (other_level_task job) None))
-
--- `render` may have a format, the other jobs over a level have none
+-- the job over a level of that name; `render` may have a format
 unfoldable pub level_task_in : List Row → Text → Option LevelTask
 level_task_in rows job =
     cond (bytes_eq job (codes "render")) (option_and_then (λ format. Some (Render format)) (format_in rows))
-    (cond (lacks (codes "format") rows) (plain_level_task rows job) None)
+    (cond (bytes_eq job (codes "trace")) (Some Trace)
+    (cond (bytes_eq job (codes "list")) (Some Lists)
+    (cond (bytes_eq job (codes "audit")) (Some Audit)
+    (cond (bytes_eq job (codes "limits")) (Some Limits)
+    (cond (bytes_eq job (codes "trim")) (Some Trim) None)))))
 
 -- three files must be given, and one may be
 unfoldable pub file_names_in : List Row → Option FileNames

@@ -3,15 +3,15 @@ use Rattle.std.specs.Prelude.{◌≡◌, ℕ, List, [], ◌∷◌, Some, None, c
 use Rattle.clap.specs.Words.{Text}
 use Rattle.clap.proofs.OnLiterals.{clap_on_literals}
 use Rattle.numerals.specs.Numerals.{digits_after, is_numeral, numeral}
-use Rattle.command_line.specs.Rules.{Audit, Full, Index, Limits, Packed, Ppm, Render, Trace, Trim, Wad, exercise, filled, flat, level_job, make}
-use Rattle.command_line.specs.Simple.{simple_command, with_files, with_limits, with_option, with_settings}
-use Rattle.command_line.specs.Choices.{format_in, format_named, has_no_files, has_no_options, has_no_settings, multiple_of_step, number_option, number_within, settings_in, spans_in, spans_named, zone_in}
-use Rattle.command_line.specs.LevelJobs.{are_wads, file_names_in, other_level_task, plain_level_task, level_task_in, level_job_of}
-use Rattle.command_line.specs.Commands.{command_in, command_of, count_of, exercise_numbers, exercise_command, flat_command, job_named, make_job_of, make_command, numbered_make, plain_make, level_command, level_with}
+use Rattle.command_line.specs.Rules.{Audit, Full, Index, Limits, Packed, Ppm, Render, Trace, Trim, Wad, exercise, filled, flat, level_job, make, takes}
+use Rattle.command_line.specs.Simple.{simple_command, with_option}
+use Rattle.command_line.specs.Choices.{format_in, format_named, multiple_of_step, number_option, number_within, settings_in, spans_in, spans_named, allows, takes_given, zone_in}
+use Rattle.command_line.specs.LevelJobs.{are_wads, file_names_in, level_task_in, level_job_of}
+use Rattle.command_line.specs.Commands.{command_in, command_of, count_of, exercise_numbers, exercise_command, flat_command, job_named, job_taken, make_job_of, make_command, numbered_make, plain_make, level_command, level_with}
 
 -- what the rows below unfold
 unfoldable pub words_unfolded : ℕ
-unfolding clap_on_literals digits_after is_numeral numeral filled simple_command with_files with_limits with_option with_settings format_in format_named has_no_files has_no_options has_no_settings multiple_of_step number_option number_within settings_in spans_in spans_named zone_in are_wads file_names_in other_level_task plain_level_task level_task_in level_job_of command_in command_of count_of exercise_numbers exercise_command flat_command job_named make_job_of make_command numbered_make plain_make level_command level_with
+unfolding clap_on_literals digits_after is_numeral numeral filled simple_command with_option format_in format_named multiple_of_step number_option number_within settings_in spans_in spans_named allows takes takes_given zone_in are_wads file_names_in level_task_in level_job_of command_in command_of count_of exercise_numbers exercise_command flat_command job_named job_taken make_job_of make_command numbered_make plain_make level_command level_with
 words_unfolded = 0
 
 -- words after `--` are no options

@@ -3,7 +3,7 @@
 ghost use Rattle.std.specs.Prelude.{◌≡◌, ◌%◌, IfSome, option_map};
 ghost use Rattle.clap.specs.Words.{found_of, rows_of};
 ghost use Rattle.command_line.specs.Rules.{AreSettings, IsWithin, IsZone, Settings};
-ghost use Rattle.command_line.specs.Choices.{format_in, has_no_files, has_no_options, has_no_settings, multiple_of_step, number_option, number_within, settings_in, spans_in, zone_in};
+ghost use Rattle.command_line.specs.Choices.{format_in, multiple_of_step, number_option, number_within, settings_in, spans_in, zone_in};
 
 use crate::simple::value;
 use clap::ArgMatches;
@@ -140,36 +140,4 @@ pub(crate) fn format_in(found: &ArgMatches<'_>) -> Option<Format>
         Some("ppm") => Some(Format::Ppm),
         Some(_) => None,
     }
-}
-
-// Whether no option is given.
-#[tactic(auto, unfolding(crate::specs::Choices::has_no_options))]
-pub(crate) fn has_no_options(found: &ArgMatches<'_>) -> bool
-    ensures { result ≡ has_no_options (rows_of (found_of found.now)) }
-{
-    has_no_settings(found) && value(found, "zone").is_none() && value(found, "format").is_none()
-}
-
-// Whether no option is given but the zone and the format.
-#[tactic(auto, unfolding(crate::specs::Choices::has_no_settings))]
-pub(crate) fn has_no_settings(found: &ArgMatches<'_>) -> bool
-    ensures { result ≡ has_no_settings (rows_of (found_of found.now)) }
-{
-    has_no_files(found)
-        && value(found, "skill").is_none()
-        && value(found, "size").is_none()
-        && value(found, "planes").is_none()
-        && value(found, "openings").is_none()
-        && value(found, "spans").is_none()
-}
-
-// Whether no file is given by an option.
-#[tactic(auto, unfolding(crate::specs::Choices::has_no_files))]
-fn has_no_files(found: &ArgMatches<'_>) -> bool
-    ensures { result ≡ has_no_files (rows_of (found_of found.now)) }
-{
-    value(found, "tables").is_none()
-        && value(found, "things").is_none()
-        && value(found, "path").is_none()
-        && value(found, "weapon").is_none()
 }

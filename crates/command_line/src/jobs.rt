@@ -3,11 +3,12 @@
 ghost use Rattle.std.specs.Prelude.{◌≡◌, ◌==◌, Err, IfOk, IfSome, Some, None, map, string_bytes};
 ghost use Rattle.clap.specs.Words.{found_of, rows_of};
 ghost use Rattle.job_rules.specs.Commands.{IsCount, IsCounted, IsCountedMake, IsExercise, command_value};
-ghost use Rattle.command_line.specs.Commands.{IsCommandOf, IsDecidedBy, command_in, command_of, count_of, exercise_command, flat_command, job_named, make_job_of, make_command, numbered_make, plain_make, level_command, level_with, exercise_numbers};
+ghost use Rattle.command_line.specs.Commands.{IsCommandOf, IsDecidedBy, command_in, command_of, count_of, exercise_command, flat_command, job_named, job_taken, make_job_of, make_command, numbered_make, plain_make, level_command, level_with, exercise_numbers};
 
-use crate::choices::{format_in, has_no_options, has_no_settings, number_within, zone_in};
+use crate::choices::{format_in, number_within, zone_in};
 use crate::fault::CommandFault;
 use crate::level_jobs::{are_wads, copied, level_job_of, level_task_in};
+use crate::options::takes_given;
 use crate::simple::{matches, rest, value};
 use clap::ArgMatches;
 use job_rules::{Command, Format, LevelTask, MAX_COUNT, MIN_COUNT, MakeJob};
@@ -49,8 +50,21 @@ fn command_in<'a>(alloc: Global, found: &ArgMatches<'a>) -> Taken<'a>
         None => Err(CommandFault::Usage),
         Some(job) => match rest(found) {
             None => Err(CommandFault::Usage),
-            Some(rest) => job_named(alloc, found, job, rest),
+            Some(rest) => job_taken(alloc, found, job, rest),
         },
+    }
+}
+
+// The command of the job of that name, where it takes each option that is given.
+#[tactic(auto, unfolding(crate::specs::Commands::job_taken))]
+fn job_taken<'a>(alloc: Global, found: &ArgMatches<'a>, job: &str, rest: &[&'a str]) -> Taken<'a>
+    ensures { IsCommandOf (job_taken (rows_of (found_of found.now)) job.now (map (λ w. w.now)
+        rest.now)) result }
+{
+    if takes_given(found, job) {
+        job_named(alloc, found, job, rest)
+    } else {
+        Err(CommandFault::Usage)
     }
 }
 
@@ -61,9 +75,9 @@ fn job_named<'a>(alloc: Global, found: &ArgMatches<'a>, job: &str, rest: &[&'a s
         rest.now)) result }
 {
     if job == "flat" {
-        flat_command(found, rest)
+        flat_command(rest)
     } else if job == "make" {
-        make_command(found, rest)
+        make_command(rest)
     } else if job == "exercise" {
         exercise_command(found, rest)
     } else {
@@ -73,33 +87,23 @@ fn job_named<'a>(alloc: Global, found: &ArgMatches<'a>, job: &str, rest: &[&'a s
 
 // The command flat NAME FILE.
 #[tactic(auto, unfolding(crate::specs::Commands::flat_command))]
-fn flat_command<'a>(found: &ArgMatches<'a>, rest: &[&'a str]) -> Taken<'a>
-    ensures { IsDecidedBy (flat_command (rows_of (found_of found.now)) (map (λ w. w.now) rest.now))
-        result }
+fn flat_command<'a>(rest: &[&'a str]) -> Taken<'a>
+    ensures { IsDecidedBy (flat_command (map (λ w. w.now) rest.now)) result }
 {
     match rest {
-        [name, file] => {
-            if !has_no_options(found) {
-                return Err(CommandFault::Usage);
-            }
-            match Name8::from_text(name) {
-                Some(name) => Ok(Command::Flat { name, file }),
-                None => Err(CommandFault::Usage),
-            }
-        }
+        [name, file] => match Name8::from_text(name) {
+            Some(name) => Ok(Command::Flat { name, file }),
+            None => Err(CommandFault::Usage),
+        },
         _ => Err(CommandFault::Usage),
     }
 }
 
 // The command make wad N, make path N, make tables or make things.
 #[tactic(auto, unfolding(crate::specs::Commands::make_command))]
-fn make_command<'a>(found: &ArgMatches<'a>, rest: &[&'a str]) -> Taken<'a>
-    ensures { IsDecidedBy (make_command (rows_of (found_of found.now)) (map (λ w. w.now) rest.now))
-        result }
+fn make_command<'a>(rest: &[&'a str]) -> Taken<'a>
+    ensures { IsDecidedBy (make_command (map (λ w. w.now) rest.now)) result }
 {
-    if !has_no_options(found) {
-        return Err(CommandFault::Usage);
-    }
     match make_job_of(rest) {
         Some(job) => Ok(Command::Make(job)),
         None => Err(CommandFault::Usage),
@@ -165,19 +169,14 @@ fn exercise_command<'a>(found: &ArgMatches<'a>, rest: &[&'a str]) -> Taken<'a>
         rest.now)) result }
 {
     match rest {
-        [count] => {
-            if !has_no_settings(found) {
-                return Err(CommandFault::Usage);
-            }
-            match exercise_numbers(found, count) {
-                Some((count, zone, format)) => Ok(Command::Exercise {
-                    count,
-                    zone,
-                    format,
-                }),
-                None => Err(CommandFault::Usage),
-            }
-        }
+        [count] => match exercise_numbers(found, count) {
+            Some((count, zone, format)) => Ok(Command::Exercise {
+                count,
+                zone,
+                format,
+            }),
+            None => Err(CommandFault::Usage),
+        },
         _ => Err(CommandFault::Usage),
     }
 }

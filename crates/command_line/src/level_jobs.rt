@@ -3,7 +3,7 @@
 ghost use Rattle.std.specs.Prelude.{◌≡◌, IsTrue, length, IfOk, IfSome, Some, None, map, option_map};
 ghost use Rattle.clap.specs.Words.{found_of, rows_of};
 ghost use Rattle.command_line.specs.Rules.{AreSettings, IsWithin, file_names, level_job_value};
-ghost use Rattle.command_line.specs.LevelJobs.{are_wads, file_names_in, other_level_task, plain_level_task, level_task_in, level_job_of};
+ghost use Rattle.command_line.specs.LevelJobs.{are_wads, file_names_in, level_task_in, level_job_of};
 
 use crate::choices::{format_in, settings_in};
 use crate::simple::value;
@@ -12,45 +12,15 @@ use job_rules::{Files, LevelJob, LevelTask, MAX_WADS};
 use lump_rules::Name8;
 use std::alloc::{AllocError, Global};
 
-// The job over a level of that name: `render` alone has a format.
+// The job over a level of that name; `render` may have a format.
 #[tactic(auto, unfolding(crate::specs::LevelJobs::level_task_in))]
 pub(crate) fn level_task_in(found: &ArgMatches<'_>, job: &str) -> Option<LevelTask>
     ensures { result ≡ level_task_in (rows_of (found_of found.now)) job.now }
 {
-    if job == "render" {
-        let format = format_in(found)?;
-        return Some(LevelTask::Render(format));
-    }
-    if value(found, "format").is_some() {
-        return None;
-    }
-    plain_level_task(found, job)
-}
-
-// The same of a job without a format: `trace` and `list` take how spans are stepped, as `render`
-// does, and the others do not.
-#[tactic(auto, unfolding(crate::specs::LevelJobs::plain_level_task))]
-fn plain_level_task(found: &ArgMatches<'_>, job: &str) -> Option<LevelTask>
-    ensures { result ≡ plain_level_task (rows_of (found_of found.now)) job.now }
-{
-    if job == "trace" {
-        return Some(LevelTask::Trace);
-    }
-    if job == "list" {
-        return Some(LevelTask::List);
-    }
-    if value(found, "spans").is_some() {
-        return None;
-    }
-    other_level_task(job)
-}
-
-// The job over a level of that name, other than `render`, `trace` and `list`.
-#[tactic(auto, unfolding(crate::specs::LevelJobs::other_level_task))]
-fn other_level_task(job: &str) -> Option<LevelTask>
-    ensures { result ≡ other_level_task job.now }
-{
     match job {
+        "render" => Some(LevelTask::Render(format_in(found)?)),
+        "trace" => Some(LevelTask::Trace),
+        "list" => Some(LevelTask::List),
         "audit" => Some(LevelTask::Audit),
         "limits" => Some(LevelTask::Limits),
         "trim" => Some(LevelTask::Trim),

@@ -11,6 +11,7 @@ mod choices;
 mod fault;
 mod jobs;
 mod level_jobs;
+mod options;
 mod simple;
 
 pub use choices::{DEFAULT_OPENINGS, DEFAULT_PLANES, DEFAULT_SIZE, DEFAULT_SKILL, DEFAULT_ZONE};

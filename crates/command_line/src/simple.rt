@@ -2,11 +2,12 @@
 
 ghost use Rattle.std.specs.Prelude.{◌≡◌, ◌≢◌, true, false, [], IfOk, option_map, map, codes, string_bytes};
 ghost use Rattle.clap.specs.Words.{all_of, app_of, fault_of, first_of, found_of, kind_of, matches_of, rows_of, rule_of, with_rule};
-ghost use Rattle.command_line.specs.Simple.{bare_command, option_rule, simple_command, with_files, with_limits, with_option, with_settings, with_three};
+ghost use Rattle.command_line.specs.Simple.{bare_command, option_rule, simple_command, with_option, with_options};
 
 use crate::fault::CommandFault;
 use clap::error::ErrorKind;
 use clap::{Arg, ArgAction, ArgMatches, Command, Error};
+use job_rules::OPTIONS;
 use std::alloc::{AllocError, Global};
 
 // What clap finds in the words, or what stops it.
@@ -75,9 +76,8 @@ fn simple_command<'a>(alloc: Global) -> Result<Command<'a>, AllocError>
     ensures { IfOk result (λ c. app_of c ≡ simple_command) }
 {
     let parser = bare_parser(alloc).with(Arg::new(alloc, "job"))?;
-    let parser = parser.with_files(alloc)?;
-    let parser = parser.with_settings(alloc)?;
-    let parser = parser.with_limits(alloc)?;
+    let options: [&'static str; 11] = OPTIONS;
+    let parser = parser.with_options(alloc, options.as_slice())?;
     let parser = parser.with(Arg::new(alloc, "rest").action(ArgAction::Append))?;
     Ok(parser.command())
 }
@@ -114,49 +114,16 @@ impl<'a> Parser<'a> {
         }
     }
 
-    // The command with the options of the files.
-    #[tactic(auto, unfolding(crate::specs::Simple::with_files))]
-    fn with_files(self, alloc: Global) -> Result<Parser<'a>, AllocError>
-        ensures { IfOk result (λ p. app_of p.command ≡ with_files (app_of self.entry.command)) }
-    {
-        let parser = self.with_option(alloc, "tables")?;
-        let parser = parser.with_option(alloc, "things")?;
-        let parser = parser.with_option(alloc, "path")?;
-        parser.with_option(alloc, "weapon")
-    }
-
-    // The command with the options of the picture.
-    #[tactic(auto, unfolding(crate::specs::Simple::with_settings))]
-    fn with_settings(self, alloc: Global) -> Result<Parser<'a>, AllocError>
-        ensures { IfOk result (λ p. app_of p.command ≡ with_settings (app_of self.entry.command)) }
-    {
-        let parser = self.with_three(alloc, "format", "skill", "size")?;
-        parser.with_option(alloc, "spans")
-    }
-
-    // The command with the options of the limits.
-    #[tactic(auto, unfolding(crate::specs::Simple::with_limits))]
-    fn with_limits(self, alloc: Global) -> Result<Parser<'a>, AllocError>
-        ensures { IfOk result (λ p. app_of p.command ≡ with_limits (app_of self.entry.command)) }
-    {
-        self.with_three(alloc, "zone", "planes", "openings")
-    }
-
-    // The command with three more options.
-    fn with_three(
-        self,
-        alloc: Global,
-        first: &'a str,
-        second: &'a str,
-        third: &'a str,
-    ) -> Result<Parser<'a>, AllocError>
+    // The command with these options.
+    fn with_options(self, alloc: Global, names: &[&'static str]) -> Result<Parser<'a>, AllocError>
         ensures { IfOk result (λ p. app_of p.command
-            ≡ with_three (app_of self.entry.command)
-            first.entry.now second.entry.now third.entry.now) }
+            ≡ with_options (app_of self.entry.command) (map (λ w. w.now) names.entry.now)) }
     {
-        let parser = self.with_option(alloc, first)?;
-        let parser = parser.with_option(alloc, second)?;
-        parser.with_option(alloc, third)
+        let mut parser = self;
+        for name in names {
+            parser = parser.with_option(alloc, name)?;
+        }
+        Ok(parser)
     }
 
     // The command with one more option.

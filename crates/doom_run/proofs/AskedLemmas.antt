@@ -17,7 +17,7 @@ use Rattle.frame_core.proofs.EnoughLemmas.{IsOfTexture, among_prepared, column_a
 use Rattle.doom_run.specs.declared.render.ReadyViews.{ReadyViews}
 use Rattle.doom_run.specs.Renders.{HasReadyAsked, IsLayerLump, IsReady}
 use Rattle.doom_run.proofs.DrawnLemmas.{loaded_textures}
-use Rattle.run_verdict.proofs.PictureLemmas.{layer_needed, layer_there}
+use Rattle.doom_run.proofs.PictureLemmas.{layer_needed, layer_there}
 use Rattle.frame_core.proofs.RowLemmas.{textures_rows}
 use Rattle.texture_build.specs.Draws.{HasTexturesAsked}
 use Rattle.job_files.specs.declared.read.SceneFiles.{SceneFiles}

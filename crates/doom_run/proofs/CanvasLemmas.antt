@@ -13,13 +13,13 @@ use Rattle.sound_scene.specs.Pictures.{scene_of}
 use Rattle.frame_core.specs.Views.{placed_for}
 use Rattle.doom_run.specs.declared.canvas.ViewCanvas.{ViewCanvas}
 use Rattle.doom_run.specs.declared.canvas.ViewCanvas.TheVariants as canvas
-use Rattle.run_verdict.specs.declared.form.ViewForm.TheVariants as form
+use Rattle.doom_run.specs.declared.form.ViewForm.TheVariants as form
 use Rattle.doom_run.specs.declared.render.ReadyViews.{ReadyViews}
 use Rattle.doom_run.specs.Drawn.{DrawsLayered}
 use Rattle.doom_run.specs.Frames.{IsDrawnAt}
-use Rattle.run_verdict.specs.Layers.{SeenView, layers_of, seen_view}
+use Rattle.doom_run.specs.Layers.{SeenView, layers_of, seen_view}
 use Rattle.doom_run.specs.Renders.{DrawsAt, ready_bytes, ready_views}
-use Rattle.run_verdict.specs.Views.{ViewsValue, view_bytes}
+use Rattle.doom_run.specs.Views.{ViewsValue, view_bytes}
 use Rattle.doom_run.proofs.FitLemmas.{fits_at}
 use Rattle.doom_run.proofs.FrameLemmas.{over_at-eye, view_get}
 

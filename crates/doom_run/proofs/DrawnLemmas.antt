@@ -17,10 +17,10 @@ use Rattle.level_audit.proofs.scene_load.ArtLemmas.{scene_textures}
 use Rattle.level_audit.proofs.scene_load.AuditedLemmas.{audited_by}
 use Rattle.level_audit.proofs.scene_load.LoadLemmas.{audited_of}
 use Rattle.doom_run.specs.declared.render.ReadyViews.{ReadyViews}
-use Rattle.run_verdict.specs.Fulls.{IsFullDraw}
+use Rattle.doom_run.specs.Fulls.{IsFullDraw}
 use Rattle.doom_run.specs.Renders.{IsFullView, IsReady}
-use Rattle.run_verdict.proofs.PictureLemmas.{layer_needed, layer_there}
-use Rattle.run_verdict.proofs.BlockLemmas.{art_draw}
+use Rattle.doom_run.proofs.PictureLemmas.{layer_needed, layer_there}
+use Rattle.doom_run.proofs.BlockLemmas.{art_draw}
 
 -- the textures of a scene that is loaded are those of the directory
 pub loaded_textures : (level : LevelJobValue) (wads : List (List ℕ)) (files : List File) (loaded : LoadedValue) → load_in level wads files ≡ Ok loaded → AreTexturesOf (wad_contents wads files) loaded.files.lumps (textures_view loaded.scene)

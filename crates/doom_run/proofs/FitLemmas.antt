@@ -3,24 +3,24 @@ use Rattle.picture_rules.proofs.Common.{Bool, IfSome, length, List, None, Ok, Op
 use Rattle.doom_run.specs.Rules.{Eye, File, LevelJobValue, OverLimit, ShelfView, lump_at, lump_block, lump_bytes, overlaid_paints, view_of}
 use Rattle.texture_build.specs.Draws.{FitBeside}
 use Rattle.sound_scene.specs.Sound.{SoundValue, textures_view}
-use Rattle.run_verdict.specs.declared.form.ViewForm.{ViewForm}
+use Rattle.doom_run.specs.declared.form.ViewForm.{ViewForm}
 use Rattle.job_files.specs.declared.read.SceneFiles.{SceneFiles}
 use Rattle.sound_scene.specs.Pictures.{scene_of}
 use Rattle.job_files.specs.declared.status.Status.{Status}
 use Rattle.job_files.specs.declared.status.Status.TheVariants.{Done, Usage, Refused, ReadFault, WriteFault, Limit, ZoneFull, OutOfMemory}
 use Rattle.doom_run.specs.declared.render.ReadyViews.{ReadyViews}
-use Rattle.run_verdict.specs.Ends.{IsEnd}
+use Rattle.doom_run.specs.Ends.{IsEnd}
 use Rattle.doom_run.specs.Frames.{KeepsReady, ViewEnds}
 use Rattle.doom_run.specs.Renders.{FitDue, FitsAt, IsReady, ready_views}
-use Rattle.run_verdict.specs.Views.{ViewsValue, due_views, first_over, over_at}
-use Rattle.run_verdict.specs.Layers.{SeenView, seen_view}
+use Rattle.doom_run.specs.Views.{ViewsValue, due_views, first_over, over_at}
+use Rattle.doom_run.specs.Layers.{SeenView, seen_view}
 use Rattle.doom_run.proofs.FrameLemmas.{Rendered, view_get}
-use Rattle.run_verdict.proofs.DueLemmas.{none_over, some_over}
+use Rattle.doom_run.proofs.DueLemmas.{none_over, some_over}
 use Rattle.level_audit.specs.scene_load.Loads.{load_in, loaded_value, wad_bytes}
 use Rattle.doom_run.proofs.ReadyLemmas.{ready_as, views-later}
-use Rattle.run_verdict.specs.Leasts.{delivery_least, least_over, painted_block}
-use Rattle.run_verdict.specs.Jobs.{Written, drawing}
-use Rattle.run_verdict.proofs.LeastLemmas.{loaded_room, over_room, taken_beside, view_beside}
+use Rattle.doom_run.specs.Leasts.{delivery_least, least_over, painted_block}
+use Rattle.doom_run.specs.Jobs.{Written, drawing}
+use Rattle.doom_run.proofs.LeastLemmas.{loaded_room, over_room, taken_beside, view_beside}
 
 -- what a viewpoint is painted from is that of the number's view
 pub fits_at : (bytes : ℕ → List ℕ) (count : ℕ) (ready : ReadyViews) (k : ℕ) (eye : Eye) → slice_get ready.loaded.files.path k ≡ Some eye →

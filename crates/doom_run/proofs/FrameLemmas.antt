@@ -13,16 +13,16 @@ use Rattle.sound_scene.specs.Pictures.{scene_of}
 use Rattle.job_files.specs.declared.status.Status.{Status}
 use Rattle.job_files.specs.declared.status.Status.TheVariants.{Done, Usage, Refused, ReadFault, WriteFault, Limit, ZoneFull, OutOfMemory}
 use Rattle.doom_run.specs.declared.render.ReadyViews.{ReadyViews}
-use Rattle.run_verdict.specs.Ends.{RendersAt}
+use Rattle.doom_run.specs.Ends.{RendersAt}
 use Rattle.doom_run.specs.declared.canvas.ViewCanvas.{ViewCanvas}
-use Rattle.run_verdict.specs.declared.form.ViewForm.{ViewForm}
+use Rattle.doom_run.specs.declared.form.ViewForm.{ViewForm}
 use Rattle.doom_run.specs.Frames.{IsDrawnAt, ViewEnds, canvas_bytes, form_of, frame_at, status_of_view}
-use Rattle.run_verdict.specs.Layers.{SeenView, seen_view}
+use Rattle.doom_run.specs.Layers.{SeenView, seen_view}
 use Rattle.doom_run.specs.Renders.{DrawsAt, HoldsReady, ready_bytes, ready_views}
-use Rattle.run_verdict.specs.Jobs.{rendered}
-use Rattle.run_verdict.specs.Views.{ViewsValue, end_at, first_over, limit_at, frames_of, over_at, rendered_bytes, view_bytes}
-use Rattle.run_verdict.proofs.SeenLemmas.{seen_at}
-use Rattle.run_verdict.proofs.DueLemmas.{due_by, due_front, none_over, some_over}
+use Rattle.doom_run.specs.Jobs.{rendered}
+use Rattle.doom_run.specs.Views.{ViewsValue, end_at, first_over, limit_at, frames_of, over_at, rendered_bytes, view_bytes}
+use Rattle.doom_run.proofs.SeenLemmas.{seen_at}
+use Rattle.doom_run.proofs.DueLemmas.{due_by, due_front, none_over, some_over}
 
 none_within : {X : Type 0} (xs : List X) (n : ℕ) → n < length xs → slice_get xs n ≡ None → ⊥
 none_within [] n below e = absurd (omega (arith, below))

@@ -8,12 +8,12 @@ use Rattle.level_audit.specs.scene_load.Loads.{loaded_value}
 use Rattle.sound_scene.specs.Pictures.{scene_of}
 use Rattle.job_files.specs.declared.status.Status.TheVariants.{Done, WriteFault}
 use Rattle.doom_run.specs.declared.render.ReadyViews.{ReadyViews}
-use Rattle.run_verdict.specs.Ends.{WritesDue}
-use Rattle.run_verdict.specs.Jobs.{done}
-use Rattle.run_verdict.specs.Layers.{SeenView, seen_view}
+use Rattle.doom_run.specs.Ends.{WritesDue}
+use Rattle.doom_run.specs.Jobs.{done}
+use Rattle.doom_run.specs.Layers.{SeenView, seen_view}
 use Rattle.doom_run.specs.Renders.{PutsLines, ready_views}
-use Rattle.run_verdict.specs.Views.{ViewsValue, lines_at, over_line, unless_over, view_lines}
-use Rattle.run_verdict.proofs.FirstLemmas.{first-more, first_of, none_first, prefix_first}
+use Rattle.doom_run.specs.Views.{ViewsValue, lines_at, over_line, unless_over, view_lines}
+use Rattle.doom_run.proofs.FirstLemmas.{first-more, first_of, none_first, prefix_first}
 use Rattle.doom_run.proofs.FrameLemmas.{over_at-eye, view_get}
 use Rattle.doom_run.proofs.ReadyLemmas.{views_count}
 

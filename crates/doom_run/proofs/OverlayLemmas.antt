@@ -27,9 +27,9 @@ use Rattle.weapon_overlay.specs.Layers.{PaintsLayer}
 use Rattle.weapon_overlay.specs.Seen.{IsLayerPicture}
 use Rattle.weapon_overlay.proofs.InViewLemmas.{layers_dots-in}
 use Rattle.doom_run.specs.Drawn.{DrawsLayered, DrawsLayers, KeepsLoaded, layered_dots, layers_dots, loaded_scene}
-use Rattle.run_verdict.specs.Layers.{layers_by, layers_from, layers_of, layer_light}
+use Rattle.doom_run.specs.Layers.{layers_by, layers_from, layers_of, layer_light}
 use Rattle.doom_run.specs.Renders.{IsLayerLump}
-use Rattle.run_verdict.proofs.RowLemmas.{rows_dots, table_layer-among}
+use Rattle.doom_run.proofs.RowLemmas.{rows_dots, table_layer-among}
 
 -- the dots of the layers of a view, whatever the art
 abbrev view_layers : LoadedScene → ℕ → Eye → Art → List Dot

@@ -24,10 +24,10 @@ use Rattle.job_files.specs.declared.status.Status.{Status}
 use Rattle.doom_run.specs.declared.render.ReadyViews.{ReadyViews}
 use Rattle.doom_run.specs.Frames.{KeepsReady, ViewEnds}
 use Rattle.doom_run.specs.Renders.{HoldsReady, IsDrawable, IsFullView, IsLayerLump, IsReady, ready_bytes, ready_views}
-use Rattle.run_verdict.specs.declared.form.ViewForm.{ViewForm}
-use Rattle.run_verdict.specs.Layers.{seen_view, seen_views}
-use Rattle.run_verdict.specs.Views.{ViewsValue, views_of}
-use Rattle.run_verdict.proofs.SeenLemmas.{seen_from-length}
+use Rattle.doom_run.specs.declared.form.ViewForm.{ViewForm}
+use Rattle.doom_run.specs.Layers.{seen_view, seen_views}
+use Rattle.doom_run.specs.Views.{ViewsValue, views_of}
+use Rattle.doom_run.proofs.SeenLemmas.{seen_from-length}
 
 -- the views of a ready scene are those of what was loaded
 pub ready_as : (bytes : ℕ → List ℕ) (level : LevelJobValue) (ready : ReadyViews) → IsReady level ready → views_of bytes level.settings (loaded_value ready.loaded) ≡ ready_views bytes ready

@@ -14,7 +14,7 @@ use Rattle.doom_run.specs.Frames.{KeepsReady, status_of_view}
 use Rattle.doom_run.specs.Renders.{DrawsAt, HasReadyAsked, IsFullView, RendersReady}
 use Rattle.doom_run.proofs.ReadyLemmas.{FullEither, full_view, full-first, keeps_ready-none, keeps_ready-then}
 use Rattle.doom_run.proofs.AskedLemmas.{asked-later, both_asked}
-use Rattle.run_verdict.proofs.TakeLemmas.{after_all}
+use Rattle.doom_run.proofs.TakeLemmas.{after_all}
 
 -- no view was drawn
 pub renders-none : (view : ShelfView) (ready : ReadyViews) (faults : ℕ) → RendersReady view view ready ready faults faults Done

@@ -14,7 +14,7 @@ use Rattle.frame_core.specs.declared.fault.ViewFault.{ViewFault}
 use Rattle.frame_core.specs.Faults.{view_fault}
 use Rattle.sound_scene.specs.Pictures.{scene_of}
 use Rattle.frame_core.specs.Views.{IsViewLump, IsViewTexture, placed_for}
-use Rattle.run_verdict.specs.Layers.{layers_of}
+use Rattle.doom_run.specs.Layers.{layers_of}
 use Rattle.doom_run.specs.Renders.{IsLayerLump}
 
 -- the cache is at rest with the scene's colormap of `count` bytes, and holds what the files of these contents give

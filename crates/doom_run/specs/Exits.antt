@@ -5,7 +5,7 @@ use Rattle.job_files.specs.Lines.{line_of}
 use Rattle.job_files.specs.Statuses.{code_of}
 use Rattle.job_files.specs.declared.status.Status.{Status}
 use Rattle.job_rules.specs.Commands.{CommandValue}
-use Rattle.run_verdict.specs.Performs.{RunsAs}
+use Rattle.doom_run.specs.Performs.{RunsAs}
 
 -- The number is that of the status of a run of the command: by the views of the shelf, what was written to both outputs,
 -- and how often writing had failed, before and after.

@@ -13,9 +13,9 @@ use Rattle.job_files.specs.declared.status.Status.TheVariants.{Done, Usage, Refu
 use Rattle.doom_run.specs.declared.render.ReadyViews.{ReadyViews}
 use Rattle.doom_run.specs.declared.canvas.ViewCanvas.{ViewCanvas}
 use Rattle.doom_run.specs.declared.canvas.ViewCanvas.TheVariants as canvas
-use Rattle.run_verdict.specs.declared.form.ViewForm.{ViewForm}
-use Rattle.run_verdict.specs.declared.form.ViewForm.TheVariants as form
-use Rattle.run_verdict.specs.Views.{ViewsValue, over_at, view_bytes}
+use Rattle.doom_run.specs.declared.form.ViewForm.{ViewForm}
+use Rattle.doom_run.specs.declared.form.ViewForm.TheVariants as form
+use Rattle.doom_run.specs.Views.{ViewsValue, over_at, view_bytes}
 
 -- what is written of a canvas
 abbrev pub canvas_bytes : List ℕ → ViewCanvas → List ℕ

@@ -17,10 +17,10 @@ use Rattle.job_files.specs.declared.status.Status.TheVariants.{ReadFault, WriteF
 use Rattle.doom_run.specs.declared.canvas.ViewCanvas.{ViewCanvas}
 use Rattle.doom_run.specs.declared.render.ReadyViews.{ReadyViews}
 use Rattle.doom_run.specs.Frames.{IsDrawnAt, KeepsReady}
-use Rattle.run_verdict.specs.Takes.{InOrderAfter}
-use Rattle.run_verdict.specs.Views.{ViewsValue, first_over, limits_of_settings, over_at}
-use Rattle.run_verdict.specs.Layers.{seen_views}
-use Rattle.run_verdict.specs.Ends.{IsDelivered}
+use Rattle.doom_run.specs.Takes.{InOrderAfter}
+use Rattle.doom_run.specs.Views.{ViewsValue, first_over, limits_of_settings, over_at}
+use Rattle.doom_run.specs.Layers.{seen_views}
+use Rattle.doom_run.specs.Ends.{IsDelivered}
 
 -- the views of a ready scene, whose lumps have these bytes
 unfoldable pub ready_views : (ℕ → List ℕ) → ReadyViews → ViewsValue

@@ -1,22 +1,43 @@
 -- The words of the rules below that this crate cites, by the page that each comes from.
-pub use Rattle.art_rules.specs.Words.{Failed, FaultsRose, File, Grew, GrewByPrefix, HasCauseAt, Holds, PreparedTexture, ShelfView, Writes, fault_above, from_below, lump_at, memory_view}
-unfoldable pub use Rattle.art_rules.specs.Words.{book_lumps, lump_bytes}
+pub use Rattle.art_rules.specs.Words.{Failed, Fault, FaultFitsOrAbsent, FaultsRose, File, Grew, GrewByPrefix, HasCauseAt, Holds, IsTallyOf, MAX_LUMPS, OutOfMemory, PreparedTexture, ReadFault, Refused, ShelfInMemory, ShelfView, Stop, Tally, TextureLists, Writes, ZoneFull, absent, and_then, directory, else_absent, fault_above, file_named, from_below, last_of, lump_at, memory_view, name_of, no_file, stopped, texture_at}
+unfoldable pub use Rattle.art_rules.specs.Words.{book_lumps, each_of, filled, first_needs, is_frame, lump_bytes, picked, shape_lumps, texel}
+pub use Rattle.art_rules.specs.declared.ColumnLookup.{ColumnLookup}
+pub use Rattle.art_rules.specs.declared.ColumnLookup.TheVariants.{Composed, Empty, Single}
+pub use Rattle.art_rules.specs.declared.PlacedPatch.{PlacedPatch}
+pub use Rattle.art_rules.specs.declared.TheConstants.{PNAMES, TEXTURE1, TEXTURE2}
 pub use Rattle.art_rules.specs.declared.shapes.Frame.{Frame}
-pub use Rattle.job_rules.specs.Commands.{IsCount, IsCountedMake, exercise, flat, level_job, make}
-pub use Rattle.job_rules.specs.LevelJobs.{LevelJobValue, level_job_value}
+pub use Rattle.art_rules.specs.declared.shapes.Shape.{Shape}
+pub use Rattle.command_line.specs.Commands.{command_of}
+pub use Rattle.job_files.specs.Statuses.{code_of}
+pub use Rattle.job_rules.specs.Commands.{CommandValue, IsCount, IsCountedMake, exercise, flat, level_job, make}
+pub use Rattle.job_rules.specs.LevelJobs.{FileNames, LevelJobValue, level_job_value}
 pub use Rattle.job_rules.specs.Ranges.{AreSettings}
+pub use Rattle.job_rules.specs.declared.command.Format.{Format}
 pub use Rattle.job_rules.specs.declared.command.Format.TheVariants.{Index, Ppm}
-pub use Rattle.job_rules.specs.declared.command.LevelTask.TheVariants.{Audit, Trim}
-pub use Rattle.picture_rules.specs.Words.{AreInView, Art, Dot, Eye, IsWithinFrame, Painter, SKY_FLAT, Scene, Sector, ViewListValue, ViewValue, view_of}
-unfoldable pub use Rattle.picture_rules.specs.Words.{joined_lists, overlaid_paints, overlaid_picture, view_over, view_paints, weapon_dots}
+pub use Rattle.job_rules.specs.declared.command.LevelJob.{LevelJob}
+pub use Rattle.job_rules.specs.declared.command.LevelTask.{LevelTask}
+pub use Rattle.job_rules.specs.declared.command.LevelTask.TheVariants.{Audit, Render, Trim}
+pub use Rattle.job_rules.specs.declared.command.MakeJob.TheVariants.{Path, Tables, Things, Wad}
+pub use Rattle.job_rules.specs.declared.command.Settings.{Settings}
+pub use Rattle.job_rules.specs.declared.trim.TrimRefusal.{TrimRefusal}
+pub use Rattle.picture_rules.specs.Words.{AreInView, Art, COMPOSITE, Dot, Eye, FRAME_CELLS, Full, IsWithinFrame, LUMP, LevelValue, MapBytes, MapLeaf, MapRefusal, Painter, SKY_FLAT, Scene, Sector, Spans, Surface, ThingLine, ViewListValue, ViewValue, WeaponLayer, no_surface, sky_flat, view_of}
+unfoldable pub use Rattle.picture_rules.specs.Words.{frame_dots, joined_leaves, joined_level, joined_lists, least, level_of, listed, map_refusal, no_leaf_refusal, overlaid_paints, overlaid_picture, overlaid_trace, records_of, records_refusal, shade, sizes_refusal, surface_at, unless, view_counts, view_list, view_over, view_paints, weapon_dots}
 pub use Rattle.picture_rules.specs.declared.Counts.{Counts}
+pub use Rattle.picture_rules.specs.declared.LimitKind.{LimitKind}
 pub use Rattle.picture_rules.specs.declared.OverLimit.{OverLimit}
 pub use Rattle.picture_rules.specs.declared.list.ListedFragment.{ListedFragment}
 pub use Rattle.picture_rules.specs.declared.list.ListedPlane.{ListedPlane}
 pub use Rattle.picture_rules.specs.declared.list.ListedSprite.{ListedSprite}
-pub use Rattle.scene_rules.specs.Words.{Heap, IsInOrder, IsZoneSize, Item, KeepsOrder, Owner, SceneArt, SceneValue, block_size, has_item}
-unfoldable pub use Rattle.scene_rules.specs.Words.{flat_number, lump_block, surface_of, surfaces_of}
+pub use Rattle.picture_rules.specs.declared.list.PlaneMaker.{PlaneMaker}
+pub use Rattle.picture_rules.specs.declared.list.PlaneMaker.TheVariants.{Fragment}
+pub use Rattle.picture_rules.specs.declared.plane.Flat4.{Flat4}
+pub use Rattle.scene_rules.specs.Words.{Faces, Heap, IsInOrder, IsZoneSize, Item, KeepsOrder, LevelBase, MIN_FRAGMENT, Owner, SceneArt, SceneValue, block_size, has_item, live_sum, lump_size}
+unfoldable pub use Rattle.scene_rules.specs.Words.{book_in, composite_block, faces_in, flat_number, greatest_by, is_last, is_list, is_map_lump, is_needed, lump_block, map_bytes, need_of, scene_in, sector_at, sector_flats, side_textures, sky_texture, surface_of, surfaces_of, things_of, zone_sizes}
 pub use Rattle.scene_rules.specs.declared.Flat.{Flat}
 pub use Rattle.scene_rules.specs.declared.SectorFlats.{SectorFlats}
-pub use Rattle.command_line.specs.Commands.{command_of}
-pub use Rattle.run_verdict.specs.Words.{texts}
+pub use Rattle.scene_rules.specs.declared.ZoneSizes.{ZoneSizes}
+pub use Rattle.scene_rules.specs.declared.refusal.AuditRefusal.TheVariants.{WeaponArt}
+unfoldable pub use Rattle.trim_rules.specs.Files.{trimmed_file, trimmed_lumps}
+pub use Rattle.trim_rules.specs.Parts.{copy_part}
+unfoldable pub use Rattle.trim_rules.specs.Parts.{flat_lumps, trim_parts, trim_plan}
+pub use Rattle.trim_rules.specs.declared.part.TrimPart.{TrimPart}

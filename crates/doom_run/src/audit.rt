@@ -3,9 +3,9 @@ ghost use Rattle.doom_run.specs.Rules.{Audit, LevelJobValue, ShelfView, Writes};
 ghost use Rattle.level_audit.specs.scene_load.Calls.{IsLoadedScene};
 ghost use Rattle.job_files.specs.Lines.{pair_line};
 ghost use Rattle.std.specs.Prelude.{codes};
-ghost use Rattle.run_verdict.specs.Ends.{WritesDue};
-ghost use Rattle.run_verdict.specs.Jobs.{audited, delivery_of};
-ghost use Rattle.run_verdict.specs.Performs.{Delivers};
+ghost use Rattle.doom_run.specs.Ends.{WritesDue};
+ghost use Rattle.doom_run.specs.Jobs.{audited, delivery_of};
+ghost use Rattle.doom_run.specs.Performs.{Delivers};
 
 use art_rules::{Failed, Sink};
 use job_files::Status;

@@ -1,17 +1,17 @@
 // What the views of a path are drawn on, and how each of them goes out.
 //
-// Rules: `specs/Frames` (`canvas_bytes`); `run_verdict`, Views (`view_bytes`).
+// Rules: specs, Frames (`canvas_bytes`) and Views (`view_bytes`).
 ghost use Rattle.doom_run.specs.Frames.{canvas_bytes, form_of};
 ghost use Rattle.frame_writer.specs.declared.TheConstants.{PALETTE_BYTES};
 ghost use Rattle.art_rules.specs.Words.{Writes};
 ghost use Rattle.std.specs.Prelude.{◌≡◌, length, IfOk};
 
+use crate::form::ViewForm;
 use art_rules::{Failed, Sink};
 use frame_writer::{put_index, put_ppm};
 use job_rules::Format;
 use pixel_strips::Frame;
 use pixel_trace::{TraceFrame, put_trace};
-use run_verdict::ViewForm;
 use std::alloc::{AllocError, Global};
 
 // A canvas for views in one form.

@@ -2,11 +2,12 @@
 ghost use Rattle.std.specs.Prelude.{◌≡◌, ◌*◌, ◌/◌, [], ◌∷◌, IfOk};
 ghost use Rattle.doom_run.specs.Rules.{FaultsRose, IsCount, IsZoneSize, ShelfView, Writes, exercise, level_job_value};
 ghost use Rattle.job_files.specs.Statuses.{DeliversBytes};
-ghost use Rattle.run_verdict.specs.Exercises.{frame_size, made_files, made_level, summary_line};
-ghost use Rattle.run_verdict.specs.Jobs.{job_of};
-ghost use Rattle.run_verdict.specs.Performs.{Performs};
+ghost use Rattle.doom_run.specs.Exercises.{frame_size, made_files, made_level, summary_line};
+ghost use Rattle.doom_run.specs.Jobs.{job_of};
+ghost use Rattle.doom_run.specs.Performs.{Performs};
 
 use crate::level::perform_level;
+use crate::summary::Summary;
 use art_rules::{Failed, MemoryFile, MemoryShelf, Name8, OutOfMemory, Sink, TallySink};
 use command_line::{DEFAULT_OPENINGS, DEFAULT_PLANES, DEFAULT_SIZE, DEFAULT_SKILL};
 use frame_writer::{FRAME_BYTES, PPM_BYTES};
@@ -15,11 +16,10 @@ use job_rules::{Files, Format, LevelJob, LevelTask, Settings};
 use level_maker::{make_path, make_tables, make_things, make_wad};
 use picture_rules::Spans;
 use refusals::Line;
-use run_verdict::Summary;
 use std::alloc::Global;
 
 // The made files of a number, by name.
-#[tactic(auto, unfolding(run_verdict::specs::Exercises::made_files))]
+#[tactic(auto, unfolding(crate::specs::Exercises::made_files))]
 fn made_files(alloc: Global, n: u32) -> Result<Vec<MemoryFile>, OutOfMemory>
     requires { IsCount n }
     ensures { IfOk result (λ files. files.items ≡ made_files n) }

@@ -6,7 +6,7 @@ ghost use Rattle.std.specs.Process.{exit_status};
 ghost use Rattle.command_line.specs.Commands.{command_of};
 ghost use Rattle.doom_run.specs.Exits.{ExitsAs};
 ghost use Rattle.job_files.specs.Statuses.{code_of};
-ghost use Rattle.run_verdict.specs.Words.{texts};
+ghost use Rattle.doom_run.specs.Words.{texts};
 
 use crate::top::run;
 use art_rules::{Shelf, Sink};

@@ -1,11 +1,11 @@
 // A view with the weapon layers of its rows.
 //
-// Rules: `run_verdict`, Layers; `picture_rules`, Paints (`overlaid_paints`). The original:
+// Rules: `specs/Layers`; `picture_rules`, Paints (`overlaid_paints`). The original:
 // `R_DrawPlayerSprites`, r_things.c.
 ghost use Rattle.doom_run.specs.Rules.{joined_lists, view_of, weapon_dots};
 ghost use Rattle.csv_tables.specs.declared.weapons.TheConstants.{MAX_WEAPONS};
 ghost use Rattle.doom_run.specs.Drawn.{DrawsLayered, DrawsLayers};
-ghost use Rattle.run_verdict.specs.Layers.{layer_of, layers_from, layer_light};
+ghost use Rattle.doom_run.specs.Layers.{layer_of, layers_from, layer_light};
 ghost use Rattle.doom_run.specs.Renders.{IsDrawable};
 ghost use Rattle.frame_core.specs.Ends.{EndsOver, EndsWithin};
 ghost use Rattle.level_audit.specs.Weapons.{AreThere};

@@ -1,12 +1,13 @@
 // A job over a level: its scene is loaded, and then what the task says is done with it.
 //
-// Rules: `run_verdict`, Jobs (the table) and Performs.
+// Rules: specs, Jobs (the table) and Performs.
 ghost use Rattle.std.specs.Prelude.{map};
 ghost use Rattle.doom_run.specs.Rules.{AreSettings, level_job_value};
-ghost use Rattle.run_verdict.specs.Jobs.{delivery_of, job_over};
-ghost use Rattle.run_verdict.specs.Performs.{Performs};
+ghost use Rattle.doom_run.specs.Jobs.{delivery_of, job_over};
+ghost use Rattle.doom_run.specs.Performs.{Performs};
 
 use crate::audit::perform_audit;
+use crate::form::ViewForm;
 use crate::limits::CountLines;
 use crate::lines::perform_lines;
 use crate::render::perform_views;
@@ -16,7 +17,6 @@ use frame_core::ViewList;
 use job_files::Status;
 use job_rules::{LevelJob, LevelTask};
 use level_audit::load_scene;
-use run_verdict::ViewForm;
 use std::alloc::Global;
 
 // A job over a level in these WADs.

@@ -1,6 +1,6 @@
 // The job `limits`: the counts of the views of a path.
 ghost use Rattle.doom_run.specs.Rules.{Writes};
-ghost use Rattle.run_verdict.specs.Views.{counts_line, over_line, view_line};
+ghost use Rattle.doom_run.specs.Views.{counts_line, over_line, view_line};
 
 use crate::lines::ViewLines;
 use crate::render::{ReadyViews, eye_at};

@@ -1,16 +1,16 @@
 // The lines that a job puts out about the views of a path, one view after the other.
 //
-// Rules: `run_verdict`, Views.
+// Rules: `specs/Views`.
 ghost use Rattle.std.specs.Prelude.{◌<◌, ℕ, List, length};
 ghost use Rattle.doom_run.specs.Rules.{AreSettings, Scene, ShelfView, level_job_value};
 ghost use Rattle.frame_core.specs.Views.{CanCount};
 ghost use Rattle.level_audit.specs.scene_load.Calls.{IsLoadedScene};
-ghost use Rattle.run_verdict.specs.Ends.{WritesDue};
-ghost use Rattle.run_verdict.specs.Jobs.{done, telling};
-ghost use Rattle.run_verdict.specs.Layers.{SeenView};
-ghost use Rattle.run_verdict.specs.Performs.{Delivers};
+ghost use Rattle.doom_run.specs.Ends.{WritesDue};
+ghost use Rattle.doom_run.specs.Jobs.{done, telling};
+ghost use Rattle.doom_run.specs.Layers.{SeenView};
+ghost use Rattle.doom_run.specs.Performs.{Delivers};
 ghost use Rattle.doom_run.specs.Renders.{PutsLines, ready_views};
-ghost use Rattle.run_verdict.specs.Views.{lines_at, view_lines, views_of};
+ghost use Rattle.doom_run.specs.Views.{lines_at, view_lines, views_of};
 
 use crate::render::{ReadyViews, prepare_views, view_count};
 use art_rules::{Failed, Sink};

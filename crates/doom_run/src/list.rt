@@ -1,10 +1,10 @@
 // The job `list`: what each view of a path is made of, item by item.
 //
-// Rules: `run_verdict`, Lists. This project's own.
+// Rules: `specs/Lists`. This project's own.
 ghost use Rattle.std.specs.Prelude.{◌≡◌, ◌+◌, ◌++◌, ◌≤◌, ℕ, List, length};
 ghost use Rattle.doom_run.specs.Rules.{Writes};
 ghost use Rattle.refusals.specs.declared.line.TheConstants.{LINE_ROOM};
-ghost use Rattle.run_verdict.specs.Lists.{flat_part, fragment_line, item_start, items_lines, lines_from, list_lines, maker_part, plane_line, sprite_line, sums_line};
+ghost use Rattle.doom_run.specs.Lists.{flat_part, fragment_line, item_start, items_lines, lines_from, list_lines, maker_part, plane_line, sprite_line, sums_line};
 
 use crate::limits::put_over;
 use crate::lines::ViewLines;

@@ -1,15 +1,16 @@
 // The job `render`: the frames of the views of a path, each written as it is drawn.
-ghost use Rattle.run_verdict.specs.Ends.{IsEnd, RendersAt};
+ghost use Rattle.doom_run.specs.Ends.{IsEnd, RendersAt};
 ghost use Rattle.doom_run.specs.Frames.{ViewEnds, form_of, status_of_view};
-ghost use Rattle.run_verdict.specs.Jobs.{drawing, rendered};
-ghost use Rattle.run_verdict.specs.Performs.{Delivers};
+ghost use Rattle.doom_run.specs.Jobs.{drawing, rendered};
+ghost use Rattle.doom_run.specs.Performs.{Delivers};
 ghost use Rattle.doom_run.specs.Renders.{DrawsAt, FitDue, FitsAt, HoldsReady, IsDrawable, RendersReady, ready_bytes, ready_views};
-ghost use Rattle.run_verdict.specs.Views.{limits_of_settings};
+ghost use Rattle.doom_run.specs.Views.{limits_of_settings};
 ghost use Rattle.doom_run.specs.Rules.{AreSettings, level_job_value};
 ghost use Rattle.level_audit.specs.scene_load.Calls.{IsLoadedScene};
 ghost use Rattle.std.specs.Prelude.{◌≡◌, ◌<◌, ℕ, List, length, slice_get, Some, IfOk};
 
 use crate::canvas::ViewCanvas;
+use crate::form::ViewForm;
 use crate::layers::draw_layered;
 use art_rules::{Shelf, Sink};
 use csv_tables::PathTable;
@@ -18,7 +19,6 @@ use job_files::Status;
 use job_rules::{LevelJob, Settings};
 use level_audit::LoadedScene;
 use picture_rules::Eye;
-use run_verdict::ViewForm;
 use std::alloc::{AllocError, Global};
 
 // A scene that is ready to be drawn, with all the memory of drawing.

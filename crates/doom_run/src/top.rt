@@ -3,16 +3,16 @@ ghost use Rattle.std.specs.Prelude.{◌≡◌, ◌≤◌, ◌⊎◌, ℕ, false,
 ghost use Rattle.doom_run.specs.Rules.{FaultsRose, File, Grew, GrewByPrefix, Holds, IsCountedMake, LevelJobValue, ShelfView, Trim, flat, level_job, make};
 ghost use Rattle.command_line.specs.Commands.{command_of};
 ghost use Rattle.job_files.specs.Lines.{line_of};
-ghost use Rattle.run_verdict.specs.Alike.{RendersAlike};
-ghost use Rattle.run_verdict.specs.Ends.{EndsWith, IsEnd, IsReadOrFull, IsUnwritten};
-ghost use Rattle.run_verdict.specs.Fulls.{HasRoom, IsFullRun};
-ghost use Rattle.run_verdict.specs.Jobs.{job_of};
-ghost use Rattle.run_verdict.specs.Leasts.{command_least, command_zone};
-ghost use Rattle.run_verdict.specs.Performs.{Performs, RunsAs};
-ghost use Rattle.run_verdict.specs.Steps.{RunStop, usage, absent, refused};
-ghost use Rattle.run_verdict.specs.Takes.{CommandTakes};
-ghost use Rattle.run_verdict.specs.Verdict.{Accepted, verdict};
-ghost use Rattle.run_verdict.specs.Words.{WhereAsked, ask_for_files, have_zone, read_on, texts};
+ghost use Rattle.doom_run.specs.Alike.{RendersAlike};
+ghost use Rattle.doom_run.specs.Ends.{EndsWith, IsEnd, IsReadOrFull, IsUnwritten};
+ghost use Rattle.doom_run.specs.Fulls.{HasRoom, IsFullRun};
+ghost use Rattle.doom_run.specs.Jobs.{job_of};
+ghost use Rattle.doom_run.specs.Leasts.{command_least, command_zone};
+ghost use Rattle.doom_run.specs.Performs.{Performs, RunsAs};
+ghost use Rattle.doom_run.specs.Steps.{RunStop, usage, absent, refused};
+ghost use Rattle.doom_run.specs.Takes.{CommandTakes};
+ghost use Rattle.doom_run.specs.Verdict.{Accepted, verdict};
+ghost use Rattle.doom_run.specs.Words.{WhereAsked, ask_for_files, have_zone, read_on, texts};
 
 use crate::Refusal;
 use crate::exercise::perform_exercise;

@@ -1,10 +1,10 @@
 // The job `trim`: one WAD that holds only what the frames of a level need.
 //
-// Rules: `run_verdict`, Trims; `trim_rules`, Parts and Files.
+// Rules: `specs/Trims`; `trim_rules`, Parts and Files.
 ghost use Rattle.doom_run.specs.Rules.{Trim, level_job_value};
-ghost use Rattle.run_verdict.specs.Jobs.{delivery_of};
-ghost use Rattle.run_verdict.specs.Performs.{Delivers};
-ghost use Rattle.run_verdict.specs.Trims.{IsPlanFault, plan_in, status_of_written};
+ghost use Rattle.doom_run.specs.Jobs.{delivery_of};
+ghost use Rattle.doom_run.specs.Performs.{Delivers};
+ghost use Rattle.doom_run.specs.Trims.{IsPlanFault, plan_in, status_of_written};
 ghost use Rattle.level_audit.specs.scene_load.Calls.{IsLoadedScene};
 ghost use Rattle.level_audit.specs.scene_load.Loads.{loaded_value};
 ghost use Rattle.std.specs.Prelude.{◌≡◌, length, All, Ok, IfErr, IfOk};

@@ -9,8 +9,8 @@
 ghost use Rattle.std.specs.Prelude.{◌≡◌, ◌⊎◌, None};
 ghost use Rattle.std.specs.Process.{exit_status};
 ghost use Rattle.std.specs.IoError.{error_kind};
-ghost use Rattle.doom_run.specs.Rules.{command_of, texts};
-ghost use Rattle.job_files.specs.Statuses.{code_of};
+ghost use Rattle.doom_run.specs.Rules.{code_of, command_of};
+ghost use Rattle.doom_run.specs.Words.{texts};
 
 use doom_run::{Status, exit_of, put_note, run_to_exit};
 use outside::{HostShelf, HostSink};

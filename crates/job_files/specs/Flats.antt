@@ -3,7 +3,8 @@ use Rattle.std.specs.Prelude.{ℕ, ◌/◌, ◌%◌, List, [], ◌∷◌, take, 
 use Rattle.job_files.specs.Rules.{FLAT_SIDE, FRAME_WIDTH, File, FlatName, Lump, Stop, and_then, directory, else_absent, file_named, flat_byte, flat_of, from_below, listed, lump_bytes, no_file, playpal_of}
 use Rattle.frame_writer.specs.declared.TheConstants.{FRAME_BYTES, PALETTE_BYTES}
 use Rattle.refusals.specs.declared.refusal.Refusal.{Refusal}
-use Rattle.refusals.specs.declared.refusal.Refusal.TheVariants.{Wad, Art, Scene}
+use Rattle.refusals.specs.declared.refusal.Refusal.TheVariants.{Wad, Level}
+use Rattle.scene_rules.specs.declared.refusal.AuditRefusal.TheVariants.{Art, Scene}
 
 -- a frame, and the palette for its indices
 pub record PictureValue : Type 0 where
@@ -25,11 +26,11 @@ else_refuse refusal (Some value) = Ok value
 
 -- the first palette
 abbrev pub palette_in : List (List ℕ) → List Lump → Result (List ℕ) Refusal
-palette_in contents lumps = and_then (from_below Art (playpal_of lumps)) (λ lump. Ok (take PALETTE_BYTES (lump_bytes contents lumps lump)))
+palette_in contents lumps = and_then (from_below (λ refusal. Level (Art refusal)) (playpal_of lumps)) (λ lump. Ok (take PALETTE_BYTES (lump_bytes contents lumps lump)))
 
 -- the bytes of the flat of a name
 abbrev pub flat_in : List (List ℕ) → List Lump → List ℕ → Result (List ℕ) Refusal
-flat_in contents lumps name = and_then (else_refuse (Scene FlatName) (flat_of lumps name)) (λ lump. Ok (lump_bytes contents lumps lump))
+flat_in contents lumps name = and_then (else_refuse (Level (Scene FlatName)) (flat_of lumps name)) (λ lump. Ok (lump_bytes contents lumps lump))
 
 -- the palette, then the flat
 abbrev pub picture_in : List (List ℕ) → List ℕ → List Lump → Result PictureValue Refusal

@@ -17,7 +17,7 @@ use crate::wads::load_dir;
 use art_rules::{Fault, FileNo, Shelf, Sink};
 use frame_writer::{FRAME_BYTES, PALETTE_BYTES, put_ppm};
 use lump_cache::{Directory, Name8};
-use refusals::{Refusal, SceneRefusal};
+use refusals::{AuditRefusal, Refusal, SceneRefusal};
 use std::alloc::Global;
 
 /// The picture of a flat in the first file of that name. Takes all memory of the job. Reads at most
@@ -128,7 +128,7 @@ fn read_palette<S: Shelf>(
 {
     match find_playpal(dir) {
         Ok(lump) => read_front(alloc, shelf, dir, lump, PALETTE_BYTES),
-        Err(refusal) => Err(Fault::Refused(Refusal::Art(refusal))),
+        Err(refusal) => Err(Fault::Refused(Refusal::Level(AuditRefusal::Art(refusal)))),
     }
 }
 
@@ -152,6 +152,6 @@ fn read_flat<S: Shelf>(
 {
     match dir.flat(name) {
         Some(lump) => read_lump(alloc, shelf, dir, lump),
-        None => Err(Fault::Refused(Refusal::Scene(SceneRefusal::FlatName))),
+        None => Err(Fault::Refused(Refusal::Level(AuditRefusal::Scene(SceneRefusal::FlatName)))),
     }
 }

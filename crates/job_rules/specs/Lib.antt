@@ -1,3 +1,4 @@
 pub mod Ranges
 pub mod LevelJobs
 pub mod Commands
+pub mod Options

@@ -1,3 +1,4 @@
+pub mod AboveLemmas
 pub mod ArtLemmas
 pub mod AuditedLemmas
 pub mod FullLemmas

@@ -16,13 +16,15 @@ use Rattle.scene_rules.specs.declared.refusal.SceneRefusal.{SceneRefusal}
 use Rattle.scene_rules.specs.declared.refusal.SceneRefusal.TheVariants as scene
 use Rattle.scene_rules.specs.declared.refusal.WeaponRefusal.{WeaponRefusal}
 use Rattle.scene_rules.specs.declared.refusal.WeaponRefusal.TheVariants as weapon
+use Rattle.scene_rules.specs.declared.refusal.AuditRefusal.{AuditRefusal}
+use Rattle.scene_rules.specs.declared.refusal.AuditRefusal.TheVariants.{Art, Map, Texture, Sprite, Scene, WeaponArt}
 use Rattle.job_rules.specs.declared.trim.TrimRefusal.{TrimRefusal}
 use Rattle.job_rules.specs.declared.trim.TrimRefusal.TheVariants as trim
 use Rattle.csv_tables.specs.declared.fault.CsvRefusal.{CsvRefusal}
 use Rattle.csv_tables.specs.declared.fault.CsvRefusal.TheVariants as csv
 use Rattle.refusals.specs.declared.codes.TheConstants.{CODE_TABLES_LENGTH, CODE_SINE, CODE_TANGENT, CODE_ANGLE, CODE_FIELD_OF_VIEW, CODE_NOT_WAD, CODE_SHORT, CODE_ENTRY, CODE_TOO_MANY, CODE_COLORMAP, CODE_PLAYPAL, CODE_NO_MAP, CODE_MAP_SIZE, CODE_NO_LEAF, CODE_INDEX, CODE_EMPTY_LEAF, CODE_NODE_TWICE, CODE_TOO_DEEP, CODE_PNAMES, CODE_TEXTURE_LUMP, CODE_TEXTURE_ENTRY, CODE_MISSING_PATCH, CODE_TOO_BIG, CODE_NO_FRAME, CODE_MISSING_ROTATION, CODE_BAD_PATCH, CODE_SIDE_TEXTURE, CODE_SKY_TEXTURE, CODE_SECTOR_FLAT, CODE_SHADOW, CODE_MIDDLE, CODE_FLAT_NAME, CODE_MARK_NAME, CODE_TRIM_TOO_MANY, CODE_TRIM_TOO_LARGE, CODE_WEAPON_NO_FRAME, CODE_WEAPON_ROTATION, CODE_WEAPON_PATCH, GROUP_PATH, GROUP_THINGS, GROUP_WEAPONS}
 use Rattle.refusals.specs.declared.refusal.Refusal.{Refusal}
-use Rattle.refusals.specs.declared.refusal.Refusal.TheVariants.{Tables, Things, Path, Weapons, Wad, Art, Map, Texture, Sprite, Scene, WeaponArt, Trim}
+use Rattle.refusals.specs.declared.refusal.Refusal.TheVariants.{Tables, Things, Path, Weapons, Wad, Level, Trim}
 
 -- the code of a refusal, and its numbers
 abbrev pub tables_numbers : TablesRefusal → List ℕ
@@ -91,18 +93,21 @@ csv_numbers group (csv.Range row column) = (group + 5) ∷ row ∷ column ∷ []
 csv_numbers group (csv.Repeat row) = (group + 6) ∷ row ∷ []
 csv_numbers group csv.TooMany = (group + 7) ∷ []
 
+abbrev pub level_numbers : AuditRefusal → List ℕ
+level_numbers (Art refusal) = art_numbers refusal
+level_numbers (Map refusal) = map_numbers refusal
+level_numbers (Texture refusal) = texture_numbers refusal
+level_numbers (Sprite refusal) = sprite_numbers refusal
+level_numbers (Scene refusal) = scene_numbers refusal
+level_numbers (WeaponArt refusal) = weapon_numbers refusal
+
 abbrev pub numbers_of : Refusal → List ℕ
 numbers_of (Tables refusal) = tables_numbers refusal
 numbers_of (Things refusal) = csv_numbers GROUP_THINGS refusal
 numbers_of (Path refusal) = csv_numbers GROUP_PATH refusal
 numbers_of (Weapons refusal) = csv_numbers GROUP_WEAPONS refusal
 numbers_of (Wad refusal) = wad_numbers refusal
-numbers_of (Art refusal) = art_numbers refusal
-numbers_of (Map refusal) = map_numbers refusal
-numbers_of (Texture refusal) = texture_numbers refusal
-numbers_of (Sprite refusal) = sprite_numbers refusal
-numbers_of (Scene refusal) = scene_numbers refusal
-numbers_of (WeaponArt refusal) = weapon_numbers refusal
+numbers_of (Level refusal) = level_numbers refusal
 numbers_of (Trim refusal) = trim_numbers refusal
 
 -- a number after some text

@@ -1,8 +1,7 @@
 //! Why a run is refused, and the numbers by which that is told.
 //!
-//! Rules: specs, Groups (what a refusal of an audit is here) and Lines (its code and its numbers).
-//! Proved: the conversion, and what a line has. No call takes memory. Tested only: the messages, and
-//! that a line goes out in one put. This project's own.
+//! Rules: `specs/Lines` (the code of a refusal and its numbers). Proved: what a line has. No call takes
+//! memory. Tested only: the messages, and that a line goes out in one put. This project's own.
 #![tactic(auto)]
 
 mod codes;
@@ -16,4 +15,4 @@ pub use job_rules::TrimRefusal;
 pub use line::{DIGITS, LINE_ROOM, Line, NUMBERS_ROOM};
 pub use lines::add_refusal;
 pub use refusal::Refusal;
-pub use scene_rules::{ArtRefusal, MapRefusal, SceneRefusal, WeaponRefusal};
+pub use scene_rules::{ArtRefusal, AuditRefusal, MapRefusal, SceneRefusal, WeaponRefusal};

@@ -2,7 +2,7 @@
 ghost use Rattle.std.specs.Prelude.{◌≡◌, ◌+◌, ◌≤◌, ◌++◌, length};
 ghost use Rattle.std.specs.List.{flat_map};
 ghost use Rattle.refusals.specs.declared.codes.TheConstants.{GROUP_WEAPONS};
-ghost use Rattle.refusals.specs.Lines.{spaced, numbers_of, csv_numbers, tables_numbers, wad_numbers, art_numbers, map_numbers, texture_numbers, sprite_numbers, scene_numbers, weapon_numbers, trim_numbers};
+ghost use Rattle.refusals.specs.Lines.{spaced, numbers_of, level_numbers, csv_numbers, tables_numbers, wad_numbers, art_numbers, map_numbers, texture_numbers, sprite_numbers, scene_numbers, weapon_numbers, trim_numbers};
 
 use crate::codes::{
     CODE_ANGLE, CODE_BAD_PATCH, CODE_COLORMAP, CODE_EMPTY_LEAF, CODE_ENTRY, CODE_FIELD_OF_VIEW,
@@ -16,8 +16,8 @@ use crate::codes::{
 };
 use crate::line::{LINE_ROOM, Line, NUMBERS_ROOM};
 use crate::{
-    ArtRefusal, CsvRefusal, DirRefusal, MapRefusal, Refusal, SceneRefusal, SpriteRefusal,
-    TablesRefusal, TexRefusal, TrimRefusal, WeaponRefusal,
+    ArtRefusal, AuditRefusal, CsvRefusal, DirRefusal, MapRefusal, Refusal, SceneRefusal,
+    SpriteRefusal, TablesRefusal, TexRefusal, TrimRefusal, WeaponRefusal,
 };
 
 /// Appends the code of a refusal and the numbers that it has, in decimal, each after a space. Takes
@@ -35,13 +35,23 @@ pub fn add_refusal(line: &mut Line, refusal: Refusal)
         Refusal::Path(refusal) => add_csv_numbers(line, GROUP_PATH, refusal),
         Refusal::Weapons(refusal) => add_csv_numbers(line, GROUP_WEAPONS, refusal),
         Refusal::Wad(refusal) => add_wad_numbers(line, refusal),
-        Refusal::Art(refusal) => add_art_numbers(line, refusal),
-        Refusal::Map(refusal) => add_map_numbers(line, refusal),
-        Refusal::Texture(refusal) => add_texture_numbers(line, refusal),
-        Refusal::Sprite(refusal) => add_sprite_numbers(line, refusal),
-        Refusal::Scene(refusal) => add_scene_numbers(line, refusal),
-        Refusal::WeaponArt(refusal) => add_weapon_numbers(line, refusal),
+        Refusal::Level(refusal) => add_level_numbers(line, refusal),
         Refusal::Trim(refusal) => add_trim_numbers(line, refusal),
+    }
+}
+
+fn add_level_numbers(line: &mut Line, refusal: AuditRefusal)
+    requires room { length line.old + NUMBERS_ROOM ≤ LINE_ROOM }
+    ensures text { line.new ≡ line.old ++ flat_map spaced (level_numbers refusal) }
+    ensures length { length line.new ≤ length line.old + NUMBERS_ROOM }
+{
+    match refusal {
+        AuditRefusal::Art(refusal) => add_art_numbers(line, refusal),
+        AuditRefusal::Map(refusal) => add_map_numbers(line, refusal),
+        AuditRefusal::Texture(refusal) => add_texture_numbers(line, refusal),
+        AuditRefusal::Sprite(refusal) => add_sprite_numbers(line, refusal),
+        AuditRefusal::Scene(refusal) => add_scene_numbers(line, refusal),
+        AuditRefusal::WeaponArt(refusal) => add_weapon_numbers(line, refusal),
     }
 }
 

@@ -11,7 +11,8 @@ use Rattle.scene_rules.specs.declared.refusal.WeaponRefusal.TheVariants as weapo
 use Rattle.job_rules.specs.declared.trim.TrimRefusal.TheVariants as trim
 use Rattle.csv_tables.specs.declared.fault.CsvRefusal.TheVariants as csv
 use Rattle.refusals.specs.declared.refusal.Refusal.{Refusal}
-use Rattle.refusals.specs.declared.refusal.Refusal.TheVariants.{Tables, Things, Path, Weapons, Wad, Art, Map, Texture, Sprite, Scene, WeaponArt, Trim}
+use Rattle.refusals.specs.declared.refusal.Refusal.TheVariants.{Tables, Things, Path, Weapons, Wad, Level, Trim}
+use Rattle.scene_rules.specs.declared.refusal.AuditRefusal.TheVariants.{Art, Map, Texture, Sprite, Scene, WeaponArt}
 use Rattle.refusals.specs.Lines.{numbers_of}
 
 abbrev pub codes_of : List Refusal → List (List ℕ)
@@ -33,22 +34,22 @@ pub weapons_row : codes_of (Weapons (csv.TooLong 5) ∷ Weapons csv.Header ∷ W
     ≡ (1001 ∷ 5 ∷ []) ∷ (1002 ∷ []) ∷ (1003 ∷ 1 ∷ []) ∷ (1004 ∷ 1 ∷ 2 ∷ []) ∷ (1005 ∷ 3 ∷ 4 ∷ []) ∷ (1007 ∷ []) ∷ []
 weapons_row = refl
 
-pub wads_row : codes_of (Wad (wad.NotWad 0) ∷ Wad (wad.Short 1) ∷ Wad (wad.Entry 2 17) ∷ Wad wad.TooMany ∷ Art art.Colormap ∷ Art art.Playpal ∷ [])
+pub wads_row : codes_of (Wad (wad.NotWad 0) ∷ Wad (wad.Short 1) ∷ Wad (wad.Entry 2 17) ∷ Wad wad.TooMany ∷ Level (Art art.Colormap) ∷ Level (Art art.Playpal) ∷ [])
     ≡ (401 ∷ 0 ∷ []) ∷ (402 ∷ 1 ∷ []) ∷ (403 ∷ 2 ∷ 17 ∷ []) ∷ (404 ∷ []) ∷ (501 ∷ []) ∷ (502 ∷ []) ∷ []
 wads_row = refl
 
-pub maps_row : codes_of (Map level.NoMap ∷ Map (level.Size 5) ∷ Map level.NoLeaf ∷ Map (level.Index 4 731 3) ∷ Map (level.EmptyLeaf 45) ∷ Map (level.NodeTwice 235) ∷ Map (level.TooDeep 1025) ∷ [])
+pub maps_row : codes_of (Level (Map level.NoMap) ∷ Level (Map (level.Size 5)) ∷ Level (Map level.NoLeaf) ∷ Level (Map (level.Index 4 731 3)) ∷ Level (Map (level.EmptyLeaf 45)) ∷ Level (Map (level.NodeTwice 235)) ∷ Level (Map (level.TooDeep 1025)) ∷ [])
     ≡ (601 ∷ []) ∷ (602 ∷ 5 ∷ []) ∷ (603 ∷ []) ∷ (604 ∷ 4 ∷ 731 ∷ 3 ∷ []) ∷ (605 ∷ 45 ∷ []) ∷ (606 ∷ 235 ∷ []) ∷ (607 ∷ 1025 ∷ []) ∷ []
 maps_row = refl
 
-pub art_row : codes_of (Texture texture.Pnames ∷ Texture (texture.Lump 1) ∷ Texture (texture.Entry 0) ∷ Texture (texture.MissingPatch 2) ∷ Texture (texture.TooBig 83) ∷ Sprite (sprite.NoFrame 52) ∷ Sprite (sprite.MissingRotation 7 3) ∷ Sprite (sprite.BadPatch 1204) ∷ [])
+pub art_row : codes_of (Level (Texture texture.Pnames) ∷ Level (Texture (texture.Lump 1)) ∷ Level (Texture (texture.Entry 0)) ∷ Level (Texture (texture.MissingPatch 2)) ∷ Level (Texture (texture.TooBig 83)) ∷ Level (Sprite (sprite.NoFrame 52)) ∷ Level (Sprite (sprite.MissingRotation 7 3)) ∷ Level (Sprite (sprite.BadPatch 1204)) ∷ [])
     ≡ (701 ∷ []) ∷ (702 ∷ 1 ∷ []) ∷ (703 ∷ 0 ∷ []) ∷ (704 ∷ 2 ∷ []) ∷ (705 ∷ 83 ∷ []) ∷ (801 ∷ 52 ∷ []) ∷ (802 ∷ 7 ∷ 3 ∷ []) ∷ (803 ∷ 1204 ∷ []) ∷ []
 art_row = refl
 
-pub scenes_row : codes_of (Scene (scene.SideTexture 648) ∷ Scene scene.SkyTexture ∷ Scene (scene.SectorFlat 87) ∷ Scene (scene.Shadow 0) ∷ Scene (scene.Middle 11) ∷ Scene scene.FlatName ∷ Trim (trim.MarkName 26) ∷ Trim (trim.TrimTooMany 65540) ∷ Trim (trim.TrimTooLarge 4294967300) ∷ [])
+pub scenes_row : codes_of (Level (Scene (scene.SideTexture 648)) ∷ Level (Scene scene.SkyTexture) ∷ Level (Scene (scene.SectorFlat 87)) ∷ Level (Scene (scene.Shadow 0)) ∷ Level (Scene (scene.Middle 11)) ∷ Level (Scene scene.FlatName) ∷ Trim (trim.MarkName 26) ∷ Trim (trim.TrimTooMany 65540) ∷ Trim (trim.TrimTooLarge 4294967300) ∷ [])
     ≡ (901 ∷ 648 ∷ []) ∷ (902 ∷ []) ∷ (903 ∷ 87 ∷ []) ∷ (904 ∷ 0 ∷ []) ∷ (905 ∷ 11 ∷ []) ∷ (906 ∷ []) ∷ (907 ∷ 26 ∷ []) ∷ (908 ∷ 65540 ∷ []) ∷ (909 ∷ 4294967300 ∷ []) ∷ []
 scenes_row = refl
 
-pub layers_row : codes_of (WeaponArt (weapon.NoFrame 1) ∷ WeaponArt (weapon.MissingRotation 9 1) ∷ WeaponArt (weapon.BadPatch 1204) ∷ [])
+pub layers_row : codes_of (Level (WeaponArt (weapon.NoFrame 1)) ∷ Level (WeaponArt (weapon.MissingRotation 9 1)) ∷ Level (WeaponArt (weapon.BadPatch 1204)) ∷ [])
     ≡ (1011 ∷ 1 ∷ []) ∷ (1012 ∷ 9 ∷ 1 ∷ []) ∷ (1013 ∷ 1204 ∷ []) ∷ []
 layers_row = refl

@@ -8,7 +8,7 @@ use Rattle.texture_build.specs.Calls.{HoldContents, PreservesCache}
 use Rattle.texture_build.specs.Composites.{AreComposites, composite_of}
 use Rattle.texture_build.specs.Draws.{HoldsArt}
 use Rattle.texture_build.specs.Views.{TexturesView, AreTexturesOf, prepared_at}
-use Rattle.refusals.specs.Groups.{of_audit}
+use Rattle.refusals.specs.declared.refusal.Refusal.TheVariants.{Level}
 use Rattle.scene_rules.specs.declared.refusal.AuditRefusal.TheVariants.{Texture}
 use Rattle.sound_scene.specs.Sound.{textures_view}
 use Rattle.sound_scene.proofs.SceneLemmas.{from_below-ok, scene_parts}
@@ -74,14 +74,14 @@ scene_textures contents lumps lines name skill scene e =
     }
 
 -- what is audited has an accepted scene
-scene_audited : (bytes : ℕ → List ℕ) (level : LevelJobValue) (found : FilesValue) (loaded : LoadedValue) → from_below of_audit (audited_in bytes level found) ≡ Ok loaded →
+scene_audited : (bytes : ℕ → List ℕ) (level : LevelJobValue) (found : FilesValue) (loaded : LoadedValue) → from_below Level (audited_in bytes level found) ≡ Ok loaded →
     scene_in bytes found.lumps found.things level.map_name level.settings.skill ≡ Ok loaded.scene
 scene_audited bytes level found loaded e =
     audited_by (λ (l : LoadedValue). scene_in bytes found.lumps found.things level.map_name level.settings.skill ≡ Ok l.scene) bytes level found loaded
-    (from_below-ok of_audit (audited_in bytes level found) loaded e) (λ scene weapons accepted layers. accepted)
+    (from_below-ok Level (audited_in bytes level found) loaded e) (λ scene weapons accepted layers. accepted)
 
 -- the cache, at rest, holds what the files give, and the textures of what is audited are theirs
-pub all_held : {w : ShelfView} {dir : DirectoryView} {z : Heap} (contents : List (List ℕ)) (level : LevelJobValue) (found : FilesValue) (loaded : LoadedValue) (count : ℕ) → dir.lumps ≡ found.lumps → from_below of_audit (audited_in (lump_bytes contents found.lumps) level found) ≡ Ok loaded →
+pub all_held : {w : ShelfView} {dir : DirectoryView} {z : Heap} (contents : List (List ℕ)) (level : LevelJobValue) (found : FilesValue) (loaded : LoadedValue) (count : ℕ) → dir.lumps ≡ found.lumps → from_below Level (audited_in (lump_bytes contents found.lumps) level found) ≡ Ok loaded →
     IsAtRest loaded.scene.base.colormap count z → HoldContents w dir z contents → HasNoComposites z → HoldsArt w dir (textures_view loaded.scene) contents loaded.scene.base.colormap count z
 all_held {w} {dir} {z} contents level found loaded count same accepted rest held none = record {
   rest = rest;

@@ -8,7 +8,7 @@ use Rattle.job_files.specs.Files.{FilesValue, files_in, files_named}
 use Rattle.job_files.proofs.AcceptedLemmas.{wads_accepted}
 use Rattle.art_rules.proofs.Laws.{all_passed, no_file_agrees, step_stops}
 use Rattle.refusals.specs.declared.refusal.Refusal.{Refusal}
-use Rattle.refusals.specs.Groups.{of_audit}
+use Rattle.refusals.specs.declared.refusal.Refusal.TheVariants.{Level}
 use Rattle.job_files.specs.Sizes.{wad_contents}
 use Rattle.level_audit.specs.scene_load.Loads.{LoadedValue, audited_in, load_in, stops_of_audit, wad_bytes}
 
@@ -57,15 +57,15 @@ module _ (level : LevelJobValue) (wads : List (List ℕ)) (held : List File) whe
 
     -- the audit stopped the loading
     pub audit_stopped : {B D : Type 0} {steady later : Bool} {value : B → LoadedValue} {v : D → LoadedValue} {r : Result D (Fault Refusal)} (fault : Fault Refusal) (result : Result B (Fault Refusal)) → files_in level.files wads level.settings held ≡ Ok found → later ≡ steady →
-        ResultIs itself later v (from_below of_audit (audited_in (wad_bytes wads held found.lumps) level found)) r → r ≡ Err fault → IsErrAnd result (λ e. e ≡ fault) → ResultIsOrAbsent itself steady value (load_in level wads held) result
+        ResultIs itself later v (from_below Level (audited_in (wad_bytes wads held found.lumps) level found)) r → r ≡ Err fault → IsErrAnd result (λ e. e ≡ fault) → ResultIsOrAbsent itself steady value (load_in level wads held) result
     audit_stopped {B} {D} {steady} {later} {value} {v} {r} fault result are same answers was is =
         let s = err_from_is_err_and result is in
-        let h : FaultFits later (from_below of_audit (audited_in (wad_bytes wads held found.lumps) level found)) fault = rw was at answers.err in
-        let k : FaultFits steady (from_below of_audit (audited_in (wad_bytes wads held found.lumps) level found)) (itself s.0) = rw (s.2, ← same) h in
-        rw (files_passed are) (no_file_agrees (from_below of_audit (audited_in (wad_bytes wads held found.lumps) level found)) result (rw s.1 (record { ok = tt; err = k })))
+        let h : FaultFits later (from_below Level (audited_in (wad_bytes wads held found.lumps) level found)) fault = rw was at answers.err in
+        let k : FaultFits steady (from_below Level (audited_in (wad_bytes wads held found.lumps) level found)) (itself s.0) = rw (s.2, ← same) h in
+        rw (files_passed are) (no_file_agrees (from_below Level (audited_in (wad_bytes wads held found.lumps) level found)) result (rw s.1 (record { ok = tt; err = k })))
 
     -- all is loaded
-    pub all_loaded : {B : Type 0} {steady : Bool} {value : B → LoadedValue} (loaded : B) → files_in level.files wads level.settings held ≡ Ok found → from_below of_audit (audited_in (wad_bytes wads held found.lumps) level found) ≡ Ok (value loaded) →
+    pub all_loaded : {B : Type 0} {steady : Bool} {value : B → LoadedValue} (loaded : B) → files_in level.files wads level.settings held ≡ Ok found → from_below Level (audited_in (wad_bytes wads held found.lumps) level found) ≡ Ok (value loaded) →
         ResultIsOrAbsent {E = (Fault Refusal)} itself steady value (load_in level wads held) (Ok loaded)
     all_loaded {value} loaded are accepted = all_passed _ loaded (files_passed are ∙ ap (λ (r : Result LoadedValue Refusal). no_file r) accepted)
 

@@ -8,7 +8,7 @@ use Rattle.job_files.specs.Files.{FilesValue, files_in, value_of}
 use Rattle.job_files.specs.Sizes.{wad_contents}
 use Rattle.sound_scene.specs.Sound.{SoundValue, art_with, with_book}
 use Rattle.level_audit.specs.Weapons.{weapon_book}
-use Rattle.refusals.specs.Groups.{of_audit}
+use Rattle.refusals.specs.declared.refusal.Refusal.TheVariants.{Level}
 use Rattle.level_audit.specs.declared.scene_load.load.LoadedScene.{LoadedScene}
 
 -- what is loaded: what the files give, the scene, and the book of the weapon layers, where a file of
@@ -36,7 +36,7 @@ wad_bytes wads files lumps = lump_bytes (wad_contents wads files) lumps
 
 -- checks of lumps ask for no file
 abbrev pub stops_of_audit : {A : Type 0} → Result A AuditRefusal → Result A (Stop Refusal)
-stops_of_audit expected = no_file (from_below of_audit expected)
+stops_of_audit expected = no_file (from_below Level expected)
 
 -- the book of weapon layers, where there are some
 unfoldable pub weapons_of : (ℕ → List ℕ) → List Lump → Option (List WeaponRow) → Result (Option (List Frame)) AuditRefusal

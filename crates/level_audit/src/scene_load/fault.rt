@@ -1,7 +1,7 @@
 // A fault of an audit as that of a job.
 ghost use Rattle.std.specs.Prelude.{◌≡◌};
 ghost use Rattle.art_rules.specs.Words.{fault_above};
-ghost use Rattle.refusals.specs.Groups.{of_audit};
+ghost use Rattle.refusals.specs.declared.refusal.Refusal.TheVariants.{Level};
 
 use crate::AuditFault;
 use job_files::LoadFault;
@@ -9,7 +9,7 @@ use refusals::Refusal;
 
 /// A fault of an audit as that of a scene.
 pub(crate) fn audit_fault(fault: AuditFault) -> LoadFault
-    ensures { result ≡ fault_above of_audit fault }
+    ensures { result ≡ fault_above Level fault }
 {
-    fault.above(|refusal| Refusal::from(refusal))
+    fault.above(Refusal::Level)
 }

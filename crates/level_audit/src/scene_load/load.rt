@@ -2,11 +2,10 @@
 //
 // Rules: specs, Loads, Fulls, Orders and Calls. The original: `D_DoomMain`, d_main.c, `P_SetupLevel`,
 // p_setup.c.
-ghost use Rattle.level_audit.specs.Rules.{AreRoomy, IsInOrder, IsSkill, IsZoneSize, Item, MAX_SIZE, MIN_SIZE, OutOfMemory, from_below, itself, level_job_value};
+ghost use Rattle.level_audit.specs.Rules.{AreRoomy, IsInOrder, IsSkill, IsZoneSize, Item, MAX_SIZE, MIN_SIZE, OutOfMemory, itself, level_job_value};
 ghost use Rattle.std.specs.Prelude.{◌≡◌, ◌<◌, ◌≤◌, ◌^◌, ℕ, List, length, map, IfOk, IfErr};
 ghost use Rattle.texture_build.specs.Caches.{IsEmpty, IsFaithful};
 ghost use Rattle.texture_build.specs.Calls.{ReadsLumps};
-ghost use Rattle.refusals.specs.Groups.{of_audit};
 ghost use Rattle.level_audit.specs.Weapons.{AreThere};
 ghost use Rattle.level_audit.specs.scene_load.Calls.{AuditsLevel, LoadsScene};
 ghost use Rattle.level_audit.specs.scene_load.Fulls.{IsOfLayers};
@@ -85,7 +84,9 @@ pub fn load_scene<S: Shelf>(
 {
     let files = read_files(alloc, &level.files, wads, &level.settings, shelf)?;
     let mut cache = make_cache(alloc, &files.dir, level.settings.zone)?;
-    let (scene, weapons) = audit_level(alloc, level, &files, &mut cache, shelf)?;
+    let (scene, weapons) = audit_level(alloc, level, &files, &mut cache, shelf).map_err(
+        audit_fault,
+    )?;
     Ok(LoadedScene {
         files,
         cache,
@@ -114,26 +115,8 @@ fn make_cache(alloc: Global, dir: &Directory, size: u32) -> Result<LumpCache, Lo
     }
 }
 
-// The audit of the level, and the pictures of its weapon layers, with the faults of loading.
-fn audit_level<S: Shelf>(
-    alloc: Global,
-    level: &LevelJob<'_>,
-    files: &SceneFiles,
-    cache: &mut LumpCache,
-    shelf: &mut S,
-) -> Result<(SoundScene, Option<SpriteBook>), LoadFault>
-    requires skill { IsSkill level.now.settings.skill }
-    requires slots { length files.now.dir.lumps ≤ cache.old.lumps }
-    requires empty { IsEmpty cache.old }
-    requires size { cache.old.size ≡ level.now.settings.zone }
-    ensures { AuditsLevel (from_below of_audit) (level_job_value level.now) files.now
-        (S.view shelf.old) (S.view shelf.new) cache.old cache.new result }
-{
-    audit_files(alloc, level, files, cache, shelf).map_err(audit_fault)
-}
-
 // The audit of the level, and the pictures of its weapon layers, where there are some.
-fn audit_files<S: Shelf>(
+fn audit_level<S: Shelf>(
     alloc: Global,
     level: &LevelJob<'_>,
     files: &SceneFiles,

@@ -2,8 +2,8 @@
 // person who mends the file reads it.
 
 use refusals::{
-    ArtRefusal, CsvRefusal, DirRefusal, Line, MapRefusal, Refusal, SceneRefusal, SpriteRefusal,
-    TablesRefusal, TexRefusal, TrimRefusal, WeaponRefusal, add_refusal,
+    ArtRefusal, AuditRefusal, CsvRefusal, DirRefusal, Line, MapRefusal, Refusal, SceneRefusal,
+    SpriteRefusal, TablesRefusal, TexRefusal, TrimRefusal, WeaponRefusal, add_refusal,
 };
 use scene_rules::{MemorySink, Sink};
 use std::alloc::Global;
@@ -88,25 +88,25 @@ fn of_wads() -> &'static [Refusal] {
         Refusal::Wad(DirRefusal::Short { file: 1 }),
         Refusal::Wad(DirRefusal::Entry { file: 2, index: 17 }),
         Refusal::Wad(DirRefusal::TooMany),
-        Refusal::Art(ArtRefusal::Colormap),
-        Refusal::Art(ArtRefusal::Playpal),
-        Refusal::Map(MapRefusal::NoMap),
-        Refusal::Map(MapRefusal::Size { lump: 0 }),
-        Refusal::Map(MapRefusal::Size { lump: 1 }),
-        Refusal::Map(MapRefusal::Size { lump: 2 }),
-        Refusal::Map(MapRefusal::Size { lump: 3 }),
-        Refusal::Map(MapRefusal::Size { lump: 5 }),
-        Refusal::Map(MapRefusal::Size { lump: 6 }),
-        Refusal::Map(MapRefusal::Size { lump: 7 }),
-        Refusal::Map(MapRefusal::NoLeaf),
-        Refusal::Map(MapRefusal::Index {
+        Refusal::Level(AuditRefusal::Art(ArtRefusal::Colormap)),
+        Refusal::Level(AuditRefusal::Art(ArtRefusal::Playpal)),
+        Refusal::Level(AuditRefusal::Map(MapRefusal::NoMap)),
+        Refusal::Level(AuditRefusal::Map(MapRefusal::Size { lump: 0 })),
+        Refusal::Level(AuditRefusal::Map(MapRefusal::Size { lump: 1 })),
+        Refusal::Level(AuditRefusal::Map(MapRefusal::Size { lump: 2 })),
+        Refusal::Level(AuditRefusal::Map(MapRefusal::Size { lump: 3 })),
+        Refusal::Level(AuditRefusal::Map(MapRefusal::Size { lump: 5 })),
+        Refusal::Level(AuditRefusal::Map(MapRefusal::Size { lump: 6 })),
+        Refusal::Level(AuditRefusal::Map(MapRefusal::Size { lump: 7 })),
+        Refusal::Level(AuditRefusal::Map(MapRefusal::NoLeaf)),
+        Refusal::Level(AuditRefusal::Map(MapRefusal::Index {
             lump: 4,
             record_no: 731,
             field: 3,
-        }),
-        Refusal::Map(MapRefusal::EmptyLeaf { leaf: 45 }),
-        Refusal::Map(MapRefusal::NodeTwice { node: 235 }),
-        Refusal::Map(MapRefusal::TooDeep { node: 1025 }),
+        })),
+        Refusal::Level(AuditRefusal::Map(MapRefusal::EmptyLeaf { leaf: 45 })),
+        Refusal::Level(AuditRefusal::Map(MapRefusal::NodeTwice { node: 235 })),
+        Refusal::Level(AuditRefusal::Map(MapRefusal::TooDeep { node: 1025 })),
     ]
 }
 
@@ -138,32 +138,32 @@ fn wads_and_maps_have_the_codes_401_to_607(rt: HostRuntime) -> Result<(), Fail> 
 
 fn of_art() -> &'static [Refusal] {
     &[
-        Refusal::Texture(TexRefusal::Pnames),
-        Refusal::Texture(TexRefusal::Lump { which: 1 }),
-        Refusal::Texture(TexRefusal::Entry { number: 0 }),
-        Refusal::Texture(TexRefusal::MissingPatch { texture: 2 }),
-        Refusal::Texture(TexRefusal::TooBig { texture: 83 }),
-        Refusal::Sprite(SpriteRefusal::NoFrame { thing: 52 }),
-        Refusal::Sprite(SpriteRefusal::MissingRotation {
+        Refusal::Level(AuditRefusal::Texture(TexRefusal::Pnames)),
+        Refusal::Level(AuditRefusal::Texture(TexRefusal::Lump { which: 1 })),
+        Refusal::Level(AuditRefusal::Texture(TexRefusal::Entry { number: 0 })),
+        Refusal::Level(AuditRefusal::Texture(TexRefusal::MissingPatch { texture: 2 })),
+        Refusal::Level(AuditRefusal::Texture(TexRefusal::TooBig { texture: 83 })),
+        Refusal::Level(AuditRefusal::Sprite(SpriteRefusal::NoFrame { thing: 52 })),
+        Refusal::Level(AuditRefusal::Sprite(SpriteRefusal::MissingRotation {
             thing: 7,
             rotation: 3,
-        }),
-        Refusal::Sprite(SpriteRefusal::BadPatch { lump: 1204 }),
-        Refusal::Scene(SceneRefusal::SideTexture { side: 648 }),
-        Refusal::Scene(SceneRefusal::SkyTexture),
-        Refusal::Scene(SceneRefusal::SectorFlat { sector: 87 }),
-        Refusal::Scene(SceneRefusal::Shadow { thing: 0 }),
-        Refusal::Scene(SceneRefusal::Middle { side: 11 }),
-        Refusal::Scene(SceneRefusal::FlatName),
+        })),
+        Refusal::Level(AuditRefusal::Sprite(SpriteRefusal::BadPatch { lump: 1204 })),
+        Refusal::Level(AuditRefusal::Scene(SceneRefusal::SideTexture { side: 648 })),
+        Refusal::Level(AuditRefusal::Scene(SceneRefusal::SkyTexture)),
+        Refusal::Level(AuditRefusal::Scene(SceneRefusal::SectorFlat { sector: 87 })),
+        Refusal::Level(AuditRefusal::Scene(SceneRefusal::Shadow { thing: 0 })),
+        Refusal::Level(AuditRefusal::Scene(SceneRefusal::Middle { side: 11 })),
+        Refusal::Level(AuditRefusal::Scene(SceneRefusal::FlatName)),
         Refusal::Trim(TrimRefusal::MarkName { lump: 26 }),
         Refusal::Trim(TrimRefusal::TrimTooMany { count: 65540 }),
         Refusal::Trim(TrimRefusal::TrimTooLarge { bytes: 4294967300 }),
-        Refusal::WeaponArt(WeaponRefusal::NoFrame { row: 1 }),
-        Refusal::WeaponArt(WeaponRefusal::MissingRotation {
+        Refusal::Level(AuditRefusal::WeaponArt(WeaponRefusal::NoFrame { row: 1 })),
+        Refusal::Level(AuditRefusal::WeaponArt(WeaponRefusal::MissingRotation {
             row: 9,
             rotation: 1,
-        }),
-        Refusal::WeaponArt(WeaponRefusal::BadPatch { lump: 1204 }),
+        })),
+        Refusal::Level(AuditRefusal::WeaponArt(WeaponRefusal::BadPatch { lump: 1204 })),
     ]
 }
 

@@ -1,9 +1,9 @@
 use Rattle.std.proofs.Common.{ap, sym, arith, length, subst}
 use Rattle.doom_run.specs.Rules.{AreSettings, LevelJobValue, memory_view}
-use Rattle.run_verdict.specs.Exercises.{made_files}
+use Rattle.doom_run.specs.Exercises.{made_files}
 use Rattle.job_files.specs.declared.status.Status.TheVariants.{Done}
-use Rattle.run_verdict.proofs.ExerciseLemmas.{exercise_done, exercise_stops, over_made}
-use Rattle.run_verdict.proofs.MadeLemmas.{made_count, memory_holds, memory_steady, settings_made}
+use Rattle.doom_run.proofs.ExerciseLemmas.{exercise_done, exercise_stops, over_made}
+use Rattle.doom_run.proofs.MadeLemmas.{made_count, memory_holds, memory_steady, settings_made}
 use Rattle.doom_run.proofs.exercise.exercise_files.Goals as goal
 
 pub new-shelf-requires : goal.new-shelf-requires

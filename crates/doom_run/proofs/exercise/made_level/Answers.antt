@@ -1,5 +1,5 @@
 use Rattle.std.proofs.Common.{List, ℕ, ap}
-use Rattle.run_verdict.specs.Exercises.{made_level}
+use Rattle.doom_run.specs.Exercises.{made_level}
 use Rattle.doom_run.proofs.exercise.made_level.Goals as goal
 
 pub returns : goal.returns

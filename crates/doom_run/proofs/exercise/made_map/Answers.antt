@@ -1,5 +1,5 @@
 use Rattle.std.proofs.Common.{◌∙◌}
-use Rattle.run_verdict.proofs.MadeLemmas.{map_named}
+use Rattle.doom_run.proofs.MadeLemmas.{map_named}
 use Rattle.doom_run.proofs.exercise.made_map.Goals as goal
 
 pub returns : goal.returns

@@ -1,6 +1,6 @@
 use Rattle.job_rules.specs.Commands.{exercise}
-use Rattle.run_verdict.specs.Jobs.{job_of}
-use Rattle.run_verdict.proofs.PerformLemmas.{memory_performs}
+use Rattle.doom_run.specs.Jobs.{job_of}
+use Rattle.doom_run.proofs.PerformLemmas.{memory_performs}
 use Rattle.doom_run.proofs.exercise.perform_exercise.Goals as goal
 
 pub returns-in-Ok : goal.returns-in-Ok

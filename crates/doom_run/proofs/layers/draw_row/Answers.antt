@@ -3,8 +3,8 @@ use Rattle.picture_rules.proofs.Common.{rules, Some, sym, w16}
 use Rattle.std.proofs.lemmas.Int.{to_z-of_z}
 use Rattle.texture_build.proofs.PaintLemmas.{paints-none, paints-same, paints-wider}
 use Rattle.weapon_overlay.specs.Layers.{layer_value}
-use Rattle.run_verdict.proofs.PictureLemmas.{layer_there}
-use Rattle.run_verdict.proofs.RowLemmas.{layer_among, row_layer-own, row_dots-bare, row_dots-other, row_dots-own}
+use Rattle.doom_run.proofs.PictureLemmas.{layer_there}
+use Rattle.doom_run.proofs.RowLemmas.{layer_among, row_layer-own, row_dots-bare, row_dots-other, row_dots-own}
 use Rattle.doom_run.proofs.layers.draw_row.Goals as goal
 
 pub returns-then-row-scene : goal.returns-then-row-scene

@@ -3,13 +3,13 @@ use Rattle.std.proofs.Common.{◌≡◌, ◌<◌, ◌+◌, ◌∷◌, [], ℕ, �
 use Rattle.art_rules.specs.declared.shapes.Frame.{Frame}
 use Rattle.csv_tables.specs.declared.weapons.WeaponRow.{WeaponRow}
 use Rattle.picture_rules.specs.Words.{ViewValue}
-use Rattle.run_verdict.specs.Layers.{layers_from}
+use Rattle.doom_run.specs.Layers.{layers_from}
 use Rattle.weapon_overlay.specs.Seen.{IsLayerPicture}
 use Rattle.std.proofs.lemmas.Int.{to_z-of_z}
 use Rattle.texture_build.specs.Views.{TexturesView}
 use Rattle.texture_build.proofs.PaintLemmas.{paints-none, paints-same, paints-then, paints-then_stop, paints-wider, slots-later}
 use Rattle.weapon_overlay.proofs.LayerLemmas.{stands-later}
-use Rattle.run_verdict.proofs.RowLemmas.{row_layers-first, rows_dots-all, rows_dots-more, rows_dots-none}
+use Rattle.doom_run.proofs.RowLemmas.{row_layers-first, rows_dots-all, rows_dots-more, rows_dots-none}
 use Rattle.doom_run.proofs.layers.draw_rows.Goals as goal
 
 -- a layer is the same beside any textures

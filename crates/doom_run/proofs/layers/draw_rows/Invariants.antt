@@ -3,8 +3,8 @@ use Rattle.picture_rules.proofs.Common.{Ok, take}
 use Rattle.texture_build.specs.Paints.{paint_state}
 use Rattle.weapon_overlay.specs.Layers.{PaintsLayer}
 use Rattle.weapon_overlay.specs.Seen.{IsLayerPicture}
-use Rattle.run_verdict.specs.Layers.{layers_from}
-use Rattle.run_verdict.proofs.RowLemmas.{rows_dots}
+use Rattle.doom_run.specs.Layers.{layers_from}
+use Rattle.doom_run.proofs.RowLemmas.{rows_dots}
 use Rattle.doom_run.proofs.layers.draw_rows.Given as goal
 
 abbrev pub invariant-loop-i : goal.invariant-loop-i

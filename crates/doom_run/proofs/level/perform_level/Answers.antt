@@ -1,9 +1,9 @@
 use Rattle.std.proofs.Common.{map}
 use Rattle.job_rules.specs.LevelJobs.{level_job_value}
 use Rattle.job_rules.specs.declared.command.LevelTask.TheVariants.{List as Lists}
-use Rattle.run_verdict.specs.Jobs.{delivery_of}
-use Rattle.run_verdict.proofs.DeliverLemmas.{memory_delivers}
-use Rattle.run_verdict.proofs.PerformLemmas.{loads_performs, stops_performs}
+use Rattle.doom_run.specs.Jobs.{delivery_of}
+use Rattle.doom_run.proofs.DeliverLemmas.{memory_delivers}
+use Rattle.doom_run.proofs.PerformLemmas.{loads_performs, stops_performs}
 use Rattle.doom_run.proofs.level.perform_level.Goals as goal
 
 pub returns-in-Render : goal.returns-in-Render

@@ -1,9 +1,9 @@
 use Rattle.job_rules.specs.LevelJobs.{level_job_value}
-use Rattle.run_verdict.specs.Jobs.{done, telling}
-use Rattle.run_verdict.specs.Views.{view_lines, views_of}
+use Rattle.doom_run.specs.Jobs.{done, telling}
+use Rattle.doom_run.specs.Views.{view_lines, views_of}
 use Rattle.doom_run.proofs.CountLemmas.{can_count}
-use Rattle.doom_run.proofs.DeliverLemmas.{ready_drawable, views_delivers}
-use Rattle.run_verdict.proofs.DeliverLemmas.{memory_delivers}
+use Rattle.doom_run.proofs.DrawingLemmas.{ready_drawable, views_delivers}
+use Rattle.doom_run.proofs.DeliverLemmas.{memory_delivers}
 use Rattle.doom_run.proofs.lines.perform_lines.Goals as goal
 
 pub put_views-requires : goal.put_views-requires

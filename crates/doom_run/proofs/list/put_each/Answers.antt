@@ -1,6 +1,6 @@
 use Rattle.std.proofs.Common.{arith, refl}
 use Rattle.art_rules.proofs.Laws.{writes_more, writes_stopped}
-use Rattle.run_verdict.proofs.ListLemmas.{lines-left, lines-more, lines_behind, none_put}
+use Rattle.doom_run.proofs.ListLemmas.{lines-left, lines-more, lines_behind, none_put}
 use Rattle.doom_run.proofs.list.put_each.Goals as goal
 
 pub loop-number-init : goal.loop-number-init

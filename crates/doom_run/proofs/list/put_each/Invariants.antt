@@ -1,6 +1,6 @@
 use Rattle.std.proofs.Common.{take, Ok}
 use Rattle.art_rules.specs.Words.{Failed, Writes}
-use Rattle.run_verdict.specs.Lists.{lines_from}
+use Rattle.doom_run.specs.Lists.{lines_from}
 use Rattle.doom_run.proofs.list.put_each.Given as goal
 
 -- the lines so far

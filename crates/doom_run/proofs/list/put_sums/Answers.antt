@@ -1,7 +1,7 @@
 use Rattle.picture_rules.proofs.Common.{ap, codes, List, ℕ, ◌++◌, ◌∙◌}
 use Rattle.refusals.specs.Lines.{labelled}
 use Rattle.doom_run.proofs.LimitLemmas.{same_bytes}
-use Rattle.run_verdict.proofs.ListLemmas.{seven_added}
+use Rattle.doom_run.proofs.ListLemmas.{seven_added}
 use Rattle.doom_run.proofs.list.put_sums.Goals as goal
 
 pub returns : goal.returns

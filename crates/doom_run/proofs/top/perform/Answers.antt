@@ -2,8 +2,8 @@ use Rattle.std.proofs.Common.{inl, refl}
 use Rattle.art_rules.proofs.Laws.{grew_none}
 use Rattle.command_line.specs.Commands.{command_of}
 use Rattle.job_rules.specs.Commands.{IsExercise}
-use Rattle.run_verdict.specs.Words.{texts}
-use Rattle.run_verdict.proofs.PerformLemmas.{command_runs, memory_runs}
+use Rattle.doom_run.specs.Words.{texts}
+use Rattle.doom_run.proofs.PerformLemmas.{command_runs, memory_runs}
 use Rattle.doom_run.proofs.top.perform.Goals as goal
 
 pub returns-in-Flat-clause-runs : goal.returns-in-Flat-clause-runs

@@ -5,9 +5,9 @@ use Rattle.frame_writer.specs.Ppm.{ppm}
 use Rattle.refusals.specs.declared.refusal.Refusal.{Refusal}
 use Rattle.job_files.specs.Flats.{PictureValue, flat_verdict}
 use Rattle.job_files.proofs.StepLemmas.{status_full}
-use Rattle.run_verdict.specs.Jobs.{Written, done}
-use Rattle.run_verdict.proofs.EndLemmas.{bytes_deliver}
-use Rattle.run_verdict.proofs.PerformLemmas.{plain_delivers, plain_stops}
+use Rattle.doom_run.specs.Jobs.{Written, done}
+use Rattle.doom_run.proofs.EndLemmas.{bytes_deliver}
+use Rattle.doom_run.proofs.PerformLemmas.{plain_delivers, plain_stops}
 use Rattle.doom_run.proofs.top.perform_flat.Goals as goal
 
 pub returns-in-Ok : goal.returns-in-Ok

@@ -1,8 +1,8 @@
 use Rattle.std.proofs.Common.{ap, Ok, List, ℕ, sym, arith}
 use Rattle.job_rules.specs.Commands.{make}
-use Rattle.run_verdict.specs.Jobs.{done, job_of}
-use Rattle.run_verdict.proofs.EndLemmas.{bytes_deliver}
-use Rattle.run_verdict.proofs.PerformLemmas.{memory_performs, plain_delivers}
+use Rattle.doom_run.specs.Jobs.{done, job_of}
+use Rattle.doom_run.proofs.EndLemmas.{bytes_deliver}
+use Rattle.doom_run.proofs.PerformLemmas.{memory_performs, plain_delivers}
 use Rattle.doom_run.proofs.top.perform_make.Goals as goal
 
 pub returns-in-Ok : goal.returns-in-Ok

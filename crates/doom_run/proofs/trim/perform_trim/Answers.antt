@@ -1,5 +1,5 @@
 use Rattle.job_rules.specs.LevelJobs.{level_job_value}
-use Rattle.run_verdict.proofs.DeliverLemmas.{plan_stops, trimming_delivers}
+use Rattle.doom_run.proofs.DeliverLemmas.{plan_stops, trimming_delivers}
 use Rattle.doom_run.proofs.trim.perform_trim.Goals as goal
 
 pub returns-in-Ok : goal.returns-in-Ok

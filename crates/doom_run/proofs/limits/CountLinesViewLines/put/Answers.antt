@@ -1,6 +1,6 @@
 use Rattle.std.proofs.Common.{ap, refl, ◌∙◌}
 use Rattle.picture_rules.specs.declared.Counts.{Counts}
-use Rattle.run_verdict.specs.Views.{counts_line, view_line}
+use Rattle.doom_run.specs.Views.{counts_line, view_line}
 use Rattle.doom_run.proofs.LimitLemmas.{lines_within, puts-over, same_bytes}
 use Rattle.doom_run.proofs.limits.CountLinesViewLines.put.Goals as goal
 

@@ -1,6 +1,6 @@
 use Rattle.std.proofs.Common.{refl, ℕ, ◌∙◌, ◌≡◌}
 use Rattle.doom_run.specs.Rules.{Counts, ViewListValue}
-use Rattle.run_verdict.specs.Lists.{items_lines, list_lines}
+use Rattle.doom_run.specs.Lists.{items_lines, list_lines}
 use Rattle.doom_run.proofs.LimitLemmas.{lines_within, puts-over, same_bytes}
 use Rattle.doom_run.proofs.list.ViewListViewLines.put.Goals as goal
 

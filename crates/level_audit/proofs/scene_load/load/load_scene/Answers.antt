@@ -1,4 +1,4 @@
-use Rattle.std.proofs.Common.{Bor, ℕ, List, map, refl, ◌∙◌, arith}
+use Rattle.std.proofs.Common.{Bor, ℕ, List, Ok, map, refl, ◌∙◌, arith}
 use Rattle.art_rules.proofs.Laws.{all_stand_later, follows_then}
 use Rattle.level_audit.specs.Rules.{IsInOrder, KeepsOrder, level_job_value}
 use Rattle.texture_build.specs.Calls.{HoldContents}
@@ -12,6 +12,7 @@ use Rattle.level_audit.proofs.scene_load.FullLemmas.{files_full, load_full}
 use Rattle.level_audit.proofs.scene_load.LoadLemmas.{all_loaded, audit_stopped, audited_of, files_stopped, memory_agrees, memory_causes, memory_full, told_wads}
 use Rattle.level_audit.proofs.scene_load.OrderLemmas.{items_roomy, lumps_taken}
 use Rattle.level_audit.proofs.scene_load.StayLemmas.{call_order, files_order, memory_order}
+use Rattle.level_audit.proofs.scene_load.AboveLemmas.{audited_above}
 use Rattle.level_audit.proofs.scene_load.load.load_scene.Goals as goal
 
 pub returns-in_err-files : goal.returns-in_err-files
@@ -57,8 +58,8 @@ returns-in_err-cache g c =
 pub returns-in_err-scene : goal.returns-in_err-scene
 returns-in_err-scene g c =
     let e = c.in_ok-files.ensures in
-    let later = c.audit_level.ensures in
     let level = level_job_value c.args.level.now in
+    let later = audited_above level c.in_ok-files.files c.audit_level.result c.map_err.result c.map_err.ensures.cases c.audit_level.ensures in
     let result = c.from_residual-in_err-scene.result in
     let was = c.in_err-scene.was in
     let is = c.from_residual-in_err-scene.ensures.1 in
@@ -70,7 +71,7 @@ returns-in_err-scene g c =
       full = λ files holds.
           let are = (e.answers files holds).ok in
           let told = told_wads level _ files _ are (λ contents named. e.contents files contents holds named) c.in_ok-cache.ensures.faithful in
-          load_full level _ files _ c.audit_level.result _ result are (later.full _ told) was is;
+          load_full level _ files _ c.map_err.result _ result are (later.full _ told) was is;
       loaded = none_given _ _ result is;
       holds = λ files contents holds named. none_given _ _ result is;
       order = λ files contents expected holds named loads room.
@@ -78,18 +79,18 @@ returns-in_err-scene g c =
           let told = told_wads level _ files _ are (λ contents named. e.contents files contents holds named) c.in_ok-cache.ensures.faithful in
           let first : IsInOrder (loaded_items expected) c.in_ok-cache.cache = c.in_ok-cache.ensures.order (loaded_items expected) (items_roomy expected level.settings.zone room) in
           let read = e.taken_of files contents holds named in
-          call_order _ _ (KeepsOrder (loaded_items expected) c.in_ok-cache.cache c.audit_level.new.cache (g.S.Shelf.view c.read_files.new.shelf).taken (g.S.Shelf.view c.audit_level.new.shelf).taken) c.audit_level.result _ result
+          call_order _ _ (KeepsOrder (loaded_items expected) c.in_ok-cache.cache c.audit_level.new.cache (g.S.Shelf.view c.read_files.new.shelf).taken (g.S.Shelf.view c.audit_level.new.shelf).taken) c.map_err.result _ result
           (later.order _ expected told (audited_of level _ files _ expected are loads) first) was is (λ k. omega (arith, read, lumps_taken expected k));
       follows = follows_then e.follows later.follows;
-      causes = causes_after c.audit_level.result _ result e.follows.faults later.causes was is;
+      causes = causes_after c.map_err.result _ result e.follows.faults later.causes was is;
     }
 
 pub returns : goal.returns
 returns g c =
     let e = c.in_ok-files.ensures in
     let made = c.in_ok-cache.ensures in
-    let later = c.in_ok-scene.ensures in
     let level = level_job_value c.args.level.now in
+    let later = audited_above level c.in_ok-files.files c.audit_level.result (Ok (c.in_ok-scene.scene, c.in_ok-scene.weapons)) c.in_ok-scene.ensures.cases c.audit_level.ensures in
     let dir = c.in_ok-files.files.dir in
     let found = value_of c.in_ok-files.files in
     record {
