@@ -7,7 +7,7 @@ ghost use Rattle.pixel_strips.specs.Dotted.{PlacedAlike};
 ghost use Rattle.texture_build.specs.Draws.{CanDraw};
 ghost use Rattle.texture_build.specs.Hands.{AreSameHands, hands_state};
 ghost use Rattle.texture_build.specs.Sources.{IsColumnLive, IsColumnThere, column_in};
-ghost use Rattle.texture_build.specs.Strips.{FitsLive, IsTextureIn, PaintsLive, PaintsTexture, art_tools};
+ghost use Rattle.texture_build.specs.Strips.{FitsLiveStrip, IsTextureIn, PaintsLiveStrip, PaintsTexture, art_tools};
 ghost use Rattle.texture_build.specs.Views.{prepared_texture};
 
 use crate::hands::Hands;
@@ -95,9 +95,9 @@ fn paint_live<S: Shelf, C: Canvas>(
     ensures same { AreSameHands hands.old hands.new }
     ensures cache { hands.new.cache.now ≡ hands.old.cache.now }
     ensures shelf { hands.new.shelf.now ≡ hands.old.shelf.now }
-    ensures painted { PaintsLive C.mark (art_tools art.now) strip.now hands.old.cache.now
+    ensures painted { PaintsLiveStrip C.mark (art_tools art.now) strip.now hands.old.cache.now
         (C.view hands.old.canvas.now) (C.view hands.new.canvas.now) }
-    ensures fits { FitsLive (art_tools art.now) strip.now hands.old.cache.now }
+    ensures fits { FitsLiveStrip (art_tools art.now) strip.now hands.old.cache.now }
     ensures place { PlacedAlike (C.view hands.old.canvas.now) (C.view hands.new.canvas.now) }
 {
     let textures = art.textures;
