@@ -30,14 +30,14 @@ texture_dots art s = column_dots (painter_of s.kind s.number (art.texture_source
     s.x (texture_colour art s) (listed_from (λ y. y) s.first s.last)
 
 -- a canvas is given them, where the cache holds the art of some files
-abbrev pub PaintsLive : (Painter → ℕ → ℕ) → PaintTools → TextureStrip → Heap → CanvasView →
+abbrev pub PaintsLiveStrip : (Painter → ℕ → ℕ) → PaintTools → TextureStrip → Heap → CanvasView →
     CanvasView → Type 0
-PaintsLive mark t s z old new = (view : ShelfView) (contents : List (List ℕ)) (count : ℕ) →
+PaintsLiveStrip mark t s z old new = (view : ShelfView) (contents : List (List ℕ)) (count : ℕ) →
     Holds t contents count view z → HasDots mark (texture_dots (painted_art contents t) s) old new
 
 -- and what their painter reads fits beside the colormap
-abbrev pub FitsLive : PaintTools → TextureStrip → Heap → Type 0
-FitsLive t s z = (view : ShelfView) (contents : List (List ℕ)) (count : ℕ) →
+abbrev pub FitsLiveStrip : PaintTools → TextureStrip → Heap → Type 0
+FitsLiveStrip t s z = (view : ShelfView) (contents : List (List ℕ)) (count : ℕ) →
     Holds t contents count view z → FitIn t count z.size (texture_dots (painted_art contents t) s)
 
 -- A call that paints the strip. It shows its column of its texture, and no lump by itself.

@@ -3,15 +3,13 @@
 // Rules: `specs/Strips`. The original: `R_RenderSegLoop`, r_segs.c, and the sky of `R_DrawPlanes`,
 // r_plane.c, where they call `R_GetColumn` and `colfunc`.
 ghost use Rattle.std.specs.Prelude.{◌≡◌, ◌<◌, ◌≤◌, length};
-ghost use Rattle.texture_build.specs.Rules.{row_fraction};
 ghost use Rattle.pixel_strips.specs.Dotted.{PlacedAlike};
 ghost use Rattle.texture_build.specs.Draws.{CanDraw};
 ghost use Rattle.texture_build.specs.Hands.{AreSameHands, hands_state};
 ghost use Rattle.texture_build.specs.Sources.{IsColumnLive, IsColumnThere, column_in};
-ghost use Rattle.texture_build.specs.Strips.{FitsLive, IsTextureIn, PaintsLive, PaintsTexture, art_tools};
+ghost use Rattle.texture_build.specs.Strips.{FitsLiveStrip, IsTextureIn, PaintsLiveStrip, PaintsTexture, art_tools};
 ghost use Rattle.texture_build.specs.Views.{prepared_texture};
 
-use crate::column::Column;
 use crate::hands::Hands;
 use crate::textures::Textures;
 use art_rules::{ColumnLookup, Shelf};
@@ -97,9 +95,9 @@ fn paint_live<S: Shelf, C: Canvas>(
     ensures same { AreSameHands hands.old hands.new }
     ensures cache { hands.new.cache.now ≡ hands.old.cache.now }
     ensures shelf { hands.new.shelf.now ≡ hands.old.shelf.now }
-    ensures painted { PaintsLive C.mark (art_tools art.now) strip.now hands.old.cache.now
+    ensures painted { PaintsLiveStrip C.mark (art_tools art.now) strip.now hands.old.cache.now
         (C.view hands.old.canvas.now) (C.view hands.new.canvas.now) }
-    ensures fits { FitsLive (art_tools art.now) strip.now hands.old.cache.now }
+    ensures fits { FitsLiveStrip (art_tools art.now) strip.now hands.old.cache.now }
     ensures place { PlacedAlike (C.view hands.old.canvas.now) (C.view hands.new.canvas.now) }
 {
     let textures = art.textures;
@@ -108,39 +106,18 @@ fn paint_live<S: Shelf, C: Canvas>(
     if let Some(colormap) = cache.bytes(art.colormap)
         && let Some(texels) = textures.column_at(cache, strip.tex, lookup)
     {
-        let column = column_strip(strip, &texels, colormap);
+        let column = ColumnStrip {
+            x: strip.x,
+            first: strip.first,
+            last: strip.last,
+            fraction: row_fraction(strip.centre, strip.mid, strip.step, strip.first),
+            step: strip.step,
+            source: texels.bytes,
+            base: texels.first,
+            colormap,
+            map: strip.map,
+        };
         hands.canvas.begin(painter);
         paint_column(hands.canvas, &column);
-    }
-}
-
-// The strip, painted with these texels and these shades.
-#[inline(always)]
-fn column_strip<'c>(
-    strip: &TextureStrip,
-    texels: &Column<'c>,
-    colormap: &'c [u8],
-) -> ColumnStrip<'c>
-    ensures x { result.x ≡ strip.now.x }
-    ensures first { result.first ≡ strip.now.first }
-    ensures last { result.last ≡ strip.now.last }
-    ensures fraction { result.fraction
-        ≡ row_fraction strip.now.centre strip.now.mid strip.now.step strip.now.first }
-    ensures step { result.step ≡ strip.now.step }
-    ensures source { result.source.now ≡ texels.now.bytes }
-    ensures base { result.base ≡ texels.now.first }
-    ensures colormap { result.colormap.now ≡ colormap.now }
-    ensures map { result.map ≡ strip.now.map }
-{
-    ColumnStrip {
-        x: strip.x,
-        first: strip.first,
-        last: strip.last,
-        fraction: row_fraction(strip.centre, strip.mid, strip.step, strip.first),
-        step: strip.step,
-        source: texels.bytes,
-        base: texels.first,
-        colormap,
-        map: strip.map,
     }
 }

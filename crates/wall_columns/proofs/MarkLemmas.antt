@@ -1,4 +1,4 @@
--- Laws of the columns of a fragment as they are drawn one by one: none, and one more.
+-- Laws of the columns of a fragment as they are passed one by one: none, one more, and all.
 use Rattle.picture_rules.proofs.Common.{ap, arith, Bool, cond, false, length, List, nat_le, nat_lt, nat_tests, None, Option, refl, Some, subst, sym, true, within-row, ℕ, ◌&&◌, ◌+◌, ◌-◌, ◌<◌, ◌==◌, ◌∙◌, ◌≡◌, ◌≢◌}
 use Rattle.wall_columns.specs.Rules.{ColumnClip, Edges, FRAME_WIDTH, FragmentNumbers, Plane, RowRange, ViewValue, ceiling_rows, clip_after, column_marked, columns_marked, edges_at, floor_rows, marked_rows, set_run}
 use Rattle.picture_rules.proofs.plane.BuiltLemmas.{columns_marked-none, columns_marked-more}
@@ -72,7 +72,7 @@ unfolding clip_along
 clip_along-other height f before k x y e h = ap (λ (b : Bool). cond b (column_after height f before y) (before y)) (others_among f.first k x y e h)
 
 -- no column yet
-pub has_marked-none : (f : FragmentValue) (start : ColumnState) (planes : PlanesView) → HasMarked f 0 start start planes planes
+has_marked-none : (f : FragmentValue) (start : ColumnState) (planes : PlanesView) → HasMarked f 0 start start planes planes
 has_marked-none f start planes = record {
   windows = λ x l. clip_along-none start.windows.height f (window_at start.windows) x;
   height = refl;
@@ -166,7 +166,7 @@ marked_column f k x start w e ceiling floor planes p q r =
     ap (λ (w : ColumnClip). by w e x) q ∙ ap (λ (e : Edges). by (window_at start.windows x) e x) r ∙ ap (λ (y : ℕ). by (window_at start.windows y) (column_edges f y) y) p
 
 -- one column more
-pub has_marked-more : (f : FragmentValue) (k x : ℕ) (start now next : ColumnState) (before between later : PlanesView) (after : ColumnClip) → HasMarked f k start now before between →
+has_marked-more : (f : FragmentValue) (k x : ℕ) (start now next : ColumnState) (before between later : PlanesView) (after : ColumnClip) → HasMarked f k start now before between →
     x ≡ f.first + k → x < FRAME_WIDTH → PassesColumn f.numbers x (edges_at f.shape f.numbers k) now next between later after →
     HasMarked f (k + 1) start next before later
 unfolding marks_along
@@ -194,7 +194,7 @@ has_marked-more f k x start now next before between later after h e l p =
     }
 
 -- the same by equal numbers and edges
-pub passes-as : (n m : FragmentNumbers) (x : ℕ) (e g : Edges) (now next : ColumnState) (before later : PlanesView) (after : ColumnClip) → n ≡ m → e ≡ g →
+passes-as : (n m : FragmentNumbers) (x : ℕ) (e g : Edges) (now next : ColumnState) (before later : PlanesView) (after : ColumnClip) → n ≡ m → e ≡ g →
     PassesColumn n x e now next before later after → PassesColumn m x g now next before later after
 passes-as n m x e g now next before later after p q h =
     let P : FragmentNumbers → Type 0 = λ n. PassesColumn n x e now next before later after in

@@ -82,9 +82,6 @@ ends_later : (b : Bool) (n place rest total : ℕ) → place + room_of b n + res
 ends_later true n place rest total h e = omega arith
 ends_later false n place rest total h e = absurd (let never : false ≡ true = e in cc)
 
-pub place_in-same : {n total m more : ℕ} (place : Option ℕ) → IsPlaceIn n total place → m ≡ n → more ≡ total → IsPlaceIn m more place
-place_in-same place there count all = rw (count, all) there
-
 -- the lists lie before the end
 pub places_of-in : (n : FragmentNumbers) (place columns total : ℕ) → (places_of n place columns).end ≤ total → ArePlacesIn columns total (places_of n place columns)
 unfolding places_of

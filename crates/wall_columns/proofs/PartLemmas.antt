@@ -135,12 +135,6 @@ saved_view list new values used place old p long view is room written =
     ap (take used) written ∙ take-with_list list values used place long (omega arith)
     ∙ ap (λ (o : OpeningsView). with_list o.saved place values) (sym view) ∙ ap (λ (o : Option ℕ). with_saved old.saved o values) (sym is)
 
--- they are as many as before
-pub saved_count : (list new : List ℤ) (used : ℕ) (old : OpeningsView) → old ≡ shown (take used list) (length list) → length new ≡ length list →
-    length (take used new) ≡ length old.saved
-saved_count list new used old view same =
-    omega (arith, ap (λ (o : OpeningsView). length o.saved) view, same, length-take used list, length-take used new)
-
 -- a list from first to last, by its entries
 pub listed_from-all : (f : ℕ → ℤ) (xs : List ℤ) (first last : ℕ) → length xs ≡ last + 1 - first →
     ((k : ℕ) → first + k ≤ last → get_or xs k (pos 0) ≡ f (first + k)) → xs ≡ listed_from f first last
@@ -173,7 +167,5 @@ floors-lent w ceilings floors height first last view within =
 pub ruleset narrowed = (are_clips-set)
 
 pub ruleset opened = (are_clips-open, are_clips-new, get_or-replicate)
-
-pub ruleset saved_front = (saved_count)
 
 pub ruleset counts = (longer_check, count_checked, count_found)

@@ -91,7 +91,7 @@ impl Openings {
     }
 
     /// Saves the clips of a fragment's columns at a place, where they are saved.
-    #[tactic(auto, using(crate::proofs::PartLemmas::saved_front), unfolding(crate::specs::Saved::with_saved))]
+    #[tactic(auto, unfolding(crate::specs::Saved::with_saved))]
     pub fn save_clips(&mut self, place: Option<u32>, clips: &[i32])
         requires { IfSome place (λ place. place + length clips.now ≤ length self.old.saved) }
         ensures value { self.new.saved ≡ with_saved self.old.saved place clips.now }
@@ -105,7 +105,7 @@ impl Openings {
 
     /// Saves the texture columns of a fragment in columns `first` to `last` at a place, where they
     /// are saved.
-    #[tactic(auto, using(crate::proofs::PartLemmas::saved_front), unfolding(crate::specs::Saved::with_saved))]
+    #[tactic(auto, unfolding(crate::specs::Saved::with_saved))]
     pub fn save_columns(
         &mut self,
         place: Option<u32>,

@@ -1,4 +1,4 @@
-use Rattle.picture_rules.proofs.Common.{Option, option_map_or, subst, sym, ℕ, ◌+◌, ◌≡◌, ◌≤◌}
+use Rattle.picture_rules.proofs.Common.{Option, option_map_or, subst, ℕ, ◌+◌, ◌≤◌}
 use Rattle.art_rules.specs.Words.{lump_at}
 use Rattle.job_files.specs.Sizes.{flat_size}
 use Rattle.job_files.proofs.flat.read_flat.Goals as goal

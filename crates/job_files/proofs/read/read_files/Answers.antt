@@ -17,6 +17,9 @@ returns-in_err-texts-clause-answers g c files holds =
     step_passed _ _ c.in_ok-tables.tables (c.in_ok-tables.ensures.answers files holds).ok c.load_tables.ensures.follows.steady
     (step_stops _ _ c.from_residual-in_err-texts.result (c.load_texts.ensures.answers files held) c.in_err-texts.was refl c.from_residual-in_err-texts.ensures.1)
 
+pub returns-in_err-texts-clause-follows : goal.returns-in_err-texts-clause-follows
+returns-in_err-texts-clause-follows g c = follows_then c.in_ok-tables.ensures.follows c.in_err-texts.ensures.follows
+
 pub returns-in_err-dir-clause-answers : goal.returns-in_err-dir-clause-answers
 unfolding files_in
 returns-in_err-dir-clause-answers g c files holds =

@@ -31,6 +31,6 @@ returns-clause-paints g c =
     let shape = c.shape-shape in
     sky-painted c.args.scene.now rows.number rows.tex rows.x rows.first rows.last
     (to_z-of_z w32 c.sky_column.result (search rules) ∙ c.sky_column.ensures)
-    (ap (λ (s : ViewShape). s.centre_y) shape.ensures.value) (search (rules, to_z-of_z))
+    (ap (λ (s : ViewShape). s.centre_y) shape.ensures.value) (search rules)
     (to_z-of_z w32 shape.result.sky_step (search rules) ∙ ap (λ (s : ViewShape). s.sky_step) shape.ensures.value)
     c.requires.sky (c.requires.shown ordered) c.paint_texture.ensures.paints

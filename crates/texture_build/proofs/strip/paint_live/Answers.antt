@@ -1,6 +1,8 @@
 -- The bytes that are lent are those of the strip's column and of the colormap.
-use Rattle.art_rules.proofs.Common.{ap, List, some-same, sym, ℕ, ◌+◌, ◌∙◌}
-use Rattle.texture_build.specs.Rules.{byte_at, lump_bytes}
+use Rattle.art_rules.proofs.Common.{ap, of_z, rules, some-same, sym, to_z, w32, ◌+◌, ◌∙◌, ◌≡◌}
+use Rattle.std.proofs.lemmas.Int.{to_z-of_z}
+use Rattle.texture_build.specs.Rules.{byte_at, lump_bytes, row_fraction}
+use Rattle.texture_build.specs.Sources.{ColumnView}
 use Rattle.texture_build.specs.Strips.{art_tools}
 use Rattle.texture_build.proofs.ColumnLemmas.{single_slot}
 use Rattle.texture_build.proofs.LentLemmas.{colormap_lent, fits-column}
@@ -15,13 +17,12 @@ pub returns-in-Some-column_at-clause-painted : goal.returns-in-Some-column_at-cl
 returns-in-Some-column_at-clause-painted g c = λ view contents count hold.
     let art = c.args.art.now in
     let s = c.args.strip.now in
-    let cut = c.column_strip-column in
-    texture-painted (lump_bytes contents art.dir.now.lumps) art.textures.now art.colormap.0 s cut.result
-    c.begin.ensures c.paint_column.ensures c.painter_at-painter.ensures c.requires.lookup
-    cut.ensures.x cut.ensures.first cut.ensures.last cut.ensures.map cut.ensures.step cut.ensures.fraction
-    (cut.ensures.colormap ∙ some-same c.in-Some.colormap.now _ _ c.in-Some.ensures.value (colormap_lent hold c.requires.colormap))
-    (λ r. ap (λ (xs : List ℕ). byte_at xs (cut.result.base + r)) cut.ensures.source
-    ∙ ap (λ (n : ℕ). byte_at c.in-Some-column_at.texels.bytes (n + r)) cut.ensures.base
+    let texels = c.texels.inside in
+    let fraction : to_z w32 (of_z w32 c.row_fraction.result) ≡ row_fraction s.centre s.mid s.step s.first = search (rules, to_z-of_z) in
+    texture-painted (lump_bytes contents art.dir.now.lumps) art.textures.now art.colormap.0 s texels.bytes.now c.in-Some.colormap.now texels.first _ _
+    c.begin.ensures c.paint_column.ensures c.painter_at-painter.ensures c.requires.lookup (to_z-of_z w32 s.step (search rules)) fraction
+    (some-same c.in-Some.colormap.now _ _ c.in-Some.ensures.value (colormap_lent hold c.requires.colormap))
+    (λ r. ap (λ (v : ColumnView). byte_at v.bytes (v.first + r)) c.texels.view_is
     ∙ c.in-Some-column_at.ensures.texel s.column contents art.dir.now.lumps c.requires.lookup c.requires.texture.there
     hold.files.faithful hold.composites hold.prepared r)
 

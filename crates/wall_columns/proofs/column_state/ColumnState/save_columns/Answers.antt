@@ -1,15 +1,7 @@
 -- One list after the other is saved.
 use Rattle.picture_rules.proofs.Common.{ap₂, refl, ℤ, List, ◌∙◌}
 use Rattle.wall_columns.specs.Saved.{with_saved, lists_saved}
-use Rattle.wall_columns.proofs.NoteLemmas.{place_in-same}
 use Rattle.wall_columns.proofs.column_state.ColumnState.save_columns.Goals as goal
-
-pub save_clips-requires : goal.save_clips-requires
-save_clips-requires c = place_in-same c.args.places.top c.requires.places.top c.ceilings-ceilings.ensures.length c.save_columns.ensures.length
-
-pub save_clips-requires-2 : goal.save_clips-requires-2
-save_clips-requires-2 c =
-    place_in-same c.args.places.bottom c.requires.places.bottom c.floors-floors.ensures.length (c.save_clips.ensures.length ∙ c.save_columns.ensures.length)
 
 pub returns : goal.returns
 unfolding lists_saved
