@@ -167,8 +167,8 @@ class Pages(unittest.TestCase):
         for name, choices in jobs.CHOICES.items():
             self.assertEqual([it for it in choices if it not in jobs.options()[name].meaning], [], name)
             self.assertIn(jobs.options()[name].default, choices)
-        flags = re.findall(r'"([a-z]+)"', read('crates/command_line/src/simple.rt'))
-        self.assertEqual({f'--{flag}' for flag in flags if f'--{flag}' in jobs.options()}, set(jobs.options()))
+        flags = re.findall(r'"([a-z]+)"', read('crates/job_rules/src/options.rt'))
+        self.assertEqual({f'--{flag}' for flag in flags}, set(jobs.options()))
 
     def test_jobs(self):
         """The code has the jobs of the tables, by name."""
