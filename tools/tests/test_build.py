@@ -9,8 +9,7 @@ import tempfile
 import time
 import unittest
 
-from made_files import COMMAND, COMMANDS, COMPILED, TOOLS, TOP
-from doomview_tools import plan
+from made_files import COMMAND, COMMANDS, COMPILED, TOOLS
 
 CRATES = '''# low
 low: csv
@@ -18,15 +17,16 @@ left: low
 right: low csv
 
 high: left right   # both
-doomview: high low
+doomview: high csv
 tests: doomview
 '''
-ORDER = ['low', 'left', 'right', 'high', 'doomview']
-# Does as rt does, without a proof, in a kit that shares nothing: builds a crate where its library is not there or
-# of another text, notes its calls in the file CALLS, fails at the crate FAILS saying SAYS, waits at the crate WAITS.
+ORDER = ['low', 'left', 'right', 'high', 'doomview', 'tests']
+# Does as rt does, without a proof: builds a crate where its library is not there or of another text, notes its calls in
+# the file CALLS, fails at the crate FAILS saying SAYS, waits with a child at the crate WAITS until there is a file GOES.
 RT = '''#!PYTHON
-import os, shutil, sys, time
-top = os.path.dirname(os.path.dirname(os.getcwd()))
+import os, shutil, subprocess, sys, time
+here = os.path.basename(os.getcwd())
+top = os.getcwd() if sys.argv[1] == 'all' else os.path.dirname(os.path.dirname(os.getcwd()))
 below = {}
 for line in open(f'{top}/crates.txt'):
     head, _, rest = line.partition('#')[0].partition(':')
@@ -39,8 +39,11 @@ def build(crate):
     note('build ' + crate)
     print('proving ' + crate, flush=True)
     if crate == os.environ.get('WAITS'):
-        note(f'waiting {os.getpid()}')
-        time.sleep(60)
+        child = subprocess.Popen([sys.executable, '-c', 'import time; time.sleep(60)'])
+        note(f'waiting {os.getpid()} {child.pid}')
+        while child.poll() is None and not os.path.exists(os.environ.get('GOES', '')):
+            time.sleep(0.01)
+        child.kill()
     if crate == os.environ.get('FAILS'):
         print(os.environ.get('SAYS', 'open goal'))
         return False
@@ -50,27 +53,26 @@ def text_of(crate):
 def lib(crate):
     if not all([lib(it) for it in below[crate]]):
         return False
-    made = f'{top}/crates/{crate}/out/rlib'
+    made = f'{top}/crates/{crate}/out'
     if os.path.exists(f'{made}/stamp') and open(f'{made}/stamp').read() == text_of(crate):
         return True
-    shutil.rmtree(made, ignore_errors=True)
-    os.makedirs(f'{made}/lang')
+    os.makedirs(made, exist_ok=True)
     if not build(crate):
         return False
-    open(f'{made}/lang/lib.rt', 'w').close()
     with open(f'{made}/stamp', 'w') as file:
         file.write(text_of(crate))
     return True
-here = os.path.basename(os.getcwd())
+if sys.argv[1] == 'all':
+    note('top: ' + ' '.join(sys.argv[1:]))
+    sys.exit(not all([lib(it) for it in below]))
 note(here + ': ' + ' '.join(sys.argv[1:]))
 if not lib(here):
     sys.exit(1)
-if sys.argv[1] == 'run':
-    program = f'{top}/crates/doomview/out/doomview'
-    with open(program, 'w') as file:
-        file.write('#!/bin/sh\\ncat\\necho "$@"\\nexit 5\\n')
-    os.chmod(program, 0o755)
-    sys.exit(build('program') - 1)
+program = f'{top}/crates/doomview/out/doomview'
+with open(program, 'w') as file:
+    file.write('#!/bin/sh\\ncat\\necho "$@"\\nexit 5\\n')
+os.chmod(program, 0o755)
+sys.exit(not build('program'))
 '''
 
 
@@ -82,8 +84,6 @@ class Build(unittest.TestCase):
             os.makedirs(self.at('crates', crate, 'src'))
             self.write(f'crates/{crate}/src/lib.rt', '')
         self.write('crates.txt', CRATES)
-        self.write('HANDLES', '')
-        self.write('crates/doomview/args', '')
         for folder in ('bin', 'opt/kit/bin'):
             os.makedirs(self.at(folder))
         for name in COMMANDS:
@@ -93,6 +93,7 @@ class Build(unittest.TestCase):
         for name in ('data', 'doomview_tools'):
             shutil.copytree(os.path.join(TOOLS, name), self.at('tools', name),
                             ignore=shutil.ignore_patterns('__pycache__'))
+        self.change('BUILD_DISK = 9 * 10 ** 9', 'BUILD_DISK = 0')  # whatever room there is
         os.chmod(self.write('opt/kit/bin/rt', RT.replace('PYTHON', sys.executable)), 0o755)
         os.symlink('../opt/kit/bin/rt', self.at('bin', 'rt'))
         self.seen = 0
@@ -105,6 +106,14 @@ class Build(unittest.TestCase):
             file.write(text)
         return self.at(place)
 
+    def change(self, old, new):
+        """Changes the text of the build."""
+        place = 'tools/doomview_tools/build.py'
+        with open(self.at(place)) as file:
+            text = file.read()
+        self.assertIn(old, text)
+        self.write(place, text.replace(old, new))
+
     def calls(self):
         """The calls of rt since the last look."""
         with open(self.at('calls'), 'a+') as file:
@@ -114,13 +123,25 @@ class Build(unittest.TestCase):
         return lines
 
     def waiting(self):
-        """The process of an rt that waits."""
+        """The processes of an rt that waits: its own, and its child's."""
         for _ in range(3000):
             for line in self.calls():
                 if line.startswith('waiting '):
-                    return int(line.split()[1])
+                    return [int(number) for number in line.split()[1:]]
             time.sleep(0.01)
         self.fail('no rt waits')
+
+    def has_ended(self, process):
+        """Whether a process ends, which another than this one may have to wait for."""
+        for _ in range(1000):
+            try:
+                with open(f'/proc/{process}/stat') as file:
+                    if file.read().rpartition(')')[2].split()[0] == 'Z':
+                        return True
+            except FileNotFoundError:
+                return True
+            time.sleep(0.01)
+        return False
 
     def start(self, *words, session=False, **more):
         env = {'PATH': self.at('bin'), 'HOME': self.folder, 'CALLS': self.at('calls'), **COMPILED, **more}
@@ -136,178 +157,166 @@ class Build(unittest.TestCase):
         """The program is built and run with its words and its input, and then needs no rt."""
         status, output, error = self.runs('make', 'two words')
         self.assertEqual((status, output), (5, 'input make two words\n'), error)
-        told = [line.rpartition(': ') for line in error.splitlines() if ' of 5: ' in line]
-        self.assertEqual([first for first, _, _ in told], [f'doomview: crate {k + 1} of 5' for k in range(5)])
-        names = [name for _, _, name in told]
-        self.assertEqual([names[0], {*names[1:3]}, *names[3:]], ['low', {'left', 'right'}, 'high', 'doomview'])
+        self.assertRegex(error, '^doomview: building: .*\n$')
         calls = self.calls()
-        self.assertFalse(os.path.exists(self.at('out/doomview-copies')))
+        self.assertRegex(calls[-1], 'build program')
         self.assertEqual(self.runs('again'), (5, 'input again\n', ''))
         self.assertEqual(self.calls(), [])
-        return calls
+        return calls, error
 
     def test_first(self):
-        """Each crate is built once, whichever copy builds it, by one process; those that stand on all others by many."""
-        calls = self.builds()
-        builds = [line for line in calls if line.startswith('build ')]
-        self.assertEqual(sorted(builds), sorted(f'build {it}' for it in [*ORDER, 'program']))
-        self.assertLessEqual({f'{crate}: lib --jobs 1' for crate in ('low', 'left', 'right')}, {*calls})
-        jobs = int(re.fullmatch('doomview: run --jobs ([0-9]+) -- make things', calls[-3])[1])
-        self.assertIn(f'high: lib --jobs {jobs}', calls)
-        self.assertEqual(calls[-2:], ['build doomview', 'build program'])
+        """All crates are proved, at a time as many as there are processors, and then the program is compiled."""
+        calls, error = self.builds()
+        jobs = re.fullmatch('top: all check --jobs ([1-9][0-9]*)', calls[0])[1]
+        self.assertEqual(calls[1:], [*(f'build {it}' for it in ORDER), f'doomview: run --jobs {jobs} -- make things',
+                                     'build program'])
+        self.assertIn('From nothing that takes about half an hour on four processors\n', error)
 
-    def test_newer_source(self):
+    def test_later(self):
+        """A later build proves what has changed below the program, and no tests."""
         self.builds()
         self.write('crates/left/src/lib.rt', 'changed')
-        builds = [line for line in self.builds() if line.startswith('build ')]
-        self.assertEqual(sorted(builds), ['build doomview', 'build high', 'build left', 'build program'])
+        calls, error = self.builds()
+        self.assertEqual(calls[1:], [f'build {it}' for it in ('left', 'high', 'doomview', 'program')])
+        self.assertRegex(calls[0], 'doomview: run --jobs [0-9]+ -- make things')
+        self.assertNotIn('From nothing', error)
         os.remove(self.at('out', 'doomview'))
-        self.builds()
+        self.assertEqual(self.builds()[0][1:], ['build program'])
+
+    def test_first_of_a_tried_clone(self):
+        """A build is the first one until rt came to all crates that the program names, whatever was proved before."""
+        for crate in ('low', 'left', 'doomview'):
+            os.mkdir(self.at('crates', crate, 'out'))
+        self.assertIn('top: ', self.builds()[0][0])
 
     def test_failure(self):
-        self.builds()
-        for crate in ORDER:
-            shutil.rmtree(self.at('crates', crate, 'out'))
-        self.write('crates.txt', CRATES + '# changed\n')
-        for crate in ['left', 'high', 'doomview', 'program']:
+        for crate, words, place in [('left', 'all check', ''), ('high', 'all check', ''),
+                                    ('program', 'run', '/crates/doomview')]:
             status, output, error = self.runs('make', FAILS=crate)
             self.assertEqual((status, output), (70, ''))
-            self.assertRegex(error, 'doomview: the build of [a-z]+ failed\n$')
-            self.assertIn(f'proving {crate}', error)
-        self.builds()
+            self.assertIn(f'proving {crate}\nopen goal\n', error)
+            self.assertRegex(error, f'doomview: the build failed: rt {words} --jobs .* in {self.folder}{place} ended '
+                             'with 1; its last lines are above\n$')
+            self.assertFalse(os.path.exists(self.at('out', 'doomview')))
+        self.calls()
+        self.assertEqual(self.builds()[0][1:], ['build program'])
 
     def test_long_lines(self):
         """Of what rt said before it failed the last lines are shown, cut."""
-        said = '\n'.join(str(number) * 400 for number in range(100))
-        error = self.runs('make', FAILS='left', SAYS=said)[2]
-        self.assertLess(len(error), 20000)
-        self.assertNotIn('99' * 200, error)
-        self.assertIn(('99' * 400)[:300] + '\n', error)
+        said = [f'line {number} '.ljust(400, '-') for number in range(200)]
+        error = self.runs('make', FAILS='program', SAYS='\n'.join(said))[2]
+        self.assertEqual(error.splitlines()[-101:-1], [line[:300] for line in said[100:]])
+        self.assertNotIn('line 99', error)
 
     def test_full_disk(self):
         """A full disk is told in one sentence, whatever rt said of it."""
         error = self.runs('make', FAILS='high', SAYS='No space left on device' * 1000)[2]
-        told = [line for line in error.splitlines() if not re.match('doomview: (crate|building|the disk)', line)]
+        told = [line for line in error.splitlines() if not re.match('doomview: building', line)]
         self.assertEqual(len(told), 1, error)
         self.assertRegex(told[0], 'doomview: the build failed: the disk of .* is full')
+        self.change('FULL_DISK = 64 << 20', 'FULL_DISK = 1 << 60')
+        self.assertIn('is full', self.runs('make', FAILS='high')[2])
         self.builds()
 
-    def test_no_room(self):
-        """Where the sources cannot be copied, the build says so."""
-        os.makedirs(self.at('out/doomview-copies'))
-        self.write('out/doomview-copies/0', '')
+    def test_little_room(self):
+        """A first build says where the disk has less room than it takes."""
+        self.change('BUILD_DISK = 0', 'BUILD_DISK = 10 ** 18')
+        self.assertRegex(self.runs('make')[2], 'doomview: the disk has .* GB free, and a whole build takes about ')
+        os.remove(self.at('out', 'doomview'))
+        self.assertNotIn('the disk', self.runs('make')[2])
+
+    def test_no_place(self):
+        """Where the program can have no place, the build says so."""
+        self.write('out', '')
         status, output, error = self.runs('make')
         self.assertEqual((status, output), (70, ''))
-        self.assertRegex(error, 'doomview: the build failed: .*out/doomview-copies/0')
-        os.remove(self.at('out/doomview-copies/0'))
-        self.builds()
+        self.assertRegex(error, '^doomview: the build failed: .*out')
+        self.assertEqual(self.calls(), [])
 
     def test_interrupt(self):
-        for stop, crate in [(signal.SIGTERM, 'right'), (signal.SIGINT, 'high'), (signal.SIGTERM, 'program')]:
+        """A signal ends rt and all that it started; the next call goes on."""
+        for stop, crate in [(signal.SIGTERM, 'right'), (signal.SIGINT, 'high'), (signal.SIGHUP, 'program')]:
             run = self.start('make', WAITS=crate)
-            process = self.waiting()
+            processes = self.waiting()
             run.send_signal(stop)
             output, error = run.communicate()
             self.assertEqual((run.returncode, output), (128 + stop, ''), error)
             self.assertRegex(error, 'interrupted; what is proved is kept, and the next call goes on from there\n$')
-            with self.assertRaises(ProcessLookupError):
-                os.kill(process, 0)
+            self.assertTrue(all(self.has_ended(process) for process in processes))
             self.assertFalse(os.path.exists(self.at('out', 'doomview')))
-        self.assertNotIn('build low', self.builds())
+        self.assertEqual(self.builds()[0][1:], ['build program'])
 
     def test_terminal(self):
-        """From a terminal the signal reaches each rt too."""
+        """From a terminal the signal reaches the whole group of the build."""
         run = self.start('make', WAITS='right', session=True)
-        self.waiting()
+        processes = self.waiting()
         os.killpg(run.pid, signal.SIGINT)
         output, error = run.communicate()
         self.assertEqual((run.returncode, output), (128 + signal.SIGINT, ''), error)
         self.assertRegex(error, 'interrupted; .*\n$')
         self.assertNotIn('failed', error)
-        self.assertNotIn('build low', self.builds())
-
-    def test_copies_in_git(self):
-        """Where the repository has a folder .git the copies are there, out of the way of rt ci."""
-        os.mkdir(self.at('.git'))
-        run = self.start('make', WAITS='high')
-        self.waiting()
-        self.assertTrue(os.path.exists(self.at('.git/doomview-copies/0/crates.txt')))
-        run.send_signal(signal.SIGTERM)
-        run.communicate()
-        self.assertNotIn('build low', self.builds())
-        self.assertEqual(os.listdir(self.at('.git')), [])
+        self.assertTrue(all(self.has_ended(process) for process in processes))
+        self.assertNotIn('build low', self.builds()[0])
 
     def test_killed(self):
         """Nothing half-built is run after a build that could not clear up."""
         run = self.start('make', WAITS='program')
-        process = self.waiting()
+        processes = self.waiting()
         run.kill()
-        os.kill(process, signal.SIGKILL)
+        for process in processes:
+            os.kill(process, signal.SIGKILL)
         run.communicate()
         self.assertTrue(os.path.exists(self.at('crates/doomview/out/doomview')))
         self.builds()
 
-    def test_longest_chain_first(self):
-        """A crate goes first that begins the longest chain, by seconds; the last ones stand on all others."""
-        seconds = {'low': 10, 'left': 15, 'right': 30, 'high': 10, 'doomview': 10}
-        words = ('import sys; sys.path.insert(0, "tools"); from doomview_tools import build, plan; '
-                 'it = build.crates_below("doomview"); '
-                 f'print(plan.seconds_above(it, {seconds}), build.last_crates(it), build.count_lines("low"))')
-        self.write('crates/low/src/lib.rt', 'a line\n' * 7)
-        self.write('crates/low/src/tests.rt', 'a test\n' * 99)
-        run = subprocess.run([sys.executable, '-c', words], cwd=self.folder, capture_output=True, text=True, check=True)
-        above = {'doomview': 10, 'high': 20, 'right': 50, 'left': 35, 'low': 60}
-        self.assertEqual(run.stdout, f"{above} ['high', 'doomview'] 7\n")
+    def test_place(self):
+        """The program in its place is the one before until all is built, and as old as the start of its build."""
+        self.builds()
+        first = os.stat(self.at('out/doomview'))
+        self.assertLess(first.st_mtime, os.path.getmtime(self.at('crates/doomview/out/doomview')))
+        self.write('crates/low/src/lib.rt', 'changed')
+        self.assertEqual(self.runs('make', FAILS='program')[0], 70)
+        self.assertEqual(os.stat(self.at('out/doomview')), first)
+        self.builds()
+        self.assertNotEqual(os.stat(self.at('out/doomview')), first)
 
-    def test_two_at_once(self):
-        runs = [self.start('make', word) for word in ('one', 'two')]
-        for word, run in zip(('one', 'two'), runs):
-            self.assertEqual(run.communicate('')[0], f'make {word}\n')
-        self.assertEqual(sum(line == 'build high' for line in self.calls()), 1)
+    def second(self):
+        """A build that waits for another one."""
+        run = self.start('make', 'two')
+        self.assertEqual(run.stderr.readline(), 'doomview: waiting for another build to end\n')
+        return run
+
+    def test_second_build(self):
+        """A second build waits for the first one, and finds the program built."""
+        first = self.start('make', 'one', WAITS='high', GOES=self.at('go'))
+        self.waiting()
+        second = self.second()
+        self.write('go', '')
+        self.assertEqual(first.communicate('')[0], 'make one\n')
+        self.assertEqual(second.communicate(''), ('make two\n', ''))
+        self.assertEqual(sum(' make things' in line for line in self.calls()), 1)
+
+    def test_second_goes_on(self):
+        """Where the first one is interrupted, the second builds."""
+        first = self.start('make', WAITS='high')
+        self.waiting()
+        second = self.second()
+        first.send_signal(signal.SIGTERM)
+        first.communicate()
+        self.assertEqual(second.communicate('')[0], 'make two\n')
+        self.assertEqual([line for line in self.calls() if 'build' in line],
+                         [f'build {it}' for it in ('high', 'doomview', 'program')])
 
     def test_progress(self):
-        """A build that waits says how far it is and how long it still takes, and at first how long it takes."""
-        place = 'tools/doomview_tools/build.py'
-        with open(self.at(place)) as file:
-            text = file.read()
-        self.write(place, text.replace('TELL_SECONDS = 20', 'TELL_SECONDS = 0'))
-        os.makedirs(self.at('out'))
-        self.write('out/seconds.csv', 'crate,seconds\nlow,1\nleft,1\nright,1\nhigh,400\ndoomview,200\n')
+        """A build says now and then how long it has been going."""
+        self.change('TELL_SECONDS = 0.1, 60', 'TELL_SECONDS = 0.1, 0')
         run = self.start('make', WAITS='high')
         self.waiting()
-        told = [run.stderr.readline()]
-        while ' now ' not in told[-1] or 'high' not in told[-1]:
-            told.append(run.stderr.readline())
+        told = [run.stderr.readline() for _ in range(3)]
         run.send_signal(signal.SIGTERM)
         run.communicate()
-        self.assertRegex(told[0], 'building: 5 crates .* about 25 minutes on four processors\n$')
-        self.assertRegex(told[-1], 'doomview: 3 of 5 crates, about (9|10|11) minutes left; now high\n$')
-
-    def seconds(self):
-        return plan.read_numbers(self.at('out/seconds.csv'))
-
-    def test_seconds(self):
-        """What each crate took is kept, as soon as it is built; what was found built changes nothing."""
-        run = self.start('make', WAITS='high')
-        self.waiting()
-        run.send_signal(signal.SIGTERM)
-        run.communicate()
-        self.assertEqual(sorted(self.seconds()), ['left', 'low', 'right'])
-        self.builds()
-        self.assertEqual(sorted(self.seconds()), sorted(ORDER))
-        unmeasured = -1  # no build takes that, however fast the machine is
-        self.write('out/seconds.csv', 'crate,seconds\n' + ''.join(f'{crate},{unmeasured}\n' for crate in ORDER))
-        self.write('crates/left/src/lib.rt', 'changed')
-        self.builds()
-        self.assertEqual({crate for crate, seconds in self.seconds().items() if seconds == unmeasured},
-                         {'low', 'right'})
-
-    def test_damaged_seconds(self):
-        """A build does without its notes."""
-        os.makedirs(self.at('out'))
-        self.write('out/seconds.csv', 'nothing\n\n')
-        self.builds()
-        self.assertEqual(sorted(self.seconds()), sorted(ORDER))
+        self.assertRegex(told[0], 'doomview: building: each crate is proved')
+        self.assertEqual(told[1:], ['doomview: building for 0 minutes\n'] * 2)
 
     def test_own_words(self):
         """The table of jobs and whether it is built without a build, a build without a job."""
@@ -328,7 +337,7 @@ class Build(unittest.TestCase):
         """A build says what it does on standard error, also where a job's output goes to a file."""
         status, output, error = self.runs('make', 'things', '-o', self.at('out.csv'))
         self.assertEqual((status, output), (5, ''))
-        self.assertIn('crate 5 of 5', error)
+        self.assertRegex(error, '^doomview: building: .*\n$')
         self.assertFalse(os.path.exists(self.at('out.csv')))
 
     def test_missing(self):
@@ -344,45 +353,6 @@ class Build(unittest.TestCase):
         self.builds()
         os.remove(self.at('bin', 'python3'))
         self.assertEqual(self.runs('render', 'two words')[:2], (5, 'input render two words\n'))
-
-
-class Plan(unittest.TestCase):
-    """What is told of the time that a build takes."""
-
-    def test_weights(self):
-        """Each crate has a weight, and no weight is of another."""
-        with open(os.path.join(TOP, 'crates.txt')) as file:
-            crates = {line.partition(':')[0] for line in file if re.match('[a-z_]+:', line)}
-        weights = plan.read_numbers(os.path.join(TOOLS, 'data', 'weights.csv'))
-        tests = {it for it in crates if it.endswith('_tests') or it == 'test_files'}
-        self.assertEqual(set(weights), crates - tests)
-        self.assertGreater(min(weights.values()), 0)
-
-    def test_seconds(self):
-        """As they are kept; by weight, brought to their scale; or by lines."""
-        lines = {'a': 100, 'b': 200, 'c': 300}
-        self.assertEqual(plan.seconds_of(['a', 'b', 'c'], {'a': 50}, {'a': 10, 'b': 30}, lines),
-                         {'a': 50, 'b': 150, 'c': 187.5})
-        self.assertEqual(plan.seconds_of(['a', 'b', 'c'], {}, {}, lines), lines)
-
-    def test_left(self):
-        """The longest chain on many processors, all of it on one."""
-        crates = {'low': [], 'left': ['low'], 'right': ['low'], 'high': ['left', 'right']}
-        left = {'low': 10, 'left': 20, 'right': 50, 'high': 5}
-        self.assertEqual([plan.seconds_left(crates, left, workers) for workers in (1, 2, 64)], [85, 65, 65])
-        del left['low']
-        self.assertEqual(plan.seconds_left(crates, left, 2), 55)
-        self.assertEqual(plan.seconds_left(crates, {}, 2), 0)
-
-    def test_pace(self):
-        """The pace of a build counts more the longer it is known."""
-        planned = {'a': 60, 'b': 6000}
-        self.assertEqual([plan.pace({}, planned), plan.pace({'a': 120}, planned)], [1, 1.5])
-        self.assertAlmostEqual(plan.pace({'a': 120, 'b': 12000}, planned), 2, 1)
-
-    def test_rounded(self):
-        self.assertEqual([plan.words_of(seconds) for seconds in (0, 29, 31, 89, 91, 1800)],
-                         ['less than a minute'] * 2 + ['about 1 minute'] * 2 + ['about 2 minutes', 'about 30 minutes'])
 
 
 if __name__ == '__main__':

@@ -86,7 +86,7 @@ class Release(Packing):
                      for it in ('doomview', 'out/doomview', 'README.md')]
         self.assertEqual(modes, [0o755, 0o755, 0o644])
         self.assertEqual([it for it in PLACES if f'doomview-2.1/{it}' not in names], [])
-        odd = 'pycache|/still(-|$)|source$|tools/(tests|systems)/|portable|build.py|plan.py|weights|/(proofs|out)/.*[.]|crates.txt'
+        odd = 'pycache|/still(-|$)|source$|tools/(tests|systems)/|portable|build.py|/(proofs|out)/.*[.]|crates.txt'
         self.assertEqual([name for name in names if re.search(odd, name)], [])
         with open(path, 'rb') as file:
             before = hashlib.sha256(file.read()).digest()
