@@ -130,7 +130,7 @@ class Names:
         return Source('lump', name, '')
 
 
-def told(record: Record, names: Names) -> str:
+def in_words(record: Record, names: Names) -> str:
     """A record in words: painter, number, source and colour."""
     kind, source_kind, number, source, colour, _ = record
     word, thing = KINDS.get(kind, (f'kind {kind}', 'number'))

@@ -192,7 +192,7 @@ class Views(Shown):
             for _ in range(40):
                 x, y = chance.randrange(320), chance.randrange(200)
                 record = traces.record_at(trace, 0, x, y)
-                said = places.told(view, record, traces.KINDS[record[0]][0]) or traces.told(record, names)
+                said = places.in_words(view, record, traces.KINDS[record[0]][0]) or traces.in_words(record, names)
                 told = self.value(f"crew.some('pixel', {{ row: walker.view.row, spans: 'full', isOpen: false, x: {x}, y: {y} }})")
                 self.assertEqual(told, said, f'{name}: column {x} row {y}')
             self.value('list.files = []; list.changed([]); 0')
