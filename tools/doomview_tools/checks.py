@@ -227,7 +227,7 @@ class Check:
         assert in_front is not None  # the sector of a side with a part
         sector = self.level.sectors[in_front]
         told = f'needs a texture: {part.name}, {part.height} high'
-        if not ground.has_height(sector) and in_front not in self.plan.rising():
+        if not ground.has_height(sector) and in_front not in self.plan.rising_sectors():
             return Finding(ODD, 'texture', self.where(number, part), f'{told}; seen from afar at most, since sector '
                            f'{in_front} in front of it is {sector.ceiling - sector.floor} high')
         if in_front not in self.reached():

@@ -47,7 +47,7 @@ class GameCheck:
 
     def may_enter(self, number: int) -> bool:
         """Whether a player may come into a sector, maybe once it has risen, and has a place there."""
-        has_height = ground.has_height(self.level.sectors[number]) or number in self.plan.rising()
+        has_height = ground.has_height(self.level.sectors[number]) or number in self.plan.rising_sectors()
         return number in self.reached() and has_height and self.place.place_in(number) is not None
 
     def scrolling(self) -> Findings:

@@ -95,20 +95,20 @@ class Plan:
         """Of each line with a sector on both sides that in front, and that behind."""
         return ((front, back) for front, back in self.beside if front is not None and back is not None)
 
-    def tagged(self) -> typing.Set[int]:
+    def tagged_sectors(self) -> typing.Set[int]:
         """The sectors on which a line with a special may act by its tag, or the end of a boss."""
         tags = {line.tag for line in self.level.lines if line.special} - {0} | BOSS_TAGS
         return {number for number, sector in enumerate(self.level.sectors) if sector.tag in tags}
 
-    def rising(self) -> typing.Set[int]:
+    def rising_sectors(self) -> typing.Set[int]:
         """The sectors that may become higher than they are: by their tag, or since they are behind a special."""
-        return self.tagged() | {back for line, (_, back) in zip(self.level.lines, self.beside)
+        return self.tagged_sectors() | {back for line, (_, back) in zip(self.level.lines, self.beside)
                                 if line.special and back is not None}
 
     def doors(self) -> typing.Dict[int, int]:
         """The ceilings that doors have once they are open, by the least one beside each. A door is a shut sector that may
         rise, whose ceiling is no sky."""
-        sectors, rising = self.level.sectors, self.rising()
+        sectors, rising = self.level.sectors, self.rising_sectors()
         least: typing.Dict[int, int] = {}
         for pair in self.neighbours():
             for one, other in (pair, pair[::-1]):

@@ -113,7 +113,7 @@ def row_of(text: str, level: Level) -> Row:
                       'or the line of idmypos') from error
 
 
-def number_told(value: float) -> str:
+def number_in_words(value: float) -> str:
     """A number of map units or degrees, without zeros behind its point."""
     return f'{value:.3f}'.rstrip('0').rstrip('.')
 
@@ -121,7 +121,7 @@ def number_told(value: float) -> str:
 def in_words(row: Row) -> str:
     """A place in words: as in an editor, and as a row of a path."""
     numbers = row.x / UNIT, row.y / UNIT, row.z / UNIT, row.angle * 360 / TURN
-    x, y, eye, angle = map(number_told, numbers)
+    x, y, eye, angle = map(number_in_words, numbers)
     return f'x {x} y {y} eye {eye} angle {angle}, row {",".join(map(str, row[:4]))}'
 
 

@@ -158,7 +158,8 @@ def cells_of(group: Group, made: Made) -> typing.List[str]:
     """The cells of a group in the first table."""
     is_sky = group.sides == 'sky'
     height, light = ('-', '-') if is_sky else (f'{group.key.height:g}', str(group.key.light))
-    return [*map(str, made), '-' if is_sky else group.key.flat, group.sides, height, light, sectors_in_words(group.sectors)]
+    return [*map(str, made), '-' if is_sky else group.key.flat, group.sides, height, light,
+            sectors_in_words(group.sectors)]
 
 
 def table(rows: typing.Sequence[typing.Sequence[str]], is_right: typing.Sequence[bool]) -> typing.Iterator[str]:

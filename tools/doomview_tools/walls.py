@@ -40,7 +40,8 @@ def walls_alone(level: Level) -> bytes:
         if is_one and lines[line][FLAGS] & TWO_SIDED:
             segs[number] = with_value(segs[number], LINE_OF_SEG, copies.setdefault(line, len(lines) + len(copies)))
     lines += [with_value(lines[line], FLAGS, lines[line][FLAGS] & ~TWO_SIDED) for line in copies]
-    sides: typing.List[tuple] = [(*side[:2], NO_TEXTURE, NO_TEXTURE, NO_TEXTURE, side[-1]) for side in level.records('SIDEDEFS')]
+    sides: typing.List[tuple] = [(*side[:2], NO_TEXTURE, NO_TEXTURE, NO_TEXTURE, side[-1])
+                                 for side in level.records('SIDEDEFS')]
     flat = level.sectors[0].floor_flat.encode('latin-1')
     sectors: typing.List[tuple] = [(FLOOR, CEILING, flat, flat, LIGHT, 0, 0)] * len(level.sectors)
     changed: typing.Dict[str, typing.List[tuple]] = {

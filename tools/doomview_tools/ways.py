@@ -272,7 +272,7 @@ def squares_near(box: Box, length: int) -> typing.Iterator[Square]:
 
 def moving_sectors(plan: Plan) -> Sectors:
     """The sectors that may move: by their tag, those that are shut, and what stairs and donuts move without a tag."""
-    found = {number for number, sector in enumerate(plan.level.sectors) if ground.is_shut(sector)} | plan.tagged()
+    found = {number for number, sector in enumerate(plan.level.sectors) if ground.is_shut(sector)} | plan.tagged_sectors()
     return found | steps_of_stairs(plan, tagged_by(plan, STAIRS)) | beside_sectors(plan, tagged_by(plan, DONUT))
 
 

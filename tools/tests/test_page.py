@@ -369,7 +369,7 @@ class Wrong(Shown):
         """A WAD of 600 MB is read piece by piece."""
         path = self.at('large.wad')
         lumps = wads.read(self.room)
-        data = wads.packed(lumps)
+        data = wads.wad_of(lumps)
         place, shift = int.from_bytes(data[8:12], 'little'), 600 << 20
         moved = bytearray(data[:8] + (place + shift).to_bytes(4, 'little'))
         with open(path, 'wb') as file:
