@@ -9,13 +9,12 @@ import typing
 
 from . import ground, levels, program, ways
 from .art import Art, Texture
-from .doom import EVERY_SKILL, LOWER_UNPEGGED, PLACES, PLAYER_1, SKY, SPECTRE, TWO_SIDED, UPPER_UNPEGGED
+from .doom import EVERY_SKILL, FRONT_AND_BACK, LOWER_UNPEGGED, PLACES, PLAYER_1, SKY, SPECTRE, TWO_SIDED, UPPER_UNPEGGED
 from .findings import ERROR, FAULT, HOLE, ODD, Finding, lines, sectors, several, some
 from .game_checks import GameCheck
 
 TALL = 128  # rows of a wall after which its texture begins anew
 PARTS = ('upper', 'lower', 'middle')
-SIDES = ('front', 'back')
 UNDRAWN = {*PLACES, SPECTRE, 87, 89}  # and two of the last boss, which the thing table leaves out
 NO_THING = 0  # a type for which ports place nothing
 
@@ -174,7 +173,7 @@ class Check:
                     if line.sides[which] is not None and self.plan.beside[number][which] is None]
             if lost:
                 yield Finding(ERROR, 'line', self.lines(lost),
-                              f'its {SIDES[which]} side, or the sector of that, is not there')
+                              f'its {FRONT_AND_BACK[which]} side, or the sector of that, is not there')
         for number, line in enumerate(self.level.lines):
             back = self.plan.beside[number][1]
             if line.start == line.end:
@@ -218,7 +217,7 @@ class Check:
                     yield Finding(ODD, 'tutti-frutti', self.where(number, part), runs_out_told(part, texture))
 
     def where(self, number: int, part: Part) -> str:
-        return f'{self.lines([number])} {SIDES[part.side]}'
+        return f'{self.lines([number])} {FRONT_AND_BACK[part.side]}'
 
     def hole(self, number: int, part: Part) -> Finding:
         """The Finding of a part without a texture. One is odd in front of which no player can be, though he may see it

@@ -9,6 +9,7 @@ LAYOUTS = {'THINGS': '<hhhHH', 'LINEDEFS': '<7H', 'SIDEDEFS': '<hh8s8s8sH', 'VER
            'SSECTORS': '<HH', 'NODES': '<12h2H', 'SECTORS': '<hh8s8shhh'}  # of the records of a lump
 LEAF = 0x8000  # the bit of a child of a node that is a leaf
 NO_SIDE = 0xffff  # where a line has no side
+FRONT_AND_BACK = ('front', 'back')  # the sides of a line
 BLOCKS, TWO_SIDED, UPPER_UNPEGGED, LOWER_UNPEGGED = 1, 4, 8, 16  # flags of a line; BLOCKS: nobody passes
 TELEPORTS = {39, 97, 125, 126}  # specials of lines
 EVERY_SKILL = 7  # the bits of a thing's options that say in which skills it is

@@ -9,7 +9,7 @@ import re
 import typing
 
 from . import levels, wads
-from .doom import SKY, TWO_SIDED
+from .doom import FRONT_AND_BACK, SKY, TWO_SIDED
 from .files import check_source
 from .frames import WIDTH
 from .levels import UNIT, Level, Seg, Side
@@ -18,7 +18,6 @@ from .trouble import Trouble
 
 LONGEST = 400  # bytes of a line
 SHOWN_SECTORS = 6
-FRONT_AND_BACK = ('front', 'back')
 
 
 class Fragment(typing.NamedTuple):

@@ -4,9 +4,10 @@ import itertools
 import typing
 
 from . import list_counts, paths
+from .doom import FRONT_AND_BACK
 from .levels import Level
 from .list_counts import Counts
-from .lists import FRONT_AND_BACK, SHOWN_SECTORS, Group, Key, Places, Sums, View, sectors_in_words, some_of
+from .lists import SHOWN_SECTORS, Group, Key, Places, Sums, View, sectors_in_words, some_of
 from .paths import Row
 from .ways import WANTED
 from .what_if import Result

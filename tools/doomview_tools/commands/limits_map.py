@@ -7,7 +7,7 @@ import re
 import tempfile
 import typing
 
-from .. import cli, cli_limits, earlier, ground, levels, paths, system, wads, ways
+from .. import art, cli, cli_limits, earlier, ground, levels, paths, system, wads, ways
 from ..cells import Cell, Grid
 from ..counting import COUNTS, Going, Progress, Runs
 from ..earlier import Change, Numbers
@@ -16,7 +16,6 @@ from ..index_page import index_page
 from ..levels import Level
 from ..limits_page import State, limits_page
 from ..list_counts import Counts
-from ..png import GREYS
 from ..trouble import FOUND, TROUBLE, Trouble
 from ..walls import walls_alone
 
@@ -184,11 +183,6 @@ def file_of(folder: str, name: str, data: bytes) -> str:
     return path
 
 
-def palette_of(files: typing.List[str]) -> bytes:
-    lumps = dict(lump for path in files for lump in wads.read(path))
-    return lumps.get('PLAYPAL', GREYS)[:len(GREYS)]
-
-
 def worst_path(states: typing.List[State], options: argparse.Namespace) -> str:
     """The worst views of all counts as a camera path, each once."""
     rows = [row for state in states for row in state.views(options.views)[0]]
@@ -279,8 +273,9 @@ def look_by(runs: Runs, options: argparse.Namespace) -> typing.Tuple[Numbers, st
     lines = ''.join(f'{line}\n' for line in summary(found))
     runs.going.progress.tell('drawing the worst views')
     if options.page:
-        write_whole(options.page, limits_page(plan, options.files, states, palette_of(options.files), options, doors,
-                                              lines, found.get('before', []), changes))
+        palette = art.palette_of(dict(lump for path in options.files for lump in wads.read(path)))
+        write_whole(options.page, limits_page(plan, options.files, states, palette, options, doors, lines,
+                                              found.get('before', []), changes))
     if options.opened:
         write_whole(options.opened, ground.with_ceilings(plan.level, doors))
     if options.worst:
