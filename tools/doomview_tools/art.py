@@ -2,7 +2,8 @@
 import struct
 import typing
 
-from .doom import SKY
+from .doom import PALETTE_SIZE, SKY
+from .png import GREYS
 from .trouble import WadError
 from .wads import Lump, clean, read
 
@@ -58,6 +59,12 @@ def patch_names(lumps: Lumps) -> typing.List[str]:
     """The names of PNAMES."""
     lump = lumps.get('PNAMES', b'')
     return [clean(name) for name, in struct.iter_unpack('<8s', lump[4:4 + len(lump[4:]) // 8 * 8])]
+
+
+def palette_of(lumps: Lumps) -> bytes:
+    """The first palette of PLAYPAL, or greys where there is none."""
+    palette = lumps.get('PLAYPAL', b'')[:PALETTE_SIZE]
+    return palette if len(palette) == PALETTE_SIZE else GREYS
 
 
 def starts(letter: str) -> typing.Set[str]:

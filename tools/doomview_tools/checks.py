@@ -9,13 +9,12 @@ import typing
 
 from . import ground, levels, program, ways
 from .art import Art, Texture
-from .doom import LOWER_UNPEGGED, PLACES, PLAYER_1, SKY, SPECTRE, TWO_SIDED, UPPER_UNPEGGED
+from .doom import EVERY_SKILL, FRONT_AND_BACK, LOWER_UNPEGGED, PLACES, PLAYER_1, SKY, SPECTRE, TWO_SIDED, UPPER_UNPEGGED
 from .findings import ERROR, FAULT, HOLE, ODD, Finding, lines, sectors, several, some
 from .game_checks import GameCheck
 
 TALL = 128  # rows of a wall after which its texture begins anew
 PARTS = ('upper', 'lower', 'middle')
-SIDES = ('front', 'back')
 UNDRAWN = {*PLACES, SPECTRE, 87, 89}  # and two of the last boss, which the thing table leaves out
 NO_THING = 0  # a type for which ports place nothing
 
@@ -96,10 +95,10 @@ class Check:
     def sides(self, number: int) -> typing.Iterator[Beside]:
         """The sides of a line that are there: which it is, the side, and the sectors in front of it and behind it."""
         line, beside = self.level.lines[number], self.plan.beside[number]
-        for which, side in enumerate(line.sides):
-            if side is not None and beside[which] is not None:
+        for which, (side, in_front) in enumerate(zip(line.sides, beside)):
+            if side is not None and in_front is not None:
                 behind = beside[1 - which] if line.flags & TWO_SIDED else None
-                yield (which, self.level.sides[side], self.level.sectors[beside[which]],
+                yield (which, self.level.sides[side], self.level.sectors[in_front],
                        None if behind is None else self.level.sectors[behind])
 
     def missing(self) -> typing.Dict[str, typing.List[typing.Tuple[int, str]]]:
@@ -174,7 +173,7 @@ class Check:
                     if line.sides[which] is not None and self.plan.beside[number][which] is None]
             if lost:
                 yield Finding(ERROR, 'line', self.lines(lost),
-                              f'its {SIDES[which]} side, or the sector of that, is not there')
+                              f'its {FRONT_AND_BACK[which]} side, or the sector of that, is not there')
         for number, line in enumerate(self.level.lines):
             back = self.plan.beside[number][1]
             if line.start == line.end:
@@ -218,15 +217,16 @@ class Check:
                     yield Finding(ODD, 'tutti-frutti', self.where(number, part), runs_out_told(part, texture))
 
     def where(self, number: int, part: Part) -> str:
-        return f'{self.lines([number])} {SIDES[part.side]}'
+        return f'{self.lines([number])} {FRONT_AND_BACK[part.side]}'
 
     def hole(self, number: int, part: Part) -> Finding:
         """The Finding of a part without a texture. One is odd in front of which no player can be, though he may see it
         from afar."""
         in_front = self.plan.beside[number][part.side]
+        assert in_front is not None  # the sector of a side with a part
         sector = self.level.sectors[in_front]
         told = f'needs a texture: {part.name}, {part.height} high'
-        if not ground.has_height(sector) and in_front not in self.plan.rising():
+        if not ground.has_height(sector) and in_front not in self.plan.rising_sectors():
             return Finding(ODD, 'texture', self.where(number, part), f'{told}; seen from afar at most, since sector '
                            f'{in_front} in front of it is {sector.ceiling - sector.floor} high')
         if in_front not in self.reached():
@@ -289,7 +289,7 @@ class Check:
 
     def unknown_things(self, kind: int, numbers: typing.List[int]) -> Findings:
         """Findings of things of a type that there is not: the original ends where it would place one."""
-        placed = [number for number in numbers if kind != NO_THING and self.level.things[number].options & ways.SKILLS]
+        placed = [number for number in numbers if kind != NO_THING and self.level.things[number].options & EVERY_SKILL]
         at = [f'{self.level.things[number].x}, {self.level.things[number].y}' for number in numbers[:1]]
         where = several('thing', placed or numbers)
         if placed:
@@ -308,7 +308,7 @@ class Check:
             if front == back:
                 tricks.update(vertexes)
             else:
-                ends.update((sector, vertex) for sector in {front, back} - {None} for vertex in vertexes)
+                ends.update((sector, vertex) for sector in {front, back} if sector is not None for vertex in vertexes)
         found = collections.defaultdict(list)
         for (sector, vertex), count in ends.items():
             if count % 2 and vertex not in tricks:

@@ -43,28 +43,52 @@ def columns() -> int:
 
 
 class Formatter(argparse.RawDescriptionHelpFormatter):
-    def __init__(self, prog: str):
+    def __init__(self, prog: str) -> None:
         super().__init__(prog, max_help_position=26, width=columns())
 
 
-class Parser(argparse.ArgumentParser):
-    """The words of a tool or a job. All help pages have the same parts in the same order."""
+class Argument(typing.NamedTuple):
+    """A word or an option of a tool: the names of an option, none of a plain word; its value as a help page has it; how
+    many values there are, as argparse says it; and whether it has to be there."""
 
-    def __init__(self, page: Page):
+    names: typing.Sequence[str]
+    value: str
+    many: typing.Union[int, str, None]
+    is_needed: bool
+
+    @property
+    def form(self) -> str:
+        """How it is written."""
+        form = ' '.join(filter(None, [*self.names[:1], self.value])) + ('..' if self.many in ('*', '+') else '')
+        is_optional = not self.is_needed if self.names else self.many in ('*', '?')
+        return f'[{form}]' if is_optional else form
+
+
+class Parser(argparse.ArgumentParser):
+    """The words of a tool or a job, which `arguments` keeps. All help pages have the same parts in the same order."""
+
+    def __init__(self, page: Page) -> None:
         super().__init__(prog=f'doomview {page.name}', description=filled_paragraphs(page.text),
                          epilog=last_parts(page), add_help=False, allow_abbrev=False, formatter_class=Formatter)
         self.page = page
-        self._positionals.title, self._optionals.title = 'Words', 'Options'
+        self.arguments: typing.List[Argument] = []
+        self.plain, self.options = (self.add_argument_group(title) for title in ('Words', 'Options'))
+
+    def add_argument(self, *names: str, **more: typing.Any) -> argparse.Action:  # type: ignore[override]
+        action = (self.options if names[0].startswith('-') else self.plain).add_argument(*names, **more)
+        self.arguments.append(Argument(action.option_strings, str(action.metavar or ''), action.nargs, action.required))
+        return action
 
     def error(self, message: str) -> typing.NoReturn:
         wrong = message.startswith('unrecognized arguments: ') and message.split()[2].partition('=')[0]
-        near = jobs.guess(wrong, self._option_string_actions) if wrong and wrong.startswith('--') else ''
+        names = [name for argument in self.arguments for name in argument.names]
+        near = jobs.guess(wrong, names) if wrong and wrong.startswith('--') else ''
         raise Trouble(f'{message.replace("argument ", "")}{near}; {self.prog} --help shows its words')
 
     def format_usage(self) -> str:
         """All words, the positional ones first."""
-        plain = [form_of(action) for action in self._actions if not action.option_strings]
-        options = [form_of(action) for action in self._actions if action.option_strings and action.dest != 'help']
+        plain = [argument.form for argument in self.arguments if not argument.names]
+        options = [argument.form for argument in self.arguments if argument.names and HELP.isdisjoint(argument.names)]
         forms = self.page.usage or [' '.join(form.replace(' ', UNBROKEN) for form in plain + options)]
         text = ''.join(textwrap.fill(f'{self.prog} {form}', columns(), initial_indent='       ' if i else 'usage: ',
                                      subsequent_indent=' ' * 9, break_on_hyphens=False) + '\n'
@@ -73,7 +97,7 @@ class Parser(argparse.ArgumentParser):
 
     def parse(self, words: typing.List[str]) -> argparse.Namespace:
         """What the words give. Options may stand between plain words, but for a tool that takes the rest of its words."""
-        takes_rest = any(action.nargs == argparse.REMAINDER for action in self._actions)
+        takes_rest = any(argument.many == argparse.REMAINDER for argument in self.arguments)
         if HELP & {*(words[:1] if takes_rest else words)}:
             self.print_help()
             raise SystemExit(0)
@@ -84,15 +108,6 @@ class Parser(argparse.ArgumentParser):
     def format_help(self) -> str:
         self.usage = argparse.SUPPRESS
         return f'{self.format_usage()}\n{super().format_help()}'
-
-
-def form_of(action: argparse.Action) -> str:
-    """How a word or an option is written."""
-    many, metavar = '..' if action.nargs in ('*', '+') else '', str(action.metavar or '')
-    if action.option_strings:
-        form = ' '.join(filter(None, [action.option_strings[0], metavar])) + many
-        return form if action.required else f'[{form}]'
-    return f'[{metavar}{many}]' if action.nargs in ('*', '?') else metavar + many
 
 
 def filled_paragraphs(text: str) -> str:
@@ -151,7 +166,7 @@ def number(least: int, greatest: int) -> typing.Callable[[str], int]:
 
 def forms_of(tool: types.ModuleType) -> typing.List[str]:
     """A tool with its plain words and those that it needs, once for each way of calling it."""
-    needed = [form_of(action) for action in parser_of(tool)._actions if not action.option_strings or action.required]
+    needed = [argument.form for argument in parser_of(tool).arguments if not argument.names or argument.is_needed]
     return [f'{tool.PAGE.name} {form}' for form in tool.PAGE.forms] or [' '.join([tool.PAGE.name, *needed])]
 
 

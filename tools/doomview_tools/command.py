@@ -108,7 +108,7 @@ def limits_with_places(words: typing.List[str]) -> int:
         say_why(done, words)
         return done.status
     lines = zip(done.output.decode().splitlines(), paths.rows(given.value('--path') or ''))
-    write_output(''.join(f'{line}; {paths.told(row)}\n' for line, row in lines), given.output)
+    write_output(''.join(f'{line}; {paths.in_words(row)}\n' for line, row in lines), given.output)
     return 0
 
 

@@ -1,5 +1,6 @@
 """Runs of jobs over many rows of a path, several at a time: what `limits` counts of each, frames and traces."""
 import contextlib
+import itertools
 import os
 import signal
 import subprocess
@@ -7,143 +8,177 @@ import sys
 import typing
 
 from . import list_counts, paths, program, system
+from .doom import LIMITS
 from .explanations import explained
 from .files import write_whole
-from .trouble import Ended
+from .jobs import LIMIT, USAGE
+from .list_counts import Counts
+from .paths import Row
+from .trouble import TROUBLE, Ended
 
-COUNTS = ['planes', 'openings', 'fragments', 'sprites', 'solids']
-LIMITS = {'planes': 128, 'openings': 20480, 'fragments': 256, 'sprites': 128, 'solids': 32}  # of the original
-CAPPED = {'fragments': 256, 'sprites': 128}  # which `limits` counts no further
+COUNTS = list(LIMITS)
+CAPPED = {name: LIMITS[name] for name in ('fragments', 'sprites')}  # which `limits` counts no further
 RAISED = ['--planes', '1024', '--openings', '245760']  # so that what is over the original's limit is counted too
 LEAST_ROWS, PARTS = 400, 3  # rows of a run, and runs for each processor, so that all end at about the same time
 MOST_LISTED = 2000  # rows of a run of `list`, which writes some 10 KB for each
-USAGE, TROUBLE, LIMIT = 1, 2, 5  # statuses
 ENDING = system.signals('SIGINT', 'SIGTERM', 'SIGHUP')
+ROWS, OUTPUT, SAID = '.csv', '.out', '.err'  # the files of a run
 
 
 @contextlib.contextmanager
-def held_signals():
+def held_signals() -> typing.Iterator[None]:
     """Lets a signal that ends this process wait for the end of a block."""
-    came = []
+    came: typing.List[int] = []
     kept = {number: signal.signal(number, lambda number, _: came.append(number)) for number in ENDING}
     try:
         yield
     finally:
         for number, handler in kept.items():
             signal.signal(number, handler)
-        for number in came:
-            signal.raise_signal(number)
+        for one in came:
+            signal.raise_signal(one)
 
 
 class Progress:
     """A line on a terminal that says how far the work is."""
 
-    def __init__(self, tool):
+    def __init__(self, tool: str) -> None:
         self.head, self.is_shown = f'doomview {tool}: ', sys.stderr.isatty()
 
-    def tell(self, text):
+    def tell(self, text: str) -> None:
         if self.is_shown:
             print(f'\r\033[K{self.head}{text}', end='', file=sys.stderr, flush=True)
 
-    def clear(self):
+    def clear(self) -> None:
         if self.is_shown:
             print('\r\033[K', end='', file=sys.stderr, flush=True)
 
 
+class Started(typing.NamedTuple):
+    """A run that goes on: its job, its process, and the path of its files without their endings."""
+
+    job: str
+    process: subprocess.Popen
+    base: str
+
+
+class Going:
+    """The runs of the program that go on, with their files in a folder; `jobs` of them at a time."""
+
+    def __init__(self, folder: str, jobs: int, progress: Progress) -> None:
+        self.folder, self.jobs, self.progress = folder, jobs, progress
+        self.program = program.ready()
+        self.processes: typing.List[subprocess.Popen] = []
+        self.numbers = itertools.count(1)
+
+    def start(self, job: str, words: typing.List[str], rows: typing.Sequence[Row]) -> Started:
+        """Starts a job over rows."""
+        base = os.path.join(self.folder, str(next(self.numbers)))
+        write_whole(base + ROWS, paths.text(rows).encode())
+        with open(base + OUTPUT, 'wb') as out, open(base + SAID, 'wb') as said, held_signals():
+            process = subprocess.Popen([self.program, job, *words, '--path', base + ROWS], stdout=out, stderr=said,
+                                       stdin=subprocess.DEVNULL, env=program.environment())
+            self.processes.append(process)
+        return Started(job, process, base)
+
+    def end(self, run: Started) -> program.Run:
+        """How a run ended, which is waited for."""
+        run.process.wait()
+        self.processes.remove(run.process)
+        return program.ended(run.process.returncode, *(bytes_of(run.base + ending) for ending in (OUTPUT, SAID)))
+
+    def stop(self) -> None:
+        """Ends the runs that go on."""
+        for process in self.processes:
+            process.kill()
+            process.wait()
+        self.processes.clear()
+
+
 class Runs:
-    """Runs of the program over one map, with files in a folder. `words` are the options that each of them takes."""
+    """Runs of the program over one map. `words` are those of a user behind the job, and `completed` these as the program
+    takes them; `going` may be shared with other runs."""
 
-    def __init__(self, name: str, wads: list[str], words: list[str], folder: str, jobs: int, progress: Progress) -> None:
-        self.words = [name, *wads, *RAISED, *words]
-        self.given = program.completed(['limits', *self.words])[1:]
-        self.program, self.folder, self.jobs, self.progress = program.ready(), folder, jobs, progress
-        self.runs, self.made = [], 0  # those that go on, shared with `over`
+    def __init__(self, words: typing.List[str], completed: typing.List[str], going: Going) -> None:
+        self.words, self.completed, self.going = words, completed, going
 
-    def over(self, wads: list[str], added: str):
+    @classmethod
+    def over_map(cls, name: str, wads: typing.Sequence[str], options: typing.Sequence[str], going: Going) -> 'Runs':
+        """The runs over a map of WADs, with options that each of them takes."""
+        words = [name, *wads, *RAISED, *options]
+        return cls(words, program.completed(['limits', *words])[1:], going)
+
+    def over(self, wads: typing.Sequence[str], added: str) -> 'Runs':
         """The same with one WAD more behind its WADs."""
-        other = Runs.__new__(Runs)
-        other.__dict__.update(self.__dict__)
-        at = self.given.index(wads[-1]) + 1
-        other.given = self.given[:at] + [added] + self.given[at:]
-        return other
+        at = self.completed.index(wads[-1]) + 1
+        return Runs(self.words, self.completed[:at] + [added] + self.completed[at:], self.going)
 
-    def start(self, job, rows):
-        """Starts a job over rows, and gives its run with the path of its output."""
-        self.made += 1
-        base = os.path.join(self.folder, f'{id(self)}.{self.made}')
-        write_whole(base + '.csv', paths.text(rows).encode())
-        with open(base + '.out', 'wb') as out, open(base + '.err', 'wb') as err, held_signals():
-            run = subprocess.Popen([self.program, job, *self.given, '--path', base + '.csv'], stdout=out, stderr=err,
-                                   stdin=subprocess.DEVNULL, env=program.environment())
-            self.runs.append(run)
-        return run, base
+    def start(self, job: str, rows: typing.Sequence[Row]) -> Started:
+        """Starts a job over rows."""
+        return self.going.start(job, self.completed, rows)
 
-    def ended(self, run, base, job):
+    def output_of(self, run: Started) -> bytes:
         """The output of a run; a Trouble that is told already where it failed."""
-        run.wait()
-        self.runs.remove(run)
-        done = program.ended(run.returncode, *(read(base + ending) for ending in ('.out', '.err')))
+        done = self.going.end(run)
         if done.status not in (0, LIMIT):
-            self.progress.clear()
-            trouble = explained([job, *self.words, '--path', base + '.csv'], done)
+            self.going.progress.clear()
+            trouble = explained([run.job, *self.words, '--path', run.base + ROWS], done)
             raise Ended(TROUBLE if trouble.status == USAGE else trouble.status)
-        for ending in ('.csv', '.out', '.err'):
-            os.remove(base + ending)
+        for ending in (ROWS, OUTPUT, SAID):
+            os.remove(run.base + ending)
         return done.output
 
-    def outputs(self, job, rows, what=''):
+    def outputs(self, job: str, rows: typing.Sequence[Row], what: str = '') -> typing.Iterator[bytes]:
         """What a job writes of rows, in parts, several runs at a time; none goes on where this ends early."""
-        size = max(LEAST_ROWS, -(-len(rows) // (PARTS * self.jobs)))
+        jobs = self.going.jobs
+        size = max(LEAST_ROWS, -(-len(rows) // (PARTS * jobs)))
         size = min(size, MOST_LISTED if job == 'list' else paths.MOST_ROWS)
         parts, done = [rows[i:i + size] for i in range(0, len(rows), size)], 0
-        started = []
+        started: typing.List[Started] = []
         try:
             for number in range(len(parts)):
-                while len(started) < min(len(parts), number + self.jobs):
+                while len(started) < min(len(parts), number + jobs):
                     started.append(self.start(job, parts[len(started)]))
-                self.progress.tell(f'{what}{done:,} of {len(rows):,} views')
-                yield self.ended(*started[number], job)
+                self.going.progress.tell(f'{what}{done:,} of {len(rows):,} views')
+                yield self.output_of(started[number])
                 done += len(parts[number])
         finally:
             self.stop()
 
     def stop(self) -> None:
         """Ends the runs that go on."""
-        for run in self.runs:
-            run.kill()
-            run.wait()
-        self.runs.clear()
+        self.going.stop()
 
     def check(self) -> None:
         """Ends with doomview's refusal, in words, where the map has one."""
         self.counts([], 'reading')
 
-    def counts(self, rows: list[paths.Row], what: str = '') -> list[dict]:
+    def counts(self, rows: typing.Sequence[Row], what: str = '') -> typing.List[Counts]:
         """The counts of each row by name as `limits` has them; of a view that is over a raised limit that count alone."""
-        outputs = self.outputs('limits', rows, what) if rows else [self.ended(*self.start('limits', []), 'limits')]
+        outputs = self.outputs('limits', rows, what) if rows else [self.output_of(self.start('limits', []))]
         return [counts_of(line) for output in outputs for line in output.decode().splitlines()]
 
-    def listed(self, rows: list[paths.Row], what: str = '') -> typing.Iterator[dict]:
+    def counts_by_list(self, rows: typing.Sequence[Row], what: str = '') -> typing.Iterator[Counts]:
         """The counts of each row by name, by what `list` says, without solid ranges."""
         for output in self.outputs('list', rows, what) if rows else ():
             yield from list_counts.counts_of(output)
 
-    def ranges(self, rows: list[paths.Row], what: str = '') -> typing.Iterator[int]:
+    def ranges(self, rows: typing.Sequence[Row], what: str = '') -> typing.Iterator[int]:
         """The most solid ranges of each row, of runs over a map of the solid walls alone."""
         for output in self.outputs('list', rows, what) if rows else ():
             yield from list_counts.ranges_of(output)
 
-    def drawn(self, job: str, rows: list[paths.Row], size: int) -> list[bytes | None]:
+    def views(self, job: str, rows: typing.Sequence[Row], size: int) -> typing.List[typing.Optional[bytes]]:
         """The frame or the trace of each row; None for a view that passes even the raised limits."""
-        found = []
+        found: typing.List[typing.Optional[bytes]] = []
         while len(found) < len(rows):
-            data = self.ended(*self.start(job, rows[len(found):]), job)
+            data = self.output_of(self.start(job, rows[len(found):]))
             found += [data[i:i + size] for i in range(0, len(data), size)]
             found += [None] if len(found) < len(rows) else []
         return found
 
 
-def counts_of(line):
+def counts_of(line: str) -> Counts:
     """The counts in a line of `limits`."""
     words = line.split()
     if words[2] == 'over':
@@ -151,6 +186,6 @@ def counts_of(line):
     return {name: int(count) for name, count in zip(words[2::2], words[3::2])}
 
 
-def read(path):
+def bytes_of(path: str) -> bytes:
     with open(path, 'rb') as file:
         return file.read()

@@ -53,7 +53,7 @@ def on_read_fault(words: Words) -> typing.List[str]:
 def place_of(words: Words, view: int) -> str:
     """Where a view of the path of a call is, in both forms, in brackets; an empty text where the path cannot tell."""
     try:
-        return f' ({paths.told(paths.rows(words.value("--path") or "")[view])})'
+        return f' ({paths.in_words(paths.rows(words.value("--path") or "")[view])})'
     except (Trouble, IndexError):
         return ''
 

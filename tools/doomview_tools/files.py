@@ -84,7 +84,7 @@ class WholeFile:
             if os.path.lexists(self.part_path):
                 os.remove(self.part_path)
         if isinstance(error, OSError):
-            raise Trouble(f'cannot write {self.named}: {error.strerror}', self.status)
+            raise Trouble(f'cannot write {self.named}: {error.strerror}', self.status) from error
 
 
 def write_whole(path: str, data: bytes) -> None:

@@ -8,7 +8,7 @@ from .trouble import Trouble
 WIDTH, HEIGHT = 320, 200
 SIZE = WIDTH * HEIGHT
 ROWS_ABOVE_BAR = 168
-PPM_HEAD = b'P6\n320 200\n255\n'
+PPM_HEAD = b'P6\n%d %d\n255\n' % (WIDTH, HEIGHT)
 NONZERO = re.compile(b'[^\\0]')
 
 

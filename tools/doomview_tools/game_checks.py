@@ -4,7 +4,8 @@ What the game does while it runs, such as how many lifts, crushers or buttons mo
 import collections
 import typing
 
-from . import ground, ways
+from . import ground
+from .doom import DESTINATION, TELEPORTS
 from .findings import ERROR, FAULT, ODD, Finding, lines, sectors
 from .levels import Level, Line
 
@@ -12,7 +13,6 @@ Findings = typing.Iterator[Finding]
 # Specials of the original, by what they need.
 DOORS = {1, 26, 27, 28, 31, 32, 33, 34, 117, 118}  # of lines: open the sector behind the line
 SCROLLS = 48
-TELEPORTS = {39, 97, 125, 126}
 WITHOUT_TAG = {*DOORS, SCROLLS, 11, 51, 52, 124, 78, 85}  # exits, and two that there are not
 TAGGED = set(range(2, 142)) - WITHOUT_TAG
 OF_SECTORS = {*range(6), *range(7, 15), 16, 17}
@@ -47,7 +47,7 @@ class GameCheck:
 
     def may_enter(self, number: int) -> bool:
         """Whether a player may come into a sector, maybe once it has risen, and has a place there."""
-        has_height = ground.has_height(self.level.sectors[number]) or number in self.plan.rising()
+        has_height = ground.has_height(self.level.sectors[number]) or number in self.plan.rising_sectors()
         return number in self.reached() and has_height and self.place.place_in(number) is not None
 
     def scrolling(self) -> Findings:
@@ -74,14 +74,14 @@ class GameCheck:
     def teleports(self) -> Findings:
         tags = {sector.tag for sector in self.level.sectors}
         ends = {self.level.sectors[self.level.sector_at(thing.x, thing.y)].tag for thing in self.level.things
-                if thing.type == ways.DESTINATION}
+                if thing.type == DESTINATION}
         found = collections.defaultdict(list)
         for number in self.lines_of(lambda _, line: line.special in TELEPORTS and line.tag in tags - ends):
             found[self.level.lines[number].tag].append(number)
         for tag, numbers in sorted(found.items()):
             if tag:
                 yield Finding(FAULT, 'teleport', lines(numbers, self.level), f'leads to tag {tag}, and no sector of '
-                              f'that has a destination (thing of type {ways.DESTINATION})')
+                              f'that has a destination (thing of type {DESTINATION})')
 
     def tables(self) -> Findings:
         """What is wrong with REJECT and BLOCKMAP, which doomview does not need."""

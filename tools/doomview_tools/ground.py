@@ -4,66 +4,78 @@ A row is a y between two whole numbers, so that no vertex lies on it."""
 import bisect
 import collections
 import struct
+import typing
 
-from .wads import MAP_LUMPS, packed
+from .doom import BLOCKS, LAYOUTS, SKY
+from .levels import Level, Sector, Vertex, alone
 
 HEIGHT, RADIUS, STEP_UP = 56, 16, 24  # of a player, in map units
-STARTS = {1, 2, 3, 4, 11}  # types of things: of players, and of a deathmatch
 BOSS_TAGS = {666, 667}
-BLOCKS, TWO_SIDED = 1, 4  # flags of a line: nobody passes; there is a sector behind it
-SKY = 'F_SKY1'
 LINTEL = 4  # what a door that is open keeps of its height below the ceiling beside it
 SQUARE, BAND = 128, 16
 STEPS = (64, 32, 16, 8)  # of grids on which a place in a sector is looked for
-SECTOR = struct.Struct('<hh8s8shhh')
 
-Crossing = collections.namedtuple('Crossing', 'x left right line')  # the sectors beside it, or None
+Box = typing.Tuple[int, int, int, int]  # x and y of the low corner, and of the high one
+Beside = typing.Tuple[typing.Optional[int], typing.Optional[int]]  # the sectors in front of a line and behind it, or None
+Square = typing.Tuple[int, int]
+
+
+class Crossing(typing.NamedTuple):
+    """Where a line crosses a row: its x, the sectors to the left and the right of it, or None, and the line."""
+
+    x: float
+    left: typing.Optional[int]
+    right: typing.Optional[int]
+    line: int
 
 
 class Plan:
     """A level with what its lines say: the sectors beside each, by their numbers, or None."""
 
-    def __init__(self, level) -> None:
+    def __init__(self, level: Level) -> None:
         self.level = level
         for number, line in enumerate(level.lines):
             if max(line.start, line.end) >= len(level.vertexes):
                 raise level.error(f'is damaged: a vertex of line {number} is not there')
-        self.beside = [tuple(map(self.sector_of_side, line[5:])) for line in level.lines]
-        self.lines_of = collections.defaultdict(list)
+        self.beside: typing.List[Beside] = [(self.sector_of_side(line.front), self.sector_of_side(line.back))
+                                            for line in level.lines]
+        self.lines_of: typing.Dict[int, typing.List[int]] = collections.defaultdict(list)
         for number, pair in enumerate(self.beside):
-            for sector in set(pair) - {None}:
-                self.lines_of[sector].append(number)
-        self.bands = collections.defaultdict(list)
-        for number, line in enumerate(level.lines):
-            low, high = sorted(level.vertexes[end].y for end in line[:2])
+            for sector in set(pair):
+                if sector is not None:
+                    self.lines_of[sector].append(number)
+        self.bands: typing.Dict[int, typing.List[int]] = collections.defaultdict(list)
+        for number in range(len(level.lines)):
+            low, high = sorted(vertex.y for vertex in self.ends(number))
             for band in range(low // BAND, high // BAND + 1):
                 self.bands[band].append(number)
 
-    def sector_of_side(self, side):
+    def sector_of_side(self, side: typing.Optional[int]) -> typing.Optional[int]:
         if side is None or side >= len(self.level.sides):
             return None
         sector = self.level.sides[side].sector
         return sector if sector < len(self.level.sectors) else None
 
-    def ends(self, number: int) -> list:
+    def ends(self, number: int) -> typing.Tuple[Vertex, Vertex]:
         """Both ends of a line."""
-        return [self.level.vertexes[end] for end in self.level.lines[number][:2]]
+        line = self.level.lines[number]
+        return self.level.vertexes[line.start], self.level.vertexes[line.end]
 
-    def box(self) -> tuple[int, int, int, int]:
-        """The least box of all lines: x and y of its corners, the low one first."""
+    def box(self) -> Box:
+        """The least box of all lines."""
         if not self.level.lines:
             raise self.level.error('has no lines')
         return self.box_around(range(len(self.level.lines)))
 
-    def box_of(self, sector: int) -> tuple[int, int, int, int]:
+    def box_of(self, sector: int) -> Box:
         """The least box of the lines of a sector."""
         return self.box_around(self.lines_of[sector])
 
-    def box_around(self, numbers):
+    def box_around(self, numbers: typing.Iterable[int]) -> Box:
         xs, ys = zip(*(vertex for number in numbers for vertex in self.ends(number)))
         return min(xs), min(ys), max(xs), max(ys)
 
-    def crossings(self, y: float) -> list[Crossing]:
+    def crossings(self, y: float) -> typing.List[Crossing]:
         """Where lines cross a row, from left to right."""
         found = []
         for number in self.bands.get(int(y // BAND), ()):
@@ -73,75 +85,81 @@ class Plan:
             front, back = self.beside[number]
             left, right = (back, front) if y2 > y1 else (front, back)
             found.append(Crossing(x1 + (x2 - x1) * (y - y1) / (y2 - y1), left, right, number))
-        return sorted(found, key=lambda it: it.x)
+        return sorted(found, key=lambda crossing: crossing.x)
 
     def is_wall(self, number: int) -> bool:
         """Whether a player cannot pass a line, whatever moves beside it."""
         return None in self.beside[number] or bool(self.level.lines[number].flags & BLOCKS)
 
-    def tagged(self) -> set[int]:
+    def neighbours(self) -> typing.Iterator[typing.Tuple[int, int]]:
+        """Of each line with a sector on both sides that in front, and that behind."""
+        return ((front, back) for front, back in self.beside if front is not None and back is not None)
+
+    def tagged_sectors(self) -> typing.Set[int]:
         """The sectors on which a line with a special may act by its tag, or the end of a boss."""
         tags = {line.tag for line in self.level.lines if line.special} - {0} | BOSS_TAGS
         return {number for number, sector in enumerate(self.level.sectors) if sector.tag in tags}
 
-    def rising(self):
+    def rising_sectors(self) -> typing.Set[int]:
         """The sectors that may become higher than they are: by their tag, or since they are behind a special."""
-        return self.tagged() | {self.beside[number][1] for number, line in enumerate(self.level.lines) if line.special}
+        return self.tagged_sectors() | {back for line, (_, back) in zip(self.level.lines, self.beside)
+                                if line.special and back is not None}
 
-    def doors(self) -> dict[int, int]:
+    def doors(self) -> typing.Dict[int, int]:
         """The ceilings that doors have once they are open, by the least one beside each. A door is a shut sector that may
         rise, whose ceiling is no sky."""
-        sectors, least, rising = self.level.sectors, {}, self.rising()
-        for pair in self.beside:
+        sectors, rising = self.level.sectors, self.rising_sectors()
+        least: typing.Dict[int, int] = {}
+        for pair in self.neighbours():
             for one, other in (pair, pair[::-1]):
-                if None not in pair and is_shut(sectors[one]) and not is_shut(sectors[other]):
+                if is_shut(sectors[one]) and not is_shut(sectors[other]):
                     least[one] = min(least.get(one, sectors[other].ceiling), sectors[other].ceiling)
         return {number: ceiling - LINTEL for number, ceiling in least.items()
                 if number in rising and sectors[number].ceiling_flat != SKY and ceiling - LINTEL > sectors[number].floor}
 
 
-def is_shut(sector) -> bool:
+def is_shut(sector: Sector) -> bool:
     return sector.ceiling <= sector.floor
 
 
-def has_height(sector) -> bool:
+def has_height(sector: Sector) -> bool:
     """Whether a player can stand in a sector."""
     return sector.ceiling - sector.floor >= HEIGHT
 
 
-def is_step(one, other) -> bool:
+def is_step(one: Sector, other: Sector) -> bool:
     """Whether a player may step from one sector into another."""
     return (other.floor - one.floor <= STEP_UP
             and min(one.ceiling, other.ceiling) - max(one.floor, other.floor) >= HEIGHT)
 
 
-def with_ceilings(level, ceilings: dict[int, int]) -> bytes:
+def with_ceilings(level: Level, ceilings: typing.Mapping[int, int]) -> bytes:
     """A WAD of the level alone, in which some sectors have other ceilings."""
-    lumps, data = dict(level.lumps), bytearray(level.lumps['SECTORS'])
+    data = bytearray(level.lumps['SECTORS'])
     for sector, ceiling in ceilings.items():
-        struct.pack_into('<h', data, SECTOR.size * sector + 2, ceiling)
-    lumps['SECTORS'] = bytes(data)
-    return packed([(level.name, b'')] + [(name, lumps[name]) for name in MAP_LUMPS], b'PWAD')
+        struct.pack_into('<h', data, struct.calcsize(LAYOUTS['SECTORS']) * sector + 2, ceiling)
+    return alone(level, {'SECTORS': bytes(data)})
 
 
 class Walls:
-    """The lines that stop a player, by the squares that they come near to."""
+    """The lines that stop a player, by the squares that they come near to: of each its start, and the way to its end."""
 
-    def __init__(self, plan):
-        self.squares = collections.defaultdict(list)
+    def __init__(self, plan: Plan) -> None:
+        self.squares: typing.Dict[Square, typing.List[Box]] = collections.defaultdict(list)
         for number in filter(plan.is_wall, range(len(plan.level.lines))):
             (x1, y1), (x2, y2) = plan.ends(number)
             for i in squares(x1, x2):
                 for j in squares(y1, y2):
                     self.squares[i, j].append((x1, y1, x2 - x1, y2 - y1))
 
-    def is_near(self, x, y):
+    def is_near(self, x: float, y: float) -> bool:
         """Whether a player at a place would stand in a wall."""
         return any(distance(x - x1, y - y1, dx, dy) < RADIUS * RADIUS
                    for x1, y1, dx, dy in self.squares.get((int(x // SQUARE), int(y // SQUARE)), ()))
 
 
-def squares(one, other):
+def squares(one: int, other: int) -> range:
+    """The squares along an axis that a line comes near to, by the places of its ends there."""
     low, high = sorted((one, other))
     return range((low - RADIUS) // SQUARE, (high + RADIUS) // SQUARE + 1)
 
@@ -157,10 +175,12 @@ class Ground:
     """The places of a level at which a player can stand."""
 
     def __init__(self, plan: Plan) -> None:
-        self.plan, self.walls, self.rows = plan, Walls(plan), {}
-        self.doubts = collections.Counter()  # pairs of lines that face each other, and have other sectors
+        self.plan, self.walls = plan, Walls(plan)
+        self.rows: typing.Dict[float, typing.Tuple[typing.List[Crossing], typing.List[float]]] = {}
+        # Pairs of lines that face each other, and have other sectors.
+        self.doubts: typing.Counter[typing.Tuple[int, int]] = collections.Counter()
 
-    def row(self, y):
+    def row(self, y: float) -> typing.Tuple[typing.List[Crossing], typing.List[float]]:
         """The crossings of a row, and their x."""
         if y not in self.rows:
             row = self.plan.crossings(y)
@@ -175,21 +195,21 @@ class Ground:
             return True
         left, right = row[place - 1], row[place]
         if left.right != right.left:
-            self.doubts[tuple(sorted((left.line, right.line)))] += 1
+            self.doubts[min(left.line, right.line), max(left.line, right.line)] += 1
         return left.right is None or right.left is None
 
-    def sector_at(self, x: float, y: float) -> int | None:
+    def sector_at(self, x: float, y: float) -> typing.Optional[int]:
         """The sector at a place at which a player has room, or None."""
         number = self.sector_off_walls(x, y)
         return number if number is not None and has_height(self.plan.level.sectors[number]) else None
 
-    def sector_off_walls(self, x, y):
+    def sector_off_walls(self, x: float, y: float) -> typing.Optional[int]:
         """The sector at a place that no wall is near to, or None."""
         if self.is_void(x, y) or self.walls.is_near(x, y):
             return None
         return self.plan.level.sector_at(x, y)
 
-    def place_in(self, number: int) -> tuple[int, float, int] | None:
+    def place_in(self, number: int) -> typing.Optional[typing.Tuple[int, float, int]]:
         """A place of a sector that no wall is near to, with the step of the grid on which it was found; None if a grid
         of 8 units has none."""
         low_x, low_y, high_x, high_y = self.plan.box_of(number)

@@ -8,7 +8,7 @@ import typing
 
 from .doom import BUILT_LUMPS, LAYOUTS, LEAF, MAP_LUMPS, NO_SIDE, PLAYER_1, TABLES
 from .trouble import WadError
-from .wads import BEHIND_MAP, Lump, clean, map_labels, read as read_wad
+from .wads import BEHIND_MAP, Lump, clean, map_labels, read as read_wad, wad_of
 
 UNIT = 1 << 16  # a map unit in 16.16
 TURN = 1 << 32  # a whole turn as an angle
@@ -229,6 +229,12 @@ class Level:
         if not starts:
             raise self.error('has no player start (thing of type 1)')
         return starts[-1]
+
+
+def alone(level: Level, changed: typing.Mapping[str, bytes]) -> bytes:
+    """The bytes of a PWAD of a level alone, in which some lumps have other bytes."""
+    lumps = {**level.lumps, **changed}
+    return wad_of([(level.name, b''), *((name, lumps[name]) for name in MAP_LUMPS)], b'PWAD')
 
 
 def is_behind(node: Node, x: float, y: float) -> bool:

@@ -6,29 +6,32 @@ alone (`walls`) has them in order."""
 import re
 import typing
 
+from .frames import WIDTH
+
 LAST = re.compile(rb'view \d+ (?:fragments \d+ of (?P<fragments>\d+) planes (?P<planes>\d+) openings (?P<openings>\d+) '
                   rb'sprites \d+ of (?P<sprites>\d+)|over (?P<over>planes|openings) (?P<count>\d+))\n')
 NO_NUMBERS = bytes(code for code in range(256) if code not in b'0123456789 \n')  # what is in no number, and between none
 FIELDS = [slice(place, None, 5) for place in (2, 3, 4)]  # of the numbers in lines of fragments: the seg, and its columns
 EDGES = 2  # ranges at the edges of a view, which are there from the beginning
-COLUMNS = 320
-COLUMN = {b'%d' % column: column for column in range(COLUMNS)}  # by its digits
-FILLED = [bytes((1,)) * width for width in range(COLUMNS + 1)]
+COLUMN = {b'%d' % column: column for column in range(WIDTH)}  # by its digits
+FILLED = [bytes((1,)) * width for width in range(WIDTH + 1)]
 NEARLY = 7, 8  # the part of a view's bytes after which its end is looked for: most are about as long as the one before
 
+Counts = typing.Dict[str, int]  # of a view, by name
+Wall = typing.List[typing.Tuple[int, int]]  # of each fragment its first and its last column, from left to right
 
-def most_ranges(walls) -> int:
-    """The most solid ranges at a time in a view, by its solid walls in order: of each the first and last columns of its
-    fragments, from left to right."""
+
+def most_ranges(walls: typing.Iterable[Wall]) -> int:
+    """The most solid ranges at a time in a view, by its solid walls in order."""
     return max(range_counts(walls), default=EDGES)
 
 
-def range_counts(walls: typing.Iterable) -> typing.Iterator[int]:
+def range_counts(walls: typing.Iterable[Wall]) -> typing.Iterator[int]:
     """The number of solid ranges after each solid wall of a view. No two share a column (R_ClipSolidWallSegment).
 
     A wall that touches none makes a range more. One that touches several joins them, and the original moves the rest of
     the array down by one too little: so a wall between two of them takes away none."""
-    filled = bytearray(COLUMNS + EDGES)  # of each column, with one more at each edge
+    filled = bytearray(WIDTH + EDGES)  # of each column, with one more at each edge
     filled[0] = filled[-1] = 1
     count = EDGES
     for fragments in walls:
@@ -39,12 +42,12 @@ def range_counts(walls: typing.Iterable) -> typing.Iterator[int]:
             filled[first + 1:last + 2] = FILLED[last + 1 - first]
 
 
-def walls_of(items: bytes) -> list:
-    """The solid walls of a view in order, by the lines of its items in a map of these alone: of each the columns of its
-    fragments."""
+def walls_of(items: bytes) -> typing.List[Wall]:
+    """The solid walls of a view in order, by the lines of its items in a map of these alone."""
     behind = items.rfind(b' seg ') + 1
     numbers = items[:items.find(b'\n', behind) if behind else 0].translate(None, NO_NUMBERS).split()
-    walls, before = [], None
+    walls: typing.List[Wall] = []
+    before = None
     for seg, first, last in zip(*map(numbers.__getitem__, FIELDS)):
         if seg == before:
             walls[-1].append((COLUMN[first], COLUMN[last]))
@@ -59,7 +62,7 @@ def ranges_of(output: bytes) -> typing.Iterator[int]:
     return (most_ranges(walls_of(view.items())) for view in views_of(output))
 
 
-def counts_of(output: bytes) -> typing.Iterator[dict]:
+def counts_of(output: bytes) -> typing.Iterator[Counts]:
     """The counts of each view of what `list` writes, by name, without solid ranges. Of a view over a raised limit it is
     that count alone."""
     return (view.counts() for view in views_of(output))
@@ -78,9 +81,10 @@ class Listed(typing.NamedTuple):
         """The lines of its items."""
         return self.output[self.begin:self.last]
 
-    def counts(self) -> dict:
+    def counts(self) -> Counts:
         """Its counts by name, without solid ranges; over a raised limit that count alone."""
         found = LAST.fullmatch(self.output, self.last, self.end)
+        assert found, 'the last line of a view has its sums'
         if found['over']:
             return {found['over'].decode(): int(found['count'])}
         return {name: int(found[name]) for name in ('planes', 'openings', 'fragments', 'sprites')}

@@ -2,34 +2,102 @@
 
 `ListFile(path)` reads what `doomview list` wrote; `view(number)` has the fragments, planes and sprites of a view by the
 numbers of a trace. `Places` says of an item which line, sector or thing of the map it is."""
+import argparse
 import collections
 import functools
 import re
 import typing
 
 from . import levels, wads
+from .doom import FRONT_AND_BACK, SKY, TWO_SIDED
 from .files import check_source
 from .frames import WIDTH
-from .levels import UNIT
-from .traces import COMPOSITE, Painter
+from .levels import UNIT, Level, Seg, Side
+from .traces import COMPOSITE, MIDDLE, PLANE, SKY as SKY_PLANE, SPRITE, WALL, Names, Painter, Record
 from .trouble import Trouble
 
 LONGEST = 400  # bytes of a line
 SHOWN_SECTORS = 6
-FRONT_AND_BACK = ('front', 'back')
-TWO_SIDED = 4  # the flag of a line
-SKY = 'F_SKY1'
-WALL, PLANE, SKY_PLANE, MIDDLE, SPRITE = range(1, 6)  # kinds of painters
 
-Fragment = collections.namedtuple('Fragment', 'seg first last')
-# `flat` is a lump, or None for sky; `maker` is leaf or fragment, and `number` that of it.
-Plane = collections.namedtuple('Plane', 'height flat light maker number columns')
-Sprite = collections.namedtuple('Sprite', 'thing lump first last')
-Sums = collections.namedtuple('Sums', 'fragments all_fragments planes openings sprites all_sprites')
-View = collections.namedtuple('View', 'fragments planes sprites sums over')  # `over`: (name, count), and all else empty
-Key = collections.namedtuple('Key', 'height flat light')  # of a plane: in map units, and the name of a flat
-Group = collections.namedtuple('Group', 'key sides sectors')  # of planes: floor, ceiling or sky, and who has such
-Placed = collections.namedtuple('Placed', 'where what by more')
+
+class Fragment(typing.NamedTuple):
+    """A part of a wall: its seg, and its first and last column."""
+
+    seg: int
+    first: int
+    last: int
+
+
+class Plane(typing.NamedTuple):
+    """A plane: its height in 16.16, its flat, which is a lump, or None for sky, its light, the word for what made it, leaf
+    or fragment, the number of that, and in how many columns it has rows."""
+
+    height: int
+    flat: typing.Optional[int]
+    light: int
+    maker: str
+    number: int
+    columns: int
+
+
+class Sprite(typing.NamedTuple):
+    """A sprite: its thing, its picture, and its first and last column."""
+
+    thing: int
+    lump: int
+    first: int
+    last: int
+
+
+class Sums(typing.NamedTuple):
+    """How many of each a view has, and how many fragments and sprites without limits."""
+
+    fragments: int
+    all_fragments: int
+    planes: int
+    openings: int
+    sprites: int
+    all_sprites: int
+
+
+class View(typing.NamedTuple):
+    """What a view is made of. One over a limit has the name and the number of that, and nothing else."""
+
+    fragments: typing.List[Fragment]
+    planes: typing.List[Plane]
+    sprites: typing.List[Sprite]
+    sums: typing.Optional[Sums]
+    over: typing.Optional[typing.Tuple[str, int]]
+
+
+class Key(typing.NamedTuple):
+    """What planes share: a height in map units, the name of a flat, and a light."""
+
+    height: float
+    flat: str
+    light: int
+
+
+class Group(typing.NamedTuple):
+    """Planes of a key: whether they are floors, ceilings or sky, in words, and the sectors that have such."""
+
+    key: Key
+    sides: str
+    sectors: typing.List[int]
+
+
+class Position(typing.NamedTuple):
+    """Where in a map an item is, and what it is, in words; what it is in its view, and what more is known."""
+
+    where: str
+    what: str
+    by: str
+    more: str
+
+
+Item = typing.TypeVar('Item', Fragment, Plane, Sprite)
+Items = typing.Dict[str, typing.List[typing.Any]]  # of a view, by their kinds
+Sides = typing.Set[str]  # floor, ceiling
 
 # The name of the group that a line has is the kind of the line.
 LINE = re.compile(r'view (\d+) (?:'
@@ -42,7 +110,7 @@ LINE = re.compile(r'view (\d+) (?:'
 ITEMS = ['fragment', 'plane', 'sprite']  # in the order of their lines
 
 
-def item(kind, values):
+def item(kind: str, values: typing.Sequence[str]) -> typing.Union[Fragment, Plane, Sprite]:
     """A fragment, a plane or a sprite by the words of its line."""
     if kind == 'plane':
         height, flat, light, maker, number, columns = values
@@ -53,9 +121,10 @@ def item(kind, values):
 class ListFile:
     """A file that `doomview list` wrote, which is read and checked to its end; views are read where they are asked."""
 
-    def __init__(self, path: str):
+    def __init__(self, path: str) -> None:
         check_source(path)
-        self.path, self.line, self.places = path, 0, []
+        self.path, self.line = path, 0
+        self.places: typing.List[typing.Tuple[int, int]] = []  # of the views in the file: bytes and lines before each
         with open(path, 'rb') as file:
             while True:
                 place = file.tell(), self.line
@@ -72,14 +141,16 @@ class ListFile:
         with open(self.path, 'rb') as file:
             place, self.line = self.places[number]
             file.seek(place)
-            return self.read_view(file, number)
+            view = self.read_view(file, number)
+            assert view is not None, 'the file was read to its end before'
+            return view
 
-    def wrong(self, what):
+    def wrong(self, what: str) -> Trouble:
         return Trouble(f'{self.path}, line {self.line}: {what}; name the whole of what doomview list wrote')
 
-    def read_view(self, file, number):
+    def read_view(self, file: typing.BinaryIO, number: int) -> typing.Optional[View]:
         """The view of a number, which is the next of a file; None at the end of the file."""
-        items = {kind: [] for kind in ITEMS}
+        items: Items = {kind: [] for kind in ITEMS}
         while True:
             text = file.readline(LONGEST)
             if not text and not any(items.values()):
@@ -91,31 +162,31 @@ class ListFile:
             if int(found[1]) != number:
                 raise self.wrong(f'the line of view {number} that has its sums is missing' if any(items.values())
                                  else f'view {found[1]} stands where view {number} should')
-            kind, values = found.lastgroup, [it for it in found.groups() if it is not None][2:]
+            kind, values = found.lastgroup or '', [value for value in found.groups() if value is not None][2:]
             if kind not in ITEMS:
                 return self.whole_view(number, items, kind, values)
             self.check_order(items, kind, int(values[0]))
-            items[kind].append(item(kind, values[1:]))
-            made = items[kind][-1]
-            if kind == 'plane' and made.maker == 'fragment' and made.number >= len(items['fragment']):
-                raise self.wrong(f'view {number} has no fragment {made.number}')
+            last = item(kind, values[1:])
+            items[kind].append(last)
+            if isinstance(last, Plane) and last.maker == 'fragment' and last.number >= len(items['fragment']):
+                raise self.wrong(f'view {number} has no fragment {last.number}')
 
-    def check_order(self, items, kind, number):
+    def check_order(self, items: Items, kind: str, number: int) -> None:
         """A Trouble where an item is not the next of its kind, or stands behind items that come after it."""
         if number != len(items[kind]) or any(items[later] for later in ITEMS[ITEMS.index(kind) + 1:]):
             raise self.wrong(f'{kind} {number} stands where {kind} {len(items[kind])} or a later item should')
 
-    def whole_view(self, number, items, kind, values):
+    def whole_view(self, number: int, items: Items, kind: str, values: typing.Sequence[str]) -> View:
         """A view by its last line."""
-        lists = [items[it] for it in ITEMS]
+        fragments, planes, sprites = (items[kind] for kind in ITEMS)
         if kind == 'over':
-            if any(lists):
+            if fragments or planes or sprites:
                 raise self.wrong(f'view {number} has items, and passes a limit')
             return View([], [], [], None, (values[0], int(values[1])))
         sums = Sums(*map(int, values))
-        if [len(it) for it in lists] != [sums.fragments, sums.planes, sums.sprites]:
+        if (len(fragments), len(planes), len(sprites)) != (sums.fragments, sums.planes, sums.sprites):
             raise self.wrong(f'the sums of view {number} are not those of its lines')
-        return View(*lists, sums, None)
+        return View(fragments, planes, sprites, sums, None)
 
 
 def narrow(view: View, least: int) -> typing.Set[int]:
@@ -124,79 +195,97 @@ def narrow(view: View, least: int) -> typing.Set[int]:
             if 0 < sprite.first <= sprite.last < WIDTH - 1 and sprite.last - sprite.first + 1 < least}
 
 
-def shortened(words: list, shown: int) -> str:
+def some_of(words: typing.Sequence[object], most: int) -> str:
     """Words in a row, of which some are shown at most."""
-    more = f' and {len(words) - shown} more' if len(words) > shown else ''
-    return ', '.join(map(str, words[:shown])) + more
+    more = f' and {len(words) - most} more' if len(words) > most else ''
+    return ', '.join(map(str, words[:most])) + more
 
 
-def sectors_told(sectors: typing.List[int]) -> str:
-    return ('sector ' if len(sectors) == 1 else 'sectors ') + shortened(sectors, SHOWN_SECTORS)
+def sectors_in_words(sectors: typing.Sequence[int], most: int = SHOWN_SECTORS) -> str:
+    return ('sector ' if len(sectors) == 1 else 'sectors ') + some_of(sectors, most)
 
 
 class Places:
     """Says of the items of a list what a map editor shows, by the map and the names of its WADs."""
 
-    def __init__(self, level, names, path):
-        self.level, self.names, self.path, self.known = level, names, path, (None, {})
-        self.having = {'floor': collections.defaultdict(list), 'ceiling': collections.defaultdict(list)}
+    def __init__(self, level: Level, names: Names, path: str) -> None:
+        self.level, self.names, self.path = level, names, path
+        self.known: typing.Tuple[typing.Optional[View], typing.Dict[Key, str]] = (None, {})  # sides of planes of a view
+        self.having: typing.Dict[str, typing.Dict[Key, typing.List[int]]] = {
+            'floor': collections.defaultdict(list), 'ceiling': collections.defaultdict(list)}
         for number in range(len(level.sectors)):
             for side, key in self.keys_of(number).items():
                 self.having[side][key].append(number)
 
-    def keys_of(self, sector):
+    def keys_of(self, number: int) -> typing.Dict[str, Key]:
         """The planes of a sector: of its floor and of its ceiling."""
-        it = self.level.sectors[sector]
-        pairs = {'floor': (it.floor, it.floor_flat), 'ceiling': (it.ceiling, it.ceiling_flat)}
-        return {side: Key(0, SKY, 0) if flat == SKY else Key(height, flat, it.light)
+        sector = self.level.sectors[number]
+        pairs = {'floor': (sector.floor, sector.floor_flat), 'ceiling': (sector.ceiling, sector.ceiling_flat)}
+        return {side: Key(0, SKY, 0) if flat == SKY else Key(height, flat, sector.light)
                 for side, (height, flat) in pairs.items()}
 
-    def other(self, what):
+    def other(self, what: str) -> Trouble:
         """The Trouble of a list that is not of this map, or not of the trace."""
         return Trouble(f'{self.path} does not fit: {what}; name the list, the trace, the WADs and the map of the same '
                        'words')
 
     @functools.cached_property
-    def leaf_of_seg(self):
+    def leaf_of_seg(self) -> typing.Dict[int, int]:
         return {seg: number for number, leaf in enumerate(self.level.leaves)
                 for seg in range(leaf.first, leaf.first + leaf.count)}
 
-    def seg(self, number):
-        """A seg, and the number of its side."""
-        try:
-            seg = self.level.segs[number]
-            return seg, self.level.lines[seg.line][5 + seg.side]
-        except IndexError as error:
-            raise self.other(f'{self.level.name} has no seg {number}') from error
+    def seg(self, number: int) -> Seg:
+        """A seg, whose line is there."""
+        segs = self.level.segs
+        if (number >= len(segs) or segs[number].line >= len(self.level.lines)
+                or segs[number].side >= len(FRONT_AND_BACK)):
+            raise self.other(f'{self.level.name} has no seg {number}')
+        return segs[number]
 
-    def line_of(self, fragment):
+    def line_of(self, fragment: Fragment) -> str:
         """The line of a fragment, and which of its sides, in words."""
-        seg, _ = self.seg(fragment.seg)
+        seg = self.seg(fragment.seg)
         return f'line {seg.line}, {FRONT_AND_BACK[seg.side]} side'
 
-    def sector_of_leaf(self, leaf):
+    def side_of(self, fragment: Fragment) -> Side:
+        """The side of the line of a fragment."""
+        seg = self.seg(fragment.seg)
+        number = self.level.lines[seg.line].sides[seg.side]
+        if number is None or number >= len(self.level.sides):
+            raise self.no_side(seg)
+        return self.level.sides[number]
+
+    def no_side(self, seg: Seg) -> Trouble:
+        return self.other(f'line {seg.line} of {self.level.name} has no such side')
+
+    def sector_of_leaf(self, leaf: int) -> int:
         try:
             sector = self.level.sector_of_leaf(leaf)
-            return self.level.sectors[sector] and sector
         except (IndexError, TypeError) as error:
-            raise self.other(f'{self.level.name} has no leaf {leaf}') from error
+            raise self.no_leaf(leaf) from error
+        if sector >= len(self.level.sectors):
+            raise self.no_leaf(leaf)
+        return sector
 
-    def sector_of_fragment(self, fragment):
+    def no_leaf(self, leaf: int) -> Trouble:
+        return self.other(f'{self.level.name} has no leaf {leaf}')
+
+    def sector_of_fragment(self, fragment: Fragment) -> int:
         """The sector in front of a fragment: that of its leaf."""
         if fragment.seg not in self.leaf_of_seg:
             raise self.other(f'{self.level.name} has no leaf with seg {fragment.seg}')
         return self.sector_of_leaf(self.leaf_of_seg[fragment.seg])
 
-    def maker_of(self, view, plane):
+    def maker_of(self, view: View, plane: Plane) -> typing.Tuple[int, str]:
         """The sector that made a plane, and how, in words."""
         if plane.maker == 'leaf':
             sector = self.sector_of_leaf(plane.number)
             return sector, f'made by leaf {plane.number} of sector {sector}'
         fragment = view.fragments[plane.number]
-        seg, _ = self.seg(fragment.seg)
-        return self.sector_of_fragment(fragment), f'split by fragment {plane.number} of line {seg.line}'
+        line = self.seg(fragment.seg).line
+        return self.sector_of_fragment(fragment), f'split by fragment {plane.number} of line {line}'
 
-    def key_of(self, plane):
+    def key_of(self, plane: Plane) -> Key:
         """The height, flat and light of a plane."""
         if plane.flat is None:
             return Key(0, SKY, 0)
@@ -204,23 +293,23 @@ class Places:
             raise self.other(f'the WADs have no lump {plane.flat}')
         return Key(plane.height / UNIT, self.names.lumps[plane.flat], plane.light)
 
-    def sides_of(self, view):
+    def sides_of(self, view: View) -> typing.Dict[Key, str]:
         """Of each plane's key whether it is a floor's or a ceiling's, or both in words where nothing tells.
 
         The list does not say it. The sector that made a plane does, unless its floor and ceiling are the same, as of a
         door that is shut; then another plane of the view may, since floors are below the eye and ceilings above it."""
         if self.known[0] is not view:
-            found = collections.defaultdict(set)
+            found: typing.Dict[Key, Sides] = collections.defaultdict(set)
             for plane in view.planes:
                 key, sector = self.key_of(plane), self.maker_of(view, plane)[0]
                 sides = {side for side, own in self.keys_of(sector).items() if own == key}
                 if not sides:
                     raise self.other(f'sector {sector} has no floor or ceiling with flat {key.flat} at {key.height:g}')
                 found[key] = found[key] & sides or sides
-            self.known = view, self.told_apart(found)
+            self.known = view, self.words_of_sides(found)
         return self.known[1]
 
-    def told_apart(self, found):
+    def words_of_sides(self, found: typing.Dict[Key, Sides]) -> typing.Dict[Key, str]:
         """The sides of keys, which are more than one of some, in words."""
         plain = {key: sides for key, sides in found.items() if key.flat != SKY}
         floors = [key.height for key, sides in plain.items() if sides == {'floor'}]
@@ -239,34 +328,33 @@ class Places:
                 words[key] = 'floor or ceiling'
         return words
 
-    def group(self, view, plane):
+    def group(self, view: View, plane: Plane) -> Group:
         """What a plane is, with all the sectors that have such a floor or ceiling."""
         key = self.key_of(plane)
         sides = self.sides_of(view)[key]
         having = [side for side in self.having if side in sides or sides == 'sky']
         return Group(key, sides, sorted({number for side in having for number in self.having[side][key]}))
 
-    def parts(self, fragment, kind):
+    def parts(self, fragment: Fragment, kind: int) -> typing.List[typing.Tuple[str, str]]:
         """The parts of a wall that a fragment may show: pairs of the part and the name of its texture."""
-        seg, number = self.seg(fragment.seg)
+        seg, side = self.seg(fragment.seg), self.side_of(fragment)
         line = self.level.lines[seg.line]
+        behind = line.sides[1 - seg.side]
+        if kind == MIDDLE or not line.flags & TWO_SIDED or behind is None:
+            return [('middle', side.middle)]
+        front = self.level.sectors[self.sector_of_fragment(fragment)]
         try:
-            side = self.level.sides[number]
-            behind = line[6 - seg.side]
-            if kind == MIDDLE or not line.flags & TWO_SIDED or behind is None:
-                return [('middle', side.middle)]
-            front = self.level.sectors[self.sector_of_fragment(fragment)]
             back = self.level.sectors[self.level.sides[behind].sector]
-        except (IndexError, TypeError) as error:
-            raise self.other(f'line {seg.line} of {self.level.name} has no such side') from error
+        except IndexError as error:
+            raise self.no_side(seg) from error
         has_upper = back.ceiling < front.ceiling and not front.ceiling_flat == back.ceiling_flat == SKY
         return [('upper', side.upper)] * has_upper + [('lower', side.lower)] * (back.floor > front.floor)
 
     def lit_by(self, fragment: Fragment, kind: int) -> int:
         """The sector that lights a wall: that of its leaf, or of a middle texture that of its side."""
-        return self.level.sides[self.seg(fragment.seg)[1]].sector if kind == MIDDLE else self.sector_of_fragment(fragment)
+        return self.side_of(fragment).sector if kind == MIDDLE else self.sector_of_fragment(fragment)
 
-    def lit(self, fragment, kind):
+    def light_in_words(self, fragment: Fragment, kind: int) -> str:
         """The same in words, with its light."""
         sector = self.lit_by(fragment, kind)
         return f', sector {sector}, light {self.level.sectors[sector].light}'
@@ -282,7 +370,7 @@ class Places:
             return self.level.sectors[self.lit_by(self.item(view.fragments, 'fragment', number), kind)].light
         return None
 
-    def wall(self, view, painter, number):
+    def wall(self, view: View, painter: Painter, number: int) -> Position:
         fragment = self.item(view.fragments, 'fragment', number)
         source = self.names.source(painter)
         textures = [source] if painter.source_kind == COMPOSITE else self.names.textures_of(painter)
@@ -292,11 +380,11 @@ class Places:
             raise self.other(f'{where} has no part with {source}, which the trace has of fragment {number}')
         if len({name for _, name in parts}) == 1:
             parts = [(' or '.join(part for part, _ in parts), parts[0][1])]
-        what = ' or '.join(f'{part} texture {name}' for part, name in parts) + self.lit(fragment, painter.kind)
+        what = ' or '.join(f'{part} texture {name}' for part, name in parts) + self.light_in_words(fragment, painter.kind)
         is_patch = painter.source_kind != COMPOSITE and (len(parts) > 1 or source != parts[0][1])
-        return Placed(where, what, f'fragment {number}, seg {fragment.seg}', f'patch {source}' if is_patch else '')
+        return Position(where, what, f'fragment {number}, seg {fragment.seg}', f'patch {source}' if is_patch else '')
 
-    def plane(self, view, painter, number):
+    def plane(self, view: View, painter: Painter, number: int) -> Position:
         plane = self.item(view.planes, 'plane', number)
         if (plane.flat is None) != (painter.kind == SKY_PLANE) or plane.flat not in (None, painter.source):
             raise self.other(f'plane {number} has another flat in the trace')
@@ -304,57 +392,58 @@ class Places:
         by = f'plane {number}, {self.maker_of(view, plane)[1]}'
         if plane.flat is None:
             known = self.names.known(painter)
-            return Placed(f'sky of {sectors_told(sectors)}', f'{known.word} {known.name}', by, known.more)
-        return Placed(f'{sides} of {sectors_told(sectors)} at height {key.height:g}',
-                      f'flat {key.flat}, light {key.light}', by, '')
+            return Position(f'sky of {sectors_in_words(sectors)}', f'{known.word} {known.name}', by, known.more)
+        return Position(f'{sides} of {sectors_in_words(sectors)} at height {key.height:g}',
+                        f'flat {key.flat}, light {key.light}', by, '')
 
-    def sprite(self, view, painter, number):
+    def sprite(self, view: View, painter: Painter, number: int) -> Position:
         sprite = self.item(view.sprites, 'sprite', number)
         if sprite.lump != painter.source:
             raise self.other(f'sprite {number} has another picture in the trace')
         if sprite.thing >= len(self.level.things):
             raise self.other(f'{self.level.name} has no thing {sprite.thing}')
         thing = self.level.things[sprite.thing]
-        return Placed(f'thing {sprite.thing} of type {thing.type} at {thing.x},{thing.y}',
-                      f'lump {self.names.source(painter)}', f'sprite {number}', '')
+        return Position(f'thing {sprite.thing} of type {thing.type} at {thing.x},{thing.y}',
+                        f'lump {self.names.source(painter)}', f'sprite {number}', '')
 
-    def item(self, items, word, number):
+    def item(self, items: typing.Sequence[Item], word: str, number: int) -> Item:
         if number >= len(items):
             raise self.other(f'the trace has {word} {number}, and the list has {len(items)} of them in the view')
         return items[number]
 
-    def placed(self, view, painter, number):
+    def position(self, view: View, painter: Painter, number: int) -> typing.Optional[Position]:
         """Where in the map an item of a view is, by its painter and its number; None of what is nowhere in it."""
         kinds = {WALL: self.wall, MIDDLE: self.wall, PLANE: self.plane, SKY_PLANE: self.plane, SPRITE: self.sprite}
         return kinds[painter.kind](view, painter, number) if painter.kind in kinds else None
 
-    def place(self, view, painter, number):
+    def place(self, view: View, painter: Painter, number: int) -> str:
         """The same in words, without what counts in the view alone; an empty text of what is nowhere."""
-        placed = self.placed(view, painter, number)
-        return f'{placed.where}, {placed.what}' if placed else ''
+        position = self.position(view, painter, number)
+        return f'{position.where}, {position.what}' if position else ''
 
-    def told(self, view, record, word):
+    def in_words(self, view: View, record: Record, word: str) -> typing.Optional[str]:
         """A record of a trace in words, or None of what is nowhere in the map."""
         kind, source_kind, number, source, colour, _ = record
-        placed = self.placed(view, Painter(kind, source_kind, source), number)
-        if placed is None:
+        position = self.position(view, Painter(kind, source_kind, source), number)
+        if position is None:
             return None
-        head = placed.where if placed.where.startswith(word) else f'{word}, {placed.where}'
-        more = f', {placed.more}' if placed.more else ''
-        return f'{head}, {placed.what} ({placed.by}){more}, colour {colour}'
+        head = position.where if position.where.startswith(word) else f'{word}, {position.where}'
+        more = f', {position.more}' if position.more else ''
+        return f'{head}, {position.what} ({position.by}){more}, colour {colour}'
 
 
 class Placing:
     """The list of a trace, with the map that it is of."""
 
-    def __init__(self, path, count, files, name, names, trace):
+    def __init__(self, path: str, count: int, files: typing.List[str], name: typing.Optional[str], names: Names,
+                 trace: str) -> None:
         self.list = ListFile(path)
         if self.list.count != count:
             raise Trouble(f'{path} is the list of {self.list.count} views, and {trace} the trace of {count}; name '
                           'those of the same words')
         self.places = Places(levels.read(files, name or only_map(files)), names, path)
 
-    def view(self, number):
+    def view(self, number: int) -> View:
         """What a view is made of; of a view over a limit a trace has nothing, and so it is never asked for."""
         return self.list.view(number)
 
@@ -367,14 +456,15 @@ def only_map(files: typing.List[str]) -> str:
     return next(iter(found))
 
 
-def add_words(parser):
+def add_words(parser: argparse.ArgumentParser) -> None:
     """The words of a tool that takes a list."""
     parser.add_argument('--list', metavar='FILE', help='what doomview list wrote for the same words: names lines, '
                         'sectors and things too; needs the WADs')
     parser.add_argument('--map', metavar='NAME', help='the map of the list, where the WADs have more than one')
 
 
-def placing_of(options, files, count, names):
+def placing_of(options: argparse.Namespace, files: typing.List[str], count: int,
+               names: Names) -> typing.Optional[Placing]:
     """The list that the words of a tool name, or None; its trace has a number of views."""
     if not options.list:
         if options.map:

@@ -16,7 +16,7 @@ SCRIPT = re.compile(r'/\*FILE (\w+\.js)\*/')  # the place of a script that is a 
 DIGITS = ''.join(chr(code) for code in range(35, 127) if chr(code) not in '\\<')  # none that a text has to escape
 
 
-def packed(data: object) -> str:
+def json_of(data: object) -> str:
     """Data as a page has it: nothing in it can end the script that it stands in."""
     return json.dumps(data, separators=(',', ':')).replace('</', '<\\/')
 
@@ -53,7 +53,7 @@ def page(template: str, data: object, plain: str = '') -> bytes:
     if PLACE not in text:
         raise Trouble(f'{home.data(template)} is missing or damaged; take the whole folder of doomview anew')
     text = SCRIPT.sub(lambda named: text_of_file(named[1]), text)
-    return text.replace(PLAIN, html.escape(plain)).replace(PLACE, packed(data)).encode()
+    return text.replace(PLAIN, html.escape(plain)).replace(PLACE, json_of(data)).encode()
 
 
 def text_of(png: bytes) -> str:

@@ -4,75 +4,96 @@ import itertools
 import typing
 
 from . import list_counts, paths
-from .lists import FRONT_AND_BACK, sectors_told, shortened
+from .doom import FRONT_AND_BACK
+from .levels import Level
+from .list_counts import Counts
+from .lists import SHOWN_SECTORS, Group, Key, Places, Sums, View, sectors_in_words, some_of
+from .paths import Row
 from .ways import WANTED
+from .what_if import Result
 
 SHOWN = 20  # lines of a table
 SHOWN_PLACES = 6
 SHOWN_CHANGES = 8
 
-Made = collections.namedtuple('Made', 'planes splits columns')
+Shown = typing.Optional[int]  # the most lines of a table, or None for all
 
 
-def count_told(name, count, limit):
+class Made(typing.NamedTuple):
+    """What a view made of a group of planes: how many, how many of them as splits, and their columns."""
+
+    planes: int
+    splits: int
+    columns: int
+
+
+def count_in_words(name: str, count: int, limit: int) -> str:
     """A count, and how far it is over its limit."""
     name = 'solid ranges' if name == 'solids' else name
     return f'{count} {name}, {count - limit} over {limit}' if count > limit else f'{count} {name} of {limit}'
 
 
-def counts_of(view, walls) -> dict:
+def counts_of(view: View, walls: View) -> Counts:
     """The counts of a view by name, with its solid walls alone; of one over even a raised limit that count alone."""
     if view.over:
         return dict([view.over])
-    sums = view.sums
+    sums = sums_of(view)
     return {'planes': sums.planes, 'openings': sums.openings, 'fragments': sums.all_fragments,
             'sprites': sums.all_sprites, 'solids': max((count for *_, count in ranges(walls)), default=list_counts.EDGES)}
 
 
-def sums_told(sums, counts, limits):
+def sums_of(view: View) -> Sums:
+    """The sums of a view that is over no limit."""
+    assert view.sums, 'a view over a limit has no sums'
+    return view.sums
+
+
+def sums_in_words(sums: Sums, counts: Counts, limits: Counts) -> typing.Iterator[str]:
     """The lines on the sums of a view."""
-    yield '  ' + '; '.join(count_told(name, count, limits[name]) for name, count in counts.items())
+    yield '  ' + '; '.join(count_in_words(name, count, limits[name]) for name, count in counts.items())
     for name, all_of_them, kept in (('fragments', sums.all_fragments, sums.fragments),
                                     ('sprites', sums.all_sprites, sums.sprites)):
         if all_of_them > kept:
             yield f'  {name}: the first {kept} are drawn, {all_of_them - kept} past them are not'
 
 
-def by_group(view, places) -> list:
+def by_group(view: View, places: Places) -> typing.List[typing.Tuple[Group, Made]]:
     """The planes of each height, flat and light: pairs of the group and what was made of it, the most planes first. The
     sectors that made one come first among those of the group."""
-    groups, made, makers = {}, {}, collections.defaultdict(dict)
+    groups: typing.Dict[Key, Group] = {}
+    made: typing.Dict[Key, Made] = {}
+    makers: typing.Dict[Key, typing.Dict[int, None]] = collections.defaultdict(dict)
     for plane in view.planes:
         group = places.group(view, plane)
         groups[group.key] = group
         makers[group.key][places.maker_of(view, plane)[0]] = None
         old = made.get(group.key, Made(0, 0, 0))
         made[group.key] = Made(old.planes + 1, old.splits + (plane.maker == 'fragment'), old.columns + plane.columns)
-    order = sorted(made, key=lambda it: (-made[it].planes, -made[it].columns))
-    return [(groups[it]._replace(sectors=list(dict.fromkeys([*sorted(makers[it]), *groups[it].sectors]))), made[it])
-            for it in order]
+    order = sorted(made, key=lambda key: (-made[key].planes, -made[key].columns))
+    return [(groups[key]._replace(sectors=list(dict.fromkeys([*sorted(makers[key]), *groups[key].sectors]))), made[key])
+            for key in order]
 
 
-def by_line(view, places):
+def by_line(view: View, places: Places) -> typing.List[typing.Tuple[int, int, typing.Counter[str]]]:
     """The splits of each side of a line: triples of the line, the side, and how many of what; the most first."""
-    found = collections.defaultdict(collections.Counter)
+    found: typing.Dict[typing.Tuple[int, int], typing.Counter[str]] = collections.defaultdict(collections.Counter)
     for plane in view.planes:
         if plane.maker == 'fragment':
-            seg, _ = places.seg(view.fragments[plane.number].seg)
-            found[seg.line, seg.side][group_told(places.group(view, plane))] += 1
-    order = sorted(found, key=lambda it: (-sum(found[it].values()), it))
-    return [(*it, found[it]) for it in order]
+            seg = places.seg(view.fragments[plane.number].seg)
+            found[seg.line, seg.side][group_in_words(places.group(view, plane))] += 1
+    order = sorted(found.items(), key=lambda pair: (-sum(pair[1].values()), pair[0]))
+    return [(line, side, counts) for (line, side), counts in order]
 
 
-def sectors_beside(level, line, side):
+def sectors_beside(level: Level, line: int, side: int) -> typing.Tuple[typing.Optional[int], typing.Optional[int]]:
     """The sectors in front of a side of a line and behind it; the second is None for a wall."""
-    numbers = [None if number is None else level.sides[number].sector for number in level.lines[line][5:]]
+    numbers = [None if number is None else level.sides[number].sector for number in level.lines[line].sides]
     return numbers[side], numbers[1 - side]
 
 
-def difference(level, front, back) -> str:
+def difference(level: Level, front: typing.Optional[int], back: typing.Optional[int]) -> str:
     """What differs between two sectors, in words."""
-    if back is None:
+    if front is None or back is None:
         return 'a wall'
     one, other = level.sectors[front], level.sectors[back]
     parts = [f'{word} {getattr(one, field)} / {getattr(other, field)}'
@@ -82,24 +103,24 @@ def difference(level, front, back) -> str:
     return ', '.join(parts) or 'nothing'
 
 
-def planes_of_sectors(view, places) -> dict:
+def planes_of_sectors(view: View, places: Places) -> typing.Dict[int, int]:
     """How many planes each sector of a view made; 0 for those that are beside its fragments alone."""
-    found = collections.Counter({sector: 0 for fragment in view.fragments for seg in [places.seg(fragment.seg)[0]]
+    found = collections.Counter({sector: 0 for fragment in view.fragments for seg in [places.seg(fragment.seg)]
                                  for sector in sectors_beside(places.level, seg.line, seg.side) if sector is not None})
     found.update(places.maker_of(view, plane)[0] for plane in view.planes)
     return found
 
 
-def by_sector(view, places):
+def by_sector(view: View, places: Places) -> typing.List[typing.Tuple[int, typing.Counter[int]]]:
     """The fragments of each sector that has some: pairs of the sector and how many each line has there; the most
     first."""
-    found = collections.defaultdict(collections.Counter)
+    found: typing.Dict[int, typing.Counter[int]] = collections.defaultdict(collections.Counter)
     for fragment in view.fragments:
-        found[places.sector_of_fragment(fragment)][places.seg(fragment.seg)[0].line] += 1
+        found[places.sector_of_fragment(fragment)][places.seg(fragment.seg).line] += 1
     return sorted(found.items(), key=lambda pair: (-sum(pair[1].values()), pair[0]))
 
 
-def by_type(view, places):
+def by_type(view: View, places: Places) -> typing.List[typing.Tuple[int, typing.List[int]]]:
     """The things that are drawn, by their types: pairs of the type and the numbers of things; the most first."""
     found = collections.defaultdict(list)
     for sprite in view.sprites:
@@ -107,7 +128,7 @@ def by_type(view, places):
     return sorted(found.items(), key=lambda pair: (-len(pair[1]), pair[0]))
 
 
-def ranges(walls) -> typing.Iterator[tuple[int, int, int, int]]:
+def ranges(walls: View) -> typing.Iterator[typing.Tuple[int, int, int, int]]:
     """The solid walls of a view in order, by a view of these alone: of each its seg, its first and last column, and how
     many solid ranges there are after it."""
     groups = [(seg, list(fragments)) for seg, fragments in itertools.groupby(walls.fragments, lambda one: one.seg)]
@@ -116,7 +137,7 @@ def ranges(walls) -> typing.Iterator[tuple[int, int, int, int]]:
         yield seg, fragments[0].first, fragments[-1].last, count
 
 
-def range_makers(walls) -> typing.Iterator[tuple[int, int, int]]:
+def range_makers(walls: View) -> typing.Iterator[typing.Tuple[int, int, int]]:
     """The walls that made a solid range more, up to the most: triples of the seg and its columns."""
     found = list(ranges(walls))
     most = max((count for *_, count in found), default=list_counts.EDGES)
@@ -129,19 +150,20 @@ def range_makers(walls) -> typing.Iterator[tuple[int, int, int]]:
         before = count
 
 
-def group_told(group):
+def group_in_words(group: Group) -> str:
     """What a group of planes is, in a few words."""
     return 'sky' if group.sides == 'sky' else f'{group.sides} {group.key.flat} at {group.key.height:g}'
 
 
-def cells_of(group, made):
+def cells_of(group: Group, made: Made) -> typing.List[str]:
     """The cells of a group in the first table."""
     is_sky = group.sides == 'sky'
     height, light = ('-', '-') if is_sky else (f'{group.key.height:g}', str(group.key.light))
-    return [*map(str, made), '-' if is_sky else group.key.flat, group.sides, height, light, sectors_told(group.sectors)]
+    return [*map(str, made), '-' if is_sky else group.key.flat, group.sides, height, light,
+            sectors_in_words(group.sectors)]
 
 
-def table(rows, is_right):
+def table(rows: typing.Sequence[typing.Sequence[str]], is_right: typing.Sequence[bool]) -> typing.Iterator[str]:
     """Rows as lines with their cells under each other; the cells of some columns to the right, and the last free."""
     widths = [max(len(row[k]) for row in rows) for k in range(len(rows[0]) - 1)] + [0]
     for row in rows:
@@ -149,14 +171,15 @@ def table(rows, is_right):
         yield '  ' + '  '.join(cells).rstrip()
 
 
-def reasons(number, row, view, walls, places, shows_all, limits, changes=()) -> typing.Iterator[str]:
+def reasons(number: int, row: Row, view: View, walls: View, places: Places, shows_all: bool, limits: Counts,
+            changes: typing.Iterable[Result] = ()) -> typing.Iterator[str]:
     """The lines on a view; `walls` is the view of its solid walls alone, `changes` are the results of what-ifs."""
-    yield f'view {number}: {paths.told(row)}'
+    yield f'view {number}: {paths.in_words(row)}'
     if view.over:
         yield f'  more than {view.over[1] - 1} {view.over[0]}, the most that doomview counts'
         return
     counts = counts_of(view, walls)
-    yield from sums_told(view.sums, counts, limits)
+    yield from sums_in_words(sums_of(view), counts, limits)
     shown = None if shows_all else SHOWN
     for part in (plane_table, split_table, fragment_table, sprite_table):
         yield from part(view, places, shown)
@@ -164,7 +187,7 @@ def reasons(number, row, view, walls, places, shows_all, limits, changes=()) -> 
     yield from change_table(changes, counts, shows_all)
 
 
-def plane_table(view, places, shown):
+def plane_table(view: View, places: Places, shown: Shown) -> typing.Iterator[str]:
     """The planes by height, flat and light."""
     groups = by_group(view, places)
     rows = [cells_of(group, made) for group, made in groups[:shown]]
@@ -174,7 +197,7 @@ def plane_table(view, places, shown):
     yield from rest(left, sum(made.planes for _, made in left), 'planes')
 
 
-def split_table(view, places, shown):
+def split_table(view: View, places: Places, shown: Shown) -> typing.Iterator[str]:
     """The splits by line and side, with what differs between the sectors beside it."""
     found = by_line(view, places)
     rows = []
@@ -189,22 +212,22 @@ def split_table(view, places, shown):
     yield from rest(left, sum(sum(counts.values()) for *_, counts in left), 'splits')
 
 
-def fragment_table(view, places, shown):
+def fragment_table(view: View, places: Places, shown: Shown) -> typing.Iterator[str]:
     """The fragments by sector and line."""
     found = by_sector(view, places)
-    rows = [[str(sum(lines.values())), str(sector), shortened(
-        [f'{line} ({count})' if count > 1 else line for line, count in lines.most_common()], SHOWN_PLACES)]
+    rows = [[str(sum(lines.values())), str(sector), some_of(
+        [f'{line} ({count})' if count > 1 else str(line) for line, count in lines.most_common()], SHOWN_PLACES)]
         for sector, lines in found[:shown]]
     left = found[len(rows):]
     yield from lines_of(['fragments', 'sector', 'lines'], rows, [True, True, False])
     yield from rest(left, sum(sum(lines.values()) for _, lines in left), 'fragments')
 
 
-def sprite_table(view, places, shown):
+def sprite_table(view: View, places: Places, shown: Shown) -> typing.Iterator[str]:
     """The sprites by type and place."""
     found = by_type(view, places)
     things = places.level.things
-    rows = [[str(len(numbers)), str(kind), WANTED.get(kind, '-'), shortened(
+    rows = [[str(len(numbers)), str(kind), WANTED.get(kind, '-'), some_of(
         [f'thing {number} at {things[number].x},{things[number].y}' for number in numbers], SHOWN_PLACES)]
         for kind, numbers in found[:shown]]
     left = found[len(rows):]
@@ -212,7 +235,7 @@ def sprite_table(view, places, shown):
     yield from rest(left, sum(len(numbers) for _, numbers in left), 'sprites')
 
 
-def range_table(walls, places, shown):
+def range_table(walls: View, places: Places, shown: Shown) -> typing.Iterator[str]:
     """The walls that made solid ranges."""
     found = list(range_makers(walls))
     rows = [[str(places.level.segs[seg].line), f'{first} to {last}'] for seg, first, last in found[:shown]]
@@ -220,25 +243,26 @@ def range_table(walls, places, shown):
     yield from rest(found[len(rows):], len(found) - len(rows), 'solid ranges')
 
 
-def change_table(results, counts, shows_all):
+def change_table(results: typing.Iterable[Result], counts: Counts, shows_all: bool) -> typing.Iterator[str]:
     """What the view would count after each of some changes; those alone that save planes or fragments."""
     names = ['planes', 'fragments']
     found = [result for result in results if any(result.counts[name] < counts[name] for name in names)]
     rows = [[cell for name in names for cell in (str(counts[name] - result.counts[name]), str(result.counts[name]))]
-            + [result.change.told(sectors_told(result.change.sectors) if not shows_all or len(result.change.sectors) == 1
-                                  else 'sectors ' + ', '.join(map(str, result.change.sectors)))]
+            + [result.change.in_words(sectors_in_words(
+                result.change.sectors, len(result.change.sectors) if shows_all else SHOWN_SECTORS))]
             for result in found[:None if shows_all else SHOWN_CHANGES]]
     yield from lines_of(['saves', 'planes', 'saves', 'fragments', 'what if there were'], rows, [True] * 4 + [False])
 
 
-def lines_of(head, rows, is_right):
+def lines_of(head: typing.List[str], rows: typing.List[typing.List[str]],
+             is_right: typing.List[bool]) -> typing.Iterator[str]:
     """The lines of a table, after an empty one; none if it has no rows."""
     if rows:
         yield ''
         yield from table([head, *rows], is_right)
 
 
-def rest(left, count, what):
+def rest(left: typing.Sized, count: int, what: str) -> typing.Iterator[str]:
     """A line on the lines of a table that are not shown."""
     if left:
         yield f'  {count} more {what} in {len(left)} lines that --all shows'

@@ -100,7 +100,7 @@ class Rest:
 
     def wad(self) -> bytes:
         """The PWAD for a port."""
-        return wads.packed([('M_PAUSE', EMPTY_PICTURE), (self.level.name, b''), *self.parts.items()], b'PWAD')
+        return wads.wad_of([('M_PAUSE', EMPTY_PICTURE), (self.level.name, b''), *self.parts.items()], b'PWAD')
 
     def shown_wad(self, tic: int = TICS - 1, ahead: int = 0) -> bytes:
         """The PWAD for doomview: the same map with the names that are shown after a tic, by a port that counts
@@ -110,7 +110,7 @@ class Rest:
         textures = [texture.name for texture in art.textures_of(dict(self.lumps))]
         parts = {**self.parts, 'SECTORS': self.sectors(shown_names(flats, FLATS, tic)),
                  'SIDEDEFS': self.sides(shown_names(textures, TEXTURES, tic, ahead))}
-        return wads.packed([(self.level.name, b''), *parts.items()], b'PWAD')
+        return wads.wad_of([(self.level.name, b''), *parts.items()], b'PWAD')
 
 
 def patch() -> str:

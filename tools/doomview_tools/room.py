@@ -8,7 +8,7 @@ import typing
 
 from . import doom
 from .doom import COLORMAP_SIZE, COLORMAPS, EVERY_SKILL as ALWAYS, LAYOUTS, NO_SIDE, PLAYER_1, SKY as SKY_FLAT
-from .wads import packed
+from .wads import wad_of
 
 PLAN = ['################',
         '######kkkk######',
@@ -297,4 +297,4 @@ def art() -> typing.Tuple[Lumps, Lumps]:
 def with_art(level: Lumps) -> bytes:
     """The bytes of a WAD with the lumps of a level, and the art of the room."""
     before, behind = art()
-    return packed([*before, *level, *behind])
+    return wad_of([*before, *level, *behind])

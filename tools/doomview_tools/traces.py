@@ -4,10 +4,8 @@ import functools
 import struct
 import typing
 
-from .art import between_marks, patch_names, starts, textures_of
-from .doom import PALETTE_SIZE
+from .art import between_marks, palette_of, patch_names, starts, textures_of
 from .frames import HEIGHT, SIZE, WIDTH, count_parts
-from .png import GREYS
 from .trouble import Trouble, WadError
 from .wads import read
 
@@ -68,9 +66,7 @@ class Names:
             self.add_textures(newest)
         except WadError as error:
             raise Trouble('the lists of textures in the WADs are damaged; leave the WADs out') from error
-        self.palette, self.colormaps = newest.get('PLAYPAL', b'')[:PALETTE_SIZE], newest.get('COLORMAP', b'')
-        if len(self.palette) < PALETTE_SIZE:
-            self.palette = GREYS
+        self.palette, self.colormaps = palette_of(newest), newest.get('COLORMAP', b'')
 
     def add_textures(self, lumps: typing.Dict[str, bytes]) -> None:
         """Takes the textures of both lists, each with its patches."""
@@ -130,7 +126,7 @@ class Names:
         return Source('lump', name, '')
 
 
-def told(record: Record, names: Names) -> str:
+def in_words(record: Record, names: Names) -> str:
     """A record in words: painter, number, source and colour."""
     kind, source_kind, number, source, colour, _ = record
     word, thing = KINDS.get(kind, (f'kind {kind}', 'number'))

@@ -126,7 +126,7 @@ def packed_as(data: bytes) -> str:
     return f'{kind}; unpack it, and name the WAD in it' if kind else ''
 
 
-def packed(lumps: typing.Iterable[typing.Tuple[str, bytes]], kind: bytes = b'IWAD') -> bytes:
+def wad_of(lumps: typing.Iterable[typing.Tuple[str, bytes]], kind: bytes = b'IWAD') -> bytes:
     """The bytes of a WAD with these lumps, pairs of name and bytes."""
     bodies, entries = [], []
     at = 12

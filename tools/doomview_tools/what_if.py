@@ -8,10 +8,8 @@ import typing
 
 from . import levels, list_counts, paths, program
 from .counting import RAISED
-from .doom import MAP_LUMPS, SKY
+from .doom import LAYOUTS, SKY
 from .files import write_whole
-from .ground import SECTOR
-from .wads import packed
 
 FIELDS = {'light': 'light', 'floor_flat': 'floor flat', 'ceiling_flat': 'ceiling flat', 'floor': 'floor height',
           'ceiling': 'ceiling height'}
@@ -31,7 +29,7 @@ class Change(typing.NamedTuple):
     after: typing.Any  # a number, or the name of a flat
     sectors: typing.Tuple[int, ...]
 
-    def told(self, sectors: str) -> str:
+    def in_words(self, sectors: str) -> str:
         """The change in words."""
         before = 'all others' if self.before is None else self.before
         return f'{FIELDS[self.field]} {self.after} for {before} in {sectors}'
@@ -49,13 +47,12 @@ Weighed = typing.Tuple[int, Change]  # a change with the planes that its sectors
 
 def with_change(level: levels.Level, change: Change) -> bytes:
     """The bytes of a PWAD of a level alone, with a change."""
-    lumps, data = dict(level.lumps), bytearray(level.lumps['SECTORS'])
+    layout, data = struct.Struct(LAYOUTS['SECTORS']), bytearray(level.lumps['SECTORS'])
     for number in change.sectors:
         sector = level.sectors[number]._replace(**{change.field: change.after})
-        struct.pack_into(SECTOR.format, data, SECTOR.size * number, *(
+        layout.pack_into(data, layout.size * number, *(
             value.encode('latin-1') if isinstance(value, str) else value for value in sector))
-    lumps['SECTORS'] = bytes(data)
-    return packed([(level.name, b'')] + [(name, lumps[name]) for name in MAP_LUMPS], b'PWAD')
+    return levels.alone(level, {'SECTORS': bytes(data)})
 
 
 def changes(level: levels.Level, planes_of: typing.Dict[int, int]) -> typing.List[Change]:

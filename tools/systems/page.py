@@ -4,7 +4,7 @@ import base64
 import os
 import re
 
-from doomview_tools import (cells, cli, compare_page, counting, frames, ground, home, jobs, levels, list_counts, lists, pages,
+from doomview_tools import (cells, cli, compare_page, counting, doom, frames, ground, home, jobs, levels, list_counts, lists, pages,
                             refusals, tables, traces, wads, walls, ways)
 from doomview_tools.commands import limits_map
 from doomview_tools.trouble import Trouble
@@ -26,15 +26,15 @@ ABOUT = ('doomview {version}, made of the proved program: the module from which 
 def facts() -> dict:
     """What the scripts have from the tools in Python, by name."""
     found = {name: getattr(module, name) for module, names in (
-        (levels, 'UNIT TURN EYE_HEIGHT LEAF NO_SIDE PLAYER_1 BUILT_LUMPS'), (wads, 'MAP_LUMPS BEHIND_MAP'),
-        (ground, 'HEIGHT RADIUS STEP_UP BLOCKS SKY LINTEL SQUARE STEPS'), (cells, 'MOST_PLACES MOST_CUT CUTS MANY FINER APART SMALL'),
-        (counting, 'COUNTS LIMITS CAPPED RAISED'), (list_counts, 'EDGES'), (ways, 'SPEED THING_RADIUS DESTINATION SKILLS WANTED'),
+        (levels, 'UNIT TURN EYE_HEIGHT'), (wads, 'BEHIND_MAP'), (doom, 'LEAF NO_SIDE PLAYER_1 MAP_LUMPS BUILT_LUMPS BLOCKS SKY DESTINATION LIMITS'),
+        (ground, 'HEIGHT RADIUS STEP_UP LINTEL SQUARE STEPS'), (cells, 'MOST_PLACES MOST_CUT CUTS MANY FINER APART SMALL'),
+        (counting, 'COUNTS CAPPED RAISED'), (list_counts, 'EDGES'), (ways, 'SPEED THING_RADIUS WANTED'),
         (walls, 'FLOOR CEILING LIGHT'), (frames, 'WIDTH'), (traces, 'KINDS TEXTURED SHOWN_TEXTURES'), (lists, 'SHOWN_SECTORS'),
         (compare_page, 'MOST_VIEWS'), (refusals, 'FIELDS TABLES COLUMNS OF_ROWS OF_COLUMNS MOST_DEPTH NO_MAP')) for name in names.split()}
     found.update({name: sorted(getattr(module, name)) for module, names in (
-        (ground, 'STARTS BOSS_TAGS'), (ways, 'TO_THINGS TO_LINES STAIRS DONUT')) for name in names.split()})
+        (doom, 'STARTS'), (ground, 'BOSS_TAGS'), (ways, 'TO_THINGS TO_LINES STAIRS DONUT')) for name in names.split()})
     found.update(FRAME_HEIGHT=frames.HEIGHT, CODES=refusals.codes(),
-                 PACKED=[letters.decode('latin-1') for letters in PACKED], STATUS_LIMIT=counting.LIMIT,
+                 PACKED=[letters.decode('latin-1') for letters in PACKED], STATUS_LIMIT=jobs.LIMIT, SKILLS=doom.EVERY_SKILL,
                  EXTENDED=[letters.decode() for letters in levels.EXTENDED], **chosen())
     return found
 
@@ -66,8 +66,8 @@ def page(program: bytes) -> bytes:
     """The bytes of the page, with the bytes of the program as WebAssembly."""
     with open(home.data('things.csv'), 'rb') as file:
         built = {'program': coded(program), 'tables': coded(tables.tables()), 'things': coded(file.read())}
-    put = {'WORKER': parts(WORKER), 'PAGE': parts(PAGE), 'FACTS': pages.packed(facts()), 'BUILT': pages.packed(built),
-           'COMPARE': pages.packed(pages.SCRIPT.sub(lambda found: text(found[1]), text(compare_page.TEMPLATE))), None: ABOUT.format(version=home.version()['version'])}
+    put = {'WORKER': parts(WORKER), 'PAGE': parts(PAGE), 'FACTS': pages.json_of(facts()), 'BUILT': pages.json_of(built),
+           'COMPARE': pages.json_of(pages.SCRIPT.sub(lambda found: text(found[1]), text(compare_page.TEMPLATE))), None: ABOUT.format(version=home.version()['version'])}
     data = MARK.sub(lambda found: put[found[1]], text('doomview.html')).encode()
     if len(data) > MOST_BYTES:
         raise Trouble(f'the page has {len(data)} bytes, and {MOST_BYTES} is the most')

@@ -71,7 +71,7 @@ def room(floors, starts, nodes):
 
 
 def wad(lumps):
-    return wads.packed(lumps)
+    return wads.wad_of(lumps)
 
 
 def made_wad():

@@ -55,4 +55,4 @@ class Map:
 
     def alone(self):
         """The bytes of a PWAD of the map alone."""
-        return wads.packed(self.lumps.items(), b'PWAD')
+        return wads.wad_of(self.lumps.items(), b'PWAD')

@@ -87,13 +87,13 @@ class Made:
         return [{'planes': number % 1025, 'openings': number % 245761, 'fragments': number % 257, 'sprites': number % 129}
                 for number in map(hash, rows)]
 
-    def listed(self, rows, what=''):
+    def counts_by_list(self, rows, what=''):
         return iter(self.counts(rows))
 
     def ranges(self, rows, what=''):
         return iter([self.chance.randrange(33) for _ in rows])
 
-    def drawn(self, job, rows, size):
+    def views(self, job, rows, size):
         repeated = 1 if job == 'render' else 64
         return [self.chance.randbytes(size // repeated) * repeated for _ in rows]
 
@@ -206,7 +206,7 @@ class LimitsMap(Tools):
                 ([(0, 0, 64, 140), (64, 0, 64, 130), (192, 0, 64, 129)], 'worse', [(192, 0, None, 129)]),
                 ([(0, 0, 64, 140), (64, 0, 64, 130), (128, 0, 64, 128)], 'fewer', []),
                 ([(0, 0, 64, 120), (64, 0, 64, 131)], 'worse', [(0, 0, 140, 120), (64, 0, 130, 131)])]:
-            found = earlier.compared({'states': [old]}, {'states': [state(*squares)]}, counting.LIMITS)
+            found = earlier.comparison_of({'states': [old]}, {'states': [state(*squares)]}, counting.LIMITS)
             self.assertEqual([tuple(change[2:]) for change in found.changes], changes, squares)
             self.assertEqual((found.lines[0].split(',')[0], found.is_worse), (verdict, verdict == 'worse'), squares)
 
@@ -303,7 +303,7 @@ class LimitsMap(Tools):
         """Of what the planes, fragments and sprites are that have a pixel."""
         rows = [(1, 1, 4, 7, 99, 0), (1, 1, 4, 7, 98, 0), (1, 1, 5, 7, 99, 0), (4, 2, 5, 3, 0, 0), (2, 1, 0, 8, 1, 0),
                 (2, 1, 3, 8, 1, 0), (3, 2, 1, 2, 1, 0), (5, 1, 6, 9, 1, 0), (0, 0, 0, 0, 0, 0), (6, 1, 1, 9, 1, 0)]
-        found = limits_page.seen(b''.join(traces.RECORD.pack(*row) for row in rows), traces.Names([]))
+        found = limits_page.names_in(b''.join(traces.RECORD.pack(*row) for row in rows), traces.Names([]))
         fragments, planes = [['lump 7', 2], ['texture 3', 1]], [['lump 8', 2], ['texture 2', 1]]
         self.assertEqual(found, {'fragments': [2, 2, fragments], 'planes': [3, 2, planes],
                                  'sprites': [1, 1, [['lump 9', 1]]]})

@@ -112,7 +112,7 @@ class Lint(Tools):
         """A PWAD whose TEXTURE1 takes the place of the game's."""
         lists = room.textures([('OTHER', self.lumps['BRICKS'])])
         level = [(label, self.lumps[label]) for label in ('MAP01', *wads.MAP_LUMPS)]
-        self.write('patch.wad', wads.packed([*level, *lists, ('OTHER', self.lumps['BRICKS'])], b'PWAD'))
+        self.write('patch.wad', wads.wad_of([*level, *lists, ('OTHER', self.lumps['BRICKS'])], b'PWAD'))
         status, output, _ = self.run_tool('lint', '--iwad', 'whole.wad', 'patch.wad', 'MAP01', doomview=self.accepting)
         self.assertEqual(status, 1)
         self.assertIn('error list: patch.wad: its TEXTURE1 hides that of whole.wad, which has BRICKS', output.decode())

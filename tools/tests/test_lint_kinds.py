@@ -44,7 +44,7 @@ class Kinds(Tools):
 
     def findings(self, made, *lumps):
         """What lint finds in a map of a PWAD over the room's art, with more lumps there."""
-        files = [self.iwad, self.write('made.wad', wads.packed([*made.lumps.items(), *lumps], b'PWAD'))]
+        files = [self.iwad, self.write('made.wad', wads.wad_of([*made.lumps.items(), *lumps], b'PWAD'))]
         found = list(checks.findings(levels.read(files, 'MAP01'), files))
         return [lint.line_of(finding) for finding in found], lint.status_of(found), lint.status_of(found, True)
 
@@ -176,7 +176,7 @@ class Kinds(Tools):
 
     def test_strict(self):
         """What is odd counts for the status if that is asked for; a PWAD alone is told apart."""
-        self.write('odd.wad', wads.packed(Map('....', things=[(7, 3, 999, 0, 8)]).lumps.items(), b'PWAD'))
+        self.write('odd.wad', wads.wad_of(Map('....', things=[(7, 3, 999, 0, 8)]).lumps.items(), b'PWAD'))
         words = ['--iwad', 'game.wad', 'odd.wad', 'MAP01']
         accepting = self.stand_in('accepting', '#!/bin/sh\nexit 0\n')
         self.assertEqual(self.run_tool('lint', *words, doomview=accepting)[0], 0)
@@ -188,7 +188,7 @@ class Kinds(Tools):
         for own, lost in [([], ([], [])), ([('ONE', FLAT)], ([], ['ONE'])),
                           (own_flat('F_START', 'F_END'), (['ONE', 'TWO'], [])), (own_flat('FF_START', 'F_END'), ([], [])),
                           (own_flat('FF_START', 'FF_END'), ([], ['MYFLAT']))]:
-            files = [self.write('one.wad', wads.packed(game)), self.write('two.wad', wads.packed(own, b'PWAD'))]
+            files = [self.write('one.wad', wads.wad_of(game)), self.write('two.wad', wads.wad_of(own, b'PWAD'))]
             names = {'ONE', 'TWO', 'F_SKY1', *([] if len(own) < 2 else ['MYFLAT'])}
             self.assertEqual(art.Art(files).lost_flats(names), lost, own)
 

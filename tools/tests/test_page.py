@@ -192,7 +192,7 @@ class Views(Shown):
             for _ in range(40):
                 x, y = chance.randrange(320), chance.randrange(200)
                 record = traces.record_at(trace, 0, x, y)
-                said = places.told(view, record, traces.KINDS[record[0]][0]) or traces.told(record, names)
+                said = places.in_words(view, record, traces.KINDS[record[0]][0]) or traces.in_words(record, names)
                 told = self.value(f"crew.some('pixel', {{ row: walker.view.row, spans: 'full', isOpen: false, x: {x}, y: {y} }})")
                 self.assertEqual(told, said, f'{name}: column {x} row {y}')
             self.value('list.files = []; list.changed([]); 0')
@@ -369,7 +369,7 @@ class Wrong(Shown):
         """A WAD of 600 MB is read piece by piece."""
         path = self.at('large.wad')
         lumps = wads.read(self.room)
-        data = wads.packed(lumps)
+        data = wads.wad_of(lumps)
         place, shift = int.from_bytes(data[8:12], 'little'), 600 << 20
         moved = bytearray(data[:8] + (place + shift).to_bytes(4, 'little'))
         with open(path, 'wb') as file:

@@ -81,7 +81,7 @@ class Pipeline(Packing):
             lumps = [[name, bytearray(data)] for name, data in wads.read(self.at('mymap.wad'))]
             sides = next(data for name, data in lumps if name == 'SIDEDEFS')
             struct.pack_into('8s', sides, 20, MISTAKE.encode())
-            self.write('mymap.wad', wads.packed(lumps))
+            self.write('mymap.wad', wads.wad_of(lumps))
             self.assertEqual(levels.read([self.at('mymap.wad')], 'MAP01').sides[0].middle, MISTAKE)
 
     def test_map(self):

@@ -23,8 +23,8 @@ class Several(Tools):
         art = dict(part for parts in room.art() for part in parts)
         self.write('game.wad', room.room())
         lists = room.textures([(label, art[label]) for label in TEXTURES] + [('MINE', art['BRICKS'])])
-        self.write('art.wad', wads.packed([*lists, ('MINE', art['BRICKS'])], b'PWAD'))
-        self.write('more.wad', wads.packed([('FF_START', b''), ('MYFLAT', bytes(4096)), ('F_END', b'')], b'PWAD'))
+        self.write('art.wad', wads.wad_of([*lists, ('MINE', art['BRICKS'])], b'PWAD'))
+        self.write('more.wad', wads.wad_of([('FF_START', b''), ('MYFLAT', bytes(4096)), ('F_END', b'')], b'PWAD'))
         made = Map('....', **{'.': {'wall': 'MINE', 'below': 'MYFLAT'}})
         made.lumps = {'MAP07' if label == 'MAP01' else label: data for label, data in made.lumps.items()}
         self.write('mine.wad', made.alone())
@@ -72,7 +72,7 @@ class Several(Tools):
         """A WAD with two maps, whose textures and flats are in two others."""
         lumps = Map('....', **{'.': {'wall': 'MINE', 'below': 'MYFLAT'}}).lumps
         named = [('MAP07' if label == 'MAP01' else label, data) for label, data in lumps.items()]
-        return self.write('two.wad', wads.packed([*named, *((label.replace('07', '09'), data) for label, data in named)], b'PWAD'))
+        return self.write('two.wad', wads.wad_of([*named, *((label.replace('07', '09'), data) for label, data in named)], b'PWAD'))
 
     def test_all_maps(self):
         """audit-all looks at each map of the own WAD with all WADs in their order, and places has rows of each."""

@@ -214,7 +214,7 @@ class Comparison:
     def left_out(self, number: int) -> typing.Set[int]:
         """The numbers of a view's sprites that do not count."""
         least = self.options.least_width
-        return lists.narrow(self.placing.view(number), least) if least > 1 else set()
+        return lists.narrow(self.placing.view(number), least) if self.placing and least > 1 else set()
 
     def records(self, view: int) -> bytes:
         with open(self.options.trace, 'rb') as file:

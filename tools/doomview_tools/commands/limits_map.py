@@ -5,18 +5,20 @@ import math
 import os
 import re
 import tempfile
+import typing
 
-from .. import cli, cli_limits, earlier, ground, levels, paths, system, wads, ways
-from ..cells import Grid
-from ..counting import COUNTS, Progress, Runs
+from .. import art, cli, cli_limits, earlier, ground, levels, paths, system, wads, ways
+from ..cells import Cell, Grid
+from ..counting import COUNTS, Going, Progress, Runs
+from ..earlier import Change, Numbers
 from ..files import check_target, write_output, write_whole
 from ..index_page import index_page
+from ..levels import Level
 from ..limits_page import State, limits_page
-from ..png import GREYS
-from ..trouble import TROUBLE, Trouble
+from ..list_counts import Counts
+from ..trouble import FOUND, TROUBLE, Trouble
 from ..walls import walls_alone
 
-OVER = 1
 LEAST_STEP, MOST_STEP = 8, 1024
 SHOWN = 3  # things of a sector
 NUMBERS = re.compile(r'\[\n[-\d,\s]+\]')  # a list of numbers in JSON, each in a line of its own
@@ -54,7 +56,7 @@ $ doomview limits-map --iwad freedoom2.wad mymaps.wad --all-maps pages
 ''', more='MAPS.md')
 
 
-def add_words(parser):
+def add_words(parser: argparse.ArgumentParser) -> None:
     cli.add_level(parser, is_needed=False)
     parser.add_argument('page', metavar='OUT.html', nargs='?', help='the page, whose name ends in .html')
     parser.add_argument('--all-maps', metavar='FOLDER', help='looks at all maps of the WAD, prints a line for each, and '
@@ -82,7 +84,7 @@ def add_words(parser):
     cli.add_job_options(parser, 'limits', WITHOUT)
 
 
-def check(options):
+def check(options: argparse.Namespace) -> None:
     """A Trouble where the words cannot do, before anything is counted."""
     if options.all_maps and (options.map or options.worst or options.opened):
         raise Trouble('--all-maps looks at all maps of a WAD; name no map, page, --worst or --opened beside it')
@@ -92,18 +94,18 @@ def check(options):
         raise Trouble(f'--step is a multiple of {LEAST_STEP}, and {options.step} is none')
     if options.page is not None and not options.page.endswith('.html'):
         raise Trouble(f'the name of the page has to end in .html, and {options.page} does not')
-    written = list(filter(None, (options.page, options.worst, options.opened)))
-    for path in written:
+    targets: typing.List[str] = list(filter(None, (options.page, options.worst, options.opened)))
+    for path in targets:
         check_target(path)
-    used = list(map(os.path.realpath, written + options.files))
-    for path in written:
+    used = [os.path.realpath(path) for path in targets + options.files]
+    for path in targets:
         if used.count(os.path.realpath(path)) > 1:
             raise Trouble(f'{path} is named twice, or is a WAD that is read; name another file')
 
 
-def numbers(plan, states, options):
+def numbers(plan: ground.Plan, states: typing.List[State], options: argparse.Namespace) -> Numbers:
     """All numbers of the summary."""
-    def of_count(grid, name):
+    def of_count(grid: Grid, name: str) -> Numbers:
         worst = grid.worst(name, 1)
         return {'most': worst[0][0] if worst else 0, 'limit': options.limits[name], 'over': grid.over[name],
                 'row': list(worst[0][1][:4]) if worst else None}
@@ -115,83 +117,79 @@ def numbers(plan, states, options):
             'over': any(state.grid.is_bad() for state in states), 'directions': options.directions, 'states': shown}
 
 
-def square(cell):
+def square(cell: Cell) -> typing.List[int]:
     """A cell as JSON has it: its x and y, the side of its square, and its counts."""
     return [cell.x, math.floor(cell.y), cell.size, *map(cell.count, COUNTS)]
 
 
-def json_of(found):
+def json_of(found: Numbers) -> str:
     """The numbers of a map as JSON, with a line for each square."""
-    return NUMBERS.sub(lambda it: ' '.join(it[0].split()), json.dumps(found, indent=1))
+    return NUMBERS.sub(lambda numbers: ' '.join(numbers[0].split()), json.dumps(found, indent=1))
 
 
-def no_way(level, wanted):
+def no_way(level: Level, wanted: ways.Wanted) -> typing.List[Numbers]:
     """The sectors with things that a player wants and to which no way was found, with these things."""
     return [{'sector': sector, 'things': [{'thing': number, 'what': ways.WANTED[level.things[number].type]}
                                           for number in things]} for sector, things in wanted.items()]
 
 
-def summary(found):
+def summary(found: Numbers) -> typing.Iterator[str]:
     """The numbers as lines for a user."""
     name = os.path.basename(found['wad'])
     yield f'{found["map"]} of {name}: a player reaches {found["reached"]} of its {found["sectors"]} sectors'
     for one in found['no_way']:
-        yield f'no way was found to sector {one["sector"]}, which is looked at all the same: {things_told(one)}'
+        yield f'no way was found to sector {one["sector"]}, which is looked at all the same: {things_in_words(one)}'
     for state in found['states']:
         yield f'doors {state["doors"]}: {state["views"]} views from {state["places"]} places'
-        for name, it in state['counts'].items():
-            over = f'{it["over"]} view{"s" * (it["over"] > 1)} over' if it['over'] else 'none over'
-            row = ','.join(map(str, it['row'])) if it['row'] else '-'
-            yield f'  {name:9} most {it["most"]} of {it["limit"]}, {over}, row {row}'
+        for name, count in state['counts'].items():
+            over = f'{count["over"]} view{"s" * (count["over"] > 1)} over' if count['over'] else 'none over'
+            row = ','.join(map(str, count['row'])) if count['row'] else '-'
+            yield f'  {name:9} most {count["most"]} of {count["limit"]}, {over}, row {row}'
     yield from found.get('before', ())
 
 
-def things_told(one):
+def things_in_words(one: Numbers) -> str:
     """The things of a sector, in words."""
     shown = [f'{thing["what"]} (thing {thing["thing"]})' for thing in one['things'][:SHOWN]]
     more = len(one['things']) - SHOWN
     return ', '.join(shown) + (f' and {more} more' if more > 0 else '')
 
 
-def states_of(plan, runs, options, folder, before):
+def states_of(plan: ground.Plan, runs: Runs, options: argparse.Namespace, folder: str,
+              before: Numbers) -> typing.Tuple[typing.List[State], typing.Dict[int, int]]:
     """The map with its doors shut, and open unless that is left out; from the grid of an earlier run, if there is one."""
     reach, doors = ways.reach(plan), plan.doors()
     if not reach.sectors and not options.all:
         raise plan.level.error('has no start of a player; --all looks from all places')
     plans = [('shut', plan, runs)]
     if doors and not options.shut:
-        path = written(folder, 'open.wad', ground.with_ceilings(plan.level, doors))
+        path = file_of(folder, 'open.wad', ground.with_ceilings(plan.level, doors))
         plans.append(('open', ground.Plan(levels.read([path], plan.level.name)), runs.over(options.files, path)))
     found = []
-    for label, its, its_runs in plans:
-        walls = runs.over(options.files, written(folder, f'{label}-walls.wad', walls_alone(its.level)))
+    for label, plan_so, runs_so in plans:
+        walls = runs.over(options.files, file_of(folder, f'{label}-walls.wad', walls_alone(plan_so.level)))
         start = earlier.start_of(before, label)
-        grid = Grid(ground.Ground(its), its_runs, walls, reach, options, f'doors {label}, ', start)
-        found.append(State(label, grid, its_runs))
+        grid = Grid(ground.Ground(plan_so), runs_so, walls, reach, options, f'doors {label}, ', start)
+        found.append(State(label, grid, runs_so))
     if not any(state.grid.cells for state in found):
         raise plan.level.error('has no place with room for a player')
     return found, doors
 
 
-def written(folder, name, data):
-    """The path of a file of a folder that is written."""
+def file_of(folder: str, name: str, data: bytes) -> str:
+    """The path of a file of a folder, which is written."""
     path = os.path.join(folder, name)
     write_whole(path, data)
     return path
 
 
-def palette_of(files):
-    lumps = dict(lump for path in files for lump in wads.read(path))
-    return lumps.get('PLAYPAL', GREYS)[:len(GREYS)]
-
-
-def worst_path(states, options):
+def worst_path(states: typing.List[State], options: argparse.Namespace) -> str:
     """The worst views of all counts as a camera path, each once."""
     rows = [row for state in states for row in state.views(options.views)[0]]
     return paths.text(list(dict.fromkeys(rows)))
 
 
-def run(options):
+def run(options: argparse.Namespace) -> int:
     options.files = cli.wads_of(options)
     check(options)
     wads.check_game(options.files)
@@ -199,38 +197,39 @@ def run(options):
     options.earlier = earlier.numbers_of(options.before) if options.before else {}
     if options.all_maps:
         return run_all(options)
-    found, told = look(options)
-    write_output(json_of(found) + '\n' if options.json else told)
+    found, lines = look(options)
+    write_output(json_of(found) + '\n' if options.json else lines)
     return status_of(found)
 
 
-def status_of(found):
+def status_of(found: Numbers) -> int:
     """The status for the numbers of a map: beside an earlier run, whether something over a limit got worse."""
-    return OVER if found.get('worse', found['over']) else 0
+    return FOUND if found.get('worse', found['over']) else 0
 
 
-def run_all(options):
+def run_all(options: argparse.Namespace) -> int:
     """Looks at all maps of the WAD, prints a line for each and writes their pages and an index; the status."""
     make_folder(options.all_maps)
-    own, found, status = wads.find(options.wad), {}, 0
+    own, status = wads.find(options.wad), 0
+    found: typing.Dict[str, typing.Union[Numbers, str]] = {}  # of a map its numbers, or why there are none
     for name in wads.maps_of([own]):
         options.map, options.page = name, os.path.join(options.all_maps, f'{name}.html')
         try:
-            found[name], _ = look(options)
-            told, now = line_of(name, found[name]), status_of(found[name])
+            of_map, _ = look(options)
+            line, now = line_of(name, of_map), status_of(of_map)
+            found[name] = of_map
         except Trouble as error:
-            found[name] = str(error) or 'refused'
-            told, now = f'{name} {found[name]}', TROUBLE
-        if options.json:
-            told = json.dumps(found[name] if now != TROUBLE else {'map': name, 'trouble': found[name]})
-        write_output(f'{told}\n')
+            trouble = str(error) or 'refused'
+            line, now = f'{name} {trouble}', TROUBLE
+            found[name], of_map = trouble, {'map': name, 'trouble': trouble}
+        write_output(f'{json.dumps(of_map) if options.json else line}\n')
         status = max(status, now)
     index = index_page(os.path.basename(own), found, options.limits)
     write_whole(os.path.join(options.all_maps, 'index.html'), index)
     return status
 
 
-def make_folder(path):
+def make_folder(path: str) -> None:
     """A folder for pages; a Trouble where there can be none."""
     try:
         os.makedirs(path, exist_ok=True)
@@ -238,29 +237,29 @@ def make_folder(path):
         raise Trouble(f'cannot make the folder {path}: {error.strerror}') from error
 
 
-def line_of(name, found):
+def line_of(name: str, found: Numbers) -> str:
     """The numbers of a map as one line: the greatest counts with the doors shut, and open."""
     counts = [[state['counts'][count] for state in found['states']] for count in COUNTS]
-    told = [f'{count} {"/".join(str(one["most"]) for one in of)}{" over" if any(one["over"] for one in of) else ""}'
-            for count, of in zip(COUNTS, counts)]
-    worse = {True: '; worse than before', False: '; no worse than before'}.get(found.get('worse'), '')
-    return f'{name} {", ".join(told)}{worse}'
+    parts = [f'{count} {"/".join(str(one["most"]) for one in of)}{" over" if any(one["over"] for one in of) else ""}'
+             for count, of in zip(COUNTS, counts)]
+    worse = f'; {"worse" if found["worse"] else "no worse"} than before' if 'worse' in found else ''
+    return f'{name} {", ".join(parts)}{worse}'
 
 
-def look(options):
+def look(options: argparse.Namespace) -> typing.Tuple[Numbers, str]:
     """Looks at a map and writes the files; its numbers, and these as lines."""
     progress = Progress('limits-map')
     with tempfile.TemporaryDirectory(prefix='doomview-') as folder:
-        runs = Runs(options.map, options.files, cli.job_words(options), folder, options.jobs, progress)
+        going = Going(folder, options.jobs, progress)
         try:
-            return looked(options, runs, folder, progress)
+            return look_by(Runs.over_map(options.map, options.files, cli.job_words(options), going), options)
         finally:
-            runs.stop()
+            going.stop()
             progress.clear()
 
 
-def looked(options, runs, folder, progress):
-    """The same with runs of the program."""
+def look_by(runs: Runs, options: argparse.Namespace) -> typing.Tuple[Numbers, str]:
+    """The same by runs of the program."""
     runs.check()
     level = cli.level_of(options, options.files)
     level.check_whole()
@@ -268,25 +267,25 @@ def looked(options, runs, folder, progress):
     if options.before and not options.all_maps and not before:
         raise Trouble(f'{options.before} has no numbers of {level.name}')
     options = argparse.Namespace(**{**vars(options), 'directions': before.get('directions', options.directions)})
-    states, doors = states_of(plan, runs, options, folder, before)
-    found, changes = numbers(plan, states, options), []
-    if before:
-        changes = compare(found, before, options.limits)
-    told = ''.join(f'{line}\n' for line in summary(found))
-    progress.tell('drawing the worst views')
+    states, doors = states_of(plan, runs, options, runs.going.folder, before)
+    found = numbers(plan, states, options)
+    changes = compare(found, before, options.limits) if before else []
+    lines = ''.join(f'{line}\n' for line in summary(found))
+    runs.going.progress.tell('drawing the worst views')
     if options.page:
-        write_whole(options.page, limits_page(plan, options.files, states, palette_of(options.files), options, doors,
-                                              told, found.get('before', []), changes))
+        palette = art.palette_of(dict(lump for path in options.files for lump in wads.read(path)))
+        write_whole(options.page, limits_page(plan, options.files, states, palette, options, doors, lines,
+                                              found.get('before', []), changes))
     if options.opened:
         write_whole(options.opened, ground.with_ceilings(plan.level, doors))
     if options.worst:
         write_whole(options.worst, worst_path(states, options).encode())
-    return found, told
+    return found, lines
 
 
-def compare(found, before, limits):
+def compare(found: Numbers, before: Numbers, limits: Counts) -> typing.List[Change]:
     """Adds to the numbers of a map what differs from an earlier run; its changes place by place."""
-    comparison = earlier.compared(before, found, limits)
+    comparison = earlier.comparison_of(before, found, limits)
     found['before'], found['worse'] = comparison.lines, comparison.is_worse
     found['changes'] = [change._asdict() for change in comparison.changes]
     return comparison.changes

@@ -57,11 +57,11 @@ def run(options: argparse.Namespace) -> None:
     names = traces.Names(files)
     names.check(traces.RECORD.pack(*record), options.trace)
     placing = lists.placing_of(options, files, count, names)
-    told = traces.told(record, names)
+    told = traces.in_words(record, names)
     if placing:
         word = traces.KINDS.get(record[0], [''])[0]
-        told = placing.places.told(placing.view(options.view), record, word) or told
+        told = placing.places.in_words(placing.view(options.view), record, word) or told
     rows = rows_of(options, count)
     print(f'view {options.view} column {options.x} row {options.y}: {told}')
     if rows:
-        print(f'view {options.view}: {paths.told(rows[options.view])}')
+        print(f'view {options.view}: {paths.in_words(rows[options.view])}')

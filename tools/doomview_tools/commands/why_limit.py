@@ -1,18 +1,19 @@
 """doomview why-limit: why a view has as many planes, fragments, sprites and solid ranges as it has."""
+import argparse
 import os
 import tempfile
+import typing
 
 from .. import cli, cli_limits, ground, levels, lists, paths, program, reasons, traces, wads, walls, what_if
 from ..counting import RAISED
 from ..explanations import explained
 from ..files import write_whole
-from ..levels import UNIT
-from ..trouble import TROUBLE, Ended, Trouble
+from ..jobs import USAGE
+from ..levels import UNIT, Level
+from ..paths import Row
+from ..trouble import FOUND, TROUBLE, Ended, Trouble
 
-OVER = 1
-USAGE = 1  # a status of the program
 WITHOUT = ('--path', '--planes', '--openings', '--weapon', '--spans')  # of list: given by the tool itself, or not at all
-FARTHEST = 32767  # map units
 OUTSIDE = '  the place is outside the level: no player sees this view'
 PAGE = cli.Page(
     'why-limit', 'why a view has so many planes, fragments, sprites or solid ranges, and what would save most', '''
@@ -48,7 +49,7 @@ $ doomview why-limit freedoom2.wad MAP12 --path worst.csv 0 5
 ''', more='MAPS.md')
 
 
-def add_words(parser):
+def add_words(parser: argparse.ArgumentParser) -> None:
     cli.add_level(parser)
     parser.add_argument('views', metavar='VIEW', nargs='*', help='X,Y,ANGLE, or X,Y,Z,ANGLE as in a camera path; with '
                         '--path its number there, from 0')
@@ -59,7 +60,7 @@ def add_words(parser):
     cli.add_job_options(parser, 'list', WITHOUT)
 
 
-def rows_of(options, level):
+def rows_of(options: argparse.Namespace, level: Level) -> typing.List[typing.Tuple[int, Row]]:
     """The views that the words name: pairs of a number and a row."""
     if not options.path:
         if not options.views:
@@ -72,7 +73,8 @@ def rows_of(options, level):
     return [(number, rows[number]) for number in (map(int, options.views) if options.views else range(len(rows)))]
 
 
-def listed(options, files, rows, folder, name='list.txt'):
+def list_of(options: argparse.Namespace, files: typing.List[str], rows: typing.List[Row], folder: str,
+            name: str = 'list.txt') -> lists.ListFile:
     """What `list` writes of rows, with raised limits, to a file of a name."""
     path, output = os.path.join(folder, 'path.csv'), os.path.join(folder, name)
     write_whole(path, paths.text(rows).encode())
@@ -85,33 +87,35 @@ def listed(options, files, rows, folder, name='list.txt'):
     return lists.ListFile(output)
 
 
-def opened(files, level, folder):
+def with_open_doors(files: typing.List[str], level: Level, folder: str) -> typing.Tuple[typing.List[str], Level]:
     """The WADs with one more behind them, in which the doors are open, and the level of that."""
     path = os.path.join(folder, 'open.wad')
     write_whole(path, ground.with_ceilings(level, ground.Plan(level).doors()))
     return files + [path], levels.read([path], level.name)
 
 
-def walls_listed(options, files, level, rows, folder):
+def list_of_walls(options: argparse.Namespace, files: typing.List[str], level: Level, rows: typing.List[Row],
+                  folder: str) -> lists.ListFile:
     """The same of the solid walls of a level alone."""
     path = os.path.join(folder, 'walls.wad')
     write_whole(path, walls.walls_alone(level))
-    return listed(options, [*files, path], rows, folder, 'walls.txt')
+    return list_of(options, [*files, path], rows, folder, 'walls.txt')
 
 
-def is_outside(level, row):
+def is_outside(level: Level, row: Row) -> bool:
     """Whether the place of a view is outside the lines of a level."""
     place = ground.Ground(ground.Plan(level))
     return all(place.is_void(row.x / UNIT, row.y // UNIT + off) for off in (-.5, .5))
 
 
-def what_ifs(options, files, level, row, view, places, folder):
+def what_ifs(options: argparse.Namespace, files: typing.List[str], level: Level, row: Row, view: lists.View,
+             places: lists.Places, folder: str) -> typing.List[what_if.Result]:
     """What a view would count after changes of its sectors."""
     words = [options.map, *files], cli.job_words(options)
     return what_if.results(words, level, row, reasons.planes_of_sectors(view, places), folder)
 
 
-def run(options):
+def run(options: argparse.Namespace) -> int:
     files = cli.wads_of(options)
     wads.check_game(files)
     level = cli.level_of(options, files)
@@ -119,9 +123,9 @@ def run(options):
     rows, limits = rows_of(options, level), cli_limits.limits_of(options)
     with tempfile.TemporaryDirectory(prefix='doomview-') as folder:
         if options.open:
-            files, level = opened(files, level, folder)
-        found = listed(options, files, [row for _, row in rows], folder)
-        of_walls = walls_listed(options, files, level, [row for _, row in rows], folder)
+            files, level = with_open_doors(files, level, folder)
+        found = list_of(options, files, [row for _, row in rows], folder)
+        of_walls = list_of_walls(options, files, level, [row for _, row in rows], folder)
         places = lists.Places(level, traces.Names(files), 'what doomview list wrote')
         is_bad = False
         for place, (number, row) in enumerate(rows):
@@ -133,4 +137,4 @@ def run(options):
             lines[1:1] = [OUTSIDE] if is_outside(level, row) else []
             print('\n'.join(([''] if place else []) + lines), flush=True)
             is_bad |= is_over
-    return OVER if is_bad else 0
+    return FOUND if is_bad else 0
