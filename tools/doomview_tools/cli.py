@@ -74,7 +74,7 @@ class Parser(argparse.ArgumentParser):
         self.arguments: typing.List[Argument] = []
         self.plain, self.options = (self.add_argument_group(title) for title in ('Words', 'Options'))
 
-    def add_argument(self, *names: str, **more: typing.Any) -> argparse.Action:  # type: ignore[override]
+    def add_argument(self, *names: str, **more: typing.Any) -> argparse.Action:
         action = (self.options if names[0].startswith('-') else self.plain).add_argument(*names, **more)
         self.arguments.append(Argument(action.option_strings, str(action.metavar or ''), action.nargs, action.required))
         return action
