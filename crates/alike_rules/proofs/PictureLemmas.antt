@@ -5,8 +5,7 @@ use Rattle.alike_rules.specs.Rules.{Dot, Event, FRAME_CELLS, FRAME_WIDTH, Limits
 use Rattle.alike_rules.proofs.BuiltLemmas.{AreOf, IsEventOf, counts-moved, event-moved, event-of, moved_now}
 use Rattle.alike_rules.proofs.DotLemmas.{colour-moved, joined-along, last-moved, moved_dot}
 use Rattle.alike_rules.proofs.EntryLemmas.{moved_layer, order-moved, weapon_dots-moved}
-use Rattle.alike_rules.proofs.FloorLemmas.{plane_dots-moved}
-use Rattle.alike_rules.proofs.MiddleLemmas.{masked_dots-moved}
+use Rattle.alike_rules.proofs.{FloorLemmas.plane_dots-moved, MiddleLemmas.masked_dots-moved}
 use Rattle.alike_rules.proofs.PlaneLemmas.{IsOneToOne, moved_plane}
 use Rattle.alike_rules.proofs.SceneLemmas.{IsMovedScene, drawsegs-same, entries-moved, moved_step, planes_built-moved, steps-moved, steps-of, walk-same, walls-moved}
 use Rattle.alike_rules.proofs.StripLemmas.{moved_wall, wall_dots-moved}

@@ -1,8 +1,7 @@
 -- The walk of a level whose flats have other numbers meets the same leaves and fragments.
 use Rattle.picture_rules.proofs.Common.{ap, Bool, cond, false, List, None, Option, option_map, refl, Some, suc, true, zero, ℕ, ◌+◌, ◌∙◌, ◌≡◌}
 use Rattle.alike_rules.specs.Rules.{Child, LevelLists, MAX_DEPTH, Node, Surface, ViewValue, WalkState, at_far, at_leaf, at_leaf_of, at_node, at_seg, at_seg_of, at_segs, back_of, box_passes, enters, far_box, far_child, leaf_at, middle_of, near_child, node_at, seg_at, sky_flat, surface_at, view_events, walk_child, walk_start}
-use Rattle.picture_rules.specs.Words.{Node as NodeChild}
-use Rattle.picture_rules.specs.Child.TheVariants.{Leaf as LeafChild}
+use Rattle.picture_rules.specs.{Words.Node as NodeChild, Child.TheVariants.Leaf as LeafChild}
 use Rattle.alike_rules.proofs.PlaneLemmas.{IsOneToOne}
 use Rattle.alike_rules.proofs.SurfaceLemmas.{IsBackOf, IsSurfaceOf, moved_surface, pass-moved, solid-moved}
 

@@ -1,6 +1,5 @@
 -- Laws of `each_of`.
-use Rattle.word_rules.proofs.Common.{[], add-zero, ap, arith, Err, length, List, Ok, range_with_len, refl, Result, suc, sym, take, take_more_set, zero, zero-add, ℕ, ◌++◌, ◌+◌, ◌<◌, ◌∙◌, ◌∷◌, ◌≡◌}
-use Rattle.std.proofs.Math.ListN.{set}
+use Rattle.word_rules.proofs.Common.{[], add-zero, ap, arith, Err, length, List, Ok, range_with_len, refl, Result, suc, sym, take, take_more_set, zero, zero-add, ℕ, ◌++◌, ◌+◌, ◌<◌, ◌∙◌, ◌∷◌, ◌≡◌, set}
 use Rattle.outside.specs.Faults.{and_then}
 use Rattle.art_rules.specs.Books.{each_of}
 

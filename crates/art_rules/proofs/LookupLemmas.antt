@@ -2,8 +2,7 @@
 use Rattle.word_rules.proofs.Common.{[], ap, arith, get_or-replicate, get_or_default, length, length-append, length-replicate, List, nat_lt, nat_tests, refl, replicate, replicate-append-replicate, slice_index_or, suc, sym, take_all, true, ℕ, ◌*◌, ◌++◌, ◌+◌, ◌<◌, ◌==◌, ◌∙◌, ◌∷◌, ◌≡◌}
 use Rattle.word_rules.specs.Listed.{joined_lists}
 use Rattle.word_rules.proofs.ListedLemmas.{get_or-listed, length-listed, listed-all}
-use Rattle.art_rules.specs.declared.PlacedPatch.{PlacedPatch}
-use Rattle.art_rules.specs.declared.ColumnLookup.{ColumnLookup}
+use Rattle.art_rules.specs.{declared.PlacedPatch.PlacedPatch, declared.ColumnLookup.ColumnLookup}
 use Rattle.art_rules.specs.declared.ColumnLookup.TheVariants.{Empty, Composed}
 use Rattle.art_rules.specs.Columns.{patches_in, is_composed, is_single, composed_columns, composed_count, composite_size, composite_place, last_put, composed_byte, column_posts, composed_column, composite, patch_texel, texel_of, texel}
 use Rattle.art_rules.specs.Lookups.{lookup_of, column_lookup, column_lookups, AreColumnsOf, composite_of_first, texel_by, single_place, is_single_lookup, is_composed_lookup}

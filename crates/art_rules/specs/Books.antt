@@ -5,17 +5,13 @@ use Rattle.std.specs.Option.{ok_or, option_and_then}
 use Rattle.std.specs.Str.{bytes_eq}
 use Rattle.outside.specs.Faults.{and_then}
 use Rattle.word_rules.specs.Listed.{joined_lists}
-use Rattle.lump_rules.specs.declared.wad.Lump.{Lump}
-use Rattle.lump_rules.specs.Contents.{lump_bytes}
-use Rattle.art_rules.specs.declared.Mention.{Mention}
-use Rattle.art_rules.specs.declared.patch.Patch.{Patch}
+use Rattle.lump_rules.specs.{declared.wad.Lump.Lump, Contents.lump_bytes}
+use Rattle.art_rules.specs.{declared.Mention.Mention, declared.patch.Patch.Patch}
 use Rattle.art_rules.specs.declared.TheConstants.{ROTATIONS}
-use Rattle.art_rules.specs.declared.refusal.SpriteRefusal.{SpriteRefusal}
+use Rattle.art_rules.specs.{declared.refusal.SpriteRefusal.SpriteRefusal, Patches.patch_of}
 use Rattle.art_rules.specs.declared.refusal.SpriteRefusal.TheVariants.{NoFrame, MissingRotation, BadPatch}
-use Rattle.art_rules.specs.Patches.{patch_of}
 use Rattle.art_rules.specs.Frames.{mentions, last_that, is_of_frame, frame_picture}
-use Rattle.art_rules.specs.declared.shapes.Need.{Need}
-use Rattle.art_rules.specs.declared.shapes.Shape.{Shape}
+use Rattle.art_rules.specs.{declared.shapes.Need.Need, declared.shapes.Shape.Shape}
 use Rattle.art_rules.specs.declared.shapes.Frame.{Frame}
 
 -- what f gives of the items in their order, or the first refusal

@@ -2,13 +2,10 @@
 -- (R_GenerateLookup, R_GenerateComposite, R_DrawColumnInCache, r_data.c).
 use Rattle.std.specs.Prelude.{◌≡◌, ℕ, ◌+◌, ◌-◌, ◌*◌, ◌==◌, ◌&&◌, Bool, cond, nat_lt, nat_le, ℤ, pos, negsuc, ◌+ℤ◌, ◌-ℤ◌, int_lt, int_le, List, [], ◌∷◌, length, filter, map, min, unwrap_or, Option, Some, None, refl}
 use Rattle.std.specs.List.{range_with_len}
-use Rattle.word_rules.specs.Least.{or_else}
-use Rattle.word_rules.specs.Listed.{listed, joined_lists}
-use Rattle.word_rules.specs.Words.{natural}
+use Rattle.word_rules.specs.{Least.or_else, Listed.listed, Listed.joined_lists, Words.natural}
 use Rattle.pixel_rules.specs.declared.Post.{Post}
 use Rattle.art_rules.specs.declared.PlacedPatch.{PlacedPatch}
-use Rattle.art_rules.specs.declared.layout.TheConstants.{POST_BYTES_AT}
-use Rattle.art_rules.specs.Bytes.{byte_at}
+use Rattle.art_rules.specs.{declared.layout.TheConstants.POST_BYTES_AT, Bytes.byte_at}
 use Rattle.art_rules.specs.Patches.{column_place, posts}
 
 -- a patch stands in column x of its texture

@@ -1,10 +1,8 @@
 -- The pictures of a sprite's frame, by the names of sprite lumps (R_InitSpriteDefs, r_things.c).
 use Rattle.std.specs.Prelude.{◌≡◌, ℕ, suc, ◌+◌, ◌-◌, ◌==◌, ◌&&◌, Bool, true, false, cond, nat_le, List, [], ◌∷◌, ◌++◌, take, Option, Some, None, slice_index, refl}
 use Rattle.std.specs.Str.{bytes_eq}
-use Rattle.word_rules.specs.Least.{or_else}
-use Rattle.word_rules.specs.Listed.{joined_lists}
-use Rattle.lump_rules.specs.declared.wad.Lump.{Lump}
-use Rattle.lump_rules.specs.declared.names.Group.TheVariants.{Sprites}
+use Rattle.word_rules.specs.{Least.or_else, Listed.joined_lists}
+use Rattle.lump_rules.specs.{declared.wad.Lump.Lump, declared.names.Group.TheVariants.Sprites}
 use Rattle.lump_rules.specs.Lookups.{lump_at, members}
 use Rattle.art_rules.specs.declared.Mention.{Mention}
 use Rattle.art_rules.specs.declared.TheConstants.{SPRITE_LETTERS, SECOND_PAIR_AT, FIRST_FRAME, LAST_FRAME, FIRST_ROTATION, LAST_ROTATION}

@@ -1,13 +1,10 @@
 -- What each column of a texture is read from, and its texels by that (R_GenerateLookup,
 -- R_GetColumn, r_data.c).
 use Rattle.std.specs.Prelude.{◌≡◌, ℕ, ◌+◌, ◌<◌, ℤ, pos, negsuc, bit_and, Bool, true, false, is_some, List, [], ◌∷◌, length, Option, Some, None, take, slice_index_or, refl}
-use Rattle.word_rules.specs.Listed.{listed, joined_lists}
-use Rattle.word_rules.specs.Words.{bits_of}
-use Rattle.art_rules.specs.declared.PlacedPatch.{PlacedPatch}
-use Rattle.art_rules.specs.declared.ColumnLookup.{ColumnLookup}
+use Rattle.word_rules.specs.{Listed.listed, Listed.joined_lists, Words.bits_of}
+use Rattle.art_rules.specs.{declared.PlacedPatch.PlacedPatch, declared.ColumnLookup.ColumnLookup}
 use Rattle.art_rules.specs.declared.ColumnLookup.TheVariants.{Empty, Single, Composed}
-use Rattle.art_rules.specs.declared.layout.TheConstants.{POST_BYTES_AT}
-use Rattle.art_rules.specs.Bytes.{byte_at}
+use Rattle.art_rules.specs.{declared.layout.TheConstants.POST_BYTES_AT, Bytes.byte_at}
 use Rattle.art_rules.specs.Patches.{column_place}
 use Rattle.art_rules.specs.Columns.{patches_in, own_column, composed_columns, composed_column, composite_place}
 

@@ -4,8 +4,7 @@ use Rattle.std.specs.Prelude.{◌≡◌, ℕ, zero, suc, ◌+◌, ◌-◌, ◌*�
 use Rattle.std.specs.Option.{option_map_or}
 use Rattle.std.specs.Str.{bytes_eq}
 use Rattle.outside.specs.Faults.{and_then}
-use Rattle.word_rules.specs.Least.{least, or_else}
-use Rattle.word_rules.specs.Listed.{listed}
+use Rattle.word_rules.specs.{Least.least, Least.or_else, Listed.listed}
 use Rattle.lump_rules.specs.Names.{name_of}
 use Rattle.art_rules.specs.declared.TextureEntry.{TextureEntry}
 use Rattle.art_rules.specs.declared.refusal.TexRefusal.{TexRefusal}

@@ -3,16 +3,12 @@
 use Rattle.std.specs.Prelude.{ℕ, suc, ◌==◌, Bool, false, true, cond, nat_lt, List, [], ◌∷◌, filter, Option, Some, None, Result, Ok, Err, slice_get, option_and_then, option_map}
 use Rattle.std.specs.List.{range_with_len, list_any}
 use Rattle.outside.specs.Faults.{and_then}
-use Rattle.art_rules.specs.declared.patch.Patch.{Patch}
-use Rattle.art_rules.specs.declared.PlacedPatch.{PlacedPatch}
-use Rattle.art_rules.specs.declared.ColumnLookup.{ColumnLookup}
-use Rattle.art_rules.specs.declared.TextureEntry.{TextureEntry}
+use Rattle.art_rules.specs.{declared.patch.Patch.Patch, declared.PlacedPatch.PlacedPatch}
+use Rattle.art_rules.specs.{declared.ColumnLookup.ColumnLookup, declared.TextureEntry.TextureEntry}
 use Rattle.art_rules.specs.declared.refusal.TexRefusal.{TexRefusal}
 use Rattle.art_rules.specs.declared.refusal.TexRefusal.TheVariants.{MissingPatch, TooBig}
-use Rattle.art_rules.specs.declared.TheConstants.{MAX_COMPOSITE}
-use Rattle.art_rules.specs.Patches.{patch_of}
-use Rattle.art_rules.specs.Textures.{Texture, TextureLists}
-use Rattle.art_rules.specs.Columns.{composite_size}
+use Rattle.art_rules.specs.{declared.TheConstants.MAX_COMPOSITE, Patches.patch_of}
+use Rattle.art_rules.specs.{Textures.Texture, Textures.TextureLists, Columns.composite_size}
 use Rattle.art_rules.specs.Lookups.{column_lookups}
 
 -- what a patch's number means: the last lump of its name, where that is a patch

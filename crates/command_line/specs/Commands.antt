@@ -3,8 +3,7 @@ use Rattle.std.specs.Prelude.{◌≡◌, ℕ, cond, ◌==◌, List, [], ◌∷�
 use Rattle.clap.specs.Words.{Row, Text, all_of, fault_of, first_of, matches_of}
 use Rattle.command_line.specs.Rules.{Command, CommandValue, Format, IsCounted, LevelTask, MAX_COUNT, MIN_COUNT, MakeJob, Path, Tables, Things, Wad, command_value, exercise, flat, level_job, make, name_of_text}
 use Rattle.command_line.specs.declared.fault.CommandFault.{CommandFault}
-use Rattle.command_line.specs.declared.fault.CommandFault.TheVariants.{Usage}
-use Rattle.command_line.specs.Simple.{simple_command}
+use Rattle.command_line.specs.{declared.fault.CommandFault.TheVariants.Usage, Simple.simple_command}
 use Rattle.command_line.specs.Choices.{format_in, number_within, takes_given, zone_in}
 use Rattle.command_line.specs.LevelJobs.{are_wads, level_task_in, level_job_of}
 

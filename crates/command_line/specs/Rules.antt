@@ -1,8 +1,8 @@
 -- The words of the rules below that this crate cites, by the page that each comes from.
 pub use Rattle.job_rules.specs.Commands.{CommandValue, IsCounted, command_value, exercise, flat, level_job, make}
 pub use Rattle.job_rules.specs.LevelJobs.{FileNames, LevelJobValue, file_names, level_job_value}
-pub use Rattle.job_rules.specs.Ranges.{AreSettings, IsWithin, IsZone}
 unfoldable pub use Rattle.job_rules.specs.Options.{takes}
+pub use Rattle.job_rules.specs.Ranges.{AreSettings, IsWithin, IsZone}
 pub use Rattle.job_rules.specs.declared.command.Command.{Command}
 pub use Rattle.job_rules.specs.declared.command.Format.{Format}
 pub use Rattle.job_rules.specs.declared.command.Format.TheVariants.{Index, Ppm}

@@ -1,9 +1,8 @@
 -- The simple command: a job, options with one value each, and the rest, in `clap`'s words.
 use Rattle.std.specs.Prelude.{true, Some, codes, List, [], ◌∷◌, map}
 use Rattle.clap.specs.Words.{App, Rule, Text, new_app, new_rule, with_rule}
-use Rattle.clap.specs.Simple.{on_top}
+use Rattle.clap.specs.{Simple.on_top, declared.builder.ArgAction.TheVariants.Append}
 use Rattle.command_line.specs.Rules.{OPTIONS}
-use Rattle.clap.specs.declared.builder.ArgAction.TheVariants.{Append}
 
 -- an option that takes one value
 abbrev pub option_rule : Text → Rule

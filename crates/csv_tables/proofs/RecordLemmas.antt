@@ -1,16 +1,10 @@
 -- Laws of the records of a text, and of a header.
-use Rattle.std.proofs.Common.{Bor, ◌≡◌, ℕ, zero, suc, ◌+◌, ◌<◌, ◌≤◌, Bool, true, false, ◌&&◌, List, [], ◌∷◌, ◌++◌, length, drop, take, map, get_or, if◌then◌else◌, ◌⊎◌, inl, inr, Option, Some, None, refl, ap, sym, ◌∙◌, arith, bytes_eq}
-use Rattle.std.specs.Option.{option_map_or}
-use Rattle.std.proofs.lemmas.List.{length-map}
-use Rattle.std.proofs.Math.ListN.{drop_of_length-le}
+use Rattle.view_rules.proofs.Common.{Bor, ◌≡◌, ℕ, zero, suc, ◌+◌, ◌<◌, ◌≤◌, Bool, true, false, ◌&&◌, List, [], ◌∷◌, ◌++◌, length, drop, take, map, get_or, if◌then◌else◌, ◌⊎◌, inl, inr, Option, Some, None, refl, ap, sym, ◌∙◌, arith, bytes_eq, option_map_or, length-map, drop_of_length-le}
 use Rattle.csv.specs.Machine.{Read, ends_at_end, field_after, fields_after, is_end, next_record, step}
-use Rattle.csv.specs.declared.reader.Reader.{Reader}
-use Rattle.csv.specs.declared.error.ErrorKind.{ErrorKind}
+use Rattle.csv.specs.{declared.reader.Reader.Reader, declared.error.ErrorKind.ErrorKind}
 use Rattle.csv.specs.declared.error.ErrorKind.TheVariants as kind
 use Rattle.csv.specs.Reading.{ExplainsRead, is_flexible, Reached, records_from, default_config, strip_bom}
-use Rattle.csv.specs.Records.{field_at}
-use Rattle.csv.specs.declared.parser.Config.{Config}
-use Rattle.csv.specs.declared.parser.State.{State}
+use Rattle.csv.specs.{Records.field_at, declared.parser.Config.Config, declared.parser.State.State}
 use Rattle.csv.specs.declared.parser.State.TheVariants as st
 use Rattle.csv_tables.specs.Records.{is_header, is_of_length, csv_records}
 

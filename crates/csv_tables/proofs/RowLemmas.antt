@@ -1,15 +1,9 @@
 -- Laws of `rows_after`, for a loop over the records, and for a table of which the first ones are read.
-use Rattle.std.proofs.Common.{◌≡◌, ℕ, zero, suc, ◌+◌, ◌<◌, ◌≤◌, List, [], ◌∷◌, ◌++◌, length, map, take, drop, get_or, Result, Ok, Err, refl, ap, sym, ◌∙◌, arith, inl, inr}
-use Rattle.std.specs.List.{All}
-use Rattle.std.proofs.Math.ListN.{drop_of_length-le}
-use Rattle.std.proofs.lemmas.List.{at_drop_more, get_or-map, length-append, length-map}
-use Rattle.std.proofs.lemmas.List.Elements.{All-push}
-use Rattle.std.proofs.lemmas.Bool.{cases_eq}
+use Rattle.view_rules.proofs.Common.{◌≡◌, ℕ, zero, suc, ◌+◌, ◌<◌, ◌≤◌, List, [], ◌∷◌, ◌++◌, length, map, take, drop, get_or, Result, Ok, Err, refl, ap, sym, ◌∙◌, arith, inl, inr, All, drop_of_length-le, at_drop_more, get_or-map, length-append, length-map, All-push, cases_eq}
 use Rattle.csv_tables.specs.declared.fault.CsvRefusal.{CsvRefusal}
 use Rattle.csv_tables.specs.declared.fault.CsvRefusal.TheVariants.{TooMany}
 use Rattle.csv_tables.specs.declared.fault.CsvFault.{CsvFault}
-use Rattle.csv_tables.specs.declared.fault.CsvFault.TheVariants.{Refused}
-use Rattle.csv_tables.specs.Records.{then_checked}
+use Rattle.csv_tables.specs.{declared.fault.CsvFault.TheVariants.Refused, Records.then_checked}
 use Rattle.csv_tables.specs.Rows.{rows_after}
 
 -- the records are at their end

@@ -1,10 +1,7 @@
 -- What `rows_after` says of the rows before each record, and of how many rows there are.
-use Rattle.std.proofs.Common.{◌≡◌, ℕ, suc, ◌+◌, ◌<◌, ◌≤◌, List, [], ◌∷◌, ◌++◌, length, take, get_or, Result, Ok, Err, refl, ap, sym, ◌∙◌, arith, ◌⊎◌, inl, inr}
-use Rattle.std.proofs.lemmas.List.{length-append}
-use Rattle.std.proofs.lemmas.Bool.{cases_eq}
+use Rattle.view_rules.proofs.Common.{◌≡◌, ℕ, suc, ◌+◌, ◌<◌, ◌≤◌, List, [], ◌∷◌, ◌++◌, length, take, get_or, Result, Ok, Err, refl, ap, sym, ◌∙◌, arith, ◌⊎◌, inl, inr, length-append, cases_eq}
 use Rattle.csv_tables.specs.declared.fault.CsvRefusal.{CsvRefusal}
-use Rattle.csv_tables.specs.declared.fault.CsvRefusal.TheVariants.{TooMany}
-use Rattle.csv_tables.specs.Rows.{rows_after}
+use Rattle.csv_tables.specs.{declared.fault.CsvRefusal.TheVariants.TooMany, Rows.rows_after}
 
 -- record k is read where the rows before it were taken, with the next row's number
 pub record ReadsTo {A : Type 0} (read : List A → ℕ → List (List ℕ) → Result A CsvRefusal) (rows : List A) (records : List (List (List ℕ))) (k : ℕ) (found : Result A CsvRefusal) : Type 0 where

@@ -1,6 +1,5 @@
 -- The first records of a file say what its table is, where they go past the limit of rows, which a weapon table keeps.
-use Rattle.std.proofs.Common.{◌≡◌, ℕ, zero, suc, ◌+◌, ◌<◌, ◌≤◌, Bool, true, false, cond, nat_lt, List, [], ◌∷◌, length, take, Result, Ok, Err, IfOk, refl, ap, sym, ◌∙◌, arith}
-use Rattle.std.proofs.lemmas.Bool.Decides.{nat_tests}
+use Rattle.view_rules.proofs.Common.{◌≡◌, ℕ, zero, suc, ◌+◌, ◌<◌, ◌≤◌, Bool, true, false, cond, nat_lt, List, [], ◌∷◌, length, take, Result, Ok, Err, IfOk, refl, ap, sym, ◌∙◌, arith, nat_tests}
 use Rattle.csv_tables.specs.declared.fault.CsvRefusal.{CsvRefusal}
 use Rattle.csv_tables.specs.declared.fault.CsvRefusal.TheVariants.{Header, TooMany}
 use Rattle.view_rules.specs.declared.Eye.{Eye}

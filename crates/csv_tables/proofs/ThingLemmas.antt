@@ -1,11 +1,8 @@
 -- Laws of the numbers of a thing table's lines.
-use Rattle.std.proofs.Common.{◌≡◌, ℕ, zero, suc, ◌+◌, ◌<◌, ◌≤◌, true, false, cond, ◌==◌, List, [], ◌∷◌, ◌++◌, length, get_or, set, replicate, option_map, slice_get, All, IfSome, Option, Some, None, refl, ap, sym, ◌∙◌, arith, inl, inr, eq-eqb}
-use Rattle.std.proofs.lemmas.List.{get_or-set_same, get_or-set_other, length-append, length-set, length-replicate}
-use Rattle.std.proofs.lemmas.Bool.{ne_eqb, cases_eq}
-use Rattle.level_rules.specs.declared.ThingLine.{ThingLine}
+use Rattle.view_rules.proofs.Common.{◌≡◌, ℕ, zero, suc, ◌+◌, ◌<◌, ◌≤◌, true, false, cond, ◌==◌, List, [], ◌∷◌, ◌++◌, length, get_or, set, replicate, option_map, slice_get, All, IfSome, Option, Some, None, refl, ap, sym, ◌∙◌, arith, inl, inr, eq-eqb, get_or-set_same, get_or-set_other, length-append, length-set, length-replicate, ne_eqb, cases_eq}
+use Rattle.level_rules.specs.{declared.ThingLine.ThingLine, Types.row_of}
 use Rattle.csv_tables.specs.declared.things.TheConstants.{TYPES}
 use Rattle.csv_tables.specs.Things.{IsLineInRange, IsThingInRange}
-use Rattle.level_rules.specs.Types.{row_of}
 use Rattle.csv_tables.specs.Slots.{AreNumbersOf, numbered_row}
 
 some-none : {X : Type 0} (x : X) → ◌≡◌ {A = Option X} (Some x) None → ⊥

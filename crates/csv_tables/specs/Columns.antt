@@ -3,10 +3,9 @@ use Rattle.std.specs.Prelude.{ℕ, Bool, cond, nat_le, ◌==◌, ◌&&◌, int_l
 use Rattle.std.specs.List.{list_all}
 use Rattle.std.specs.Char.{to_ascii_uppercase}
 use Rattle.csv.specs.Records.{field_at}
-use Rattle.csv_tables.specs.declared.fault.CsvRefusal.{CsvRefusal}
+use Rattle.csv_tables.specs.{declared.fault.CsvRefusal.CsvRefusal, Numbers.number}
 use Rattle.csv_tables.specs.declared.fault.CsvRefusal.TheVariants.{Fields, Number, Range}
 use Rattle.csv_tables.specs.declared.columns.TheConstants.{FIRST_FRAME, FIRST_VISIBLE, GREATEST_PLACE, LAST_FRAME, LAST_VISIBLE, LEAST_PLACE, SPRITE_LENGTH}
-use Rattle.csv_tables.specs.Numbers.{number}
 use Rattle.csv_tables.specs.Records.{then_checked}
 
 -- a number from low to high

@@ -5,8 +5,7 @@ use Rattle.csv_tables.specs.declared.fault.CsvRefusal.TheVariants.{Header}
 use Rattle.view_rules.specs.declared.Eye.{Eye}
 use Rattle.csv_tables.specs.declared.path.TheConstants.{LIT_WIDTH, MAX_ANGLE, MAX_COLORMAP, MAX_EXTRALIGHT, MAX_VIEWS, PLAIN_WIDTH}
 use Rattle.csv_tables.specs.Records.{then_checked, is_header, checked_shape, table_records}
-use Rattle.csv_tables.specs.Columns.{natural_column, place_column}
-use Rattle.csv_tables.specs.Rows.{rows_after}
+use Rattle.csv_tables.specs.{Columns.natural_column, Columns.place_column, Rows.rows_after}
 
 -- the light of a view is within its range
 abbrev pub HasLightInRange : Eye → Type 0

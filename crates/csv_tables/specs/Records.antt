@@ -3,9 +3,8 @@ use Rattle.std.specs.Prelude.{◌≡◌, ℕ, Bool, true, false, cond, ◌==◌,
 use Rattle.csv.specs.Reading.{records, default_config, strip_bom}
 use Rattle.csv.specs.declared.error.ErrorKind.{ErrorKind}
 use Rattle.csv.specs.declared.error.ErrorKind.TheVariants as kind
-use Rattle.csv_tables.specs.declared.fault.CsvRefusal.{CsvRefusal}
+use Rattle.csv_tables.specs.{declared.fault.CsvRefusal.CsvRefusal, declared.fault.CsvFault.CsvFault}
 use Rattle.csv_tables.specs.declared.fault.CsvRefusal.TheVariants.{Fields, Header, TooLong, TooMany}
-use Rattle.csv_tables.specs.declared.fault.CsvFault.{CsvFault}
 use Rattle.csv_tables.specs.declared.fault.CsvFault.TheVariants.{Refused}
 use Rattle.csv_tables.specs.declared.records.TheConstants.{MAX_TABLE_BYTES}
 

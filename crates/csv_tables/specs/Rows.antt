@@ -1,7 +1,6 @@
 -- The rows of a table, each read where those before it were taken.
 use Rattle.std.specs.Prelude.{ℕ, ◌+◌, List, [], ◌∷◌, ◌++◌, length, Result, Ok}
-use Rattle.csv_tables.specs.declared.fault.CsvRefusal.{CsvRefusal}
-use Rattle.csv_tables.specs.Records.{then_checked}
+use Rattle.csv_tables.specs.{declared.fault.CsvRefusal.CsvRefusal, Records.then_checked}
 
 -- the rows so far and those of the records that follow, or the first refusal: `read` takes the
 -- rows before, the row's number, counted from 1, and its fields

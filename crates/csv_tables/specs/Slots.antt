@@ -1,7 +1,6 @@
 -- The numbers of a thing table's lines, by type.
 use Rattle.std.specs.Prelude.{◌≡◌, ℕ, zero, suc, ◌<◌, ◌≤◌, List, length, Option, None, option_map, get_or, slice_get}
-use Rattle.level_rules.specs.declared.ThingRow.{ThingRow}
-use Rattle.level_rules.specs.declared.ThingLine.{ThingLine}
+use Rattle.level_rules.specs.{declared.ThingRow.ThingRow, declared.ThingLine.ThingLine}
 use Rattle.csv_tables.specs.declared.things.TheConstants.{TYPES}
 use Rattle.level_rules.specs.Types.{row_of}
 

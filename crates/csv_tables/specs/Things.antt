@@ -2,15 +2,13 @@
 use Rattle.std.specs.Prelude.{ℕ, ◌≤◌, cond, List, [], ◌∷◌, Option, is_some, Result, Ok, Err, codes}
 use Rattle.csv.specs.Records.{field_at}
 use Rattle.csv_tables.specs.declared.fault.CsvRefusal.{CsvRefusal}
-use Rattle.csv_tables.specs.declared.fault.CsvRefusal.TheVariants.{Repeat}
-use Rattle.level_rules.specs.declared.ThingRow.{ThingRow}
-use Rattle.level_rules.specs.declared.ThingLine.{ThingLine}
+use Rattle.csv_tables.specs.{declared.fault.CsvRefusal.TheVariants.Repeat, Rows.rows_after}
+use Rattle.level_rules.specs.{declared.ThingRow.ThingRow, declared.ThingLine.ThingLine}
 use Rattle.level_rules.specs.Types.{row_of}
 use Rattle.csv_tables.specs.declared.things.TheConstants.{MAX_HANG, MAX_THINGS, MAX_TYPE, THING_WIDTH}
 use Rattle.csv_tables.specs.declared.columns.TheConstants.{FIRST_FRAME, LAST_FRAME}
 use Rattle.csv_tables.specs.Records.{then_checked, checked_shape, rows_under, table_records}
 use Rattle.csv_tables.specs.Columns.{flag_column, frame_column, natural_column, sprite_field}
-use Rattle.csv_tables.specs.Rows.{rows_after}
 
 -- the frame is a frame letter, and the distance from the ceiling within its range
 abbrev pub IsThingInRange : ThingRow → Type 0

@@ -2,12 +2,11 @@
 use Rattle.std.specs.Prelude.{ℕ, ◌≤◌, List, [], ◌∷◌, Result, Ok, codes}
 use Rattle.csv.specs.Records.{field_at}
 use Rattle.csv_tables.specs.declared.fault.CsvRefusal.{CsvRefusal}
-use Rattle.csv_tables.specs.declared.weapons.WeaponRow.{WeaponRow}
+use Rattle.csv_tables.specs.{declared.weapons.WeaponRow.WeaponRow, Rows.rows_after}
 use Rattle.csv_tables.specs.declared.weapons.TheConstants.{MAX_VIEW, MAX_WEAPONS, WEAPON_WIDTH}
 use Rattle.csv_tables.specs.declared.columns.TheConstants.{FIRST_FRAME, LAST_FRAME}
 use Rattle.csv_tables.specs.Records.{then_checked, checked_shape, rows_under, table_records}
 use Rattle.csv_tables.specs.Columns.{flag_column, frame_column, natural_column, place_column, sprite_field}
-use Rattle.csv_tables.specs.Rows.{rows_after}
 
 -- the number of the view is one that a path may have, and the frame is a frame letter
 abbrev pub IsWeaponInRange : WeaponRow → Type 0

@@ -1,14 +1,12 @@
 -- Worked tables.
 use Rattle.std.specs.Prelude.{◌≡◌, ℕ, true, [], ◌∷◌, Ok, Err, pos, negsuc, codes, refl}
-use Rattle.csv.specs.Records.{field_at}
-use Rattle.csv.specs.Reading.{records_from, strip_bom}
+use Rattle.csv.specs.{Records.field_at, Reading.records_from, Reading.strip_bom}
 use Rattle.csv.specs.Machine.{next_record}
 use Rattle.csv_tables.specs.declared.fault.CsvRefusal.TheVariants.{Fields, Number, Range, Repeat}
 use Rattle.numerals.specs.Numerals.{digits_after, is_numeral, numeral}
-use Rattle.csv_tables.specs.Numbers.{is_negative, number}
+use Rattle.csv_tables.specs.{Numbers.is_negative, Numbers.number, Rows.rows_after}
 use Rattle.csv_tables.specs.Records.{is_header, csv_records, checked_shape, rows_under, table_records}
 use Rattle.csv_tables.specs.Columns.{capital, flag_column, frame_column, in_range, integer_column, is_frame_letter, is_sprite, natural_column, natural_of, number_in, place_column, sprite_field}
-use Rattle.csv_tables.specs.Rows.{rows_after}
 use Rattle.csv_tables.specs.Paths.{light_column, path_in, path_of_records, path_row, path_width, view_of_fields}
 use Rattle.csv_tables.specs.Things.{line_of_fields, lines_of_records, not_repeated, read_line, thing_line, things_in_table}
 use Rattle.level_rules.specs.Types.{row_of}

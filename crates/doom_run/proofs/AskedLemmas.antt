@@ -1,14 +1,12 @@
 -- The list of all that a level needs has what drawing its views may ask for.
 use Rattle.picture_rules.proofs.Common.{Contains, inl, inr, List, Ok, Option, Some, true, ℕ, ℤ, ◌≡◌, ◌⊎◌}
 use Rattle.doom_run.specs.Rules.{File, Frame, Item, LevelJobValue, Owner, PreparedTexture, ShelfView, has_item, lump_bytes}
-use Rattle.texture_build.specs.Calls.{HasAll}
-use Rattle.texture_build.specs.Asked.{IsAskedByColumn}
-use Rattle.texture_build.specs.Sources.{column_in, column_index}
+use Rattle.texture_build.specs.{Calls.HasAll, Asked.IsAskedByColumn}
+use Rattle.texture_build.specs.{Sources.column_in, Sources.column_index, Draws.HasTexturesAsked}
 use Rattle.texture_build.specs.Views.{AreTexturesOf, IsPrepared, prepared_at, prepared_texture}
-use Rattle.texture_build.proofs.TexelLemmas.{prepared_is}
-use Rattle.texture_build.proofs.ViewLemmas.{textures_columns}
+use Rattle.texture_build.proofs.{TexelLemmas.prepared_is, ViewLemmas.textures_columns}
 use Rattle.sound_scene.specs.Sound.{SoundValue, art_with, textures_view}
-use Rattle.job_files.specs.Sizes.{wad_contents}
+use Rattle.job_files.specs.{Sizes.wad_contents, declared.read.SceneFiles.SceneFiles}
 use Rattle.level_audit.specs.scene_load.Loads.{load_in, loaded_pictures, loaded_value, weapon_lumps}
 use Rattle.level_audit.specs.scene_load.Orders.{loaded_items}
 use Rattle.level_audit.proofs.scene_load.OrderLemmas.{items_composite, items_lump}
@@ -19,8 +17,6 @@ use Rattle.doom_run.specs.Renders.{HasReadyAsked, IsLayerLump, IsReady}
 use Rattle.doom_run.proofs.DrawnLemmas.{loaded_textures}
 use Rattle.doom_run.proofs.PictureLemmas.{layer_needed, layer_there}
 use Rattle.frame_core.proofs.RowLemmas.{textures_rows}
-use Rattle.texture_build.specs.Draws.{HasTexturesAsked}
-use Rattle.job_files.specs.declared.read.SceneFiles.{SceneFiles}
 use Rattle.doom_run.specs.Frames.{KeepsReady}
 
 module _ (level : LevelJobValue) (wads : List (List ℕ)) (files : List File) (ready : ReadyViews) (is : load_in level wads files ≡ Ok (loaded_value ready.loaded)) (stands : IsReady level ready) where

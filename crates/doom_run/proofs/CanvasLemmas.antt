@@ -1,27 +1,22 @@
 -- What a canvas has of a view of a path.
 use Rattle.picture_rules.proofs.Common.{ap, Err, List, Ok, on_ok_weaker, OnOk, option_map, Result, slice_get, Some, sym, ℕ, ◌∙◌, ◌≡◌}
 use Rattle.doom_run.specs.Rules.{AreInView, Eye, Index, IsWithinFrame, Painter, Ppm, ShelfView, overlaid_paints, overlaid_picture, view_of}
-use Rattle.pixel_strips.specs.Canvases.{CanvasView, marked_by_colour}
-use Rattle.pixel_strips.specs.Dotted.{HasDots}
+use Rattle.pixel_strips.specs.{Canvases.CanvasView, Canvases.marked_by_colour, Dotted.HasDots}
 use Rattle.frame_writer.specs.Ppm.{ppm}
 use Rattle.pixel_trace.specs.Records.{trace_mark}
 use Rattle.pixel_trace.proofs.SeenLemmas.{IsCleared, seen-picture, seen-trace}
 use Rattle.level_audit.specs.scene_load.Loads.{loaded_value}
-use Rattle.frame_core.specs.declared.fault.ViewFault.{ViewFault}
-use Rattle.frame_core.specs.Ends.{EndsOver, EndsWithin}
+use Rattle.frame_core.specs.{declared.fault.ViewFault.ViewFault, Ends.EndsOver, Ends.EndsWithin}
 use Rattle.sound_scene.specs.Pictures.{scene_of}
 use Rattle.frame_core.specs.Views.{placed_for}
 use Rattle.doom_run.specs.declared.canvas.ViewCanvas.{ViewCanvas}
 use Rattle.doom_run.specs.declared.canvas.ViewCanvas.TheVariants as canvas
 use Rattle.doom_run.specs.declared.form.ViewForm.TheVariants as form
-use Rattle.doom_run.specs.declared.render.ReadyViews.{ReadyViews}
-use Rattle.doom_run.specs.Drawn.{DrawsLayered}
-use Rattle.doom_run.specs.Frames.{IsDrawnAt}
-use Rattle.doom_run.specs.Layers.{SeenView, layers_of, seen_view}
+use Rattle.doom_run.specs.{declared.render.ReadyViews.ReadyViews, Drawn.DrawsLayered}
+use Rattle.doom_run.specs.{Frames.IsDrawnAt, Layers.SeenView, Layers.layers_of, Layers.seen_view}
 use Rattle.doom_run.specs.Renders.{DrawsAt, ready_bytes, ready_views}
 use Rattle.doom_run.specs.Views.{ViewsValue, view_bytes}
-use Rattle.doom_run.proofs.FitLemmas.{fits_at}
-use Rattle.doom_run.proofs.FrameLemmas.{over_at-eye, view_get}
+use Rattle.doom_run.proofs.{FitLemmas.fits_at, FrameLemmas.over_at-eye, FrameLemmas.view_get}
 
 -- View number k is there, it lies in the frame, and all that it shows in it; a canvas that is placed where it
 -- lies was given that, and then its layers.

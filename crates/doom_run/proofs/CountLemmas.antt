@@ -1,7 +1,6 @@
 -- A scene that may be drawn may be counted.
 use Rattle.picture_rules.proofs.Common.{[], All, All-cons, All-head, All-nil, All-tail, arith, length, List, ℕ, ◌∷◌, ◌≤◌}
-use Rattle.art_rules.specs.Words.{Lump}
-use Rattle.doom_run.specs.Rules.{Flat, Heap, SKY_FLAT, SceneValue, Sector, SectorFlats, flat_number, surface_of, surfaces_of}
+use Rattle.doom_run.specs.Rules.{Flat, Heap, Lump, SKY_FLAT, SceneValue, Sector, SectorFlats, flat_number, surface_of, surfaces_of}
 use Rattle.scene_rules.specs.declared.Flat.TheVariants.{Sky, Lump as LumpFlat}
 use Rattle.level_scene.specs.Bounds.{AreThere, IsThere}
 use Rattle.frame_core.specs.Views.{AreFlatNumbers, CanCount, CanDrawView}

@@ -5,20 +5,16 @@ use Rattle.art_rules.specs.Fault.TheVariants as fault
 use Rattle.refusals.specs.declared.refusal.Refusal.{Refusal}
 use Rattle.wad_trim.specs.Writes.{IsCopied, IsPartThere, WritesLumps}
 use Rattle.wad_trim.specs.declared.fault.TrimWrite.{TrimWrite}
-use Rattle.job_files.specs.Statuses.{status_of}
-use Rattle.job_files.specs.declared.status.Status.{Status}
+use Rattle.job_files.specs.{Statuses.status_of, declared.status.Status.Status}
 use Rattle.job_files.specs.declared.status.Status.TheVariants.{ZoneFull, OutOfMemory}
 use Rattle.level_audit.specs.declared.scene_load.load.LoadedScene.{LoadedScene}
-use Rattle.level_audit.specs.scene_load.Calls.{IsLoadedScene}
+use Rattle.level_audit.specs.{scene_load.Calls.IsLoadedScene, scene_load.Orders.loaded_items}
 use Rattle.level_audit.specs.scene_load.Loads.{LoadedValue, load_in, loaded_sizes, loaded_value, wad_bytes}
-use Rattle.level_audit.specs.scene_load.Orders.{loaded_items}
 use Rattle.level_audit.proofs.scene_load.OrderLemmas.{items_read}
 use Rattle.doom_run.specs.Ends.{EndsAt, IsDelivered, WritesDue}
 use Rattle.doom_run.specs.Jobs.{Delivery, Written, done, telling, trimming}
-use Rattle.doom_run.specs.Leasts.{delivery_least, least_over}
-use Rattle.doom_run.specs.Performs.{Delivers}
-use Rattle.doom_run.specs.Steps.{at_step}
-use Rattle.doom_run.specs.Trims.{IsPlanFault, plan_in, status_of_written}
+use Rattle.doom_run.specs.{Leasts.delivery_least, Leasts.least_over, Performs.Delivers}
+use Rattle.doom_run.specs.{Steps.at_step, Trims.IsPlanFault, Trims.plan_in, Trims.status_of_written}
 use Rattle.doom_run.specs.Verdict.{Accepted, accepted_in, delivered}
 use Rattle.doom_run.specs.Views.{ViewsValue, views_of}
 use Rattle.doom_run.proofs.EndLemmas.{delivers_all, delivers_render, fault_no_end, frames_more, loaded_named, renders_end}

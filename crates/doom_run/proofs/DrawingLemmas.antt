@@ -3,24 +3,18 @@ use Rattle.picture_rules.proofs.Common.{ap, List, Ok, refl, subst, sym, ℕ, ◌
 use Rattle.doom_run.specs.Rules.{LevelJobValue, ShelfView, from_below, lump_at}
 use Rattle.job_files.specs.declared.status.Status.{Status}
 use Rattle.level_audit.specs.declared.scene_load.load.LoadedScene.{LoadedScene}
-use Rattle.level_audit.specs.scene_load.Calls.{IsLoadedScene}
+use Rattle.level_audit.specs.{scene_load.Calls.IsLoadedScene, scene_load.Orders.loaded_items}
 use Rattle.level_audit.specs.scene_load.Loads.{LoadedValue, loaded_sizes, loaded_value}
-use Rattle.level_audit.specs.scene_load.Orders.{loaded_items}
-use Rattle.doom_run.specs.declared.form.ViewForm.{ViewForm}
-use Rattle.doom_run.specs.declared.render.ReadyViews.{ReadyViews}
+use Rattle.doom_run.specs.{declared.form.ViewForm.ViewForm, declared.render.ReadyViews.ReadyViews}
 use Rattle.doom_run.specs.Ends.{EndsAt, IsDelivered, IsEnd, RendersAt, WritesDue}
 use Rattle.doom_run.specs.Jobs.{Written, drawing, rendered, telling}
-use Rattle.doom_run.specs.Performs.{Delivers}
+use Rattle.doom_run.specs.{Performs.Delivers, Steps.at_step, Verdict.accepted_in, Verdict.delivered}
 use Rattle.doom_run.specs.Renders.{FitDue, HoldsReady, IsDrawable, IsReady, RendersReady, ready_bytes, ready_views}
-use Rattle.doom_run.specs.Steps.{at_step}
-use Rattle.doom_run.specs.Verdict.{accepted_in, delivered}
 use Rattle.doom_run.specs.Views.{ViewsValue, limits_of_settings, views_of}
-use Rattle.doom_run.proofs.AskedLemmas.{ready_asked}
-use Rattle.doom_run.proofs.DrawnLemmas.{drawable, view_draw}
+use Rattle.doom_run.proofs.{AskedLemmas.ready_asked, DrawnLemmas.drawable, DrawnLemmas.view_draw}
 use Rattle.doom_run.proofs.ReadyLemmas.{ready_as}
 use Rattle.doom_run.proofs.EndLemmas.{frames_more, loaded_named, renders_end}
-use Rattle.doom_run.proofs.FitLemmas.{least_drawn}
-use Rattle.doom_run.proofs.TakeLemmas.{keeps_once}
+use Rattle.doom_run.proofs.{FitLemmas.least_drawn, TakeLemmas.keeps_once}
 use Rattle.doom_run.proofs.DeliverLemmas.{telling_delivers}
 
 -- a scene that was loaded is drawable once it is ready

@@ -4,20 +4,17 @@ use Rattle.doom_run.specs.Rules.{File, LevelJobValue, SceneArt, lump_at, lump_bl
 use Rattle.art_rules.proofs.Laws.{and_then-ok}
 use Rattle.texture_build.specs.Views.{AreTexturesOf}
 use Rattle.sound_scene.specs.Sound.{art_with, textures_view}
-use Rattle.frame_core.proofs.EnoughLemmas.{view_full}
+use Rattle.frame_core.proofs.{EnoughLemmas.view_full, SceneLemmas.drawable-whole}
 use Rattle.sound_scene.proofs.FullLemmas.{IsArtFull}
-use Rattle.frame_core.proofs.SceneLemmas.{drawable-whole}
-use Rattle.job_files.specs.Files.{files_in}
+use Rattle.job_files.specs.{Files.files_in, Sizes.wad_contents}
 use Rattle.frame_core.specs.Views.{CanDrawView}
 use Rattle.level_audit.specs.declared.scene_load.load.LoadedScene.{LoadedScene}
 use Rattle.level_audit.specs.scene_load.Calls.{IsLoadedScene}
-use Rattle.job_files.specs.Sizes.{wad_contents}
 use Rattle.level_audit.specs.scene_load.Loads.{LoadedValue, load_in, loaded_pictures, loaded_value, wad_bytes, weapon_lumps}
 use Rattle.level_audit.proofs.scene_load.ArtLemmas.{scene_textures}
 use Rattle.level_audit.proofs.scene_load.AuditedLemmas.{audited_by}
 use Rattle.level_audit.proofs.scene_load.LoadLemmas.{audited_of}
-use Rattle.doom_run.specs.declared.render.ReadyViews.{ReadyViews}
-use Rattle.doom_run.specs.Fulls.{IsFullDraw}
+use Rattle.doom_run.specs.{declared.render.ReadyViews.ReadyViews, Fulls.IsFullDraw}
 use Rattle.doom_run.specs.Renders.{IsFullView, IsReady}
 use Rattle.doom_run.proofs.PictureLemmas.{layer_needed, layer_there}
 use Rattle.doom_run.proofs.BlockLemmas.{art_draw}

@@ -1,8 +1,7 @@
 -- The frames that are due, by the first view that is over a limit.
 use Rattle.picture_rules.proofs.Common.{[], ap, arith, cases_lt, drop, inl, inr, is_some, length, List, None, Option, refl, Some, suc, sym, take, true, unwrap_or, zero, ℕ, ◌++◌, ◌+◌, ◌-◌, ◌<◌, ◌∙◌, ◌∷◌, ◌≡◌, ◌≤◌}
-use Rattle.doom_run.specs.Rules.{OverLimit, least}
+use Rattle.doom_run.specs.{Rules.OverLimit, Rules.least, declared.form.ViewForm.ViewForm}
 use Rattle.picture_rules.proofs.Laws.{joined_lists-append, least-is, least-none, least-some}
-use Rattle.doom_run.specs.declared.form.ViewForm.{ViewForm}
 use Rattle.doom_run.specs.Layers.{SeenView}
 use Rattle.doom_run.specs.Views.{ViewsValue, due_views, first_over, frames_of, over_at, rendered_bytes, view_bytes}
 

@@ -4,16 +4,14 @@ use Rattle.doom_run.specs.Rules.{Fault, FaultFitsOrAbsent, File, Grew, GrewByPre
 use Rattle.art_rules.specs.Fault.TheVariants as fault
 use Rattle.art_rules.proofs.Laws.{and_then-ok, prefix_of_none}
 use Rattle.refusals.specs.declared.refusal.Refusal.{Refusal}
-use Rattle.job_files.specs.Files.{files_in, files_named}
-use Rattle.job_files.specs.Sizes.{wad_contents}
+use Rattle.job_files.specs.{Files.files_in, Files.files_named, Sizes.wad_contents}
 use Rattle.level_audit.specs.scene_load.Loads.{LoadedValue, load_in}
 use Rattle.job_files.proofs.AcceptedLemmas.{wads_accepted}
 use Rattle.job_files.specs.declared.status.Status.{Status}
 use Rattle.job_files.specs.declared.status.Status.TheVariants.{Done, Usage, Refused, ReadFault, WriteFault, Limit, ZoneFull, OutOfMemory}
 use Rattle.job_files.specs.Statuses.{DeliversBytes, status_of}
 use Rattle.doom_run.specs.Ends.{DeliversAt, EndsAt, IsDelivered, IsEnd, IsReadOrFull, IsUnwritten, RendersAt, StopsWith}
-use Rattle.doom_run.specs.Jobs.{Written, done}
-use Rattle.doom_run.specs.Steps.{RunStop, at_step}
+use Rattle.doom_run.specs.{Jobs.Written, Jobs.done, Steps.RunStop, Steps.at_step}
 use Rattle.doom_run.specs.Verdict.{Accepted, accepted_in}
 
 -- where nothing was written a run may stop, whatever its verdict

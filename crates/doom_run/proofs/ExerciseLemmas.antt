@@ -5,16 +5,14 @@ use Rattle.art_rules.specs.Stops as files
 use Rattle.art_rules.proofs.Laws.{grew_none}
 use Rattle.csv_tables.specs.declared.path.TheConstants.{MAX_VIEWS}
 use Rattle.refusals.specs.declared.refusal.Refusal.{Refusal}
-use Rattle.job_files.specs.Statuses.{DeliversBytes}
-use Rattle.job_files.specs.declared.status.Status.{Status}
+use Rattle.job_files.specs.{Statuses.DeliversBytes, declared.status.Status.Status}
 use Rattle.job_files.specs.declared.status.Status.TheVariants.{Done, Usage, Refused, ReadFault, WriteFault, Limit, ZoneFull, OutOfMemory}
 use Rattle.level_audit.specs.scene_load.Loads.{LoadedValue, load_in, loaded_sizes, wad_bytes}
 use Rattle.doom_run.specs.declared.form.ViewForm.TheVariants.{Frame}
 use Rattle.doom_run.specs.declared.summary.Summary.{Summary}
-use Rattle.doom_run.specs.Ends.{DeliversAt, EndsAt, EndsWith}
+use Rattle.doom_run.specs.{Ends.DeliversAt, Ends.EndsAt, Ends.EndsWith, Layers.seen_view}
 use Rattle.doom_run.specs.Exercises.{exercised_bytes, frame_size, made_files, made_level, made_wads, summary_line}
 use Rattle.doom_run.specs.Jobs.{Job, Written, done, drawing, exercised, job_of, job_over, level_work, made_work, rendered}
-use Rattle.doom_run.specs.Layers.{seen_view}
 use Rattle.doom_run.specs.Leasts.{delivery_least, least_loading, work_least}
 use Rattle.doom_run.specs.Performs.{Performs, Tells}
 use Rattle.doom_run.specs.Steps.{RunStop, absent, at_step, refused, usage}

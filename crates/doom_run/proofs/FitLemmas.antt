@@ -2,15 +2,11 @@
 use Rattle.picture_rules.proofs.Common.{Bool, IfSome, length, List, None, Ok, Option, refl, slice_get, Some, subst, sym, unwrap_or, ℕ, ◌+◌, ◌<◌, ◌≡◌, ◌≤◌}
 use Rattle.doom_run.specs.Rules.{Eye, File, LevelJobValue, OverLimit, ShelfView, lump_at, lump_block, lump_bytes, overlaid_paints, view_of}
 use Rattle.texture_build.specs.Draws.{FitBeside}
-use Rattle.sound_scene.specs.Sound.{SoundValue, textures_view}
-use Rattle.doom_run.specs.declared.form.ViewForm.{ViewForm}
-use Rattle.job_files.specs.declared.read.SceneFiles.{SceneFiles}
-use Rattle.sound_scene.specs.Pictures.{scene_of}
-use Rattle.job_files.specs.declared.status.Status.{Status}
+use Rattle.sound_scene.specs.{Sound.SoundValue, Sound.textures_view, Pictures.scene_of}
+use Rattle.doom_run.specs.{declared.form.ViewForm.ViewForm, declared.render.ReadyViews.ReadyViews}
+use Rattle.job_files.specs.{declared.read.SceneFiles.SceneFiles, declared.status.Status.Status}
 use Rattle.job_files.specs.declared.status.Status.TheVariants.{Done, Usage, Refused, ReadFault, WriteFault, Limit, ZoneFull, OutOfMemory}
-use Rattle.doom_run.specs.declared.render.ReadyViews.{ReadyViews}
-use Rattle.doom_run.specs.Ends.{IsEnd}
-use Rattle.doom_run.specs.Frames.{KeepsReady, ViewEnds}
+use Rattle.doom_run.specs.{Ends.IsEnd, Frames.KeepsReady, Frames.ViewEnds}
 use Rattle.doom_run.specs.Renders.{FitDue, FitsAt, IsReady, ready_views}
 use Rattle.doom_run.specs.Views.{ViewsValue, due_views, first_over, over_at}
 use Rattle.doom_run.specs.Layers.{SeenView, seen_view}

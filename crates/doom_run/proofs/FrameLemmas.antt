@@ -4,22 +4,18 @@ use Rattle.doom_run.specs.Rules.{Eye, Grew, GrewByPrefix, OverLimit, ShelfView, 
 use Rattle.picture_rules.proofs.Laws.{joined_lists-append}
 use Rattle.art_rules.proofs.Laws.{grew_more, grew_none, grew_partly, grew_whole, prefix_of_more}
 use Rattle.texture_build.specs.Draws.{IsNoReadFault}
-use Rattle.sound_scene.specs.Sound.{SoundValue}
+use Rattle.sound_scene.specs.{Sound.SoundValue, Pictures.scene_of}
 use Rattle.level_audit.specs.scene_load.Loads.{loaded_value}
 use Rattle.frame_core.specs.declared.fault.ViewFault.{ViewFault}
 use Rattle.frame_core.specs.declared.fault.ViewFault.TheVariants as fault
 use Rattle.frame_core.specs.Faults.{limit_of_view, view_fault}
-use Rattle.sound_scene.specs.Pictures.{scene_of}
 use Rattle.job_files.specs.declared.status.Status.{Status}
 use Rattle.job_files.specs.declared.status.Status.TheVariants.{Done, Usage, Refused, ReadFault, WriteFault, Limit, ZoneFull, OutOfMemory}
-use Rattle.doom_run.specs.declared.render.ReadyViews.{ReadyViews}
-use Rattle.doom_run.specs.Ends.{RendersAt}
-use Rattle.doom_run.specs.declared.canvas.ViewCanvas.{ViewCanvas}
-use Rattle.doom_run.specs.declared.form.ViewForm.{ViewForm}
+use Rattle.doom_run.specs.{declared.render.ReadyViews.ReadyViews, Ends.RendersAt}
+use Rattle.doom_run.specs.{declared.canvas.ViewCanvas.ViewCanvas, declared.form.ViewForm.ViewForm}
 use Rattle.doom_run.specs.Frames.{IsDrawnAt, ViewEnds, canvas_bytes, form_of, frame_at, status_of_view}
-use Rattle.doom_run.specs.Layers.{SeenView, seen_view}
+use Rattle.doom_run.specs.{Layers.SeenView, Layers.seen_view, Jobs.rendered}
 use Rattle.doom_run.specs.Renders.{DrawsAt, HoldsReady, ready_bytes, ready_views}
-use Rattle.doom_run.specs.Jobs.{rendered}
 use Rattle.doom_run.specs.Views.{ViewsValue, end_at, first_over, limit_at, frames_of, over_at, rendered_bytes, view_bytes}
 use Rattle.doom_run.proofs.SeenLemmas.{seen_at}
 use Rattle.doom_run.proofs.DueLemmas.{due_by, due_front, none_over, some_over}

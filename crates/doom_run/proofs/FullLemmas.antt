@@ -6,9 +6,8 @@ use Rattle.refusals.specs.declared.refusal.Refusal.{Refusal}
 use Rattle.sound_scene.proofs.SceneLemmas.{same_value}
 use Rattle.level_audit.specs.scene_load.Fulls.{IsFullLoad}
 use Rattle.level_audit.specs.scene_load.Loads.{LoadedValue, load_in, loaded_sizes, wad_bytes}
-use Rattle.doom_run.specs.Fulls.{IsFullDraw, IsFullRun, IsFullTask}
+use Rattle.doom_run.specs.{Fulls.IsFullDraw, Fulls.IsFullRun, Fulls.IsFullTask, Leasts.zone_of}
 use Rattle.doom_run.specs.Jobs.{Delivery, Task, Written, job_of, over, plain}
-use Rattle.doom_run.specs.Leasts.{zone_of}
 use Rattle.doom_run.specs.Steps.{absent, at_step, else_usage}
 use Rattle.doom_run.specs.Verdict.{Accepted, delivered, job_verdict, task_verdict}
 

@@ -1,17 +1,13 @@
 -- Where all of which a least zone is the greatest stands beside COLORMAP, the zone is no smaller.
 use Rattle.picture_rules.proofs.Common.{[], AllByRecursion, ap, arith, Bool, cases_lt, cond, eq-eqb, eqb-true, false, IfSome, inl, inr, length, List, nat_tests, None, Ok, Option, option_map_or, or_cases, range_with_len, refl, slice_get, Some, suc, take, true, zero, ℕ, ◌+◌, ◌<◌, ◌==◌, ◌||◌, ◌∙◌, ◌∷◌, ◌≡◌, ◌≢◌, ◌≤◌}
-use Rattle.doom_run.specs.Rules.{COMPOSITE, Dot, File, LUMP, LevelBase, LevelJobValue, PNAMES, Painter, Scene, TEXTURE1, TEXTURE2, block_size, greatest_by, is_last, is_list, is_map_lump, last_of, lump_at, lump_block, overlaid_paints}
-use Rattle.art_rules.specs.Words.{Lump}
+use Rattle.doom_run.specs.Rules.{COMPOSITE, Dot, File, LUMP, LevelBase, LevelJobValue, Lump, PNAMES, Painter, Scene, TEXTURE1, TEXTURE2, block_size, greatest_by, is_last, is_list, is_map_lump, last_of, lump_at, lump_block, overlaid_paints}
 use Rattle.art_rules.proofs.Laws.{and_then-ok}
-use Rattle.texture_build.specs.Named.{IsLast}
+use Rattle.texture_build.specs.{Named.IsLast, Draws.FitBeside, Draws.FitsBeside, Views.TexturesView}
 use Rattle.texture_lists.specs.Asked.{IsListLump}
-use Rattle.texture_build.specs.Draws.{FitBeside, FitsBeside}
-use Rattle.texture_build.specs.Views.{TexturesView}
-use Rattle.level_audit.specs.Asked.{IsOfBase}
+use Rattle.level_audit.specs.{Asked.IsOfBase, scene_load.Fulls.IsBaseWithin}
 use Rattle.sound_scene.specs.Sound.{textures_view}
 use Rattle.sound_scene.proofs.SceneLemmas.{IsBaseOf, base_parts, scene_parts}
 use Rattle.job_files.specs.Files.{files_in}
-use Rattle.level_audit.specs.scene_load.Fulls.{IsBaseWithin}
 use Rattle.level_audit.specs.scene_load.Loads.{LoadedValue, load_in, wad_bytes}
 use Rattle.level_audit.proofs.scene_load.AuditedLemmas.{audited_by}
 use Rattle.level_audit.proofs.scene_load.LoadLemmas.{audited_of}

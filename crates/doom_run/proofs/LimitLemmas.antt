@@ -1,21 +1,17 @@
 -- The lines of the views of a path, one after the other.
 use Rattle.picture_rules.proofs.Common.{[], ap, arith, Err, length, List, None, Ok, option_map_or, Option, refl, Result, slice_get, Some, subst, sym, ℕ, ◌+◌, ◌<◌, ◌∙◌, ◌≡◌}
-use Rattle.doom_run.specs.Rules.{Eye, Failed, Grew, OverLimit, Scene, Writes, view_of, view_over}
+use Rattle.doom_run.specs.Rules.{Eye, Failed, Grew, Limits, OverLimit, Scene, Writes, view_of, view_over}
 use Rattle.art_rules.proofs.Laws.{writes_then}
-use Rattle.picture_rules.specs.declared.Limits.{Limits}
 use Rattle.level_audit.specs.declared.scene_load.load.LoadedScene.{LoadedScene}
 use Rattle.level_audit.specs.scene_load.Loads.{loaded_value}
 use Rattle.sound_scene.specs.Pictures.{scene_of}
 use Rattle.job_files.specs.declared.status.Status.TheVariants.{Done, WriteFault}
-use Rattle.doom_run.specs.declared.render.ReadyViews.{ReadyViews}
-use Rattle.doom_run.specs.Ends.{WritesDue}
-use Rattle.doom_run.specs.Jobs.{done}
+use Rattle.doom_run.specs.{declared.render.ReadyViews.ReadyViews, Ends.WritesDue, Jobs.done}
 use Rattle.doom_run.specs.Layers.{SeenView, seen_view}
 use Rattle.doom_run.specs.Renders.{PutsLines, ready_views}
 use Rattle.doom_run.specs.Views.{ViewsValue, lines_at, over_line, unless_over, view_lines}
 use Rattle.doom_run.proofs.FirstLemmas.{first-more, first_of, none_first, prefix_first}
-use Rattle.doom_run.proofs.FrameLemmas.{over_at-eye, view_get}
-use Rattle.doom_run.proofs.ReadyLemmas.{views_count}
+use Rattle.doom_run.proofs.{FrameLemmas.over_at-eye, FrameLemmas.view_get, ReadyLemmas.views_count}
 
 -- the same bytes, told otherwise
 pub same_bytes : {E : Type 0} {a b : List ℕ → Type 0} {i j : ℕ} {xs ys : List ℕ} {result : Result (Unit {0}) E} → xs ≡ ys → Writes a b i j xs result → Writes a b i j ys result

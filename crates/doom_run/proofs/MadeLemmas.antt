@@ -12,11 +12,10 @@ use Rattle.refusals.specs.declared.refusal.Refusal.{Refusal}
 use Rattle.refusals.specs.declared.refusal.Refusal.TheVariants as refusal
 use Rattle.refusals.specs.declared.refusal.Refusal.TheVariants.{Level}
 use Rattle.sound_scene.proofs.SceneLemmas.{from_below-ok}
-use Rattle.job_files.specs.declared.texts.TextTables.{TextTables}
+use Rattle.job_files.specs.{declared.texts.TextTables.TextTables, Made.made_file}
 use Rattle.job_files.specs.Files.{FilesValue, files_in, files_named, in_file, in_optional_file, lumps_in, path_file, tables_file, texts_in, things_file, wad_files, weapons_file}
 use Rattle.level_audit.specs.scene_load.Loads.{LoadedValue, audited_in, load_in, wad_bytes}
 use Rattle.level_audit.proofs.scene_load.AuditedLemmas.{audited_by}
-use Rattle.job_files.specs.Made.{made_file}
 use Rattle.doom_run.specs.Exercises.{made_files, made_level, made_wads}
 
 -- both steps of a table were passed

@@ -2,29 +2,23 @@
 use Rattle.picture_rules.specs.Words.{WeaponLayer}
 use Rattle.picture_rules.proofs.Common.{[], ap, arith, Contains, Err, inl, inr, IsErrAnd, List, None, Ok, Option, refl, Result, Some, subst, sym, ℕ, ℤ, ◌∙◌, ◌≡◌, ◌⊎◌, ◌<◌}
 use Rattle.doom_run.specs.Rules.{AreInView, Art, Dot, Eye, Frame, Heap, IsWithinFrame, Painter, ShelfView, ViewValue, fault_above, joined_lists, overlaid_paints, view_of, view_paints, weapon_dots}
-use Rattle.texture_build.specs.CacheFault.{CacheFault}
+use Rattle.texture_build.specs.{CacheFault.CacheFault, Caches.cache_fault}
 use Rattle.texture_build.specs.CacheFault.TheVariants as cache
-use Rattle.texture_build.specs.Caches.{cache_fault}
-use Rattle.texture_build.proofs.CallLemmas.{result_above}
+use Rattle.texture_build.proofs.{CallLemmas.result_above, BesideLemmas.fit_beside-append}
 use Rattle.csv_tables.specs.declared.weapons.WeaponRow.{WeaponRow}
-use Rattle.pixel_strips.specs.Canvases.{CanvasView}
-use Rattle.pixel_strips.specs.Dotted.{HasDots}
+use Rattle.pixel_strips.specs.{Canvases.CanvasView, Dotted.HasDots}
 use Rattle.picture_rules.proofs.FrameLemmas.{in_view-append}
 use Rattle.pixel_trace.proofs.SeenLemmas.{overlaid-dots}
-use Rattle.texture_build.specs.Draws.{DrawsWith, FitBeside}
-use Rattle.texture_build.specs.Paints.{paint_state}
-use Rattle.texture_build.proofs.BesideLemmas.{fit_beside-append}
+use Rattle.texture_build.specs.{Draws.DrawsWith, Draws.FitBeside, Paints.paint_state}
 use Rattle.texture_build.proofs.DrawLemmas.{draws-above, draws-stop, draws-then, draws-wider, holds_art-later}
-use Rattle.sound_scene.specs.Sound.{textures_view}
+use Rattle.sound_scene.specs.{Sound.textures_view, Pictures.scene_of}
 use Rattle.level_audit.specs.scene_load.Loads.{LoadedValue, loaded_value, weapon_lumps}
 use Rattle.level_audit.specs.declared.scene_load.load.LoadedScene.{LoadedScene}
 use Rattle.frame_core.specs.declared.fault.ViewFault.{ViewFault}
 use Rattle.frame_core.specs.Faults.{from_cache, view_fault}
-use Rattle.sound_scene.specs.Pictures.{scene_of}
 use Rattle.frame_core.specs.Views.{IsViewLump, IsViewTexture, PaintsView, placed_for, view_scene}
 use Rattle.texture_build.proofs.PaintLemmas.{on_ok_err, paints-none, paints-same, paints-wider}
-use Rattle.weapon_overlay.specs.Layers.{PaintsLayer}
-use Rattle.weapon_overlay.specs.Seen.{IsLayerPicture}
+use Rattle.weapon_overlay.specs.{Layers.PaintsLayer, Seen.IsLayerPicture}
 use Rattle.weapon_overlay.proofs.InViewLemmas.{layers_dots-in}
 use Rattle.doom_run.specs.Drawn.{DrawsLayered, DrawsLayers, KeepsLoaded, layered_dots, layers_dots, loaded_scene}
 use Rattle.doom_run.specs.Layers.{layers_by, layers_from, layers_of, layer_light}

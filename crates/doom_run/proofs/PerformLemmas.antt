@@ -5,13 +5,10 @@ use Rattle.art_rules.specs.Fault.TheVariants as fault
 use Rattle.art_rules.proofs.Laws.{grew_none, stops_all}
 use Rattle.refusals.specs.declared.refusal.Refusal.{Refusal}
 use Rattle.sound_scene.proofs.SceneLemmas.{same_value}
-use Rattle.job_files.specs.Sizes.{files_size}
-use Rattle.job_files.specs.Statuses.{status_of}
-use Rattle.job_files.specs.declared.status.Status.{Status}
+use Rattle.job_files.specs.{Sizes.files_size, Statuses.status_of, declared.status.Status.Status}
 use Rattle.job_files.specs.declared.status.Status.TheVariants.{WriteFault, ZoneFull, OutOfMemory}
 use Rattle.job_files.proofs.StepLemmas.{status_full}
-use Rattle.level_audit.specs.scene_load.Calls.{LoadsScene}
-use Rattle.level_audit.specs.scene_load.Fulls.{IsFullLoad}
+use Rattle.level_audit.specs.{scene_load.Calls.LoadsScene, scene_load.Fulls.IsFullLoad}
 use Rattle.level_audit.specs.scene_load.Loads.{LoadedValue, load_in, loaded_sizes, loaded_value, wad_bytes}
 use Rattle.level_audit.specs.scene_load.Orders.{lumps_size}
 use Rattle.level_audit.specs.declared.scene_load.load.LoadedScene.{LoadedScene}
@@ -19,8 +16,7 @@ use Rattle.doom_run.specs.Ends.{DeliversAt, EndsAt, WritesDue}
 use Rattle.doom_run.specs.Jobs.{Delivery, Job, Task, Written, job_of, job_over, level_work, over, plain}
 use Rattle.doom_run.specs.Leasts.{least_loading, work_least}
 use Rattle.doom_run.specs.Performs.{Behaves, Delivers, Performs, RunsAs}
-use Rattle.doom_run.specs.Steps.{at_step}
-use Rattle.doom_run.specs.Takes.{TaskTakes}
+use Rattle.doom_run.specs.{Steps.at_step, Takes.TaskTakes}
 use Rattle.doom_run.specs.Verdict.{Accepted, accepted_in, delivered, work_verdict}
 use Rattle.doom_run.proofs.EndLemmas.{delivers_all, delivers_more, delivers_render, fault_end, fault_no_end, loaded_named, renders_end}
 use Rattle.doom_run.proofs.TakeLemmas.{calm_order}

@@ -1,11 +1,9 @@
 -- The pictures of weapon layers are in the directory, and are needed.
 use Rattle.picture_rules.proofs.Common.{[], All, All-head, All-tail, Contains, Contains-append_cases, eq-eqb, inl, inr, length, List, list_any, list_any-append, map, None, Option, or_right, refl, Some, subst, true, ℕ, ◌++◌, ◌<◌, ◌==◌, ◌∙◌, ◌∷◌, ◌≡◌}
-use Rattle.doom_run.specs.Rules.{Frame, SceneValue, Shape, book_lumps, is_needed, joined_lists, shape_lumps}
-use Rattle.art_rules.specs.Words.{Lump}
+use Rattle.doom_run.specs.Rules.{Frame, Lump, SceneValue, Shape, book_lumps, is_needed, joined_lists, shape_lumps}
 use Rattle.sound_scene.specs.Sound.{art_with}
 use Rattle.sound_scene.proofs.MemberLemmas.{among_cases, among_none, any_among}
-use Rattle.level_audit.specs.Weapons.{AreThere}
-use Rattle.level_audit.specs.scene_load.Loads.{weapon_lumps}
+use Rattle.level_audit.specs.{Weapons.AreThere, scene_load.Loads.weapon_lumps}
 
 module _ (lumps : List Lump) where
   shape_there : (shapes : List Shape) (lump : ℕ) → All (λ (shape : Shape). shape.lump.0 < length lumps) shapes → Contains (map (λ (shape : Shape). shape.lump.0) shapes) lump → lump < length lumps

@@ -1,32 +1,24 @@
 -- What stays while views are drawn.
 use Rattle.picture_rules.proofs.Common.{ap, Bool, Contains, inl, inr, length, List, Option, refl, subst, sym, ℕ, ◌∙◌, ◌≡◌, ◌⊎◌, ℤ}
-use Rattle.doom_run.specs.Rules.{Frame, Heap, LevelJobValue, ShelfView, block_size, lump_bytes}
-use Rattle.art_rules.specs.Words.{Lump}
-use Rattle.picture_rules.specs.declared.Limits.{Limits}
-use Rattle.texture_build.specs.DirectoryView.{DirectoryView}
-use Rattle.texture_build.specs.Caches.{KeepsCounts}
-use Rattle.texture_build.specs.Calls.{IsFullFor}
+use Rattle.doom_run.specs.Rules.{Frame, Heap, LevelJobValue, Limits, Lump, ShelfView, block_size, lump_bytes}
+use Rattle.texture_build.specs.{DirectoryView.DirectoryView, Caches.KeepsCounts, Calls.IsFullFor}
 use Rattle.texture_build.specs.Sizes.{IsGapBeside}
 use Rattle.texture_build.specs.Asked.{IsGapBesideComposite, IsPatch, size_of}
 use Rattle.texture_build.specs.Sources.{IsComposedColumn, column_in}
 use Rattle.texture_build.specs.Views.{TexturesView, prepared_texture}
 use Rattle.texture_build.specs.Draws.{HoldsArt, IsFullForTexture, KeepsArt}
 use Rattle.texture_build.proofs.DrawLemmas.{holds_art-later, keeps_art-none, keeps_art-then}
-use Rattle.sound_scene.specs.Sound.{SoundValue, textures_view}
-use Rattle.job_files.specs.declared.read.SceneFiles.{SceneFiles}
-use Rattle.job_files.specs.Files.{value_of}
+use Rattle.sound_scene.specs.{Sound.SoundValue, Sound.textures_view, Pictures.scene_of}
+use Rattle.job_files.specs.{declared.read.SceneFiles.SceneFiles, Files.value_of}
 use Rattle.level_audit.specs.Weapons.{AreThere}
 use Rattle.level_audit.specs.scene_load.Loads.{loaded_value, weapon_lumps}
-use Rattle.sound_scene.specs.Pictures.{scene_of}
 use Rattle.frame_core.specs.Views.{CanDrawView, IsViewLump, IsViewTexture}
 use Rattle.frame_core.proofs.PaintLemmas.{can_draw_view-later}
 use Rattle.job_files.specs.declared.status.Status.{Status}
 use Rattle.doom_run.specs.declared.render.ReadyViews.{ReadyViews}
-use Rattle.doom_run.specs.Frames.{KeepsReady, ViewEnds}
+use Rattle.doom_run.specs.{Frames.KeepsReady, Frames.ViewEnds, declared.form.ViewForm.ViewForm}
 use Rattle.doom_run.specs.Renders.{HoldsReady, IsDrawable, IsFullView, IsLayerLump, IsReady, ready_bytes, ready_views}
-use Rattle.doom_run.specs.declared.form.ViewForm.{ViewForm}
-use Rattle.doom_run.specs.Layers.{seen_view, seen_views}
-use Rattle.doom_run.specs.Views.{ViewsValue, views_of}
+use Rattle.doom_run.specs.{Layers.seen_view, Layers.seen_views, Views.ViewsValue, Views.views_of}
 use Rattle.doom_run.proofs.SeenLemmas.{seen_from-length}
 
 -- the views of a ready scene are those of what was loaded

@@ -3,9 +3,8 @@ use Rattle.picture_rules.proofs.Common.{arith, Err, Ok, List, Result, subst, ℕ
 use Rattle.doom_run.specs.Rules.{FaultsRose, HasCauseAt, IsInOrder, Item, KeepsOrder, ShelfView}
 use Rattle.scene_rules.proofs.Laws.{order_none, order_then}
 use Rattle.texture_build.specs.Calls.{IfFull, InOrderAt}
-use Rattle.frame_core.specs.declared.fault.ViewFault.{ViewFault}
+use Rattle.frame_core.specs.{declared.fault.ViewFault.ViewFault, Faults.view_fault}
 use Rattle.frame_core.specs.declared.fault.ViewFault.TheVariants as fault
-use Rattle.frame_core.specs.Faults.{view_fault}
 use Rattle.job_files.specs.declared.status.Status.{Status}
 use Rattle.job_files.specs.declared.status.Status.TheVariants.{Done, WriteFault}
 use Rattle.doom_run.specs.declared.canvas.ViewCanvas.{ViewCanvas}
@@ -13,8 +12,7 @@ use Rattle.doom_run.specs.declared.render.ReadyViews.{ReadyViews}
 use Rattle.doom_run.specs.Frames.{KeepsReady, status_of_view}
 use Rattle.doom_run.specs.Renders.{DrawsAt, HasReadyAsked, IsFullView, RendersReady}
 use Rattle.doom_run.proofs.ReadyLemmas.{FullEither, full_view, full-first, keeps_ready-none, keeps_ready-then}
-use Rattle.doom_run.proofs.AskedLemmas.{asked-later, both_asked}
-use Rattle.doom_run.proofs.TakeLemmas.{after_all}
+use Rattle.doom_run.proofs.{AskedLemmas.asked-later, AskedLemmas.both_asked, TakeLemmas.after_all}
 
 -- no view was drawn
 pub renders-none : (view : ShelfView) (ready : ReadyViews) (faults : ℕ) → RendersReady view view ready ready faults faults Done

@@ -1,6 +1,6 @@
 -- What a status tells of the output, and what a verdict tells of the status.
 use Rattle.picture_rules.proofs.Common.{[], ap, Bool, Err, inl, inr, IsTrue, List, MatchResult, Ok, refl, Result, subst, sym, ℕ, ◌∙◌, ◌≡◌, ◌⊎◌}
-use Rattle.art_rules.specs.Words.{Grew, GrewByPrefix}
+use Rattle.doom_run.specs.Rules.{Grew, GrewByPrefix}
 use Rattle.art_rules.proofs.Laws.{grew_whole, prefix_of_none}
 use Rattle.refusals.specs.declared.refusal.Refusal.{Refusal}
 use Rattle.job_files.specs.declared.status.Status.{Status}

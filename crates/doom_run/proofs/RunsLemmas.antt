@@ -5,11 +5,8 @@ use Rattle.refusals.specs.declared.refusal.Refusal.{Refusal}
 use Rattle.job_files.specs.declared.status.Status.{Status}
 use Rattle.job_files.specs.declared.status.Status.TheVariants.{Usage, ReadFault, WriteFault, ZoneFull, OutOfMemory}
 use Rattle.doom_run.specs.Ends.{EndsAt, IsEnd, IsReadOrFull, IsUnwritten}
-use Rattle.doom_run.specs.Fulls.{IsFullRun}
-use Rattle.doom_run.specs.Jobs.{job_of}
-use Rattle.doom_run.specs.Leasts.{command_least, command_zone}
-use Rattle.doom_run.specs.Performs.{RunsAs}
-use Rattle.doom_run.specs.Steps.{at_step, else_usage, usage}
+use Rattle.doom_run.specs.{Fulls.IsFullRun, Jobs.job_of, Leasts.command_least, Leasts.command_zone}
+use Rattle.doom_run.specs.{Performs.RunsAs, Steps.at_step, Steps.else_usage, Steps.usage}
 use Rattle.doom_run.specs.Takes.{CommandTakes}
 use Rattle.doom_run.specs.Verdict.{Accepted, job_verdict, task_verdict}
 use Rattle.doom_run.specs.Words.{has_zone}

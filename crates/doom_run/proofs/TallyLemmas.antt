@@ -3,8 +3,7 @@ use Rattle.picture_rules.proofs.Common.{[], ap, arith, codes, flat_map, is_some,
 use Rattle.doom_run.specs.Rules.{FRAME_CELLS, Format, Grew, Index, IsTallyOf, LimitKind, OverLimit, Ppm, Scene, Tally, frame_dots, joined_lists, overlaid_picture}
 use Rattle.picture_rules.specs.Words.{frame_of}
 use Rattle.picture_rules.proofs.Laws.{least-is, length-listed}
-use Rattle.doom_run.specs.declared.form.ViewForm.TheVariants.{Frame}
-use Rattle.doom_run.specs.Layers.{SeenView}
+use Rattle.doom_run.specs.{declared.form.ViewForm.TheVariants.Frame, Layers.SeenView}
 use Rattle.csv_tables.specs.declared.path.TheConstants.{MAX_VIEWS}
 use Rattle.frame_writer.specs.Ppm.{colour, ppm, ppm_header}
 use Rattle.refusals.specs.Lines.{labelled}

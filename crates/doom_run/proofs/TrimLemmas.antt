@@ -1,12 +1,11 @@
 -- What a trimmed file that is written says of a run.
 use Rattle.picture_rules.proofs.Common.{All, All-contains, ap, Bool, Err, inl, IsTrue, length, List, None, Ok, OnErr, OnOk, Option, refl, Result, Some, subst, sym, true, ℕ, ◌<◌, ◌∙◌, ◌≡◌}
-use Rattle.doom_run.specs.Rules.{File, Frame, Grew, GrewByPrefix, LevelJobValue, TrimPart, TrimRefusal, copy_part, from_below, is_needed, lump_at, lump_block, trim_plan}
-use Rattle.art_rules.specs.Words.{Lump}
+use Rattle.doom_run.specs.Rules.{File, Frame, Grew, GrewByPrefix, LevelJobValue, Lump, TrimPart, TrimRefusal, copy_part, from_below, is_needed, lump_at, lump_block, trim_plan}
 use Rattle.art_rules.proofs.Laws.{and_then-ok}
 use Rattle.texture_build.specs.Calls.{HasAll, IsFullFor}
 use Rattle.refusals.specs.declared.refusal.Refusal.TheVariants.{Trim}
 use Rattle.sound_scene.specs.Sound.{art_with}
-use Rattle.sound_scene.proofs.SceneLemmas.{scene_parts}
+use Rattle.sound_scene.proofs.{SceneLemmas.scene_parts, FullLemmas.IsArtFull}
 use Rattle.wad_trim.specs.Plans as plans
 use Rattle.wad_trim.specs.Writes.{InOrderWhere, IsCopied, IsPartThere}
 use Rattle.wad_trim.specs.declared.fault.TrimWrite.{TrimWrite}
@@ -15,18 +14,13 @@ use Rattle.wad_trim.proofs.NeededLemmas.{copied-needed}
 use Rattle.job_files.specs.Files.{files_in}
 use Rattle.job_files.specs.declared.status.Status.TheVariants.{ReadFault, WriteFault, ZoneFull}
 use Rattle.level_audit.specs.declared.scene_load.load.LoadedScene.{LoadedScene}
-use Rattle.level_audit.specs.scene_load.Calls.{IsLoadedScene}
+use Rattle.level_audit.specs.{scene_load.Calls.IsLoadedScene, scene_load.Orders.loaded_items}
 use Rattle.level_audit.specs.scene_load.Loads.{LoadedValue, load_in, loaded_pictures, loaded_value, wad_bytes, weapon_lumps}
-use Rattle.level_audit.specs.scene_load.Orders.{loaded_items}
 use Rattle.level_audit.proofs.scene_load.AuditedLemmas.{audited_by}
-use Rattle.level_audit.proofs.scene_load.LoadLemmas.{audited_of}
-use Rattle.level_audit.proofs.scene_load.OrderLemmas.{items_lump}
-use Rattle.doom_run.specs.Ends.{IsDelivered, RendersAt}
-use Rattle.doom_run.specs.Fulls.{IsFullDraw}
-use Rattle.doom_run.specs.Jobs.{done}
+use Rattle.level_audit.proofs.{scene_load.LoadLemmas.audited_of, scene_load.OrderLemmas.items_lump}
+use Rattle.doom_run.specs.{Ends.IsDelivered, Ends.RendersAt, Fulls.IsFullDraw, Jobs.done}
 use Rattle.doom_run.specs.Takes.{InOrderAfter}
 use Rattle.doom_run.specs.Trims.{loaded_art, plan_in, status_of_written}
-use Rattle.sound_scene.proofs.FullLemmas.{IsArtFull}
 use Rattle.doom_run.proofs.BlockLemmas.{art_draw}
 
 -- the pictures of weapon layers, as either crate tells them

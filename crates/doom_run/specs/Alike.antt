@@ -1,9 +1,7 @@
 -- What a trimmed file is for: rendering it comes to the same as rendering the WADs that it was made of.
 use Rattle.std.specs.Prelude.{◌≡◌, ℕ, List, [], ◌∷◌, Some, Result, Ok}
 use Rattle.doom_run.specs.Rules.{File, FileNames, Format, LevelJobValue, Render, Spans, file_named, level_job}
-use Rattle.doom_run.specs.Steps.{RunStop}
-use Rattle.doom_run.specs.Jobs.{job_of}
-use Rattle.doom_run.specs.Verdict.{Accepted, job_verdict}
+use Rattle.doom_run.specs.{Steps.RunStop, Jobs.job_of, Verdict.Accepted, Verdict.job_verdict}
 
 -- Other files, of which the first of a name has these bytes. The files beside the WADs are the same.
 pub record StandsForWads (names : FileNames) (bytes name : List ℕ) (files others : List File) : Type 0 where

@@ -2,20 +2,15 @@
 use Rattle.weapon_overlay.specs.Seen.{IsLayerPicture}
 use Rattle.std.specs.Prelude.{◌≡◌, ◌⊎◌, ℕ, List, OnOk, Result, ℤ}
 use Rattle.doom_run.specs.Rules.{AreInView, Dot, Eye, IsWithinFrame, Painter, Scene, ShelfView, joined_lists, lump_bytes, overlaid_paints, view_of, weapon_dots}
-use Rattle.texture_build.specs.CacheFault.{CacheFault}
-use Rattle.texture_build.specs.Caches.{cache_fault}
-use Rattle.pixel_strips.specs.Canvases.{CanvasView}
-use Rattle.pixel_strips.specs.Dotted.{HasDots, PlacedAlike}
+use Rattle.texture_build.specs.{CacheFault.CacheFault, Caches.cache_fault}
+use Rattle.pixel_strips.specs.{Canvases.CanvasView, Dotted.HasDots, Dotted.PlacedAlike}
 use Rattle.texture_build.specs.Draws.{DrawsWith, FitBeside, HoldsArt}
-use Rattle.sound_scene.specs.Sound.{textures_view}
+use Rattle.sound_scene.specs.{Sound.textures_view, Pictures.scene_of}
 use Rattle.level_audit.specs.scene_load.Loads.{loaded_value}
 use Rattle.level_audit.specs.declared.scene_load.load.LoadedScene.{LoadedScene}
-use Rattle.frame_core.specs.declared.fault.ViewFault.{ViewFault}
-use Rattle.frame_core.specs.Faults.{view_fault}
-use Rattle.sound_scene.specs.Pictures.{scene_of}
+use Rattle.frame_core.specs.{declared.fault.ViewFault.ViewFault, Faults.view_fault}
 use Rattle.frame_core.specs.Views.{IsViewLump, IsViewTexture, placed_for}
-use Rattle.doom_run.specs.Layers.{layers_of}
-use Rattle.doom_run.specs.Renders.{IsLayerLump}
+use Rattle.doom_run.specs.{Layers.layers_of, Renders.IsLayerLump}
 
 -- the cache is at rest with the scene's colormap of `count` bytes, and holds what the files of these contents give
 abbrev pub HoldsLoaded : ShelfView → LoadedScene → List (List ℕ) → ℕ → Type 0

@@ -1,10 +1,9 @@
 -- What a status says of a run.
 use Rattle.std.specs.Prelude.{◌≡◌, ℕ, Bool, IsTrue, List, [], MatchResult, Result, Ok, Err}
-use Rattle.art_rules.specs.Words.{FaultsRose, Grew, GrewByPrefix}
+use Rattle.doom_run.specs.Rules.{FaultsRose, Grew, GrewByPrefix}
 use Rattle.job_files.specs.declared.status.Status.{Status}
 use Rattle.job_files.specs.declared.status.Status.TheVariants.{Done, Usage, Refused, ReadFault, WriteFault, Limit, ZoneFull, OutOfMemory}
-use Rattle.doom_run.specs.Steps.{RunStop, usage, absent, refused}
-use Rattle.doom_run.specs.Jobs.{Written}
+use Rattle.doom_run.specs.{Steps.RunStop, Steps.usage, Steps.absent, Steps.refused, Jobs.Written}
 use Rattle.doom_run.specs.Verdict.{Accepted}
 
 -- The verdict accepts, the status is the end that is due, and the output was written to its last byte.

@@ -1,10 +1,7 @@
 -- How the program ends.
 use Rattle.std.specs.Prelude.{◌≡◌, ℕ, List, Option}
-use Rattle.doom_run.specs.Rules.{FaultsRose, Grew, ShelfView}
-use Rattle.job_files.specs.Lines.{line_of}
-use Rattle.job_files.specs.Statuses.{code_of}
-use Rattle.job_files.specs.declared.status.Status.{Status}
-use Rattle.job_rules.specs.Commands.{CommandValue}
+use Rattle.doom_run.specs.Rules.{CommandValue, FaultsRose, Grew, ShelfView}
+use Rattle.job_files.specs.{Lines.line_of, Statuses.code_of, declared.status.Status.Status}
 use Rattle.doom_run.specs.Performs.{RunsAs}
 
 -- The number is that of the status of a run of the command: by the views of the shelf, what was written to both outputs,

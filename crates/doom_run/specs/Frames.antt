@@ -11,9 +11,8 @@ use Rattle.frame_core.specs.declared.fault.ViewFault.TheVariants as fault
 use Rattle.job_files.specs.declared.status.Status.{Status}
 use Rattle.job_files.specs.declared.status.Status.TheVariants.{Done, Usage, Refused, ReadFault, WriteFault, Limit, ZoneFull, OutOfMemory}
 use Rattle.doom_run.specs.declared.render.ReadyViews.{ReadyViews}
-use Rattle.doom_run.specs.declared.canvas.ViewCanvas.{ViewCanvas}
+use Rattle.doom_run.specs.{declared.canvas.ViewCanvas.ViewCanvas, declared.form.ViewForm.ViewForm}
 use Rattle.doom_run.specs.declared.canvas.ViewCanvas.TheVariants as canvas
-use Rattle.doom_run.specs.declared.form.ViewForm.{ViewForm}
 use Rattle.doom_run.specs.declared.form.ViewForm.TheVariants as form
 use Rattle.doom_run.specs.Views.{ViewsValue, over_at, view_bytes}
 

@@ -6,8 +6,7 @@ use Rattle.command_line.specs.Commands.{command_of}
 use Rattle.sound_scene.specs.Sound.{art_with}
 use Rattle.level_audit.specs.scene_load.Fulls.{IsFullLoad}
 use Rattle.level_audit.specs.scene_load.Loads.{LoadedValue, load_in, loaded_pictures, loaded_sizes}
-use Rattle.doom_run.specs.Jobs.{Task, job_of, over, plain}
-use Rattle.doom_run.specs.Leasts.{zone_of}
+use Rattle.doom_run.specs.{Jobs.Task, Jobs.job_of, Jobs.over, Jobs.plain, Leasts.zone_of}
 use Rattle.doom_run.specs.Verdict.{Accepted}
 
 -- A block that drawing or trimming asks for: that of a lump of the directory that the scene needs, or of a prepared

@@ -5,18 +5,12 @@ use Rattle.doom_run.specs.Rules.{CommandValue, File, Format, LevelJobValue, Leve
 use Rattle.frame_writer.specs.Ppm.{ppm}
 use Rattle.job_rules.specs.declared.command.LevelTask.TheVariants as task
 use Rattle.refusals.specs.declared.refusal.Refusal.{Refusal}
-use Rattle.job_files.specs.Flats.{flat_verdict}
-use Rattle.job_files.specs.Lines.{pair_line}
-use Rattle.job_files.specs.Made.{made_file}
-use Rattle.job_files.specs.Sizes.{flat_reads}
-use Rattle.job_files.specs.declared.status.Status.{Status}
-use Rattle.job_files.specs.declared.status.Status.TheVariants.{Done}
+use Rattle.job_files.specs.{Flats.flat_verdict, Lines.pair_line, Made.made_file, Sizes.flat_reads}
+use Rattle.job_files.specs.{declared.status.Status.Status, declared.status.Status.TheVariants.Done}
 use Rattle.level_audit.specs.scene_load.Loads.{LoadedValue, loaded_sizes}
-use Rattle.doom_run.specs.declared.form.ViewForm.{ViewForm}
+use Rattle.doom_run.specs.{declared.form.ViewForm.ViewForm, Layers.SeenView, Lists.listed_bytes}
 use Rattle.doom_run.specs.declared.form.ViewForm.TheVariants.{Frame, Trace}
 use Rattle.doom_run.specs.Exercises.{exercised_bytes, made_files, made_level, made_wads}
-use Rattle.doom_run.specs.Layers.{SeenView}
-use Rattle.doom_run.specs.Lists.{listed_bytes}
 use Rattle.doom_run.specs.Trims.{plan_in}
 use Rattle.doom_run.specs.Views.{ViewsValue, counted_bytes, due_views, rendered_bytes, rendered_end, views_of}
 

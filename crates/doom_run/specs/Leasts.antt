@@ -2,16 +2,13 @@
 -- beside COLORMAP, each lump that is read and each that is painted from.
 use Rattle.std.specs.Prelude.{ℕ, ◌+◌, ◌==◌, ◌||◌, Bool, cond, max, List, length, Result, Ok, Err}
 use Rattle.std.specs.List.{range_with_len}
-use Rattle.doom_run.specs.Rules.{COMPOSITE, CommandValue, Dot, File, LUMP, LevelBase, LevelJobValue, Painter, Scene, Stop, block_size, greatest_by, is_list, is_map_lump, lump_block, overlaid_paints}
-use Rattle.art_rules.specs.Words.{Lump}
-use Rattle.texture_build.specs.Asked.{size_of}
-use Rattle.texture_build.specs.Views.{TexturesView, prepared_texture}
+use Rattle.doom_run.specs.Rules.{COMPOSITE, CommandValue, Dot, File, LUMP, LevelBase, LevelJobValue, Lump, Painter, Scene, Stop, block_size, greatest_by, is_list, is_map_lump, lump_block, overlaid_paints}
+use Rattle.texture_build.specs.{Asked.size_of, Views.TexturesView, Views.prepared_texture}
 use Rattle.refusals.specs.declared.refusal.Refusal.{Refusal}
 use Rattle.sound_scene.specs.Sound.{textures_view}
 use Rattle.level_audit.specs.scene_load.Loads.{LoadedValue, load_in, wad_bytes}
 use Rattle.doom_run.specs.Jobs.{Delivery, Task, Work, job_of, over, plain}
-use Rattle.doom_run.specs.Layers.{SeenView}
-use Rattle.doom_run.specs.Views.{views_of}
+use Rattle.doom_run.specs.{Layers.SeenView, Views.views_of}
 
 -- PLAYPAL, a lump of the map, or a list of textures
 unfoldable pub is_base_lump : List Lump → LevelBase → ℕ → Bool

@@ -1,11 +1,9 @@
 -- The job `list`: for each view of a path a line an item, and a line of sums; a view that is over a limit has its line alone.
 use Rattle.std.specs.Prelude.{ℕ, ◌+◌, ◌++◌, List, [], ◌∷◌, codes}
-use Rattle.doom_run.specs.Rules.{Counts, Flat4, Fragment, ListedFragment, ListedPlane, ListedSprite, PlaneMaker, Scene, ViewListValue, view_counts, view_list}
+use Rattle.doom_run.specs.Rules.{Counts, Flat4, Fragment, Leaf, ListedFragment, ListedPlane, ListedSprite, PlaneMaker, Scene, ViewListValue, view_counts, view_list}
 use Rattle.refusals.specs.Lines.{labelled, labelled_signed}
 use Rattle.picture_rules.specs.declared.plane.Flat4.TheVariants.{Sky, Lump}
-use Rattle.picture_rules.specs.declared.list.PlaneMaker.TheVariants.{Leaf}
-use Rattle.doom_run.specs.Layers.{SeenView}
-use Rattle.doom_run.specs.Views.{ViewsValue, view_lines}
+use Rattle.doom_run.specs.{Layers.SeenView, Views.ViewsValue, Views.view_lines}
 
 -- a line of item number k of a view begins so
 abbrev pub item_start : List ℕ → ℕ → ℕ → List ℕ

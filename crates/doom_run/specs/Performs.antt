@@ -1,21 +1,16 @@
 -- What a run of a job says: by its status, by what was written, and by what was read.
 use Rattle.std.specs.Prelude.{◌≡◌, ◌≤◌, ◌+◌, ◌⊎◌, ℕ, Bool, false, IsTrue, List, [], Option, None, Some, Ok}
 use Rattle.doom_run.specs.Rules.{CommandValue, FaultsRose, File, Grew, Holds, IsInOrder, LevelJobValue, ShelfView, from_below, live_sum, lump_size}
-use Rattle.job_files.specs.Files.{files_named}
-use Rattle.job_files.specs.declared.status.Status.{Status}
+use Rattle.job_files.specs.{Files.files_named, declared.status.Status.Status}
 use Rattle.job_files.specs.declared.status.Status.TheVariants.{Usage, ReadFault, WriteFault, ZoneFull, OutOfMemory}
 use Rattle.level_audit.specs.scene_load.Calls.{HoldsLoaded}
 use Rattle.level_audit.specs.scene_load.Loads.{load_in, loaded_value, wad_bytes}
 use Rattle.level_audit.specs.scene_load.Orders.{loaded_items, lumps_size}
 use Rattle.level_audit.specs.declared.scene_load.load.LoadedScene.{LoadedScene}
 use Rattle.doom_run.specs.Ends.{EndsAt, IsEnd, IsReadOrFull, IsUnwritten}
-use Rattle.doom_run.specs.Fulls.{IsFullDraw, IsFullTask}
-use Rattle.doom_run.specs.Jobs.{Delivery, Job, job_of}
-use Rattle.doom_run.specs.Leasts.{delivery_least, task_least, zone_of}
-use Rattle.doom_run.specs.Steps.{at_step}
-use Rattle.doom_run.specs.Takes.{TaskTakes}
-use Rattle.doom_run.specs.Verdict.{delivered, job_verdict}
-use Rattle.doom_run.specs.Words.{has_zone}
+use Rattle.doom_run.specs.{Fulls.IsFullDraw, Fulls.IsFullTask, Jobs.Delivery, Jobs.Job, Jobs.job_of}
+use Rattle.doom_run.specs.{Leasts.delivery_least, Leasts.task_least, Leasts.zone_of, Steps.at_step}
+use Rattle.doom_run.specs.{Takes.TaskTakes, Verdict.delivered, Verdict.job_verdict, Words.has_zone}
 
 -- What a status says whatever the files are: of a job that reads on while it writes, or does not; by the views
 -- of the shelf before and after, what was written before and after, and how often writing had failed then.

@@ -3,12 +3,10 @@ use Rattle.std.specs.Prelude.{◌≡◌, ◌<◌, ◌≤◌, ◌⊎◌, ℕ, Con
 use Rattle.doom_run.specs.Rules.{Failed, FaultsRose, IsInOrder, Item, KeepsOrder, LevelJobValue, ShelfView, Writes, lump_bytes, overlaid_paints}
 use Rattle.texture_build.specs.Calls.{HasAll, IsFullFor}
 use Rattle.texture_build.specs.Draws.{DrawsWith, FitBeside, HasTexturesAsked, HoldsArt, IsFullForTexture}
-use Rattle.sound_scene.specs.Sound.{textures_view}
-use Rattle.level_audit.specs.Weapons.{AreThere}
-use Rattle.level_audit.specs.scene_load.Calls.{IsLoadedScene}
+use Rattle.sound_scene.specs.{Sound.textures_view, Pictures.scene_of}
+use Rattle.level_audit.specs.{Weapons.AreThere, scene_load.Calls.IsLoadedScene}
 use Rattle.level_audit.specs.scene_load.Loads.{loaded_value, weapon_lumps}
 use Rattle.level_audit.specs.declared.scene_load.load.LoadedScene.{LoadedScene}
-use Rattle.sound_scene.specs.Pictures.{scene_of}
 use Rattle.frame_core.specs.Views.{CanDrawView, IsViewLump, IsViewTexture}
 use Rattle.frame_core.specs.Faults.{limit_of_view, view_fault}
 use Rattle.frame_core.specs.declared.fault.ViewFault.{ViewFault}
@@ -16,11 +14,9 @@ use Rattle.job_files.specs.declared.status.Status.{Status}
 use Rattle.job_files.specs.declared.status.Status.TheVariants.{ReadFault, WriteFault, ZoneFull}
 use Rattle.doom_run.specs.declared.canvas.ViewCanvas.{ViewCanvas}
 use Rattle.doom_run.specs.declared.render.ReadyViews.{ReadyViews}
-use Rattle.doom_run.specs.Frames.{IsDrawnAt, KeepsReady}
-use Rattle.doom_run.specs.Takes.{InOrderAfter}
+use Rattle.doom_run.specs.{Frames.IsDrawnAt, Frames.KeepsReady, Takes.InOrderAfter}
 use Rattle.doom_run.specs.Views.{ViewsValue, first_over, limits_of_settings, over_at}
-use Rattle.doom_run.specs.Layers.{seen_views}
-use Rattle.doom_run.specs.Ends.{IsDelivered}
+use Rattle.doom_run.specs.{Layers.seen_views, Ends.IsDelivered}
 
 -- the views of a ready scene, whose lumps have these bytes
 unfoldable pub ready_views : (ℕ → List ℕ) → ReadyViews → ViewsValue

@@ -1,6 +1,6 @@
 -- The words of the rules below that this crate cites, by the page that each comes from.
-pub use Rattle.art_rules.specs.Words.{Failed, Fault, FaultFitsOrAbsent, FaultsRose, File, Grew, GrewByPrefix, HasCauseAt, Holds, IsTallyOf, MAX_LUMPS, OutOfMemory, PreparedTexture, ReadFault, Refused, ShelfInMemory, ShelfView, Stop, Tally, TextureLists, Writes, ZoneFull, absent, and_then, directory, else_absent, fault_above, file_named, from_below, last_of, lump_at, memory_view, name_of, no_file, stopped, texture_at}
-unfoldable pub use Rattle.art_rules.specs.Words.{book_lumps, each_of, filled, first_needs, is_frame, lump_bytes, picked, shape_lumps, texel}
+pub use Rattle.art_rules.specs.Words.{Failed, Fault, FaultFitsOrAbsent, FaultsRose, File, Grew, GrewByPrefix, HasCauseAt, Holds, IsTallyOf, Lump, MAX_LUMPS, OutOfMemory, PreparedTexture, ReadFault, Refused, ShelfInMemory, ShelfView, Stop, Tally, TextureLists, Writes, ZoneFull, absent, and_then, directory, else_absent, fault_above, file_named, from_below, last_of, lump_at, memory_view, name_of, no_file, stopped, texture_at}
+unfoldable pub use Rattle.art_rules.specs.Words.{book_lumps, each_of, filled, first_needs, frame_of, is_frame, lump_bytes, picked, shape_lumps, texel}
 pub use Rattle.art_rules.specs.declared.ColumnLookup.{ColumnLookup}
 pub use Rattle.art_rules.specs.declared.ColumnLookup.TheVariants.{Composed, Empty, Single}
 pub use Rattle.art_rules.specs.declared.PlacedPatch.{PlacedPatch}
@@ -9,7 +9,7 @@ pub use Rattle.art_rules.specs.declared.shapes.Frame.{Frame}
 pub use Rattle.art_rules.specs.declared.shapes.Shape.{Shape}
 pub use Rattle.command_line.specs.Commands.{command_of}
 pub use Rattle.job_files.specs.Statuses.{code_of}
-pub use Rattle.job_rules.specs.Commands.{CommandValue, IsCount, IsCountedMake, exercise, flat, level_job, make}
+pub use Rattle.job_rules.specs.Commands.{CommandValue, IsCount, IsCountedMake, IsExercise, exercise, flat, level_job, make}
 pub use Rattle.job_rules.specs.LevelJobs.{FileNames, LevelJobValue, level_job_value}
 pub use Rattle.job_rules.specs.Ranges.{AreSettings}
 pub use Rattle.job_rules.specs.declared.command.Format.{Format}
@@ -24,12 +24,13 @@ pub use Rattle.picture_rules.specs.Words.{AreInView, Art, COMPOSITE, Dot, Eye, F
 unfoldable pub use Rattle.picture_rules.specs.Words.{frame_dots, joined_leaves, joined_level, joined_lists, least, level_of, listed, map_refusal, no_leaf_refusal, overlaid_paints, overlaid_picture, overlaid_trace, records_of, records_refusal, shade, sizes_refusal, surface_at, unless, view_counts, view_list, view_over, view_paints, weapon_dots}
 pub use Rattle.picture_rules.specs.declared.Counts.{Counts}
 pub use Rattle.picture_rules.specs.declared.LimitKind.{LimitKind}
+pub use Rattle.picture_rules.specs.declared.Limits.{Limits}
 pub use Rattle.picture_rules.specs.declared.OverLimit.{OverLimit}
 pub use Rattle.picture_rules.specs.declared.list.ListedFragment.{ListedFragment}
 pub use Rattle.picture_rules.specs.declared.list.ListedPlane.{ListedPlane}
 pub use Rattle.picture_rules.specs.declared.list.ListedSprite.{ListedSprite}
 pub use Rattle.picture_rules.specs.declared.list.PlaneMaker.{PlaneMaker}
-pub use Rattle.picture_rules.specs.declared.list.PlaneMaker.TheVariants.{Fragment}
+pub use Rattle.picture_rules.specs.declared.list.PlaneMaker.TheVariants.{Fragment, Leaf}
 pub use Rattle.picture_rules.specs.declared.plane.Flat4.{Flat4}
 pub use Rattle.scene_rules.specs.Words.{Faces, Heap, IsInOrder, IsZoneSize, Item, KeepsOrder, LevelBase, MIN_FRAGMENT, Owner, SceneArt, SceneValue, block_size, has_item, live_sum, lump_size}
 unfoldable pub use Rattle.scene_rules.specs.Words.{book_in, composite_block, faces_in, flat_number, greatest_by, is_last, is_list, is_map_lump, is_needed, lump_block, map_bytes, need_of, scene_in, sector_at, sector_flats, side_textures, sky_texture, surface_of, surfaces_of, things_of, zone_sizes}

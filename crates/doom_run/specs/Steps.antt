@@ -2,7 +2,7 @@
 use Rattle.std.specs.Prelude.{Option, Some, None, Result, Ok, Err}
 use Rattle.refusals.specs.declared.refusal.Refusal.{Refusal}
 use Rattle.art_rules.specs.Stops as files
-use Rattle.art_rules.specs.Words.{Stop}
+use Rattle.doom_run.specs.Rules.{Stop}
 
 -- the words are no command, or a step stops that reads files or bytes
 pub data RunStop : Type 0 where

@@ -3,10 +3,9 @@
 use Rattle.std.specs.Prelude.{◌≡◌, ◌≤◌, ◌+◌, ℕ, List, Ok, ⊤}
 use Rattle.doom_run.specs.Rules.{CommandValue, File, LevelJobValue}
 use Rattle.level_audit.specs.scene_load.Loads.{LoadedValue, load_in, loaded_sizes}
-use Rattle.job_files.specs.Sizes.{files_size}
+use Rattle.job_files.specs.{Sizes.files_size, declared.status.Status.Status}
 use Rattle.level_audit.specs.scene_load.Orders.{lumps_size}
 use Rattle.doom_run.specs.Jobs.{Task, job_of, over, plain}
-use Rattle.job_files.specs.declared.status.Status.{Status}
 use Rattle.job_files.specs.declared.status.Status.TheVariants.{Done, Usage, Refused, ReadFault, WriteFault, Limit, ZoneFull, OutOfMemory}
 
 -- Where the files are in order and the zone is roomy, no more came on between these counts of bytes that were

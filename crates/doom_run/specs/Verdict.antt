@@ -1,6 +1,6 @@
 -- What a run comes to for its words and the files that are held.
 use Rattle.std.specs.Prelude.{ℕ, zero, List, Result, Ok}
-use Rattle.art_rules.specs.Words.{and_then, File, from_below, no_file, Stop}
+use Rattle.doom_run.specs.Rules.{File, Stop, and_then, from_below, no_file}
 use Rattle.command_line.specs.Commands.{command_of}
 use Rattle.refusals.specs.declared.refusal.Refusal.{Refusal}
 use Rattle.job_files.specs.declared.status.Status.{Status}

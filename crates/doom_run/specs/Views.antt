@@ -1,19 +1,16 @@
 -- The views of a path over a level: their frames and counts, and the first that is over a limit.
 use Rattle.std.specs.Prelude.{ℕ, ◌++◌, List, [], length, take, codes, Option, Some, None, is_some, unwrap_or, slice_get, option_and_then}
 use Rattle.std.specs.Option.{option_map_or}
-use Rattle.doom_run.specs.Rules.{Counts, Format, Index, OverLimit, Ppm, Scene, Settings, joined_lists, least, listed, overlaid_picture, overlaid_trace, view_counts, view_over}
+use Rattle.doom_run.specs.Rules.{Counts, Format, Index, Limits, OverLimit, Ppm, Scene, Settings, joined_lists, least, listed, overlaid_picture, overlaid_trace, view_counts, view_over}
 use Rattle.frame_writer.specs.Ppm.{ppm}
 use Rattle.refusals.specs.Lines.{labelled}
-use Rattle.picture_rules.specs.declared.Limits.{Limits}
 use Rattle.level_audit.specs.scene_load.Loads.{LoadedValue}
 use Rattle.sound_scene.specs.Pictures.{scene_of}
 use Rattle.pixel_trace.specs.Traces.{trace_bytes}
-use Rattle.doom_run.specs.declared.form.ViewForm.{ViewForm}
+use Rattle.doom_run.specs.{declared.form.ViewForm.ViewForm, Layers.SeenView, Layers.seen_views}
 use Rattle.doom_run.specs.declared.form.ViewForm.TheVariants.{Frame, Trace}
-use Rattle.doom_run.specs.Layers.{SeenView, seen_views}
-use Rattle.job_files.specs.declared.status.Status.{Status}
+use Rattle.job_files.specs.{declared.status.Status.Status, Lines.limit_label}
 use Rattle.job_files.specs.declared.status.Status.TheVariants.{Done, Limit}
-use Rattle.job_files.specs.Lines.{limit_label}
 
 -- what is seen: a scene, the views of a path with their layers, how much a view may have, and the palette
 pub record ViewsValue : Type 0 where

@@ -1,8 +1,7 @@
 -- Laws of what the masked pass reads of a drawn fragment: its clips where it has a silhouette or is masked, and its texture columns where it is masked.
 use Rattle.picture_rules.proofs.Common.{[], AllZip, and_parts, ap, Bool, cond, false, filter, funext, int_lt, length, length-map, List, map, None, not, Option, option_map, pos, refl, slice_get, Some, suc, sym, true, zero, ℕ, ℤ, ◌&&◌, ◌++◌, ◌+◌, ◌||◌, ◌∙◌, ◌∷◌, ◌≡◌}
 use Rattle.frame_core.specs.Rules.{Art, Dot, DrawAlike, Drawseg, SpriteEntry, ViewValue, clip_of_number, clip_of_some, columns_at, drawseg_has, drawseg_scale, gives_bottom, gives_top, greatest, greatest_that, is_behind, joined_lists, listed_from, masked_dots, middle_by, middle_column, middle_masked, middles_at, middles_of, minus_one, passes_at, rows_between, same_number, sprite_bottom, sprite_column, sprite_dots, sprite_in_front, sprite_masked, sprite_step, sprite_top, sprites_from}
-use Rattle.picture_rules.proofs.Laws.{greatest-is}
-use Rattle.picture_rules.proofs.sprite.MaskedLemmas.{masked_dots-alike}
+use Rattle.picture_rules.proofs.{Laws.greatest-is, sprite.MaskedLemmas.masked_dots-alike}
 
 -- a fragment with nothing where the masked pass does not read
 abbrev pub as_read : Drawseg → Drawseg

@@ -1,7 +1,6 @@
 -- What is asked to draw a view is enough to count it.
 use Rattle.std.proofs.Common.{List}
-use Rattle.art_rules.specs.Words.{Lump}
-use Rattle.scene_rules.specs.Words.{Heap, SceneValue}
+use Rattle.frame_core.specs.Rules.{Heap, Lump, SceneValue}
 use Rattle.frame_core.specs.Views.{CanCount, CanDrawView}
 use Rattle.frame_core.proofs.SceneLemmas.{surface_flats}
 

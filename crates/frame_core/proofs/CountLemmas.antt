@@ -2,9 +2,8 @@
 use Rattle.picture_rules.proofs.Common.{[], ap, arith, length, length-append, length-map, length-take, List, map, None, refl, subst, suc, sum, sum_by-cons, sym, ℕ, ◌+◌, ◌∙◌, ◌∷◌, ◌≡◌, ◌≤◌}
 use Rattle.frame_core.specs.Rules.{Counts, Event, Limits, MAX_DRAWSEGS, Plane, Scene, SceneValue, ViewValue, Wall, counts_by, drawsegs, fragment_wall, leaf_fragments, notes_from, openings_list, openings_of, planes_of, saved_by, saved_from, view_counts, view_entries, view_events, view_notes, view_over, view_planes, view_steps, walls_of}
 use Rattle.picture_rules.proofs.wall.NoteLemmas.{length-saved_openings}
-use Rattle.frame_core.specs.declared.bench.Bench.{Bench}
+use Rattle.frame_core.specs.{declared.bench.Bench.Bench, Walked.planes_after}
 use Rattle.sound_scene.specs.Pictures.{lists_of, scene_of}
-use Rattle.frame_core.specs.Walked.{planes_after}
 use Rattle.frame_core.specs.Painters.{HasWalkedView, counts_in, limits_in}
 
 -- the fragments save as many openings as are counted of them

@@ -2,11 +2,9 @@
 use Rattle.picture_rules.proofs.Common.{[], ap, Err, IfErr, IfErr-weaker, List, Ok, OnOk, refl, Result, Some, subst, sym, take, ℕ, ◌++◌, ◌∙◌, ◌∷◌, ◌≡◌}
 use Rattle.frame_core.specs.Rules.{Event, Limits, OverLimit, SceneValue, ViewValue, steps_over, view_events, view_over, view_steps}
 use Rattle.node_walk.specs.Visits.{Visits}
-use Rattle.wall_columns.specs.declared.fault.DrawFault.{DrawFault}
-use Rattle.wall_columns.specs.Faults.{limit_of_fault}
-use Rattle.frame_core.specs.declared.bench.Bench.{Bench}
+use Rattle.wall_columns.specs.{declared.fault.DrawFault.DrawFault, Faults.limit_of_fault}
+use Rattle.frame_core.specs.{declared.bench.Bench.Bench, Views.CanCount}
 use Rattle.sound_scene.specs.Pictures.{lists_of, scene_of}
-use Rattle.frame_core.specs.Views.{CanCount}
 use Rattle.frame_core.specs.Walked.{CanTake, HasWalked, IsEventIn}
 use Rattle.frame_core.specs.Painters.{CanCountNext, CounterValue, HasCounted, HasCountedView, HasWalkedNothing, limits_in}
 use Rattle.frame_core.proofs.PainterLemmas.{all-ok, bench-walked, longer, view-over, visits-one}

@@ -1,11 +1,9 @@
 -- Laws of the dots of the walls of a view's events to which one more is added.
 use Rattle.picture_rules.proofs.Common.{[], ap, append-nil, arith, Bool, cond, false, length, List, nat_lt, nat_tests, refl, sym, true, ℕ, ◌++◌, ◌<◌, ◌∙◌, ◌∷◌, ◌≡◌, ◌≤◌}
 use Rattle.picture_rules.specs.Words.{Dot, drawsegs, Event, FragmentEvent, leaf_fragments, LeafEvent, MAX_DRAWSEGS, Scene, ViewValue, wall_dots, walls_dots, walls_from, walls_of}
-use Rattle.picture_rules.proofs.wall.PaintLemmas.{wall_dots-front}
-use Rattle.picture_rules.proofs.EventLemmas.{walls_dots-more}
+use Rattle.picture_rules.proofs.{wall.PaintLemmas.wall_dots-front, EventLemmas.walls_dots-more}
 use Rattle.wall_columns.specs.Built.{with_wall}
-use Rattle.frame_core.specs.Walked.{next_dots, next_wall}
-use Rattle.frame_core.specs.Painters.{drawn_walls}
+use Rattle.frame_core.specs.{Walked.next_dots, Walked.next_wall, Painters.drawn_walls}
 use Rattle.frame_core.proofs.StepLemmas.{walls-full, walls-leaf, walls-room}
 
 -- no event is no dot

@@ -1,22 +1,19 @@
 -- For which block a zone is full while a scene is drawn, and that one that is enough for the scene never is.
 use Rattle.picture_rules.proofs.Common.{[], All, All-contains, All-contains_itself, All-filter, All-head, ap, append-nil, arith, Bool, cases_lt, cond, Contains, Contains-get_or, eq-eqb, eq-false_positive, Err, false, false≢true, filter, get_or_past, IfErr, IfSome, inl, inr, IsSome, length, List, list_any, list_any-append, nat_lt, nat_tests, None, Ok, Option, range_with_len, refl, Result, slice_index_or, Some, subst, suc, sym, true, unwrap_or, zero, ℕ, ◌*◌, ◌++◌, ◌+◌, ◌<◌, ◌==◌, ◌||◌, ◌∙◌, ◌∷◌, ◌≡◌, ◌≢◌, ◌≤◌, ◌⊎◌, ℤ}
-use Rattle.frame_core.specs.Rules.{ColumnLookup, Empty, FaultsRose, HasCauseAt, Heap, Owner, PlacedPatch, PreparedTexture, SceneArt, SceneValue, ShelfView, art_of, block_or_none, block_size, book_lumps, column_lookup, composed_columns, composed_count, composite_block, composite_place, composite_size, enough, has_flat, is_composed, is_needed, is_patch_of, is_patch_of_any, lookup_of, lump_at, lump_block, lump_bytes, patches_in, stands_in}
-use Rattle.art_rules.specs.Words.{Lump}
+use Rattle.frame_core.specs.Rules.{ColumnLookup, Empty, FaultsRose, HasCauseAt, Heap, Lump, Owner, PlacedPatch, PreparedTexture, SceneArt, SceneValue, ShelfView, art_of, block_or_none, block_size, book_lumps, column_lookup, composed_columns, composed_count, composite_block, composite_place, composite_size, enough, has_flat, is_composed, is_needed, is_patch_of, is_patch_of_any, lookup_of, lump_at, lump_block, lump_bytes, patches_in, stands_in}
 use Rattle.texture_build.specs.DirectoryView.{DirectoryView}
 use Rattle.texture_build.specs.Caches.{IsAtRest, composite_owner, lump_owner}
 use Rattle.texture_build.specs.Calls.{IfFull, IsFullFor}
 use Rattle.texture_build.specs.Sizes.{IsGapBeside, IsGapBesideTwo}
-use Rattle.texture_build.proofs.CallLemmas.{full_at}
+use Rattle.texture_build.proofs.{CallLemmas.full_at, TexelLemmas.prepared_is}
 use Rattle.art_rules.proofs.LookupLemmas.{column_lookups-read}
 use Rattle.texture_build.specs.Asked.{IsAskedByColumn, IsGapBesideComposite, IsPatch, size_of}
 use Rattle.texture_build.specs.Draws.{DrawsWith, HoldsArt, IsFullForTexture}
 use Rattle.texture_build.specs.Sources.{IsComposedColumn, column_index, own_lookup}
 use Rattle.texture_build.specs.Views.{TexturesView, AllThere, ArePatchesThere, AreTexturesOf, IsPrepared, prepared_at, prepared_texture, unprepared}
-use Rattle.texture_build.proofs.TexelLemmas.{prepared_is}
 use Rattle.texture_build.proofs.ViewLemmas.{HasColumns, textures_columns}
 use Rattle.sound_scene.specs.Sound.{art_with, textures_view}
-use Rattle.sound_scene.proofs.FullLemmas.{IsArtFull, full-small}
-use Rattle.sound_scene.proofs.MarkLemmas.{any_passed}
+use Rattle.sound_scene.proofs.{FullLemmas.IsArtFull, FullLemmas.full-small, MarkLemmas.any_passed}
 use Rattle.sound_scene.proofs.MemberLemmas.{any_among}
 use Rattle.frame_core.specs.declared.fault.ViewFault.{ViewFault}
 use Rattle.frame_core.specs.declared.fault.ViewFault.TheVariants.{Limit, ZoneFull, ReadFault}

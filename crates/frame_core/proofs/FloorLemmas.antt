@@ -1,24 +1,18 @@
 -- Laws of the planes of a view: what drawing them asks is there, and what it paints is the view's.
 use Rattle.picture_rules.proofs.Common.{[], All, All-contains, ap, arith, eq-eqb, false, get_or, IfSome, inl, inr, IsSome, length, List, list_any, list_any_at, None, Option, option_map, or_left, or_right, refl, Result, Some, subst, sym, true, unwrap_or, ℕ, ⊤, ◌<◌, ◌==◌, ◌∙◌, ◌≡◌}
-use Rattle.frame_core.specs.Rules.{Dot, Event, Flat4, Heap, Limits, Painter, Plane, Scene, SceneValue, Sector, SectorFlats, Surface, ViewShape, ViewValue, book_lumps, flat_number, has_flat, lump_bytes, no_surface, planes_dots, planes_of, surface_at, surface_of, view_events, view_planes, view_steps}
-use Rattle.art_rules.specs.Words.{Lump}
-use Rattle.texture_build.specs.Caches.{cache_fault}
-use Rattle.texture_build.specs.CacheFault.{CacheFault}
+use Rattle.frame_core.specs.Rules.{Dot, Event, Flat4, Heap, Limits, Lump, Painter, Plane, Scene, SceneValue, Sector, SectorFlats, Surface, ViewShape, ViewValue, book_lumps, flat_number, has_flat, lump_bytes, no_surface, planes_dots, planes_of, surface_at, surface_of, view_events, view_planes, view_steps}
+use Rattle.texture_build.specs.{Caches.cache_fault, CacheFault.CacheFault, TexNo.TexNo}
 use Rattle.pixel_strips.specs.Canvases.{CanvasView}
 use Rattle.picture_rules.specs.declared.plane.Flat4.TheVariants as flat
-use Rattle.texture_build.specs.TexNo.{TexNo}
-use Rattle.texture_build.specs.Arts.{view_art}
-use Rattle.texture_build.specs.Draws.{CanDraw}
+use Rattle.texture_build.specs.{Arts.view_art, Draws.CanDraw}
 use Rattle.texture_build.specs.Paints.{PaintState, Paints, paint_tools}
 use Rattle.texture_build.specs.Views.{IsPrepared, TexturesView}
 use Rattle.texture_build.proofs.DrawLemmas.{IsMapped}
 use Rattle.texture_build.proofs.PaintLemmas.{paints-asked, paints-mapped, paints-same, paints-wider}
 use Rattle.plane_draw.specs.Planes.{CanDrawPlane, HasFlat, IsFlatOf, IsSkyColumn}
-use Rattle.sound_scene.specs.Sound.{textures_view}
-use Rattle.frame_core.specs.declared.bench.Bench.{Bench}
-use Rattle.frame_core.specs.declared.fault.ViewFault.{ViewFault}
+use Rattle.sound_scene.specs.{Sound.textures_view, Pictures.lists_of, Pictures.scene_of}
+use Rattle.frame_core.specs.{declared.bench.Bench.Bench, declared.fault.ViewFault.ViewFault}
 use Rattle.frame_core.specs.Faults.{from_cache}
-use Rattle.sound_scene.specs.Pictures.{lists_of, scene_of}
 use Rattle.frame_core.specs.Views.{CanDrawView, IsViewLump, PaintsView, ViewScene, held_scene}
 use Rattle.frame_core.specs.Walked.{HasWalked, IsFlatOf as IsFlatIn, IsFlatShown, IsPlaneIn, planes_after}
 use Rattle.frame_core.specs.Painters.{HasWalkedView, IsPlacedIn, limits_in}

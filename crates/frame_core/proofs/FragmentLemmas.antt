@@ -1,26 +1,20 @@
 -- Laws of a fragment that is stored: its textures may be drawn, what it paints, and the limit that its fault tells.
 use Rattle.picture_rules.proofs.Common.{[], ap, arith, Bool, cases_lt, cond, Err, false, IfErr, IfSome, inl, inr, IsErrAnd, length, List, nat_lt, nat_tests, Ok, OnOk, Option, refl, Result, Some, subst, sym, true, ℕ, ⊤, ◌<◌, ◌∙◌, ◌≡◌, ◌≢◌, ◌≤◌}
-use Rattle.frame_core.specs.Rules.{Art, Event, Heap, IsSound, Limits, MAX_DRAWSEGS, OverLimit, Painter, PlanesNow, Scene, SceneValue, ShelfView, Surface, ViewValue, Wall, WallFacts, facts_of, fault_above, fragment_facts, fragment_wall, leaf_sector, leaf_surface, lump_bytes, openings_count, planes_count, seg_at, side_at, textures_at, wall_dots, wall_of, wall_texture, walls_of}
-use Rattle.art_rules.specs.Words.{Lump}
-use Rattle.texture_build.specs.Arts.{view_art}
-use Rattle.texture_build.specs.Draws.{CanDraw}
+use Rattle.frame_core.specs.Rules.{Art, Event, Heap, IsSound, Limits, Lump, MAX_DRAWSEGS, OverLimit, Painter, PlanesNow, Scene, SceneValue, ShelfView, Surface, ViewValue, Wall, WallFacts, facts_of, fault_above, fragment_facts, fragment_wall, leaf_sector, leaf_surface, lump_bytes, openings_count, planes_count, seg_at, side_at, textures_at, wall_dots, wall_of, wall_texture, walls_of}
+use Rattle.texture_build.specs.{Arts.view_art, Draws.CanDraw, Views.IsPrepared, Views.TexturesView}
 use Rattle.texture_build.specs.Paints.{PaintState, PaintTools, Paints, paint_state, painted_art}
-use Rattle.texture_build.specs.Views.{IsPrepared, TexturesView}
 use Rattle.texture_build.proofs.DrawLemmas.{IsMapped}
 use Rattle.texture_build.proofs.PaintLemmas.{paints-asked, paints-mapped, paints-none, paints-same, paints-wider}
-use Rattle.sound_scene.specs.Sound.{textures_view}
+use Rattle.sound_scene.specs.{Sound.textures_view, Pictures.lists_of, Pictures.scene_of}
 use Rattle.visplanes.specs.Planes.{PlanesView}
-use Rattle.wall_columns.specs.declared.fault.DrawFault.{DrawFault}
+use Rattle.wall_columns.specs.{declared.fault.DrawFault.DrawFault, Built.AreBehind, Built.with_wall}
 use Rattle.wall_columns.specs.declared.fault.DrawFault.TheVariants.{Planes, Openings, ZoneFull, ReadFault}
-use Rattle.wall_columns.specs.Built.{AreBehind, with_wall}
 use Rattle.wall_columns.specs.Draws.{IsNoPicture, IsSeenOf, IsUntouched, IsWallTexture}
 use Rattle.wall_columns.specs.Faults.{draw_fault, limit_of_fault, limit_of_result}
 use Rattle.wall_columns.specs.Walls.{WallsView}
 use Rattle.wall_columns.proofs.DrawnLemmas.{seen-texture}
-use Rattle.frame_core.specs.declared.bench.Bench.{Bench}
-use Rattle.frame_core.specs.declared.fault.ViewFault.{ViewFault}
+use Rattle.frame_core.specs.{declared.bench.Bench.Bench, declared.fault.ViewFault.ViewFault}
 use Rattle.frame_core.specs.Faults.{from_draw, limit_of_view, view_fault}
-use Rattle.sound_scene.specs.Pictures.{lists_of, scene_of}
 use Rattle.frame_core.specs.Views.{CanDrawView, PaintsView, ViewScene, held_scene, view_tools}
 use Rattle.frame_core.specs.Walked.{HasWalked, next_dots, next_wall, planes_after}
 use Rattle.frame_core.proofs.SceneLemmas.{AreFactsReady, IsNoneOrReady, facts_ready, patches_there}

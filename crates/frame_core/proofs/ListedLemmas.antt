@@ -1,19 +1,13 @@
 -- The seg of each note of a view, with its side and its sectors, is among the lists of its scene, and the middle texture of a masked one may be drawn.
-use Rattle.picture_rules.proofs.Common.{[], All, All-from_recursion, AllByRecursion, arith, false, ForSome, get_or, IfSome, inl, inr, IsSome, length, length-map, List, map, None, not, Option, option_map, recursion_from_All, refl, Some, subst, suc, sym, take, true, zero, ℕ, ◌+◌, ◌<◌, ◌==◌, ◌∷◌, ◌≡◌, ◌≤◌, ◌⊎◌, ℤ}
-use Rattle.std.proofs.Math.ListN.{get_or-map}
-use Rattle.art_rules.specs.Words.{Lump}
-use Rattle.frame_core.specs.Rules.{Event, FragmentEvent, FragmentNote, Heap, IsSound, LeafEvent, LeafFragment, MAX_DRAWSEGS, SceneValue, SideTextures, Surface, ViewValue, Wall, WallFacts, back_of, drawsegs, facts_of, fragment_facts, fragment_numbers, fragment_wall, is_masked, leaf_fragments, no_seg, no_textures, note_at, notes_from, numbers_by, place_if, room_if, saves_bottom, saves_top, seg_at, surface_at, textures_at, three_textures, view_notes, wall_of, wall_texture, walls_of}
-use Rattle.texture_build.specs.Draws.{CanDraw}
-use Rattle.texture_build.specs.Views.{IsPrepared, prepared_texture}
+use Rattle.picture_rules.proofs.Common.{[], All, All-from_recursion, AllByRecursion, arith, false, ForSome, get_or, IfSome, inl, inr, IsSome, length, length-map, List, map, None, not, Option, option_map, recursion_from_All, refl, Some, subst, suc, sym, take, true, zero, ℕ, ◌+◌, ◌<◌, ◌==◌, ◌∷◌, ◌≡◌, ◌≤◌, ◌⊎◌, ℤ, get_or-map}
+use Rattle.frame_core.specs.Rules.{Event, FragmentEvent, FragmentNote, Heap, IsSound, LeafEvent, LeafFragment, Lump, MAX_DRAWSEGS, SceneValue, SideTextures, Surface, ViewValue, Wall, WallFacts, back_of, drawsegs, facts_of, fragment_facts, fragment_numbers, fragment_wall, is_masked, leaf_fragments, no_seg, no_textures, note_at, notes_from, numbers_by, place_if, room_if, saves_bottom, saves_top, seg_at, surface_at, textures_at, three_textures, view_notes, wall_of, wall_texture, walls_of}
+use Rattle.texture_build.specs.{Draws.CanDraw, Views.IsPrepared, Views.prepared_texture}
 use Rattle.sound_scene.specs.Sound.{middles_of, textures_view}
-use Rattle.sound_scene.specs.Whole.{AllColumnsSingle, IsNoneOrSingle}
+use Rattle.sound_scene.specs.{Whole.AllColumnsSingle, Whole.IsNoneOrSingle, Pictures.scene_of}
 use Rattle.masked_draw.specs.Lists.{middle_by, note_seg}
 use Rattle.masked_draw.specs.Ready.{CanDrawMiddle, IsListed, IsNotedMiddle}
-use Rattle.frame_core.specs.Views.{IsDrawable}
-use Rattle.sound_scene.specs.Pictures.{scene_of}
-use Rattle.frame_core.specs.Walked.{IsEventIn}
-use Rattle.frame_core.proofs.DrawsegLemmas.{mask_lists}
-use Rattle.frame_core.proofs.SceneLemmas.{patches_there}
+use Rattle.frame_core.specs.{Views.IsDrawable, Walked.IsEventIn}
+use Rattle.frame_core.proofs.{DrawsegLemmas.mask_lists, SceneLemmas.patches_there}
 
 -- the seg of each fragment of events that name what is there is there
 segs_there : (v : ViewValue) (s : SceneValue) (leaf : ℕ) (events : List Event) → AllByRecursion (IsEventIn v s) events → AllByRecursion (λ (f : LeafFragment). f.seg < length s.base.level.segs) (leaf_fragments leaf events)

@@ -3,9 +3,8 @@ use Rattle.picture_rules.proofs.Common.{[], ap, Err, err_from_is_err_and, IsErrA
 use Rattle.frame_core.specs.Rules.{Event, LevelLists, Limits, ListedFragment, ListedPlane, ListedSprite, OverLimit, Plane, Scene, SceneValue, ViewListValue, ViewValue, event_list, event_planes, plane_makers, view_events, view_list}
 use Rattle.picture_rules.proofs.ListLemmas.{plane_makers-count}
 use Rattle.node_walk.specs.Visits.{Visits}
-use Rattle.frame_core.specs.declared.bench.Bench.{Bench}
+use Rattle.frame_core.specs.{declared.bench.Bench.Bench, Walked.HasWalked}
 use Rattle.sound_scene.specs.Pictures.{lists_of, scene_of}
-use Rattle.frame_core.specs.Walked.{HasWalked}
 use Rattle.frame_core.specs.Painters.{CanCountNext, CounterValue, HasWalkedNothing, HasWalkedView, limits_in}
 use Rattle.frame_core.specs.ViewLists.{HasListed, WalkListValue, listed_planes, listed_sprites, nothing_listed}
 use Rattle.frame_core.specs.Listers.{HasGathered, IsListedView, ListerValue}

@@ -1,10 +1,8 @@
 -- Laws of the masked pass of a view: what it asks is there where the walk is in the bench, and what it paints is what the picture has.
 use Rattle.picture_rules.proofs.Common.{[], All, All-contains, AllPass, ap, arith, get_or, length, List, list_any, nat_tests, or_right, Result, subst, sym, true, ℕ, ℤ, ⊤, ◌<◌, ◌==◌, ◌∙◌, ◌≡◌}
 use Rattle.frame_core.specs.Rules.{AreNoted, Dot, FragmentNote, Heap, IsSound, LevelValue, Painter, Plane, Scene, SceneValue, Sector, Seg, Side, SpriteEntry, ViewValue, book_lumps, draw_order, has_flat, lump_bytes, masked_dots, view_drawsegs, view_entries, view_events, walls_of}
-use Rattle.texture_build.specs.CacheFault.{CacheFault}
-use Rattle.texture_build.specs.Caches.{cache_fault}
-use Rattle.texture_build.specs.DirectoryView.{DirectoryView}
-use Rattle.texture_build.specs.Arts.{view_art}
+use Rattle.texture_build.specs.{CacheFault.CacheFault, Caches.cache_fault}
+use Rattle.texture_build.specs.{DirectoryView.DirectoryView, Arts.view_art}
 use Rattle.texture_build.specs.Paints.{PaintState, Paints, paint_tools}
 use Rattle.texture_build.specs.Views.{TexturesView}
 use Rattle.texture_build.proofs.DrawLemmas.{IsMapped}
@@ -14,13 +12,10 @@ use Rattle.vissprites.specs.Bounds.{has_lump_below, lies_within}
 use Rattle.wall_columns.specs.Built.{IsBuilt}
 use Rattle.masked_draw.specs.Lists.{MaskedLists, lists_of as lists_by, noted_drawsegs}
 use Rattle.masked_draw.specs.Ready.{IsListed, IsNotedMiddle, IsSpriteLump}
-use Rattle.frame_core.specs.declared.bench.Bench.{Bench}
-use Rattle.frame_core.specs.declared.fault.ViewFault.{ViewFault}
-use Rattle.frame_core.specs.Faults.{from_cache}
+use Rattle.frame_core.specs.{declared.bench.Bench.Bench, declared.fault.ViewFault.ViewFault}
+use Rattle.frame_core.specs.{Faults.from_cache, Walked.planes_after, Painters.HasWalkedView}
 use Rattle.sound_scene.specs.Pictures.{lists_of, scene_of}
 use Rattle.frame_core.specs.Views.{CanDrawView, IsViewLump, PaintsView, held_scene, view_scene}
-use Rattle.frame_core.specs.Walked.{planes_after}
-use Rattle.frame_core.specs.Painters.{HasWalkedView}
 use Rattle.frame_core.proofs.DrawsegLemmas.{mask_lists, masked_dots-noted}
 use Rattle.frame_core.proofs.EntryLemmas.{entry_lump}
 use Rattle.frame_core.proofs.ListedLemmas.{middle_prepared, notes_listed}

@@ -1,14 +1,10 @@
 -- Laws of a call that paints a part of a view: it may be asked again, and a fault of the cache is one of a view.
 use Rattle.std.proofs.Common.{◌≡◌, List, refl}
-use Rattle.frame_core.specs.Rules.{Heap, SceneValue, ViewValue, fault_above}
-use Rattle.art_rules.specs.Words.{Lump}
-use Rattle.texture_build.specs.Caches.{KeepsCounts, cache_fault}
-use Rattle.texture_build.specs.CacheFault.{CacheFault}
+use Rattle.frame_core.specs.Rules.{Heap, Lump, SceneValue, ViewValue, fault_above}
+use Rattle.texture_build.specs.{Caches.KeepsCounts, Caches.cache_fault, CacheFault.CacheFault}
 use Rattle.texture_build.specs.CacheFault.TheVariants as cache
-use Rattle.pixel_strips.specs.Canvases.{CanvasView}
-use Rattle.pixel_strips.specs.Dotted.{PlacedAlike}
-use Rattle.frame_core.specs.Faults.{from_cache, view_fault}
-use Rattle.frame_core.specs.Views.{CanDrawView}
+use Rattle.pixel_strips.specs.{Canvases.CanvasView, Dotted.PlacedAlike}
+use Rattle.frame_core.specs.{Faults.from_cache, Faults.view_fault, Views.CanDrawView}
 use Rattle.frame_core.specs.Painters.{IsPlacedIn}
 
 -- what a call asks of the scene and the cache it may ask again

@@ -2,26 +2,21 @@
 use Rattle.picture_rules.proofs.Common.{[], ap, arith, drop, Err, err_from_is_err_and, IfErr, IfErr-weaker, IfSome, IfSome_then, IsErrAnd, List, None, Ok, on_ok_weaker, OnOk, Option, refl, Result, Some, subst, sym, take, take-append-drop, ℕ, ◌++◌, ◌∙◌, ◌∷◌, ◌≡◌, ℤ}
 use Rattle.frame_core.specs.Rules.{Dot, Event, FragmentEvent, Heap, LeafEvent, LevelLists, LimitKind, Limits, OverLimit, Painter, Scene, SceneValue, ShelfView, ViewValue, openings_count, planes_count, steps_over, view_events, view_over, view_steps}
 use Rattle.scene_rules.proofs.Laws.{order_none}
-use Rattle.texture_build.specs.DirectoryView.{DirectoryView}
-use Rattle.texture_build.specs.Caches.{KeepsCounts}
-use Rattle.texture_build.specs.Draws.{DrawsWith}
-use Rattle.texture_build.specs.Paints.{PaintState}
-use Rattle.texture_build.specs.Views.{TexturesView}
+use Rattle.texture_build.specs.{DirectoryView.DirectoryView, Caches.KeepsCounts, Draws.DrawsWith}
+use Rattle.texture_build.specs.{Paints.PaintState, Views.TexturesView}
 use Rattle.texture_build.proofs.DrawLemmas.{keeps_art-none}
 use Rattle.texture_build.proofs.PaintLemmas.{paints-missed, paints-none, paints-same, paints-stop, paints-then}
 use Rattle.pixel_strips.specs.Dotted.{PlacedAlike}
 use Rattle.pixel_strips.proofs.DottedLemmas.{placed-none}
-use Rattle.sound_scene.specs.Sound.{textures_view}
+use Rattle.sound_scene.specs.{Sound.textures_view, Pictures.lists_of, Pictures.scene_of}
 use Rattle.picture_rules.specs.declared.LimitKind.TheVariants as kind
 use Rattle.node_walk.specs.Visits.{Visits}
 use Rattle.wall_columns.specs.declared.fault.DrawFault.{DrawFault}
 use Rattle.wall_columns.specs.declared.fault.DrawFault.TheVariants.{Planes, Openings, ZoneFull, ReadFault}
 use Rattle.wall_columns.specs.Faults.{IsLimitFault, limit_of_fault}
-use Rattle.frame_core.specs.declared.bench.Bench.{Bench}
-use Rattle.frame_core.specs.declared.fault.ViewFault.{ViewFault}
+use Rattle.frame_core.specs.{declared.bench.Bench.Bench, declared.fault.ViewFault.ViewFault}
 use Rattle.frame_core.specs.declared.fault.ViewFault.TheVariants.{Limit}
 use Rattle.frame_core.specs.Faults.{from_draw, limit_of_view, view_fault}
-use Rattle.sound_scene.specs.Pictures.{lists_of, scene_of}
 use Rattle.frame_core.specs.Views.{CanDrawView, PaintsView, ViewScene, held_scene}
 use Rattle.frame_core.specs.Walked.{CanTake, HasWalked, IsEventIn, next_dots}
 use Rattle.frame_core.specs.Painters.{CanPaintNext, HasPainted, HasWalkedNothing, HasWalkedView, IsPlacedIn, PainterValue, drawn_walls, limits_in}

@@ -4,9 +4,7 @@ use Rattle.frame_core.specs.Rules.{AreInView, Art, ColumnClip, Edges, Event, FRA
 use Rattle.picture_rules.specs.declared.plane.Flat4.TheVariants.{Sky, Lump}
 use Rattle.picture_rules.proofs.FrameLemmas.{in_view-append}
 use Rattle.picture_rules.proofs.InViewLemmas.{in_view-column, in_view-joined, numbers_below, numbers_between, rows_between-in}
-use Rattle.wall_columns.specs.Built.{IsDrawn}
-use Rattle.wall_columns.specs.Plans.{AreEdgeWords, AreRowsIn}
-use Rattle.wall_columns.specs.Windows.{IsClipIn}
+use Rattle.wall_columns.specs.{Built.IsDrawn, Plans.AreEdgeWords, Plans.AreRowsIn, Windows.IsClipIn}
 use Rattle.wall_columns.proofs.ClipLemmas.{clip_before-in, middle_rows-in, top_rows-in, bottom_rows-in, edges_at-words}
 
 -- a plane with no row and no column outside the view

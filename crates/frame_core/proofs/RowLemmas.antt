@@ -1,8 +1,7 @@
 -- Each texture of accepted lists has a row, and so has what is prepared of it.
 use Rattle.picture_rules.proofs.Common.{arith, Bool, cast_signed, false, false≢true, int_lt, List, None, pos, Some, suc, sym, true, w16, zero, ℕ, ◌+◌, ◌<◌, ◌||◌, ◌≡◌}
 use Rattle.picture_rules.proofs.Laws.{none-below}
-use Rattle.frame_core.specs.Rules.{PlacedPatch, PreparedTexture, TEXTURE_HEIGHT_AT, Texture, half_at, is_wrong, list_count, lump_bytes, signed_half_at, texture_in, texture_of, texture_place, wrong_record}
-use Rattle.art_rules.specs.Words.{Lump}
+use Rattle.frame_core.specs.Rules.{Lump, PlacedPatch, PreparedTexture, TEXTURE_HEIGHT_AT, Texture, half_at, is_wrong, list_count, lump_bytes, signed_half_at, texture_in, texture_of, texture_place, wrong_record}
 use Rattle.texture_build.specs.Views.{AreTexturesOf, TexturesView, prepared_at}
 use Rattle.texture_build.proofs.AcceptedLemmas.{each_prepared}
 

@@ -3,8 +3,7 @@ use Rattle.picture_rules.proofs.Common.{[], All, All-from_recursion, AllByRecurs
 use Rattle.frame_core.specs.Rules.{AreInView, Art, ColumnClip, Drawseg, FRAME_HEIGHT, MaskedColumn, Painter, Post, Scene, SpriteEntry, ViewShape, ViewValue, Wall, bottom_clip, clip_of_number, clip_of_some, clip_past, columns_at, drawseg_of, drawsegs_from, gives_bottom, gives_top, greatest_clip, greatest_that, least_clip, listed_from, masked_dots, middle_by, middle_column, middle_masked, middles_at, middles_of, minus_one, picture_top, post_bottom, post_colour, post_dots, post_first, post_last, post_rows, post_top, posts_dots, rows_between, sprite_bottom, sprite_column, sprite_dots, sprite_masked, sprite_step, sprite_top, sprites_from, top_clip, view_drawsegs}
 use Rattle.picture_rules.proofs.FrameLemmas.{in_view-append}
 use Rattle.vissprites.specs.Bounds.{lies_within}
-use Rattle.wall_columns.specs.Built.{IsDrawn}
-use Rattle.wall_columns.specs.Windows.{IsClipIn}
+use Rattle.wall_columns.specs.{Built.IsDrawn, Windows.IsClipIn}
 use Rattle.wall_columns.proofs.ClipLemmas.{clip_before-in}
 use Rattle.masked_draw.proofs.PostLemmas.{post_first-low, post_last-high}
 use Rattle.picture_rules.proofs.InViewLemmas.{in_view-column, in_view-joined, numbers_between, rows_between-in}

@@ -3,25 +3,19 @@ use Rattle.picture_rules.proofs.Common.{All, AllPass, ap, arith, Bor, Err, get_o
 use Rattle.frame_core.specs.Rules.{AreInView, Dot, FRAME_CELLS, FRAME_HEIGHT, Fault, FaultsRose, FitsFrame, Heap, IsWithinFrame, Limits, OverLimit, Painter, Plane, Scene, SceneValue, ShelfView, SpriteEntry, ViewShape, ViewValue, draw_order, lump_bytes, masked_dots, paints_by, paints_of, picture, planes_dots, planes_of, view_drawsegs, view_entries, view_events, view_over, view_paints, view_planes, view_steps, walls_dots, walls_of}
 use Rattle.pixel_strips.specs.Canvases.{CanvasView, marked_by_colour, placed_at}
 use Rattle.pixel_strips.specs.Dotted.{HasDots}
-use Rattle.texture_build.specs.DirectoryView.{DirectoryView}
+use Rattle.texture_build.specs.{DirectoryView.DirectoryView, Draws.HoldsArt, Views.TexturesView}
 use Rattle.vissprites.specs.Bounds.{lies_within}
 use Rattle.vissprites.proofs.BoundLemmas.{draw_order-all}
-use Rattle.texture_build.specs.Draws.{HoldsArt}
-use Rattle.texture_build.specs.Views.{TexturesView}
 use Rattle.texture_build.specs.Paints.{PaintState, PaintTools, Paints, paint_state}
 use Rattle.texture_build.proofs.PaintLemmas.{paints-same, paints-then}
-use Rattle.sound_scene.specs.Sound.{SoundValue}
+use Rattle.sound_scene.specs.{Sound.SoundValue, Pictures.lists_of, Pictures.scene_of}
 use Rattle.picture_rules.proofs.FrameLemmas.{frame_of-put_dots, in_view-append}
-use Rattle.frame_core.specs.declared.bench.Bench.{Bench}
-use Rattle.frame_core.specs.declared.fault.ViewFault.{ViewFault}
-use Rattle.frame_core.specs.declared.tools.ViewTools.{ViewTools}
-use Rattle.frame_core.specs.Faults.{limit_of_view}
-use Rattle.sound_scene.specs.Pictures.{lists_of, scene_of}
+use Rattle.frame_core.specs.{declared.bench.Bench.Bench, declared.fault.ViewFault.ViewFault}
+use Rattle.frame_core.specs.{declared.tools.ViewTools.ViewTools, Faults.limit_of_view}
 use Rattle.frame_core.specs.Views.{CanDrawView, PaintsView, ViewScene, held_scene, tools_scene, view_scene}
 use Rattle.frame_core.specs.Walked.{planes_after}
 use Rattle.frame_core.specs.Painters.{HasWalkedView, IsPlacedIn, drawn_walls}
-use Rattle.frame_core.proofs.FloorLemmas.{floors_of}
-use Rattle.frame_core.proofs.MaskLemmas.{masks_dots}
+use Rattle.frame_core.proofs.{FloorLemmas.floors_of, MaskLemmas.masks_dots}
 use Rattle.frame_core.proofs.PartDotLemmas.{LiesInView, planes-in_view, walls-in_view}
 use Rattle.frame_core.proofs.ViewDotLemmas.{drawsegs-in_view, masked-in_view}
 

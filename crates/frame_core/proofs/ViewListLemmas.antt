@@ -3,8 +3,7 @@ use Rattle.picture_rules.proofs.Common.{[], ap, append-nil, append_assoc, arith,
 use Rattle.frame_core.specs.Rules.{Event, Fragment, FragmentEvent, Leaf, LeafEvent, Limits, ListedFragment, ListedSprite, MAX_DRAWSEGS, MAX_VISSPRITES, MOST_TOLD, Placed, PlacedThing, Plane, PlaneMaker, Scene, SceneValue, Seen, Shape5, SpriteEntry, ViewValue, add_entry, count_shown, drawsegs, entry_for, entry_of, entry_within, event_planes, first_mentions, is_entered, is_seen, is_shown, leaf_at, leaf_fragments, leaf_sector, leaves_entered, listed_fragment, listed_sprite, maker_of, makes_entry, misses_view, picture_first, picture_last, placed_of, plane_makers, planes_made, planes_of, project, sectors_entered, shown_things, view_entries, view_planes, with_entry, with_sectors, with_seen, with_shape, with_thing, with_things}
 use Rattle.picture_rules.proofs.ListLemmas.{all_fragments-fragment, all_fragments-leaf, fragments-full, fragments-leaf, fragments-room, plane_makers-count, plane_makers-more, plane_makers-none, shown_things-again, shown_things-fragment, shown_things-new, shown_things-none, told-more}
 use Rattle.picture_rules.proofs.ThingLemmas.{view_entries-again, view_entries-fragment, view_entries-new}
-use Rattle.frame_core.specs.declared.bench.Bench.{Bench}
-use Rattle.frame_core.specs.Entered.{has_entered}
+use Rattle.frame_core.specs.{declared.bench.Bench.Bench, Entered.has_entered}
 use Rattle.sound_scene.specs.Pictures.{lists_of, scene_of}
 use Rattle.frame_core.specs.Walked.{HasWalked, planes_after}
 use Rattle.frame_core.specs.ViewLists.{HasListed, HasSprites, WalkListValue, list_fragment, list_leaf, listed_sprites, nothing_listed, seen_sprite, shape_sprite, thing_sprite, with_entered, with_fragment, with_makers, with_sprite, with_sprites}

@@ -6,8 +6,7 @@ use Rattle.picture_rules.proofs.wall.NoteLemmas.{length-saved_openings, openings
 use Rattle.picture_rules.proofs.ThingLemmas.{view_entries-fragment}
 use Rattle.visplanes.specs.Planes.{PlanesView}
 use Rattle.wall_columns.specs.Built.{IsBuilt, limits_of, step_of_wall, step_over, with_wall}
-use Rattle.wall_columns.specs.Faults.{limit_of_result}
-use Rattle.wall_columns.specs.Walls.{WallsView}
+use Rattle.wall_columns.specs.{Faults.limit_of_result, Walls.WallsView}
 use Rattle.wall_columns.specs.declared.fault.DrawFault.{DrawFault}
 use Rattle.frame_core.specs.declared.bench.Bench.{Bench}
 use Rattle.sound_scene.specs.Pictures.{lists_of, scene_of}

@@ -6,11 +6,9 @@ use Rattle.picture_rules.proofs.ThingLemmas.{view_entries-again, view_entries-ne
 use Rattle.visplanes.specs.Planes.{PlanesView}
 use Rattle.vissprites.specs.Bounds.{has_lump_below, lies_within}
 use Rattle.wall_columns.specs.Built.{IsBuilt, limits_of, step_of_leaf, step_over}
-use Rattle.wall_columns.specs.Faults.{limit_of_fault, limit_of_result}
-use Rattle.wall_columns.specs.Walls.{WallsView}
+use Rattle.wall_columns.specs.{Faults.limit_of_fault, Faults.limit_of_result, Walls.WallsView}
 use Rattle.wall_columns.specs.declared.fault.DrawFault.{DrawFault}
-use Rattle.frame_core.specs.declared.bench.Bench.{Bench}
-use Rattle.frame_core.specs.Entered.{has_entered}
+use Rattle.frame_core.specs.{declared.bench.Bench.Bench, Entered.has_entered}
 use Rattle.sound_scene.specs.Pictures.{lists_of, scene_of}
 use Rattle.frame_core.specs.Walked.{HasWalked, IsEventIn, IsPlaneIn, planes_after, with_sector}
 use Rattle.frame_core.proofs.PlaneStepLemmas.{planes-leaf}

@@ -1,13 +1,10 @@
 -- How a call that draws a view ends: within the limits or past one, and in a zone that is large enough for the scene.
 use Rattle.std.specs.Prelude.{◌≡◌, ◌≤◌, ℕ, List, None, Some, IfErr, IfSome, IsSome, OnOk, Result}
 use Rattle.frame_core.specs.Rules.{FaultsRose, Heap, Limits, SceneValue, ShelfView, ViewValue, art_of, enough, lump_at, view_over}
-use Rattle.texture_build.specs.Calls.{IfFull}
-use Rattle.texture_build.specs.DirectoryView.{DirectoryView}
-use Rattle.texture_build.specs.Draws.{HoldsArt}
-use Rattle.sound_scene.specs.Sound.{textures_view}
+use Rattle.texture_build.specs.{Calls.IfFull, DirectoryView.DirectoryView, Draws.HoldsArt}
+use Rattle.sound_scene.specs.{Sound.textures_view, Pictures.scene_of}
 use Rattle.frame_core.specs.declared.fault.ViewFault.{ViewFault}
 use Rattle.frame_core.specs.Faults.{limit_of_view, view_fault}
-use Rattle.sound_scene.specs.Pictures.{scene_of}
 
 -- Ok comes only where no count of the view passes its limit
 abbrev pub EndsWithin : {A E : Type 0} → ViewValue → SceneValue → Limits → Result A E → Type 0

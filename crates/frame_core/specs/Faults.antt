@@ -1,13 +1,12 @@
 -- The faults of a view as those of any layer, which refuses what passes a limit.
 use Rattle.std.specs.Prelude.{Option, Some, None}
-use Rattle.frame_core.specs.Rules.{Fault, OverLimit}
+use Rattle.frame_core.specs.{Rules.Fault, Rules.OverLimit, declared.fault.ViewFault.ViewFault}
 use Rattle.art_rules.specs.Fault.TheVariants as fault
 use Rattle.texture_build.specs.CacheFault.{CacheFault}
 use Rattle.texture_build.specs.CacheFault.TheVariants as cache
 use Rattle.picture_rules.specs.declared.LimitKind.TheVariants as kind
 use Rattle.wall_columns.specs.declared.fault.DrawFault.{DrawFault}
 use Rattle.wall_columns.specs.declared.fault.DrawFault.TheVariants as draw
-use Rattle.frame_core.specs.declared.fault.ViewFault.{ViewFault}
 use Rattle.frame_core.specs.declared.fault.ViewFault.TheVariants.{Limit, ZoneFull, ReadFault}
 
 -- the faults of the cache and of walls, here

@@ -1,15 +1,12 @@
 -- Who is given the walk of a view: the painter and the counter by their values, and what they have made of the events.
 use Rattle.std.specs.Prelude.{◌≡◌, ℕ, List, [], Some, IfSome, IfErr, length, OnOk, Result}
 use Rattle.frame_core.specs.Rules.{Counts, Dot, Event, Limits, OverLimit, Painter, Scene, SceneValue, ShelfView, ViewValue, steps_over, view_events, view_over, view_steps, walls_dots, walls_of}
-use Rattle.pixel_strips.specs.Canvases.{CanvasView}
-use Rattle.pixel_strips.specs.Standing.{StandsInFrame}
+use Rattle.pixel_strips.specs.{Canvases.CanvasView, Standing.StandsInFrame}
 use Rattle.texture_build.specs.Paints.{PaintState, paint_state}
 use Rattle.wall_columns.specs.Built.{limits_of}
-use Rattle.frame_core.specs.declared.bench.Bench.{Bench}
-use Rattle.frame_core.specs.declared.counter.ViewCounter.{ViewCounter}
+use Rattle.frame_core.specs.{declared.bench.Bench.Bench, declared.counter.ViewCounter.ViewCounter}
 use Rattle.frame_core.specs.declared.fault.ViewFault.{ViewFault}
-use Rattle.frame_core.specs.declared.painter.ViewPainter.{ViewPainter}
-use Rattle.frame_core.specs.Faults.{limit_of_view}
+use Rattle.frame_core.specs.{declared.painter.ViewPainter.ViewPainter, Faults.limit_of_view}
 use Rattle.sound_scene.specs.Pictures.{lists_of, scene_of}
 use Rattle.frame_core.specs.Views.{CanCount, CanDrawView, PaintsView, ViewScene, view_scene}
 use Rattle.frame_core.specs.Walked.{CanTake, HasWalked, IsEventIn}

@@ -1,18 +1,14 @@
 -- What is drawn in a view, what it is drawn with, and what a part of it paints.
 use Rattle.std.specs.Prelude.{◌≡◌, ◌≤◌, ◌<◌, ◌||◌, ◌==◌, ◌⊎◌, ℕ, true, List, All, IfSome, IsSome, Result, length, ⊤, ℤ}
 use Rattle.std.specs.List.{list_any}
-use Rattle.frame_core.specs.Rules.{Dot, Heap, Painter, SKY_FLAT, Scene, SceneValue, SectorFlats, ShelfView, Surface, ViewValue, book_lumps, has_flat, lump_bytes, surfaces_of}
-use Rattle.art_rules.specs.Words.{Lump}
-use Rattle.texture_build.specs.DirectoryView.{DirectoryView}
+use Rattle.frame_core.specs.Rules.{Dot, Heap, Lump, Painter, SKY_FLAT, Scene, SceneValue, SectorFlats, ShelfView, Surface, ViewValue, book_lumps, has_flat, lump_bytes, surfaces_of}
+use Rattle.texture_build.specs.{DirectoryView.DirectoryView, Views.AllThere, Views.IsPrepared}
 use Rattle.scene_rules.specs.declared.Flat.TheVariants.{Sky}
 use Rattle.pixel_strips.specs.Canvases.{CanvasView, placed_at}
-use Rattle.texture_build.specs.Views.{AllThere, IsPrepared}
 use Rattle.texture_build.specs.Paints.{PaintState, PaintTools, Paints, paint_state, paint_tools}
-use Rattle.sound_scene.specs.Sound.{textures_view}
+use Rattle.sound_scene.specs.{Sound.textures_view, Whole.AreSidePrepared, Whole.IsMiddleSingle}
 use Rattle.level_scene.specs.Bounds.{AreBelow, AreThere}
-use Rattle.sound_scene.specs.Whole.{AreSidePrepared, IsMiddleSingle}
-use Rattle.frame_core.specs.declared.fault.ViewFault.{ViewFault}
-use Rattle.frame_core.specs.declared.tools.ViewTools.{ViewTools}
+use Rattle.frame_core.specs.{declared.fault.ViewFault.ViewFault, declared.tools.ViewTools.ViewTools}
 use Rattle.frame_core.specs.Faults.{view_fault}
 use Rattle.sound_scene.specs.Pictures.{scene_of}
 

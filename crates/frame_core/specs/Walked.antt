@@ -5,8 +5,7 @@ use Rattle.frame_core.specs.Rules.{Dot, Event, Flat4, FragmentEvent, IsAmongPlan
 use Rattle.picture_rules.specs.declared.plane.Flat4.TheVariants.{Sky, Lump}
 use Rattle.vissprites.specs.Bounds.{lies_within, has_lump_below}
 use Rattle.wall_columns.specs.Built.{IsBuilt, limits_of, with_wall}
-use Rattle.frame_core.specs.declared.bench.Bench.{Bench}
-use Rattle.frame_core.specs.Entered.{has_entered}
+use Rattle.frame_core.specs.{declared.bench.Bench.Bench, Entered.has_entered}
 use Rattle.sound_scene.specs.Pictures.{lists_of, scene_of}
 
 -- an event names what is there: a leaf, or columns of the view and a seg

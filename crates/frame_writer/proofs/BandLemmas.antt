@@ -1,9 +1,5 @@
 -- A list in pieces, each element of which gives some bytes.
-use Rattle.std.proofs.Common.{◌≡◌, ℕ, ◌+◌, List, ◌++◌, take, drop, ap, sym, ◌∙◌}
-use Rattle.std.specs.List.{flat_map}
-use Rattle.std.proofs.lemmas.Grind.{flat_map-append}
-use Rattle.std.proofs.lemmas.List.{take-append-drop}
-use Rattle.std.proofs.Math.Seq.{take-add}
+use Rattle.art_rules.proofs.Common.{◌≡◌, ℕ, ◌+◌, List, ◌++◌, take, drop, ap, sym, ◌∙◌, flat_map, flat_map-append, take-append-drop, take-add}
 
 -- one piece more
 pub pieces_more : (f : ℕ → List ℕ) (frame : List ℕ) (k n m : ℕ) → k + n ≡ m →

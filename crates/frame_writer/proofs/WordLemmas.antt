@@ -1,14 +1,7 @@
 -- Laws of words: that those of a palette have its colours, and the bytes of one index more.
-use Rattle.std.proofs.Common.{◌≡◌, ◌≢◌, ℕ, ◌+◌, ◌*◌, ◌<◌, ◌≤◌, List, [], ◌∷◌, ◌++◌, length, take, drop, set, get_or, inl, inr, ap, sym, refl, ◌∙◌, arith}
-use Rattle.std.specs.Prelude.{slice_index}
-use Rattle.std.specs.List.{flat_map}
-use Rattle.std.proofs.lemmas.Bool.{cases_lt}
-use Rattle.std.proofs.lemmas.Grind.{flat_map-append, get_or-set_at}
-use Rattle.std.proofs.lemmas.List.{append-nil, get_or-set_other, get_or_past, take_more, take-take, take_at, take-append-le, drop_at, drop_more, length-take-le, length-set}
-use Rattle.std.proofs.Math.Seq.{take-add}
+use Rattle.art_rules.proofs.Common.{◌≡◌, ◌≢◌, ℕ, ◌+◌, ◌*◌, ◌<◌, ◌≤◌, List, [], ◌∷◌, ◌++◌, length, take, drop, set, get_or, inl, inr, ap, sym, refl, ◌∙◌, arith, slice_index, flat_map, cases_lt, flat_map-append, get_or-set_at, append-nil, get_or-set_other, get_or_past, take_more, take-take, take_at, take-append-le, drop_at, drop_more, length-take-le, length-set, take-add}
 use borrow.Rule.Slice.PartMut.{put_mid, post_of}
-use Rattle.frame_writer.specs.Ppm.{colour}
-use Rattle.frame_writer.specs.Words.{word_colour}
+use Rattle.frame_writer.specs.{Ppm.colour, Words.word_colour}
 
 three : (a b d x y z : ℕ) → a ≡ x → b ≡ y → d ≡ z → a ∷ b ∷ d ∷ [] ≡ x ∷ y ∷ z ∷ []
 three a b d x y z e f g = cc

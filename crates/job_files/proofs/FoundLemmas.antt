@@ -1,10 +1,8 @@
 -- The numbers of files that were asked for one after the other.
-use Rattle.picture_rules.proofs.Common.{[], ap, arith, Bor, Err, get_or, IsOk, IsSome, length, length-map, List, map, None, Option, option_and_then, option_map, refl, Result, Some, suc, sym, zero, ℕ, ◌++◌, ◌<◌, ◌∙◌, ◌∷◌, ◌≡◌}
-use Rattle.std.proofs.lemmas.List.{get_or-map}
+use Rattle.picture_rules.proofs.Common.{[], ap, arith, Bor, Err, get_or, IsOk, IsSome, length, length-map, List, map, None, Option, option_and_then, option_map, refl, Result, Some, suc, sym, zero, ℕ, ◌++◌, ◌<◌, ◌∙◌, ◌∷◌, ◌≡◌, get_or-map}
 use Rattle.art_rules.specs.Words.{absent, else_absent, File, file_named, FileNo, IsLaterShelf, NameFiles, ShelfView, Stands, StandsForNamed}
 use Rattle.art_rules.proofs.Laws.{all_stand_later, not_held}
-use Rattle.job_files.specs.Files.{files_named}
-use Rattle.job_files.specs.Found.{AllStandForNamed}
+use Rattle.job_files.specs.{Files.files_named, Found.AllStandForNamed}
 
 -- the first file and the others, where all are held
 record AreBoth (first : Option (List ℕ)) (others : Option (List (List ℕ))) (contents : List (List ℕ)) : Type 0 where

@@ -1,8 +1,7 @@
 -- A file's length and its bytes.
 use Rattle.std.proofs.Common.{◌≡◌, ℕ, List, length, Option, Some, None, Ok, Err, refl, sym, ap}
-use Rattle.job_files.specs.declared.whole_files.FileKind.{FileKind}
+use Rattle.job_files.specs.{declared.whole_files.FileKind.FileKind, Files.value_unless}
 use Rattle.refusals.specs.declared.refusal.Refusal.{Refusal}
-use Rattle.job_files.specs.Files.{value_unless}
 use Rattle.job_files.specs.Lengths.{length_refusal, bytes_in}
 
 -- a value was refused, and so is another

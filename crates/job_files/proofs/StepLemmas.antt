@@ -4,8 +4,7 @@ use Rattle.art_rules.specs.Words.{and_then, Fault, FaultFits, itself, ResultIs}
 use Rattle.art_rules.specs.Fault.TheVariants as fault
 use Rattle.lump_cache.specs.Calls.{IfFull}
 use Rattle.refusals.specs.declared.refusal.Refusal.{Refusal}
-use Rattle.job_files.specs.declared.status.Status.TheVariants.{ZoneFull}
-use Rattle.job_files.specs.Statuses.{status_of}
+use Rattle.job_files.specs.{declared.status.Status.TheVariants.ZoneFull, Statuses.status_of}
 
 stops_same : {A C R : Type 0} (steady : Bool) (first : Result C R) (next : C → Result A R) (below : Fault R) →
     FaultFits steady first below → FaultFits steady (and_then first next) below

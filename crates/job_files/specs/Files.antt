@@ -3,10 +3,8 @@
 use Rattle.std.specs.Prelude.{◌≡◌, ℕ, List, [], ◌∷◌, Option, Some, None, option_and_then, option_map, Result, Ok, Err, IfErr, codes, refl}
 use Rattle.job_files.specs.Rules.{Eye, Fault, File, FileNames, Lump, Settings, Stop, TablesRefusal, TablesValue, ThingLine, absent, and_then, angles_in, directory, else_absent, file_named, from_below, no_file, tables_refusal}
 use Rattle.lump_cache.specs.Calls.{IfFull}
-use Rattle.csv_tables.specs.declared.weapons.WeaponRow.{WeaponRow}
-use Rattle.csv_tables.specs.Things.{things_in_table}
-use Rattle.csv_tables.specs.Paths.{path_in}
-use Rattle.csv_tables.specs.Weapons.{weapons_in}
+use Rattle.csv_tables.specs.{declared.weapons.WeaponRow.WeaponRow, Things.things_in_table}
+use Rattle.csv_tables.specs.{Paths.path_in, Weapons.weapons_in}
 use Rattle.refusals.specs.declared.refusal.Refusal.{Refusal}
 use Rattle.refusals.specs.declared.refusal.Refusal.TheVariants.{Tables, Things, Path, Weapons, Wad}
 use Rattle.job_files.specs.declared.read.SceneFiles.{SceneFiles}

@@ -4,11 +4,10 @@ use Rattle.picture_rules.specs.Words.{Length, TABLES_BYTES, TablesRefusal}
 use Rattle.csv_tables.specs.declared.records.TheConstants.{MAX_TABLE_BYTES}
 use Rattle.csv_tables.specs.declared.fault.CsvRefusal.{CsvRefusal}
 use Rattle.csv_tables.specs.declared.fault.CsvRefusal.TheVariants.{TooLong}
-use Rattle.job_files.specs.declared.whole_files.FileKind.{FileKind}
+use Rattle.job_files.specs.{declared.whole_files.FileKind.FileKind, Files.value_unless}
 use Rattle.job_files.specs.declared.whole_files.FileKind.TheVariants as kind
 use Rattle.refusals.specs.declared.refusal.Refusal.{Refusal}
 use Rattle.refusals.specs.declared.refusal.Refusal.TheVariants.{Tables, Things, Path, Weapons}
-use Rattle.job_files.specs.Files.{value_unless}
 
 -- a file of tables of angles has one length
 unfoldable pub tables_length_refusal : ℕ → Option TablesRefusal

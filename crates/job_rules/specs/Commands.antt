@@ -1,10 +1,8 @@
 -- A command, as text and numbers.
 use Rattle.std.specs.Prelude.{ℕ, ◌≤◌, List, map}
-use Rattle.job_rules.specs.declared.command.Command.{Command}
+use Rattle.job_rules.specs.{declared.command.Command.Command, declared.command.Format.Format}
 use Rattle.job_rules.specs.declared.command.Command.TheVariants as command
-use Rattle.job_rules.specs.declared.command.Format.{Format}
-use Rattle.job_rules.specs.declared.command.LevelTask.{LevelTask}
-use Rattle.job_rules.specs.declared.command.MakeJob.{MakeJob}
+use Rattle.job_rules.specs.{declared.command.LevelTask.LevelTask, declared.command.MakeJob.MakeJob}
 use Rattle.job_rules.specs.declared.command.MakeJob.TheVariants.{Wad, Path, Tables, Things}
 use Rattle.job_rules.specs.declared.ranges.TheConstants.{MAX_COUNT, MIN_COUNT}
 use Rattle.job_rules.specs.Ranges.{IsZone}

@@ -1,7 +1,6 @@
 -- A job over a level, as text and numbers.
 use Rattle.std.specs.Prelude.{ℕ, List, length, Option, option_map}
-use Rattle.job_rules.specs.declared.command.Files.{Files}
-use Rattle.job_rules.specs.declared.command.LevelJob.{LevelJob}
+use Rattle.job_rules.specs.{declared.command.Files.Files, declared.command.LevelJob.LevelJob}
 use Rattle.job_rules.specs.declared.command.Settings.{Settings}
 use Rattle.job_rules.specs.declared.ranges.TheConstants.{MAX_WADS}
 use Rattle.job_rules.specs.Ranges.{AreSettings, IsWithin}

@@ -1,15 +1,12 @@
 -- What is told of lumps of art that are read, in the words of an audit.
 use Rattle.art_rules.proofs.Common.{[], All, All-append, All-map, Any-from_list_any, ap, arith, Bool, cases_eq, eq-eqb, eqb-true, false, get_or, IfSome, inl, inr, length, List, list_any, list_any_at, map, ne_eqb, None, not, Option, refl, Result, Some, subst, suc, sym, true, ℕ, ◌&&◌, ◌<◌, ◌==◌, ◌||◌, ◌∙◌, ◌∷◌, ◌≡◌}
-use Rattle.level_audit.specs.Rules.{AuditRefusal, Fault, Frame, Heap, Need, Placed, PreparedTexture, Shape, ShelfView, SideTextures, SpriteRefusal, TexRefusal, TextureLists, book_in, book_lumps, each_of, first_needs, frame_of, from_below, is_sky_texture, is_wanted_texture, itself, joined_lists, last_of, need_of, prepared_textures, shape_lumps, shows_texture}
+use Rattle.level_audit.specs.Rules.{AuditRefusal, Fault, Frame, Heap, Need, Placed, PreparedTexture, Shape, ShelfView, SideTextures, SpriteRefusal, TexRefusal, Texture, TextureLists, book_in, book_lumps, each_of, first_needs, frame_of, from_below, is_sky_texture, is_wanted_texture, itself, joined_lists, last_of, need_of, prepared_textures, shape_lumps, shows_texture}
 use Rattle.art_rules.proofs.Laws.{joined_lists-cons}
-use Rattle.texture_build.specs.DirectoryView.{DirectoryView}
-use Rattle.texture_build.specs.Calls.{ReadsLumps}
-use Rattle.texture_build.specs.TexNo.{TexNo}
+use Rattle.texture_build.specs.{DirectoryView.DirectoryView, Calls.ReadsLumps, TexNo.TexNo}
 use Rattle.texture_build.specs.Asked.{IsWantedPatch}
 use Rattle.texture_build.specs.Views.{IsPrepared, TexturesView, is_wanted}
 use Rattle.texture_build.proofs.PrepareLemmas.{tells_wanted}
 use Rattle.sprite_book.specs.Calls.{IsWanted}
-use Rattle.scene_rules.specs.declared.refusal.AuditRefusal.TheVariants.{Texture}
 use Rattle.sound_scene.specs.Whole.{AreSidePrepared, IsNoneOrPrepared}
 
 -- the wanted textures are those of sides and sky

@@ -2,19 +2,15 @@
 -- than `enough`.
 use Rattle.level_audit.specs.Rules.{AuditRefusal, Faces, Fault, Heap, LevelBase, Lump, MIN_FRAGMENT, PNAMES, SceneValue, ShelfView, TEXTURE1, TEXTURE2, ThingLine, art_of, block_size, book_in, colormap_of, enough, greatest_by, is_last, is_list, is_map_lump, is_needed, is_wanted_texture, itself, lump_at, lump_block, lump_bytes, needed_lumps, scene_in, sizes_of, zone_sizes}
 use Rattle.art_rules.proofs.Common.{ap, arith, cases_lt, eq-eqb, Err, false, IfErr, inl, inr, length, List, Ok, Option, option_map_or, or-true, refl, Result, subst, true, ℕ, ◌+◌, ◌<◌, ◌==◌, ◌∙◌, ◌≡◌, ◌≤◌}
-use Rattle.texture_build.specs.DirectoryView.{DirectoryView}
-use Rattle.texture_build.specs.Caches.{IsAtRest}
-use Rattle.texture_build.specs.Calls.{IfFull, IsFullFor, HoldContents}
-use Rattle.texture_build.specs.Named.{IsLast}
+use Rattle.texture_build.specs.{DirectoryView.DirectoryView, Caches.IsAtRest}
+use Rattle.texture_build.specs.{Calls.IfFull, Calls.IsFullFor, Calls.HoldContents, Named.IsLast}
 use Rattle.texture_build.proofs.CallLemmas.{full_at, full_room}
 use Rattle.texture_lists.specs.Asked.{IsListLump}
 use Rattle.level_scene.specs.Asked.{IsLumpOfMap}
-use Rattle.level_audit.specs.Asked.{IsOfBase}
-use Rattle.level_audit.specs.Asked.{IsOfArt, IsOfScene}
+use Rattle.level_audit.specs.{Asked.IsOfBase, Asked.IsOfArt, Asked.IsOfScene}
 use Rattle.level_audit.specs.Reads.{IsAfterColormap, IsOverBase, IsReadLater}
 use Rattle.sound_scene.specs.Sound.{SoundValue}
-use Rattle.level_audit.proofs.NeededPatchLemmas.{wanted_patch}
-use Rattle.level_audit.proofs.NeededPictureLemmas.{needed_picture}
+use Rattle.level_audit.proofs.{NeededPatchLemmas.wanted_patch, NeededPictureLemmas.needed_picture}
 use Rattle.sound_scene.proofs.SceneLemmas.{IsBaseOf, IsSceneOf, colormap_there, base_parts, same_value, scene_parts}
 use Rattle.sound_scene.proofs.NeededLemmas.{for_colormap, for_list, for_map, for_palette, for_patch, for_picture, needed_there, past_block}
 

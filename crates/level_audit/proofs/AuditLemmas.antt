@@ -1,16 +1,11 @@
 -- What is told of the steps after COLORMAP, one after the other.
 use Rattle.level_audit.specs.Rules.{AuditRefusal, Fault, Heap, OutOfMemory, ShelfView, ThingLine, base_in, itself, scene_in, scene_on}
 use Rattle.std.proofs.Common.{◌≡◌, ℕ, List, Result, Ok, Err, refl, sym, ap, ◌∙◌, inl, inr, IsErrAnd}
-use Rattle.texture_build.specs.DirectoryView.{DirectoryView}
-use Rattle.texture_build.specs.Calls.{ReadsLumps}
+use Rattle.texture_build.specs.{DirectoryView.DirectoryView, Calls.ReadsLumps}
 use Rattle.texture_build.proofs.CallLemmas.{reads_as, reads_more, reads_same, reads_short, reads_stop, reads_stop_first}
-use Rattle.sound_scene.specs.declared.parts.ReadBase.{ReadBase}
-use Rattle.level_audit.specs.Asked.{IsOfBase}
-use Rattle.sound_scene.specs.Bases.{base_of}
-use Rattle.sound_scene.specs.declared.parts.ReadScene.{ReadScene}
-use Rattle.level_audit.specs.Asked.{IsOfScene}
-use Rattle.sound_scene.specs.Scenes.{scene_value}
-use Rattle.level_audit.specs.Reads.{IsReadLater}
+use Rattle.sound_scene.specs.{declared.parts.ReadBase.ReadBase, Bases.base_of}
+use Rattle.level_audit.specs.{Asked.IsOfBase, Asked.IsOfScene, Reads.IsReadLater}
+use Rattle.sound_scene.specs.{declared.parts.ReadScene.ReadScene, Scenes.scene_value}
 use Rattle.sound_scene.specs.Sound.{SoundValue}
 use Rattle.sound_scene.proofs.SceneLemmas.{scene_in-more, scene_in-stop}
 

@@ -1,9 +1,8 @@
 -- The steps of a base, and the lumps that stand beside the colormap.
 use Rattle.std.proofs.Common.{◌≡◌, ℕ, true, List, take, Result, Ok, Err, refl, subst}
-use Rattle.level_audit.specs.Rules.{Art, ArtRefusal, AuditRefusal, Heap, LevelBase, LevelValue, Lump, Map, PALETTE_SIZE, TextureLists, and_then, base_in, base_over, colormap_of, from_below, is_map_lump, label_of, level_in, lists_in, playpal_of}
+use Rattle.level_audit.specs.Rules.{Art, ArtRefusal, AuditRefusal, Heap, LevelBase, LevelValue, Lump, Map, PALETTE_SIZE, Texture, TextureLists, and_then, base_in, base_over, colormap_of, from_below, is_map_lump, label_of, level_in, lists_in, playpal_of}
 use Rattle.texture_build.specs.Sizes.{StandsBeside}
 use Rattle.level_scene.specs.Asked.{IsLumpOfMap}
-use Rattle.scene_rules.specs.declared.refusal.AuditRefusal.TheVariants.{Texture}
 
 -- the base of a map and its lists, with these colours
 abbrev pub with_colours : ℕ → ℕ → List ℕ → ℕ × LevelValue → TextureLists → LevelBase

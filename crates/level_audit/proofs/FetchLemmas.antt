@@ -3,15 +3,13 @@ use Rattle.art_rules.proofs.Common.{ap, arith, Bool, Err, err_from_is_err_and, I
 use Rattle.level_audit.specs.Rules.{AuditRefusal, Block, Fault, Heap, Holding, IsLaterShelf, Item, KeepsOrder, MIN_FRAGMENT, NameFiles, Owner, Refused, ResultIs, SceneValue, ShelfView, Static, ThingLine, block_size, colormap_of, gaps, holding_of, itself, lump_at, lump_bytes, owned_block}
 use Rattle.art_rules.proofs.Laws.{all_stand_later}
 use Rattle.scene_rules.proofs.Laws.{order_then, small_all}
-use Rattle.texture_build.specs.DirectoryView.{DirectoryView}
-use Rattle.texture_build.specs.CacheFault.{CacheFault}
+use Rattle.texture_build.specs.{DirectoryView.DirectoryView, CacheFault.CacheFault}
 use Rattle.texture_build.specs.CacheFault.TheVariants.{ZoneFull, ReadFault}
 use Rattle.texture_build.specs.Caches.{HasStatic, IsAtRest, IsFaithful, NoRoom, WhereFull, from_cache, holds_static, is_static_tag, lump_owner}
 use Rattle.texture_build.specs.Calls.{IfFull, InOrderAt, IsFullFor, HoldContents}
 use Rattle.texture_build.specs.Sizes.{HasSizes, IsGapAround, IsGapBeside, StandsBeside}
 use Rattle.texture_build.proofs.CallLemmas.{full_at, full_room, order_at}
-use Rattle.level_audit.specs.Asked.{IsOfBase}
-use Rattle.level_audit.specs.Reads.{IsFullAudit, IsReadLater}
+use Rattle.level_audit.specs.{Asked.IsOfBase, Reads.IsFullAudit, Reads.IsReadLater}
 use Rattle.sound_scene.specs.Sound.{SoundValue}
 
 -- the contents are told after a fetch

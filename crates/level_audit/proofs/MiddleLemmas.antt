@@ -1,8 +1,7 @@
 -- Laws of `is_all_single` and `bad_middle`, and what columns of single patches are read from.
 use Rattle.art_rules.proofs.Common.{All, ap, arith, Bool, cases_lt, eq-eqb, false, get_or, get_or-range_with_len, get_or_default, get_or_past, inl, inr, IsSome, length, length-range_with_len, List, list_all, list_all_at, list_any, list_any_at, range_with_len, refl, subst, suc, sym, true, zero, zero-add, ℕ, ◌&&◌, ◌+◌, ◌<◌, ◌∙◌, ◌≡◌, ◌≤◌}
 use Rattle.level_audit.specs.Rules.{PreparedTexture, Seg, SideTextures, bad_middle, is_all_single, is_bad_middle, is_bad_side, is_seen_through, is_single, least, mask_of, middle_of, single_place, three_textures}
-use Rattle.texture_build.specs.Sources.{own_lookup}
-use Rattle.texture_build.specs.Views.{TexturesView, is_marked}
+use Rattle.texture_build.specs.{Sources.own_lookup, Views.TexturesView, Views.is_marked}
 use Rattle.sound_scene.specs.Whole.{AllColumnsSingle, IsMiddleSingle, IsNoneOrSingle}
 
 range_all : (p : ℕ → Bool) (a n : ℕ) → ((k : ℕ) → k < a + n → p k ≡ true) → list_all p (range_with_len a n) ≡ true

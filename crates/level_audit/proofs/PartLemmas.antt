@@ -1,17 +1,13 @@
 -- What is told of a part that reads no lump.
 use Rattle.art_rules.proofs.Common.{ap, Err, err_from_is_err_and, List, Ok, Option, refl, Result, subst, sym, true, ℕ, ◌∙◌, ◌≡◌}
 use Rattle.level_audit.specs.Rules.{AuditRefusal, Faces, Fault, Heap, LevelBase, LevelValue, Placed, PreparedTexture, ResultIs, Scene, SceneRefusal, SceneValue, Seg, ShelfView, SideTextures, TextureLists, ThingLine, bad_middle, checked, faces_in, fault_above, from_below, itself, scene_on, scene_with, texture_by}
-use Rattle.texture_build.specs.DirectoryView.{DirectoryView}
-use Rattle.texture_build.specs.Calls.{ReadsLumps}
+use Rattle.texture_build.specs.{DirectoryView.DirectoryView, Calls.ReadsLumps}
 use Rattle.texture_build.proofs.CallLemmas.{result_above, reads_above, reads_known, reads_memory, reads_refused, reads_wider}
-use Rattle.level_scene.specs.declared.fault.SceneFault.{SceneFault}
+use Rattle.level_scene.specs.{declared.fault.SceneFault.SceneFault, Faults.scene_fault}
 use Rattle.level_scene.specs.declared.fault.SceneFault.TheVariants.{Refused, OutOfMemory}
-use Rattle.level_scene.specs.Faults.{scene_fault}
-use Rattle.level_audit.specs.Asked.{IsOfArt, IsOfScene}
-use Rattle.level_audit.specs.Faults.{above_scene}
+use Rattle.level_audit.specs.{Asked.IsOfArt, Asked.IsOfScene, Faults.above_scene}
 use Rattle.art_rules.proofs.Laws.{IsThrough}
-use Rattle.sound_scene.specs.declared.parts.ReadFaces.{ReadFaces}
-use Rattle.sound_scene.specs.Scenes.{faces_of}
+use Rattle.sound_scene.specs.{declared.parts.ReadFaces.ReadFaces, Scenes.faces_of}
 use Rattle.level_audit.proofs.StepLemmas.{scene_on-more}
 
 -- a call of a layer below whose refusal is named here

@@ -1,7 +1,6 @@
 -- A scene over its base, a step at a time.
 use Rattle.std.proofs.Common.{◌≡◌, ℕ, List, Option, Ok, Err, refl, sym, ap, ◌∙◌}
-use Rattle.level_audit.specs.Rules.{AuditRefusal, Faces, Frame, LevelBase, Lump, Placed, PreparedTexture, Scene, Sprite, TextureLists, ThingLine, and_then, bad_middle, book_in, checked, faces_in, from_below, is_wanted_texture, last_of, placed_things, prepared_textures, scene_on, scene_over, scene_with, texture_by}
-use Rattle.scene_rules.specs.declared.refusal.AuditRefusal.TheVariants.{Texture}
+use Rattle.level_audit.specs.Rules.{AuditRefusal, Faces, Frame, LevelBase, Lump, Placed, PreparedTexture, Scene, Sprite, Texture, TextureLists, ThingLine, and_then, bad_middle, book_in, checked, faces_in, from_below, is_wanted_texture, last_of, placed_things, prepared_textures, scene_on, scene_over, scene_with, texture_by}
 
 module _ (bytes : ℕ → List ℕ) (lumps : List Lump) (g : LevelBase) (faces : Faces) where
   module _ (placed : List Placed) (prepared : List (Option PreparedTexture)) where

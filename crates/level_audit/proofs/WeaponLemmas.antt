@@ -1,8 +1,7 @@
 -- What rows of weapon layers need, one row at a time, and faults of their book in the words of an audit.
 use Rattle.std.proofs.Common.{◌≡◌, ℕ, zero, suc, ◌+◌, ◌<◌, List, [], ◌∷◌, ◌++◌, length, get_or, take, Result, Ok, Err, refl, sym, subst, ap, ◌∙◌, arith}
 use Rattle.level_audit.specs.Rules.{Fault, Frame, Heap, Lump, Need, ShelfView, SpriteRefusal, WeaponArt, each_of, first_needs, frame_of, from_below, itself}
-use Rattle.texture_build.specs.DirectoryView.{DirectoryView}
-use Rattle.texture_build.specs.Calls.{ReadsLumps}
+use Rattle.texture_build.specs.{DirectoryView.DirectoryView, Calls.ReadsLumps}
 use Rattle.texture_build.proofs.CallLemmas.{result_above, reads_above, reads_wider}
 use Rattle.csv_tables.specs.declared.weapons.WeaponRow.{WeaponRow}
 use Rattle.sprite_book.specs.Calls.{IsWanted}

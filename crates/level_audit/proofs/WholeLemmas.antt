@@ -4,10 +4,8 @@ use Rattle.level_audit.specs.Rules.{AuditRefusal, Faces, Fault, LevelBase, Lump,
 use Rattle.texture_build.specs.TexNo.{TexNo}
 use Rattle.texture_build.specs.Views.{TexturesView, AllTexturesListed, AllThere, IsPrepared}
 use Rattle.level_scene.specs.Bounds.{AreBelow, AreThere}
-use Rattle.sound_scene.specs.declared.parts.ReadBase.{ReadBase}
-use Rattle.sound_scene.specs.declared.parts.ReadFaces.{ReadFaces}
-use Rattle.sound_scene.specs.declared.parts.ReadScene.{ReadScene}
-use Rattle.sound_scene.specs.Bases.{base_of}
+use Rattle.sound_scene.specs.{declared.parts.ReadBase.ReadBase, declared.parts.ReadFaces.ReadFaces}
+use Rattle.sound_scene.specs.{declared.parts.ReadScene.ReadScene, Bases.base_of}
 use Rattle.sound_scene.specs.Scenes.{faces_of, scene_value}
 use Rattle.sound_scene.specs.Whole.{AreSidePrepared, IsMiddleSingle, IsWholeArt, IsWholeScene}
 

@@ -1,10 +1,8 @@
 -- The lumps that an audit reads. Which patches and pictures there are depends on the bytes of others.
 use Rattle.std.specs.Prelude.{◌≡◌, ◌<◌, ℕ, List, Ok, ◌⊎◌}
 use Rattle.level_audit.specs.Rules.{Heap, LevelBase, Lump, ShelfView, ThingLine, base_in, block_size, colormap_of, lump_at, lump_bytes}
-use Rattle.texture_build.specs.DirectoryView.{DirectoryView}
-use Rattle.texture_build.specs.Calls.{HoldContents}
-use Rattle.level_audit.specs.Asked.{IsOfBase}
-use Rattle.level_audit.specs.Asked.{IsOfScene}
+use Rattle.texture_build.specs.{DirectoryView.DirectoryView, Calls.HoldContents}
+use Rattle.level_audit.specs.{Asked.IsOfBase, Asked.IsOfScene}
 
 -- a patch or a picture of the scene over the base that these bytes give
 pub record IsOverBase (bytes : ℕ → List ℕ) (lumps : List Lump) (lines : List ThingLine) (name : List ℕ) (skill lump : ℕ) : Type 0 where

@@ -21,7 +21,7 @@ pub use Rattle.scene_rules.specs.declared.ZoneSizes.{ZoneSizes}
 pub use Rattle.scene_rules.specs.declared.refusal.ArtRefusal.{ArtRefusal}
 pub use Rattle.scene_rules.specs.declared.refusal.ArtRefusal.TheVariants.{Playpal}
 pub use Rattle.scene_rules.specs.declared.refusal.AuditRefusal.{AuditRefusal}
-pub use Rattle.scene_rules.specs.declared.refusal.AuditRefusal.TheVariants.{Art, Map, Scene, Sprite, WeaponArt}
+pub use Rattle.scene_rules.specs.declared.refusal.AuditRefusal.TheVariants.{Art, Map, Scene, Sprite, Texture, WeaponArt}
 pub use Rattle.scene_rules.specs.declared.refusal.SceneRefusal.{SceneRefusal}
 pub use Rattle.scene_rules.specs.declared.refusal.WeaponRefusal.{WeaponRefusal}
-pub use Rattle.scene_rules.specs.declared.refusal.WeaponRefusal.TheVariants.{BadPatch}
+pub use Rattle.scene_rules.specs.declared.refusal.WeaponRefusal.TheVariants.{BadPatch, MissingRotation, NoFrame}

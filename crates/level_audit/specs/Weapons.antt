@@ -1,9 +1,8 @@
 -- What the rows of a weapon table need, and the book of it.
 use Rattle.std.specs.Prelude.{ℕ, ◌<◌, suc, List, [], ◌∷◌, length, All, Option, Some, None, Result, ⊤}
-use Rattle.level_audit.specs.Rules.{AuditRefusal, BadPatch, Fault, Frame, Lump, Need, SpriteRefusal, WeaponArt, WeaponRefusal, each_of, fault_above, first_needs, frame_of, from_below}
+use Rattle.level_audit.specs.Rules.{AuditRefusal, BadPatch, Fault, Frame, Lump, MissingRotation, Need, NoFrame, SpriteRefusal, WeaponArt, WeaponRefusal, each_of, fault_above, first_needs, frame_of, from_below}
 use Rattle.csv_tables.specs.declared.weapons.WeaponRow.{WeaponRow}
 use Rattle.art_rules.specs.declared.refusal.SpriteRefusal.TheVariants as sprite
-use Rattle.scene_rules.specs.declared.refusal.WeaponRefusal.TheVariants.{NoFrame, MissingRotation}
 
 -- the frame of a row, which is told by its number
 unfoldable pub need_of_row : ℕ → WeaponRow → Need

@@ -1,7 +1,6 @@
 -- How the things of a type look.
 use Rattle.std.specs.Prelude.{ℕ, cond, ◌==◌, List, [], ◌∷◌, Option, Some, None}
-use Rattle.level_rules.specs.declared.ThingRow.{ThingRow}
-use Rattle.level_rules.specs.declared.ThingLine.{ThingLine}
+use Rattle.level_rules.specs.{declared.ThingRow.ThingRow, declared.ThingLine.ThingLine}
 
 -- the row of a type: that of the first line that has it
 unfoldable pub row_of : List ThingLine → ℕ → Option ThingRow

@@ -1,14 +1,12 @@
 -- A lump of a map that was fetched, and what adding it to a builder comes to.
 use Rattle.level_scene.specs.Rules.{Fault, Heap, MapLump, MapRefusal, ShelfView, itself, lump_bytes, size_refusal, unless}
 use Rattle.art_rules.proofs.Common.{ap, Err, err_from_is_err_and, IsErrAnd, List, MatchResult, None, Ok, OnOk, Option, refl, Result, Some, sym, ℕ, ◌↔◌, ◌∙◌, ◌≡◌}
-use Rattle.lump_cache.specs.DirectoryView.{DirectoryView}
+use Rattle.lump_cache.specs.{DirectoryView.DirectoryView, Calls.ReadsLumps, Calls.HoldContents}
 use Rattle.map_lumps.specs.declared.fault.MapFault.{MapFault}
 use Rattle.map_lumps.specs.declared.fault.MapFault.TheVariants.{Refused, OutOfMemory}
 use Rattle.map_lumps.specs.Builders.{BuilderValue, with_lump}
-use Rattle.lump_cache.specs.Calls.{ReadsLumps, HoldContents}
 use Rattle.lump_cache.proofs.CallLemmas.{reads_same}
-use Rattle.level_scene.specs.Faults.{map_fault}
-use Rattle.level_scene.specs.Lumps.{lump_added}
+use Rattle.level_scene.specs.{Faults.map_fault, Lumps.lump_added}
 
 -- two ways to tell an owner's bytes
 pub same_bytes : (found : Option (List ℕ)) (live bytes : List ℕ) → found ≡ Some live → found ≡ Some bytes → live ≡ bytes

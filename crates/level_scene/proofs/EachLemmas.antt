@@ -2,8 +2,7 @@
 use Rattle.art_rules.proofs.Common.{[], All, All-push, ap, drop, Err, get_or, length, length-append, List, None, Option, Some, subst, sym, true, ℕ, ◌++◌, ◌+◌, ◌<◌, ◌∙◌, ◌∷◌, ◌≡◌}
 use Rattle.level_scene.specs.Rules.{ResultIs, SceneRefusal, each_or}
 use Rattle.scene_rules.proofs.NumberedLemmas.{each_after, each_after-found, each_after-next}
-use Rattle.level_scene.specs.declared.fault.SceneFault.TheVariants.{Refused}
-use Rattle.level_scene.specs.Faults.{scene_fault}
+use Rattle.level_scene.specs.{declared.fault.SceneFault.TheVariants.Refused, Faults.scene_fault}
 
 -- ys is found for the items before the i-th, P of each, and the rest is what is found from there on
 pub record HasEach {X Y : Type 0} (f : X → Option Y) (refuse : ℕ → SceneRefusal) (P : Y → Type 0) (xs : List X) (i : ℕ) (ys : List Y) : Type 0 where

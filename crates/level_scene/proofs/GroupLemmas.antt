@@ -1,7 +1,5 @@
 -- Laws of the lists of things by sector.
-use Rattle.art_rules.proofs.Common.{[], All, ap, arith, Bool, cases_eq, cases_lt, cond, drop, drop_more, eq-eqb, false, filter, get_or, get_or-replicate, get_or-reverse, get_or-set_other, get_or-set_same, get_or_past, Global, inl, inr, length, length-map, length-replicate, List, map, map-set, ne_eqb, refl, replicate, reverse, reverse-append, subst, sym, true, ℕ, ◌++◌, ◌+◌, ◌-◌, ◌<◌, ◌∙◌, ◌∷◌, ◌≡◌}
-use Rattle.std.proofs.Common.{set, Vec}
-use Rattle.std.proofs.lemmas.List.{get_or-map}
+use Rattle.art_rules.proofs.Common.{[], All, ap, arith, Bool, cases_eq, cases_lt, cond, drop, drop_more, eq-eqb, false, filter, get_or, get_or-replicate, get_or-reverse, get_or-set_other, get_or-set_same, get_or_past, Global, inl, inr, length, length-map, length-replicate, List, map, map-set, ne_eqb, refl, replicate, reverse, reverse-append, subst, sym, true, ℕ, ◌++◌, ◌+◌, ◌-◌, ◌<◌, ◌∙◌, ◌∷◌, ◌≡◌, set, Vec, get_or-map}
 use Rattle.level_scene.specs.Rules.{Placed, PlacedThing, is_in_sector, things_of}
 use Rattle.level_scene.specs.Groups.{AreGroupsOf, IsIn, group_at}
 

@@ -2,14 +2,12 @@
 use Rattle.art_rules.proofs.Common.{[], ap, Err, IfOk, IsErrAnd, List, MatchResult, None, Ok, ok_or, Option, option_map, refl, Result, Some, sym, true, ℕ, ◌+◌, ◌∙◌, ◌∷◌, ◌≡◌}
 use Rattle.level_scene.specs.Rules.{Fault, Heap, LevelValue, Linedefs, Lump, LumpNo, MapLump, MapRefusal, NoMap, Nodes, Sectors, Segs, ShelfView, Sidedefs, Ssectors, Things, Vertexes, and_then, is_map_lump, itself, label_of, level_from, level_in, level_of, map_bytes, map_of, map_refusal, or_else, records_of, size_refusal, sizes_refusal, unless}
 use Rattle.art_rules.specs.Words.{OutOfMemory as LevelShort, Refused as LevelRefused}
-use Rattle.lump_cache.specs.DirectoryView.{DirectoryView}
+use Rattle.lump_cache.specs.{DirectoryView.DirectoryView, Calls.ReadsLumps}
 use Rattle.map_lumps.specs.declared.fault.MapFault.{MapFault}
 use Rattle.map_lumps.specs.declared.fault.MapFault.TheVariants.{Refused, OutOfMemory}
 use Rattle.map_lumps.specs.Builders.{BuilderValue, empty_builder, with_lump, with_records}
-use Rattle.lump_cache.specs.Calls.{ReadsLumps}
 use Rattle.lump_cache.proofs.CallLemmas.{reads_same, reads_short, reads_then_refused, reads_as}
-use Rattle.level_scene.specs.Asked.{IsLumpOfMap}
-use Rattle.level_scene.specs.Faults.{map_fault}
+use Rattle.level_scene.specs.{Asked.IsLumpOfMap, Faults.map_fault}
 use Rattle.level_scene.specs.Lumps.{lump_added, lumps_from}
 
 -- one lump of those that are left, and the last one

@@ -1,7 +1,5 @@
 -- Laws of `lumps_from`, and what a builder has whose lumps come in the order of their numbers.
-use Rattle.art_rules.proofs.Common.{[], ap, arith, Bool, cases_eq, Err, false, get_or, get_or-range_with_len, inl, inr, length, length-map, length-range_with_len, List, map, nat_tests, Ok, range_with_len, refl, replicate, Result, subst, suc, sym, take, true, zero, ℕ, ◌++◌, ◌+◌, ◌-◌, ◌<◌, ◌∙◌, ◌∷◌, ◌≡◌, ◌≢◌, ◌≤◌, ◌⊎◌}
-use Rattle.std.proofs.Math.ListN.{set}
-use Rattle.std.proofs.lemmas.List.{get_or-map}
+use Rattle.art_rules.proofs.Common.{[], ap, arith, Bool, cases_eq, Err, false, get_or, get_or-range_with_len, inl, inr, length, length-map, length-range_with_len, List, map, nat_tests, Ok, range_with_len, refl, replicate, Result, subst, suc, sym, take, true, zero, ℕ, ◌++◌, ◌+◌, ◌-◌, ◌<◌, ◌∙◌, ◌∷◌, ◌≡◌, ◌≢◌, ◌≤◌, ◌⊎◌, set, get_or-map}
 use Rattle.level_scene.specs.Rules.{MapLump, MapRefusal, and_then, is_map_lump, lump_no}
 use Rattle.map_lumps.specs.Builders.{BuilderValue, is_added}
 use Rattle.level_scene.specs.Lumps.{lump_added, lumps_from}

@@ -1,14 +1,11 @@
 -- One call after another, each by what it reads.
-use Rattle.std.proofs.Common.{◌≡◌, ℕ, ◌+◌, ◌<◌, ◌≤◌, Bool, List, Option, Some, None, Result, Ok, Err, refl, sym, subst, ap, ◌∙◌, arith, IsErrAnd, MatchResult}
-use Rattle.std.specs.Prelude.{IfErr, IfOk, IfSome}
-use Rattle.std.proofs.lemmas.Result.{err_from_is_err_and}
+use Rattle.zone_rules.proofs.Common.{◌≡◌, ℕ, ◌+◌, ◌<◌, ◌≤◌, Bool, List, Option, Some, None, Result, Ok, Err, refl, sym, subst, ap, ◌∙◌, arith, IsErrAnd, MatchResult, IfErr, IfOk, IfSome, err_from_is_err_and}
 use Rattle.lump_cache.specs.Rules.{Fault, FaultFits, FaultsRose, HasCauseAt, Heap, KeepsOrder, MIN_FRAGMENT, OutOfMemory, ReadFault, Refused, ResultIs, ShelfView, ZoneFull, block_size, bytes_of, fault_above, from_below, lump_bytes}
 use Rattle.outside.proofs.ShelfLemmas.{follows_none, follows_then, all_stand_later}
 use Rattle.zone_rules.proofs.OrderLemmas.{order_none, order_then}
 use Rattle.wad_dir.specs.DirectoryView.{DirectoryView}
-use Rattle.lump_cache.specs.Caches.{IsAtRest, composite_owner}
+use Rattle.lump_cache.specs.{Caches.IsAtRest, Caches.composite_owner, Sizes.IsGapBeside}
 use Rattle.lump_cache.specs.Calls.{ReadsLumps, PreservesCache, HoldContents, IsFullFor, IfFull, InOrderAt}
-use Rattle.lump_cache.specs.Sizes.{IsGapBeside}
 use Rattle.lump_cache.proofs.StaticLemmas.{stays_then}
 
 -- bytes that are there are the same

@@ -1,7 +1,5 @@
 -- What a faithful cache is, through fills, purges and new tags.
-use Rattle.std.proofs.Common.{◌≡◌, ℕ, zero, suc, ◌<◌, Bool, true, false, cond, List, [], ◌∷◌, length, take, drop, Option, Some, None, refl, sym, subst, ap, ◌∙◌, option_map, inl, inr, arith}
-use Rattle.std.specs.Prelude.{IfSome, option_and_then, ◌⊎◌, slice_get}
-use Rattle.std.proofs.lemmas.Bool.{ne_eqb, cases_eq}
+use Rattle.zone_rules.proofs.Common.{◌≡◌, ℕ, zero, suc, ◌<◌, Bool, true, false, cond, List, [], ◌∷◌, length, take, drop, Option, Some, None, refl, sym, subst, ap, ◌∙◌, option_map, inl, inr, arith, IfSome, option_and_then, ◌⊎◌, slice_get, ne_eqb, cases_eq}
 use Rattle.lump_cache.specs.Rules.{Block, Cache, FileNo, Heap, Holding, IsPieceAt, Lump, NameFiles, Owner, ShelfView, Tag, bytes_of, file_bytes, holding_of, is_held_by, lump_at, lump_bytes, owned_block, retag_block, same_owner, set_tag, with_tag}
 use Rattle.zone_rules.proofs.OwnerLemmas.{owned_block-map, retag_held}
 use Rattle.lump_cache.specs.Caches.{KeptOrPurged, IsFaithful, lump_owner, with_tag_unless_static, holds_static, release_heap, released_heap}

@@ -1,7 +1,5 @@
 -- What follows of the fetch of a lump.
-use Rattle.std.proofs.Common.{◌≡◌, ℕ, ◌+◌, ◌<◌, ◌≤◌, Bool, true, false, List, [], ◌∷◌, length, Option, Some, None, Result, Ok, Err, refl, sym, subst, ap, ◌∙◌, arith, inl, inr, ◌⊎◌, option_map, MatchResult}
-use Rattle.std.specs.Prelude.{IfErr, IfSome, IsSome, IsNone, OnOk, ⊤}
-use Rattle.std.proofs.lemmas.Bool.{cases_lt, cond-true, false≢true}
+use Rattle.zone_rules.proofs.Common.{◌≡◌, ℕ, ◌+◌, ◌<◌, ◌≤◌, Bool, true, false, List, [], ◌∷◌, length, Option, Some, None, Result, Ok, Err, refl, sym, subst, ap, ◌∙◌, arith, inl, inr, ◌⊎◌, option_map, MatchResult, IfErr, IfSome, IsSome, IsNone, OnOk, ⊤, cases_lt, cond-true, false≢true}
 use Rattle.lump_cache.specs.Rules.{Block, Cache, Heap, Holding, IsInOrder, IsLive, Item, KeepsOrder, NameFiles, Owner, ShelfView, Static, Tag, TakesBlock, block_size, bytes_of, counted, has_item, holding_of, lump_at, lump_bytes, owned_block, same_owner, without_block, without_room}
 use Rattle.zone_rules.proofs.GapLemmas.{small_all}
 use Rattle.zone_rules.proofs.OrderLemmas.{order_has_room, order_taken}
@@ -16,11 +14,10 @@ use Rattle.lump_cache.specs.Sizes.{HasSizes, IsGapBeside, IsGapBesideTwo}
 use Rattle.lump_cache.proofs.AnswerLemmas.{answer_all, answer_at, answer_both, answer_map, answer_ok, none_is, where_full}
 use Rattle.lump_cache.proofs.FaithLemmas.{bytes_in, faithful_by, faithful_retag}
 use Rattle.lump_cache.proofs.FillLemmas.{on_ok, takes_use, use_live}
-use Rattle.lump_cache.proofs.FirstLemmas.{first_at_rest}
+use Rattle.lump_cache.proofs.{FirstLemmas.first_at_rest, RoomButLemmas.gap_of_except}
 use Rattle.lump_cache.proofs.OrderLemmas.{counted_least, live_unless_static, order_unless_static}
 use Rattle.lump_cache.proofs.RestButLemmas.{not_colormap, passing_after, rest_but_more, rest_but_retag}
 use Rattle.lump_cache.proofs.RestLemmas.{kept_pinned, kept_unpinned, rest_retag, rest_taken, unpinned_after}
-use Rattle.lump_cache.proofs.RoomButLemmas.{gap_of_except}
 use Rattle.lump_cache.proofs.RoomLemmas.{gap_of_empty, gap_of_rest}
 use Rattle.lump_cache.proofs.SizeLemmas.{sizes_fetched}
 use Rattle.lump_cache.proofs.StaticLemmas.{held_pinned, static_retagged, static_sized, static_taken}

@@ -1,7 +1,5 @@
 -- A block that was taken and then written, and what other slots keep.
-use Rattle.std.proofs.Common.{◌≡◌, ℕ, Bool, true, false, cond, ◌&&◌, List, [], ◌∷◌, length, Option, Some, None, refl, sym, subst, ap, ◌∙◌, option_map, inl, inr, Result, Ok, Err}
-use Rattle.std.specs.Prelude.{OnOk, OnErr, IsNone, IsSome, option_and_then, ◌==◌}
-use Rattle.std.proofs.lemmas.Bool.{cond-true, and_parts, and_from, eq-eqb}
+use Rattle.zone_rules.proofs.Common.{◌≡◌, ℕ, Bool, true, false, cond, ◌&&◌, List, [], ◌∷◌, length, Option, Some, None, refl, sym, subst, ap, ◌∙◌, option_map, inl, inr, Result, Ok, Err, OnOk, OnErr, IsNone, IsSome, option_and_then, ◌==◌, cond-true, and_parts, and_from, eq-eqb}
 use Rattle.lump_cache.specs.Rules.{AllFit, Block, Cache, FitsHolding, Heap, Holding, IsSound, Owner, Tag, TakesBlock, block_left, block_size, bytes_of, holding_of, is_among, is_held_by, is_purgeable, owned_block, same_owner, with_bytes, with_tag, write_block, write_holding}
 use Rattle.zone_rules.proofs.OwnerLemmas.{owned_written_others, owned_retagged_others, owned_block-map, write_held}
 use Rattle.zone_rules.proofs.ChangeLemmas.{with_bytes_sound}

@@ -1,8 +1,7 @@
 -- The first lump of an empty cache, pinned for the whole run, leaves it at rest.
 use Rattle.std.proofs.Common.{◌≡◌, ℕ, false, Some, ◌∙◌, arith}
 use Rattle.lump_cache.specs.Rules.{Block, Heap, IsSound, Owner, Static, Tag, TakesBlock, block_size, owned_block, same_owner}
-use Rattle.zone_rules.proofs.EmptyLemmas.{empty_place}
-use Rattle.zone_rules.proofs.OrderSumLemmas.{block_least}
+use Rattle.zone_rules.proofs.{EmptyLemmas.empty_place, OrderSumLemmas.block_least}
 use Rattle.lump_cache.specs.Caches.{IsAtRest, IsStatic, IsUnpinned, IsEmpty, lump_owner}
 
 pub first_at_rest : (l size : ℕ) (tag : Tag) (old made new : Heap) → IsSound old → tag ≡ Static → IsEmpty old → (t : TakesBlock old made (lump_owner l) size tag) → (block : Block) → owned_block (lump_owner l) new.blocks ≡ Some block → block.place ≡ t.place → IsStatic size block.holding

@@ -1,15 +1,11 @@
 -- The block that a cache lends stands beside the colormap's: two owners' blocks are no larger than
 -- the zone.
-use Rattle.std.proofs.Common.{◌≡◌, ℕ, ◌+◌, ◌≤◌, Bool, true, false, List, [], ◌∷◌, length, Option, Some, None, refl, sym, subst, ap, ◌∙◌, arith, option_map}
-use Rattle.std.specs.Prelude.{IfSome}
-use Rattle.std.proofs.lemmas.Bool.{cond-true, cond-false}
+use Rattle.zone_rules.proofs.Common.{◌≡◌, ℕ, ◌+◌, ◌≤◌, Bool, true, false, List, [], ◌∷◌, length, Option, Some, None, refl, sym, subst, ap, ◌∙◌, arith, option_map, IfSome, cond-true, cond-false}
 use Rattle.lump_cache.specs.Rules.{Block, FitsHolding, Heap, Holding, IsSound, Owner, block_size, bytes_of, is_held_by, owned_block, same_owner, total}
-use Rattle.zone_rules.proofs.GapLemmas.{total-cons}
-use Rattle.zone_rules.proofs.PurgeLemmas.{tiles_end}
+use Rattle.zone_rules.proofs.{GapLemmas.total-cons, PurgeLemmas.tiles_end}
 use Rattle.lump_cache.specs.Caches.{HasStatic, lump_owner}
-use Rattle.lump_cache.proofs.FaithLemmas.{bytes_in}
+use Rattle.lump_cache.proofs.{FaithLemmas.bytes_in, RoomButLemmas.owned_fits}
 use Rattle.lump_cache.proofs.RoomLemmas.{asked_least, held_once, static_asked}
-use Rattle.lump_cache.proofs.RoomButLemmas.{owned_fits}
 
 -- the block that an owner holds is the first of a list, or of those behind it
 module _ (o : Owner) (x : Block) (bs : List Block) (b : Block) (e : owned_block o (x ∷ bs) ≡ Some b) where

@@ -1,13 +1,10 @@
 -- A call of the cache whose fault a layer above tells as its own.
-use Rattle.std.proofs.Common.{◌≡◌, ℕ, Result, Ok, Err, refl, sym, subst, ap, ◌∙◌, IsErrAnd, MatchResult}
-use Rattle.std.specs.Prelude.{IfOk, OnOk}
-use Rattle.std.proofs.lemmas.Result.{err_from_is_err_and}
+use Rattle.zone_rules.proofs.Common.{◌≡◌, ℕ, Result, Ok, Err, refl, sym, subst, ap, ◌∙◌, IsErrAnd, MatchResult, IfOk, OnOk, err_from_is_err_and}
 use Rattle.lump_cache.specs.Rules.{Fault, Heap, ShelfView, fault_above, itself}
 use Rattle.wad_dir.specs.DirectoryView.{DirectoryView}
 use Rattle.lump_cache.specs.declared.fault.CacheFault.{CacheFault}
 use Rattle.lump_cache.specs.declared.fault.CacheFault.TheVariants.{ZoneFull, ReadFault}
-use Rattle.lump_cache.specs.Caches.{cache_fault, from_cache}
-use Rattle.lump_cache.specs.Calls.{ReadsLumps}
+use Rattle.lump_cache.specs.{Caches.cache_fault, Caches.from_cache, Calls.ReadsLumps}
 use Rattle.lump_cache.proofs.CallLemmas.{result_above, reads_above}
 
 -- the cache refuses nothing, and its faults are the same above

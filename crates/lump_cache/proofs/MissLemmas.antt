@@ -1,7 +1,5 @@
 -- What a fetch does for an empty slot, by what its request for a block and its read did.
-use Rattle.std.proofs.Common.{◌≡◌, ℕ, ◌<◌, false, List, None, Result, Ok, Err, refl, sym, ap, ◌∙◌, inl}
-use Rattle.std.specs.Prelude.{All, IfSome, IsNone, IsTrue, OnOk, OnErr, ⊤}
-use Rattle.std.proofs.lemmas.Bool.{false≢true}
+use Rattle.zone_rules.proofs.Common.{◌≡◌, ℕ, ◌<◌, false, List, None, Result, Ok, Err, refl, sym, ap, ◌∙◌, inl, All, IfSome, IsNone, IsTrue, OnOk, OnErr, ⊤, false≢true}
 use Rattle.lump_cache.specs.Rules.{AllWithin, FaultsRose, HasCauses, Heap, IsLaterShelf, IsLive, IsSound, NameFiles, Owner, ResultIs, ShelfView, Tag, TakesBlock, block_size, bytes_of, counted, gaps, holding_of, lump_at, lump_bytes, owned_block, same_owner, total, without_room}
 use Rattle.outside.proofs.ShelfLemmas.{follows_none}
 use Rattle.wad_dir.specs.DirectoryView.{DirectoryView}
@@ -9,8 +7,7 @@ use Rattle.lump_cache.specs.declared.fault.CacheFault.{CacheFault}
 use Rattle.lump_cache.specs.declared.fault.CacheFault.TheVariants.{ZoneFull, ReadFault}
 use Rattle.lump_cache.specs.Caches.{GivesBack, KeptOrPurged, MatchAnswer, NoRoom, cache_fault, lump_owner, with_tag_unless_static}
 use Rattle.lump_cache.specs.Fetches.{FetchesLump, IsVacant}
-use Rattle.lump_cache.proofs.FaithLemmas.{none_bytes}
-use Rattle.lump_cache.proofs.FillLemmas.{unless_static_others}
+use Rattle.lump_cache.proofs.{FaithLemmas.none_bytes, FillLemmas.unless_static_others}
 
 module _ (dir : DirectoryView) (lump : ℕ) (tag : Tag) (view : ShelfView) (old : Heap) (sound : IsSound old) where
   abbrev owner : Owner

@@ -1,6 +1,5 @@
 -- A cache in order, through requests, releases and new tags.
-use Rattle.std.proofs.Common.{◌≡◌, ℕ, ◌+◌, ◌≤◌, ◌<◌, Bool, true, false, cond, List, Option, Some, None, refl, ◌∙◌, arith, Result, Ok, Err}
-use Rattle.std.specs.Prelude.{All, IsOk, IsErr, OnOk}
+use Rattle.zone_rules.proofs.Common.{◌≡◌, ℕ, ◌+◌, ◌≤◌, ◌<◌, Bool, true, false, cond, List, Option, Some, None, refl, ◌∙◌, arith, Result, Ok, Err, All, IsOk, IsErr, OnOk}
 use Rattle.lump_cache.specs.Rules.{Cache, Heap, Holding, IsInOrder, IsSound, Item, KeepsOrder, Owner, Tag, TakesBlock, block_size, counted, gaps, has_item, holding_of, is_live, lump_size, total, with_tag}
 use Rattle.zone_rules.proofs.OrderSumLemmas.{item}
 use Rattle.zone_rules.proofs.OrderLemmas.{order_none, order_has_room, order_taken}

@@ -2,12 +2,9 @@
 use Rattle.std.proofs.Common.{◌≡◌, ℕ, false, List, ◌∷◌, Option, Some, None, refl, sym, subst, ap, ◌∙◌}
 use Rattle.lump_cache.specs.Rules.{Cache, Heap, Holding, IsInOrder, Item, KeepsOrder, Lump, Owner, holding_of, owned_block, same_owner}
 use Rattle.lump_cache.specs.Caches.{IsFaithful, IsAtRest, IsAtRestExcept, KeepsCounts, release_heap, released_heap}
-use Rattle.lump_cache.proofs.FaithLemmas.{faithful_release}
-use Rattle.lump_cache.proofs.FillLemmas.{released_others}
-use Rattle.lump_cache.proofs.OrderLemmas.{order_released}
-use Rattle.lump_cache.proofs.RestButLemmas.{rest_but_released}
-use Rattle.lump_cache.proofs.RestLemmas.{rest_release}
-use Rattle.lump_cache.proofs.TagLemmas.{counts_unless_static}
+use Rattle.lump_cache.proofs.{FaithLemmas.faithful_release, FillLemmas.released_others}
+use Rattle.lump_cache.proofs.{OrderLemmas.order_released, RestButLemmas.rest_but_released}
+use Rattle.lump_cache.proofs.{RestLemmas.rest_release, TagLemmas.counts_unless_static}
 
 module _ (o : Owner) (old : Heap) {new : Heap} (is : new ≡ release_heap o old) where
   -- the zone keeps its size and its slots

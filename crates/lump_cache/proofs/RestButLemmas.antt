@@ -1,8 +1,5 @@
 -- What a cache at rest but for some owners is, through fills, purges, new tags and new bytes.
-use Rattle.std.proofs.Common.{◌≡◌, ℕ, Bool, true, false, cond, not, List, [], ◌∷◌, map, Option, Some, None, refl, sym, subst, ap, ◌∙◌, option_map, inl, inr, Result, Ok, Err}
-use Rattle.std.specs.Prelude.{option_and_then, OnOk, OnErr}
-use Rattle.std.specs.List.{list_any}
-use Rattle.std.proofs.lemmas.Bool.{cond-true, false≢true, or_parts, or_from}
+use Rattle.zone_rules.proofs.Common.{◌≡◌, ℕ, Bool, true, false, cond, not, List, [], ◌∷◌, map, Option, Some, None, refl, sym, subst, ap, ◌∙◌, option_map, inl, inr, Result, Ok, Err, option_and_then, OnOk, OnErr, list_any, cond-true, false≢true, or_parts, or_from}
 use Rattle.lump_cache.specs.Rules.{Block, Cache, Heap, Holding, Level, Owner, Static, Tag, holding_of, is_held_by, is_pinned, is_purgeable_tag, owned_block, pins, retag_block, same_owner, set_tag, with_bytes, with_tag, write_block, write_holding}
 use Rattle.zone_rules.proofs.OwnerLemmas.{owner_eq, owned_block-map, owned_retagged_others, owned_written_others, retag_held, write_held}
 use Rattle.lump_cache.specs.Caches.{KeptOrPurged, IsAtRest, IsAtRestExcept, IsUnpinned, IsPinned, HasBlock, HasUse, lump_owner, with_tag_unless_static, holds_static, is_static_tag, release_heap, released_heap}

@@ -1,7 +1,5 @@
 -- What a cache at rest is, through fills, purges and new tags.
-use Rattle.std.proofs.Common.{◌≡◌, ℕ, Bool, true, false, cond, not, Option, Some, None, refl, sym, subst, ap, ◌∙◌, option_map, inl, inr, Result, Ok, Err}
-use Rattle.std.specs.Prelude.{option_and_then, OnOk, OnErr}
-use Rattle.std.proofs.lemmas.Bool.{false≢true}
+use Rattle.zone_rules.proofs.Common.{◌≡◌, ℕ, Bool, true, false, cond, not, Option, Some, None, refl, sym, subst, ap, ◌∙◌, option_map, inl, inr, Result, Ok, Err, option_and_then, OnOk, OnErr, false≢true}
 use Rattle.lump_cache.specs.Rules.{Block, Cache, Heap, Holding, Owner, Tag, holding_of, is_held_by, is_pinned, is_purgeable, is_purgeable_tag, may_purge, owned_block, pins, retag_block, same_owner, set_tag, with_tag}
 use Rattle.zone_rules.proofs.PurgeLemmas.{pinned_stays}
 use Rattle.zone_rules.proofs.OwnerLemmas.{owner_eq, owned_block-map, owned_retagged_others, retag_held}

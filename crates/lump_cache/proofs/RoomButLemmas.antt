@@ -1,8 +1,6 @@
 -- The room of a zone where one block beside the colormap's is pinned: it has a gap before that block and
 -- one behind it, at most.
-use Rattle.std.proofs.Common.{◌≡◌, ℕ, ◌+◌, ◌*◌, ◌<◌, ◌≤◌, Bool, true, false, not, List, [], ◌∷◌, ◌++◌, Option, Some, None, refl, sym, subst, ap, ◌∙◌, arith}
-use Rattle.std.proofs.lemmas.Bool.{cond-true, cond-false, or_from}
-use Rattle.std.proofs.lemmas.List.Sums.{sum_by-append}
+use Rattle.zone_rules.proofs.Common.{◌≡◌, ℕ, ◌+◌, ◌*◌, ◌<◌, ◌≤◌, Bool, true, false, not, List, [], ◌∷◌, ◌++◌, Option, Some, None, refl, sym, subst, ap, ◌∙◌, arith, cond-true, cond-false, or_from, sum_by-append}
 use Rattle.lump_cache.specs.Rules.{AllFit, Block, FitsHolding, Heap, IsSound, Lacks, Owner, OwnsOnce, Unique, block_size, gaps, is_held_by, is_pinned, owned_block, same_owner, total, widest}
 use Rattle.zone_rules.proofs.GapLemmas.{all_small, total-cons}
 use Rattle.zone_rules.proofs.OwnerLemmas.{owner_eq, none_owned, lacks_held}

@@ -1,8 +1,5 @@
 -- The room of a zone at rest: its widest gap is all that is left beside the colormap.
-use Rattle.std.proofs.Common.{◌≡◌, ℕ, ◌+◌, ◌<◌, ◌≤◌, Bool, true, false, List, [], ◌∷◌, ◌++◌, Option, Some, None, refl, sym, subst, ap, ◌∙◌, arith, append-nil, cond}
-use Rattle.std.specs.Prelude.{All, ⊤}
-use Rattle.std.proofs.lemmas.Bool.{cond-true, cond-false, and_from, eq-eqb, false≢true}
-use Rattle.std.proofs.lemmas.List.Elements.{All-head, All-tail}
+use Rattle.zone_rules.proofs.Common.{◌≡◌, ℕ, ◌+◌, ◌<◌, ◌≤◌, Bool, true, false, List, [], ◌∷◌, ◌++◌, Option, Some, None, refl, sym, subst, ap, ◌∙◌, arith, append-nil, cond, All, ⊤, cond-true, cond-false, and_from, eq-eqb, false≢true, All-head, All-tail}
 use Rattle.lump_cache.specs.Rules.{AllFit, Block, FitsHolding, Heap, Holding, IsSound, Lacks, Owner, OwnsOnce, Tiles, Unique, block_size, free_block, gaps, holds_for, in_front, is_held_by, is_pinned, opens, owned_block, pins, same_owner, total, widest}
 use Rattle.zone_rules.proofs.EmptyLemmas.{empty_is, sound_size}
 use Rattle.zone_rules.proofs.GapLemmas.{all_small, total-cons}

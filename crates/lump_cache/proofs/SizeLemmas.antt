@@ -1,8 +1,5 @@
 -- Sizes of live lumps, through a fetch, and for callers.
-use Rattle.std.proofs.Common.{◌≡◌, ◌<◌, ◌≤◌, ◌+◌, ℕ, false, List, length, Option, Some, None, Result, Ok, Err, refl, sym, subst, ap, ◌∙◌, inl, inr, ◌⊎◌, option_map}
-use Rattle.std.specs.Prelude.{IfSome, IsNone, IsSome, OnOk, OnErr}
-use Rattle.std.proofs.lemmas.Bool.{cases_eq, ne_eqb}
-use Rattle.std.proofs.lemmas.List.Elements.{All-get_or}
+use Rattle.zone_rules.proofs.Common.{◌≡◌, ◌<◌, ◌≤◌, ◌+◌, ℕ, false, List, length, Option, Some, None, Result, Ok, Err, refl, sym, subst, ap, ◌∙◌, inl, inr, ◌⊎◌, option_map, IfSome, IsNone, IsSome, OnOk, OnErr, cases_eq, ne_eqb, All-get_or}
 use Rattle.lump_cache.specs.Rules.{Block, Heap, Holding, IsLive, LiesWithin, Lump, LumpNo, Owner, ShelfView, Tag, block_size, bytes_of, holding_of, last_of, lump_at, no_lump, owned_block, same_owner}
 use Rattle.lump_rules.proofs.ContentLemmas.{lump_bytes-length}
 use Rattle.wad_dir.specs.DirectoryView.{DirectoryView}
@@ -10,8 +7,7 @@ use Rattle.lump_cache.specs.declared.fault.CacheFault.{CacheFault}
 use Rattle.lump_cache.specs.Caches.{HasStatic, IsEmpty, HasBlock, HasUse, KeptOrPurged, lump_owner, with_tag_unless_static}
 use Rattle.lump_cache.proofs.FaithLemmas.{bytes_in, kept_bytes, none_bytes, unless_static_bytes}
 use Rattle.lump_cache.specs.Calls.{PreservesCache, HoldContents}
-use Rattle.lump_cache.specs.Named.{IsLast, live_bytes}
-use Rattle.lump_cache.specs.Sizes.{HasSizes, StandsBeside}
+use Rattle.lump_cache.specs.{Named.IsLast, Named.live_bytes, Sizes.HasSizes, Sizes.StandsBeside}
 use Rattle.lump_cache.proofs.StaticLemmas.{has_static_held}
 
 -- an empty cache has no other sizes, and neither has one that tells contents

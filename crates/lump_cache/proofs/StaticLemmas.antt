@@ -1,12 +1,9 @@
 -- A block that is pinned for the whole run.
-use Rattle.std.proofs.Common.{◌≡◌, ℕ, Bool, true, false, cond, not, length, Option, Some, None, refl, sym, subst, ap, ◌∙◌, option_map}
-use Rattle.std.specs.Prelude.{IfSome, IsSome, option_and_then}
-use Rattle.std.proofs.lemmas.Bool.{cond-true, false≢true}
+use Rattle.zone_rules.proofs.Common.{◌≡◌, ℕ, Bool, true, false, cond, not, length, Option, Some, None, refl, sym, subst, ap, ◌∙◌, option_map, IfSome, IsSome, option_and_then, cond-true, false≢true}
 use Rattle.lump_cache.specs.Rules.{Block, Cache, FitsHolding, Heap, Holding, IsLive, IsSound, Level, Owner, Static, Tag, bytes_of, holding_of, is_held_by, is_purgeable_tag, owned_block, pins, retag_block, set_tag, with_tag}
 use Rattle.zone_rules.proofs.OwnerLemmas.{owned_block-map, retag_held}
 use Rattle.lump_cache.specs.Caches.{HasAsked, HasBlock, HasStatic, HasUse, IsAsked, IsAtRest, IsPinned, IsStatic, holds_static, is_static_tag, lump_owner, with_tag_unless_static}
-use Rattle.lump_cache.proofs.RestButLemmas.{owned_held}
-use Rattle.lump_cache.proofs.RestLemmas.{static_held}
+use Rattle.lump_cache.proofs.{RestButLemmas.owned_held, RestLemmas.static_held}
 use Rattle.lump_cache.proofs.RoomButLemmas.{owned_fits}
 
 -- what the block of an owner holds

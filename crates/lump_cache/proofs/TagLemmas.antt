@@ -1,7 +1,5 @@
 -- A new tag for a block, unless it is pinned for the whole run.
-use Rattle.std.proofs.Common.{◌≡◌, Bool, true, false, cond, List, [], ◌∷◌, map, Option, Some, None, refl, sym, ap, ap₂, ◌∙◌, option_map}
-use Rattle.std.specs.Prelude.{IsSome, option_and_then}
-use Rattle.std.proofs.lemmas.Bool.{cond-true, cond-false, false≢true}
+use Rattle.zone_rules.proofs.Common.{◌≡◌, Bool, true, false, cond, List, [], ◌∷◌, map, Option, Some, None, refl, sym, ap, ap₂, ◌∙◌, option_map, IsSome, option_and_then, cond-true, cond-false, false≢true}
 use Rattle.lump_cache.specs.Rules.{Block, Cache, Heap, Holding, IsLive, IsSound, Lacks, Level, Owner, Static, Tag, Unique, holding_of, is_held_by, owned_block, retag_block, set_tag, with_tag}
 use Rattle.zone_rules.proofs.OwnerLemmas.{owned_block-map, retag_held, lacks_held}
 use Rattle.lump_cache.specs.Caches.{KeepsCounts, holds_static, is_static_tag, with_tag_unless_static}

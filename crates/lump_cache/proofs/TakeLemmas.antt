@@ -1,17 +1,13 @@
 -- What follows of a request for a block.
-use Rattle.std.proofs.Common.{◌≡◌, ℕ, false, true, List, [], ◌∷◌, Result, Ok, Err, refl, sym, subst, arith}
-use Rattle.std.specs.Prelude.{IfErr, IsOk, OnOk, OnErr}
+use Rattle.zone_rules.proofs.Common.{◌≡◌, ℕ, false, true, List, [], ◌∷◌, Result, Ok, Err, refl, sym, subst, arith, IfErr, IsOk, OnOk, OnErr}
 use Rattle.lump_cache.specs.Rules.{Heap, IsInOrder, IsLive, Item, KeepsOrder, Lump, Owner, Tag, TakesBlock, block_left, block_size, has_item, owned_block, passed_blocks, same_owner, stretches, without_room}
 use Rattle.zone_heap.specs.declared.zone.ZoneFull.{ZoneFull}
 use Rattle.lump_cache.specs.Caches.{IsFaithful, IsAtRest, IsAtRestExcept, IsPinned, IsUnpinned, KeepsCounts, KeptOrPurged, HasBlock, is_static_tag, lump_owner}
-use Rattle.lump_cache.specs.Fetches.{RequestsBlock}
-use Rattle.lump_cache.specs.Sizes.{IsGapBeside}
+use Rattle.lump_cache.specs.{Fetches.RequestsBlock, Sizes.IsGapBeside}
 use Rattle.lump_cache.proofs.FillLemmas.{kept_along, left_kept, on_err, on_ok, takes_use, use_live}
-use Rattle.lump_cache.proofs.OrderLemmas.{order_answer}
+use Rattle.lump_cache.proofs.{OrderLemmas.order_answer, RestLemmas.kept_pinned}
 use Rattle.lump_cache.proofs.RestButLemmas.{passing_after, rest_but_more, rest_but_none, rest_but_same, rest_of_none}
-use Rattle.lump_cache.proofs.RestLemmas.{kept_pinned}
-use Rattle.lump_cache.proofs.RoomLemmas.{gap_of_rest}
-use Rattle.lump_cache.proofs.WriteLemmas.{faithful_kept}
+use Rattle.lump_cache.proofs.{RoomLemmas.gap_of_rest, WriteLemmas.faithful_kept}
 
 where_err : {E : Type 0} {P Q : E → Type 0} (r : Result (Unit {0}) E) → ((e : E) → P e → Q e) → IfErr r P → IfErr r Q
 where_err (Ok done) f k = tt

@@ -1,8 +1,7 @@
 -- The lumps of a directory lie within their files.
 use Rattle.word_rules.proofs.Common.{[], add-zero, All, All-append, All-nil, ap, arith, false, length, length-drop, length-take, List, min, nat_lt, nat_tests, None, not, Ok, or_else-none, subst, suc, sym, zero, zero-add, ℕ, ◌&&◌, ◌+◌, ◌-◌, ◌<◌, ◌==◌, ◌∙◌, ◌∷◌, ◌≡◌, ◌≤◌}
-use Rattle.lump_rules.specs.declared.wad.Lump.{Lump}
+use Rattle.lump_rules.specs.{declared.wad.Lump.Lump, Lookups.lump_at}
 use Rattle.lump_rules.specs.Wads.{passes_end, file_lumps, header_refusal, header, entry_count, entries_in, entry_refusal, file_refusal, refusal_from, lumps_from, directory}
-use Rattle.lump_rules.specs.Lookups.{lump_at}
 use Rattle.lump_rules.specs.Contents.{file_bytes, lump_bytes, LiesWithin, AllWithin}
 use Rattle.lump_rules.proofs.WadLemmas.{unless_refused_ok, lumps_in-file, entry_refusal_none}
 

@@ -2,8 +2,7 @@
 use Rattle.word_rules.proofs.Common.{All, ap, arith, Bool, cond, Decides, Decides-ltb, fails_before_first, false, length, List, ltb-false, nat_lt, None, Ok, Option, option_map, position_or_len, refl, Some, true, ℕ, ◌<◌, ◌≡◌, ◌≤◌}
 use Rattle.word_rules.proofs.ListedLemmas.{length-listed, get_or-listed}
 use Rattle.lump_rules.specs.declared.wad.DirRefusal.{DirRefusal}
-use Rattle.lump_rules.specs.declared.wad.DirRefusal.TheVariants.{Entry}
-use Rattle.lump_rules.specs.declared.wad.Lump.{Lump}
+use Rattle.lump_rules.specs.{declared.wad.DirRefusal.TheVariants.Entry, declared.wad.Lump.Lump}
 use Rattle.lump_rules.specs.Wads.{lump_in, lumps_in, entry_at, entry_count, entries_in, header, file_lumps, passes_end, entry_refusal, unless_refused}
 
 -- there was no refusal, and the value is this

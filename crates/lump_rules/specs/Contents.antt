@@ -1,7 +1,6 @@
 -- The bytes of lumps, given those of their files.
 use Rattle.std.specs.Prelude.{ℕ, ◌+◌, ◌<◌, ◌≤◌, List, [], length, take, drop, slice_index_or, All, Option, option_map}
-use Rattle.lump_rules.specs.declared.wad.Lump.{Lump}
-use Rattle.lump_rules.specs.Lookups.{lump_at, last_of}
+use Rattle.lump_rules.specs.{declared.wad.Lump.Lump, Lookups.lump_at, Lookups.last_of}
 
 -- the bytes of the file of that index
 abbrev pub file_bytes : List (List ℕ) → ℕ → List ℕ

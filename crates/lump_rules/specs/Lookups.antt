@@ -4,10 +4,9 @@ use Rattle.std.specs.List.{range_with_len}
 use Rattle.std.specs.Option.{option_map_or, option_and_then}
 use Rattle.std.specs.Str.{bytes_eq}
 use Rattle.word_rules.specs.Least.{greatest}
-use Rattle.lump_rules.specs.declared.names.Group.{Group}
+use Rattle.lump_rules.specs.{declared.names.Group.Group, declared.wad.Lump.Lump}
 use Rattle.lump_rules.specs.declared.names.Group.TheVariants.{Flats, Sprites}
 use Rattle.lump_rules.specs.declared.names.TheConstants.{F_START, FF_START, F_END, FF_END, S_START, SS_START, S_END, SS_END, MAP_LUMPS, BEHAVIOR, BEHAVIOR_AFTER}
-use Rattle.lump_rules.specs.declared.wad.Lump.{Lump}
 
 -- a lump for numbers that no lump has
 abbrev pub no_lump : Lump

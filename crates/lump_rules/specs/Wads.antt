@@ -4,14 +4,11 @@ use Rattle.std.specs.List.{sum_by}
 use Rattle.std.specs.Option.{option_map}
 use Rattle.std.specs.Str.{bytes_eq}
 use Rattle.byteorder.specs.Endian.{little_number}
-use Rattle.word_rules.specs.Least.{or_else}
-use Rattle.word_rules.specs.Listed.{listed}
+use Rattle.word_rules.specs.{Least.or_else, Listed.listed}
 use Rattle.lump_rules.specs.declared.names.TheConstants.{IWAD, PWAD, LETTER_COUNT}
-use Rattle.lump_rules.specs.declared.name.TheConstants.{NAME_SIZE}
+use Rattle.lump_rules.specs.{declared.name.TheConstants.NAME_SIZE, declared.wad.Header.Header}
 use Rattle.lump_rules.specs.declared.wad.TheConstants.{HEADER_SIZE, COUNT_AT, PLACE_AT, ENTRY_SIZE, SIZE_AT, NAME_AT, WORD_SIZE, MAX_LUMPS}
-use Rattle.lump_rules.specs.declared.wad.Header.{Header}
-use Rattle.lump_rules.specs.declared.wad.Lump.{Lump}
-use Rattle.lump_rules.specs.declared.wad.DirRefusal.{DirRefusal}
+use Rattle.lump_rules.specs.{declared.wad.Lump.Lump, declared.wad.DirRefusal.DirRefusal}
 use Rattle.lump_rules.specs.declared.wad.DirRefusal.TheVariants.{NotWad, Short, Entry, TooMany}
 use Rattle.lump_rules.specs.Names.{name_of, filled}
 

@@ -1,10 +1,8 @@
 -- Laws of the nodes: both parts of a division are smaller, their nodes and one more are those of the
 -- whole, and the number of a node is the number of those before it.
-use Rattle.word_rules.proofs.Common.{[], ap, arith, Bool, common_steps, cond, false, length, length-append, List, mul-add, mul-le, nat_tests, one-le-mul, refl, subst, suc, sym, true, zero, ℕ, ◌*◌, ◌++◌, ◌+◌, ◌-◌, ◌/◌, ◌<◌, ◌^◌, ◌∙◌, ◌∷◌, ◌≡◌, ◌≤◌}
-use Rattle.std.proofs.Math.Nat.{add-mul}
-use Rattle.made_rules.specs.declared.map.Part.{Part}
+use Rattle.word_rules.proofs.Common.{[], ap, arith, Bool, common_steps, cond, false, length, length-append, List, mul-add, mul-le, nat_tests, one-le-mul, refl, subst, suc, sym, true, zero, ℕ, ◌*◌, ◌++◌, ◌+◌, ◌-◌, ◌/◌, ◌<◌, ◌^◌, ◌∙◌, ◌∷◌, ◌≡◌, ◌≤◌, add-mul}
+use Rattle.made_rules.specs.{declared.map.Part.Part, Bytes.half, Bytes.halves}
 use Rattle.made_rules.specs.declared.map.TheConstants.{CELL_SIZE, NODE_SIZE}
-use Rattle.made_rules.specs.Bytes.{half, halves}
 use Rattle.made_rules.specs.Nodes.{IsPart, width, height, node_count, is_one_cell, divides_columns, made_middle_column, middle_row, front_part, back_part, line_halves, box_halves, child_number, node_bytes, nodes_within, part_nodes}
 
 -- a part with room for a division

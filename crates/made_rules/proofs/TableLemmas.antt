@@ -1,6 +1,5 @@
 -- Bounds of the sines and tangents by formula.
-use Rattle.word_rules.proofs.Common.{arith, cases_lt, div-le_of_le-mul, inl, inr, le-div, mul-add, mul-le-mul_right, mul_comm, subst, ℕ, ◌*◌, ◌+◌, ◌-◌, ◌/◌, ◌<◌, ◌^◌, ◌≡◌, ◌≤◌}
-use Rattle.std.proofs.Math.Nat.{add-mul}
+use Rattle.word_rules.proofs.Common.{arith, cases_lt, div-le_of_le-mul, inl, inr, le-div, mul-add, mul-le-mul_right, mul_comm, subst, ℕ, ◌*◌, ◌+◌, ◌-◌, ◌/◌, ◌<◌, ◌^◌, ◌≡◌, ◌≤◌, add-mul}
 use Rattle.view_rules.specs.declared.formula.TheConstants.{HALF_TURN, HALF_STEPS, QUARTER}
 use Rattle.view_rules.specs.Formulas.{sine_product, half_sine, upper_tangent}
 

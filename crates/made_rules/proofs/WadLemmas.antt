@@ -2,8 +2,7 @@
 use Rattle.word_rules.proofs.Common.{[], add-zero, ap, append_assoc, arith, common_steps, flat_map-append, length, List, refl, sym, ℕ, ◌*◌, ◌++◌, ◌+◌, ◌∙◌, ◌∷◌, ◌≡◌}
 use Rattle.word_rules.specs.Listed.{listed}
 use Rattle.word_rules.proofs.ListedLemmas.{listed-zero, listed-more}
-use Rattle.made_rules.specs.declared.map.TheConstants.{CELLS_PER_NUMBER}
-use Rattle.made_rules.specs.Bytes.{word_bytes}
+use Rattle.made_rules.specs.{declared.map.TheConstants.CELLS_PER_NUMBER, Bytes.word_bytes}
 use Rattle.made_rules.specs.Wads.{Lump, lump_of, contents, entries, WadParts, parts_of, no_lumps, with_lumps, table_lumps, patch_lumps, flat_lumps, sprite_lumps, thing_lumps, wall_lumps, tree_lumps, art_lumps, level_lumps, made_lumps, file_of, wad_file, made_wad}
 use Rattle.made_rules.specs.declared.wad.TheConstants.{HEAD_SIZE, LUMPS}
 

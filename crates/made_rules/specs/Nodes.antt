@@ -2,8 +2,7 @@
 -- is left, which is a leaf.
 use Rattle.std.specs.Prelude.{ℕ, zero, suc, ◌+◌, ◌-◌, ◌*◌, ◌/◌, ◌^◌, ◌<◌, ◌≤◌, ◌==◌, ◌&&◌, nat_le, List, [], ◌∷◌, ◌++◌, Bool, cond}
 use Rattle.made_rules.specs.declared.map.TheConstants.{CELL_SIZE, LEAF_MARK}
-use Rattle.made_rules.specs.declared.map.Part.{Part}
-use Rattle.made_rules.specs.Bytes.{halves}
+use Rattle.made_rules.specs.{declared.map.Part.Part, Bytes.halves}
 
 abbrev pub width : Part → ℕ
 width part = part.east - part.west

@@ -3,8 +3,7 @@ use Rattle.std.specs.Prelude.{ℕ, ◌+◌, ◌-◌, ◌*◌, ◌/◌, ◌%◌, 
 use Rattle.std.specs.List.{flat_map}
 use Rattle.word_rules.specs.Listed.{listed}
 use Rattle.made_rules.specs.declared.pictures.TheConstants.{COLOURS, COLORMAPS, FLAT_SIZE}
-use Rattle.made_rules.specs.declared.pictures.Picture.{Picture}
-use Rattle.made_rules.specs.declared.pictures.Post.{Post}
+use Rattle.made_rules.specs.{declared.pictures.Picture.Picture, declared.pictures.Post.Post}
 use Rattle.made_rules.specs.Bytes.{halves, word_bytes, records}
 
 -- colour i: red rises, green falls, blue goes round seven times

@@ -1,8 +1,6 @@
 -- The file of made angle tables: sines and tangents by formula, and the angles of slopes.
 use Rattle.std.specs.Prelude.{ℕ, ◌*◌, ◌^◌, List, ◌++◌, count_by, nat_lt}
-use Rattle.word_rules.specs.declared.TheConstants.{FINE_SHIFT}
-use Rattle.word_rules.specs.Words.{bits_of}
-use Rattle.word_rules.specs.Listed.{listed}
+use Rattle.word_rules.specs.{declared.TheConstants.FINE_SHIFT, Words.bits_of, Listed.listed}
 use Rattle.view_rules.specs.declared.formula.TheConstants.{QUARTER}
 use Rattle.view_rules.specs.Formulas.{upper_tangent, made_sine, made_tangent}
 use Rattle.made_rules.specs.declared.tables.TheConstants.{SLOPE_STEP, SINES, TANGENTS, SLOPES}

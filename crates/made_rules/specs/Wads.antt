@@ -7,9 +7,8 @@ use Rattle.word_rules.specs.Listed.{listed}
 use Rattle.made_rules.specs.declared.wad.TheConstants.{HEAD_SIZE}
 use Rattle.made_rules.specs.Bytes.{word_bytes, records, padded}
 use Rattle.made_rules.specs.Pictures.{made_palette, made_colormaps, made_flat, made_patch, whole_column, grate_column}
-use Rattle.made_rules.specs.Textures.{made_patch_names, made_textures}
+use Rattle.made_rules.specs.{Textures.made_patch_names, Textures.made_textures, Nodes.made_nodes}
 use Rattle.made_rules.specs.Maps.{flat_name, thing_bytes, line_bytes, side_bytes, vertex_bytes, seg_bytes, leaf_bytes, sector_bytes}
-use Rattle.made_rules.specs.Nodes.{made_nodes}
 
 pub record Lump : Type 0 where
   pub name : List ℕ

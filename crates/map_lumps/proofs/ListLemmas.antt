@@ -3,8 +3,7 @@ use Rattle.std.proofs.Common.{◌≡◌, ◌∙◌, List, None, subst, sym, ap}
 use Rattle.map_lumps.specs.Rules.{Child, HasFewRecords, IsSound, Leaf, LevelValue, MapRecords, Seg, joined_leaves, joined_level, joined_segs, records_refusal, root_of}
 use Rattle.level_rules.proofs.maps.JoinLemmas.{joined_level-lists}
 use Rattle.level_rules.proofs.maps.SoundLemmas.{joined_level-sound}
-use Rattle.map_lumps.specs.declared.lists.MapLists.TheInside.{Inside}
-use Rattle.map_lumps.specs.Views.{listed_records}
+use Rattle.map_lumps.specs.{declared.lists.MapLists.TheInside.Inside, Views.listed_records}
 
 -- the lists with these segs, leaves and root are the joined level
 pub joined_level-inside : (l : Inside) (m : MapRecords) (segs : List Seg) (leaves : List Leaf) (root : Child) → listed_records l ≡ m → segs ≡ joined_segs m → leaves ≡ joined_leaves m → root ≡ root_of m.nodes → record { things = l.things.items; sides = l.sides.items; segs = segs; leaves = leaves; nodes = l.nodes.items; sectors = l.sectors.items; root = root } ≡ joined_level m

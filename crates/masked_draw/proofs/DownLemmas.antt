@@ -1,8 +1,7 @@
 -- Laws of the masked columns of a moment, fragment by fragment from the last down, and of a sprite that has no column.
 use Rattle.picture_rules.proofs.Common.{[], and-false_right, ap, append-nil, append_assoc, arith, Bool, false, IfSome, int_le, int_lt, ints, length, List, None, not, Option, pos, refl, slice_get, Some, suc, sym, true, zero, ℕ, ℤ, ◌&&◌, ◌++◌, ◌+◌, ◌-◌, ◌<◌, ◌||◌, ◌∙◌, ◌≡◌, ◌≤◌}
 use Rattle.masked_draw.specs.Rules.{Art, Dot, Drawseg, FragmentNote, SpriteEntry, ViewValue, columns_at, entry_has, is_behind, joined_lists, listed_from, middle_column, middles_at, middles_of, rows_between, same_number, sprite_column, sprite_dots, sprite_in_front, sprite_step}
-use Rattle.picture_rules.proofs.Laws.{rows_between-none}
-use Rattle.picture_rules.proofs.sprite.MaskedLemmas.{middles_at-more}
+use Rattle.picture_rules.proofs.{Laws.rows_between-none, sprite.MaskedLemmas.middles_at-more}
 use Rattle.masked_draw.specs.Marks.{is_passed, is_before, AreBefore, MarkedTo}
 use Rattle.masked_draw.proofs.MomentLemmas.{front-now, front-more}
 use Rattle.masked_draw.proofs.MarkLemmas.{range_none}

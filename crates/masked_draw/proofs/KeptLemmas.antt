@@ -1,10 +1,8 @@
 -- What the loops of the masked pass keep of their hands: the references, the count of the marks, and what each call asks.
 use Rattle.std.proofs.Common.{◌≡◌, ℕ, List, length, Result, refl, ◌∙◌, ℤ}
 use Rattle.masked_draw.specs.Rules.{Dot, FragmentNote, Painter, ShelfView}
-use Rattle.texture_build.specs.CacheFault.{CacheFault}
-use Rattle.texture_build.specs.Caches.{cache_fault}
+use Rattle.texture_build.specs.{CacheFault.CacheFault, Caches.cache_fault, Paints.Paints}
 use Rattle.pixel_strips.specs.Canvases.{CanvasView}
-use Rattle.texture_build.specs.Paints.{Paints}
 use Rattle.masked_draw.specs.declared.scene.MaskHands.{MaskHands}
 use Rattle.masked_draw.specs.declared.scene.MaskScene.{MaskScene}
 use Rattle.masked_draw.specs.Scenes.{AreSameMaskHands, CanPass, mask_hands, scene_tools}

@@ -1,16 +1,14 @@
 -- What the loops of the masked pass have painted and marked, and how one fragment more changes it.
 use Rattle.picture_rules.proofs.Common.{ap, arith, Bool, Err, get_or, gets, ints, IsErrAnd, length, List, None, Ok, Option, pos, refl, Result, slice_get, Some, subst, sym, true, ℕ, ℤ, ⊤, ◌++◌, ◌+◌, ◌-◌, ◌<◌, ◌∙◌, ◌≡◌, ◌≤ℤ◌}
 use Rattle.masked_draw.specs.Rules.{Art, Dot, FragmentNote, IsWholeNote, Painter, SpriteEntry, ViewValue, entry_has, gives_bottom, gives_top, greatest_clip, least_clip, middles_at, middles_of, minus_one}
-use Rattle.texture_build.specs.CacheFault.{CacheFault}
-use Rattle.texture_build.specs.Caches.{cache_fault}
+use Rattle.texture_build.specs.{CacheFault.CacheFault, Caches.cache_fault}
 use Rattle.texture_build.specs.Paints.{PaintState, Paints}
 use Rattle.texture_build.proofs.PaintLemmas.{on_ok_err, paints-none, paints-same, paints-then, paints-then_stop, paints-value, paints-wider}
 use Rattle.masked_draw.specs.declared.clips.SpriteClips.{SpriteClips}
 use Rattle.masked_draw.specs.declared.scene.MaskScene.{MaskScene}
 use Rattle.masked_draw.specs.Clipped.{AreSpriteRows, TakesRows, row_in}
 use Rattle.masked_draw.specs.Marks.{MarkedTo, MarksBy, is_between, is_passed, unmarked_dots}
-use Rattle.masked_draw.specs.Passes.{DrawsSprite}
-use Rattle.masked_draw.specs.Ready.{IsMiddleColumn, IsNotedMiddle}
+use Rattle.masked_draw.specs.{Passes.DrawsSprite, Ready.IsMiddleColumn, Ready.IsNotedMiddle}
 use Rattle.masked_draw.specs.Scenes.{PaintsDots, scene_art, scene_drawseg, scene_drawsegs, scene_lists, scene_tools}
 use Rattle.masked_draw.proofs.DownLemmas.{down-end, down-more, down-start, middles_down}
 use Rattle.masked_draw.proofs.PassedLemmas.{ApartNotes, left-middles, marked-left, marked-pass, marked-turn, passed-middles, turn-here, turn_at, turns-end, turns-start}

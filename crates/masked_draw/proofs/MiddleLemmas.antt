@@ -4,19 +4,16 @@ use Rattle.masked_draw.specs.Rules.{ColumnLookup, Composed, Drawseg, Empty, Frag
 use Rattle.picture_rules.specs.Words.{middle_by as dots_by}
 use Rattle.picture_rules.proofs.Laws.{clamp_word-high, clamp_word-low}
 use Rattle.texture_build.specs.Zones.{Heap, Holding, IsLive, Owner, bytes_of, holding_of}
-use Rattle.texture_build.specs.DirectoryView.{DirectoryView}
-use Rattle.texture_build.specs.Caches.{IsFaithful, lump_owner}
-use Rattle.texture_build.specs.Arts.{view_art}
+use Rattle.texture_build.specs.{DirectoryView.DirectoryView, Caches.IsFaithful, Caches.lump_owner}
+use Rattle.texture_build.specs.{Arts.view_art, Views.TexturesView, Views.prepared_texture}
 use Rattle.texture_build.specs.Sources.{IsColumnLive, IsColumnThere, column_in, column_index}
-use Rattle.texture_build.specs.Views.{TexturesView, prepared_texture}
 use Rattle.texture_build.specs.Draws.{FitsBeside, FitBeside, HoldsArt}
 use Rattle.texture_build.proofs.BesideLemmas.{fit_beside-append, fit_beside-as, fit_beside-column_dots}
 use Rattle.texture_build.proofs.LentLemmas.{colormap_lent}
 use Rattle.pixel_strips.specs.Canvases.{CanvasView, with_dots, with_painter}
 use Rattle.pixel_strips.specs.Dotted.{HasDots}
 use Rattle.pixel_strips.proofs.DottedLemmas.{has_dots-as, has_dots-painted}
-use Rattle.masked_draw.specs.declared.middles.Middle.{Middle}
-use Rattle.masked_draw.specs.declared.scene.MaskScene.{MaskScene}
+use Rattle.masked_draw.specs.{declared.middles.Middle.Middle, declared.scene.MaskScene.MaskScene}
 use Rattle.masked_draw.specs.Clipped.{IsMiddleOf}
 use Rattle.masked_draw.specs.Lists.{middle_by, noted_drawseg, saved_column}
 use Rattle.masked_draw.specs.Ready.{CanDrawMiddle, IsListed, IsSingle, IsMiddleColumn}

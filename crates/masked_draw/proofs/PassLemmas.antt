@@ -1,19 +1,16 @@
 -- Laws of the sprites of a pass, one after the other in drawing order.
 use Rattle.picture_rules.proofs.Common.{[], All, All-contains_itself, All-permutation, AllPass, ap, arith, Bool, Contains, false, get_or, gets, IfSome, length, List, ltb-true, None, Ok, Option, refl, Result, slice_get, Some, subst, sym, true, ℕ, ◌++◌, ◌+◌, ◌-◌, ◌<◌, ◌∙◌, ◌∷◌, ◌≡◌}
-use Rattle.texture_build.specs.CacheFault.{CacheFault}
+use Rattle.texture_build.specs.{CacheFault.CacheFault, Paints.PaintState}
 use Rattle.masked_draw.specs.Rules.{Art, Drawseg, FragmentNote, Painter, SpriteEntry, draw_order, masked_dots, middles_at, sprites_from}
 use Rattle.picture_rules.proofs.sprite.MaskedLemmas.{sprites_from-more}
 use Rattle.picture_rules.proofs.sprite.OrderLemmas.{draw_order-permutation}
-use Rattle.texture_build.specs.Paints.{PaintState}
 use Rattle.texture_build.proofs.PaintLemmas.{paints-none, paints-same, paints-then, paints-value, paints-wider}
 use Rattle.vissprites.specs.Bounds.{has_lump_below, lies_within}
 use Rattle.masked_draw.specs.declared.scene.MaskScene.{MaskScene}
-use Rattle.masked_draw.specs.Marks.{AreBefore, MarkedTo, mark_in}
-use Rattle.masked_draw.specs.Passes.{DrawsSprite}
+use Rattle.masked_draw.specs.{Marks.AreBefore, Marks.MarkedTo, Marks.mark_in, Passes.DrawsSprite}
 use Rattle.masked_draw.specs.Ready.{IsNotedMiddle, IsPictureOf, IsSpriteLump}
 use Rattle.masked_draw.specs.Scenes.{PaintsDots, scene_art, scene_drawsegs, scene_lists}
-use Rattle.masked_draw.proofs.MomentLemmas.{front-first}
-use Rattle.masked_draw.proofs.SceneLemmas.{scene-length}
+use Rattle.masked_draw.proofs.{MomentLemmas.front-first, SceneLemmas.scene-length}
 
 -- no column is marked before the first sprite
 before_first : (seg : FragmentNote → Drawseg) (es : List SpriteEntry) (marks : List Bool) (d : FragmentNote) (masked : Option ℕ) →

@@ -6,13 +6,11 @@ use Rattle.pixel_strips.specs.Canvases.{CanvasView, with_dots, with_painter}
 use Rattle.pixel_strips.specs.Dotted.{HasDots}
 use Rattle.pixel_strips.proofs.CanvasLemmas.{dots_none, with_dots-append}
 use Rattle.pixel_strips.proofs.DottedLemmas.{has_dots-as, has_dots-painted}
-use Rattle.texture_build.specs.Arts.{own_posts, view_art}
-use Rattle.texture_build.specs.Draws.{FitBeside, FitsBeside}
+use Rattle.texture_build.specs.{Arts.own_posts, Arts.view_art, Draws.FitBeside, Draws.FitsBeside}
 use Rattle.texture_build.specs.Views.{TexturesView}
 use Rattle.texture_build.proofs.BesideLemmas.{fit_beside-append, fit_beside-as}
 use Rattle.masked_draw.specs.declared.clips.SpriteClips.{SpriteClips}
-use Rattle.masked_draw.proofs.MiddleLemmas.{fit_beside-posts}
-use Rattle.masked_draw.proofs.PostLemmas.{posts-nil}
+use Rattle.masked_draw.proofs.{MiddleLemmas.fit_beside-posts, PostLemmas.posts-nil}
 use Rattle.masked_draw.specs.Clipped.{clipped_column, clipped_dots, clipped_masked, read_column, read_columns}
 
 -- a column that the picture does not have

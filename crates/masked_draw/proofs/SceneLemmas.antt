@@ -1,11 +1,9 @@
 -- Laws of the notes of a scene as drawn fragments, and of what the calls ask of them.
 use Rattle.picture_rules.proofs.Common.{All-get_or, and_parts, ap, arith, Bool, get_or, gets, IfSome, int_lt, leb-true, length, length-map, List, nat_le, nat_tests, not, Option, option_map, pos, refl, Result, slice_get, slice_get-map, slice_get_within, Some, subst, true, ℕ, ℤ, ◌&&◌, ◌<◌, ◌==◌, ◌∙◌, ◌≡◌, ◌≢◌, ◌≤ℤ◌, ◌≤◌}
 use Rattle.masked_draw.specs.Rules.{AreNoted, Dot, Drawseg, FragmentNote, IsWholeNote, Lump, Painter, SpriteEntry, ViewShape, drawseg_has, gives_bottom, gives_top, greatest_clip, is_behind, least_clip, minus_one}
-use Rattle.texture_build.specs.Zones.{Heap}
-use Rattle.texture_build.specs.CacheFault.{CacheFault}
+use Rattle.texture_build.specs.{Zones.Heap, CacheFault.CacheFault}
 use Rattle.texture_build.specs.Caches.{KeepsCounts, cache_fault}
-use Rattle.texture_build.specs.Paints.{PaintState, Paints}
-use Rattle.texture_build.specs.Views.{TexturesView}
+use Rattle.texture_build.specs.{Paints.PaintState, Paints.Paints, Views.TexturesView}
 use Rattle.texture_build.proofs.PaintLemmas.{slots-later}
 use Rattle.masked_draw.specs.declared.scene.MaskScene.{MaskScene}
 use Rattle.masked_draw.specs.Lists.{MaskedLists, noted_drawseg, noted_drawsegs}

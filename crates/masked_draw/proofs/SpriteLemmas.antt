@@ -1,21 +1,17 @@
 -- Laws of a sprite that is painted by the clips that were taken.
 use Rattle.picture_rules.proofs.Common.{[], ap, arith, Bool, cond, false, int_lt, length, List, map, nat_le, nat_lt, nat_tests, Ok, pos, range_with_len, refl, Result, slice_get, Some, subst, suc, sym, true, zero, ℕ, ℤ, ◌&&◌, ◌++◌, ◌+◌, ◌-◌, ◌<◌, ◌∙◌, ◌≡◌, ◌≤◌, ◌≤ℤ◌}
 use Rattle.masked_draw.specs.Rules.{Art, Dot, FragmentNote, Painter, SpriteEntry, entry_has, joined_lists, listed_from, middles_at, natural, rows_between, sprite_column, sprite_dots, sprite_masked, sprite_step}
-use Rattle.texture_build.specs.CacheFault.{CacheFault}
+use Rattle.texture_build.specs.{CacheFault.CacheFault, Paints.PaintState}
 use Rattle.texture_lists.proofs.BesideLemmas.{on_ok}
-use Rattle.texture_build.specs.Paints.{PaintState}
 use Rattle.texture_build.proofs.PaintLemmas.{paints-none, paints-same, paints-then, paints-wider}
 use Rattle.masked_draw.specs.declared.clips.SpriteClips.{SpriteClips}
-use Rattle.masked_draw.specs.declared.scene.MaskScene.{MaskScene}
+use Rattle.masked_draw.specs.{declared.scene.MaskScene.MaskScene, Marks.MarkedTo}
 use Rattle.masked_draw.specs.Clipped.{AreSpriteRows, clipped_column, clipped_dots, clipped_masked}
-use Rattle.masked_draw.specs.Marks.{MarkedTo}
 use Rattle.masked_draw.specs.Passes.{DrawsSprite}
 use Rattle.masked_draw.specs.Scenes.{PaintsDots, scene_art, scene_drawseg, scene_drawsegs}
 use Rattle.masked_draw.proofs.DownLemmas.{marked-skip, step-none}
-use Rattle.masked_draw.proofs.EntryLemmas.{entry-between}
-use Rattle.masked_draw.proofs.LoopLemmas.{PassesSprite}
-use Rattle.masked_draw.proofs.PictureLemmas.{natural_of}
-use Rattle.masked_draw.proofs.SceneLemmas.{scene-length}
+use Rattle.masked_draw.proofs.{EntryLemmas.entry-between, LoopLemmas.PassesSprite}
+use Rattle.masked_draw.proofs.{PictureLemmas.natural_of, SceneLemmas.scene-length}
 
 -- lists that agree over a range
 joined_range : (f g : ℕ → List Dot) (a n : ℕ) → ((x : ℕ) → a ≤ x → x < a + n → f x ≡ g x) → joined_lists f (map (λ y. y) (range_with_len a n)) ≡ joined_lists g (map (λ y. y) (range_with_len a n))

@@ -5,10 +5,8 @@ use Rattle.std.specs.List.{range_with_len}
 use Rattle.pixel_strips.specs.Canvases.{CanvasView, with_dots}
 use Rattle.texture_build.specs.Arts.{own_posts}
 use Rattle.masked_draw.specs.declared.clips.SpriteClips.{SpriteClips}
-use Rattle.masked_draw.specs.declared.middles.Middle.{Middle}
-use Rattle.masked_draw.specs.declared.posts.ColumnArt.{ColumnArt}
-use Rattle.masked_draw.specs.declared.scene.MaskScene.{MaskScene}
-use Rattle.masked_draw.specs.Lists.{middle_by}
+use Rattle.masked_draw.specs.{declared.middles.Middle.Middle, declared.posts.ColumnArt.ColumnArt}
+use Rattle.masked_draw.specs.{declared.scene.MaskScene.MaskScene, Lists.middle_by}
 use Rattle.masked_draw.specs.Scenes.{scene_drawseg, scene_lists}
 
 -- the clip of a fragment has its row at column x among the openings

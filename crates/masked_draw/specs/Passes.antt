@@ -1,10 +1,8 @@
 -- What is painted for one sprite, and which columns are marked after it.
 use Rattle.std.specs.Prelude.{◌+◌, ℕ, List, Bool, Result, OnOk, length}
-use Rattle.texture_build.specs.CacheFault.{CacheFault}
+use Rattle.texture_build.specs.{CacheFault.CacheFault, Paints.PaintState}
 use Rattle.masked_draw.specs.Rules.{FragmentNote, Painter, SpriteEntry, sprite_step}
-use Rattle.texture_build.specs.Paints.{PaintState}
-use Rattle.masked_draw.specs.declared.scene.MaskScene.{MaskScene}
-use Rattle.masked_draw.specs.Marks.{MarkedTo}
+use Rattle.masked_draw.specs.{declared.scene.MaskScene.MaskScene, Marks.MarkedTo}
 use Rattle.masked_draw.specs.Ready.{IsNotedMiddle, IsPictureOf}
 use Rattle.masked_draw.specs.Scenes.{PaintsDots, scene_drawseg, scene_drawsegs, scene_lists}
 

@@ -1,16 +1,12 @@
 -- What stays while the masked pass runs, what a call of it paints, and what each of its calls asks.
 use Rattle.std.specs.Prelude.{◌≡◌, ◌≤◌, ◌<◌, ℕ, ℤ, Bool, List, All, length, Result, ⊤}
 use Rattle.masked_draw.specs.Rules.{AreNoted, Art, Dot, Drawseg, FragmentNote, IsWholeNote, Painter, ShelfView}
-use Rattle.texture_build.specs.CacheFault.{CacheFault}
-use Rattle.texture_build.specs.Caches.{cache_fault}
-use Rattle.pixel_strips.specs.Canvases.{CanvasView}
-use Rattle.pixel_strips.specs.Dotted.{HasDots}
-use Rattle.pixel_strips.specs.Standing.{StandsInFrame}
+use Rattle.texture_build.specs.{CacheFault.CacheFault, Caches.cache_fault}
+use Rattle.pixel_strips.specs.{Canvases.CanvasView, Dotted.HasDots, Standing.StandsInFrame}
 use Rattle.texture_build.specs.Paints.{FitIn, Holds, PaintState, PaintTools, Paints, paint_state, paint_tools, painted_art}
 use Rattle.masked_draw.specs.declared.scene.MaskHands.{MaskHands}
-use Rattle.masked_draw.specs.declared.scene.MaskScene.{MaskScene}
+use Rattle.masked_draw.specs.{declared.scene.MaskScene.MaskScene, Ready.IsListed}
 use Rattle.masked_draw.specs.Lists.{MaskedLists, lists_of, noted_drawseg, noted_drawsegs}
-use Rattle.masked_draw.specs.Ready.{IsListed}
 
 -- the lists of the level
 abbrev pub scene_lists : MaskScene → MaskedLists

@@ -3,8 +3,7 @@ use Rattle.std.proofs.Common.{◌≡◌, ℕ, ◌+◌, ◌%◌, ◌^◌, List, l
 use Rattle.std.specs.Prelude.{sum}
 use Rattle.std.proofs.Math.Nat.{mod-add-mod}
 use Rattle.std.proofs.lemmas.List.Sums.{sum_by-append}
-use Rattle.outside.specs.Sink.{Grew}
-use Rattle.outside.specs.TallySink.{Tally, IsTallyOf, tally_with}
+use Rattle.outside.specs.{Sink.Grew, TallySink.Tally, TallySink.IsTallyOf, TallySink.tally_with}
 
 -- a count modulo m after n more
 counted_on : (m before now n : ℕ) → before % m ≡ now → (before + n) % m ≡ (now + n) % m

@@ -1,8 +1,7 @@
 -- Faults of a layer and of the layer above it, what a call answers by the steps of a definition, and
 -- when a read may fail.
 use Rattle.std.specs.Prelude.{◌≡◌, ℕ, Bool, IsTrue, Result, Ok, Err, IfOk, IfErr, ⊤}
-use Rattle.outside.specs.Causes.{FaultsRose}
-use Rattle.outside.specs.declared.fault.Fault.{Fault}
+use Rattle.outside.specs.{Causes.FaultsRose, declared.fault.Fault.Fault}
 use Rattle.outside.specs.declared.fault.Fault.TheVariants.{Refused, ReadFault, ZoneFull, OutOfMemory}
 
 -- the same fault, with the refusal as the layer above names it

@@ -1,6 +1,5 @@
 -- Laws of the rows of a column while one post is put there byte by byte.
-use Rattle.art_rules.proofs.Common.{[], arith, Bool, cases_eq, cond, false, get_or, get_or-set_other, get_or-set_same, inl, inr, length, List, nat_le, nat_lt, nat_tests, None, refl, Some, true, unwrap_or, within-row, ℕ, ℤ, ◌&&◌, ◌+◌, ◌-◌, ◌<◌, ◌∙◌, ◌∷◌, ◌≡◌, ◌≢◌}
-use Rattle.std.proofs.Common.{set}
+use Rattle.art_rules.proofs.Common.{[], arith, Bool, cases_eq, cond, false, get_or, get_or-set_other, get_or-set_same, inl, inr, length, List, nat_le, nat_lt, nat_tests, None, refl, Some, true, unwrap_or, within-row, ℕ, ℤ, ◌&&◌, ◌+◌, ◌-◌, ◌<◌, ◌∙◌, ◌∷◌, ◌≡◌, ◌≢◌, set}
 use Rattle.art_rules.specs.Words.{byte_at, first_row, is_put_at, last_put, or_else, Post, put_byte, put_count}
 use Rattle.art_rules.proofs.Laws.{listed-all}
 use Rattle.patch_columns.specs.Composites.{placed_post, row_with, with_posts}

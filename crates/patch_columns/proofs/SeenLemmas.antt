@@ -1,6 +1,5 @@
 -- Laws of the columns of a texture while its patches come one after the other.
-use Rattle.art_rules.proofs.Common.{[], ap, append-nil, arith, Bool, cases_lt, cond, false, filter-append, Fits, get_or, get_or-set_other, get_or-set_same, inl, inr, ints, length, List, pos, refl, sym, true, w8, ℕ, ◌++◌, ◌+◌, ◌-ℤ◌, ◌<ℤ◌, ◌<◌, ◌^◌, ◌∙◌, ◌∷◌, ◌≡◌, ◌≢◌, ◌≤ℤ◌, ◌≤◌}
-use Rattle.std.proofs.Common.{set}
+use Rattle.art_rules.proofs.Common.{[], ap, append-nil, arith, Bool, cases_lt, cond, false, filter-append, Fits, get_or, get_or-set_other, get_or-set_same, inl, inr, ints, length, List, pos, refl, sym, true, w8, ℕ, ◌++◌, ◌+◌, ◌-ℤ◌, ◌<ℤ◌, ◌<◌, ◌^◌, ◌∙◌, ◌∷◌, ◌≡◌, ◌≢◌, ◌≤ℤ◌, ◌≤◌, set}
 use Rattle.patch_columns.specs.Rules.{ColumnLookup, Empty, PlacedPatch, byte_at, column_place, half_at, listed, lookup_of, patches_in, stands_in, word_at}
 use Rattle.art_rules.proofs.Laws.{get_or-listed, length-listed, listed-all}
 use Rattle.patch_columns.specs.Seen.{columns_with, lookup_behind, lookup_with, seen_lookup, seen_lookups}

@@ -1,8 +1,7 @@
 -- Laws of the counts of a list of steps to which one more is added.
 use Rattle.word_rules.proofs.Common.{[], ap, append-nil, append_assoc, List, map, refl, sym, ℕ, ◌++◌, ◌∙◌, ◌∷◌, ◌≡◌}
 use Rattle.picture_rules.specs.plane.Built.{PlanesNow, after_event, after_events, plane_counts}
-use Rattle.picture_rules.specs.declared.OverLimit.{OverLimit}
-use Rattle.picture_rules.specs.Planes.{Step}
+use Rattle.picture_rules.specs.{declared.OverLimit.OverLimit, Planes.Step}
 use Rattle.picture_rules.specs.Counts.{planes_count, openings_past, openings_after, openings_counts, counts_from}
 
 -- the counts of one step more come behind the others

@@ -2,13 +2,11 @@
 use Rattle.word_rules.proofs.Common.{[], ap, append-nil, append_assoc, arith, funext, length, length-map, List, map, map-append, refl, Some, sym, ℕ, ◌++◌, ◌+◌, ◌<◌, ◌∙◌, ◌∷◌, ◌≡◌, ◌≤◌}
 use Rattle.picture_rules.specs.Rules.{Dot, Event, FragmentEvent, LeafEvent, MAX_DRAWSEGS, ViewValue, drawsegs, last_leaf, leaf_fragments, leaves_entered}
 use Rattle.level_rules.proofs.walk.DrawsegLemmas.{drawsegs-leaf, drawsegs-room, drawsegs-full, room-drawsegs, full-drawsegs}
-use Rattle.picture_rules.specs.wall.Walls.{Wall}
+use Rattle.picture_rules.specs.{wall.Walls.Wall, wall.Openings.openings_of}
 use Rattle.picture_rules.specs.wall.Strips.{wall_dots, ceiling_marks, floor_marks}
-use Rattle.picture_rules.specs.wall.Openings.{openings_of}
 use Rattle.picture_rules.proofs.wall.PaintLemmas.{ceiling_marks-front, floor_marks-front, wall_dots-front}
 use Rattle.picture_rules.specs.plane.Built.{PlaneWall, after_events, planes_of}
-use Rattle.picture_rules.specs.plane.Built.PlaneEvent.{Draws}
-use Rattle.picture_rules.specs.sprite.Order.{draw_order}
+use Rattle.picture_rules.specs.{plane.Built.PlaneEvent.Draws, sprite.Order.draw_order}
 use Rattle.picture_rules.specs.sprite.Middles.{middles_at, sprites_from, masked_dots}
 use Rattle.picture_rules.specs.Scene.{Scene, leaf_surface}
 use Rattle.picture_rules.specs.Walls.{fragment_wall, walls_of, walls_from, walls_dots}

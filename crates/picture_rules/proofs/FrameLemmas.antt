@@ -3,8 +3,7 @@ use Rattle.word_rules.proofs.Common.{[], and_from, and_left, and_right, ap, appe
 use Rattle.picture_rules.specs.Rules.{AreInFrame, Dot, FRAME_CELLS, FRAME_WIDTH, Painter, ViewShape, ViewValue, colour_of, is_at, joined_lists, last_dot, last_dot_from, listed, mark_or, put_dots}
 use Rattle.word_rules.proofs.ListedLemmas.{listed-all}
 use Rattle.pixel_rules.proofs.DotLemmas.{length-put_dots, cell_beside-put_dots, cell_any-put_dots}
-use Rattle.picture_rules.specs.sprite.Weapons.{WeaponLayer}
-use Rattle.picture_rules.specs.Scene.{Scene}
+use Rattle.picture_rules.specs.{sprite.Weapons.WeaponLayer, Scene.Scene}
 use Rattle.picture_rules.specs.Paints.{view_paints, overlaid_paints}
 use Rattle.picture_rules.specs.Picture.{is_in_window, frame_dot, frame_dots, frame_of, picture, overlaid_picture, overlaid_trace, FitsFrame, AreInView}
 

@@ -6,18 +6,15 @@ use Rattle.level_rules.proofs.walk.DrawsegLemmas.{drawsegs-full, drawsegs-leaf, 
 use Rattle.picture_rules.specs.declared.list.TheConstants.{MOST_TOLD}
 use Rattle.picture_rules.specs.declared.list.PlaneMaker.{PlaneMaker}
 use Rattle.picture_rules.specs.declared.sprite.TheConstants.{MAX_VISSPRITES}
-use Rattle.picture_rules.specs.declared.sprite.Seen.{Seen}
-use Rattle.picture_rules.specs.declared.sprite.Shape5.{Shape5}
-use Rattle.picture_rules.specs.declared.sprite.SpriteEntry.{SpriteEntry}
-use Rattle.picture_rules.specs.wall.Walls.{Wall}
+use Rattle.picture_rules.specs.{declared.sprite.Seen.Seen, declared.sprite.Shape5.Shape5}
+use Rattle.picture_rules.specs.{declared.sprite.SpriteEntry.SpriteEntry, wall.Walls.Wall}
 use Rattle.picture_rules.specs.plane.Built.{PlanesNow, after_events, no_planes, planes_of}
 use Rattle.picture_rules.proofs.plane.BuiltLemmas.{after_event-longer, after_events-more}
 use Rattle.picture_rules.specs.sprite.Entries.{add_entry, entry_for, entry_of, entry_within, misses_view, picture_first, picture_last, with_entry}
 use Rattle.picture_rules.specs.sprite.Projection.{project}
 use Rattle.picture_rules.specs.Scene.{Scene, leaf_sector, leaf_surface}
-use Rattle.picture_rules.specs.Walls.{fragment_wall, walls_of}
+use Rattle.picture_rules.specs.{Walls.fragment_wall, Walls.walls_of, Counts.view_steps}
 use Rattle.picture_rules.specs.Planes.{Step, leaf_step, steps_from, steps_of, view_planes, wall_step}
-use Rattle.picture_rules.specs.Counts.{view_steps}
 use Rattle.picture_rules.specs.Things.{first_mentions, is_entered, placed_of, sectors_entered, view_entries, with_sectors, with_seen, with_shape, with_thing, with_things}
 use Rattle.picture_rules.specs.Lists.{AreEntriesOf, IsEntryOf, event_planes, is_seen, is_shown, listed_fragment, maker_of, makers_from, makes_entry, plane_makers, planes_made, shown_things, count_shown}
 use Rattle.picture_rules.proofs.EventLemmas.{steps_of-full, steps_of-leaf, steps_of-room, walls_of-full, walls_of-leaf, walls_of-room}

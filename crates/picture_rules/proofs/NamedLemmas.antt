@@ -3,18 +3,14 @@ use Rattle.word_rules.proofs.Common.{[], All, All-from_recursion, All-weaker, Al
 use Rattle.picture_rules.specs.Rules.{Art, Dot, Event, LeafFragment, MIDDLE, MaskedColumn, PLANE, Painter, Post, SKY, SPRITE, Source, ViewShape, ViewValue, WALL, column_dots, drawsegs, joined_lists, listed, listed_from, lump_source, natural, painter_of, post_colour, post_dots, post_rows, posts_dots, rows_between, view_events}
 use Rattle.picture_rules.specs.declared.list.ListedFragment.{ListedFragment}
 use Rattle.picture_rules.specs.declared.list.ListedPlane.{ListedPlane}
-use Rattle.picture_rules.specs.declared.list.ListedSprite.{ListedSprite}
-use Rattle.picture_rules.specs.declared.plane.Flat4.{Flat4}
+use Rattle.picture_rules.specs.{declared.list.ListedSprite.ListedSprite, declared.plane.Flat4.Flat4}
 use Rattle.picture_rules.specs.declared.plane.Flat4.TheVariants.{Sky, Lump}
-use Rattle.picture_rules.specs.declared.plane.PlaneKey.{PlaneKey}
-use Rattle.picture_rules.specs.declared.sprite.Placed.{Placed}
-use Rattle.picture_rules.specs.declared.sprite.Seen.{Seen}
-use Rattle.picture_rules.specs.declared.sprite.Shape5.{Shape5}
+use Rattle.picture_rules.specs.{declared.plane.PlaneKey.PlaneKey, declared.sprite.Placed.Placed}
+use Rattle.picture_rules.specs.{declared.sprite.Seen.Seen, declared.sprite.Shape5.Shape5}
 use Rattle.picture_rules.specs.declared.sprite.SpriteEntry.{SpriteEntry}
 use Rattle.picture_rules.specs.plane.Floors.{floor_dots, run_dots}
-use Rattle.picture_rules.specs.plane.Planes.{Plane, column}
+use Rattle.picture_rules.specs.{plane.Planes.Plane, plane.Planes.column, sprite.Drawsegs.Drawseg}
 use Rattle.picture_rules.specs.plane.Skies.{plane_dots, plane_dots_by, sky_dots}
-use Rattle.picture_rules.specs.sprite.Drawsegs.{Drawseg}
 use Rattle.picture_rules.specs.sprite.Entries.{entry_for, entry_of, entry_within, picture_first, picture_last}
 use Rattle.picture_rules.specs.sprite.Middles.{columns_at, masked_dots, middle_by, middle_column, middles_at, middles_of, sprite_step, sprites_from}
 use Rattle.picture_rules.specs.sprite.Order.{draw_order, insert_entry}
@@ -26,8 +22,7 @@ use Rattle.picture_rules.specs.Lists.{ViewListValue, event_list, event_planes, l
 use Rattle.picture_rules.specs.Masked.{drawseg_of, drawsegs_from, view_drawsegs}
 use Rattle.picture_rules.specs.Named.{IsListed, IsOfListedKind}
 use Rattle.picture_rules.specs.Paints.{paints_by, paints_of, view_paints}
-use Rattle.picture_rules.specs.Planes.{planes_dots, planes_from}
-use Rattle.picture_rules.specs.Scene.{Scene}
+use Rattle.picture_rules.specs.{Planes.planes_dots, Planes.planes_from, Scene.Scene}
 use Rattle.picture_rules.specs.Things.{view_entries}
 use Rattle.picture_rules.specs.Walls.{fragment_wall, walls_dots, walls_from, walls_of}
 use Rattle.picture_rules.proofs.ListLemmas.{entries-of_shown, plane_makers-count}

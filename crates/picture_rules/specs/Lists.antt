@@ -9,16 +9,11 @@ use Rattle.picture_rules.specs.declared.list.ListedSprite.{ListedSprite}
 use Rattle.picture_rules.specs.declared.list.PlaneMaker.{PlaneMaker}
 use Rattle.picture_rules.specs.declared.list.PlaneMaker.TheVariants.{Leaf, Fragment}
 use Rattle.picture_rules.specs.declared.sprite.TheConstants.{MAX_VISSPRITES}
-use Rattle.picture_rules.specs.declared.sprite.Placed.{Placed}
-use Rattle.picture_rules.specs.declared.sprite.Seen.{Seen}
+use Rattle.picture_rules.specs.{declared.sprite.Placed.Placed, declared.sprite.Seen.Seen}
 use Rattle.picture_rules.specs.declared.sprite.Shape5.{Shape5}
-use Rattle.picture_rules.specs.declared.sprite.SpriteEntry.{SpriteEntry}
-use Rattle.picture_rules.specs.plane.Planes.{Plane}
-use Rattle.picture_rules.specs.sprite.Entries.{entry_for}
-use Rattle.picture_rules.specs.sprite.Projection.{project}
-use Rattle.picture_rules.specs.Scene.{Scene}
-use Rattle.picture_rules.specs.Counts.{view_steps}
-use Rattle.picture_rules.specs.Planes.{view_planes}
+use Rattle.picture_rules.specs.{declared.sprite.SpriteEntry.SpriteEntry, plane.Planes.Plane}
+use Rattle.picture_rules.specs.{sprite.Entries.entry_for, sprite.Projection.project, Scene.Scene}
+use Rattle.picture_rules.specs.{Counts.view_steps, Planes.view_planes}
 use Rattle.picture_rules.specs.Things.{placed_of, sectors_entered, view_entries}
 
 -- the planes that the events of a view build

@@ -3,9 +3,8 @@ use Rattle.std.specs.Prelude.{◌≡◌, ◌≤◌, ◌⊎◌, Some, slice_get}
 use Rattle.picture_rules.specs.Rules.{Dot, MIDDLE, PLANE, SKY, SPRITE, WALL}
 use Rattle.picture_rules.specs.declared.list.ListedFragment.{ListedFragment}
 use Rattle.picture_rules.specs.declared.list.ListedPlane.{ListedPlane}
-use Rattle.picture_rules.specs.declared.list.ListedSprite.{ListedSprite}
+use Rattle.picture_rules.specs.{declared.list.ListedSprite.ListedSprite, Lists.ViewListValue}
 use Rattle.picture_rules.specs.declared.plane.Flat4.TheVariants.{Sky, Lump}
-use Rattle.picture_rules.specs.Lists.{ViewListValue}
 
 -- The painter of a dot is an item of the list: the number is its place, and the dot lies in its columns.
 pub record IsListed (list : ViewListValue) (d : Dot) : Type 0 where

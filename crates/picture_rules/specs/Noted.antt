@@ -2,9 +2,8 @@
 use Rattle.std.specs.Prelude.{◌≢◌, ◌≤◌, ◌<◌, ◌+◌, ◌-◌, ◌^◌, ◌≤ℤ◌, ◌<ℤ◌, ℕ, ℤ, pos, negsuc, bit_and, List, length, Option, Some, None, IfSome, IsSome, ⊤, slice_get}
 use Rattle.picture_rules.specs.Rules.{MAX_DRAWSEGS, ViewShape, minus_one, step_at}
 use Rattle.picture_rules.specs.declared.wall.TheConstants.{SIL_BOTTOM, SIL_TOP}
-use Rattle.picture_rules.specs.declared.wall.Clip.{Clip}
+use Rattle.picture_rules.specs.{declared.wall.Clip.Clip, declared.wall.FragmentNote.FragmentNote}
 use Rattle.picture_rules.specs.declared.wall.Clip.TheVariants.{Absent, Constant, Saved}
-use Rattle.picture_rules.specs.declared.wall.FragmentNote.{FragmentNote}
 use Rattle.picture_rules.specs.wall.Notes.{clip_row_at}
 
 -- the clip of a column is a row between these

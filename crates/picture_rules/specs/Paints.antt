@@ -2,14 +2,11 @@
 use Rattle.std.specs.Prelude.{List, ◌++◌}
 use Rattle.picture_rules.specs.Rules.{Dot, Event, ViewValue, joined_lists, view_events}
 use Rattle.picture_rules.specs.sprite.Weapons.{WeaponLayer, weapon_dots}
-use Rattle.picture_rules.specs.wall.Walls.{Wall}
-use Rattle.picture_rules.specs.sprite.Order.{draw_order}
-use Rattle.picture_rules.specs.sprite.Middles.{masked_dots}
-use Rattle.picture_rules.specs.Scene.{Scene}
+use Rattle.picture_rules.specs.{wall.Walls.Wall, sprite.Order.draw_order}
+use Rattle.picture_rules.specs.{sprite.Middles.masked_dots, Scene.Scene}
 use Rattle.picture_rules.specs.Walls.{walls_of, walls_dots}
 use Rattle.picture_rules.specs.Planes.{steps_of, view_planes, planes_dots}
-use Rattle.picture_rules.specs.Masked.{view_drawsegs}
-use Rattle.picture_rules.specs.Things.{view_entries}
+use Rattle.picture_rules.specs.{Masked.view_drawsegs, Things.view_entries}
 
 -- the dots of a list of events whose drawn fragments are these
 unfoldable pub paints_by : ViewValue → Scene → List Event → List Wall → List Dot

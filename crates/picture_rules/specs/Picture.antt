@@ -2,8 +2,7 @@
 use Rattle.std.specs.Prelude.{ℕ, ◌<◌, ◌≤◌, ◌+◌, ◌-◌, ◌/◌, ◌%◌, ◌&&◌, nat_le, nat_lt, Bool, cond, List, map, Option, None}
 use Rattle.std.specs.List.{AllByRecursion}
 use Rattle.picture_rules.specs.Rules.{Dot, FRAME_CELLS, FRAME_HEIGHT, FRAME_WIDTH, ViewShape, ViewValue, colour_of, last_dot, listed}
-use Rattle.picture_rules.specs.sprite.Weapons.{WeaponLayer}
-use Rattle.picture_rules.specs.Scene.{Scene}
+use Rattle.picture_rules.specs.{sprite.Weapons.WeaponLayer, Scene.Scene}
 use Rattle.picture_rules.specs.Paints.{view_paints, overlaid_paints}
 
 -- column x, row y of the frame are within the view

@@ -1,8 +1,7 @@
 -- What a picture is made from: the lists of a level, its textures and things, and the art.
 use Rattle.std.specs.Prelude.{ℕ, pos, List, [], Option, slice_index_or}
 use Rattle.picture_rules.specs.Rules.{Art, LeafFragment, LevelLists, PlacedThing, Seg, Side, SideTextures, Surface, back_of, leaf_at, seg_at, surface_at}
-use Rattle.picture_rules.specs.declared.sprite.Shape5.{Shape5}
-use Rattle.picture_rules.specs.declared.wall.WallFacts.{WallFacts}
+use Rattle.picture_rules.specs.{declared.sprite.Shape5.Shape5, declared.wall.WallFacts.WallFacts}
 use Rattle.picture_rules.specs.declared.wall.WallTexture.{WallTexture}
 
 pub record Scene : Type 0 where

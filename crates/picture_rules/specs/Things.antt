@@ -2,13 +2,10 @@
 use Rattle.std.specs.Prelude.{ℕ, ◌==◌, pos, cond, Bool, List, [], ◌∷◌, map, Option, Some, None}
 use Rattle.std.specs.List.{list_any}
 use Rattle.picture_rules.specs.Rules.{Event, PlacedThing, ViewValue, leaves_entered, light_number, surface_at}
-use Rattle.picture_rules.specs.declared.sprite.Placed.{Placed}
-use Rattle.picture_rules.specs.declared.sprite.Seen.{Seen}
+use Rattle.picture_rules.specs.{declared.sprite.Placed.Placed, declared.sprite.Seen.Seen}
 use Rattle.picture_rules.specs.declared.sprite.Shape5.{Shape5}
-use Rattle.picture_rules.specs.declared.sprite.SpriteEntry.{SpriteEntry}
-use Rattle.picture_rules.specs.sprite.Projection.{project}
-use Rattle.picture_rules.specs.sprite.Entries.{add_entry}
-use Rattle.picture_rules.specs.Scene.{Scene, leaf_sector}
+use Rattle.picture_rules.specs.{declared.sprite.SpriteEntry.SpriteEntry, sprite.Projection.project}
+use Rattle.picture_rules.specs.{sprite.Entries.add_entry, Scene.Scene, Scene.leaf_sector}
 
 -- the numbers without those that came before
 unfoldable pub first_mentions : List ℕ → List ℕ → List ℕ

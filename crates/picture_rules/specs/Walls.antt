@@ -1,8 +1,7 @@
 -- The drawn fragments of a view and the dots of its walls.
 use Rattle.std.specs.Prelude.{ℕ, ◌+◌, List, [], ◌∷◌, ◌++◌, map}
 use Rattle.picture_rules.specs.Rules.{Dot, Event, LeafFragment, ViewValue, drawsegs}
-use Rattle.picture_rules.specs.wall.Walls.{Wall, wall_of}
-use Rattle.picture_rules.specs.wall.Strips.{wall_dots}
+use Rattle.picture_rules.specs.{wall.Walls.Wall, wall.Walls.wall_of, wall.Strips.wall_dots}
 use Rattle.picture_rules.specs.Scene.{Scene, fragment_facts}
 
 unfoldable pub fragment_wall : ViewValue → Scene → LeafFragment → Wall

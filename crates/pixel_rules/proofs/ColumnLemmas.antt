@@ -1,10 +1,8 @@
 -- Laws of dots that are listed column by column, or row by row: a pixel has those of its own column or row alone.
 use Rattle.word_rules.proofs.Common.{[], and_right, ap, arith, Bool, cases_eq, cases_lt, cond, eq-eqb, false, flat_map, inl, inr, List, map, map-id, ne_eqb, None, Option, or_else-none_right, range_with_len, refl, Some, suc, sym, true, zero, ℕ, ◌&&◌, ◌+◌, ◌-◌, ◌<◌, ◌==◌, ◌∙◌, ◌∷◌, ◌≡◌, ◌≢◌, ◌≤◌, ◌⊎◌}
-use Rattle.word_rules.specs.Least.{or_else}
-use Rattle.word_rules.specs.Listed.{listed, listed_from, joined_lists}
-use Rattle.pixel_rules.specs.declared.Painter.{Painter}
+use Rattle.word_rules.specs.{Least.or_else, Listed.listed, Listed.listed_from, Listed.joined_lists}
+use Rattle.pixel_rules.specs.{declared.Painter.Painter, Strips.column_dots, Strips.span_dots}
 use Rattle.pixel_rules.specs.Dots.{Dot, is_at, last_dot_from, last_dot, AreInColumn, AreInRow}
-use Rattle.pixel_rules.specs.Strips.{column_dots, span_dots}
 use Rattle.pixel_rules.proofs.DotLemmas.{last_dot-append, last_dot-none}
 
 -- no dot of another column is at the pixel, and none of another row

@@ -1,6 +1,5 @@
 -- Laws of dots: put one list after the other, the last one at a pixel, and the cells that they leave.
-use Rattle.word_rules.proofs.Common.{[], ap, arith, Bool, cases_eq, cases_lt, cond, eq-eqb, false, get_or, get_or-set_other, get_or-set_same, inl, inr, length, length-set, List, ne_eqb, None, Option, or_else-assoc, refl, same_lists, Some, subst, sym, true, ℕ, ◌%◌, ◌++◌, ◌+◌, ◌-◌, ◌/◌, ◌<◌, ◌∙◌, ◌∷◌, ◌≡◌, ◌≢◌, ◌≤◌, ◌⊎◌}
-use Rattle.std.proofs.Common.{set}
+use Rattle.word_rules.proofs.Common.{[], ap, arith, Bool, cases_eq, cases_lt, cond, eq-eqb, false, get_or, get_or-set_other, get_or-set_same, inl, inr, length, length-set, List, ne_eqb, None, Option, or_else-assoc, refl, same_lists, Some, subst, sym, true, ℕ, ◌%◌, ◌++◌, ◌+◌, ◌-◌, ◌/◌, ◌<◌, ◌∙◌, ◌∷◌, ◌≡◌, ◌≢◌, ◌≤◌, ◌⊎◌, set}
 use Rattle.word_rules.specs.Least.{or_else}
 use Rattle.pixel_rules.specs.declared.Painter.{Painter}
 use Rattle.view_rules.specs.declared.TheConstants.{FRAME_WIDTH, FRAME_HEIGHT}

@@ -1,8 +1,7 @@
 -- Laws of strips: one pixel more, where a strip's dots are, and fractions that are stepped.
 use Rattle.word_rules.proofs.Common.{[], ap, arith, cases_lt, false, FitsSigned, inl, inr, int_lt, int_wrap, int_wrap-add_left, int_wrap-add_right, int_wrap-mul_left, List, map, map-append, pos, range_with_len, refl, SFits-int_wrap, suc, sym, true, w32, zero, ℕ, ℤ, ◌*ℤ◌, ◌++◌, ◌+ℤ◌, ◌+◌, ◌-ℤ◌, ◌-◌, ◌<◌, ◌∙◌, ◌∷◌, ◌≡◌, ◌≤◌}
 use lib.IntN.{neg_ℤ, +ℤ_assoc, +ℤ_comm, suc_ℤ-*ℤ, suc_ℤ-+ℤ}
-use Rattle.word_rules.specs.Words.{plus, minus, times, natural}
-use Rattle.word_rules.specs.Steps.{step_at}
+use Rattle.word_rules.specs.{Words.plus, Words.minus, Words.times, Words.natural, Steps.step_at}
 use Rattle.word_rules.proofs.StepLemmas.{step_at-zero, step_at-more}
 use Rattle.word_rules.specs.Listed.{listed_from}
 use Rattle.word_rules.proofs.ListedLemmas.{listed_from-more}

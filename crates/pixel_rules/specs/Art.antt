@@ -1,8 +1,6 @@
 -- The art of a scene, as functions that give its bytes.
 use Rattle.std.specs.Prelude.{ℕ, ℤ, List}
-use Rattle.pixel_rules.specs.declared.Painter.{Painter}
-use Rattle.pixel_rules.specs.declared.Post.{Post}
-use Rattle.pixel_rules.specs.declared.Source.{Source}
+use Rattle.pixel_rules.specs.{declared.Painter.Painter, declared.Post.Post, declared.Source.Source}
 use Rattle.pixel_rules.specs.declared.TheConstants.{LUMP}
 
 pub record Art : Type 0 where

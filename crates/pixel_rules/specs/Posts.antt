@@ -1,13 +1,9 @@
 -- Posts of a masked column: sprites, masked middles, weapons (R_DrawMaskedColumn, r_things.c).
 use Rattle.std.specs.Prelude.{ℕ, ◌+◌, ℤ, pos, List}
 use Rattle.word_rules.specs.Words.{plus, minus, times, mul, shr_word, fixed, greater_word, lesser_word}
-use Rattle.word_rules.specs.declared.TheConstants.{FRACTION_BITS}
-use Rattle.view_rules.specs.declared.TheConstants.{MAX_FRACTION}
-use Rattle.word_rules.specs.Listed.{joined_lists}
-use Rattle.view_rules.specs.declared.ViewShape.{ViewShape}
-use Rattle.pixel_rules.specs.declared.Painter.{Painter}
-use Rattle.pixel_rules.specs.declared.Post.{Post}
-use Rattle.pixel_rules.specs.Dots.{Dot}
+use Rattle.word_rules.specs.{declared.TheConstants.FRACTION_BITS, Listed.joined_lists}
+use Rattle.view_rules.specs.{declared.TheConstants.MAX_FRACTION, declared.ViewShape.ViewShape}
+use Rattle.pixel_rules.specs.{declared.Painter.Painter, declared.Post.Post, Dots.Dot}
 use Rattle.pixel_rules.specs.Strips.{texel_row, row_fraction, rows_between, column_dots}
 use Rattle.pixel_rules.specs.declared.MaskedColumn.{MaskedColumn}
 

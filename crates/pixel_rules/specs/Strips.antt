@@ -1,14 +1,11 @@
 -- Strips of pixels: some rows of a column, some columns of a row (R_DrawColumn, R_DrawSpan, r_draw.c).
 use Rattle.std.specs.Prelude.{◌≡◌, ℕ, ◌+◌, ◌*◌, ◌/◌, ◌%◌, ◌^◌, ℤ, pos, int_lt, cond, List, [], ◌∷◌, map, slice_index, refl}
 use Rattle.word_rules.specs.Words.{plus, minus, times, shr_word, bits_of, natural, words_unfolded}
-use Rattle.word_rules.specs.declared.TheConstants.{FRACTION_BITS}
-use Rattle.word_rules.specs.Listed.{listed_from}
-use Rattle.word_rules.specs.Steps.{step_at}
+use Rattle.word_rules.specs.{declared.TheConstants.FRACTION_BITS, Listed.listed_from, Steps.step_at}
 use Rattle.view_rules.specs.declared.Spans.{Spans}
 use Rattle.view_rules.specs.declared.Spans.TheVariants.{Full, Packed}
-use Rattle.pixel_rules.specs.declared.Painter.{Painter}
+use Rattle.pixel_rules.specs.{declared.Painter.Painter, Dots.Dot}
 use Rattle.pixel_rules.specs.declared.TheConstants.{TEXEL_ROWS, FLAT_SIDE, MAP_COLOURS}
-use Rattle.pixel_rules.specs.Dots.{Dot}
 
 -- the texel row that a fraction (16.16) stands for
 unfoldable pub texel_row : ℤ → ℕ

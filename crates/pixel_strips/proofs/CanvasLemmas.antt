@@ -1,6 +1,5 @@
 -- A canvas after one dot more.
-use Rattle.word_rules.proofs.Common.{[], ap, List, map, map-range_with_len_more, range_with_len, sym, ℕ, ◌++◌, ◌+◌, ◌∙◌, ◌∷◌, ◌≡◌}
-use Rattle.std.proofs.Common.{set}
+use Rattle.word_rules.proofs.Common.{[], ap, List, map, map-range_with_len_more, range_with_len, sym, ℕ, ◌++◌, ◌+◌, ◌∙◌, ◌∷◌, ◌≡◌, set}
 use Rattle.pixel_strips.specs.Rules.{Dot, Painter, cell_of, column_dots, listed_from, put_dots, span_dots}
 use Rattle.word_rules.proofs.ListedLemmas.{listed_from-length}
 use Rattle.pixel_rules.proofs.DotLemmas.{put_dots-append, put_dots-more, put_dots-none}

@@ -1,6 +1,5 @@
 -- Colours of texels and shades that are cut out.
-use Rattle.word_rules.proofs.Common.{ap, ap₂, arith, FitsSigned, List, of_z, slice_index, to_z, w32, ℕ, ℤ, ◌%◌, ◌*◌, ◌+◌, ◌-◌, ◌/◌, ◌<◌, ◌^◌, ◌∙◌, ◌≡◌}
-use Rattle.std.proofs.lemmas.Int.{to_z-of_z}
+use Rattle.word_rules.proofs.Common.{ap, ap₂, arith, FitsSigned, List, of_z, slice_index, to_z, w32, ℕ, ℤ, ◌%◌, ◌*◌, ◌+◌, ◌-◌, ◌/◌, ◌<◌, ◌^◌, ◌∙◌, ◌≡◌, to_z-of_z}
 use Rattle.pixel_strips.specs.Rules.{FLAT_SIDE, Full, MAP_COLOURS, Packed, Spans, TEXEL_ROWS, column_colour, flat_place, pack, packed_at, packed_place, shade, span_colour, span_place, step_at, texel_row}
 use Rattle.pixel_strips.specs.Strips.{IsWindow, cut_colour, cut_span_colour, strip_colour, row_colour, cut_strip_colour, cut_row_colour}
 

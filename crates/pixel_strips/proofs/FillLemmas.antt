@@ -1,11 +1,9 @@
 -- Laws of `fill_cells`: one cell more, how far a loop is, and that the cells of a strip of a frame are
 -- those of its dots.
-use Rattle.word_rules.proofs.Common.{[], ap, arith, cases_lt, FitsSigned, inl, inr, List, max, of_z, refl, set-set, set_comm, subst, suc, sym, to_z, w32, zero, ℕ, ℤ, ◌*◌, ◌++◌, ◌+◌, ◌-◌, ◌<◌, ◌∙◌, ◌∷◌, ◌≡◌, ◌≢◌, ◌≤◌}
-use Rattle.std.proofs.Common.{set}
+use Rattle.word_rules.proofs.Common.{[], ap, arith, cases_lt, FitsSigned, inl, inr, List, max, of_z, refl, set-set, set_comm, subst, suc, sym, to_z, w32, zero, ℕ, ℤ, ◌*◌, ◌++◌, ◌+◌, ◌-◌, ◌<◌, ◌∙◌, ◌∷◌, ◌≡◌, ◌≢◌, ◌≤◌, set}
 use Rattle.pixel_strips.specs.Rules.{Dot, FRAME_WIDTH, Painter, Spans, cell_of, column_dots, listed_from, put_dots, span_dots, step_at}
 use Rattle.pixel_rules.proofs.DotLemmas.{put_dots-more, put_dots-none}
-use Rattle.pixel_strips.specs.declared.canvas.CutColumn.{CutColumn}
-use Rattle.pixel_strips.specs.declared.canvas.CutSpan.{CutSpan}
+use Rattle.pixel_strips.specs.{declared.canvas.CutColumn.CutColumn, declared.canvas.CutSpan.CutSpan}
 use Rattle.pixel_strips.specs.declared.places.TheConstants.{CARRIES}
 use Rattle.pixel_strips.specs.Canvases.{marked_by_colour, fill_cells}
 use Rattle.pixel_strips.specs.Fills.{ColumnFilled, ColumnFills, Filled, Fills, SpanFilled, SpanFills}

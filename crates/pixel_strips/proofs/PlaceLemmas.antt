@@ -1,8 +1,5 @@
 -- Laws of places: the first one, one step more, and the texel that a place stands for.
-use Rattle.word_rules.proofs.Common.{ap, ap₂, arith, cast_unsigned, FitsSigned, mul-mod_first, mul-suc, negsuc, of_z, of_z-to_z, pos, pow_pos, refl, SFits-int_wrap, subst, subst₂, suc, suc-mul, sym, to_z, w32, wrapping_add_is, zero, ℕ, ℤ, ◌%◌, ◌*◌, ◌+◌, ◌/◌, ◌<◌, ◌^◌, ◌∙◌, ◌≡◌, ◌≤◌}
-use Rattle.std.proofs.Common.{add-mul, mod-lt}
-use native.Mathlib.Nat.{add-mod}
-use Rattle.std.proofs.lemmas.Int.{to_z-of_z}
+use Rattle.word_rules.proofs.Common.{ap, ap₂, arith, cast_unsigned, FitsSigned, mul-mod_first, mul-suc, negsuc, of_z, of_z-to_z, pos, pow_pos, refl, SFits-int_wrap, subst, subst₂, suc, suc-mul, sym, to_z, w32, wrapping_add_is, zero, ℕ, ℤ, ◌%◌, ◌*◌, ◌+◌, ◌/◌, ◌<◌, ◌^◌, ◌∙◌, ◌≡◌, ◌≤◌, add-mul, mod-lt, add-mod, to_z-of_z}
 use lib.IntN.{◌+ℤ◌}
 use Rattle.pixel_strips.specs.Rules.{FLAT_SIDE, FRACTION_BITS, Full, Packed, Spans, bits_of, flat_place, pack, packed_at, packed_place, plus, shr_word, span_place, step_at, texel_row, times}
 use Rattle.word_rules.proofs.StepLemmas.{step_at-zero, step_at-more}

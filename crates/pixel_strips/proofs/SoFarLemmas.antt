@@ -1,11 +1,9 @@
 -- A strip that is painted dot by dot: what stands so far, at its begin, one dot more, and at its end.
-use Rattle.word_rules.proofs.Common.{[], ap, arith, FitsSigned, List, of_z, refl, subst, sym, to_z, w32, ℕ, ℤ, ◌+◌, ◌-◌, ◌∙◌, ◌≡◌, ◌≤◌}
-use Rattle.std.proofs.lemmas.Int.{to_z-of_z}
+use Rattle.word_rules.proofs.Common.{[], ap, arith, FitsSigned, List, of_z, refl, subst, sym, to_z, w32, ℕ, ℤ, ◌+◌, ◌-◌, ◌∙◌, ◌≡◌, ◌≤◌, to_z-of_z}
 use Rattle.pixel_strips.specs.Rules.{Dot, Painter, Spans, plus, span_dots, span_place, step_at}
 use Rattle.word_rules.proofs.StepLemmas.{step_at-zero, step_at-more}
 use Rattle.pixel_strips.specs.Canvases.{CanvasView, with_dot, with_dots}
-use Rattle.pixel_strips.specs.Strips.{column_strip_dots}
-use Rattle.pixel_strips.specs.Places.{IsSpanPlace}
+use Rattle.pixel_strips.specs.{Strips.column_strip_dots, Places.IsSpanPlace}
 use Rattle.pixel_strips.proofs.PlaceLemmas.{plus_fits, span_place-to}
 use Rattle.pixel_strips.proofs.CanvasLemmas.{dots_none, dots_more, rows_dots, rows_none, rows_more, rows_all, span_dot, columns_dots, columns_none, columns_more, columns_all}
 

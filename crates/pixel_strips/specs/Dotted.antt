@@ -1,7 +1,6 @@
 -- A canvas that was given dots, by whatever painters.
 use Rattle.std.specs.Prelude.{◌≡◌, ℕ, List}
-use Rattle.pixel_strips.specs.Rules.{Dot, Painter, put_dots}
-use Rattle.pixel_strips.specs.Canvases.{CanvasView}
+use Rattle.pixel_strips.specs.{Rules.Dot, Rules.Painter, Rules.put_dots, Canvases.CanvasView}
 
 -- it has these dots in order, and stands where it stood; the painter is not told
 pub record HasDots (mark : Painter → ℕ → ℕ) (dots : List Dot) (old new : CanvasView) : Type 0 where

@@ -1,10 +1,8 @@
 -- Strips of a frame that are being filled, one cell after the other.
 use Rattle.std.specs.Prelude.{◌≡◌, ◌≤◌, ℕ, ◌+◌, ◌*◌, ℤ, List, max}
 use Rattle.pixel_strips.specs.Rules.{FRAME_WIDTH, Spans, span_place, step_at}
-use Rattle.pixel_strips.specs.declared.canvas.CutColumn.{CutColumn}
-use Rattle.pixel_strips.specs.declared.canvas.CutSpan.{CutSpan}
-use Rattle.pixel_strips.specs.Canvases.{fill_cells}
-use Rattle.pixel_strips.specs.Strips.{cut_colour, cut_span_colour}
+use Rattle.pixel_strips.specs.{declared.canvas.CutColumn.CutColumn, declared.canvas.CutSpan.CutSpan}
+use Rattle.pixel_strips.specs.{Canvases.fill_cells, Strips.cut_colour, Strips.cut_span_colour}
 
 -- n cells of a strip are set, the k-th at `cell k` to `value k`
 pub record Filled (cell value : ℕ → ℕ) (n : ℕ) (before cells : List ℕ) : Type 0 where

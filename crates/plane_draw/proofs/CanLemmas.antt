@@ -2,11 +2,8 @@
 use Rattle.picture_rules.proofs.Common.{[], All, All-get_or, and_from, ap, arith, Bool, Contains-get_or, false, false≢true, IfSome, inl, inr, IsSome, le-leb, length, List, nat_le, None, Option, refl, Result, slice_index_or, Some, subst, suc, sym, true, zero, ℕ, ℤ, ◌<◌, ◌↔◌, ◌∙◌, ◌∷◌, ◌≡◌, ◌≤◌, ◌⊎◌}
 use Rattle.plane_draw.specs.Rules.{Dot, Flat4, Painter, Plane, ViewShape, ViewValue, column, holds, holds_row, is_sky_key, same_flat, sky_column}
 use Rattle.picture_rules.specs.declared.plane.Flat4.TheVariants as flat
-use Rattle.visplanes.specs.Planes.{no_plane, plane_at}
-use Rattle.visplanes.specs.Spans.{IsSeen}
-use Rattle.texture_build.specs.CacheFault.{CacheFault}
-use Rattle.texture_build.specs.TexNo.{TexNo}
-use Rattle.texture_build.specs.Draws.{CanDraw}
+use Rattle.visplanes.specs.{Planes.no_plane, Planes.plane_at, Spans.IsSeen}
+use Rattle.texture_build.specs.{CacheFault.CacheFault, TexNo.TexNo, Draws.CanDraw}
 use Rattle.texture_build.specs.Paints.{PaintState}
 use Rattle.texture_build.proofs.PaintLemmas.{can_draw-later, slots-later}
 use Rattle.plane_draw.specs.declared.scene.PlaneScene.{PlaneScene}

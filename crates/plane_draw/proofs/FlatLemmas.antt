@@ -5,10 +5,8 @@ use Rattle.pixel_strips.specs.Canvases.{CanvasView, with_dots, with_painter}
 use Rattle.pixel_strips.specs.Dotted.{HasDots, PlacedAlike}
 use Rattle.pixel_strips.proofs.DottedLemmas.{has_dots-painted, placed-has_dots}
 use Rattle.picture_rules.specs.declared.plane.Flat4.TheVariants as flat
-use Rattle.visplanes.specs.Planes.{flat_lump}
-use Rattle.visplanes.specs.Spans.{GivesFlat}
-use Rattle.texture_build.specs.Arts.{view_art}
-use Rattle.texture_build.specs.Views.{TexturesView}
+use Rattle.visplanes.specs.{Planes.flat_lump, Spans.GivesFlat}
+use Rattle.texture_build.specs.{Arts.view_art, Views.TexturesView}
 
 -- the art of a scene gives the bytes of a lump and of the colormap
 gives_flat : (bytes : ℕ → List ℕ) (textures : TexturesView) (colormap lump : ℕ) (own shades : List ℕ) →

@@ -2,17 +2,14 @@
 use Rattle.std.proofs.Common.{◌≡◌, ℕ, List, ◌++◌, [], length, Ok, refl, Result, ◌∙◌}
 use Rattle.plane_draw.specs.Rules.{Dot, Painter, ShelfView, planes_dots}
 use Rattle.pixel_strips.specs.Canvases.{CanvasView}
-use Rattle.texture_build.specs.declared.hands.Hands.{Hands}
-use Rattle.texture_build.specs.Hands.{AreSameHands, hands_state}
+use Rattle.texture_build.specs.{declared.hands.Hands.Hands, Hands.AreSameHands, Hands.hands_state}
 use Rattle.plane_draw.specs.declared.scene.PlaneScene.{PlaneScene}
-use Rattle.texture_build.specs.CacheFault.{CacheFault}
-use Rattle.texture_build.specs.Caches.{cache_fault}
+use Rattle.texture_build.specs.{CacheFault.CacheFault, Caches.cache_fault}
 use Rattle.texture_build.specs.Paints.{PaintState, Paints}
 use Rattle.plane_draw.specs.Planes.{IsFlatOf, IsSkyColumn}
 use Rattle.plane_draw.specs.Scenes.{CanDrawPlanes, HasSky, PaintsPlanes, first_planes, plane_art, plane_tools, with_art}
 use Rattle.texture_build.proofs.PaintLemmas.{paints-asked, paints-none, paints-same, paints-then}
-use Rattle.plane_draw.proofs.CanLemmas.{can_draw_planes-later}
-use Rattle.plane_draw.proofs.PlaneLemmas.{planes-end}
+use Rattle.plane_draw.proofs.{CanLemmas.can_draw_planes-later, PlaneLemmas.planes-end}
 
 pub record KeepsPlanes {S C : Type 0} (shelf : S → ShelfView) (canvas : C → CanvasView) (mark : Painter → ℕ → ℕ) (s : PlaneScene) (dots : List (List ℕ) → ℕ → List Dot) (old new : Hands S C) : Type 0 where
   pub same : AreSameHands old new

@@ -1,12 +1,10 @@
 -- Laws of the dots of planes: one by one, by their flats, and by the art of a scene.
 use Rattle.picture_rules.proofs.Common.{[], ap, append-nil, arith, cases_lt, inl, inr, length, List, map, None, Option, range_with_len, refl, Some, suc, sym, zero, ℕ, ◌++◌, ◌+◌, ◌-◌, ◌<◌, ◌∙◌, ◌∷◌, ◌≡◌, ◌≤◌}
-use Rattle.plane_draw.specs.Rules.{Art, Dot, Flat4, PLANE, Painter, Plane, SKY, Scene, ViewValue, column, column_dots, floor_colour, floor_dots, joined_lists, listed, lump_source, painter_of, plane_dots, plane_dots_by, planes_dots, planes_from, run_dots, sky_colour, sky_column, sky_dots}
+use Rattle.plane_draw.specs.Rules.{Art, Dot, Flat4, Lump, PLANE, Painter, Plane, SKY, Scene, ViewValue, column, column_dots, floor_colour, floor_dots, joined_lists, listed, lump_source, painter_of, plane_dots, plane_dots_by, planes_dots, planes_from, run_dots, sky_colour, sky_column, sky_dots}
 use Rattle.picture_rules.proofs.Laws.{column_dots-none, joined_lists-append, joined_lists-one, listed-more, listed_from-none}
-use Rattle.art_rules.specs.Words.{Lump}
 use Rattle.picture_rules.specs.declared.plane.Flat4.TheVariants as flat
 use Rattle.visplanes.specs.Planes.{plane_at}
-use Rattle.texture_build.specs.Draws.{FitBeside, FitsBeside}
-use Rattle.texture_build.specs.Views.{TexturesView}
+use Rattle.texture_build.specs.{Draws.FitBeside, Draws.FitsBeside, Views.TexturesView}
 use Rattle.texture_build.proofs.BesideLemmas.{fit_beside-append, fit_beside-as, fit_beside-column_dots}
 use Rattle.plane_draw.specs.Scenes.{first_columns, first_planes, sky_run}
 

@@ -1,14 +1,11 @@
 -- Laws of a run of the sky that was painted as a strip of its texture.
 use Rattle.std.proofs.Common.{◌≡◌, ◌∙◌, ℕ, ℤ, IfSome, Result, Some}
 use Rattle.plane_draw.specs.Rules.{Art, Painter, SKY, SKY_MAP, SKY_MID, ViewValue, run_dots, sky_colour, sky_column}
-use Rattle.texture_build.specs.CacheFault.{CacheFault}
-use Rattle.texture_build.specs.TexNo.{TexNo}
-use Rattle.texture_build.specs.Paints.{PaintState}
+use Rattle.texture_build.specs.{CacheFault.CacheFault, TexNo.TexNo, Paints.PaintState}
 use Rattle.texture_build.specs.Strips.{PaintsTexture, texture_colour, texture_dots}
 use Rattle.texture_build.specs.declared.strip.TextureStrip.{TextureStrip}
 use Rattle.texture_build.proofs.PaintLemmas.{paints-asked, paints-same, paints-wider}
-use Rattle.plane_draw.specs.declared.scene.PlaneScene.{PlaneScene}
-use Rattle.plane_draw.specs.Planes.{ShowsSkyAt}
+use Rattle.plane_draw.specs.{declared.scene.PlaneScene.PlaneScene, Planes.ShowsSkyAt}
 use Rattle.plane_draw.specs.Scenes.{PaintsPlanes, plane_art, plane_tools, sky_run}
 use Rattle.plane_draw.proofs.CanLemmas.{sky-among}
 

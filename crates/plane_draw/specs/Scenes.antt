@@ -1,11 +1,9 @@
 -- What stays while planes are drawn, what each call asks, and what it paints.
 use Rattle.std.specs.Prelude.{◌≡◌, ◌≤◌, ◌<◌, ℕ, List, All, IfSome, Option, Result, length}
 use Rattle.plane_draw.specs.Rules.{Art, Dot, Painter, Plane, SKY, Scene, ViewValue, column, joined_lists, listed, lump_bytes, painter_of, plane_dots, run_dots, sky_colour, sky_column}
-use Rattle.texture_build.specs.CacheFault.{CacheFault}
-use Rattle.texture_build.specs.Caches.{cache_fault}
+use Rattle.texture_build.specs.{CacheFault.CacheFault, Caches.cache_fault, Arts.view_art}
 use Rattle.pixel_strips.specs.Standing.{StandsInFrame}
 use Rattle.visplanes.specs.Planes.{plane_at}
-use Rattle.texture_build.specs.Arts.{view_art}
 use Rattle.texture_build.specs.Draws.{CanDraw}
 use Rattle.texture_build.specs.Paints.{PaintState, PaintTools, Paints, paint_tools}
 use Rattle.plane_draw.specs.declared.scene.PlaneScene.{PlaneScene}

@@ -4,9 +4,8 @@ use Rattle.std.specs.Fmt.{signed_decimal}
 use Rattle.art_rules.specs.Words.{DirRefusal, TablesRefusal}
 use Rattle.art_rules.specs.TablesRefusal.TheVariants as tables
 use Rattle.art_rules.specs.DirRefusal.TheVariants as wad
-use Rattle.scene_rules.specs.declared.refusal.ArtRefusal.{ArtRefusal}
+use Rattle.scene_rules.specs.{declared.refusal.ArtRefusal.ArtRefusal, Words.MapRefusal}
 use Rattle.scene_rules.specs.declared.refusal.ArtRefusal.TheVariants as art
-use Rattle.scene_rules.specs.Words.{MapRefusal}
 use Rattle.scene_rules.specs.MapRefusal.TheVariants as map
 use Rattle.art_rules.specs.declared.refusal.TexRefusal.{TexRefusal}
 use Rattle.art_rules.specs.declared.refusal.TexRefusal.TheVariants as texture

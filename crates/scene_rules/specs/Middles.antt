@@ -2,11 +2,8 @@
 use Rattle.std.specs.Prelude.{ℕ, ◌+◌, ◌==◌, ◌&&◌, Bool, not, is_some, List, length, Option, slice_index_or}
 use Rattle.std.specs.List.{list_any, list_all, range_with_len}
 use Rattle.word_rules.specs.Least.{least}
-use Rattle.level_rules.specs.declared.Seg.{Seg}
-use Rattle.level_rules.specs.declared.SideTextures.{SideTextures}
-use Rattle.art_rules.specs.Columns.{is_single}
-use Rattle.art_rules.specs.Textures.{mask_of}
-use Rattle.art_rules.specs.Wanted.{PreparedTexture}
+use Rattle.level_rules.specs.{declared.Seg.Seg, declared.SideTextures.SideTextures}
+use Rattle.art_rules.specs.{Columns.is_single, Textures.mask_of, Wanted.PreparedTexture}
 use Rattle.scene_rules.specs.Sides.{three_textures}
 
 -- the side is that of a seg behind which there is a sector

@@ -3,18 +3,12 @@ use Rattle.std.specs.Prelude.{ℕ, zero, suc, ◌==◌, ◌&&◌, Bool, not, con
 use Rattle.word_rules.specs.Words.{bits_of, minus, times, shl_word}
 use Rattle.word_rules.specs.declared.TheConstants.{FRACTION_BITS, ANG45}
 use Rattle.view_rules.specs.Sides.{side_of}
-use Rattle.level_rules.specs.declared.Thing.{Thing}
-use Rattle.level_rules.specs.declared.Node.{Node}
-use Rattle.level_rules.specs.declared.Sector.{Sector}
-use Rattle.level_rules.specs.declared.Child.{Child}
+use Rattle.level_rules.specs.{declared.Thing.Thing, declared.Node.Node, declared.Sector.Sector}
+use Rattle.level_rules.specs.{declared.Child.Child, declared.PlacedThing.PlacedThing}
 use Rattle.level_rules.specs.declared.Child.TheVariants.{Node as NodeChild, Leaf as LeafChild}
-use Rattle.level_rules.specs.declared.PlacedThing.{PlacedThing}
-use Rattle.level_rules.specs.declared.TheConstants.{MAX_DEPTH}
-use Rattle.level_rules.specs.Levels.{child_on, no_leaf}
-use Rattle.level_rules.specs.walk.Boxes.{partition_of}
-use Rattle.level_rules.specs.maps.Levels.{LevelValue}
-use Rattle.level_rules.specs.declared.ThingRow.{ThingRow}
-use Rattle.level_rules.specs.declared.ThingLine.{ThingLine}
+use Rattle.level_rules.specs.{declared.TheConstants.MAX_DEPTH, Levels.child_on, Levels.no_leaf}
+use Rattle.level_rules.specs.{walk.Boxes.partition_of, maps.Levels.LevelValue}
+use Rattle.level_rules.specs.{declared.ThingRow.ThingRow, declared.ThingLine.ThingLine}
 use Rattle.level_rules.specs.Types.{row_of}
 use Rattle.art_rules.specs.declared.shapes.Need.{Need}
 use Rattle.scene_rules.specs.declared.Placed.{Placed}

@@ -3,8 +3,7 @@ use Rattle.std.specs.Prelude.{ℕ, ◌+◌, nat_le, cond, List, [], take, map, O
 use Rattle.std.specs.Option.{option_and_then, ok_or}
 use Rattle.outside.specs.Faults.{and_then, from_below}
 use Rattle.lump_rules.specs.declared.wad.Lump.{Lump}
-use Rattle.lump_rules.specs.Lookups.{last_of, map_of, lump_at}
-use Rattle.lump_rules.specs.Contents.{named_bytes}
+use Rattle.lump_rules.specs.{Lookups.last_of, Lookups.map_of, Lookups.lump_at, Contents.named_bytes}
 use Rattle.level_rules.specs.declared.SideTextures.{SideTextures}
 use Rattle.level_rules.specs.declared.maps.refusal.MapRefusal.{MapRefusal}
 use Rattle.level_rules.specs.declared.maps.refusal.MapRefusal.TheVariants.{NoMap}
@@ -17,22 +16,18 @@ use Rattle.art_rules.specs.Textures.{TextureLists, texture_lists}
 use Rattle.art_rules.specs.Wanted.{PreparedTexture, prepared_textures}
 use Rattle.art_rules.specs.declared.shapes.Frame.{Frame}
 use Rattle.art_rules.specs.Books.{each_of, frame_of, first_needs, book_lumps}
-use Rattle.scene_rules.specs.declared.SectorFlats.{SectorFlats}
-use Rattle.scene_rules.specs.declared.Placed.{Placed}
-use Rattle.scene_rules.specs.declared.ZoneSizes.{ZoneSizes}
+use Rattle.scene_rules.specs.{declared.SectorFlats.SectorFlats, declared.Placed.Placed}
+use Rattle.scene_rules.specs.{declared.ZoneSizes.ZoneSizes, declared.refusal.ArtRefusal.ArtRefusal}
 use Rattle.scene_rules.specs.declared.TheConstants.{COLORMAP, COLORMAP_SIZE, PLAYPAL, PALETTE_SIZE}
-use Rattle.scene_rules.specs.declared.refusal.ArtRefusal.{ArtRefusal}
 use Rattle.scene_rules.specs.declared.refusal.ArtRefusal.TheVariants.{Colormap, Playpal}
 use Rattle.scene_rules.specs.declared.refusal.SceneRefusal.{SceneRefusal}
 use Rattle.scene_rules.specs.declared.refusal.SceneRefusal.TheVariants.{Shadow, Middle}
-use Rattle.scene_rules.specs.declared.refusal.AuditRefusal.{AuditRefusal}
+use Rattle.scene_rules.specs.{declared.refusal.AuditRefusal.AuditRefusal, Numbered.refuse_if}
 use Rattle.scene_rules.specs.declared.refusal.AuditRefusal.TheVariants.{Art, Map, Texture, Sprite, Scene}
-use Rattle.scene_rules.specs.Numbered.{refuse_if}
 use Rattle.scene_rules.specs.SectorFlats.{sector_flats}
 use Rattle.scene_rules.specs.Sides.{side_textures, sky_texture, is_wanted_texture}
 use Rattle.scene_rules.specs.Places.{placed_things, need_of, first_shadow}
-use Rattle.scene_rules.specs.Middles.{bad_middle}
-use Rattle.scene_rules.specs.Sizes.{SceneArt, zone_sizes}
+use Rattle.scene_rules.specs.{Middles.bad_middle, Sizes.SceneArt, Sizes.zone_sizes}
 
 -- the lump of that number, where it has at least so many bytes
 abbrev pub if_long : List Lump → ℕ → ℕ → Option ℕ

@@ -2,18 +2,14 @@
 -- R_FlatNumForName, r_data.c).
 use Rattle.std.specs.Prelude.{ℕ, cond, List, [], ◌∷◌, Option, Some, Result, option_map}
 use Rattle.std.specs.Option.{option_and_then}
-use Rattle.lump_rules.specs.declared.wad.Lump.{Lump}
-use Rattle.lump_rules.specs.Lookups.{flat_of}
-use Rattle.level_rules.specs.declared.Sector.{Sector}
-use Rattle.level_rules.specs.declared.Surface.{Surface}
+use Rattle.lump_rules.specs.{declared.wad.Lump.Lump, Lookups.flat_of}
+use Rattle.level_rules.specs.{declared.Sector.Sector, declared.Surface.Surface}
 use Rattle.level_rules.specs.declared.TheConstants.{SKY_FLAT}
-use Rattle.scene_rules.specs.declared.Flat.{Flat}
+use Rattle.scene_rules.specs.{declared.Flat.Flat, declared.SectorFlats.SectorFlats}
 use Rattle.scene_rules.specs.declared.Flat.TheVariants.{Sky, Lump as LumpFlat}
-use Rattle.scene_rules.specs.declared.SectorFlats.{SectorFlats}
 use Rattle.scene_rules.specs.declared.refusal.SceneRefusal.{SceneRefusal}
 use Rattle.scene_rules.specs.declared.refusal.SceneRefusal.TheVariants.{SectorFlat}
-use Rattle.scene_rules.specs.Numbered.{each_or}
-use Rattle.scene_rules.specs.Skies.{is_sky_name}
+use Rattle.scene_rules.specs.{Numbered.each_or, Skies.is_sky_name}
 
 -- what a name of a flat means: the sky, or the last flat of that name
 unfoldable pub lump_flat : ℕ → Flat

@@ -3,13 +3,11 @@
 use Rattle.std.specs.Prelude.{ℕ, ◌==◌, ◌&&◌, ◌||◌, Bool, false, not, cond, List, Option, Some, None, Result, Ok, Err, option_map}
 use Rattle.std.specs.List.{list_any}
 use Rattle.std.specs.Option.{option_and_then, option_map_or}
-use Rattle.level_rules.specs.declared.Side.{Side}
-use Rattle.level_rules.specs.declared.Sector.{Sector}
+use Rattle.level_rules.specs.{declared.Side.Side, declared.Sector.Sector}
 use Rattle.level_rules.specs.declared.SideTextures.{SideTextures}
 use Rattle.art_rules.specs.Textures.{Texture, texture_number}
-use Rattle.scene_rules.specs.declared.refusal.SceneRefusal.{SceneRefusal}
+use Rattle.scene_rules.specs.{declared.refusal.SceneRefusal.SceneRefusal, Numbered.each_or}
 use Rattle.scene_rules.specs.declared.refusal.SceneRefusal.TheVariants.{SideTexture, SkyTexture}
-use Rattle.scene_rules.specs.Numbered.{each_or}
 use Rattle.scene_rules.specs.Skies.{sky_name, has_sky}
 
 unfoldable pub three_textures : ℕ → ℕ → ℕ → SideTextures

@@ -2,16 +2,12 @@
 use Rattle.std.specs.Prelude.{ℕ, ◌+◌, ◌*◌, ◌==◌, ◌||◌, ◌&&◌, Bool, false, cond, nat_lt, nat_le, max, List, [], ◌∷◌, length, filter, sum_by, Option, Some, None}
 use Rattle.std.specs.List.{list_any, range_with_len}
 use Rattle.std.specs.Option.{option_map_or}
-use Rattle.lump_rules.specs.declared.wad.Lump.{Lump}
-use Rattle.lump_rules.specs.declared.names.TheConstants.{MAP_LUMPS}
+use Rattle.lump_rules.specs.{declared.wad.Lump.Lump, declared.names.TheConstants.MAP_LUMPS}
 use Rattle.lump_rules.specs.Lookups.{last_of, lump_at}
-use Rattle.zone_rules.specs.declared.TheConstants.{MIN_FRAGMENT}
-use Rattle.zone_rules.specs.Zones.{block_size}
+use Rattle.zone_rules.specs.{declared.TheConstants.MIN_FRAGMENT, Zones.block_size}
 use Rattle.art_rules.specs.declared.TheConstants.{PNAMES, TEXTURE1, TEXTURE2}
-use Rattle.art_rules.specs.Columns.{composite_size}
-use Rattle.art_rules.specs.Wanted.{PreparedTexture, is_patch_of_any}
-use Rattle.scene_rules.specs.declared.SectorFlats.{SectorFlats}
-use Rattle.scene_rules.specs.declared.ZoneSizes.{ZoneSizes}
+use Rattle.art_rules.specs.{Columns.composite_size, Wanted.PreparedTexture, Wanted.is_patch_of_any}
+use Rattle.scene_rules.specs.{declared.SectorFlats.SectorFlats, declared.ZoneSizes.ZoneSizes}
 use Rattle.scene_rules.specs.SectorFlats.{flat_number}
 
 -- what a scene takes from the directory: its lumps of colours, the label of its map, its prepared

@@ -2,8 +2,7 @@
 use Rattle.art_rules.proofs.Common.{any-contains, ap, arith, Contains, Contains-append_cases, Contains-append_left, Contains-append_right, inl, inr, length, List, list_any, map-append, nat_tests, refl, same_from_decides, subst, sym, true, ℕ, ◌++◌, ◌==◌, ◌||◌, ◌↔◌, ◌∙◌, ◌≡◌, ◌⊎◌}
 use Rattle.texture_build.proofs.MarkLemmas.{filter_same}
 use Rattle.sound_scene.specs.Rules.{Frame, Lump, LumpNo, SceneValue, ZoneSizes, art_of, book_lumps, enough, has_flat, is_list, is_map_lump, is_needed, is_patch_of_any, needed_lumps, roomy, sizes_of, zone_sizes}
-use Rattle.sound_scene.specs.Views.{lump_numbers}
-use Rattle.sound_scene.specs.Sound.{SoundValue, art_with, with_book}
+use Rattle.sound_scene.specs.{Views.lump_numbers, Sound.SoundValue, Sound.art_with, Sound.with_book}
 
 -- lists with the same members
 abbrev pub HaveSame : List ℕ → List ℕ → Type 0

@@ -1,8 +1,7 @@
 -- Laws of the sizes of a zone: the greatest and the sum of blocks, one more block at a time.
 use Rattle.art_rules.proofs.Common.{[], All, All-cons, All-filter, All-head, All-nil, All-tail, ap, arith, cases_lt, false, get_or, get_or-range_with_len, get_or_past, inl, inr, is_some, IsStrictlyIncreasing, IsStrictlyIncreasing-filter, length, length-map, length-range_with_len, List, map, max, None, Option, range_with_len, refl, slice_index, Some, subst, suc, sum_by, sum_by_more, sym, take, take_all, true, unwrap_or, zero, ℕ, ◌*◌, ◌+◌, ◌<◌, ◌∙◌, ◌∷◌, ◌≡◌, ◌≤◌, ◌⊎◌}
 use Rattle.sound_scene.specs.Rules.{Lump, LumpNo, MIN_FRAGMENT, PreparedTexture, SceneArt, block_or_none, composite_block, enough, greatest_by, is_needed, lump_block, needed_lumps, roomy, zone_sizes}
-use Rattle.texture_build.specs.Asked.{size_of}
-use Rattle.texture_build.specs.Views.{unprepared}
+use Rattle.texture_build.specs.{Asked.size_of, Views.unprepared}
 use Rattle.sound_scene.specs.Views.{lump_numbers}
 
 max_none : (a : ℕ) → max a 0 ≡ max 0 a

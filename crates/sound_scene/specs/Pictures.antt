@@ -1,7 +1,6 @@
 -- What a picture is made from: of a scene that passed its audit, and of the bytes of lumps.
 use Rattle.std.specs.Prelude.{ℕ, List, option_map, unwrap_or}
-use Rattle.picture_rules.specs.Words.{LevelLists, Scene}
-use Rattle.picture_rules.specs.declared.sprite.Shape5.{Shape5}
+use Rattle.picture_rules.specs.{Words.LevelLists, Words.Scene, declared.sprite.Shape5.Shape5}
 use Rattle.sound_scene.specs.Rules.{SceneValue, Shape, picked, surfaces_of, texture_at, things_of}
 use Rattle.texture_build.specs.Arts.{view_art}
 use Rattle.sound_scene.specs.Sound.{middles_of, textures_view}

@@ -2,8 +2,7 @@
 use Rattle.std.specs.Prelude.{option_map}
 use Rattle.texture_build.specs.TexNo.{TexNo}
 use Rattle.scene_rules.specs.Words.{Faces, SceneValue}
-use Rattle.sound_scene.specs.Bases.{base_of}
-use Rattle.sound_scene.specs.declared.parts.ReadFaces.{ReadFaces}
+use Rattle.sound_scene.specs.{Bases.base_of, declared.parts.ReadFaces.ReadFaces}
 use Rattle.sound_scene.specs.declared.parts.ReadScene.{ReadScene}
 
 abbrev pub faces_of : ReadFaces → Faces

@@ -1,10 +1,8 @@
 -- One call after another, by what is told of each and what was read so far.
 use Rattle.art_rules.proofs.Common.{ap, Err, err_from_is_err_and, IfErr, IfOk, IfSome, IsErrAnd, List, MatchResult, None, Ok, Option, refl, replicate, Result, slice_index_or, Some, subst, suc, sym, zero, ℕ, ◌∙◌, ◌≡◌}
 use Rattle.sprite_book.specs.Rules.{Fault, FaultFits, HasCauseAt, OutOfMemory, Patch, Refused, ShelfView, SpriteRefusal, itself, lump_bytes, patch_of}
-use Rattle.lump_cache.specs.Zones.{Heap}
-use Rattle.lump_cache.specs.Orders.{KeepsOrder}
+use Rattle.lump_cache.specs.{Zones.Heap, Orders.KeepsOrder, DirectoryView.DirectoryView}
 use Rattle.zone_rules.proofs.OrderLemmas.{order_none, order_then}
-use Rattle.lump_cache.specs.DirectoryView.{DirectoryView}
 use Rattle.lump_cache.specs.Calls.{ReadsLumps, PreservesCache, IsFullFor, IfFull, InOrderAt}
 use Rattle.lump_cache.proofs.CallLemmas.{keeps_none, keeps_then, told_later, full_for_earlier, cause_later, full_at, order_at, reads_at}
 use Rattle.sprite_book.specs.Calls.{Reads, HoldContentsWith, ArePatchesOf}

@@ -1,6 +1,5 @@
 -- The shapes of a frame, one picture after another, and the lumps of its pictures.
-use Rattle.art_rules.proofs.Common.{[], All, All-append, All-cons, All-head, All-nil, All-tail, ap, Bool, cond, drop, drop-cons, Err, false, get_or, length, List, map, map-append, None, Ok, ok_or, Option, range_with_len, refl, Result, Some, subst, suc, sym, take, take-append-drop, take_more, take_more_set, true, ℕ, ◌++◌, ◌+◌, ◌-◌, ◌<◌, ◌==◌, ◌∙◌, ◌∷◌, ◌≡◌}
-use Rattle.std.proofs.Math.ListN.{set}
+use Rattle.art_rules.proofs.Common.{[], All, All-append, All-cons, All-head, All-nil, All-tail, ap, Bool, cond, drop, drop-cons, Err, false, get_or, length, List, map, map-append, None, Ok, ok_or, Option, range_with_len, refl, Result, Some, subst, suc, sym, take, take-append-drop, take_more, take_more_set, true, ℕ, ◌++◌, ◌+◌, ◌-◌, ◌<◌, ◌==◌, ◌∙◌, ◌∷◌, ◌≡◌, set}
 use Rattle.sprite_book.specs.Rules.{Frame, Lump, Mention, MissingRotation, Need, Outline, Patch, SECOND_PAIR_AT, SPRITE_LETTERS, Shape, SpriteRefusal, Sprites, and_then, each_of, frame_in, frame_of, frame_picture, is_of_frame, is_of_rotation, is_of_sprite, is_pair, joined_lists, last_mention, last_that, lump_at, lump_mentions, members, mention_at, mention_outline, mentions, name_mentions, or_else, outline, outline_in, outline_of, patch_or_bad, picture_by, picture_if, picture_or_missing, pictures_of, shape_in, shape_of, shape_outline}
 use Rattle.art_rules.proofs.EachLemmas.{each_of-push, each_of-stop}
 use Rattle.sprite_book.proofs.MentionLemmas.{members_below}

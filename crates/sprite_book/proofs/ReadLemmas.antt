@@ -1,9 +1,7 @@
 -- What a fetched lump is, as a patch.
-use Rattle.art_rules.proofs.Common.{ap, cases_eq, Err, get_or, get_or-set_other, get_or-set_same, IfSome, inl, inr, IsErrAnd, length, length-set, List, None, Ok, ok_or, Option, refl, Result, slice_index_or, Some, subst, sym, ℕ, ◌<◌, ◌∙◌, ◌≡◌, ◌⊎◌}
-use Rattle.std.proofs.Math.ListN.{set}
+use Rattle.art_rules.proofs.Common.{ap, cases_eq, Err, get_or, get_or-set_other, get_or-set_same, IfSome, inl, inr, IsErrAnd, length, length-set, List, None, Ok, ok_or, Option, refl, Result, slice_index_or, Some, subst, sym, ℕ, ◌<◌, ◌∙◌, ◌≡◌, ◌⊎◌, set}
 use Rattle.sprite_book.specs.Rules.{BadPatch, Fault, Patch, Refused, ShelfView, SpriteRefusal, itself, lump_bytes, patch_of, patch_or_bad}
-use Rattle.lump_cache.specs.Zones.{Heap}
-use Rattle.lump_cache.specs.DirectoryView.{DirectoryView}
+use Rattle.lump_cache.specs.{Zones.Heap, DirectoryView.DirectoryView}
 use Rattle.lump_cache.specs.Calls.{ReadsLumps, HoldContents}
 use Rattle.lump_cache.proofs.CallLemmas.{reads_stop_first, reads_then_found, reads_then_refused}
 use Rattle.sprite_book.specs.Calls.{Reads, ArePatchesOf}

@@ -1,8 +1,7 @@
 -- Laws of `FitBeside`: none, one list after the other, and the dots of a column by one painter.
 use Rattle.std.proofs.Common.{◌≡◌, ℕ, List, [], ◌∷◌, ◌++◌, subst}
 use Rattle.art_rules.specs.Words.{column_dots, Dot, Lump, Painter}
-use Rattle.texture_build.specs.Views.{TexturesView}
-use Rattle.texture_build.specs.Draws.{FitsBeside, FitBeside}
+use Rattle.texture_build.specs.{Views.TexturesView, Draws.FitsBeside, Draws.FitBeside}
 
 module _ (lumps : List Lump) (textures : TexturesView) (colormap count zone : ℕ) where
   pub fit_beside-none : FitBeside lumps textures colormap count zone []

@@ -3,10 +3,9 @@ use Rattle.art_rules.proofs.Common.{[], ap, arith, Contains, Err, err_from_is_er
 use Rattle.texture_build.specs.Rules.{FaultsRose, HasCauses, Lump, PlacedPatch, PreparedTexture, ResultIs, ShelfView, lump_at}
 use Rattle.art_rules.proofs.Laws.{all_stand_later, follows_then}
 use Rattle.lump_cache.specs.Zones.{Owner, Heap, owned_block, block_size, same_owner}
-use Rattle.lump_cache.specs.Orders.{Item, KeepsOrder}
+use Rattle.lump_cache.specs.{Orders.Item, Orders.KeepsOrder, DirectoryView.DirectoryView}
 use Rattle.lump_cache.proofs.GapLemmas.{small_all}
 use Rattle.zone_rules.proofs.OrderLemmas.{order_then}
-use Rattle.lump_cache.specs.DirectoryView.{DirectoryView}
 use Rattle.lump_cache.specs.declared.fault.CacheFault.{CacheFault}
 use Rattle.lump_cache.specs.declared.fault.CacheFault.TheVariants.{ZoneFull, ReadFault}
 use Rattle.lump_cache.specs.Caches.{HasAsked, IsAtRestExcept, IsPinned, KeepsCounts, NoRoom, WhereFull, cache_fault, composite_owner, lump_owner}

@@ -2,8 +2,7 @@
 use Rattle.art_rules.proofs.Common.{ap, Err, err_from_is_err_and, inl, inr, IsErrAnd, IsTrue, List, MatchResult, Ok, OnOk, refl, Result, subst, sym, ℕ, ℤ, ◌∙◌, ◌≡◌, ◌⊎◌}
 use Rattle.art_rules.specs.Words.{Fault, fault_above, HasCauseAt, OutOfMemory, ReadFault, Refused, ShelfView, ZoneFull}
 use Rattle.art_rules.proofs.Laws.{all_stand_later, follows_none, follows_then}
-use Rattle.lump_cache.specs.Zones.{Heap, block_size}
-use Rattle.lump_cache.specs.Orders.{Item, KeepsOrder}
+use Rattle.lump_cache.specs.{Zones.Heap, Zones.block_size, Orders.Item, Orders.KeepsOrder}
 use Rattle.zone_rules.proofs.OrderLemmas.{order_none, order_then}
 use Rattle.lump_cache.specs.DirectoryView.{DirectoryView}
 use Rattle.lump_cache.specs.Calls.{HoldContents, IfFull, InOrderAt, IsFullFor}

@@ -4,12 +4,10 @@ use Rattle.texture_build.specs.Rules.{Composed, Lump, PreparedTexture}
 use Rattle.lump_cache.specs.Zones.{Owner, Holding, Heap, IsLive, bytes_of, holding_of}
 use Rattle.lump_cache.specs.Orders.{Item, IsInOrder, KeepsOrder, is_live}
 use Rattle.zone_rules.proofs.OrderLemmas.{order_then}
-use Rattle.lump_cache.specs.declared.fault.CacheFault.{CacheFault}
+use Rattle.lump_cache.specs.{declared.fault.CacheFault.CacheFault, Tag.TheVariants.Cache}
 use Rattle.lump_cache.specs.declared.fault.CacheFault.TheVariants.{ZoneFull, ReadFault}
 use Rattle.lump_cache.specs.Caches.{cache_fault, composite_owner, release_heap, released_heap}
-use Rattle.lump_cache.specs.Tag.TheVariants.{Cache}
-use Rattle.lump_cache.proofs.FaithLemmas.{unless_static_bytes}
-use Rattle.lump_cache.proofs.OrderLemmas.{live_unless_static}
+use Rattle.lump_cache.proofs.{FaithLemmas.unless_static_bytes, OrderLemmas.live_unless_static}
 use Rattle.lump_cache.specs.Calls.{IfFull, InOrderAt}
 use Rattle.art_rules.proofs.LookupLemmas.{composite_of_first-none, composite_of_first-all}
 use Rattle.texture_build.specs.Asked.{IsGapBesideComposite, IsFullForColumn, size_of}

@@ -1,19 +1,15 @@
 -- What a composite that is being built is, where its bytes or other blocks change.
 use Rattle.art_rules.proofs.Common.{[], ap, Bool, cond, cond-true, false, IsSome, length, List, map, None, Option, option_and_then, option_map, refl, Some, subst, sym, true, ℕ, ◌==◌, ◌∙◌, ◌∷◌, ◌≡◌}
 use Rattle.art_rules.specs.Words.{Lump}
-use Rattle.lump_cache.specs.Tag.TheVariants.{Level}
+use Rattle.lump_cache.specs.{Tag.TheVariants.Level, Frees.write_block, Frees.write_holding}
 use Rattle.lump_cache.specs.Zones.{Owner, Holding, Block, Heap, IsLive, is_held_by, owned_block, bytes_of, same_owner, pins}
-use Rattle.lump_cache.specs.Frees.{write_block, write_holding}
 use Rattle.lump_cache.specs.Orders.{Item, IsInOrder, KeepsOrder}
 use Rattle.lump_cache.proofs.OwnerLemmas.{owned_block-map, write_held}
-use Rattle.lump_cache.proofs.OrderChangeLemmas.{order_written}
+use Rattle.lump_cache.proofs.{OrderChangeLemmas.order_written, CallLemmas.bytes_then}
 use Rattle.lump_cache.specs.Caches.{HasAsked, HasBlock, HasUse, IsAsked, IsAtRestExcept, IsFaithful, IsFilled, IsPinned, KeepsCounts, KeptOrPurged, composite_owner}
-use Rattle.lump_cache.proofs.CallLemmas.{bytes_then}
-use Rattle.lump_cache.proofs.FaithLemmas.{bytes_in}
-use Rattle.lump_cache.proofs.FillLemmas.{filled_others}
+use Rattle.lump_cache.proofs.{FaithLemmas.bytes_in, FillLemmas.filled_others}
 use Rattle.lump_cache.proofs.RestButLemmas.{rest_but_written, written_pinned}
-use Rattle.lump_cache.proofs.WriteLemmas.{write_faithful}
-use Rattle.lump_cache.proofs.FetchLemmas.{others_keep}
+use Rattle.lump_cache.proofs.{WriteLemmas.write_faithful, FetchLemmas.others_keep}
 use Rattle.texture_build.specs.Builds.{IsBuilding, OthersKeep}
 
 -- a block that has what was asked for is live

@@ -5,12 +5,9 @@ use Rattle.lump_cache.specs.Zones.{Owner, Holding, Block, Heap, IsLive, bytes_of
 use Rattle.lump_cache.specs.DirectoryView.{DirectoryView}
 use Rattle.lump_cache.specs.Caches.{IsStatic, composite_owner, lump_owner}
 use Rattle.lump_cache.specs.Calls.{HoldContents}
-use Rattle.lump_cache.proofs.FetchLemmas.{live_faithful}
-use Rattle.lump_cache.proofs.SizeLemmas.{sizes_told}
+use Rattle.lump_cache.proofs.{FetchLemmas.live_faithful, SizeLemmas.sizes_told}
 use Rattle.art_rules.proofs.LookupLemmas.{composite_size-length}
-use Rattle.texture_build.specs.Arts.{lookup_source}
-use Rattle.texture_build.specs.Composites.{composite_of}
-use Rattle.texture_build.specs.Asked.{size_of}
+use Rattle.texture_build.specs.{Arts.lookup_source, Composites.composite_of, Asked.size_of}
 use Rattle.texture_build.specs.Sources.{ColumnView, IsColumnThere, IsLentBeside, column_from, column_view}
 use Rattle.texture_build.specs.Views.{TexturesView, IsPrepared, prepared_at, prepared_texture}
 use Rattle.texture_build.specs.Draws.{HoldsArt, FitsBeside}

@@ -1,20 +1,14 @@
 -- A texture column or a lump that was made live, as a call that draws.
 use Rattle.art_rules.proofs.Common.{Bool, Err, IfErr, inl, inr, IsTrue, length, List, Ok, refl, Result, subst, sym, ℕ, ℤ, ◌<◌, ◌≡◌, ◌⊎◌}
 use Rattle.texture_build.specs.Rules.{ColumnLookup, Fault, FaultFits, Lump, OutOfMemory, ReadFault, Refused, ResultIs, ShelfView, ZoneFull, lump_bytes}
-use Rattle.lump_cache.specs.Tag.TheVariants.{Cache}
-use Rattle.lump_cache.specs.Zones.{Heap}
-use Rattle.lump_cache.specs.DirectoryView.{DirectoryView}
+use Rattle.lump_cache.specs.{Tag.TheVariants.Cache, Zones.Heap, DirectoryView.DirectoryView}
 use Rattle.lump_cache.specs.declared.fault.CacheFault.{CacheFault}
 use Rattle.lump_cache.specs.Caches.{cache_fault, composite_owner}
-use Rattle.lump_cache.specs.Calls.{IfFull, IsFullFor}
-use Rattle.lump_cache.specs.Fetches.{FetchesLump}
-use Rattle.lump_cache.proofs.CallLemmas.{full_at}
-use Rattle.lump_cache.proofs.FetchLemmas.{fetch_reads}
-use Rattle.texture_build.specs.Asked.{HasColumnAsked, IsFullForColumn}
-use Rattle.texture_build.specs.Sources.{column_in}
-use Rattle.texture_build.specs.Views.{TexturesView, prepared_texture}
+use Rattle.lump_cache.specs.{Calls.IfFull, Calls.IsFullFor, Fetches.FetchesLump}
+use Rattle.lump_cache.proofs.{CallLemmas.full_at, FetchLemmas.fetch_reads}
+use Rattle.texture_build.specs.{Asked.HasColumnAsked, Asked.IsFullForColumn, Sources.column_in}
+use Rattle.texture_build.specs.{Views.TexturesView, Views.prepared_texture, Ready.MakesColumnLive}
 use Rattle.texture_build.specs.Draws.{IsNoReadFault, IsFullForTexture, KeepsArt, DrawsWith}
-use Rattle.texture_build.specs.Ready.{MakesColumnLive}
 use Rattle.texture_build.proofs.ReadyLemmas.{composites_kept}
 
 no_read-fits : {A R : Type 0} (steady : Bool) (expected : Result A R) (fault : Fault R) →

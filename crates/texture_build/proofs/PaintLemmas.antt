@@ -1,15 +1,12 @@
 -- Laws of a call that paints: nothing, one after the other, an error, the same dots by other words, what was made live first.
 use Rattle.std.proofs.Common.{◌≡◌, ◌≤◌, ◌<◌, ℕ, ℤ, Bool, true, false, List, ◌++◌, [], Result, Ok, Err, IsErrAnd, OnOk, sym, subst}
 use Rattle.art_rules.specs.Words.{Dot, Fault, fault_above, Lump, Painter, ShelfView}
-use Rattle.lump_cache.specs.Zones.{Heap}
-use Rattle.lump_cache.specs.Caches.{KeepsCounts}
+use Rattle.lump_cache.specs.{Zones.Heap, Caches.KeepsCounts}
 use Rattle.lump_cache.proofs.FillLemmas.{on_ok}
-use Rattle.pixel_strips.specs.Canvases.{CanvasView}
-use Rattle.pixel_strips.specs.Dotted.{HasDots, PlacedAlike}
+use Rattle.pixel_strips.specs.{Canvases.CanvasView, Dotted.HasDots, Dotted.PlacedAlike}
 use Rattle.pixel_strips.proofs.DottedLemmas.{has_dots-none, has_dots-append, placed-none, placed-then}
-use Rattle.texture_build.specs.Draws.{CanDraw, DrawsWith, KeepsArt}
+use Rattle.texture_build.specs.{Draws.CanDraw, Draws.DrawsWith, Draws.KeepsArt, Views.TexturesView}
 use Rattle.texture_build.specs.Paints.{FitIn, Holds, HoldsIf, PaintState, PaintTools, Paints, paint_state}
-use Rattle.texture_build.specs.Views.{TexturesView}
 use Rattle.texture_build.proofs.BesideLemmas.{fit_beside-append}
 use Rattle.texture_build.proofs.DrawLemmas.{IsMapped, draws-mapped, draws-none, draws-stop, draws-then, draws-value, draws-wider, holds_art-later, holds_contents-later, on_ok-mapped}
 

@@ -1,11 +1,8 @@
 -- A texture that is prepared, and all wanted textures one after the other.
-use Rattle.art_rules.proofs.Common.{[], All, ap, arith, Bool, cases_lt, cond, drop, eq-eqb, Err, false, false≢true, get_or, get_or-append, get_or-append_seam, get_or-eq_default, get_or-replicate, IfErr, IfOk, IfSome, inl, inr, is_some, IsNone, IsSome, length, length-append, length-map, length-replicate, length-take-le, List, list_any_at, list_any_none, map, nat_lt, nat_tests, None, Ok, Option, option_map, refl, replicate, Result, slice_get-get_or, Some, split_at, subst, suc, sym, take, take_all, take_more, true, zero, ℕ, ◌++◌, ◌+◌, ◌-◌, ◌<◌, ◌==◌, ◌↔◌, ◌∙◌, ◌∷◌, ◌≡◌, ◌≤◌}
-use Rattle.std.proofs.lemmas.List.{get_or-map}
+use Rattle.art_rules.proofs.Common.{[], All, ap, arith, Bool, cases_lt, cond, drop, eq-eqb, Err, false, false≢true, get_or, get_or-append, get_or-append_seam, get_or-eq_default, get_or-replicate, IfErr, IfOk, IfSome, inl, inr, is_some, IsNone, IsSome, length, length-append, length-map, length-replicate, length-take-le, List, list_any_at, list_any_none, map, nat_lt, nat_tests, None, Ok, Option, option_map, refl, replicate, Result, slice_get-get_or, Some, split_at, subst, suc, sym, take, take_all, take_more, true, zero, ℕ, ◌++◌, ◌+◌, ◌-◌, ◌<◌, ◌==◌, ◌↔◌, ◌∙◌, ◌∷◌, ◌≡◌, ◌≤◌, get_or-map}
 use Rattle.texture_build.specs.Rules.{ColumnLookup, Empty, Fault, Lump, MAX_COMPOSITE, PlacedPatch, PreparedTexture, Refused, ShelfView, TexRefusal, Texture, TextureLists, TooBig, and_then, column_lookups, composite_size, itself, last_of, lookup_of, patches_in, placed_patches, prepared, prepared_from, prepared_if, prepared_textures, texture_at, texture_of, unless_missing, unless_too_big, unlisted}
 use Rattle.art_rules.proofs.Laws.{listed-all}
-use Rattle.lump_cache.specs.Zones.{Heap}
-use Rattle.lump_cache.specs.DirectoryView.{DirectoryView}
-use Rattle.lump_cache.specs.Calls.{ReadsLumps}
+use Rattle.lump_cache.specs.{Zones.Heap, DirectoryView.DirectoryView, Calls.ReadsLumps}
 use Rattle.lump_cache.proofs.CallLemmas.{reads_as, reads_then_refused}
 use Rattle.patch_columns.specs.Seen.{seen_lookup, seen_lookups}
 use Rattle.texture_lists.specs.declared.number.TexNo.{TexNo}

@@ -2,22 +2,16 @@
 use Rattle.art_rules.proofs.Common.{Bool, eqb-true, Err, false, IfErr, IfSome, inl, length, List, None, Ok, OnErr, OnOk, Option, refl, Result, Some, subst, sym, true, ℕ, ◌<◌, ◌==◌, ◌≡◌}
 use Rattle.texture_build.specs.Rules.{Lump, PreparedTexture, ShelfView, Single, lump_at, lump_bytes}
 use Rattle.lump_cache.specs.Zones.{Block, Heap, IsLive, block_size, bytes_of, owned_block}
-use Rattle.lump_cache.specs.DirectoryView.{DirectoryView}
-use Rattle.lump_cache.specs.declared.fault.CacheFault.{CacheFault}
+use Rattle.lump_cache.specs.{DirectoryView.DirectoryView, declared.fault.CacheFault.CacheFault}
 use Rattle.lump_cache.specs.declared.fault.CacheFault.TheVariants.{ZoneFull, ReadFault}
 use Rattle.lump_cache.specs.Caches.{IsAtRest, KeptOrPurged, NoRoom, WhereFull, cache_fault, composite_owner, lump_owner}
 use Rattle.lump_cache.proofs.FaithLemmas.{bytes_in, kept_bytes}
-use Rattle.lump_cache.specs.Calls.{IfFull}
-use Rattle.lump_cache.specs.Fetches.{FetchesLump}
-use Rattle.lump_cache.specs.Sizes.{IsGapBeside}
+use Rattle.lump_cache.specs.{Calls.IfFull, Fetches.FetchesLump, Sizes.IsGapBeside}
 use Rattle.lump_cache.proofs.FetchLemmas.{fetch_gap, fetch_no_room, fetch_reads}
-use Rattle.lump_cache.specs.Tag.TheVariants.{Cache}
-use Rattle.lump_cache.specs.Orders.{has_item}
-use Rattle.texture_build.specs.Asked.{IsFullForColumn}
-use Rattle.texture_build.specs.Builds.{OthersKeep}
+use Rattle.lump_cache.specs.{Tag.TheVariants.Cache, Orders.has_item}
+use Rattle.texture_build.specs.{Asked.IsFullForColumn, Builds.OthersKeep}
 use Rattle.texture_build.specs.Composites.{AreComposites, composite_of}
-use Rattle.texture_build.specs.Ready.{MakesColumnLive}
-use Rattle.texture_build.specs.Views.{TexturesView, prepared_at}
+use Rattle.texture_build.specs.{Ready.MakesColumnLive, Views.TexturesView, Views.prepared_at}
 use Rattle.texture_build.proofs.BuildLemmas.{narrow_where}
 
 -- the zone was full for the lump of a column

@@ -2,15 +2,12 @@
 use Rattle.art_rules.proofs.Common.{ap, List, subst, sym, ℕ, ℤ, ◌+◌, ◌∙◌, ◌≡◌}
 use Rattle.texture_build.specs.Rules.{ColumnLookup, Painter, byte_at, column_dots, listed_from, painter_of, row_fraction, shade, texel_row}
 use Rattle.pixel_strips.specs.Canvases.{CanvasView, with_dots, with_painter}
-use Rattle.pixel_strips.specs.Dotted.{HasDots}
-use Rattle.pixel_strips.specs.Strips.{column_strip_dots, strip_colour}
+use Rattle.pixel_strips.specs.{Dotted.HasDots, Strips.column_strip_dots, Strips.strip_colour}
 use Rattle.pixel_strips.proofs.DottedLemmas.{has_dots-as, has_dots-painted}
 use Rattle.pixel_strips.proofs.RowLemmas.{row_shade, strip-rows}
 use Rattle.texture_build.specs.Arts.{column_texel, lookup_source, view_art}
-use Rattle.texture_build.specs.Draws.{FitsBeside}
-use Rattle.texture_build.specs.Paints.{FitIn, PaintTools}
-use Rattle.texture_build.specs.Sources.{column_in}
-use Rattle.texture_build.specs.Strips.{texture_colour, texture_dots}
+use Rattle.texture_build.specs.{Draws.FitsBeside, Paints.FitIn, Paints.PaintTools}
+use Rattle.texture_build.specs.{Sources.column_in, Strips.texture_colour, Strips.texture_dots}
 use Rattle.texture_build.specs.Views.{TexturesView, prepared_texture}
 use Rattle.texture_build.specs.declared.strip.TextureStrip.{TextureStrip}
 use Rattle.texture_build.proofs.BesideLemmas.{fit_beside-column_dots}

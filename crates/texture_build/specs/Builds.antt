@@ -3,8 +3,7 @@ use Rattle.std.specs.Prelude.{◌≡◌, ℕ, ◌+◌, ◌<◌, ◌==◌, false,
 use Rattle.texture_build.specs.Rules.{AllWithin, HasCauses, IsLaterShelf, Lump, NameFiles, PlacedPatch, PreparedTexture, ResultIs, ShelfView, composite_of_first, lump_bytes}
 use Rattle.lump_cache.specs.Zones.{Owner, Heap, owned_block, bytes_of, block_size, same_owner}
 use Rattle.lump_cache.specs.Orders.{Item, IsInOrder, KeepsOrder, has_item}
-use Rattle.lump_cache.specs.DirectoryView.{DirectoryView}
-use Rattle.lump_cache.specs.declared.fault.CacheFault.{CacheFault}
+use Rattle.lump_cache.specs.{DirectoryView.DirectoryView, declared.fault.CacheFault.CacheFault}
 use Rattle.lump_cache.specs.Caches.{HasAsked, IsAtRest, IsAtRestExcept, IsFaithful, IsPinned, KeepsCounts, cache_fault, composite_owner, lump_owner, release_heap}
 use Rattle.lump_cache.specs.Calls.{IfFull, LeavesInOrder, HoldContents}
 use Rattle.lump_cache.specs.Sizes.{IsGapBeside}

@@ -1,7 +1,6 @@
 -- The composites that a cache holds.
 use Rattle.std.specs.Prelude.{◌≡◌, ℕ, List, length, IfSome}
-use Rattle.lump_cache.specs.Zones.{Heap, bytes_of}
-use Rattle.lump_cache.specs.Caches.{composite_owner}
+use Rattle.lump_cache.specs.{Zones.Heap, Zones.bytes_of, Caches.composite_owner}
 use Rattle.art_rules.specs.Words.{composite, PreparedTexture}
 use Rattle.texture_build.specs.Views.{TexturesView, prepared_at}
 

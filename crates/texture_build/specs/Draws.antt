@@ -2,14 +2,12 @@
 use Rattle.std.specs.Prelude.{◌≡◌, ◌≢◌, ◌<◌, ◌≤◌, ◌+◌, ◌⊎◌, ℕ, ℤ, List, IsTrue, IfErr, Result, ⊤}
 use Rattle.std.specs.List.{AllByRecursion}
 use Rattle.art_rules.specs.Words.{AllWithin, COMPOSITE, Dot, Fault, HasCauses, IsLaterShelf, LUMP, Lump, lump_at, lump_bytes, NameFiles, OutOfMemory, Painter, ReadFault, Refused, ShelfView, ZoneFull}
-use Rattle.lump_cache.specs.Zones.{Heap, block_size}
-use Rattle.lump_cache.specs.Orders.{Item, IsInOrder}
+use Rattle.lump_cache.specs.{Zones.Heap, Zones.block_size, Orders.Item, Orders.IsInOrder}
 use Rattle.lump_cache.specs.DirectoryView.{DirectoryView}
 use Rattle.lump_cache.specs.Caches.{IsAtRest, IsFaithful, KeepsCounts}
 use Rattle.lump_cache.specs.Calls.{HasAll, HoldContents, IfFull, LeavesInOrder, IsFullFor}
 use Rattle.texture_build.specs.Asked.{HasColumnAsked, IsFullForColumn, size_of}
-use Rattle.texture_build.specs.Composites.{AreComposites}
-use Rattle.texture_build.specs.Sources.{column_in}
+use Rattle.texture_build.specs.{Composites.AreComposites, Sources.column_in}
 use Rattle.texture_build.specs.Views.{TexturesView, AreTexturesOf, ArePatchesThere, IsPrepared, prepared_texture}
 
 -- what is kept, whatever is answered

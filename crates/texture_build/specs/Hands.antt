@@ -2,8 +2,7 @@
 use Rattle.std.specs.Prelude.{◌≡◌}
 use Rattle.art_rules.specs.Words.{ShelfView}
 use Rattle.pixel_strips.specs.Canvases.{CanvasView}
-use Rattle.texture_build.specs.Paints.{PaintState, paint_state}
-use Rattle.texture_build.specs.declared.hands.Hands.{Hands}
+use Rattle.texture_build.specs.{Paints.PaintState, Paints.paint_state, declared.hands.Hands.Hands}
 
 -- what is written by these hands, whose shelf and canvas have these views
 abbrev pub hands_state : {S C : Type 0} → (S → ShelfView) → (C → CanvasView) → Hands S C → PaintState

@@ -1,14 +1,10 @@
 -- A call that paints, by the dots that it gives the canvas.
 use Rattle.std.specs.Prelude.{ℕ, ℤ, Bool, true, false, List, OnOk, Result}
 use Rattle.art_rules.specs.Words.{Art, Dot, Fault, lump_bytes, Painter, ShelfView}
-use Rattle.lump_cache.specs.Zones.{Heap}
-use Rattle.lump_cache.specs.DirectoryView.{DirectoryView}
-use Rattle.lump_cache.specs.Caches.{IsAtRest}
+use Rattle.lump_cache.specs.{Zones.Heap, DirectoryView.DirectoryView, Caches.IsAtRest}
 use Rattle.lump_cache.specs.Calls.{HoldContents}
-use Rattle.pixel_strips.specs.Canvases.{CanvasView}
-use Rattle.pixel_strips.specs.Dotted.{HasDots, PlacedAlike}
-use Rattle.texture_build.specs.Arts.{view_art}
-use Rattle.texture_build.specs.Draws.{DrawsWith, FitBeside, HoldsArt}
+use Rattle.pixel_strips.specs.{Canvases.CanvasView, Dotted.HasDots, Dotted.PlacedAlike}
+use Rattle.texture_build.specs.{Arts.view_art, Draws.DrawsWith, Draws.FitBeside, Draws.HoldsArt}
 use Rattle.texture_build.specs.Views.{TexturesView}
 
 -- What a call paints with: a directory, textures, and the lump COLORMAP. One that shows no texture asks for lumps alone.

@@ -1,10 +1,8 @@
 -- A call that makes live what a texture column is read from.
 use Rattle.std.specs.Prelude.{◌≡◌, ℕ, List, None, Some, IfErr, OnOk, OnErr, Result, Ok}
 use Rattle.texture_build.specs.Rules.{AllWithin, ColumnLookup, HasCauses, IsLaterShelf, NameFiles, PreparedTexture, ResultIs, ShelfView, lump_bytes}
-use Rattle.lump_cache.specs.Zones.{Heap, owned_block}
-use Rattle.lump_cache.specs.Orders.{Item, IsInOrder}
-use Rattle.lump_cache.specs.DirectoryView.{DirectoryView}
-use Rattle.lump_cache.specs.declared.fault.CacheFault.{CacheFault}
+use Rattle.lump_cache.specs.{Zones.Heap, Zones.owned_block, Orders.Item, Orders.IsInOrder}
+use Rattle.lump_cache.specs.{DirectoryView.DirectoryView, declared.fault.CacheFault.CacheFault}
 use Rattle.lump_cache.specs.Caches.{IsAtRest, IsFaithful, KeepsCounts, cache_fault, composite_owner}
 use Rattle.lump_cache.specs.Calls.{IfFull, LeavesInOrder, HoldContents}
 use Rattle.texture_build.specs.Asked.{HasColumnAsked, IsFullForColumn}

@@ -1,11 +1,8 @@
 -- A strip of a texture, and what a call that paints it leaves.
 use Rattle.std.specs.Prelude.{◌≡◌, ◌+◌, ◌<◌, ◌≤◌, ℕ, List, Result}
 use Rattle.texture_build.specs.Rules.{Art, Dot, FRAME_HEIGHT, FRAME_WIDTH, Painter, ShelfView, column_dots, listed_from, painter_of, row_fraction, texel_row}
-use Rattle.lump_cache.specs.Zones.{Heap}
-use Rattle.lump_cache.specs.declared.fault.CacheFault.{CacheFault}
-use Rattle.lump_cache.specs.Caches.{cache_fault}
-use Rattle.pixel_strips.specs.Canvases.{CanvasView}
-use Rattle.pixel_strips.specs.Dotted.{HasDots}
+use Rattle.lump_cache.specs.{Zones.Heap, declared.fault.CacheFault.CacheFault, Caches.cache_fault}
+use Rattle.pixel_strips.specs.{Canvases.CanvasView, Dotted.HasDots}
 use Rattle.texture_build.specs.Paints.{FitIn, Holds, PaintState, PaintTools, Paints, paint_tools, painted_art}
 use Rattle.texture_build.specs.declared.strip.TextureArt.{TextureArt}
 use Rattle.texture_build.specs.declared.strip.TextureStrip.{TextureStrip}

@@ -2,10 +2,8 @@
 use Rattle.art_rules.proofs.Common.{ap, Err, false, IfSome, length, List, Ok, OnOk, Option, option_map, Result, ℕ, ◌+◌, ◌<◌, ◌∙◌, ◌≡◌, ◌≤◌}
 use Rattle.art_rules.specs.Words.{last_of, LumpNo, ShelfView}
 use Rattle.lump_cache.specs.Zones.{Heap, IsLive, block_size, owned_block, same_owner}
-use Rattle.lump_cache.specs.DirectoryView.{DirectoryView}
-use Rattle.lump_cache.specs.Caches.{HasStatic, lump_owner}
-use Rattle.lump_cache.specs.Calls.{PreservesCache}
-use Rattle.lump_cache.specs.Named.{IsLast, live_bytes}
+use Rattle.lump_cache.specs.{DirectoryView.DirectoryView, Caches.HasStatic, Caches.lump_owner}
+use Rattle.lump_cache.specs.{Calls.PreservesCache, Named.IsLast, Named.live_bytes}
 use Rattle.lump_cache.specs.Sizes.{StandsBeside}
 use Rattle.lump_cache.proofs.SizeLemmas.{beside_earlier, beside_named}
 

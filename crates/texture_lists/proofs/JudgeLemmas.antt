@@ -2,14 +2,11 @@
 use Rattle.std.proofs.Common.{◌≡◌, ◌<◌, ◌≤◌, ℕ, ◌+◌, false, true, List, length, Option, Result, Ok, Err, refl, sym, ap, ◌∙◌, IfSome, IsErrAnd, OnOk}
 use Rattle.texture_lists.specs.Rules.{Fault, LumpNo, OutOfMemory, PNAMES, ReadFault, Refused, ResultIs, ShelfView, TEXTURE1, TEXTURE2, TexRefusal, ZoneFull, filled, itself, last_of, lump_bytes, name_of, named_bytes}
 use Rattle.lump_cache.specs.Zones.{Heap, IsLive, block_size, owned_block, same_owner}
-use Rattle.lump_cache.specs.DirectoryView.{DirectoryView}
-use Rattle.lump_cache.specs.Caches.{HasStatic, lump_owner}
-use Rattle.lump_cache.specs.Calls.{ReadsLumps, HoldContents}
-use Rattle.lump_cache.specs.Named.{IsLast, live_bytes}
+use Rattle.lump_cache.specs.{DirectoryView.DirectoryView, Caches.HasStatic, Caches.lump_owner}
+use Rattle.lump_cache.specs.{Calls.ReadsLumps, Calls.HoldContents, Named.IsLast, Named.live_bytes}
 use Rattle.lump_cache.specs.Sizes.{StandsBeside}
 use Rattle.lump_cache.proofs.CallLemmas.{reads_stop_first, reads_short, reads_then_refused, reads_then_found}
-use Rattle.texture_lists.specs.Asked.{lump_number}
-use Rattle.texture_lists.specs.Parts.{IsOfBytes}
+use Rattle.texture_lists.specs.{Asked.lump_number, Parts.IsOfBytes}
 use Rattle.texture_lists.proofs.BesideLemmas.{list_beside}
 
 -- the names of the lists are in capitals

@@ -1,8 +1,7 @@
 -- The lumps of a new file have the bytes that were put.
 use Rattle.art_rules.proofs.Common.{[], ap, append_assoc, arith, drop, drop-append_seam, length, length-append, List, refl, slice_index_or, suc, sym, take, take-append_seam, zero, ℕ, ◌++◌, ◌+◌, ◌<◌, ◌∙◌, ◌∷◌, ◌≡◌}
-use Rattle.trim_rules.specs.Rules.{bytes_of, contents, lump_at}
+use Rattle.trim_rules.specs.{Rules.bytes_of, Rules.contents, Rules.lump_at, Files.stored_from}
 use Rattle.made_rules.specs.Wads as made
-use Rattle.trim_rules.specs.Files.{stored_from}
 
 -- a lump of a file that begins with `front` and then has the bytes of these lumps
 pub stored_bytes : (front behind : List ℕ) (lumps : List made.Lump) (d : made.Lump) (k place : ℕ) → place ≡ length front → k < length lumps

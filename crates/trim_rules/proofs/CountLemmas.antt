@@ -1,6 +1,6 @@
 -- A directory lists no more lumps than it may.
 use Rattle.art_rules.proofs.Common.{[], ap, arith, Bool, false, if◌then◌else◌, length, length-append, List, ltb-false, nat_lt, None, not, Ok, Option, or_else-none, refl, Some, suc, take, true, ℕ, ◌++◌, ◌+◌, ◌∷◌, ◌≡◌, ◌≤◌}
-use Rattle.art_rules.specs.Words.{directory, directory_place, directory_size, DirRefusal, entry_count, file_lumps, file_refusal, header, header_refusal, HEADER_SIZE, is_wad, LETTER_COUNT, Lump, lumps_from, MAX_LUMPS, NotWad, refusal_from, Short, TooMany, unless_refused, whole_header_refusal}
+use Rattle.trim_rules.specs.Rules.{DirRefusal, HEADER_SIZE, LETTER_COUNT, Lump, MAX_LUMPS, NotWad, Short, TooMany, directory, directory_place, directory_size, entry_count, file_lumps, file_refusal, header, header_refusal, is_wad, lumps_from, refusal_from, unless_refused, whole_header_refusal}
 use Rattle.art_rules.proofs.Laws.{file_lumps-length}
 
 else_none : (b : Bool) (refusal : DirRefusal) (o : Option DirRefusal) → (if b then Some refusal else o) ≡ None → (b ≡ false) × (o ≡ None)

@@ -2,8 +2,7 @@
 use Rattle.art_rules.proofs.Common.{AllByRecursion, ap, length, List, map, Ok, Option, refl, sym, ℕ, ◌∙◌, ◌≡◌, ◌≤◌}
 use Rattle.trim_rules.specs.Rules.{Faces, LevelValue, Lump, SKY_FLAT, SceneArt, Sector, SectorFlats, SideTextures, TextureLists, faces_in, sector_flats, side_textures, sky_texture}
 use Rattle.art_rules.proofs.Laws.{and_then-ok}
-use Rattle.trim_rules.specs.Parts.{trim_parts}
-use Rattle.trim_rules.specs.Files.{trimmed_lumps}
+use Rattle.trim_rules.specs.{Parts.trim_parts, Files.trimmed_lumps}
 use Rattle.trim_rules.proofs.HeldFlatLemmas.{flat_part, flats-held}
 use Rattle.trim_rules.proofs.MovedFlatLemmas.{move_both, sectors-moved}
 use Rattle.trim_rules.proofs.PlaceLemmas.{part_source, source_of}

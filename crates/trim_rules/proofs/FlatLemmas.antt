@@ -1,7 +1,7 @@
 -- The flats of a directory whose first lumps are flats between marks, each the last flat of its name in the given files.
 use Rattle.art_rules.proofs.Common.{and-false_left, and-false_right, ap, arith, Bool, bytes_eq, bytes_eq-Decides, cases_lt, false, get_or, inl, inr, length, List, refl, Some, some-injective, suc, sym, true, zero, ℕ, ◌&&◌, ◌+◌, ◌<◌, ◌∙◌, ◌≡◌, ◌≤◌}
 use Rattle.art_rules.proofs.Laws.{greatest-some}
-use Rattle.art_rules.specs.Words.{flat_of, Flats, has_name, is_member, Lump, lump_at}
+use Rattle.trim_rules.specs.Rules.{Flats, Lump, flat_of, has_name, is_member, lump_at}
 use Rattle.trim_rules.proofs.MemberLemmas.{HasGroup, between-member, behind-member, is_lump-at}
 
 -- The flats of a trimmed directory are these, by name and in order.

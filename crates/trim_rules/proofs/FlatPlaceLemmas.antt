@@ -8,8 +8,7 @@ use Rattle.trim_rules.specs.declared.part.TrimPart.{TrimPart}
 use Rattle.trim_rules.specs.declared.part.TrimPart.TheVariants.{Mark}
 use Rattle.trim_rules.proofs.AnswerLemmas.{ok_of, some_value}
 use Rattle.trim_rules.proofs.MemberLemmas.{HasGroup, group-members}
-use Rattle.trim_rules.proofs.MovedFlatLemmas.{range-any}
-use Rattle.trim_rules.proofs.NamedLemmas.{any_kept}
+use Rattle.trim_rules.proofs.{MovedFlatLemmas.range-any, NamedLemmas.any_kept}
 use Rattle.trim_rules.proofs.OrderLemmas.{AreAscending}
 use Rattle.trim_rules.proofs.PlaceLemmas.{part_at, part_source, source_of}
 

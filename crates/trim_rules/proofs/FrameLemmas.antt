@@ -2,8 +2,7 @@
 use Rattle.art_rules.proofs.Common.{[], AllByRecursion, and-true_true, and_parts, ap, arith, Bool, cases_lt, cond, Decides-eqb, false, inl, inr, leb-true, List, map, nat_le, None, Ok, Option, range_with_len, refl, Result, Some, some-injective, subst, suc, sym, true, zero, ℕ, ◌&&◌, ◌+◌, ◌-◌, ◌<◌, ◌==◌, ◌∙◌, ◌∷◌, ◌≡◌, ◌≤◌}
 use Rattle.trim_rules.specs.Rules.{FIRST_FRAME, FIRST_ROTATION, LAST_FRAME, LAST_ROTATION, Lump, Mention, ROTATIONS, SECOND_PAIR_AT, SPRITE_LETTERS, Sprites, each_of, frame_picture, is_of_frame, is_of_rotation, is_pair, joined_lists, last_that, lump_at, lump_mentions, members, mention_at, mentions, name_mentions, or_else, picture_by, picture_if}
 use Rattle.art_rules.proofs.Laws.{and_then-ok}
-use Rattle.trim_rules.proofs.AnswerLemmas.{ok_of}
-use Rattle.trim_rules.proofs.ThereLemmas.{all-append}
+use Rattle.trim_rules.proofs.{AnswerLemmas.ok_of, ThereLemmas.all-append}
 
 -- What f gives of each, where the other function gives the same, moved.
 pub each-moved : {X Y Z R : Type 0} (f : X → Result Y R) (g : X → Result Z R) (move : Z → Y) (P : Y → Type 0)

@@ -1,6 +1,6 @@
 -- A new file has a group where its lumps are put between two marks and no other lump has the name of a mark of it.
 use Rattle.art_rules.proofs.Common.{[], AllByRecursion, ap, arith, false, length, List, or-false_false, refl, suc, true, zero, ℕ, ◌++◌, ◌+◌, ◌<◌, ◌||◌, ◌∙◌, ◌∷◌, ◌≡◌}
-use Rattle.art_rules.specs.Words.{Group, is_end, is_start, Lump, lump_at}
+use Rattle.trim_rules.specs.Rules.{Group, Lump, is_end, is_start, lump_at}
 use Rattle.made_rules.specs.Wads as made
 use Rattle.trim_rules.specs.Files.{stored_from}
 use Rattle.trim_rules.proofs.MemberLemmas.{HasGroup}

@@ -6,8 +6,7 @@ use Rattle.scene_rules.specs.declared.Flat.TheVariants.{Lump as LumpFlat}
 use Rattle.trim_rules.specs.declared.part.TrimPart.TheVariants.{Mark}
 use Rattle.trim_rules.specs.Parts.{copy_part, flat_lumps, group_parts, part_name, trim_parts}
 use Rattle.trim_rules.specs.Files.{part_lump, stored_lumps, trimmed_lumps}
-use Rattle.trim_rules.proofs.AnswerLemmas.{ok_of}
-use Rattle.trim_rules.proofs.FlatLemmas.{HasFlats}
+use Rattle.trim_rules.proofs.{AnswerLemmas.ok_of, FlatLemmas.HasFlats}
 use Rattle.trim_rules.proofs.MemberLemmas.{HasGroup, is_lump-at}
 use Rattle.trim_rules.proofs.TrimmedLemmas.{IsUnmarked, trimmed-flats}
 use Rattle.trim_rules.proofs.PlaceLemmas.{part_at, part_at-copied, stored-name}

@@ -11,8 +11,7 @@ use Rattle.trim_rules.proofs.MemberLemmas.{group-members}
 use Rattle.trim_rules.proofs.SpriteLemmas.{StandFor, count_of}
 use Rattle.trim_rules.proofs.TrimmedLemmas.{IsUnmarked, trimmed-pictures}
 use Rattle.trim_rules.proofs.PlaceLemmas.{part_at, part_at-behind, part_at-copied, source_of, part_source, stored-name}
-use Rattle.trim_rules.proofs.OrderLemmas.{kept-passing}
-use Rattle.trim_rules.proofs.ThereLemmas.{all-append}
+use Rattle.trim_rules.proofs.{OrderLemmas.kept-passing, ThereLemmas.all-append}
 use Rattle.trim_rules.proofs.FrameLemmas.{cond_all, last_that-is}
 
 -- a sprite lump

@@ -9,9 +9,8 @@ use Rattle.trim_rules.specs.Files.{part_bytes, part_lump, stored_from, stored_lu
 use Rattle.trim_rules.proofs.MemberLemmas.{is_lump-at}
 use Rattle.trim_rules.proofs.NameLemmas.{last_bytes, last_bytes-append}
 use Rattle.trim_rules.proofs.PlaceLemmas.{part_at, part_at-behind, part_at-copied, stored-name}
-use Rattle.trim_rules.proofs.OrderLemmas.{all-at, kept-passing}
+use Rattle.trim_rules.proofs.{OrderLemmas.all-at, OrderLemmas.kept-passing, LastLemmas.last_of-name}
 use Rattle.trim_rules.proofs.ThereLemmas.{IsNumber, all-append, all-filter, behind-there, called-there, label-is, passing-there}
-use Rattle.trim_rules.proofs.LastLemmas.{last_of-name}
 
 -- a part whose name is another
 abbrev pub IsOther : List Lump → List ℕ → TrimPart → Type 0

@@ -1,7 +1,7 @@
 -- Where a directory has one start and one end of a group, the lumps between them are the group.
 use Rattle.art_rules.proofs.Common.{[], ap, append-nil, arith, Bool, cases_lt, false, filter, filter-append, inl, inr, length, List, None, not, or-false_false, or-true_right, range_with_len, refl, Some, suc, true, zero, zero-add, ℕ, ◌&&◌, ◌++◌, ◌+◌, ◌-◌, ◌<◌, ◌==◌, ◌||◌, ◌∙◌, ◌∷◌, ◌≡◌, ◌≤◌}
 use Rattle.art_rules.proofs.Laws.{greatest-none, greatest-some}
-use Rattle.art_rules.specs.Words.{Group, is_end, is_lump, is_member, is_start, Lump, lump_at, mark_before, members, starts_in}
+use Rattle.trim_rules.specs.Rules.{Group, Lump, is_end, is_lump, is_member, is_start, lump_at, mark_before, members, starts_in}
 
 -- a lump that is there passes where its record does
 pub is_lump-at : (passes : Lump → Bool) (lumps : List Lump) (n : ℕ) → n < length lumps → is_lump passes lumps n ≡ passes (lump_at lumps n)

@@ -5,8 +5,7 @@ use Rattle.art_rules.proofs.Laws.{and_then-ok, greatest-is}
 use Rattle.scene_rules.specs.declared.Flat.TheVariants.{Lump as LumpFlat}
 use Rattle.trim_rules.specs.Parts.{flat_lumps}
 use Rattle.trim_rules.proofs.AnswerLemmas.{ok_of, some_value}
-use Rattle.trim_rules.proofs.FlatLemmas.{HasFlats, trimmed_flat}
-use Rattle.trim_rules.proofs.MemberLemmas.{is_lump-at}
+use Rattle.trim_rules.proofs.{FlatLemmas.HasFlats, FlatLemmas.trimmed_flat, MemberLemmas.is_lump-at}
 use Rattle.trim_rules.proofs.NamedLemmas.{any_kept}
 
 -- a flat under other numbers

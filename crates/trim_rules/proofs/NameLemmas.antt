@@ -1,6 +1,6 @@
 -- The last lump of a name, where lumps stand one after the other in a new file.
 use Rattle.art_rules.proofs.Common.{[], ap, arith, Bool, bytes_eq, cond, false, length, List, None, Option, option_map, or_else-assoc, or_else-none_right, refl, slice_index_or, Some, suc, sym, true, zero, ℕ, ◌++◌, ◌+◌, ◌<◌, ◌∙◌, ◌∷◌, ◌≡◌}
-use Rattle.art_rules.specs.Words.{greatest, has_name, last_of, or_else}
+use Rattle.trim_rules.specs.Rules.{greatest, has_name, last_of, or_else}
 use Rattle.made_rules.specs.Wads as made
 use Rattle.trim_rules.specs.Files.{stored_from}
 

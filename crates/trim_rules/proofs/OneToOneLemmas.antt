@@ -9,8 +9,7 @@ use Rattle.trim_rules.specs.Files.{stored_lumps, trimmed_lumps}
 use Rattle.trim_rules.proofs.AnswerLemmas.{ok_of}
 use Rattle.trim_rules.proofs.FlatPlaceLemmas.{AreFlatPlaces, IsFlatPlace, one-to-one, places-flats, source-past}
 use Rattle.trim_rules.proofs.HeldFlatLemmas.{flat_part, flats-held}
-use Rattle.trim_rules.proofs.MapLemmas.{stored-length}
-use Rattle.trim_rules.proofs.OrderLemmas.{all-at}
+use Rattle.trim_rules.proofs.{MapLemmas.stored-length, OrderLemmas.all-at}
 use Rattle.trim_rules.proofs.PlaceLemmas.{part_source, source_of}
 use Rattle.trim_rules.proofs.PlanLemmas.{plan-accepted, plan-unmarked}
 use Rattle.trim_rules.proofs.ThereLemmas.{flats-there}

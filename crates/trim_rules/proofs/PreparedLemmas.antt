@@ -1,7 +1,6 @@
 -- The textures that are prepared by a directory that finds their patches: the same, but for the numbers of the patches.
 use Rattle.art_rules.proofs.Common.{[], AllByRecursion, ap, Bool, cond, Err, false, List, map, nat_lt, None, Ok, Option, option_and_then, option_map, range_with_len, refl, Result, slice_get, Some, some-injective, subst, suc, sym, true, ℕ, ⊤, ◌∙◌, ◌∷◌, ◌≡◌}
-use Rattle.trim_rules.specs.Rules.{ColumnLookup, MAX_COMPOSITE, Patch, PlacedPatch, PreparedTexture, TexRefusal, TextureEntry, TextureLists, TooBig, column_lookup, column_lookups, composed_count, composite_size, listed, patch_of, place_lump, place_patch, placed_patch, placed_patches, prepared, prepared_from, prepared_if, prepared_textures, texture_of, unless_missing, unless_too_big}
-use Rattle.art_rules.specs.Words.{Texture}
+use Rattle.trim_rules.specs.Rules.{ColumnLookup, MAX_COMPOSITE, Patch, PlacedPatch, PreparedTexture, TexRefusal, Texture, TextureEntry, TextureLists, TooBig, column_lookup, column_lookups, composed_count, composite_size, listed, patch_of, place_lump, place_patch, placed_patch, placed_patches, prepared, prepared_from, prepared_if, prepared_textures, texture_of, unless_missing, unless_too_big}
 use Rattle.art_rules.proofs.Laws.{and_then-ok}
 use Rattle.trim_rules.proofs.AnswerLemmas.{ok_of}
 use Rattle.trim_rules.proofs.TexelLemmas.{column_lookup-moved, composed_columns-moved, moved, moved_lookup}

@@ -3,21 +3,15 @@ use Rattle.art_rules.proofs.Common.{[], AllByRecursion, ap, length, List, list_a
 use Rattle.trim_rules.specs.Rules.{LevelBase, Lump, SKY_FLAT, Scene, SceneValue, Sprite, ThingLine, art_with, bad_middle, base_in, book_in, book_lumps, checked, directory, faces_in, first_needs, from_below, is_wanted_texture, last_of, lump_bytes, need_of, placed_things, prepared_textures, scene_in, scene_on, scene_over, scene_with, texture_by}
 use Rattle.art_rules.proofs.Laws.{and_then-ok}
 use Rattle.scene_rules.specs.declared.refusal.AuditRefusal.TheVariants.{Texture}
-use Rattle.trim_rules.specs.declared.part.TrimPart.{TrimPart}
-use Rattle.trim_rules.specs.Parts.{trim_parts, trim_plan}
+use Rattle.trim_rules.specs.{declared.part.TrimPart.TrimPart, Parts.trim_parts, Parts.trim_plan}
 use Rattle.trim_rules.specs.Files.{trimmed_file, trimmed_lumps}
-use Rattle.trim_rules.proofs.AnswerLemmas.{below, ok_of}
-use Rattle.trim_rules.proofs.BaseLemmas.{base-served}
+use Rattle.trim_rules.proofs.{AnswerLemmas.below, AnswerLemmas.ok_of, BaseLemmas.base-served}
 use Rattle.trim_rules.proofs.BookLemmas.{IsPicture, book-moved, move_frame}
-use Rattle.trim_rules.proofs.FacesLemmas.{trimmed-faces}
+use Rattle.trim_rules.proofs.{FacesLemmas.trimmed-faces, MapLemmas.map_place}
 use Rattle.trim_rules.proofs.HeldSpriteLemmas.{IsSprite, pictures-held, first_picture}
-use Rattle.trim_rules.proofs.MapLemmas.{map_place}
-use Rattle.trim_rules.proofs.MiddleLemmas.{bad_middle-same}
-use Rattle.trim_rules.proofs.MovedFlatLemmas.{move_both}
-use Rattle.trim_rules.proofs.PlaceLemmas.{source_of}
-use Rattle.trim_rules.proofs.PlanLemmas.{plan-unmarked}
-use Rattle.trim_rules.proofs.PreparedLemmas.{move_texture}
-use Rattle.trim_rules.proofs.ServedLemmas.{trimmed-serves}
+use Rattle.trim_rules.proofs.{MiddleLemmas.bad_middle-same, MovedFlatLemmas.move_both}
+use Rattle.trim_rules.proofs.{PlaceLemmas.source_of, PlanLemmas.plan-unmarked}
+use Rattle.trim_rules.proofs.{PreparedLemmas.move_texture, ServedLemmas.trimmed-serves}
 use Rattle.trim_rules.proofs.TextureLemmas.{bytes-moved, trimmed-prepared}
 
 -- the steps of a scene that is accepted

@@ -9,11 +9,9 @@ use Rattle.trim_rules.specs.Parts.{called_lumps, copy_part, label_or_copy, trim_
 use Rattle.trim_rules.specs.Files.{part_bytes, part_lump, stored_from, stored_lumps, trimmed_file, trimmed_lumps}
 use Rattle.trim_rules.proofs.AnswerLemmas.{below, some_value}
 use Rattle.trim_rules.proofs.BaseLemmas.{ServesBase, base-made, base-served}
-use Rattle.trim_rules.proofs.BytesLemmas.{part-bytes}
-use Rattle.trim_rules.proofs.LastLemmas.{called-last}
+use Rattle.trim_rules.proofs.{BytesLemmas.part-bytes, LastLemmas.called-last, PlaceLemmas.part_at}
 use Rattle.trim_rules.proofs.MapLemmas.{HasFixed, behind_map, front_parts, is_called, map_place, parts-by-map, row-at, trimmed-map}
 use Rattle.trim_rules.proofs.NamedLemmas.{colormap-fixed, named-same, playpal-fixed, pnames-fixed, texture1-fixed, texture2-fixed}
-use Rattle.trim_rules.proofs.PlaceLemmas.{part_at}
 
 -- what the directory tells of a base
 pub record IsFoundBy (lumps : List Lump) (name : List ℕ) (base : LevelBase) : Type 0 where

@@ -5,10 +5,8 @@ use Rattle.trim_rules.specs.declared.part.TrimPart.{TrimPart}
 use Rattle.trim_rules.specs.declared.part.TrimPart.TheVariants.{Mark, Label, Copy}
 use Rattle.trim_rules.specs.Parts.{called_lumps, fixed_lumps, trim_parts}
 use Rattle.trim_rules.specs.Files.{part_bytes, part_lump, stored_from, stored_lumps, trimmed_lumps}
-use Rattle.trim_rules.proofs.BytesLemmas.{put_part}
-use Rattle.trim_rules.proofs.CalledLemmas.{IsLastOfName}
-use Rattle.trim_rules.proofs.MapLemmas.{stored-length}
-use Rattle.trim_rules.proofs.MovedFlatLemmas.{range-any}
+use Rattle.trim_rules.proofs.{BytesLemmas.put_part, CalledLemmas.IsLastOfName}
+use Rattle.trim_rules.proofs.{MapLemmas.stored-length, MovedFlatLemmas.range-any}
 use Rattle.trim_rules.proofs.NameLemmas.{last_of-stored}
 use Rattle.trim_rules.proofs.NamedLemmas.{any_kept, any_left, any_right, called-bytes}
 use Rattle.trim_rules.proofs.PlaceLemmas.{part_at, part_source, source_of}

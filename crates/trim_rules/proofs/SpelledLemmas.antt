@@ -6,8 +6,7 @@ use Rattle.trim_rules.specs.declared.part.TrimPart.{TrimPart}
 use Rattle.trim_rules.specs.declared.part.TrimPart.TheVariants.{Mark}
 use Rattle.trim_rules.specs.Parts.{copy_part, label_part, part_name, trim_parts}
 use Rattle.trim_rules.specs.Files.{part_lump}
-use Rattle.trim_rules.proofs.LayoutLemmas.{IsSpelled}
-use Rattle.trim_rules.proofs.ThereLemmas.{parts-all}
+use Rattle.trim_rules.proofs.{LayoutLemmas.IsSpelled, ThereLemmas.parts-all}
 
 -- a name as a directory spells it
 pub record IsName (name : List ℕ) : Type 0 where

@@ -2,11 +2,9 @@
 use Rattle.art_rules.proofs.Common.{[], AllByRecursion, Bool, Decides-eqb, length, List, list_any, map, None, Ok, Option, option_map, or-true_left, or-true_right, refl, Some, true, ℕ, ◌==◌, ◌∷◌, ◌≡◌, ◌≤◌}
 use Rattle.art_rules.proofs.Laws.{greatest-is}
 use Rattle.trim_rules.specs.Rules.{LevelBase, Lump, PlacedPatch, PreparedTexture, SKY_FLAT, SceneArt, base_in, has_name, is_patch_of, is_patch_of_any, last_of, lump_bytes, prepared_textures}
-use Rattle.trim_rules.specs.declared.part.TrimPart.{TrimPart}
-use Rattle.trim_rules.specs.Parts.{trim_parts}
+use Rattle.trim_rules.specs.{declared.part.TrimPart.TrimPart, Parts.trim_parts}
 use Rattle.trim_rules.specs.Files.{trimmed_file, trimmed_lumps}
-use Rattle.trim_rules.proofs.BytesLemmas.{trimmed-bytes}
-use Rattle.trim_rules.proofs.LastLemmas.{called-last}
+use Rattle.trim_rules.proofs.{BytesLemmas.trimmed-bytes, LastLemmas.called-last}
 use Rattle.trim_rules.proofs.PlaceLemmas.{source_of}
 use Rattle.trim_rules.proofs.PreparedLemmas.{PatchIs, PatchesAre, move_texture, prepared-moved}
 use Rattle.trim_rules.proofs.ServedLemmas.{base-found, label_map}

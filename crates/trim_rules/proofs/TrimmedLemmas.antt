@@ -7,8 +7,7 @@ use Rattle.trim_rules.specs.declared.part.TrimPart.{TrimPart}
 use Rattle.trim_rules.specs.declared.part.TrimPart.TheVariants.{Mark, Label, Copy}
 use Rattle.trim_rules.specs.Parts.{called_lumps, copy_part, flat_lumps, group_parts, is_lump_part, is_mark, label_or_copy, label_part, map_parts, marked_lump, part_name, picture_lumps, trim_parts}
 use Rattle.trim_rules.specs.Files.{part_lump, stored_from, stored_lumps, trimmed_lumps}
-use Rattle.trim_rules.proofs.MemberLemmas.{HasGroup}
-use Rattle.trim_rules.proofs.GroupLemmas.{IsPlain, stored-group}
+use Rattle.trim_rules.proofs.{MemberLemmas.HasGroup, GroupLemmas.IsPlain, GroupLemmas.stored-group}
 
 -- a part is a mark of the file, or a lump that is there and has no mark's name
 abbrev pub IsUnmarked : List Lump → TrimPart → Type 0

@@ -1,5 +1,5 @@
 -- The words of the rules below that this crate cites, by the page that each comes from.
-pub use Rattle.art_rules.specs.Words.{BEHAVIOR, BEHAVIOR_AFTER, ENTRY_SIZE, Entry, F_END, F_START, Flats, Group, HEADER_SIZE, LETTER_COUNT, LiesWithin, Lump, MAP_LUMPS, MAX_LUMPS, PreparedTexture, S_END, S_START, Sprites, TextureLists, and_then, bytes_of, directory, directory_place, entries_in, entry_at, entry_count, flat_of, from_below, has_name, header, header_refusal, if_label, is_end, is_lump, is_member, is_named_in, is_start, is_wad, last_of, lump_at, lump_in, map_of, name_of, named_bytes, no_lump, or_else, passes_end}
+pub use Rattle.art_rules.specs.Words.{BEHAVIOR, BEHAVIOR_AFTER, DirRefusal, ENTRY_SIZE, Entry, F_END, F_START, Flats, Group, HEADER_SIZE, LETTER_COUNT, LiesWithin, Lump, MAP_LUMPS, MAX_LUMPS, NotWad, PreparedTexture, S_END, S_START, Short, Sprites, Texture, TextureLists, TooMany, and_then, bytes_of, directory, directory_place, directory_size, entries_in, entry_at, entry_count, file_refusal, flat_of, from_below, has_name, header, header_refusal, if_label, is_end, is_lump, is_member, is_named_in, is_start, is_wad, last_of, lump_at, lump_in, map_of, mark_before, name_of, named_bytes, no_lump, or_else, passes_end, starts_in, unless_refused}
 unfoldable pub use Rattle.art_rules.specs.Words.{are_named, book_lumps, both_lists, column_lookup, column_lookups, column_posts, composed_byte, composed_column, composed_columns, composed_count, composite, composite_place, composite_size, each_of, entry_refusal, file_lumps, filled, first_list, first_needs, frame_in, frame_of, frame_picture, greatest, is_composed, is_frame, is_label, is_of_frame, is_of_rotation, is_of_sprite, is_pair, is_patch_of, is_patch_of_any, is_single, joined_lists, last_mention, last_that, least, listed, lookup_of, lump_bytes, lump_mentions, lumps_from, lumps_in, mask_of, members, mention_at, mentions, name_mentions, own_column, patch_lumps, patch_names, patch_of, patch_or_bad, patch_texel, patches_in, picked, picture_by, picture_if, picture_or_missing, pictures_of, place_lump, place_patch, placed_patch, placed_patches, placed_posts, prepared, prepared_from, prepared_if, prepared_textures, refusal_from, shape_in, shape_lumps, shape_of, stands_in, texel, texel_of, texture_lists, texture_of, unless_missing, unless_too_big, whole_header_refusal}
 pub use Rattle.art_rules.specs.declared.ColumnLookup.{ColumnLookup}
 pub use Rattle.art_rules.specs.declared.ColumnLookup.TheVariants.{Composed, Empty, Single}

@@ -2,8 +2,7 @@
 use Rattle.word_rules.proofs.Common.{arith, clamps, div_below, false, ints, nat_le, nat_tests, negsuc, pos, unsigned_abs, ℕ, ℤ, ◌*◌, ◌/◌, ◌<ℤ◌, ◌<◌, ◌^◌, ◌≡◌, ◌≤ℤ◌, ◌≤◌}
 use Rattle.word_rules.specs.Words.{div, shr_word, abs_word, greater_word, lesser_word}
 use Rattle.view_rules.specs.declared.TheConstants.{SLOPE_BITS, SLOPE_ANGLES, FRAME_WIDTH}
-use Rattle.view_rules.specs.Angles.{Angles}
-use Rattle.view_rules.specs.Shape.{shape_of_size, width_of_size}
+use Rattle.view_rules.specs.{Angles.Angles, Shape.shape_of_size, Shape.width_of_size}
 use Rattle.view_rules.specs.Tables.{column_of_angle}
 use Rattle.view_rules.proofs.ColumnLemmas.{within_view-bound}
 

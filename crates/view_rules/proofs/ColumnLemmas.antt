@@ -2,8 +2,7 @@
 use Rattle.word_rules.proofs.Common.{ap, arith, Bool, clamps, cond, false, FitsSigned, int_lt, int_shr, int_wrap, int_wrap_fits, ints, mul-le-mul_right, neg_ℤ, negsuc, pos, refl, suc, true, unsigned_abs, w32, ℕ, ℤ, ◌*ℤ◌, ◌*◌, ◌+ℤ◌, ◌+◌, ◌-ℤ◌, ◌∙◌, ◌≡◌, ◌≤ℤ◌, ◌≤◌}
 use Rattle.word_rules.specs.Words.{mul, plus, minus, clamp_word, shr_word, minus_one, fixed, shl_word}
 use Rattle.word_rules.proofs.WordLemmas.{clamp_word-low, clamp_word-high}
-use Rattle.view_rules.specs.declared.TheConstants.{MAX_TANGENT}
-use Rattle.view_rules.specs.declared.ViewShape.{ViewShape}
+use Rattle.view_rules.specs.{declared.TheConstants.MAX_TANGENT, declared.ViewShape.ViewShape}
 use Rattle.view_rules.specs.Tables.{projection, seen_column, raw_column, within_view}
 
 -- products with a number that is not negative keep the order

@@ -1,9 +1,8 @@
 -- Laws of the nine shapes: a view lies within the frame.
 use Rattle.word_rules.proofs.Common.{arith, Bool, cond, false, nat_tests, refl, subst, sym, true, ℕ, ◌*◌, ◌+◌, ◌-◌, ◌/◌, ◌<◌, ◌==◌, ◌≡◌, ◌≤◌}
 use Rattle.view_rules.specs.declared.TheConstants.{MIN_SIZE, MAX_SIZE, WIDEST_SIZE, FRAME_HEIGHT, ROWS_ABOVE_BAR, ROWS_STEP}
-use Rattle.view_rules.specs.declared.ViewShape.{ViewShape}
+use Rattle.view_rules.specs.{declared.ViewShape.ViewShape, Sound.IsShape, Sound.IsWithinFrame}
 use Rattle.view_rules.specs.Shape.{width_of_size, height_of_size, left_of_size, top_of_size, shape_of_size}
-use Rattle.view_rules.specs.Sound.{IsShape, IsWithinFrame}
 
 height_cases : (size : ℕ) (b : Bool) → MIN_SIZE ≤ size → size ≤ MAX_SIZE → (size == MAX_SIZE) ≡ b →
     (0 < cond b FRAME_HEIGHT (size * ROWS_ABOVE_BAR / WIDEST_SIZE / ROWS_STEP * ROWS_STEP))

@@ -1,17 +1,14 @@
 -- Tables that nothing refuses are sound.
 use Rattle.word_rules.proofs.Common.{and-second_false, ap, arith, Bool, cases_lt, cond, div_below, false, inl, inr, int_lt, ints, le-from_lt_false, nat_le, nat_lt, nat_tests, negsuc, None, Option, or_else-none, pos, refl, slice_index_or, Some, suc, true, zero, ℕ, ℤ, ≤ℤ_refl, ◌%◌, ◌*◌, ◌+◌, ◌-◌, ◌/◌, ◌<◌, ◌^◌, ◌||◌, ◌∙◌, ◌≡◌, ◌≤ℤ◌, ◌≤◌}
-use Rattle.word_rules.specs.Words.{div, ang90}
-use Rattle.word_rules.specs.Least.{least}
+use Rattle.word_rules.specs.{Words.div, Words.ang90, Least.least}
 use Rattle.word_rules.proofs.LeastLemmas.{none-below, least-is}
 use Rattle.view_rules.specs.declared.TheConstants.{TANGENTS, EDGE_TANGENT, MIN_EDGE_TANGENT}
 use Rattle.view_rules.specs.declared.TablesRefusal.{TablesRefusal}
 use Rattle.view_rules.specs.declared.TablesRefusal.TheVariants.{Tangent}
-use Rattle.view_rules.specs.declared.ViewShape.{ViewShape}
-use Rattle.view_rules.specs.Angles.{Angles, tangent_at}
-use Rattle.view_rules.specs.Shape.{shape_of_size, width_of_size}
+use Rattle.view_rules.specs.{declared.ViewShape.ViewShape, Angles.Angles, Angles.tangent_at}
+use Rattle.view_rules.specs.{Shape.shape_of_size, Shape.width_of_size, Sound.IsShape, Sound.IsSound}
 use Rattle.view_rules.specs.Tables.{focal_length, column_of_angle, is_seen_by, first_seen_by, fine_of_column, angle_of_column, clip_angle}
 use Rattle.view_rules.specs.Refusals.{is_wrong_tangent, is_wrong_edge, is_wrong_left, is_wrong_view, refused_at, tangent_refusal, view_refusal, angles_refusal}
-use Rattle.view_rules.specs.Sound.{IsShape, IsSound}
 use Rattle.view_rules.proofs.ColumnLemmas.{projection_is, raw_column-falls, within_view-mono}
 
 refused_at-none : (f : ℕ → TablesRefusal) (o : Option ℕ) → refused_at f o ≡ None → o ≡ None

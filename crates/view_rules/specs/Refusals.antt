@@ -2,15 +2,11 @@
 -- first; and the first thing that is wrong with it. That these are refused is this project's own.
 use Rattle.std.specs.Prelude.{ℕ, ◌+◌, ◌-◌, ◌*◌, ℤ, pos, neg_ℤ, Bool, ◌||◌, ◌&&◌, true, cond, int_lt, nat_lt, ◌==◌, Option, Some, None, List, length, drop, slice_index, slice_index_or}
 use Rattle.byteorder.specs.Endian.{little_number}
-use Rattle.word_rules.specs.Words.{signed_of}
-use Rattle.word_rules.specs.Least.{least, or_else}
-use Rattle.word_rules.specs.Listed.{listed}
+use Rattle.word_rules.specs.{Words.signed_of, Least.least, Least.or_else, Listed.listed}
 use Rattle.view_rules.specs.declared.TheConstants.{SINES, TANGENTS, SLOPE_ANGLES, WORD_BYTES, TABLES_BYTES, MAX_SINE, MAX_SLOPE_ANGLE, FINE_AHEAD, EDGE_TANGENT, MIN_EDGE_TANGENT, MAX_EDGE_TANGENT}
-use Rattle.view_rules.specs.declared.TablesRefusal.{TablesRefusal}
+use Rattle.view_rules.specs.{declared.TablesRefusal.TablesRefusal, declared.ViewShape.ViewShape}
 use Rattle.view_rules.specs.declared.TablesRefusal.TheVariants.{Length, Sine, Tangent, Angle, FieldOfView}
-use Rattle.view_rules.specs.declared.ViewShape.{ViewShape}
-use Rattle.view_rules.specs.Angles.{Angles, tangent_at}
-use Rattle.view_rules.specs.Shape.{shape_of_size}
+use Rattle.view_rules.specs.{Angles.Angles, Angles.tangent_at, Shape.shape_of_size}
 use Rattle.view_rules.specs.Tables.{first_seen_by}
 
 -- word i of a file, unsigned and signed

@@ -2,9 +2,7 @@
 use Rattle.std.specs.Prelude.{◌≡◌, ℕ, ◌+◌, ◌<◌, ◌≤◌}
 use Rattle.word_rules.specs.Words.{ang90}
 use Rattle.view_rules.specs.declared.TheConstants.{MIN_SIZE, MAX_SIZE, FRAME_WIDTH, FRAME_HEIGHT, TANGENTS}
-use Rattle.view_rules.specs.declared.ViewShape.{ViewShape}
-use Rattle.view_rules.specs.Angles.{Angles}
-use Rattle.view_rules.specs.Shape.{shape_of_size}
+use Rattle.view_rules.specs.{declared.ViewShape.ViewShape, Angles.Angles, Shape.shape_of_size}
 use Rattle.view_rules.specs.Tables.{column_of_angle, clip_angle}
 
 -- the shape is one of the nine

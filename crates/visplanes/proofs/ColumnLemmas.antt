@@ -1,6 +1,5 @@
 -- Laws of how a plane keeps its runs: what a column has, and what is left where one is marked.
-use Rattle.picture_rules.proofs.Common.{[], and_parts, ap, arith, cases_eq, cases_lt, cond, drop, eq-eqb, false, get_or, get_or-drop, get_or-replicate, get_or-set_other, get_or-set_same, get_or-take, get_or_past, inl, inr, is_none, leb-true, length, length-drop, length-replicate, length-set, length-take, List, list_all, list_all_at, max, min, nat_le, ne_eqb, None, Option, refl, replicate, slice_index, slice_range, Some, suc, sym, true, ℕ, ◌&&◌, ◌+◌, ◌-◌, ◌<◌, ◌==◌, ◌∙◌, ◌∷◌, ◌≡◌, ◌≢◌, ◌≤◌}
-use Rattle.std.proofs.Common.{set}
+use Rattle.picture_rules.proofs.Common.{[], and_parts, ap, arith, cases_eq, cases_lt, cond, drop, eq-eqb, false, get_or, get_or-drop, get_or-replicate, get_or-set_other, get_or-set_same, get_or-take, get_or_past, inl, inr, is_none, leb-true, length, length-drop, length-replicate, length-set, length-take, List, list_all, list_all_at, max, min, nat_le, ne_eqb, None, Option, refl, replicate, slice_index, slice_range, Some, suc, sym, true, ℕ, ◌&&◌, ◌+◌, ◌-◌, ◌<◌, ◌==◌, ◌∙◌, ◌∷◌, ◌≡◌, ◌≢◌, ◌≤◌, set}
 use Rattle.visplanes.specs.Rules.{FRAME_HEIGHT, FRAME_WIDTH, Plane, PlaneKey, column, empty_plane, holds, holds_row, is_free, listed, with_run}
 use Rattle.picture_rules.proofs.Laws.{get_or-listed, length-listed, listed-all}
 use Rattle.visplanes.specs.declared.columns.TheConstants.{NO_RUN}

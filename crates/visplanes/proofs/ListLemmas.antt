@@ -1,6 +1,5 @@
 -- Laws of a list of planes of which the first ones count: what is changed, added and found there.
-use Rattle.picture_rules.proofs.Common.{[], All-push, All-set, ap, arith, Bool, false, get_or, get_or-take, length, length-replicate, length-set, length-take, List, None, Option, refl, slice_get, Some, suc, sym, take, true, zero, ℕ, ◌++◌, ◌<◌, ◌∙◌, ◌∷◌, ◌≡◌, ◌≤◌}
-use Rattle.std.proofs.Common.{set}
+use Rattle.picture_rules.proofs.Common.{[], All-push, All-set, ap, arith, Bool, false, get_or, get_or-take, length, length-replicate, length-set, length-take, List, None, Option, refl, slice_get, Some, suc, sym, take, true, zero, ℕ, ◌++◌, ◌<◌, ◌∙◌, ◌∷◌, ◌≡◌, ◌≤◌, set}
 use Rattle.visplanes.specs.Rules.{AreWide, FRAME_WIDTH, Plane, PlaneKey, add, check, check_plane, empty_plane, is_free, mark, with_run}
 use Rattle.picture_rules.proofs.plane.PlaneLemmas.{check-some, mark-some}
 use Rattle.visplanes.specs.Planes.{PlanesView}

@@ -1,6 +1,5 @@
 -- Laws of the first plane of a key: which it is, and that it stays the first while planes are added and marked.
-use Rattle.picture_rules.proofs.Common.{[], and_from, and_parts, ap, arith, Bool, common_steps, eq-eqb, eqb-true, get_or, get_or-take, get_or_append_left, get_or_default, length, length-set, length-take, length_push, List, None, not, Option, position, position-Some, prefix_len-le-length, refl, Some, subst, suc, sym, take, take_more_set, true, zero, ℕ, ◌&&◌, ◌++◌, ◌+◌, ◌<◌, ◌==◌, ◌∙◌, ◌∷◌, ◌≡◌, ◌≤◌}
-use Rattle.std.proofs.Common.{set}
+use Rattle.picture_rules.proofs.Common.{[], and_from, and_parts, ap, arith, Bool, common_steps, eq-eqb, eqb-true, get_or, get_or-take, get_or_append_left, get_or_default, length, length-set, length-take, length_push, List, None, not, Option, position, position-Some, prefix_len-le-length, refl, Some, subst, suc, sym, take, take_more_set, true, zero, ℕ, ◌&&◌, ◌++◌, ◌+◌, ◌<◌, ◌==◌, ◌∙◌, ◌∷◌, ◌≡◌, ◌≤◌, set}
 use Rattle.visplanes.specs.Rules.{Flat4, Lump, Plane, PlaneKey, Sky, add, bits_of, empty_plane, find, number_of, same_flat, same_key, same_word, with_run}
 use Rattle.picture_rules.proofs.plane.PlaneLemmas.{find-some, find-none}
 use Rattle.visplanes.specs.Planes.{IsFirst, plane_at, no_plane}

@@ -1,8 +1,7 @@
 -- Laws of rows: which row is in them, and the two parts of one column's rows that another does not have.
 use Rattle.picture_rules.proofs.Common.{and_from, and_parts, and_right, ap, arith, Bool, both_ways, cases_lt, false, inl, inr, le-leb, le-ltb, leb-true, lt-leb, lt-ltb, ltb-true, nat_le, nat_lt, None, Option, Some, sym, true, ℕ, ◌&&◌, ◌+◌, ◌<◌, ◌∙◌, ◌≡◌, ◌≤◌, ◌⊎◌}
-use Rattle.visplanes.specs.declared.rows.Rows.{Rows}
+use Rattle.visplanes.specs.{declared.rows.Rows.Rows, Spans.rows_of, Spans.is_in}
 use Rattle.picture_rules.specs.Words.{holds_row}
-use Rattle.visplanes.specs.Spans.{rows_of, is_in}
 
 pub is_in-from : (rows : Rows) (y : ℕ) → rows.begin ≤ y → y < rows.end → is_in rows y ≡ true
 unfolding is_in

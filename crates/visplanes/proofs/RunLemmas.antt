@@ -1,8 +1,7 @@
 -- Laws of the runs of columns that hold a row, from a column on.
 use Rattle.picture_rules.proofs.Common.{[], ap, arith, Bool, cases_lt, drop, drop_more, false, get_or, get_or-drop, get_or_past, inl, inr, length, length-map, List, not, refl, replicate, suc, sym, take_all, true, zero, ℕ, ◌++◌, ◌+◌, ◌-◌, ◌<◌, ◌∙◌, ◌∷◌, ◌≡◌, ◌≤◌, ◌⊎◌}
 use Rattle.picture_rules.specs.Words.{fragments, FRAME_WIDTH, holds, holds_row, is_covered, Plane, plane_gaps, row_runs, runs}
-use Rattle.picture_rules.proofs.Laws.{runs-open}
-use Rattle.picture_rules.proofs.plane.SpanLemmas.{covered-gaps}
+use Rattle.picture_rules.proofs.{Laws.runs-open, plane.SpanLemmas.covered-gaps}
 use Rattle.visplanes.specs.Spans.{runs_from}
 
 length-gaps : (p : Plane) (y : ℕ) → length (plane_gaps p y) ≡ length p.runs

@@ -1,8 +1,7 @@
 -- What a call that chooses a plane leaves, and a view that has no room for a further plane.
 use Rattle.std.specs.Prelude.{◌≡◌, ◌+◌, ◌<◌, ◌↔◌, length, IfOk, IfErr, OnOk, OnErr, IsErr, Result}
 use Rattle.picture_rules.specs.Words.{PlaneChoice}
-use Rattle.visplanes.specs.declared.planes.PlaneNo.{PlaneNo}
-use Rattle.visplanes.specs.declared.planes.PlanesFull.{PlanesFull}
+use Rattle.visplanes.specs.{declared.planes.PlaneNo.PlaneNo, declared.planes.PlanesFull.PlanesFull}
 use Rattle.visplanes.specs.Planes.{PlanesView, with_planes}
 
 -- a refusal counts the room and one, and leaves the planes as they were

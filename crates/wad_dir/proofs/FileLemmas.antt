@@ -1,12 +1,9 @@
 -- The lumps of a file, and of files one after the other.
 use Rattle.word_rules.proofs.Common.{[], add-one, ap, append-nil, append_assoc, arith, Bool, drop, drop-cons, drop_all, Err, err_from_is_err_and, false, get_or, IsErrAnd, length, List, nat_lt, nat_tests, Ok, refl, Result, suc, sum_by, sum_by-cons, sym, take, true, ℕ, ◌*◌, ◌++◌, ◌+◌, ◌<◌, ◌∙◌, ◌≡◌, ◌≤◌}
-use Rattle.wad_dir.specs.Rules.{DirRefusal, Fault, FaultFits, FileNo, Header, IsLaterShelf, Lump, NameFiles, ResultIs, ShelfView, Stands, directory, entry_count, entry_refusal, file_lumps, file_refusal, header, header_in, header_refusal, listing_size, listing_sizes, lumps_from, lumps_in, refusal_from, unless_refused, whole_header_refusal}
-use Rattle.outside.specs.Shelf.{IsPieceAt}
-use Rattle.lump_rules.specs.declared.wad.TheConstants.{HEADER_SIZE}
+use Rattle.wad_dir.specs.Rules.{DirRefusal, Fault, FaultFits, FileNo, HEADER_SIZE, Header, IsLaterShelf, IsPieceAt, Lump, NameFiles, ResultIs, ShelfView, Stands, directory, entry_count, entry_refusal, file_lumps, file_refusal, header, header_in, header_refusal, listing_size, listing_sizes, lumps_from, lumps_in, refusal_from, unless_refused, whole_header_refusal}
 use Rattle.outside.proofs.ShelfLemmas.{as_many, stands_at}
 use Rattle.lump_rules.proofs.WadLemmas.{unless_refused_ok, file_lumps-length}
-use Rattle.wad_dir.specs.declared.fault.DirFault.{DirFault}
-use Rattle.wad_dir.specs.Faults.{dir_fault}
+use Rattle.wad_dir.specs.{declared.fault.DirFault.DirFault, Faults.dir_fault}
 use Rattle.wad_dir.proofs.AnswerLemmas.{answers_whatever, first_stands}
 
 -- the lumps of a file whose header was passed

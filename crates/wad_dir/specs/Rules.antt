@@ -12,7 +12,7 @@ pub use Rattle.lump_rules.specs.declared.wad.Lump.{Lump}
 pub use Rattle.lump_rules.specs.declared.wad.LumpNo.{LumpNo}
 pub use Rattle.lump_rules.specs.declared.wad.TheConstants.{ENTRY_SIZE, HEADER_SIZE, MAX_LUMPS}
 pub use Rattle.outside.specs.Faults.{FaultFits, HasCauses, ResultIs}
-pub use Rattle.outside.specs.Shelf.{IsLaterShelf, NameFiles, ShelfView, Stands}
+pub use Rattle.outside.specs.Shelf.{IsLaterShelf, IsPieceAt, NameFiles, ShelfView, Stands}
 pub use Rattle.outside.specs.declared.fault.Fault.{Fault}
 pub use Rattle.outside.specs.declared.fault.Fault.TheVariants.{OutOfMemory, ReadFault, Refused, ZoneFull}
 pub use Rattle.outside.specs.declared.shelf.FileNo.{FileNo}

@@ -1,14 +1,12 @@
 -- A part of the file behind those before it: its lump is fetched, and its bytes are written.
 use Rattle.art_rules.proofs.Common.{◌≡◌, ◌<◌, ◌+◌, ◌++◌, ◌∙◌, ℕ, All, ap, append-nil, drop, Err, get_or, IsErrAnd, length, List, Ok, Result, Some, subst, suc, sym}
 use Rattle.wad_trim.specs.Rules.{Copy, Failed, HEADER_SIZE, Heap, IsLive, LumpNo, ShelfView, TrimPart, Writes, bytes_of, lump_bytes, part_bytes, trimmed_file}
-use Rattle.texture_build.specs.DirectoryView.{DirectoryView}
-use Rattle.texture_build.specs.CacheFault.{CacheFault}
+use Rattle.texture_build.specs.{DirectoryView.DirectoryView, CacheFault.CacheFault}
 use Rattle.texture_build.specs.Caches.{cache_fault, lump_owner}
 use Rattle.texture_build.specs.Calls.{HoldContents, ReadsLumps}
 use Rattle.texture_build.proofs.CallLemmas.{told_later}
 use Rattle.wad_trim.specs.declared.fault.TrimWrite.{TrimWrite}
-use Rattle.wad_trim.specs.declared.fault.TrimWrite.TheVariants.{WriteFault}
-use Rattle.wad_trim.specs.Faults.{write_of_cache}
+use Rattle.wad_trim.specs.{declared.fault.TrimWrite.TheVariants.WriteFault, Faults.write_of_cache}
 use Rattle.wad_trim.specs.Plans.{entries_from}
 use Rattle.wad_trim.specs.Writes.{IsCopied, IsPartThere, WritesLumps}
 use Rattle.wad_trim.proofs.FileLemmas.{bytes-none, bytes-one, bytes_by, copied-among, file-left, so_far, so_far-more}

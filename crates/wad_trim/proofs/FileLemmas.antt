@@ -2,8 +2,7 @@
 use Rattle.art_rules.proofs.Common.{[], add-zero, All, ap, append_assoc, arith, codes, drop, drop-cons, flat_map, flat_map-append, flat_map-cons, get_or, length, length-append, length-map, List, map, refl, suc, sum_by, sum_by-cons, sum_by_more, sym, take, take-append-drop, take_all, take_more, zero, ℕ, ◌*◌, ◌++◌, ◌+◌, ◌<◌, ◌∙◌, ◌∷◌, ◌≡◌, ◌≤◌}
 use Rattle.wad_trim.specs.Rules.{AllWithin, Copy, ENTRY_SIZE, HEADER_SIZE, HEAD_SIZE, Label, Lump, LumpNo, MAX_FILE_BYTES, Mark, TrimPart, contents, entries, file_of, file_size, lump_bytes, no_lump, part_bytes, part_lump, part_name, part_size, parts_size, trimmed_file, wad_file, word_bytes}
 use Rattle.art_rules.proofs.Laws.{lump_bytes-length}
-use Rattle.wad_trim.specs.Plans.{FitsFile, entries_from}
-use Rattle.wad_trim.specs.Writes.{IsCopied, IsPartThere}
+use Rattle.wad_trim.specs.{Plans.FitsFile, Plans.entries_from, Writes.IsCopied, Writes.IsPartThere}
 
 -- a part as an entry at a place
 abbrev pub entry : List Lump → ℕ → TrimPart → List ℕ

@@ -4,11 +4,9 @@ use Rattle.wad_trim.specs.Rules.{COLORMAP, COLORMAP_SIZE, Copy, F_END, F_START, 
 use Rattle.sound_scene.specs.Sound.{art_with}
 use Rattle.sound_scene.proofs.NeededLemmas.{for_colormap, for_list, for_map, for_palette, for_patch, for_picture}
 use Rattle.sound_scene.proofs.SceneLemmas.{IsSceneOf, base_parts}
-use Rattle.trim_rules.proofs.AnswerLemmas.{some_value}
-use Rattle.trim_rules.proofs.CalledLemmas.{IsLastOfName}
+use Rattle.trim_rules.proofs.{AnswerLemmas.some_value, CalledLemmas.IsLastOfName}
 use Rattle.trim_rules.proofs.LastLemmas.{fixed-last, patches-last}
-use Rattle.trim_rules.proofs.MemberLemmas.{is_lump-at}
-use Rattle.trim_rules.proofs.OrderLemmas.{kept-passing}
+use Rattle.trim_rules.proofs.{MemberLemmas.is_lump-at, OrderLemmas.kept-passing}
 use Rattle.trim_rules.proofs.PlanLemmas.{plan-accepted}
 use Rattle.trim_rules.proofs.ThereLemmas.{IsNumber, all-append, all-filter, called-there, label-is}
 use Rattle.wad_trim.specs.Writes.{IsCopied}

@@ -1,8 +1,7 @@
 -- The parts of a file: that they are those of the definition, are there, and are few.
 use Rattle.art_rules.proofs.Common.{[], All, AllByRecursion, ap, append_assoc, arith, Bool, count_by-le-length, filter, get_or, length, length-append, length-filter, length-map, length-range_with_len, List, list_any, map, map-range_with_len_more, None, not, Option, range_with_len, refl, Some, subst, suc, sym, zero, ℕ, ◌++◌, ◌+◌, ◌<◌, ◌==◌, ◌^◌, ◌∙◌, ◌∷◌, ◌≡◌, ◌≤◌}
 use Rattle.wad_trim.specs.Rules.{COLORMAP, Copy, F_END, F_START, Label, Lump, MAP_LUMPS, Mark, PLAYPAL, PNAMES, PreparedTexture, S_END, S_START, SceneArt, SectorFlats, TEXTURE1, TEXTURE2, TrimPart, called_lumps, copy_part, filled, fixed_lumps, flat_lumps, group_parts, has_flat, has_name, is_patch_of_any, last_list, last_of, listed_last, map_of, map_parts, name_of, patch_lumps, picture_lumps, trim_parts}
-use Rattle.trim_rules.proofs.ThereLemmas.{parts-there}
-use Rattle.trim_rules.proofs.TrimmedLemmas.{IsThere}
+use Rattle.trim_rules.proofs.{ThereLemmas.parts-there, TrimmedLemmas.IsThere}
 use Rattle.wad_trim.specs.Writes.{IsPartThere}
 
 -- the parts of a file are there

@@ -3,16 +3,14 @@ use Rattle.art_rules.proofs.Common.{[], ap, append_assoc, arith, Err, err_from_i
 use Rattle.wad_trim.specs.Rules.{Failed, FaultsRose, Grew, GrewByPrefix, Heap, IsInOrder, IsLive, Item, KeepsOrder, ShelfView, Writes, bytes_of, lump_bytes}
 use Rattle.art_rules.proofs.Laws.{grew_more, grew_none, grew_partly, prefix_none, prefix_of_more}
 use Rattle.scene_rules.proofs.Laws.{order_none, order_then}
-use Rattle.texture_build.specs.DirectoryView.{DirectoryView}
-use Rattle.texture_build.specs.CacheFault.{CacheFault}
+use Rattle.texture_build.specs.{DirectoryView.DirectoryView, CacheFault.CacheFault}
 use Rattle.texture_build.specs.CacheFault.TheVariants as cache
 use Rattle.texture_build.specs.Caches.{cache_fault, lump_owner}
 use Rattle.texture_build.specs.Calls.{HasAll, HoldContents, IsFullFor, PreservesCache, ReadsLumps}
 use Rattle.texture_build.proofs.CallLemmas.{full_for_earlier, keeps_none, keeps_then, told_later}
 use Rattle.texture_build.proofs.FetchLemmas.{live_faithful}
-use Rattle.wad_trim.specs.declared.fault.TrimWrite.{TrimWrite}
+use Rattle.wad_trim.specs.{declared.fault.TrimWrite.TrimWrite, Faults.write_of_cache}
 use Rattle.wad_trim.specs.declared.fault.TrimWrite.TheVariants.{ReadFault, WriteFault, ZoneFull}
-use Rattle.wad_trim.specs.Faults.{write_of_cache}
 use Rattle.wad_trim.specs.Writes.{InOrderWhere, WritesLumps}
 
 in_order_at : {P Q : Type 0} (result : Result (Unit {0}) TrimWrite) → (P → Q) → InOrderWhere result P → InOrderWhere result Q

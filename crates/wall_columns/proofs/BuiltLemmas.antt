@@ -11,14 +11,12 @@ use Rattle.wall_columns.specs.declared.notes.SavePlaces.{SavePlaces}
 use Rattle.wall_columns.specs.declared.column_state.ColumnState.{ColumnState}
 use Rattle.wall_columns.specs.Walls.{WallsView, clip_at}
 use Rattle.wall_columns.specs.Windows.{WindowsView, ceilings_in, floors_in, window_at}
-use Rattle.wall_columns.specs.Saved.{OpeningsView, lists_saved}
-use Rattle.wall_columns.specs.Places.{places_of}
+use Rattle.wall_columns.specs.{Saved.OpeningsView, Saved.lists_saved, Places.places_of}
 use Rattle.wall_columns.specs.Columns.{plane_number, columns_of, column_edges, column_after, clip_along, marks_along, HasMarked, HasSaved, HasTaken}
 use Rattle.wall_columns.specs.Leaves.{now_of, both_checks, ceiling_check, floor_check}
 use Rattle.wall_columns.specs.States.{walls_view}
 use Rattle.wall_columns.specs.Built.{IsDrawn, IsBuilt, with_wall, step_of_wall}
-use Rattle.wall_columns.proofs.MarkLemmas.{marked-saved}
-use Rattle.wall_columns.proofs.PartLemmas.{listed_from-all}
+use Rattle.wall_columns.proofs.{MarkLemmas.marked-saved, PartLemmas.listed_from-all}
 use Rattle.wall_columns.proofs.SavedLemmas.{lists_saved-behind}
 
 -- what is open of a column, of the state and of its windows

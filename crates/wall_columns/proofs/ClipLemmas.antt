@@ -2,8 +2,7 @@
 use Rattle.picture_rules.proofs.Common.{arith, Bool, clamps, cond, false, FitsSigned, int_le, int_shr, int_wrap, int_wrap_fits, ints, List, negsuc, None, Option, pos, refl, SFits-int_wrap, slice_get, Some, subst, suc, sym, true, w32, zero, ℕ, ℤ, ◌+ℤ◌, ◌-ℤ◌, ◌-◌, ◌<ℤ◌, ◌≡◌, ◌≤ℤ◌, ◌≤◌}
 use Rattle.wall_columns.specs.Rules.{ColumnClip, Edges, FRAME_HEIGHT, FragmentNumbers, MAX_EDGE_FRACTION, ViewShape, Wall, above_clip, below_clip, bottom_first, bottom_rows, ceiling_after, ceiling_past_none, ceiling_past_top, ceiling_rows, clip_after, clip_before, edge_at, edges_at, floor_after, floor_past_bottom, floor_past_none, floor_rows, greater_word, greatest_clip, has_column, has_texture, least_clip, lesser_word, middle_rows, minus, minus_one, narrowed_clip, open_clip, past_some, past_wall, plus, row_from, row_to, shr_word, shut_clip, step_at, top_last, top_rows, wall_edges, wall_first, wall_last}
 use Rattle.picture_rules.proofs.Laws.{greater_word-first, lesser_word-first}
-use Rattle.wall_columns.specs.Windows.{IsClipIn}
-use Rattle.wall_columns.specs.Plans.{AreEdgeWords, AreRowsIn}
+use Rattle.wall_columns.specs.{Windows.IsClipIn, Plans.AreEdgeWords, Plans.AreRowsIn}
 
 -- what lies between two words is a word
 fits_between : (z : ℤ) → negsuc 2147483647 ≤ℤ z → z ≤ℤ pos 2147483647 → FitsSigned w32 z

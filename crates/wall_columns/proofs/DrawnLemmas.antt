@@ -10,11 +10,9 @@ use Rattle.texture_build.proofs.PaintLemmas.{can_draw-later, paints-asked, paint
 use Rattle.wall_columns.specs.declared.clips.ColumnPlan.{ColumnPlan}
 use Rattle.wall_columns.specs.declared.fault.DrawFault.{DrawFault}
 use Rattle.wall_columns.specs.Draws.{IsNoPicture, IsWallTexture, IsSeenOf}
-use Rattle.wall_columns.specs.Faults.{draw_fault}
+use Rattle.wall_columns.specs.{Faults.draw_fault, declared.column_state.ColumnState.ColumnState}
 use Rattle.wall_columns.specs.Plans.{has_part, IsPartTexture, IsPlanTexture, plan_of, strips_by, HasRows, IsInRows, AreEdgeWords}
-use Rattle.wall_columns.specs.declared.column_state.ColumnState.{ColumnState}
-use Rattle.wall_columns.specs.Built.{AreBehind, IsBuilt, with_wall}
-use Rattle.wall_columns.specs.States.{walls_view}
+use Rattle.wall_columns.specs.{Built.AreBehind, Built.IsBuilt, Built.with_wall, States.walls_view}
 use Rattle.wall_columns.specs.Walls.{WallsView, clip_at}
 use Rattle.wall_columns.specs.Windows.{IsClipIn, WindowsView, window_at}
 use Rattle.wall_columns.proofs.BuiltLemmas.{built-count, built-window}

@@ -2,10 +2,8 @@
 use Rattle.picture_rules.proofs.Common.{ap, arith, Bool, cond, false, length, List, nat_le, nat_lt, nat_tests, None, Option, refl, Some, subst, sym, true, within-row, ℕ, ◌&&◌, ◌+◌, ◌-◌, ◌<◌, ◌==◌, ◌∙◌, ◌≡◌, ◌≢◌}
 use Rattle.wall_columns.specs.Rules.{ColumnClip, Edges, FRAME_WIDTH, FragmentNumbers, Plane, RowRange, ViewValue, ceiling_rows, clip_after, column_marked, columns_marked, edges_at, floor_rows, marked_rows, set_run}
 use Rattle.picture_rules.proofs.plane.BuiltLemmas.{columns_marked-none, columns_marked-more}
-use Rattle.visplanes.specs.Planes.{PlanesView, with_planes}
-use Rattle.visplanes.specs.declared.planes.PlaneNo.{PlaneNo}
-use Rattle.wall_edges.specs.Fragments.{FragmentValue}
-use Rattle.wall_edges.specs.Steppers.{IsAt}
+use Rattle.visplanes.specs.{Planes.PlanesView, Planes.with_planes, declared.planes.PlaneNo.PlaneNo}
+use Rattle.wall_edges.specs.{Fragments.FragmentValue, Steppers.IsAt}
 use Rattle.wall_edges.specs.declared.stepper.Stepper.{Stepper}
 use Rattle.wall_columns.specs.declared.clips.ColumnPlan.{ColumnPlan}
 use Rattle.wall_columns.specs.declared.columns.MarkedPlanes.{MarkedPlanes}

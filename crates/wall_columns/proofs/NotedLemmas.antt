@@ -3,11 +3,8 @@
 use Rattle.picture_rules.proofs.Common.{[], All, AllByRecursion, ap, append_assoc, arith, bit_and, Bool, cond, false, from_bool, IfSome, ints, IsSome, length, length-append, List, None, not, Option, pos, recursion_from_All, refl, slice_get, Some, subst, suc, sym, true, zero, ℕ, ℤ, ◌&&◌, ◌*◌, ◌++◌, ◌+◌, ◌-◌, ◌<ℤ◌, ◌<◌, ◌||◌, ◌∙◌, ◌∷◌, ◌≡◌, ◌≢◌, ◌≤ℤ◌, ◌≤◌}
 use Rattle.wall_columns.specs.Rules.{AreNoted, ColumnClip, FRAME_HEIGHT, FragmentNote, FragmentNumbers, IsClip, IsClipAmong, IsListAt, IsWholeNote, ListsApart, MAX_DRAWSEGS, SIL_BOTTOM, SIL_TOP, Surface, ViewShape, ViewValue, Wall, WallFacts, bottom_clip, clip_note, clip_past, fragment_numbers, greatest_clip, is_masked, least_clip, minus_one, note_at, notes_from, numbers_by, openings_list, place_if, room_if, saved_by, saved_from, saves_bottom, saves_top, silhouette_of, step_at, top_clip, view_notes, wall_of}
 use Rattle.picture_rules.proofs.wall.NoteLemmas.{length-saved_by, note-top_clip, note-bottom_clip}
-use Rattle.wall_columns.specs.Windows.{IsClipIn}
-use Rattle.wall_columns.specs.Built.{IsDrawn}
-use Rattle.wall_columns.specs.Noted.{HaveBacks}
-use Rattle.wall_columns.proofs.ClipLemmas.{clip_before-in}
-use Rattle.wall_columns.proofs.SightLemmas.{numbers-scale}
+use Rattle.wall_columns.specs.{Windows.IsClipIn, Built.IsDrawn, Noted.HaveBacks}
+use Rattle.wall_columns.proofs.{ClipLemmas.clip_before-in, SightLemmas.numbers-scale}
 
 -- a list that is noted lies among the openings
 listed_at : (masked : Bool) (openings : List ℤ) (d : FragmentNote) (place total : ℕ) → (masked ≡ true → place + (d.last + 1 - d.first) ≤ length openings) → IfSome (place_if masked place) (IsListAt openings d)

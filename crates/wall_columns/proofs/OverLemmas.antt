@@ -2,16 +2,12 @@
 use Rattle.picture_rules.proofs.Common.{ap, arith, Bool, cond, Err, false, length, List, nat_lt, None, Ok, OnOk, Option, refl, Result, Some, sym, true, ℕ, ◌+◌, ◌-◌, ◌∙◌, ◌≡◌}
 use Rattle.wall_columns.specs.Rules.{FragmentNote, FragmentNumbers, OverLimit, PlaneKey, PlanesNow, ViewValue, Wall, WallFacts, ceiling_checked, floor_checked, fragment_numbers, limit_of, openings_count, openings_counts, openings_of, passes_limit, plane_counts, plane_wall, planes_count, room_if, wall_of, wall_step}
 use Rattle.picture_rules.proofs.wall.NoteLemmas.{length-saved_by, length-saved_openings}
-use Rattle.visplanes.specs.Planes.{PlanesView}
-use Rattle.wall_columns.specs.declared.fault.DrawFault.{DrawFault}
+use Rattle.visplanes.specs.{Planes.PlanesView, declared.planes.PlaneNo.PlaneNo}
+use Rattle.wall_columns.specs.{declared.fault.DrawFault.DrawFault, Walls.WallsView}
 use Rattle.wall_columns.specs.declared.fault.DrawFault.TheVariants.{Planes, Openings, ZoneFull, ReadFault}
-use Rattle.wall_columns.specs.Walls.{WallsView}
-use Rattle.wall_columns.specs.Places.{places_of}
-use Rattle.wall_columns.specs.Faults.{limit_of_fault, IsLimitFault}
-use Rattle.visplanes.specs.declared.planes.PlaneNo.{PlaneNo}
-use Rattle.wall_columns.specs.declared.column_state.ColumnState.{ColumnState}
+use Rattle.wall_columns.specs.{Places.places_of, Faults.limit_of_fault, Faults.IsLimitFault}
+use Rattle.wall_columns.specs.{declared.column_state.ColumnState.ColumnState, States.walls_view}
 use Rattle.wall_edges.specs.Fragments.{FragmentValue, fragment_of}
-use Rattle.wall_columns.specs.States.{walls_view}
 use Rattle.wall_columns.specs.Columns.{plane_number}
 use Rattle.wall_columns.specs.Leaves.{now_of, ceiling_check, floor_check, over_room, openings_over, leaf_over, checks_over}
 use Rattle.wall_columns.specs.Built.{IsBuilt, limits_of, step_over, step_of_leaf, step_of_wall}

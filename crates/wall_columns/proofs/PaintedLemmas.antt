@@ -1,10 +1,8 @@
 -- Laws of the strips of a fragment's column, and of a call that paints one.
 use Rattle.picture_rules.proofs.Common.{[], append-nil, arith, false, int_lt, ints, List, pos, refl, Result, sym, true, ℕ, ℤ, ◌++◌, ◌∙◌, ◌∷◌, ◌≡◌, ◌≤ℤ◌}
-use Rattle.wall_columns.specs.Rules.{Art, Painter, Part, RowRange, ViewShape, WALL, WallStrip, column_dots, joined_lists, listed_from, painter_of, row_fraction, rows_between, texel_row}
-use Rattle.art_rules.specs.Words.{fault_above}
+use Rattle.wall_columns.specs.Rules.{Art, Painter, Part, RowRange, ViewShape, WALL, WallStrip, column_dots, fault_above, joined_lists, listed_from, painter_of, row_fraction, rows_between, texel_row}
 use Rattle.picture_rules.proofs.Laws.{joined_lists-append}
-use Rattle.texture_build.specs.Caches.{cache_fault}
-use Rattle.texture_build.specs.CacheFault.{CacheFault}
+use Rattle.texture_build.specs.{Caches.cache_fault, CacheFault.CacheFault}
 use Rattle.texture_build.specs.CacheFault.TheVariants as cache
 use Rattle.pixel_strips.proofs.RowLemmas.{rows-between}
 use Rattle.texture_build.specs.Paints.{PaintState, PaintTools, painted_art}

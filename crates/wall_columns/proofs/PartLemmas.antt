@@ -1,9 +1,5 @@
 -- Laws of the parts of a wall state: windows, openings and the planes of a leaf.
-use Rattle.picture_rules.proofs.Common.{[], All-replicate, All-set, ap, append_assoc, arith, Bool, cond, drop, false, get_or, get_or-replicate, ints, is_none, length, length-append, length-drop, length-replicate, length-set, length-take, length-take-le, List, None, Option, pos, replicate, slice_get, slice_index_or, Some, sym, take, take-append-drop, take-append-le, true, ℕ, ℤ, ◌++◌, ◌+◌, ◌-◌, ◌<◌, ◌∙◌, ◌∷◌, ◌≡◌, ◌≤ℤ◌, ◌≤◌}
-use Rattle.std.proofs.Common.{set}
-use Rattle.std.specs.List.{between}
-use Rattle.std.proofs.lemmas.List.{drop-append-le, take_at}
-use Rattle.std.proofs.lemmas.List.Edits.{get_or-between, length-between}
+use Rattle.picture_rules.proofs.Common.{[], All-replicate, All-set, ap, append_assoc, arith, Bool, cond, drop, false, get_or, get_or-replicate, ints, is_none, length, length-append, length-drop, length-replicate, length-set, length-take, length-take-le, List, None, Option, pos, replicate, slice_get, slice_index_or, Some, sym, take, take-append-drop, take-append-le, true, ℕ, ℤ, ◌++◌, ◌+◌, ◌-◌, ◌<◌, ◌∙◌, ◌∷◌, ◌≡◌, ◌≤ℤ◌, ◌≤◌, set, between, drop-append-le, take_at, get_or-between, length-between}
 use Rattle.wall_columns.specs.Rules.{ColumnClip, FRAME_HEIGHT, FRAME_WIDTH, Plane, PlaneKey, add, check, check_plane, check_some, empty_plane, find, greatest_clip, is_free, least_clip, listed_from, minus_one, number_of}
 use Rattle.picture_rules.proofs.Laws.{get_or-listed_from, length-listed_from, listed-all}
 use Rattle.picture_rules.proofs.plane.PlaneLemmas.{length-check, length-find}

@@ -1,9 +1,6 @@
 -- Laws of what a fragment saves: how its texture columns are written one by one, and that its three
 -- lists stand one after the other behind the openings that there were.
-use Rattle.picture_rules.proofs.Common.{[], ap, append-nil, append_assoc, arith, Bool, drop, drop-drop, drop_all, false, get_or, length, length-append, length-drop, List, pos, refl, sym, take, take-append-drop, true, ℕ, ℤ, ◌++◌, ◌+◌, ◌-◌, ◌∙◌, ◌≡◌, ◌≤◌}
-use Rattle.std.proofs.Common.{set}
-use Rattle.std.proofs.lemmas.List.{drop_at, take_at}
-use Rattle.std.proofs.lemmas.List.Edits.{paste_all, paste_more, paste_none}
+use Rattle.picture_rules.proofs.Common.{[], ap, append-nil, append_assoc, arith, Bool, drop, drop-drop, drop_all, false, get_or, length, length-append, length-drop, List, pos, refl, sym, take, take-append-drop, true, ℕ, ℤ, ◌++◌, ◌+◌, ◌-◌, ◌∙◌, ◌≡◌, ◌≤◌, set, drop_at, take_at, paste_all, paste_more, paste_none}
 use lib.Seq.{paste}
 use borrow.Rule.Slice.PartMut.{put_mid}
 use Rattle.wall_columns.specs.Rules.{FragmentNumbers, listed_from, place_if, saved_if, saves_bottom, saves_top}

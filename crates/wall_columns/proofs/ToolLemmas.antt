@@ -1,9 +1,7 @@
 -- What holds of a view and of tools holds of those with the same references.
 use Rattle.std.proofs.Common.{◌≡◌, sym, ap, subst, ◌∙◌}
 use Rattle.picture_rules.specs.Words.{ViewShape, ViewValue}
-use Rattle.pixel_strips.specs.Canvases.{CanvasView}
-use Rattle.pixel_strips.specs.Dotted.{PlacedAlike}
-use Rattle.pixel_strips.specs.Standing.{StandsInFrame}
+use Rattle.pixel_strips.specs.{Canvases.CanvasView, Dotted.PlacedAlike, Standing.StandsInFrame}
 use Rattle.texture_build.specs.Paints.{PaintTools, paint_tools}
 use Rattle.wall_columns.specs.declared.tools.WallTools.{WallTools}
 use Rattle.wall_columns.specs.Tools.{AreSameWallTools, wall_tools}

@@ -1,15 +1,13 @@
 -- The columns of a fragment: clips and planes as they are drawn one by one, and what is saved.
 use Rattle.std.specs.Prelude.{◌≡◌, ◌<◌, ◌≤◌, ◌+◌, ◌-◌, ◌&&◌, ℕ, Bool, List, nat_le, nat_lt, cond, Option, None, option_map, IfSome, length, take}
 use Rattle.wall_columns.specs.Rules.{ColumnClip, Edges, FRAME_WIDTH, FragmentNumbers, IsAmongPlanes, Plane, PlaneWall, ViewValue, WallFacts, ceiling_rows, clip_after, columns_marked, edges_at, floor_rows, listed_from, marked_rows, texture_column}
-use Rattle.visplanes.specs.Planes.{PlanesView, with_planes}
-use Rattle.visplanes.specs.declared.planes.PlaneNo.{PlaneNo}
+use Rattle.visplanes.specs.{Planes.PlanesView, Planes.with_planes, declared.planes.PlaneNo.PlaneNo}
 use Rattle.wall_edges.specs.Fragments.{FragmentValue, fragment_of}
 use Rattle.wall_columns.specs.declared.columns.MarkedPlanes.{MarkedPlanes}
 use Rattle.wall_columns.specs.declared.notes.SavePlaces.{SavePlaces}
 use Rattle.wall_columns.specs.declared.column_state.ColumnState.{ColumnState}
 use Rattle.wall_columns.specs.Windows.{ceilings_in, floors_in, window_at}
-use Rattle.wall_columns.specs.Places.{places_of}
-use Rattle.wall_columns.specs.Saved.{OpeningsView, lists_saved}
+use Rattle.wall_columns.specs.{Places.places_of, Saved.OpeningsView, Saved.lists_saved}
 
 -- the number of a plane, where there is one
 abbrev pub plane_number : Option PlaneNo → Option ℕ

@@ -6,11 +6,9 @@ use Rattle.pixel_strips.specs.Standing.{StandsInFrame}
 use Rattle.texture_build.specs.Draws.{CanDraw}
 use Rattle.texture_build.specs.Paints.{PaintState, PaintTools, Paints, painted_art}
 use Rattle.wall_columns.specs.declared.clips.ColumnPlan.{ColumnPlan}
-use Rattle.wall_columns.specs.declared.fault.DrawFault.{DrawFault}
-use Rattle.wall_columns.specs.Draws.{IsNoPicture}
-use Rattle.wall_columns.specs.Faults.{draw_fault}
+use Rattle.wall_columns.specs.{declared.fault.DrawFault.DrawFault, Draws.IsNoPicture}
+use Rattle.wall_columns.specs.{Faults.draw_fault, Columns.column_edges}
 use Rattle.wall_columns.specs.Plans.{IsPartTexture, IsPlanTexture, IsStripTexture, strips_by}
-use Rattle.wall_columns.specs.Columns.{column_edges}
 
 -- the dots of a column of fragment number k, of which this was open
 unfoldable pub column_painted : ViewValue → Art → ℕ → FragmentValue → WallFacts →

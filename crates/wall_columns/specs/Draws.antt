@@ -4,8 +4,7 @@ use Rattle.wall_columns.specs.Rules.{ShelfView, ViewValue, Wall, WallFacts, Wall
 use Rattle.texture_build.specs.Zones.{Heap}
 use Rattle.pixel_strips.specs.Canvases.{CanvasView}
 use Rattle.visplanes.specs.Planes.{PlanesView}
-use Rattle.wall_columns.specs.Plans.{IsStripTexture}
-use Rattle.wall_columns.specs.Walls.{WallsView, clip_at}
+use Rattle.wall_columns.specs.{Plans.IsStripTexture, Walls.WallsView, Walls.clip_at}
 
 -- one of the textures of a fragment's facts, number 0 is none
 abbrev pub IsWallTexture : WallFacts → ℕ → Type 0

@@ -2,8 +2,7 @@
 use Rattle.std.specs.Prelude.{ℕ, nat_lt, cond, List, Option, Some, None, length}
 use Rattle.wall_columns.specs.Rules.{FragmentNumbers, OverLimit, Plane, PlaneChoice, PlaneKey, PlanesNow, ceiling_found, checked_plane, find, floor_found, openings_count, planes_count, with_ceiling, with_floor}
 use Rattle.visplanes.specs.Planes.{PlanesView}
-use Rattle.wall_columns.specs.declared.column_state.ColumnState.{ColumnState}
-use Rattle.wall_columns.specs.Columns.{plane_number}
+use Rattle.wall_columns.specs.{declared.column_state.ColumnState.ColumnState, Columns.plane_number}
 
 -- the planes with that of a key, and its number
 unfoldable pub planes_found : List Plane → Option PlaneKey → List Plane

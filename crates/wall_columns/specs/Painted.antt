@@ -3,10 +3,8 @@ use Rattle.std.specs.Prelude.{◌≡◌, ℕ, ℤ, List, Result}
 use Rattle.wall_columns.specs.Rules.{Art, Dot, Painter, Part, RowRange, ViewShape, WALL, WallStrip, column_dots, joined_lists, painter_of, row_fraction, rows_between, texel_row}
 use Rattle.texture_build.specs.Paints.{PaintState, PaintTools, Paints, painted_art}
 use Rattle.wall_columns.specs.declared.fault.DrawFault.{DrawFault}
-use Rattle.wall_columns.specs.declared.paint.ColumnLook.{ColumnLook}
-use Rattle.wall_columns.specs.Draws.{IsNoPicture}
-use Rattle.wall_columns.specs.Faults.{draw_fault}
-use Rattle.wall_columns.specs.Plans.{IsStripTexture}
+use Rattle.wall_columns.specs.{declared.paint.ColumnLook.ColumnLook, Draws.IsNoPicture}
+use Rattle.wall_columns.specs.{Faults.draw_fault, Plans.IsStripTexture}
 
 abbrev pub strip_with : Part → RowRange → WallStrip
 strip_with part rows = record { part = part; rows = rows }

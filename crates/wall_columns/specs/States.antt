@@ -1,8 +1,7 @@
 -- What contracts see of a wall state, by its parts.
 use Rattle.std.specs.Prelude.{List}
 use Rattle.picture_rules.specs.declared.wall.FragmentNote.{FragmentNote}
-use Rattle.wall_columns.specs.declared.column_state.ColumnState.{ColumnState}
-use Rattle.wall_columns.specs.Columns.{plane_number}
+use Rattle.wall_columns.specs.{declared.column_state.ColumnState.ColumnState, Columns.plane_number}
 use Rattle.wall_columns.specs.Walls.{WallsView}
 
 abbrev pub walls_view : List FragmentNote → ColumnState → WallsView

@@ -3,8 +3,7 @@ use Rattle.picture_rules.proofs.Common.{ap, arith, Bool, cond, eq-false_positive
 use Rattle.picture_rules.specs.Words.{edges_at, edges_first, edges_plus, edges_step, FRAME_WIDTH}
 use Rattle.picture_rules.specs.declared.wall.Edges.{Edges}
 use Rattle.picture_rules.proofs.wall.EdgeLemmas.{edges_at-zero, edges_at-more}
-use Rattle.wall_edges.specs.declared.stepper.Stepper.{Stepper}
-use Rattle.wall_edges.specs.Fragments.{FragmentValue}
+use Rattle.wall_edges.specs.{declared.stepper.Stepper.Stepper, Fragments.FragmentValue}
 use Rattle.wall_edges.specs.Steppers.{next_edges, one_column_on, next_stepper, stepper_after, IsAt}
 
 begins : (f : FragmentValue) → f.first ≤ f.last → f.last < FRAME_WIDTH → FitsSigned w32 f.numbers.scale1 →

@@ -3,8 +3,7 @@ use Rattle.std.specs.Prelude.{ℕ, ℤ, Bool}
 use Rattle.picture_rules.specs.Words.{fragment_numbers, silhouette_of, ViewShape, ViewValue}
 use Rattle.picture_rules.specs.declared.wall.WallFacts.{WallFacts}
 use Rattle.picture_rules.specs.declared.wall.FragmentNumbers.{FragmentNumbers}
-use Rattle.wall_edges.specs.declared.line.SegLine.{SegLine}
-use Rattle.wall_edges.specs.Lines.{seg_line_of}
+use Rattle.wall_edges.specs.{declared.line.SegLine.SegLine, Lines.seg_line_of}
 
 -- the numbers that a fragment shows
 pub record FragmentFields : Type 0 where

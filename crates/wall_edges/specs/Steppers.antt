@@ -2,8 +2,7 @@
 use Rattle.std.specs.Prelude.{◌≡◌, ℕ, zero, suc, ◌+◌, ◌-◌, ◌%◌, ◌^◌, ◌<◌, ◌==◌, cond, Option, Some, None}
 use Rattle.picture_rules.specs.Words.{edges_at, edges_plus, edges_step, FRAME_WIDTH}
 use Rattle.picture_rules.specs.declared.wall.Edges.{Edges}
-use Rattle.wall_edges.specs.Fragments.{FragmentValue}
-use Rattle.wall_edges.specs.declared.stepper.Stepper.{Stepper}
+use Rattle.wall_edges.specs.{Fragments.FragmentValue, declared.stepper.Stepper.Stepper}
 
 -- its edges, where a column is left
 unfoldable pub next_edges : Stepper → Option Edges

@@ -10,10 +10,9 @@ use Rattle.scene_rules.specs.declared.refusal.SceneRefusal.TheVariants as scene
 use Rattle.scene_rules.specs.declared.refusal.WeaponRefusal.TheVariants as weapon
 use Rattle.job_rules.specs.declared.trim.TrimRefusal.TheVariants as trim
 use Rattle.csv_tables.specs.declared.fault.CsvRefusal.TheVariants as csv
-use Rattle.refusals.specs.declared.refusal.Refusal.{Refusal}
+use Rattle.refusals.specs.{declared.refusal.Refusal.Refusal, Lines.numbers_of}
 use Rattle.refusals.specs.declared.refusal.Refusal.TheVariants.{Tables, Things, Path, Weapons, Wad, Level, Trim}
 use Rattle.scene_rules.specs.declared.refusal.AuditRefusal.TheVariants.{Art, Map, Texture, Sprite, Scene, WeaponArt}
-use Rattle.refusals.specs.Lines.{numbers_of}
 
 abbrev pub codes_of : List Refusal → List (List ℕ)
 codes_of = map numbers_of

@@ -1,10 +1,7 @@
 -- Each end of the ranges of the tables, by evaluation: the first row has the last value that is taken, and the second the one past it.
 use Rattle.std.specs.Prelude.{◌≡◌, codes, Err, refl}
-use Rattle.csv_tables.specs.declared.fault.CsvRefusal.TheVariants.{Range}
-use Rattle.csv_tables.specs.Paths.{path_in}
-use Rattle.csv_tables.specs.Things.{things_in_table}
-use Rattle.csv_tables.specs.Weapons.{weapons_in}
-use Rattle.csv_tables.specs.Worked.{tables_unfolded}
+use Rattle.csv_tables.specs.{declared.fault.CsvRefusal.TheVariants.Range, Paths.path_in}
+use Rattle.csv_tables.specs.{Things.things_in_table, Weapons.weapons_in, Worked.tables_unfolded}
 
 pub path_greatest : path_in (codes "x,y,z,angle\n0,0,2147483647,0\n0,0,2147483648,0") ≡ Err (Range 2 2)
 unfolding tables_unfolded

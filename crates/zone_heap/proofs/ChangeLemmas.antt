@@ -1,15 +1,11 @@
 -- A live slot's block with another tag or other bytes.
-use Rattle.std.proofs.Common.{◌≡◌, ℕ, ◌+◌, ◌*◌, ◌/◌, ◌<◌, ◌≤◌, Bool, true, false, cond, List, [], ◌∷◌, ◌++◌, length, take, drop, map, Some, None, refl, sym, subst, ap, ap₂, ◌∙◌, arith, inl, inr, option_map}
-use Rattle.std.specs.Prelude.{◌==◌}
-use Rattle.std.proofs.lemmas.Bool.{cond-true, cond-false, false≢true}
-use Rattle.std.proofs.lemmas.List.{length-append}
+use Rattle.zone_rules.proofs.Common.{◌≡◌, ℕ, ◌+◌, ◌*◌, ◌/◌, ◌<◌, ◌≤◌, Bool, true, false, cond, List, [], ◌∷◌, ◌++◌, length, take, drop, map, Some, None, refl, sym, subst, ap, ap₂, ◌∙◌, arith, inl, inr, option_map, ◌==◌, cond-true, cond-false, false≢true, length-append}
 use Rattle.zone_heap.specs.Rules.{AllFit, Block, FitsHolding, Holding, Lacks, Owner, Tag, Unique, block_size, bytes_of, is_held_by, retag_block, set_tag, HEADER_SIZE}
 use Rattle.zone_rules.proofs.OwnerLemmas.{lacks_held}
 use Rattle.zone_heap.specs.Headers.{FREE_OWNER, word_at, with_word, block_in, holding_in, live_in, owner_in, code_tag, tag_code}
 use Rattle.zone_heap.specs.Regions.{joined, blocks_in, blocks_from, parts_in, AllWhole, AreLinked, IsLaid, IsRing, last_place, ring_place}
 use Rattle.zone_heap.proofs.WordLemmas.{word_same, word_other, length-with_word, drop-with_word, written_within}
-use Rattle.zone_heap.proofs.PartLemmas.{parts_are}
-use Rattle.zone_heap.proofs.HomeLemmas.{fit_at, lacks_at}
+use Rattle.zone_heap.proofs.{PartLemmas.parts_are, HomeLemmas.fit_at, HomeLemmas.lacks_at}
 use Rattle.zone_heap.proofs.TakeLemmas.{laid_with, blocks_with, bytes_within}
 use Rattle.zone_heap.proofs.LookLemmas.{IsFound, holding_found}
 

@@ -1,8 +1,5 @@
 -- Free neighbours joined, and blocks linked, as the bytes of their parts.
-use Rattle.std.proofs.Common.{◌≡◌, ℕ, ◌+◌, ◌<◌, ◌≤◌, ◌^◌, Bool, true, false, cond, ◌&&◌, List, [], ◌∷◌, ◌++◌, length, take, drop, Some, None, refl, sym, subst, ap, ◌∙◌, arith, inl, inr}
-use Rattle.std.specs.Prelude.{◌==◌}
-use Rattle.std.proofs.lemmas.Bool.{cond-true, cond-false, and_from, and_parts}
-use Rattle.std.proofs.lemmas.List.{length-append}
+use Rattle.zone_rules.proofs.Common.{◌≡◌, ℕ, ◌+◌, ◌<◌, ◌≤◌, ◌^◌, Bool, true, false, cond, ◌&&◌, List, [], ◌∷◌, ◌++◌, length, take, drop, Some, None, refl, sym, subst, ap, ◌∙◌, arith, inl, inr, ◌==◌, cond-true, cond-false, and_from, and_parts, length-append}
 use Rattle.zone_heap.specs.Rules.{Block, Holding, free_block, is_free, join_free, join_on, join_pair, HEADER_SIZE}
 use Rattle.zone_heap.specs.Headers.{FREE_OWNER, word_at, with_word, block_in, holding_in, live_in, owner_in, code_tag}
 use Rattle.zone_heap.specs.Regions.{joined, blocks_in, blocks_from, AreLinked, last_place, ring_place, IsSplit}

@@ -1,9 +1,6 @@
 -- The loop that looks for a fit goes the walk over the gaps.
-use Rattle.std.proofs.Common.{◌≡◌, ℕ, ◌+◌, ◌-◌, ◌<◌, ◌≤◌, suc, Bool, true, false, cond, List, [], ◌∷◌, length, take, Option, Some, None, refl, ap, arith, unwrap_or, inl, inr}
-use Rattle.std.specs.Prelude.{nat_le, ◌==◌}
-use Rattle.std.proofs.lemmas.Bool.{cond-false, le-leb, lt-leb, cases_lt, ne_eqb}
-use Rattle.zone_rules.specs.Zones.{Block, is_pinned}
-use Rattle.zone_heap.specs.Walks.{fit_from, run_place}
+use Rattle.zone_rules.proofs.Common.{◌≡◌, ℕ, ◌+◌, ◌-◌, ◌<◌, ◌≤◌, suc, Bool, true, false, cond, List, [], ◌∷◌, length, take, Option, Some, None, refl, ap, arith, unwrap_or, inl, inr, nat_le, ◌==◌, cond-false, le-leb, lt-leb, cases_lt, ne_eqb}
+use Rattle.zone_heap.specs.{Rules.Block, Rules.is_pinned, Walks.fit_from, Walks.run_place}
 use Rattle.zone_heap.proofs.WalkLemmas.{walk, walk_place}
 use Rattle.zone_rules.proofs.PurgeLemmas.{unpinned, Sized}
 

@@ -1,7 +1,5 @@
 -- After a request that finds no room every purgeable block is purged.
-use Rattle.std.proofs.Common.{◌≡◌, ℕ, ◌+◌, ◌<◌, Bool, true, false, cond, ◌&&◌, List, [], ◌∷◌, ◌++◌, map, Option, Some, None, refl, sym, subst, ap, ◌∙◌}
-use Rattle.std.specs.Prelude.{All}
-use Rattle.std.proofs.lemmas.List.Elements.{All-nil, All-cons, All-head, All-tail}
+use Rattle.zone_rules.proofs.Common.{◌≡◌, ℕ, ◌+◌, ◌<◌, Bool, true, false, cond, ◌&&◌, List, [], ◌∷◌, ◌++◌, map, Option, Some, None, refl, sym, subst, ap, ◌∙◌, All, All-nil, All-cons, All-head, All-tail}
 use Rattle.zone_heap.specs.Rules.{Block, Heap, IsSound, Tiles, after_search, blocks_from, first_room, free_block, gaps, is_free, is_purgeable, join_free, join_on, passed_blocks, purge_among, purge_block, start_in, stretches}
 use Rattle.zone_heap.specs.Walks.{fit_from}
 use Rattle.zone_rules.proofs.PurgeLemmas.{unpinned, covers_after, covers_itself, purge_covered}

@@ -1,8 +1,5 @@
 -- The homes of slots, where a block is freed.
-use Rattle.std.proofs.Common.{◌≡◌, ℕ, ◌-◌, ◌<◌, ◌≤◌, Bool, true, false, List, [], ◌∷◌, ◌++◌, length, Some, refl, sym, subst, ap, ap₂, ◌∙◌, arith}
-use Rattle.std.specs.Prelude.{◌==◌, slice_index, slice_set}
-use Rattle.std.proofs.lemmas.Bool.{cond-true, cond-false, false≢true, and_from, eq-eqb}
-use Rattle.std.proofs.lemmas.List.{get_or-set_same, get_or-set_other, length-set}
+use Rattle.zone_rules.proofs.Common.{◌≡◌, ℕ, ◌-◌, ◌<◌, ◌≤◌, Bool, true, false, List, [], ◌∷◌, ◌++◌, length, Some, refl, sym, subst, ap, ap₂, ◌∙◌, arith, ◌==◌, slice_index, slice_set, cond-true, cond-false, false≢true, and_from, eq-eqb, get_or-set_same, get_or-set_other, length-set}
 use Rattle.zone_heap.specs.Rules.{AllFit, Block, FitsHolding, Holding, Lacks, Owner, Unique, cut_block, free_block, free_owner, holds_for, is_held_by, join_free, owned_block, same_owner}
 use Rattle.zone_rules.proofs.TakeLemmas.{code_small, code_same}
 use Rattle.zone_rules.proofs.OwnerLemmas.{owned_cut, owned_beside, owner_eq, lacks_held, owned_freed, owned_freed_others, owned_block-join_free}

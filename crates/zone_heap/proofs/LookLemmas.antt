@@ -1,8 +1,5 @@
 -- A slot's block, found at the slot's home.
-use Rattle.std.proofs.Common.{◌≡◌, ℕ, ◌+◌, ◌/◌, ◌%◌, ◌<◌, ◌≤◌, Bool, true, false, cond, List, [], ◌∷◌, ◌++◌, length, Option, Some, None, refl, sym, subst, ap, ap₂, ◌∙◌, arith}
-use Rattle.std.specs.Prelude.{◌==◌, IsSome, option_and_then}
-use Rattle.std.proofs.lemmas.Bool.{cond-false, false≢true}
-use Rattle.std.proofs.lemmas.List.{length-append}
+use Rattle.zone_rules.proofs.Common.{◌≡◌, ℕ, ◌+◌, ◌/◌, ◌%◌, ◌<◌, ◌≤◌, Bool, true, false, cond, List, [], ◌∷◌, ◌++◌, length, Option, Some, None, refl, sym, subst, ap, ap₂, ◌∙◌, arith, ◌==◌, IsSome, option_and_then, cond-false, false≢true, length-append}
 use Rattle.zone_heap.specs.Rules.{Block, Owner, Unique, free_block, free_owner, holding_of, holds_for, is_held_by, owned_block, HEADER_SIZE}
 use Rattle.zone_heap.specs.Headers.{FREE_OWNER, KIND_UNIT, owner_in, word_at, with_use, freed, block_in, live_in}
 use Rattle.zone_heap.specs.Regions.{joined, blocks_in, blocks_from, AllWhole, IsLaid, IsSplit}

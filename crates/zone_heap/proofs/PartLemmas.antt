@@ -1,11 +1,6 @@
 -- The parts of a region, one for each block, and the blocks that they are.
-use Rattle.std.proofs.Common.{◌≡◌, ℕ, zero, suc, ◌+◌, ◌-◌, ◌<◌, ◌≤◌, Bool, true, false, cond, ◌&&◌, List, [], ◌∷◌, ◌++◌, length, take, drop, Some, None, refl, sym, subst, ap, ap₂, ◌∙◌, arith}
-use Rattle.std.specs.Prelude.{◌==◌, ◌||◌, not, is_none, nat_le}
-use Rattle.std.specs.List.{position_or_len}
-use Rattle.std.proofs.lemmas.Bool.{cond-true, cond-false}
-use Rattle.zone_heap.specs.Walks.{starts_at}
-use Rattle.std.proofs.lemmas.List.{length-append, take_at, drop_at, append_assoc, append-nil}
-use Rattle.zone_heap.specs.declared.headers.Header.{Header}
+use Rattle.zone_rules.proofs.Common.{◌≡◌, ℕ, zero, suc, ◌+◌, ◌-◌, ◌<◌, ◌≤◌, Bool, true, false, cond, ◌&&◌, List, [], ◌∷◌, ◌++◌, length, take, drop, Some, None, refl, sym, subst, ap, ap₂, ◌∙◌, arith, ◌==◌, ◌||◌, not, is_none, nat_le, position_or_len, cond-true, cond-false, length-append, take_at, drop_at, append_assoc, append-nil}
+use Rattle.zone_heap.specs.{Walks.starts_at, declared.headers.Header.Header}
 use Rattle.zone_heap.specs.Headers.{FREE_OWNER, word_at, header_in, block_in, live_in, code_tag, is_free_header, is_pinned_header, is_purgeable_header, keeps_tag}
 use Rattle.zone_heap.specs.Regions.{joined, parts_in, blocks_from, blocks_in, AllWhole, IsLaid, IsSplit}
 use Rattle.zone_heap.proofs.WordLemmas.{word_in_front, word_from}

@@ -1,9 +1,5 @@
 -- A pass over the region that frees purgeable blocks.
-use Rattle.std.proofs.Common.{◌≡◌, ℕ, zero, suc, ◌+◌, ◌/◌, ◌%◌, ◌<◌, ◌≤◌, Bool, true, false, cond, List, [], ◌∷◌, ◌++◌, length, take, drop, map, count_by, Some, None, refl, sym, subst, ap, ap₂, ◌∙◌, arith, inl}
-use Rattle.std.specs.Prelude.{◌==◌}
-use Rattle.std.proofs.lemmas.Bool.{cond-true, cond-false, false≢true}
-use Rattle.std.proofs.lemmas.List.{append_assoc, map-append}
-use Rattle.std.proofs.lemmas.List.Sums.{sum_by-append, sum_by-cons}
+use Rattle.zone_rules.proofs.Common.{◌≡◌, ℕ, zero, suc, ◌+◌, ◌/◌, ◌%◌, ◌<◌, ◌≤◌, Bool, true, false, cond, List, [], ◌∷◌, ◌++◌, length, take, drop, map, count_by, Some, None, refl, sym, subst, ap, ap₂, ◌∙◌, arith, inl, ◌==◌, cond-true, cond-false, false≢true, append_assoc, map-append, sum_by-append, sum_by-cons}
 use Rattle.zone_heap.specs.Rules.{Block, free_block, is_purgeable, purge_block, HEADER_SIZE}
 use Rattle.zone_heap.specs.Headers.{FREE_OWNER, KIND_UNIT, owner_in, word_at, with_word, with_use, block_in, holding_in, live_in, freed}
 use Rattle.zone_heap.specs.Regions.{joined, blocks_in, blocks_from, IsSplit}

@@ -1,10 +1,5 @@
 -- The run of blocks that a fit stands for, and what stands before it. After a search that found something, a free block of that size stands where it said.
-use Rattle.std.proofs.Common.{◌≡◌, ℕ, ◌+◌, ◌<◌, ◌≤◌, suc, Bool, true, false, cond, not, List, [], ◌∷◌, ◌++◌, length, take, Some, refl, sym, subst, ap, ◌∙◌, arith, inl, inr, length-append, one-add, drop, map, Option, None, ap₂}
-use Rattle.std.specs.Prelude.{⊤, ◌==◌, nat_le, is_none}
-use Rattle.std.specs.List.{position_or_len}
-use Rattle.std.proofs.lemmas.Bool.{cond-true, cond-false, ne_eqb, eq-eqb, le-leb, leb-true, and_from, and_cases, or_left, or_right, false≢true, cases_lt, cases_Bool, or_cases, and_parts}
-use Rattle.std.proofs.lemmas.List.{append_assoc, map-append, take_at, drop_at, take-map, take-append-drop}
-use Rattle.std.proofs.lemmas.List.Sums.{sum_by_push}
+use Rattle.zone_rules.proofs.Common.{◌≡◌, ℕ, ◌+◌, ◌<◌, ◌≤◌, suc, Bool, true, false, cond, not, List, [], ◌∷◌, ◌++◌, length, take, Some, refl, sym, subst, ap, ◌∙◌, arith, inl, inr, length-append, one-add, drop, map, Option, None, ap₂, ⊤, ◌==◌, nat_le, is_none, position_or_len, cond-true, cond-false, ne_eqb, eq-eqb, le-leb, leb-true, and_from, and_cases, or_left, or_right, false≢true, cases_lt, cases_Bool, or_cases, and_parts, append_assoc, map-append, take_at, drop_at, take-map, take-append-drop, sum_by_push}
 use Rattle.zone_heap.specs.Rules.{Apart, Block, Holding, RoomAt, Tiles, ends_free_at, free_block, has_place, is_free, is_pinned, is_purgeable, is_purgeable_tag, join_free, pins, purge_block, total}
 use Rattle.zone_heap.specs.Walks.{fit_from, run_place, starts_at}
 use Rattle.zone_rules.proofs.GapLemmas.{total-cons}

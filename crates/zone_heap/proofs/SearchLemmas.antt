@@ -1,11 +1,7 @@
 -- Where a search starts. What a search finds and purges, by the index at which it starts.
-use Rattle.std.proofs.Common.{◌≡◌, ℕ, ◌+◌, ◌<◌, ◌≤◌, suc, Bool, true, false, cond, not, List, [], ◌∷◌, drop, find, Some, None, refl, sym, ap, ◌∙◌, arith, inl, inr, one-add, ◌-◌, ◌++◌, length, take, map, subst, ap₂, option_map, count_by, add-zero, zero-add}
-use Rattle.std.specs.Prelude.{◌==◌, ◌⊎◌}
-use Rattle.std.specs.List.{position_or_len}
-use Rattle.std.proofs.lemmas.Bool.{cond-true, cond-false, le-leb, lt-leb, ne_eqb, or_left, or_from, or_right, and_right, false≢true, cases_lt}
+use Rattle.zone_rules.proofs.Common.{◌≡◌, ℕ, ◌+◌, ◌<◌, ◌≤◌, suc, Bool, true, false, cond, not, List, [], ◌∷◌, drop, find, Some, None, refl, sym, ap, ◌∙◌, arith, inl, inr, one-add, ◌-◌, ◌++◌, length, take, map, subst, ap₂, option_map, count_by, add-zero, zero-add, ◌==◌, ◌⊎◌, position_or_len, cond-true, cond-false, le-leb, lt-leb, ne_eqb, or_left, or_from, or_right, and_right, false≢true, cases_lt, append_assoc, take-append-drop, take-map, drop-map}
 use Rattle.zone_heap.specs.Rules.{Block, Tiles, blocks_from, count_among, ends_free_at, first_place, first_room, gaps, has_place, holds, is_free, is_purgeable, least_front, passed_blocks, place_or, purge_among, purge_block, start_in, stretches}
 use Rattle.zone_heap.specs.Walks.{starts_at, fit_from, SearchIs}
-use Rattle.std.proofs.lemmas.List.{append_assoc, take-append-drop, take-map, drop-map}
 use Rattle.zone_rules.proofs.GapLemmas.{all_from}
 use Rattle.zone_heap.proofs.WalkLemmas.{passed_by_walk, found_by_walk}
 use Rattle.zone_heap.proofs.FitLemmas.{FitMeans, fit_walk}

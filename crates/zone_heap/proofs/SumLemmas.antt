@@ -1,9 +1,6 @@
 -- What the blocks of a sort before a place add up to.
-use Rattle.std.proofs.Common.{◌≡◌, ℕ, ◌+◌, ◌<◌, ◌≤◌, ◌^◌, Bool, cond, List, length, drop, ap, ap₂, ◌∙◌, sym, arith}
-use Rattle.std.specs.Prelude.{sum_by}
-use Rattle.std.proofs.lemmas.List.Sums.{sum_by-cons}
-use Rattle.zone_rules.specs.Zones.{Block}
-use Rattle.zone_heap.specs.declared.headers.Header.{Header}
+use Rattle.zone_rules.proofs.Common.{◌≡◌, ℕ, ◌+◌, ◌<◌, ◌≤◌, ◌^◌, Bool, cond, List, length, drop, ap, ap₂, ◌∙◌, sym, arith, sum_by, sum_by-cons}
+use Rattle.zone_heap.specs.{Rules.Block, declared.headers.Header.Header}
 use Rattle.zone_heap.specs.Headers.{block_in, header_in}
 use Rattle.zone_heap.specs.Regions.{blocks_in, blocks_from, IsLaid, IsSplit}
 use Rattle.zone_heap.proofs.PartLemmas.{opened, nothing_left, split_first, blocks_laid}

@@ -1,8 +1,5 @@
 -- A free block given to a slot, as the bytes of its parts.
-use Rattle.std.proofs.Common.{◌≡◌, ℕ, zero, suc, ◌+◌, ◌-◌, ◌<◌, ◌≤◌, ◌^◌, Bool, true, false, cond, List, [], ◌∷◌, ◌++◌, length, take, drop, Some, None, refl, sym, subst, ap, ap₂, ◌∙◌, arith, inl}
-use Rattle.std.specs.Prelude.{◌==◌, nat_lt}
-use Rattle.std.proofs.lemmas.Bool.{cond-true, cond-false, eq-eqb, ne_eqb, le-ltb, lt-ltb}
-use Rattle.std.proofs.lemmas.List.{length-append, length-take, length-drop, drop_at, drop-drop}
+use Rattle.zone_rules.proofs.Common.{◌≡◌, ℕ, zero, suc, ◌+◌, ◌-◌, ◌<◌, ◌≤◌, ◌^◌, Bool, true, false, cond, List, [], ◌∷◌, ◌++◌, length, take, drop, Some, None, refl, sym, subst, ap, ap₂, ◌∙◌, arith, inl, ◌==◌, nat_lt, cond-true, cond-false, eq-eqb, ne_eqb, le-ltb, lt-ltb, length-append, length-take, length-drop, drop_at, drop-drop}
 use Rattle.zone_heap.specs.Rules.{Block, Holding, RoomAt, Tiles, cut_block, free_block, place_after, take_at, HEADER_SIZE, MIN_FRAGMENT}
 use Rattle.zone_rules.proofs.TakeLemmas.{take_at_is}
 use Rattle.zone_heap.specs.declared.headers.Used.{Used}

@@ -1,7 +1,5 @@
 -- A walk over blocks goes over the gaps in order, and meets the widest of them.
-use Rattle.std.proofs.Common.{◌≡◌, ℕ, ◌+◌, ◌-◌, ◌<◌, ◌≤◌, Bool, true, false, cond, not, List, [], ◌∷◌, ◌++◌, find, Option, Some, None, refl, ◌∙◌, arith, unwrap_or, option_map, inl, inr, max, ap}
-use Rattle.std.specs.Prelude.{nat_le}
-use Rattle.std.proofs.lemmas.Bool.{le-leb, lt-leb, leb-true, leb-false, cases_lt}
+use Rattle.zone_rules.proofs.Common.{◌≡◌, ℕ, ◌+◌, ◌-◌, ◌<◌, ◌≤◌, Bool, true, false, cond, not, List, [], ◌∷◌, ◌++◌, find, Option, Some, None, refl, ◌∙◌, arith, unwrap_or, option_map, inl, inr, max, ap, nat_le, le-leb, lt-leb, leb-true, leb-false, cases_lt}
 use Rattle.zone_heap.specs.Rules.{Block, first_place, first_room, gaps, holds, in_front, is_pinned, least_front, opens, passed_blocks, total, widest}
 use Rattle.zone_heap.specs.Walks.{widest_from}
 use Rattle.zone_rules.proofs.GapLemmas.{total-cons}

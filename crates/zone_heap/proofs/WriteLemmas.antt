@@ -1,12 +1,9 @@
 -- A live slot's block with other bytes.
-use Rattle.std.proofs.Common.{◌≡◌, ℕ, zero, suc, ◌+◌, ◌≤◌, List, [], ◌∷◌, ◌++◌, length, take, drop, map, refl, sym, subst, ap, ap₂, ◌∙◌, arith}
-use Rattle.std.proofs.lemmas.Bool.{cond-true, cond-false}
-use Rattle.std.proofs.lemmas.List.{length-append, length-take, length-drop, append_assoc, take_at, drop_at, get_or_append_left, get_or-take}
+use Rattle.zone_rules.proofs.Common.{◌≡◌, ℕ, zero, suc, ◌+◌, ◌≤◌, List, [], ◌∷◌, ◌++◌, length, take, drop, map, refl, sym, subst, ap, ap₂, ◌∙◌, arith, cond-true, cond-false, length-append, length-take, length-drop, append_assoc, take_at, drop_at, get_or_append_left, get_or-take}
 use Rattle.zone_heap.specs.Rules.{Owner, Unique, is_held_by, write_block, write_holding, HEADER_SIZE}
 use Rattle.zone_heap.specs.Headers.{word_at, block_in, live_in, owner_in, code_tag}
 use Rattle.zone_heap.specs.Regions.{joined, blocks_in, IsRing}
-use Rattle.zone_heap.proofs.WordLemmas.{same_word}
-use Rattle.zone_heap.proofs.LookLemmas.{IsFound}
+use Rattle.zone_heap.proofs.{WordLemmas.same_word, LookLemmas.IsFound}
 use Rattle.zone_heap.proofs.ChangeLemmas.{changed_ring, changed_len, changed_blocks, changed_block, map_one}
 
 -- the region up to a byte of a part between others, and from that byte on

@@ -1,18 +1,12 @@
 -- The zone's fields, and what its calls need and give back.
-use Rattle.std.proofs.Common.{◌≡◌, ℕ, ◌+◌, ◌-◌, ◌*◌, ◌/◌, ◌%◌, ◌<◌, ◌≤◌, false, List, length, map, take, drop, ◌++◌, Global, Option, Some, None, refl, sym, subst, ap, ap₂, ◌∙◌, arith, option_map, inl, inr}
-use Rattle.std.specs.Prelude.{◌==◌, ◌⊎◌, slice_range, IsSome, option_and_then, vec_len, is_some, not}
-use Rattle.std.proofs.lemmas.Bool.{cases_eq, eq-eqb, ne_eqb}
-use Rattle.std.proofs.lemmas.List.{length-take, length-drop}
+use Rattle.zone_rules.proofs.Common.{◌≡◌, ℕ, ◌+◌, ◌-◌, ◌*◌, ◌/◌, ◌%◌, ◌<◌, ◌≤◌, false, List, length, map, take, drop, ◌++◌, Global, Option, Some, None, refl, sym, subst, ap, ap₂, ◌∙◌, arith, option_map, inl, inr, ◌==◌, ◌⊎◌, slice_range, IsSome, option_and_then, vec_len, is_some, not, cases_eq, eq-eqb, ne_eqb, length-take, length-drop}
 use Rattle.std.specs.declared.vec.Vec.{Vec}
 use Rattle.zone_heap.specs.Rules.{AllFit, Block, Heap, Holding, IsLive, IsSound, Owner, Tag, bytes_of, holding_of, is_held_by, owned_block, owner_at, retag_block, same_owner, slot_count, with_bytes, write_block, HEADER_SIZE}
-use Rattle.zone_rules.proofs.OwnerLemmas.{owned_apart}
+use Rattle.zone_rules.proofs.{OwnerLemmas.owned_apart, SoundLemmas.in_range_of}
 use Rattle.zone_rules.proofs.ChangeLemmas.{retag_keeps, with_bytes_sound, write_keeps}
-use Rattle.zone_heap.specs.declared.homes.Homes.{Homes}
-use Rattle.zone_heap.specs.declared.look.Span.{Span}
+use Rattle.zone_heap.specs.{declared.homes.Homes.Homes, declared.look.Span.Span}
 use Rattle.zone_rules.proofs.OwnerLemmas.{owned_block-map, retag_held, write_held}
-use Rattle.zone_rules.proofs.SoundLemmas.{in_range_of}
-use Rattle.zone_heap.specs.declared.zone.Zone.TheInside.{Inside}
-use Rattle.zone_heap.specs.View.{heap_of, IsZone}
+use Rattle.zone_heap.specs.{declared.zone.Zone.TheInside.Inside, View.heap_of, View.IsZone}
 use Rattle.zone_heap.specs.Headers.{KIND_UNIT, owner_in, word_at, live_in}
 use Rattle.zone_heap.specs.Regions.{blocks_in, IsRing}
 use Rattle.zone_heap.specs.Homes.{NO_HOME, home_in, home_of, composites_in, IsSlot, AreExact, AreHome, AreAlike}

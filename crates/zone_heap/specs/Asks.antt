@@ -1,10 +1,8 @@
 -- What a request asks for, and what came of it.
 use Rattle.std.specs.Prelude.{◌≡◌, ℕ, List, length}
 use Rattle.zone_heap.specs.Rules.{Block, Heap, RoomAt, after_search, place_after, take_at}
-use Rattle.zone_heap.specs.declared.headers.Used.{Used}
-use Rattle.zone_heap.specs.declared.homes.Homes.{Homes}
-use Rattle.zone_heap.specs.Headers.{owner_in, code_tag}
-use Rattle.zone_heap.specs.Homes.{composites_in}
+use Rattle.zone_heap.specs.{declared.headers.Used.Used, declared.homes.Homes.Homes}
+use Rattle.zone_heap.specs.{Headers.owner_in, Headers.code_tag, Homes.composites_in}
 use Rattle.zone_heap.specs.Regions.{blocks_in}
 
 -- the zone of a region and the homes of its slots

@@ -1,8 +1,7 @@
 -- The header of a block, and the block that its bytes are.
 use Rattle.std.specs.Prelude.{ℕ, ◌+◌, ◌-◌, ◌*◌, ◌/◌, ◌%◌, ◌==◌, ◌&&◌, ◌||◌, Bool, not, if◌then◌else◌, List, ◌++◌, length, take, drop, Option, Some, None}
 use Rattle.byteorder.specs.Endian.{little_number, little_bytes}
-use Rattle.zone_heap.specs.declared.headers.Header.{Header}
-use Rattle.zone_heap.specs.declared.headers.Used.{Used}
+use Rattle.zone_heap.specs.{declared.headers.Header.Header, declared.headers.Used.Used}
 pub use Rattle.zone_heap.specs.declared.headers.TheConstants.{FREE_OWNER, KIND_UNIT, STATIC_CODE, LEVEL_CODE, CACHE_CODE, ASKED_AT, OWNER_AT, TAG_AT}
 use Rattle.zone_heap.specs.Rules.{Block, Cache, HEADER_SIZE, Holding, Level, Owner, Static, Tag}
 

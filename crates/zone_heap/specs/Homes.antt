@@ -1,6 +1,6 @@
 -- Each slot's home: the place of the slot's block, or none.
 use Rattle.std.specs.Prelude.{◌≡◌, ℕ, ◌+◌, ◌-◌, ◌≤◌, ◌<◌, ◌==◌, if◌then◌else◌, List, length, slice_index, slice_set, Option, Some, None}
-use Rattle.zone_rules.specs.Zones.{Owner, Block, Unique, AllFit, owned_block}
+use Rattle.zone_heap.specs.Rules.{AllFit, Block, Owner, Unique, owned_block}
 use Rattle.zone_heap.specs.declared.homes.Homes.{Homes}
 pub use Rattle.zone_heap.specs.declared.homes.TheConstants.{NO_HOME}
 

@@ -1,8 +1,7 @@
 -- A region as its headers lay it out: the bytes of one block after the other, linked into a ring.
 use Rattle.std.specs.Prelude.{◌≡◌, ℕ, zero, suc, ◌+◌, ◌≤◌, ◌==◌, if◌then◌else◌, List, [], ◌∷◌, ◌++◌, length, take, drop, ⊤}
-use Rattle.zone_heap.specs.Rules.{Block, HEADER_SIZE}
+use Rattle.zone_heap.specs.{Rules.Block, Rules.HEADER_SIZE, Headers.word_at, Headers.block_in}
 use Rattle.zone_heap.specs.declared.headers.TheConstants.{NEXT_AT, PREVIOUS_AT}
-use Rattle.zone_heap.specs.Headers.{word_at, block_in}
 
 -- the bytes of all blocks
 abbrev pub joined : List (List ℕ) → List ℕ

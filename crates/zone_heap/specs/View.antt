@@ -2,8 +2,7 @@
 use Rattle.std.specs.Prelude.{◌≡◌, ◌+◌, ◌<◌, ◌≤◌, vec_len}
 use Rattle.zone_heap.specs.declared.zone.Zone.TheInside.{Inside}
 use Rattle.zone_heap.specs.Rules.{Heap, IsSound, MAX_ZONE_SIZE, SLOT_LIMIT}
-use Rattle.zone_heap.specs.Regions.{blocks_in, IsRing}
-use Rattle.zone_heap.specs.Homes.{AreExact}
+use Rattle.zone_heap.specs.{Regions.blocks_in, Regions.IsRing, Homes.AreExact}
 
 abbrev pub heap_of : Inside → Heap
 heap_of z = record { size = z.size; lumps = z.homes.lumps; composites = z.composites; blocks = blocks_in z.region.items; rover = z.rover; purges = z.purges }

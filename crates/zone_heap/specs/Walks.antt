@@ -1,8 +1,7 @@
 -- The rules of a request as one walk over the blocks meets them.
 use Rattle.std.specs.Prelude.{◌≡◌, ℕ, ◌+◌, ◌^◌, ◌<◌, ◌==◌, ◌||◌, Bool, true, nat_le, if◌then◌else◌, List, [], ◌∷◌, Option, Some, None, max, length}
 use Rattle.zone_heap.specs.Rules.{Apart, Block, count_among, ends_free_at, first_room, has_place, is_pinned, passed_blocks, purge_among, stretches}
-use Rattle.zone_heap.specs.declared.homes.Homes.{Homes}
-use Rattle.zone_heap.specs.Homes.{AreHome}
+use Rattle.zone_heap.specs.{declared.homes.Homes.Homes, Homes.AreHome}
 use Rattle.zone_heap.specs.Regions.{blocks_in, IsLaid}
 
 -- a run of unpinned blocks that holds what is wanted: its first block's place, and the index after its least front

@@ -1,13 +1,9 @@
 -- A change of each block that leaves it its place, its size and what its owner asked for: a new tag, or new bytes.
-use Rattle.std.proofs.Common.{◌≡◌, ℕ, ◌+◌, Bool, true, false, cond, ◌&&◌, List, [], ◌∷◌, length, map, Option, Some, None, refl, sym, subst, ap, ap₂, ◌∙◌}
-use Rattle.std.specs.Prelude.{◌==◌, is_none, find, option_and_then}
-use Rattle.std.proofs.lemmas.Bool.{cond-true, cond-false}
-use Rattle.zone_rules.specs.declared.Tag.{Tag}
+use Rattle.zone_rules.proofs.Common.{◌≡◌, ℕ, ◌+◌, Bool, true, false, cond, ◌&&◌, List, [], ◌∷◌, length, map, Option, Some, None, refl, sym, subst, ap, ap₂, ◌∙◌, ◌==◌, is_none, find, option_and_then, cond-true, cond-false}
+use Rattle.zone_rules.specs.{declared.Tag.Tag, Orders.Item}
 use Rattle.zone_rules.specs.Zones.{Block, Holding, Owner, Heap, Tiles, Apart, Lacks, OwnsOnce, Unique, AllFit, FitsHolding, IsSound, is_held_by, starts_free, has_place, holding_of, holds_for, same_owner}
 use Rattle.zone_rules.specs.Frees.{retag_block, set_tag, with_tag, write_block, write_holding, with_bytes}
-use Rattle.zone_rules.specs.Orders.{Item}
-use Rattle.zone_rules.proofs.OwnerLemmas.{lacks_held}
-use Rattle.zone_rules.proofs.OrderSumLemmas.{item}
+use Rattle.zone_rules.proofs.{OwnerLemmas.lacks_held, OrderSumLemmas.item}
 
 -- what a block's owner asked for
 abbrev pub use_of : Option Holding → Option Item

@@ -1,13 +1,8 @@
 -- A zone without a live block is one free block, and the first block stands at its place 0.
-use Rattle.std.proofs.Common.{◌≡◌, ℕ, ◌+◌, ◌<◌, ◌≤◌, Bool, true, false, cond, List, [], ◌∷◌, Option, Some, None, refl, sym, subst, ap, ◌∙◌, arith, inl, inr}
-use Rattle.std.specs.Prelude.{◌==◌, ◌⊎◌, All}
-use Rattle.std.proofs.lemmas.Bool.{cond-true, cond-false, and_from, eq-eqb, eqb-true, cases_lt, false≢true}
-use Rattle.std.proofs.lemmas.List.Elements.{All-nil, All-cons}
+use Rattle.zone_rules.proofs.Common.{◌≡◌, ℕ, ◌+◌, ◌<◌, ◌≤◌, Bool, true, false, cond, List, [], ◌∷◌, Option, Some, None, refl, sym, subst, ap, ◌∙◌, arith, inl, inr, ◌==◌, ◌⊎◌, All, cond-true, cond-false, and_from, eq-eqb, eqb-true, cases_lt, false≢true, All-nil, All-cons}
 use Rattle.zone_rules.specs.Zones.{Owner, Holding, Block, Heap, IsSound, Tiles, Apart, is_free, is_held_by, holds_for, same_owner, owned_block, free_block, has_place}
 use Rattle.zone_rules.specs.Requests.{gaps, stretches, first_room, total}
-use Rattle.zone_rules.proofs.GapLemmas.{total-cons}
-use Rattle.zone_rules.proofs.PurgeLemmas.{tiles_le}
-use Rattle.zone_rules.proofs.SoundLemmas.{full_some}
+use Rattle.zone_rules.proofs.{GapLemmas.total-cons, PurgeLemmas.tiles_le, SoundLemmas.full_some}
 use Rattle.zone_rules.proofs.OrderRequestLemmas.{rest_found}
 
 no_holding : (b : Block) (bs : List Block) → ((o : Owner) → owned_block o (b ∷ bs) ≡ None) → b.holding ≡ None

@@ -1,11 +1,8 @@
 -- The figures of a zone add up to its size.
-use Rattle.std.proofs.Common.{◌≡◌, ℕ, ◌+◌, Bool, true, false, cond, not, List, [], ◌∷◌, Option, Some, None, refl, arith}
-use Rattle.std.proofs.lemmas.List.Sums.{sum_by-cons}
+use Rattle.zone_rules.proofs.Common.{◌≡◌, ℕ, ◌+◌, Bool, true, false, cond, not, List, [], ◌∷◌, Option, Some, None, refl, arith, sum_by-cons, is_none}
 use Rattle.zone_rules.specs.Zones.{Block, Holding, Tiles, is_free, is_pinned, is_purgeable, is_purgeable_tag, pins, may_purge, used_size, purgeable_size, free_size}
 use Rattle.zone_rules.specs.Requests.{total}
-use Rattle.zone_rules.proofs.GapLemmas.{total-cons}
-use Rattle.zone_rules.proofs.PurgeLemmas.{tiles_end}
-use Rattle.std.specs.Prelude.{is_none}
+use Rattle.zone_rules.proofs.{GapLemmas.total-cons, PurgeLemmas.tiles_end}
 
 one_part : (size : ℕ) (h : Option Holding) → cond (pins h) size 0 + cond (may_purge h) size 0 + cond (is_none h) size 0 ≡ size
 one_part size None = omega arith

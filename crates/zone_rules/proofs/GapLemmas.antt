@@ -1,11 +1,7 @@
 -- The widest gap.
-use Rattle.std.proofs.Common.{◌≡◌, ℕ, ◌+◌, ◌<◌, ◌≤◌, Bool, true, false, cond, List, [], ◌∷◌, ◌++◌, find, Some, None, refl, arith, option_map, inl, inr, max, ap}
-use Rattle.std.specs.Prelude.{All, ◌⊎◌}
-use Rattle.std.proofs.lemmas.Bool.{le-leb, lt-leb, leb-true, leb-false, cases_lt, cond-false}
-use Rattle.std.proofs.lemmas.List.Sums.{sum_by-cons}
+use Rattle.zone_rules.proofs.Common.{◌≡◌, ℕ, ◌+◌, ◌<◌, ◌≤◌, Bool, true, false, cond, List, [], ◌∷◌, ◌++◌, find, Some, None, refl, arith, option_map, inl, inr, max, ap, All, ◌⊎◌, le-leb, lt-leb, leb-true, leb-false, cases_lt, cond-false, sum_by-cons, All-nil, All-cons, All-head, All-tail}
 use Rattle.zone_rules.specs.Zones.{Block, Tiles, is_pinned}
 use Rattle.zone_rules.specs.Requests.{total, opens, in_front, gaps, holds, first_place, first_room, widest, blocks_from}
-use Rattle.std.proofs.lemmas.List.Elements.{All-nil, All-cons, All-head, All-tail}
 
 pub total-cons : (b : Block) (g : List Block) → total (b ∷ g) ≡ b.size + total g
 total-cons b g = sum_by-cons (λ (c : Block). c.size) b g

@@ -1,7 +1,5 @@
 -- What joining free neighbours keeps, and where a run of free blocks ends up.
-use Rattle.std.proofs.Common.{◌≡◌, ℕ, ◌+◌, ◌≤◌, Bool, true, false, cond, ◌&&◌, List, [], ◌∷◌, ◌++◌, Option, Some, None, refl, sym, subst, ap, ◌∙◌, arith}
-use Rattle.std.specs.Prelude.{⊤, is_none}
-use Rattle.std.proofs.lemmas.Bool.{cond-true, cond-false, and_left, and_right, and_from, and_parts, false≢true}
+use Rattle.zone_rules.proofs.Common.{◌≡◌, ℕ, ◌+◌, ◌≤◌, Bool, true, false, cond, ◌&&◌, List, [], ◌∷◌, ◌++◌, Option, Some, None, refl, sym, subst, ap, ◌∙◌, arith, ⊤, is_none, cond-true, cond-false, and_left, and_right, and_from, and_parts, false≢true}
 use Rattle.zone_rules.specs.Zones.{Block, Holding, Owner, Tiles, Apart, Lacks, OwnsOnce, Unique, AllFit, FitsHolding, is_free, is_held_by, starts_free, free_block}
 use Rattle.zone_rules.specs.Requests.{join_free, join_on, total}
 use Rattle.zone_rules.proofs.GapLemmas.{total-cons}

@@ -13,3 +13,4 @@ pub mod OrderLemmas
 pub mod OrderChangeLemmas
 pub mod EmptyLemmas
 pub mod WrittenLemmas
+pub use Rattle.word_rules.proofs.Common

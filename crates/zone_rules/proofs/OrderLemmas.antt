@@ -1,8 +1,5 @@
 -- A zone in order stays so: through a request for an item that is not live, and where tags and bytes change.
-use Rattle.std.proofs.Common.{◌≡◌, ℕ, ◌+◌, ◌-◌, ◌<◌, ◌≤◌, Bool, true, false, cond, List, [], ◌∷◌, ◌++◌, Some, refl, sym, subst, ap, ap₂, ◌∙◌, arith, inl, inr}
-use Rattle.std.specs.Prelude.{◌==◌, ◌⊎◌, All, nat_lt}
-use Rattle.std.proofs.lemmas.Bool.{cond-false, ltb-true, ltb-false, ne_eqb, false≢true}
-use Rattle.std.proofs.lemmas.List.{append_assoc}
+use Rattle.zone_rules.proofs.Common.{◌≡◌, ℕ, ◌+◌, ◌-◌, ◌<◌, ◌≤◌, Bool, true, false, cond, List, [], ◌∷◌, ◌++◌, Some, refl, sym, subst, ap, ap₂, ◌∙◌, arith, inl, inr, ◌==◌, ◌⊎◌, All, nat_lt, cond-false, ltb-true, ltb-false, ne_eqb, false≢true, append_assoc}
 use Rattle.zone_rules.specs.declared.Tag.{Tag}
 use Rattle.zone_rules.specs.Zones.{Owner, Holding, Block, Heap, IsSound, Lacks, Unique, Tiles, free_block, block_size, fresh_heap}
 use Rattle.zone_rules.specs.Requests.{TakesBlock, cut_block, take_at, with_block, after_search, stretches, first_room, gaps, total, place_after}

@@ -1,12 +1,9 @@
 -- A request of a zone that leaves one free block at the rover: where it goes, and what it leaves.
-use Rattle.std.proofs.Common.{◌≡◌, ℕ, ◌+◌, ◌-◌, ◌<◌, ◌≤◌, Bool, true, false, cond, List, [], ◌∷◌, ◌++◌, Option, Some, None, refl, ap, ap₂, ◌∙◌, arith, option_map}
-use Rattle.std.specs.Prelude.{◌==◌, ⊤, find, is_none, nat_le}
-use Rattle.std.proofs.lemmas.Bool.{cond-true, cond-false, and_left, or_from, ne_eqb, eq-eqb, le-leb, lt-leb}
+use Rattle.zone_rules.proofs.Common.{◌≡◌, ℕ, ◌+◌, ◌-◌, ◌<◌, ◌≤◌, Bool, true, false, cond, List, [], ◌∷◌, ◌++◌, Option, Some, None, refl, ap, ap₂, ◌∙◌, arith, option_map, ◌==◌, ⊤, find, is_none, nat_le, cond-true, cond-false, and_left, or_from, ne_eqb, eq-eqb, le-leb, lt-leb}
 use Rattle.zone_rules.specs.Zones.{Holding, Block, Tiles, is_free, free_block}
 use Rattle.zone_rules.specs.Requests.{total, gaps, stretches, first_room, passed_blocks, first_place, holds, blocks_from, start_in, ends_free_at, place_or, purge_among, purge_block, join_free, join_on, place_after, is_among, least_front}
 use Rattle.zone_rules.specs.Orders.{IsExact, AllExact, LiveFirst}
-use Rattle.zone_rules.proofs.GapLemmas.{total-cons}
-use Rattle.zone_rules.proofs.JoinLemmas.{on_held}
+use Rattle.zone_rules.proofs.{GapLemmas.total-cons, JoinLemmas.on_held}
 use Rattle.zone_rules.proofs.OrderSumLemmas.{item_block, held_one, held_sum}
 
 exact_held : (size : ℕ) (h : Option Holding) → IsExact size h → is_none h ≡ false

@@ -1,8 +1,5 @@
 -- Which owners are live, and what live items add up to.
-use Rattle.std.proofs.Common.{◌≡◌, ℕ, ◌+◌, ◌≤◌, Bool, true, false, cond, ◌&&◌, ◌||◌, List, [], ◌∷◌, ◌++◌, Option, Some, None, refl, sym, ap, ap₂, ◌∙◌, arith, inl, inr}
-use Rattle.std.specs.Prelude.{◌==◌, is_some, option_and_then, sum_by}
-use Rattle.std.proofs.lemmas.Bool.{cond-true, cond-false, and_parts, or_cases, or_parts, or_left, or_right, eqb-true, false≢true}
-use Rattle.std.proofs.lemmas.List.Sums.{sum_by-cons}
+use Rattle.zone_rules.proofs.Common.{◌≡◌, ℕ, ◌+◌, ◌≤◌, Bool, true, false, cond, ◌&&◌, ◌||◌, List, [], ◌∷◌, ◌++◌, Option, Some, None, refl, sym, ap, ap₂, ◌∙◌, arith, inl, inr, ◌==◌, is_some, option_and_then, sum_by, cond-true, cond-false, and_parts, or_cases, or_parts, or_left, or_right, eqb-true, false≢true, sum_by-cons}
 use Rattle.zone_rules.specs.Zones.{Owner, Holding, Block, Lacks, OwnsOnce, Unique, same_owner, holds_for, is_held_by, owned_block, block_size}
 use Rattle.zone_rules.specs.Orders.{Item, has_owner, has_item, AreDistinct, items_size, is_listed, AllListed, is_live, AllLive, live_sum}
 use Rattle.zone_rules.proofs.OwnerLemmas.{owner_eq}

@@ -1,14 +1,10 @@
 -- What an owner holds, through each change of a zone.
-use Rattle.std.proofs.Common.{◌≡◌, ℕ, ◌+◌, ◌-◌, ◌≤◌, Bool, true, false, cond, ◌&&◌, List, [], ◌∷◌, ◌++◌, map, Option, Some, None, refl, sym, subst, ap, ◌∙◌, arith, option_map, inl, inr}
-use Rattle.std.specs.Prelude.{is_none, nat_lt, ◌==◌, ◌⊎◌}
-use Rattle.std.proofs.lemmas.Bool.{cond-true, cond-false, false≢true, and_parts, and_left, and_from, eq-eqb, eqb-true, ltb-false}
-use Rattle.zone_rules.specs.declared.Tag.{Tag}
+use Rattle.zone_rules.proofs.Common.{◌≡◌, ℕ, ◌+◌, ◌-◌, ◌≤◌, Bool, true, false, cond, ◌&&◌, List, [], ◌∷◌, ◌++◌, map, Option, Some, None, refl, sym, subst, ap, ◌∙◌, arith, option_map, inl, inr, is_none, nat_lt, ◌==◌, ◌⊎◌, cond-true, cond-false, false≢true, and_parts, and_left, and_from, eq-eqb, eqb-true, ltb-false}
+use Rattle.zone_rules.specs.{declared.Tag.Tag, Rooms.RoomAt}
 use Rattle.zone_rules.specs.Zones.{Block, Holding, Owner, Heap, IsSound, Tiles, Unique, Lacks, OwnsOnce, is_free, is_held_by, holds_for, same_owner, owned_block, free_block, is_purgeable}
 use Rattle.zone_rules.specs.Requests.{join_free, join_on, purge_among, is_among, cut_block, block_left, passed_blocks, stretches, after_search, with_block, take_at}
-use Rattle.zone_rules.specs.Rooms.{RoomAt}
 use Rattle.zone_rules.specs.Frees.{free_owner, retag_block, set_tag, write_block, write_holding}
-use Rattle.zone_rules.proofs.ZoneLemmas.{Lacks-freed, purge_frees}
-use Rattle.zone_rules.proofs.TakeLemmas.{take_at_is}
+use Rattle.zone_rules.proofs.{ZoneLemmas.Lacks-freed, ZoneLemmas.purge_frees, TakeLemmas.take_at_is}
 use Rattle.zone_rules.proofs.SoundLemmas.{searched_tiles, searched_lacks}
 
 free_holds_none : (o : Owner) (h : Option Holding) → is_none h ≡ true → holds_for o h ≡ false

@@ -1,13 +1,7 @@
 -- Which blocks a purge of chosen ones changes. What a tiling says of the places of its parts.
-use Rattle.std.proofs.Common.{◌≡◌, ℕ, ◌+◌, ◌<◌, ◌≤◌, suc, Bool, true, false, cond, not, List, [], ◌∷◌, take, filter, Option, Some, None, refl, ap, arith, inl, inr, ◌&&◌, ◌||◌, ◌++◌, map, sym, subst, ap₂, ◌∙◌, count_by, zero-add, zero, drop, ⊎_elim}
-use Rattle.std.specs.Prelude.{⊤, ◌==◌, ◌⊎◌}
-use Rattle.std.proofs.lemmas.Bool.{cond-false, ne_eqb, cond-true, eq-eqb, or_left, or_right, false≢true}
+use Rattle.zone_rules.proofs.Common.{◌≡◌, ℕ, ◌+◌, ◌<◌, ◌≤◌, suc, Bool, true, false, cond, not, List, [], ◌∷◌, take, filter, Option, Some, None, refl, ap, arith, inl, inr, ◌&&◌, ◌||◌, ◌++◌, map, sym, subst, ap₂, ◌∙◌, count_by, zero-add, zero, drop, ⊎_elim, ⊤, ◌==◌, ◌⊎◌, cond-false, ne_eqb, cond-true, eq-eqb, or_left, or_right, false≢true, list_any, map-append, list_any-append, sum_by-append, sum_by-cons}
 use Rattle.zone_rules.specs.Zones.{Block, is_pinned, Holding, is_purgeable, is_purgeable_tag, may_purge, pins, free_block, Tiles}
 use Rattle.zone_rules.proofs.GapLemmas.{total-cons}
-use Rattle.std.specs.List.{list_any}
-use Rattle.std.proofs.lemmas.List.{map-append}
-use Rattle.std.proofs.lemmas.List.Folds.{list_any-append}
-use Rattle.std.proofs.lemmas.List.Sums.{sum_by-append, sum_by-cons}
 use Rattle.zone_rules.specs.Requests.{purge_among, is_among, purge_block, count_among, total}
 
 abbrev pub unpinned : List Block → List Block

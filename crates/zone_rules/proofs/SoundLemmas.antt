@@ -1,16 +1,13 @@
 -- Each change of a zone leaves it sound.
-use Rattle.std.proofs.Common.{◌≡◌, ℕ, ◌+◌, ◌*◌, ◌<◌, ◌≤◌, Bool, true, false, cond, List, [], ◌∷◌, ◌++◌, length, Option, Some, None, refl, sym, subst, ap, ◌∙◌, arith}
-use Rattle.std.specs.Prelude.{◌==◌, IsNone, option_and_then, find, All}
-use Rattle.std.proofs.lemmas.Bool.{false≢true, cond-true, cond-false, eq-eqb, ne_eqb}
+use Rattle.zone_rules.proofs.Common.{◌≡◌, ℕ, ◌+◌, ◌*◌, ◌<◌, ◌≤◌, Bool, true, false, cond, List, [], ◌∷◌, ◌++◌, length, Option, Some, None, refl, sym, subst, ap, ◌∙◌, arith, ◌==◌, IsNone, option_and_then, find, All, false≢true, cond-true, cond-false, eq-eqb, ne_eqb}
 use Rattle.zone_rules.specs.Zones.{Block, Holding, Owner, Heap, Tiles, Apart, Unique, AllFit, Lacks, IsSound, is_held_by, holds_for, holding_of, free_block, block_size, owner_at, slot_count}
 use Rattle.zone_rules.specs.Requests.{total, purge_among, passed_blocks, stretches, after_search, take_at, with_block, without_room, cut_block, gaps, first_room, blocks_from, start_in, join_free}
-use Rattle.zone_rules.specs.Rooms.{RoomAt}
+use Rattle.zone_rules.specs.{Rooms.RoomAt, Frees.free_owner, Frees.without_block}
 use Rattle.zone_rules.proofs.GapLemmas.{wider_from, none_found, some_found, widest-append, all_small, small_all}
 use Rattle.zone_rules.proofs.PurgeLemmas.{tiles_le}
 use Rattle.zone_rules.proofs.JoinLemmas.{Tiles-join_free, Apart-join_free, Unique-join_free, AllFit-join_free, Lacks-join_free}
 use Rattle.zone_rules.proofs.ZoneLemmas.{Tiles-freed, Unique-freed, AllFit-freed, Lacks-freed, purge_frees, around_is_place, after_is_place, release_frees}
 use Rattle.zone_rules.proofs.TakeLemmas.{InRange, take_at_is, tiles_cut_block, apart_cut_block, fit_cut_block, unique_cut_block}
-use Rattle.zone_rules.specs.Frees.{free_owner, without_block}
 
 pub few_tiles : (p q : ℕ) (bs : List Block) → Tiles p q bs → p + 24 * length bs ≤ q
 few_tiles p q [] t = omega arith

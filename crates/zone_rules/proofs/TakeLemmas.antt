@@ -1,7 +1,5 @@
 -- A free block given to a slot, and the numbers of the slots.
-use Rattle.std.proofs.Common.{◌≡◌, ℕ, ◌+◌, ◌-◌, ◌≤◌, Bool, true, false, cond, ◌&&◌, List, [], ◌∷◌, ◌++◌, Option, Some, None, refl, sym, subst, ap, ◌∙◌, arith, inl, inr, ◌<◌}
-use Rattle.std.specs.Prelude.{◌==◌, nat_lt, ◌⊎◌}
-use Rattle.std.proofs.lemmas.Bool.{cond-true, cond-false, ne_eqb, eq-eqb, ltb-true, ltb-false, and_left, and_right, and_cases, false≢true, and_from, cases_eq, cases_lt}
+use Rattle.zone_rules.proofs.Common.{◌≡◌, ℕ, ◌+◌, ◌-◌, ◌≤◌, Bool, true, false, cond, ◌&&◌, List, [], ◌∷◌, ◌++◌, Option, Some, None, refl, sym, subst, ap, ◌∙◌, arith, inl, inr, ◌<◌, ◌==◌, nat_lt, ◌⊎◌, cond-true, cond-false, ne_eqb, eq-eqb, ltb-true, ltb-false, and_left, and_right, and_cases, false≢true, and_from, cases_eq, cases_lt}
 use Rattle.zone_rules.specs.Zones.{Block, Holding, Owner, Tiles, Apart, Lacks, OwnsOnce, Unique, AllFit, FitsHolding, is_free, holds_for, same_owner, starts_free, free_block, block_size}
 use Rattle.zone_rules.specs.Requests.{cut_block, take_at}
 

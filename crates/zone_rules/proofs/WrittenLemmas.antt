@@ -1,8 +1,5 @@
 -- A block that is taken and then written is one that is taken with these bytes.
-use Rattle.std.proofs.Common.{◌≡◌, ℕ, ◌+◌, ◌-◌, Bool, true, false, cond, List, [], ◌∷◌, ◌++◌, map, Some, refl, sym, ap, ap₂, ◌∙◌}
-use Rattle.std.specs.Prelude.{◌==◌, nat_lt}
-use Rattle.std.proofs.lemmas.Bool.{cond-true, cond-false, and_from, eq-eqb}
-use Rattle.std.proofs.lemmas.List.{map-append}
+use Rattle.zone_rules.proofs.Common.{◌≡◌, ℕ, ◌+◌, ◌-◌, Bool, true, false, cond, List, [], ◌∷◌, ◌++◌, map, Some, refl, sym, ap, ap₂, ◌∙◌, ◌==◌, nat_lt, cond-true, cond-false, and_from, eq-eqb, map-append}
 use Rattle.zone_rules.specs.Zones.{Owner, Holding, Block, Heap, Lacks, is_held_by, same_owner, free_block}
 use Rattle.zone_rules.specs.Requests.{after_search, take_at, cut_block, with_block, place_after}
 use Rattle.zone_rules.specs.Frees.{write_block, write_holding, with_bytes}

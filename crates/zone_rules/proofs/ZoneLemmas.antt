@@ -1,7 +1,5 @@
 -- What purges and releases keep of a zone's blocks.
-use Rattle.std.proofs.Common.{◌≡◌, ℕ, ◌+◌, ◌<◌, Bool, true, false, cond, List, [], ◌∷◌, map, Option, Some, None, refl, sym, subst, ap, ◌∙◌, arith, inl, inr, zero-add}
-use Rattle.std.specs.Prelude.{◌==◌, nat_le, ◌⊎◌}
-use Rattle.std.proofs.lemmas.Bool.{cond-true, eq-eqb, le-leb, false≢true}
+use Rattle.zone_rules.proofs.Common.{◌≡◌, ℕ, ◌+◌, ◌<◌, Bool, true, false, cond, List, [], ◌∷◌, map, Option, Some, None, refl, sym, subst, ap, ◌∙◌, arith, inl, inr, zero-add, ◌==◌, nat_le, ◌⊎◌, cond-true, eq-eqb, le-leb, false≢true}
 use Rattle.zone_rules.specs.Zones.{Block, Holding, Owner, Tiles, Lacks, OwnsOnce, Unique, AllFit, FitsHolding, is_held_by, free_block, has_place}
 use Rattle.zone_rules.specs.Requests.{place_around, place_after, is_among, purge_block}
 

@@ -1,8 +1,7 @@
 -- What `free` and `change_tag` do to a zone.
 use Rattle.std.specs.Prelude.{ℕ, if◌then◌else◌, List, map, Option, Some, None}
-use Rattle.zone_rules.specs.declared.Tag.{Tag}
+use Rattle.zone_rules.specs.{declared.Tag.Tag, Requests.join_free, Requests.place_around}
 use Rattle.zone_rules.specs.Zones.{Owner, Holding, Block, Heap, is_held_by, free_block}
-use Rattle.zone_rules.specs.Requests.{join_free, place_around}
 
 abbrev pub free_owner : Owner → List Block → List Block
 free_owner o bs = map (λ b. if is_held_by o b then free_block b.place b.size else b) bs

@@ -1,9 +1,8 @@
 -- What a request for a block does to a zone, told by gaps and stretches.
 use Rattle.std.specs.Prelude.{◌≡◌, ℕ, ◌+◌, ◌-◌, ◌^◌, ◌==◌, ◌&&◌, Bool, true, false, nat_lt, nat_le, ◌≤◌, not, max, if◌then◌else◌, List, [], ◌∷◌, ◌++◌, length, filter, map, find, sum_by, count_by, Option, Some, None, min, option_map}
 use Rattle.std.specs.List.{list_any}
-use Rattle.zone_rules.specs.declared.Tag.{Tag}
+use Rattle.zone_rules.specs.{declared.Tag.Tag, declared.TheConstants.MIN_FRAGMENT}
 use Rattle.zone_rules.specs.Zones.{Owner, Holding, Block, Heap, is_free, is_purgeable, is_pinned, free_block, block_size, owned_block}
-use Rattle.zone_rules.specs.declared.TheConstants.{MIN_FRAGMENT}
 
 abbrev pub total : List Block → ℕ
 total bs = sum_by (λ b. b.size) bs

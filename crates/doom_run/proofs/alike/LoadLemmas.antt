@@ -1,29 +1,23 @@
 -- What is loaded of a trimmed file: what was loaded of the WADs that it was made of, under other numbers of lumps.
 use Rattle.picture_rules.proofs.Common.{[], All, AllByRecursion, ap, arith, inl, length, List, list_any, map, None, Ok, Option, option_map, refl, Some, subst, sym, true, unwrap_or, ℕ, ◌==◌, ◌∙◌, ◌∷◌, ◌≡◌, ◌≤◌}
-use Rattle.doom_run.specs.Rules.{Faces, File, Frame, LevelJobValue, LevelValue, MAX_LUMPS, SKY_FLAT, SceneArt, SceneValue, TextureLists, ThingLine, TrimPart, WeaponArt, book_in, book_lumps, directory, each_of, faces_in, first_needs, flat_lumps, from_below, lump_bytes, map_bytes, need_of, scene_in, sector_flats, side_textures, sky_texture, trim_parts, trim_plan, trimmed_file, trimmed_lumps}
-use Rattle.art_rules.specs.Words.{frame_of, Lump}
+use Rattle.doom_run.specs.Rules.{Faces, File, Frame, LevelJobValue, LevelValue, Lump, MAX_LUMPS, SKY_FLAT, SceneArt, SceneValue, TextureLists, ThingLine, TrimPart, WeaponArt, book_in, book_lumps, directory, each_of, faces_in, first_needs, flat_lumps, frame_of, from_below, lump_bytes, map_bytes, need_of, scene_in, sector_flats, side_textures, sky_texture, trim_parts, trim_plan, trimmed_file, trimmed_lumps}
 use Rattle.art_rules.proofs.Laws.{and_then-ok}
 use Rattle.csv_tables.specs.declared.weapons.WeaponRow.{WeaponRow}
 use Rattle.job_files.specs.Files.{path_file, tables_file, things_file, weapons_file}
 use Rattle.job_files.specs.Sizes.{wad_contents}
-use Rattle.sound_scene.specs.Sound.{art_with}
+use Rattle.sound_scene.specs.{Sound.art_with, Pictures.lists_of}
 use Rattle.level_audit.specs.scene_load.Loads.{LoadedValue, load_in, loaded_pictures, wad_bytes, weapon_lumps, weapons_of}
 use Rattle.level_audit.specs.Weapons.{weapon_book, weapon_needs, weapon_refusal}
-use Rattle.sound_scene.specs.Pictures.{lists_of}
 use Rattle.trim_rules.proofs.BaseLemmas.{base-made}
 use Rattle.trim_rules.proofs.BookLemmas.{IsPicture, book-moved, move_frame}
-use Rattle.trim_rules.proofs.CountLemmas.{directory-few}
-use Rattle.trim_rules.proofs.FlatPlaceLemmas.{IsFlatPlace}
+use Rattle.trim_rules.proofs.{CountLemmas.directory-few, FlatPlaceLemmas.IsFlatPlace}
 use Rattle.trim_rules.proofs.HeldSpriteLemmas.{HoldsPictures, IsSprite, book-sprites, first_picture, pictures-held}
-use Rattle.trim_rules.proofs.NamedLemmas.{any_left, any_right}
+use Rattle.trim_rules.proofs.{NamedLemmas.any_left, NamedLemmas.any_right, PlaceLemmas.source_of}
 use Rattle.trim_rules.proofs.OneToOneLemmas.{flats-count, flats-one-to-one, flats-placed, sky-kept}
-use Rattle.trim_rules.proofs.PlaceLemmas.{source_of}
 use Rattle.trim_rules.proofs.PlanLemmas.{plan-directory, plan-unmarked}
 use Rattle.trim_rules.proofs.SceneLemmas.{IsSceneMoved, scene-steps, trimmed-scene}
-use Rattle.trim_rules.proofs.TextureLemmas.{bytes-moved}
-use Rattle.trim_rules.proofs.ThereLemmas.{all-append}
-use Rattle.alike_rules.proofs.PlaneLemmas.{IsOneToOne}
-use Rattle.alike_rules.proofs.SoundLemmas.{HasSectors}
+use Rattle.trim_rules.proofs.{TextureLemmas.bytes-moved, ThereLemmas.all-append}
+use Rattle.alike_rules.proofs.{PlaneLemmas.IsOneToOne, SoundLemmas.HasSectors}
 use Rattle.alike_rules.proofs.SurfaceLemmas.{IsSurfaceOf}
 use Rattle.doom_run.specs.Alike.{StandsForWads}
 use Rattle.doom_run.proofs.alike.TrimmedLemmas.{scene-sectors, surfaces-placed}

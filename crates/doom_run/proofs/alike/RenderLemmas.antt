@@ -5,19 +5,14 @@ use Rattle.csv_tables.specs.declared.weapons.WeaponRow.{WeaponRow}
 use Rattle.sound_scene.specs.Sound.{art_with}
 use Rattle.level_audit.specs.scene_load.Loads.{LoadedValue, load_in, loaded_pictures, wad_bytes}
 use Rattle.trim_rules.proofs.BookLemmas.{move_frame, move_shape}
-use Rattle.trim_rules.proofs.FlatPlaceLemmas.{IsFlatPlace}
-use Rattle.trim_rules.proofs.MovedFlatLemmas.{move_both}
-use Rattle.trim_rules.proofs.PickedLemmas.{picked-moved}
-use Rattle.trim_rules.proofs.PlaceLemmas.{source_of}
-use Rattle.trim_rules.proofs.PlanLemmas.{plan-accepted}
-use Rattle.trim_rules.proofs.SceneLemmas.{IsSceneMoved}
+use Rattle.trim_rules.proofs.{FlatPlaceLemmas.IsFlatPlace, MovedFlatLemmas.move_both}
+use Rattle.trim_rules.proofs.{PickedLemmas.picked-moved, PlaceLemmas.source_of}
+use Rattle.trim_rules.proofs.{PlanLemmas.plan-accepted, SceneLemmas.IsSceneMoved}
 use Rattle.alike_rules.proofs.EntryLemmas.{moved_layer}
 use Rattle.alike_rules.proofs.PictureLemmas.{overlaid_picture-same, view_over-same}
-use Rattle.alike_rules.proofs.PlaneLemmas.{IsOneToOne}
-use Rattle.alike_rules.proofs.SceneLemmas.{IsMovedScene}
+use Rattle.alike_rules.proofs.{PlaneLemmas.IsOneToOne, SceneLemmas.IsMovedScene}
 use Rattle.doom_run.specs.Alike.{StandsForWads}
-use Rattle.doom_run.proofs.alike.SceneOfLemmas.{scene-moved}
-use Rattle.doom_run.proofs.alike.TrimmedLemmas.{moved-value}
+use Rattle.doom_run.proofs.{alike.SceneOfLemmas.scene-moved, alike.TrimmedLemmas.moved-value}
 use Rattle.doom_run.proofs.alike.LoadLemmas.{IsComparedAlike, IsLoadMoved, trimmed-load}
 use Rattle.doom_run.specs.declared.form.ViewForm.TheVariants as form
 use Rattle.doom_run.specs.Layers.{SeenView, layer_of, layer_with, layers_by, layers_from, layers_of, layer_light, seen_from, seen_view, seen_views}

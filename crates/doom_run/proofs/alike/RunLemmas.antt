@@ -11,10 +11,8 @@ use Rattle.level_audit.specs.scene_load.Loads.{LoadedValue, load_in, loaded_pict
 use Rattle.doom_run.specs.declared.form.ViewForm.TheVariants as form
 use Rattle.doom_run.specs.Alike.{EndAlike, RendersAlike, StandsForWads, render_verdict, with_spans}
 use Rattle.doom_run.specs.Jobs.{Written, done, drawing, job_of, level_work, rendered, trimming}
-use Rattle.doom_run.specs.Steps.{at_step, else_usage}
-use Rattle.doom_run.specs.Trims.{plan_in}
+use Rattle.doom_run.specs.{Steps.at_step, Steps.else_usage, Trims.plan_in, Views.views_of}
 use Rattle.doom_run.specs.Verdict.{Accepted, accepted_in, delivered, job_verdict, verdict, work_verdict}
-use Rattle.doom_run.specs.Views.{views_of}
 use Rattle.doom_run.proofs.alike.RenderLemmas.{trimmed-views}
 use Rattle.doom_run.proofs.alike.SpansLemmas.{load-with, loaded_with}
 use Rattle.doom_run.proofs.alike.StepLemmas.{below, ok_of}

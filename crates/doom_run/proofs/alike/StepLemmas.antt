@@ -1,14 +1,12 @@
 -- The steps of a load: each file gives what it should, and the lumps give the scene and the weapon layers.
 use Rattle.std.proofs.Common.{◌≡◌, ℕ, List, [], ◌∷◌, Option, Some, None, Result, Ok, Err, refl, ap, subst, ◌∙◌}
-use Rattle.doom_run.specs.Rules.{File, FileNames, LevelJobValue, Settings, Stop, and_then, directory, else_absent, file_named, from_below, no_file, scene_in}
-use Rattle.art_rules.specs.Words.{Lump}
+use Rattle.doom_run.specs.Rules.{File, FileNames, LevelJobValue, Lump, Settings, Stop, and_then, directory, else_absent, file_named, from_below, no_file, scene_in}
 use Rattle.art_rules.proofs.Laws.{and_then-ok}
 use Rattle.refusals.specs.declared.refusal.Refusal.{Refusal}
 use Rattle.refusals.specs.declared.refusal.Refusal.TheVariants.{Wad}
 use Rattle.refusals.specs.declared.refusal.Refusal.TheVariants.{Level}
-use Rattle.job_files.specs.declared.texts.TextTables.{TextTables}
+use Rattle.job_files.specs.{declared.texts.TextTables.TextTables, Sizes.wad_contents}
 use Rattle.job_files.specs.Files.{FilesValue, files_in, files_named, in_file, in_optional_file, lumps_in, path_file, tables_file, texts_in, things_file, wad_files, weapons_file}
-use Rattle.job_files.specs.Sizes.{wad_contents}
 use Rattle.level_audit.specs.scene_load.Loads.{LoadedValue, audited_in, load_in, wad_bytes, weapons_of}
 
 pub ok_of : {X R : Type 0} (a b : X) → (let l : Result X R = Ok a in l) ≡ Ok b → a ≡ b

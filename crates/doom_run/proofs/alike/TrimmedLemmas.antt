@@ -8,10 +8,8 @@ use Rattle.sound_scene.proofs.SurfaceLemmas.{surface_counts}
 use Rattle.sound_scene.specs.Pictures.{lists_of}
 use Rattle.trim_rules.proofs.FlatPlaceLemmas.{AreFlatPlaces, IsFlatPlace}
 use Rattle.trim_rules.proofs.MovedFlatLemmas.{move_both, move_flat}
-use Rattle.trim_rules.proofs.PickedLemmas.{picked-moved}
-use Rattle.trim_rules.proofs.SceneLemmas.{IsSceneMoved}
-use Rattle.alike_rules.proofs.SoundLemmas.{HasSectors}
-use Rattle.alike_rules.proofs.SurfaceLemmas.{IsSurfaceOf}
+use Rattle.trim_rules.proofs.{PickedLemmas.picked-moved, SceneLemmas.IsSceneMoved}
+use Rattle.alike_rules.proofs.{SoundLemmas.HasSectors, SurfaceLemmas.IsSurfaceOf}
 use Rattle.doom_run.proofs.alike.SceneOfLemmas.{IsMovedValue, moved_flats, moved_named}
 
 -- the same flats by both names for what moves them

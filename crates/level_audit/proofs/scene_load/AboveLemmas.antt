@@ -4,13 +4,10 @@ use Rattle.level_audit.specs.Rules.{AuditRefusal, Fault, Frame, Heap, KeepsOrder
 use Rattle.art_rules.proofs.Laws.{ok_through}
 use Rattle.refusals.specs.declared.refusal.Refusal.{Refusal}
 use Rattle.refusals.specs.declared.refusal.Refusal.TheVariants.{Level}
-use Rattle.job_files.specs.Files.{value_of}
-use Rattle.job_files.specs.declared.read.SceneFiles.{SceneFiles}
+use Rattle.job_files.specs.{Files.value_of, declared.read.SceneFiles.SceneFiles}
 use Rattle.sound_scene.specs.Sound.{SoundValue}
-use Rattle.level_audit.specs.scene_load.Calls.{AuditsLevel}
-use Rattle.level_audit.specs.scene_load.Fulls.{IsFullOver}
-use Rattle.level_audit.specs.scene_load.Loads.{audited_in}
-use Rattle.level_audit.specs.scene_load.Orders.{loaded_items}
+use Rattle.level_audit.specs.{scene_load.Calls.AuditsLevel, scene_load.Fulls.IsFullOver}
+use Rattle.level_audit.specs.{scene_load.Loads.audited_in, scene_load.Orders.loaded_items}
 use Rattle.job_files.proofs.AboveLemmas.{IsNamedAbove, answers_above, causes_above, fulls_above, orders_above}
 
 -- what an audit says of its answer is said of it with each refusal inside that of a run

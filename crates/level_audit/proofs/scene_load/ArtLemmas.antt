@@ -1,15 +1,13 @@
 -- What the cache and the textures hold once all is loaded.
 use Rattle.art_rules.proofs.Common.{ap, IfSome, List, None, Ok, Option, option_and_then, option_map, refl, Some, subst, sym, ℕ, ◌∙◌, ◌≡◌}
-use Rattle.level_audit.specs.Rules.{Art, Block, Heap, Holding, LevelBase, LevelJobValue, Lump, Map, PreparedTexture, SceneValue, ShelfView, ThingLine, base_in, base_over, bytes_of, colormap_of, from_below, is_wanted_texture, level_in, lists_in, lump_bytes, playpal_of, scene_in}
+use Rattle.level_audit.specs.Rules.{Art, Block, Heap, Holding, LevelBase, LevelJobValue, Lump, Map, PreparedTexture, SceneValue, ShelfView, Texture, ThingLine, base_in, base_over, bytes_of, colormap_of, from_below, is_wanted_texture, level_in, lists_in, lump_bytes, playpal_of, scene_in}
 use Rattle.art_rules.proofs.Laws.{and_then-ok}
 use Rattle.texture_build.specs.DirectoryView.{DirectoryView}
 use Rattle.texture_build.specs.Caches.{IsAtRest, IsEmpty, composite_owner}
 use Rattle.texture_build.specs.Calls.{HoldContents, PreservesCache}
-use Rattle.texture_build.specs.Composites.{AreComposites, composite_of}
-use Rattle.texture_build.specs.Draws.{HoldsArt}
+use Rattle.texture_build.specs.{Composites.AreComposites, Composites.composite_of, Draws.HoldsArt}
 use Rattle.texture_build.specs.Views.{TexturesView, AreTexturesOf, prepared_at}
 use Rattle.refusals.specs.declared.refusal.Refusal.TheVariants.{Level}
-use Rattle.scene_rules.specs.declared.refusal.AuditRefusal.TheVariants.{Texture}
 use Rattle.sound_scene.specs.Sound.{textures_view}
 use Rattle.sound_scene.proofs.SceneLemmas.{from_below-ok, scene_parts}
 use Rattle.job_files.specs.Files.{FilesValue}

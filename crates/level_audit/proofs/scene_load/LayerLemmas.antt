@@ -1,14 +1,12 @@
 -- What is told of the pictures of weapon layers.
 use Rattle.std.proofs.Common.{◌≡◌, ℕ, List, Option, Some, None, Result, Ok, Err, refl, IsErrAnd}
 use Rattle.level_audit.specs.Rules.{AuditRefusal, Fault, Frame, Heap, Lump, ShelfView, WeaponArt, from_below, itself}
-use Rattle.texture_build.specs.DirectoryView.{DirectoryView}
+use Rattle.texture_build.specs.{DirectoryView.DirectoryView, Calls.ReadsLumps}
 use Rattle.csv_tables.specs.declared.weapons.WeaponRow.{WeaponRow}
-use Rattle.texture_build.specs.Calls.{ReadsLumps}
 use Rattle.texture_build.proofs.CallLemmas.{reads_as, reads_known, reads_stop_first}
 use Rattle.sprite_book.specs.Calls.{IsWanted}
 use Rattle.level_audit.specs.Weapons.{weapon_book, weapon_needs}
-use Rattle.level_audit.specs.scene_load.Fulls.{IsOfLayers}
-use Rattle.level_audit.specs.scene_load.Loads.{weapons_of}
+use Rattle.level_audit.specs.{scene_load.Fulls.IsOfLayers, scene_load.Loads.weapons_of}
 
 module _ (bytes : ℕ → List ℕ) (lumps : List Lump) (weapons : Option (List WeaponRow)) where
   -- without a file of layers there is no book

@@ -1,15 +1,13 @@
 -- What is told of a job's loading, step after step.
 use Rattle.art_rules.proofs.Common.{ap, Bool, Err, err_from_is_err_and, IfErr, IsErrAnd, List, Ok, refl, Result, Some, sym, ℕ, ◌∙◌, ◌≡◌}
 use Rattle.level_audit.specs.Rules.{AllWithin, AuditRefusal, Fault, FaultFits, FaultFitsOrAbsent, File, HasCauseAt, HasCauses, Heap, LevelJobValue, NameFiles, OutOfMemory, ResultIs, ResultIsOrAbsent, ShelfView, Stop, from_below, itself, no_file}
-use Rattle.texture_build.specs.DirectoryView.{DirectoryView}
-use Rattle.texture_build.specs.Caches.{IsFaithful}
+use Rattle.texture_build.specs.{DirectoryView.DirectoryView, Caches.IsFaithful}
 use Rattle.texture_build.specs.Calls.{IfFull, HoldContents}
-use Rattle.job_files.specs.Files.{FilesValue, files_in, files_named}
+use Rattle.job_files.specs.{Files.FilesValue, Files.files_in, Files.files_named, Sizes.wad_contents}
 use Rattle.job_files.proofs.AcceptedLemmas.{wads_accepted}
 use Rattle.art_rules.proofs.Laws.{all_passed, no_file_agrees, step_stops}
 use Rattle.refusals.specs.declared.refusal.Refusal.{Refusal}
 use Rattle.refusals.specs.declared.refusal.Refusal.TheVariants.{Level}
-use Rattle.job_files.specs.Sizes.{wad_contents}
 use Rattle.level_audit.specs.scene_load.Loads.{LoadedValue, audited_in, load_in, stops_of_audit, wad_bytes}
 
 -- memory ran out, which no step decides

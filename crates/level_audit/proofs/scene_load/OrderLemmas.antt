@@ -3,8 +3,7 @@
 use Rattle.art_rules.proofs.Common.{[], and_from, ap, arith, Bool, cond, eq-eqb, eqb-true, false, filter, inl, inr, length, List, list_any, list_any-append, map, ne_eqb, None, Option, or_cases, or_from, or_left, or_right, range_with_len, refl, Some, subst, suc, sum_by, sum_by-append, sum_by-cons, sym, true, zero, ℕ, ◌&&◌, ◌++◌, ◌+◌, ◌<◌, ◌==◌, ◌∙◌, ◌∷◌, ◌≡◌, ◌≤◌}
 use Rattle.level_audit.specs.Rules.{AreDistinct, AreRoomy, Block, Heap, Item, KeepsOrder, Lump, Owner, PreparedTexture, block_or_none, block_size, composite_block, has_item, has_owner, is_needed, items_size, live_sum, lump_at, lump_block, lump_size, needed_lumps, roomy, same_owner, zone_sizes}
 use Rattle.scene_rules.proofs.Laws.{item_block, live_most}
-use Rattle.texture_build.specs.Caches.{composite_owner, lump_owner}
-use Rattle.texture_build.specs.Asked.{size_of}
+use Rattle.texture_build.specs.{Caches.composite_owner, Caches.lump_owner, Asked.size_of}
 use Rattle.texture_build.specs.Views.{prepared_at}
 use Rattle.sound_scene.specs.Sound.{art_with}
 use Rattle.sound_scene.proofs.MarkLemmas.{any_passed}

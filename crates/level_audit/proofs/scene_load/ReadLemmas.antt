@@ -6,18 +6,16 @@ use Rattle.texture_build.specs.Caches.{lump_owner}
 use Rattle.texture_build.proofs.MapLemmas.{named_within}
 use Rattle.sprite_book.specs.Calls.{IsWanted}
 use Rattle.sprite_book.proofs.FrameLemmas.{pictures_there}
-use Rattle.level_audit.specs.Asked.{IsOfArt, IsOfBase}
-use Rattle.level_audit.specs.Reads.{IsAfterColormap, IsReadBy}
+use Rattle.level_audit.specs.{Asked.IsOfArt, Asked.IsOfBase, Reads.IsAfterColormap, Reads.IsReadBy}
 use Rattle.sound_scene.specs.Sound.{art_with}
 use Rattle.level_audit.specs.Weapons.{weapon_needs}
-use Rattle.level_audit.proofs.AskedLemmas.{needed_later}
+use Rattle.level_audit.proofs.{AskedLemmas.needed_later, scene_load.AuditedLemmas.audited_by}
 use Rattle.sound_scene.proofs.NeededLemmas.{for_colormap, for_picture}
 use Rattle.sound_scene.proofs.SceneLemmas.{base_parts, colormap_there, same_value, scene_parts}
 use Rattle.job_files.specs.Files.{FilesValue}
 use Rattle.level_audit.specs.scene_load.Fulls.{IsOfLayers, IsReadFor}
 use Rattle.level_audit.specs.scene_load.Loads.{LoadedValue, audited_in, loaded_pictures, weapon_lumps, weapons_of}
 use Rattle.level_audit.specs.scene_load.Orders.{loaded_items}
-use Rattle.level_audit.proofs.scene_load.AuditedLemmas.{audited_by}
 use Rattle.level_audit.proofs.scene_load.MoreLemmas.{book_of_layers, needed_more}
 use Rattle.level_audit.proofs.scene_load.OrderLemmas.{items_lump}
 

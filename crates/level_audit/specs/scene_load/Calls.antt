@@ -5,11 +5,9 @@ use Rattle.texture_build.specs.Caches.{IsAtRest, IsFaithful, KeepsCounts, compos
 use Rattle.texture_build.specs.Calls.{HoldContents, IfFull, InOrderAt, LeavesInOrder}
 use Rattle.texture_build.specs.Draws.{HoldsArt}
 use Rattle.refusals.specs.declared.refusal.Refusal.{Refusal}
-use Rattle.job_files.specs.Files.{files_named, value_of}
-use Rattle.job_files.specs.Sizes.{files_size}
+use Rattle.job_files.specs.{Files.files_named, Files.value_of, Sizes.files_size}
 use Rattle.job_files.specs.declared.read.SceneFiles.{SceneFiles}
-use Rattle.sound_scene.specs.Sound.{SoundValue, textures_view}
-use Rattle.sound_scene.specs.Whole.{IsWholeScene}
+use Rattle.sound_scene.specs.{Sound.SoundValue, Sound.textures_view, Whole.IsWholeScene}
 use Rattle.level_audit.specs.Weapons.{AreThere}
 use Rattle.level_audit.specs.declared.scene_load.load.TheConstants.{COMPOSITE_SLOTS}
 use Rattle.level_audit.specs.declared.scene_load.load.LoadedScene.{LoadedScene}

@@ -5,9 +5,7 @@ use Rattle.texture_build.specs.Sizes.{IsGapAround}
 use Rattle.csv_tables.specs.declared.weapons.WeaponRow.{WeaponRow}
 use Rattle.sprite_book.specs.Calls.{IsWanted}
 use Rattle.job_files.specs.Files.{FilesValue, files_in}
-use Rattle.level_audit.specs.Asked.{IsOfBase}
-use Rattle.level_audit.specs.Reads.{IsReadBy}
-use Rattle.level_audit.specs.Weapons.{weapon_needs}
+use Rattle.level_audit.specs.{Asked.IsOfBase, Reads.IsReadBy, Weapons.weapon_needs}
 use Rattle.level_audit.specs.scene_load.Loads.{LoadedValue, audited_in, load_in, loaded_sizes, wad_bytes}
 
 -- The block of COLORMAP and that of any other lump of colours, of the map or of the lists are together

@@ -4,12 +4,10 @@ use Rattle.std.specs.Prelude.{ℕ, List, [], ◌++◌, Option, Some, None, Resul
 use Rattle.level_audit.specs.Rules.{AuditRefusal, File, Frame, LevelJobValue, Lump, SceneValue, Stop, WeaponArt, ZoneSizes, and_then, book_lumps, from_below, lump_bytes, needed_lumps, no_file, scene_in, zone_sizes}
 use Rattle.csv_tables.specs.declared.weapons.WeaponRow.{WeaponRow}
 use Rattle.refusals.specs.declared.refusal.Refusal.{Refusal}
-use Rattle.job_files.specs.Files.{FilesValue, files_in, value_of}
-use Rattle.job_files.specs.Sizes.{wad_contents}
+use Rattle.job_files.specs.{Files.FilesValue, Files.files_in, Files.value_of, Sizes.wad_contents}
 use Rattle.sound_scene.specs.Sound.{SoundValue, art_with, with_book}
-use Rattle.level_audit.specs.Weapons.{weapon_book}
+use Rattle.level_audit.specs.{Weapons.weapon_book, declared.scene_load.load.LoadedScene.LoadedScene}
 use Rattle.refusals.specs.declared.refusal.Refusal.TheVariants.{Level}
-use Rattle.level_audit.specs.declared.scene_load.load.LoadedScene.{LoadedScene}
 
 -- what is loaded: what the files give, the scene, and the book of the weapon layers, where a file of
 -- them is named

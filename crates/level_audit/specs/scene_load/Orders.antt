@@ -2,8 +2,7 @@
 -- room for all of it.
 use Rattle.std.specs.Prelude.{ℕ, ◌+◌, ◌≤◌, ◌==◌, cond, List, [], ◌∷◌, ◌++◌, map, sum_by, Option, Some, None}
 use Rattle.level_audit.specs.Rules.{File, Heap, IsInOrder, Item, LevelJobValue, Lump, PreparedTexture, live_sum, lump_at, lump_size}
-use Rattle.texture_build.specs.Caches.{composite_owner, lump_owner}
-use Rattle.texture_build.specs.Asked.{size_of}
+use Rattle.texture_build.specs.{Caches.composite_owner, Caches.lump_owner, Asked.size_of}
 use Rattle.job_files.specs.Sizes.{files_size}
 use Rattle.level_audit.specs.scene_load.Loads.{LoadedValue, loaded_lumps}
 

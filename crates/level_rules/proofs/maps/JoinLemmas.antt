@@ -1,12 +1,9 @@
 -- What may be looked up by number for the segs and leaves of records that are not refused.
 use Rattle.word_rules.proofs.Common.{arith, length, length-map, List, None, or_else-none, refl, slice_index_or, ℕ, ◌<◌, ◌≡◌}
-use Rattle.level_rules.specs.declared.Child.{Child}
-use Rattle.level_rules.specs.declared.Leaf.{Leaf}
-use Rattle.level_rules.specs.declared.Seg.{Seg}
+use Rattle.level_rules.specs.{declared.Child.Child, declared.Leaf.Leaf, declared.Seg.Seg}
 use Rattle.level_rules.specs.declared.maps.records.MapLine.{MapLine}
 use Rattle.level_rules.specs.declared.maps.records.MapSeg.{MapSeg}
-use Rattle.level_rules.specs.declared.maps.records.MapLeaf.{MapLeaf}
-use Rattle.level_rules.specs.maps.Firsts.{first_refusal}
+use Rattle.level_rules.specs.{declared.maps.records.MapLeaf.MapLeaf, maps.Firsts.first_refusal}
 use Rattle.level_rules.specs.maps.Levels.{MapRecords, joined_leaves, joined_level, joined_segs, no_leaf_refusal, range_refusal, records_refusal, seg_of}
 use Rattle.level_rules.specs.maps.Ranges.{leaf_refusal, line_by, line_field, line_refusal, no_line, node_refusal, seg_field, seg_refusal, side_refusal}
 use Rattle.level_rules.specs.maps.Trees.{root_of, tree_refusal}

@@ -4,14 +4,12 @@ use Rattle.word_rules.proofs.ListedLemmas.{length-listed}
 use Rattle.level_rules.specs.declared.maps.lumps.MapLump.{MapLump}
 use Rattle.level_rules.specs.declared.maps.lumps.MapLump.TheVariants as lump
 use Rattle.level_rules.specs.declared.maps.lumps.TheConstants.{MAX_RECORDS}
-use Rattle.level_rules.specs.declared.maps.refusal.MapRefusal.{MapRefusal}
-use Rattle.level_rules.specs.maps.Fields.{records_in}
+use Rattle.level_rules.specs.{declared.maps.refusal.MapRefusal.MapRefusal, maps.Fields.records_in}
 use Rattle.level_rules.specs.maps.Lumps.{record_size, size_refusal}
 use Rattle.level_rules.specs.maps.Records.{leaves_in, lines_in, nodes_in, sectors_in, segs_in, sides_in, things_in, vertexes_in}
 use Rattle.level_rules.specs.maps.Levels.{LevelValue, MapBytes, joined_level, level_from, level_of, map_refusal, records_of, sizes_refusal, unless}
 use Rattle.level_rules.specs.maps.Sound.{HasFewRecords, IsSound}
-use Rattle.level_rules.proofs.maps.FirstLemmas.{or_else-five}
-use Rattle.level_rules.proofs.maps.RangeLemmas.{cond-none_else}
+use Rattle.level_rules.proofs.{maps.FirstLemmas.or_else-five, maps.RangeLemmas.cond-none_else}
 use Rattle.level_rules.proofs.maps.SoundLemmas.{joined_level-sound}
 
 pub length-records_in : {R : Type 0} (read : List ℕ → R) (size : ℕ) (bytes : List ℕ) → length (records_in read size bytes) ≡ length bytes / size

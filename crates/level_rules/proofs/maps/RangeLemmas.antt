@@ -1,15 +1,12 @@
 -- What holds of a record that is not refused.
 use Rattle.word_rules.proofs.Common.{arith, Bool, cond, false, le-from_lt_false, length, List, ltb-true, nat_lt, None, not, Option, refl, Some, suc, true, zero, ℕ, ◌&&◌, ◌+◌, ◌-◌, ◌<◌, ◌==◌, ◌||◌, ◌≡◌, ◌≤◌}
-use Rattle.level_rules.specs.declared.Side.{Side}
-use Rattle.level_rules.specs.declared.Node.{Node}
-use Rattle.level_rules.specs.Levels.{child_on}
+use Rattle.level_rules.specs.{declared.Side.Side, declared.Node.Node, Levels.child_on}
 use Rattle.level_rules.specs.declared.maps.records.MapLine.{MapLine}
 use Rattle.level_rules.specs.declared.maps.records.MapSeg.{MapSeg}
 use Rattle.level_rules.specs.declared.maps.records.MapLeaf.{MapLeaf}
 use Rattle.level_rules.specs.declared.maps.lumps.MapLump.{MapLump}
 use Rattle.level_rules.specs.declared.maps.lumps.MapLump.TheVariants as lump
-use Rattle.level_rules.specs.declared.maps.lumps.TheConstants.{NO_SIDE}
-use Rattle.level_rules.specs.maps.Levels.{has_back}
+use Rattle.level_rules.specs.{declared.maps.lumps.TheConstants.NO_SIDE, maps.Levels.has_back}
 use Rattle.level_rules.specs.maps.Ranges.{has_side, index_refusal, is_side, is_there, leaf_field, leaf_refusal, line_by, line_field, line_refusal, node_field, node_refusal, seg_field, seg_refusal, side_field, side_on, side_refusal}
 
 -- a test whose failure would be refused was passed

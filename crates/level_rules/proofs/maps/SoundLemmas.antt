@@ -1,15 +1,11 @@
 -- Where nothing is refused, the level is sound.
-use Rattle.word_rules.proofs.Common.{[], All, and-true_true, and_parts, arith, bit_and, Bool, cond, false, ForSome, get_or, length, length-map, List, list_all, list_all-from_AllPass, map, None, not, pos, refl, slice_index_or, Some, subst, true, ℕ, ◌&&◌, ◌-◌, ◌<◌, ◌==◌, ◌∷◌, ◌≡◌}
-use Rattle.std.proofs.lemmas.List.{get_or-map}
-use Rattle.level_rules.specs.declared.Side.{Side}
-use Rattle.level_rules.specs.declared.Node.{Node}
-use Rattle.level_rules.specs.declared.TheConstants.{TWO_SIDED}
-use Rattle.level_rules.specs.Levels.{child_on, no_seg}
+use Rattle.word_rules.proofs.Common.{[], All, and-true_true, and_parts, arith, bit_and, Bool, cond, false, ForSome, get_or, length, length-map, List, list_all, list_all-from_AllPass, map, None, not, pos, refl, slice_index_or, Some, subst, true, ℕ, ◌&&◌, ◌-◌, ◌<◌, ◌==◌, ◌∷◌, ◌≡◌, get_or-map}
+use Rattle.level_rules.specs.{declared.Side.Side, declared.Node.Node}
+use Rattle.level_rules.specs.{declared.TheConstants.TWO_SIDED, Levels.child_on, Levels.no_seg}
 use Rattle.level_rules.specs.declared.maps.records.MapLine.{MapLine}
 use Rattle.level_rules.specs.declared.maps.records.MapSeg.{MapSeg}
 use Rattle.level_rules.specs.declared.maps.records.MapLeaf.{MapLeaf}
-use Rattle.level_rules.specs.declared.maps.lumps.TheConstants.{NO_SIDE}
-use Rattle.level_rules.specs.maps.Firsts.{first_refusal}
+use Rattle.level_rules.specs.{declared.maps.lumps.TheConstants.NO_SIDE, maps.Firsts.first_refusal}
 use Rattle.level_rules.specs.maps.Ranges.{is_there, leaf_refusal, line_by, line_field, line_refusal, node_refusal, seg_field, seg_refusal, side_on, side_refusal}
 use Rattle.level_rules.specs.maps.Levels.{MapRecords, back_sector, has_back, joined_leaves, joined_level, joined_segs, leaf_of, no_leaf_refusal, records_refusal, sector_of, seg_between, seg_of}
 use Rattle.level_rules.specs.maps.Sound.{HasCounts, HasFewRecords, IsLeafIn, IsNodeIn, IsSegIn, IsSound}

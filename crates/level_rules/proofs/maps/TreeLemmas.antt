@@ -1,13 +1,10 @@
 -- Where no visit is refused, the nodes are a tree: no way is longer than the limit, and no node is visited twice.
 use Rattle.word_rules.proofs.Common.{[], AllPass-from_list_all, and_parts, ap, ap₂, arith, Bool, cases_eq, cond, false, get_or-set_other, get_or-set_same, inl, inr, length, length-replicate, length-set, List, list_all, list_all-append, nat_lt, None, Option, option_map_or, or_else-none, refl, replicate, slice_get, slice_index_or, slice_set, Some, subst, suc, sym, true, zero, ℕ, ◌&&◌, ◌++◌, ◌+◌, ◌<◌, ◌∙◌, ◌∷◌, ◌≡◌, ◌≤◌}
-use Rattle.level_rules.specs.declared.Node.{Node}
-use Rattle.level_rules.specs.declared.Child.{Child}
+use Rattle.level_rules.specs.{declared.Node.Node, declared.Child.Child}
 use Rattle.level_rules.specs.declared.Child.TheVariants.{Node as NodeChild, Leaf as LeafChild}
-use Rattle.level_rules.specs.declared.TheConstants.{MAX_DEPTH}
-use Rattle.level_rules.specs.Levels.{child_on}
-use Rattle.level_rules.specs.declared.maps.refusal.MapRefusal.{MapRefusal}
+use Rattle.level_rules.specs.{declared.TheConstants.MAX_DEPTH, Levels.child_on}
+use Rattle.level_rules.specs.{declared.maps.refusal.MapRefusal.MapRefusal, maps.Ranges.is_there}
 use Rattle.level_rules.specs.declared.maps.refusal.MapRefusal.TheVariants.{NodeTwice, TooDeep}
-use Rattle.level_rules.specs.maps.Ranges.{is_there}
 use Rattle.level_rules.specs.maps.Trees.{Visit, preorder, visit_refusal, AreOnce, is_within, root_of, tree_refusal, visits_of, visits_refusal}
 use Rattle.level_rules.specs.maps.Sound.{IsTree}
 use Rattle.level_rules.proofs.maps.VisitLemmas.{visits_refusal-append, visits_refusal-cons}

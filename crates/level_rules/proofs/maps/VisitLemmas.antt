@@ -1,8 +1,7 @@
 -- Laws of the visits of a tree, for code that makes them.
 use Rattle.word_rules.proofs.Common.{[], ap, arith, Bool, List, None, or_else-assoc, refl, slice_get, slice_set, Some, suc, sym, true, zero, ℕ, ◌++◌, ◌+◌, ◌-◌, ◌<◌, ◌∙◌, ◌∷◌, ◌≡◌}
 use Rattle.word_rules.specs.Least.{or_else}
-use Rattle.level_rules.specs.declared.Node.{Node}
-use Rattle.level_rules.specs.Levels.{child_on}
+use Rattle.level_rules.specs.{declared.Node.Node, Levels.child_on}
 use Rattle.level_rules.specs.declared.Child.TheVariants.{Node as NodeChild, Leaf as LeafChild}
 use Rattle.level_rules.specs.maps.Trees.{Visit, preorder, reached_after, visit_refusal, visits_of, visits_refusal}
 

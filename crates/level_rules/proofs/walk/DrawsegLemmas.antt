@@ -1,7 +1,6 @@
 -- Laws of the fragments of a list of events to which one more is added.
 use Rattle.word_rules.proofs.Common.{[], ap, append-nil, arith, length, length-take, length_push, List, refl, sym, take, take-append-le, take_all, ℕ, ◌++◌, ◌<◌, ◌∙◌, ◌∷◌, ◌≡◌, ◌≤◌}
-use Rattle.level_rules.specs.declared.walk.TheConstants.{MAX_DRAWSEGS}
-use Rattle.level_rules.specs.walk.Events.{Event}
+use Rattle.level_rules.specs.{declared.walk.TheConstants.MAX_DRAWSEGS, walk.Events.Event}
 use Rattle.level_rules.specs.walk.Events.Event.{LeafEvent, FragmentEvent}
 use Rattle.level_rules.specs.walk.Drawsegs.{LeafFragment, last_leaf, leaf_fragments, drawsegs, leaves_entered}
 

@@ -2,8 +2,7 @@
 use Rattle.std.proofs.Common.{◌≡◌, ℕ, zero, suc, ◌+◌, ◌-◌, refl, arith, ap}
 use Rattle.view_rules.specs.View.{ViewValue}
 use Rattle.level_rules.specs.declared.Child.TheVariants.{Node as NodeChild, Leaf as LeafChild}
-use Rattle.level_rules.specs.declared.Surface.{Surface}
-use Rattle.level_rules.specs.Levels.{LevelLists, node_at}
+use Rattle.level_rules.specs.{declared.Surface.Surface, Levels.LevelLists, Levels.node_at}
 use Rattle.level_rules.specs.walk.Events.{WalkState}
 use Rattle.level_rules.specs.walk.Walk.{at_seg, at_segs, at_leaf, at_node, walk_child}
 

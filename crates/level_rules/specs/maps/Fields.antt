@@ -2,8 +2,7 @@
 use Rattle.std.specs.Prelude.{◌≡◌, ℕ, ◌*◌, ◌/◌, ◌^◌, ℤ, negsuc, List, [], ◌∷◌, length, take, drop, refl}
 use Rattle.std.specs.Int.{w16, cast_signed, int_wrap}
 use Rattle.byteorder.specs.Endian.{little_number}
-use Rattle.word_rules.specs.Words.{fixed, shl_word}
-use Rattle.word_rules.specs.Listed.{listed}
+use Rattle.word_rules.specs.{Words.fixed, Words.shl_word, Listed.listed}
 use Rattle.lump_rules.specs.Names.{name_of}
 use Rattle.word_rules.specs.declared.TheConstants.{FRACTION_BITS}
 use Rattle.level_rules.specs.declared.maps.layout.TheConstants.{WORD_SIZE, NAME_SIZE}

@@ -1,15 +1,9 @@
 -- The level that the records of the eight map lumps give, or the first refusal.
 use Rattle.std.specs.Prelude.{ℕ, ◌-◌, ◌==◌, ◌&&◌, Bool, not, cond, List, length, map, Option, Some, None, Result, Ok, Err, pos, bit_and, slice_index_or}
 use Rattle.word_rules.specs.Least.{or_else}
-use Rattle.level_rules.specs.declared.Thing.{Thing}
-use Rattle.level_rules.specs.declared.Side.{Side}
-use Rattle.level_rules.specs.declared.Seg.{Seg}
-use Rattle.level_rules.specs.declared.Leaf.{Leaf}
-use Rattle.level_rules.specs.declared.Node.{Node}
-use Rattle.level_rules.specs.declared.Sector.{Sector}
-use Rattle.level_rules.specs.declared.Child.{Child}
-use Rattle.level_rules.specs.declared.TheConstants.{TWO_SIDED}
-use Rattle.level_rules.specs.Levels.{no_seg}
+use Rattle.level_rules.specs.{declared.Thing.Thing, declared.Side.Side, declared.Seg.Seg}
+use Rattle.level_rules.specs.{declared.Leaf.Leaf, declared.Node.Node, declared.Sector.Sector}
+use Rattle.level_rules.specs.{declared.Child.Child, declared.TheConstants.TWO_SIDED, Levels.no_seg}
 use Rattle.level_rules.specs.declared.maps.records.MapLine.{MapLine}
 use Rattle.level_rules.specs.declared.maps.records.MapVertex.{MapVertex}
 use Rattle.level_rules.specs.declared.maps.records.MapSeg.{MapSeg}
@@ -17,8 +11,7 @@ use Rattle.level_rules.specs.declared.maps.records.MapLeaf.{MapLeaf}
 use Rattle.level_rules.specs.declared.maps.lumps.MapLump.TheVariants as lump
 use Rattle.level_rules.specs.declared.maps.refusal.MapRefusal.{MapRefusal}
 use Rattle.level_rules.specs.declared.maps.refusal.MapRefusal.TheVariants.{NoLeaf}
-use Rattle.level_rules.specs.declared.maps.lumps.TheConstants.{NO_SIDE}
-use Rattle.level_rules.specs.maps.Lumps.{size_refusal}
+use Rattle.level_rules.specs.{declared.maps.lumps.TheConstants.NO_SIDE, maps.Lumps.size_refusal}
 use Rattle.level_rules.specs.maps.Records.{things_in, lines_in, sides_in, vertexes_in, segs_in, leaves_in, nodes_in, sectors_in}
 use Rattle.level_rules.specs.maps.Firsts.{first_refusal}
 use Rattle.level_rules.specs.maps.Ranges.{line_by, side_on, line_refusal, side_refusal, seg_refusal, leaf_refusal, node_refusal}

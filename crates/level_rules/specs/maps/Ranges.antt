@@ -1,20 +1,16 @@
 -- The numbers of a map that have to name something that is there, in the order of their check.
 use Rattle.std.specs.Prelude.{ℕ, ◌+◌, ◌==◌, ◌||◌, nat_lt, Bool, false, not, cond, List, length, Option, Some, None, option_map, slice_index_or}
-use Rattle.level_rules.specs.declared.Side.{Side}
-use Rattle.level_rules.specs.declared.Node.{Node}
-use Rattle.level_rules.specs.declared.Child.{Child}
+use Rattle.level_rules.specs.{declared.Side.Side, declared.Node.Node, declared.Child.Child}
 use Rattle.level_rules.specs.declared.Child.TheVariants.{Node as NodeChild, Leaf as LeafChild}
-use Rattle.level_rules.specs.Levels.{child_on}
-use Rattle.level_rules.specs.declared.maps.records.MapLine.{MapLine}
+use Rattle.level_rules.specs.{Levels.child_on, declared.maps.records.MapLine.MapLine}
 use Rattle.level_rules.specs.declared.maps.records.MapSeg.{MapSeg}
 use Rattle.level_rules.specs.declared.maps.records.MapLeaf.{MapLeaf}
 use Rattle.level_rules.specs.declared.maps.lumps.MapLump.{MapLump}
 use Rattle.level_rules.specs.declared.maps.lumps.MapLump.TheVariants as lump
 use Rattle.level_rules.specs.declared.maps.refusal.MapRefusal.{MapRefusal}
 use Rattle.level_rules.specs.declared.maps.refusal.MapRefusal.TheVariants.{Index, EmptyLeaf}
-use Rattle.level_rules.specs.declared.maps.lumps.TheConstants.{NO_SIDE}
+use Rattle.level_rules.specs.{declared.maps.lumps.TheConstants.NO_SIDE, maps.Lumps.lump_no}
 use Rattle.level_rules.specs.declared.maps.layout.TheConstants as at
-use Rattle.level_rules.specs.maps.Lumps.{lump_no}
 
 -- the refusal of a record's first field that is out of range, if there is one
 unfoldable pub index_refusal : MapLump → ℕ → Option ℕ → Option MapRefusal

@@ -1,12 +1,8 @@
 -- The records of each map lump.
 use Rattle.std.specs.Prelude.{ℕ, ◌+◌, ◌-◌, nat_lt, cond, List, [], ◌∷◌, ◌≡◌, refl}
-use Rattle.level_rules.specs.declared.Thing.{Thing}
-use Rattle.level_rules.specs.declared.Side.{Side}
-use Rattle.level_rules.specs.declared.Sector.{Sector}
-use Rattle.level_rules.specs.declared.Partition4.{Partition4}
-use Rattle.level_rules.specs.declared.Box4.{Box4}
-use Rattle.level_rules.specs.declared.Node.{Node}
-use Rattle.level_rules.specs.declared.Child.{Child}
+use Rattle.level_rules.specs.{declared.Thing.Thing, declared.Side.Side, declared.Sector.Sector}
+use Rattle.level_rules.specs.{declared.Partition4.Partition4, declared.Box4.Box4}
+use Rattle.level_rules.specs.{declared.Node.Node, declared.Child.Child}
 use Rattle.level_rules.specs.declared.Child.TheVariants.{Node as NodeChild, Leaf as LeafChild}
 use Rattle.level_rules.specs.declared.maps.records.MapLine.{MapLine}
 use Rattle.level_rules.specs.declared.maps.records.MapVertex.{MapVertex}

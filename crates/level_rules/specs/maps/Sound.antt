@@ -1,15 +1,10 @@
 -- A level in which each number names something that is there, and the nodes are a tree.
 use Rattle.std.specs.Prelude.{◌≡◌, ◌+◌, ◌<◌, ◌≤◌, true, List, length, All}
 use Rattle.std.specs.Option.{ForSome}
-use Rattle.level_rules.specs.declared.Seg.{Seg}
-use Rattle.level_rules.specs.declared.Leaf.{Leaf}
-use Rattle.level_rules.specs.declared.Node.{Node}
-use Rattle.level_rules.specs.declared.Child.{Child}
-use Rattle.level_rules.specs.declared.TheConstants.{MAX_DEPTH}
-use Rattle.level_rules.specs.Levels.{child_on}
-use Rattle.level_rules.specs.declared.maps.lumps.TheConstants.{MAX_RECORDS}
-use Rattle.level_rules.specs.maps.Levels.{LevelValue, MapRecords}
-use Rattle.level_rules.specs.maps.Ranges.{is_there}
+use Rattle.level_rules.specs.{declared.Seg.Seg, declared.Leaf.Leaf, declared.Node.Node}
+use Rattle.level_rules.specs.{declared.Child.Child, declared.TheConstants.MAX_DEPTH}
+use Rattle.level_rules.specs.{Levels.child_on, declared.maps.lumps.TheConstants.MAX_RECORDS}
+use Rattle.level_rules.specs.{maps.Levels.LevelValue, maps.Levels.MapRecords, maps.Ranges.is_there}
 use Rattle.level_rules.specs.maps.Trees.{AreOnce, is_within, preorder}
 
 -- records of lumps none of which has too many

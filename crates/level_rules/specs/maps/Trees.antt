@@ -3,11 +3,9 @@ use Rattle.std.specs.Prelude.{◌≡◌, ◌≢◌, ℕ, zero, suc, ◌+◌, ◌
 use Rattle.std.specs.List.{AllPairs}
 use Rattle.std.specs.Option.{option_map_or}
 use Rattle.word_rules.specs.Least.{or_else}
-use Rattle.level_rules.specs.declared.Node.{Node}
-use Rattle.level_rules.specs.declared.Child.{Child}
+use Rattle.level_rules.specs.{declared.Node.Node, declared.Child.Child}
 use Rattle.level_rules.specs.declared.Child.TheVariants.{Node as NodeChild, Leaf as LeafChild}
-use Rattle.level_rules.specs.declared.TheConstants.{MAX_DEPTH}
-use Rattle.level_rules.specs.Levels.{child_on}
+use Rattle.level_rules.specs.{declared.TheConstants.MAX_DEPTH, Levels.child_on}
 use Rattle.level_rules.specs.declared.maps.refusal.MapRefusal.{MapRefusal}
 use Rattle.level_rules.specs.declared.maps.refusal.MapRefusal.TheVariants.{NodeTwice, TooDeep}
 

@@ -1,19 +1,12 @@
 -- Near and far children of a node, and whether a far box is to be entered (R_RenderBSPNode, R_CheckBBox, r_bsp.c).
 use Rattle.std.specs.Prelude.{ℕ, ◌-◌, ◌==◌, pos, int_lt, int_le, Bool, true, false, not, cond, List, slice_index_or}
-use Rattle.view_rules.specs.View.{ViewValue}
-use Rattle.view_rules.specs.Sides.{side_of}
-use Rattle.view_rules.specs.Bearings.{point_angle}
-use Rattle.view_rules.specs.Ranges.{column_range}
-use Rattle.view_rules.specs.declared.Partition.{Partition}
+use Rattle.view_rules.specs.{View.ViewValue, Sides.side_of, Bearings.point_angle}
+use Rattle.view_rules.specs.{Ranges.column_range, declared.Partition.Partition}
 use Rattle.view_rules.specs.declared.ColumnRange.{ColumnRange}
 use Rattle.view_rules.specs.declared.ColumnRange.TheVariants.{Behind, Outside, Columns}
-use Rattle.level_rules.specs.declared.Partition4.{Partition4}
-use Rattle.level_rules.specs.declared.Box4.{Box4}
-use Rattle.level_rules.specs.declared.Node.{Node}
-use Rattle.level_rules.specs.declared.Child.{Child}
-use Rattle.level_rules.specs.Levels.{child_on}
-use Rattle.level_rules.specs.walk.Covered.{hides}
-use Rattle.level_rules.specs.declared.walk.Corners.{Corners}
+use Rattle.level_rules.specs.{declared.Partition4.Partition4, declared.Box4.Box4}
+use Rattle.level_rules.specs.{declared.Node.Node, declared.Child.Child, Levels.child_on}
+use Rattle.level_rules.specs.{walk.Covered.hides, declared.walk.Corners.Corners}
 
 unfoldable pub partition_of : Partition4 → Partition
 partition_of line = record { x = line.x; y = line.y; dx = line.dx; dy = line.dy }

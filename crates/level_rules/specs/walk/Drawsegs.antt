@@ -1,7 +1,6 @@
 -- The fragments of a view that are drawn, each with the leaf that shows it (drawsegs, r_segs.c).
 use Rattle.std.specs.Prelude.{ℕ, List, [], ◌∷◌, take}
-use Rattle.level_rules.specs.declared.walk.TheConstants.{MAX_DRAWSEGS}
-use Rattle.level_rules.specs.walk.Events.{Event}
+use Rattle.level_rules.specs.{declared.walk.TheConstants.MAX_DRAWSEGS, walk.Events.Event}
 use Rattle.level_rules.specs.walk.Events.Event.{LeafEvent, FragmentEvent}
 
 -- a fragment of a seg, columns first to last, seen from a leaf

@@ -1,13 +1,9 @@
 -- The walk of a level in a view (R_RenderBSPNode, R_Subsector, R_AddLine, r_bsp.c).
 use Rattle.std.specs.Prelude.{ℕ, zero, suc, ◌+◌, ◌-◌, ◌==◌, Bool, false, cond, List, [], ◌∷◌, ◌++◌, map, replicate, Option, Some, None}
-use Rattle.view_rules.specs.View.{ViewValue}
-use Rattle.view_rules.specs.declared.ColumnRange.{ColumnRange}
+use Rattle.view_rules.specs.{View.ViewValue, declared.ColumnRange.ColumnRange}
 use Rattle.view_rules.specs.declared.ColumnRange.TheVariants.{Behind, Outside, Columns}
-use Rattle.level_rules.specs.declared.Leaf.{Leaf}
-use Rattle.level_rules.specs.declared.Node.{Node}
-use Rattle.level_rules.specs.declared.Seg.{Seg}
-use Rattle.level_rules.specs.declared.Surface.{Surface}
-use Rattle.level_rules.specs.declared.Child.{Child}
+use Rattle.level_rules.specs.{declared.Leaf.Leaf, declared.Node.Node, declared.Seg.Seg}
+use Rattle.level_rules.specs.{declared.Surface.Surface, declared.Child.Child}
 use Rattle.level_rules.specs.declared.Child.TheVariants.{Node as NodeChild, Leaf as LeafChild}
 use Rattle.level_rules.specs.declared.TheConstants.{MAX_DEPTH}
 use Rattle.level_rules.specs.Levels.{LevelLists, seg_at, leaf_at, node_at, surface_at}

@@ -1,8 +1,7 @@
 -- Laws of the dots of a plane: each pixel that its runs hold has one, whatever the order in which they are drawn.
 use Rattle.word_rules.proofs.Common.{and_from, and_left, and_right, cases_lt, cond, inl, inr, le-leb, lt-leb, nat_le, None, Option, Some, ℕ, ◌<◌, ◌∙◌, ◌≡◌}
 use Rattle.picture_rules.specs.Rules.{AreInColumn, Art, PLANE, Painter, SKY, ViewValue, last_dot, listed_from, lump_source, painter_of}
-use Rattle.pixel_rules.proofs.DotLemmas.{last_dot-none}
-use Rattle.pixel_rules.proofs.StripLemmas.{in_column-column_dots}
+use Rattle.pixel_rules.proofs.{DotLemmas.last_dot-none, StripLemmas.in_column-column_dots}
 use Rattle.pixel_rules.proofs.ColumnLemmas.{last_dot-listed_columns, last_dot-column_dots, last_dot-no_row}
 use Rattle.picture_rules.specs.plane.Planes.{Plane, column}
 use Rattle.picture_rules.specs.plane.Spans.{holds_row, holds}

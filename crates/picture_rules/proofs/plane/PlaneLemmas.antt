@@ -1,8 +1,7 @@
 -- Laws of the list of planes: what find, check and mark give, how many planes there are, and what a column holds.
 use Rattle.word_rules.proofs.Common.{[], All-push, All-set, arith, Bool, cond, false, get_or, is_none, length, length-replicate, length-set, length_push, List, None, Option, position-Some, refl, replicate, slice_get, slice_index_or, slice_set, Some, subst, suc, true, zero, ℕ, ◌+◌, ◌<◌, ◌∙◌, ◌∷◌, ◌≡◌, ◌≤◌}
 use Rattle.view_rules.specs.declared.TheConstants.{FRAME_WIDTH}
-use Rattle.picture_rules.specs.declared.plane.PlaneKey.{PlaneKey}
-use Rattle.picture_rules.specs.plane.Keys.{same_key}
+use Rattle.picture_rules.specs.{declared.plane.PlaneKey.PlaneKey, plane.Keys.same_key}
 use Rattle.picture_rules.specs.plane.Planes.{Plane, empty_plane, add, number_or_add, number_of, find, is_free, check_plane, check_some, check, with_run, mark_some, mark, column, AreWide}
 
 -- the first plane of equal key, or a new one behind the others

@@ -4,8 +4,7 @@ use Rattle.picture_rules.specs.Rules.{ViewValue, listed_from}
 use Rattle.word_rules.proofs.ListedLemmas.{length-listed_from, get_or-listed_from}
 use Rattle.picture_rules.specs.declared.wall.ColumnClip.{ColumnClip}
 use Rattle.picture_rules.specs.declared.wall.FragmentNote.{FragmentNote}
-use Rattle.picture_rules.specs.wall.Walls.{Wall, clip_past}
-use Rattle.picture_rules.specs.wall.Columns.{texture_column}
+use Rattle.picture_rules.specs.{wall.Walls.Wall, wall.Walls.clip_past, wall.Columns.texture_column}
 use Rattle.picture_rules.specs.wall.Openings.{saves_top, saves_bottom, openings_of, top_clip, bottom_clip}
 use Rattle.picture_rules.specs.wall.Notes.{saved_if, middle_columns, top_clips, bottom_clips, saved_by, saved_from, openings_list, room_if, clip_note, note_at, notes_from, view_notes, clip_row_at}
 use Rattle.picture_rules.proofs.wall.WallLemmas.{clip_past-front}

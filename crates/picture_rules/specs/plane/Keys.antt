@@ -1,8 +1,7 @@
 -- The keys of planes, and which planes a leaf finds (R_Subsector, r_bsp.c; R_FindPlane, r_plane.c).
 use Rattle.std.specs.Prelude.{ℕ, ◌==◌, ◌&&◌, ◌||◌, ℤ, pos, int_lt, Bool, true, false, cond, Option, Some, None}
 use Rattle.picture_rules.specs.Rules.{Surface, is_sky, same_word}
-use Rattle.picture_rules.specs.declared.plane.PlaneKey.{PlaneKey}
-use Rattle.picture_rules.specs.declared.plane.Flat4.{Flat4}
+use Rattle.picture_rules.specs.{declared.plane.PlaneKey.PlaneKey, declared.plane.Flat4.Flat4}
 use Rattle.picture_rules.specs.declared.plane.Flat4.TheVariants.{Sky, Lump}
 
 unfoldable pub same_flat : Flat4 → Flat4 → Bool

@@ -2,8 +2,7 @@
 use Rattle.std.specs.Prelude.{◌≡◌, ℕ, ◌+◌, Bool, cond, List, [], ◌∷◌, ◌++◌, Option, Some, None, is_none, length, replicate, position, slice_range, slice_get, slice_set, slice_index_or}
 use Rattle.std.specs.List.{list_all, All}
 use Rattle.view_rules.specs.declared.TheConstants.{FRAME_WIDTH}
-use Rattle.picture_rules.specs.declared.plane.PlaneKey.{PlaneKey}
-use Rattle.picture_rules.specs.plane.Keys.{same_key}
+use Rattle.picture_rules.specs.{declared.plane.PlaneKey.PlaneKey, plane.Keys.same_key}
 
 pub record Plane : Type 0 where
   pub key : PlaneKey

@@ -2,9 +2,8 @@
 use Rattle.std.specs.Prelude.{ℕ, ◌/◌, ◌^◌, ℤ, pos, List}
 use Rattle.picture_rules.specs.Rules.{Art, Dot, SKY, ViewValue, angle_of_column, joined_lists, listed, painter_of, row_fraction, texel_row, turn}
 use Rattle.picture_rules.specs.declared.plane.TheConstants.{SKY_SHIFT, SKY_MID, SKY_MAP}
-use Rattle.picture_rules.specs.declared.plane.Flat4.{Flat4}
+use Rattle.picture_rules.specs.{declared.plane.Flat4.Flat4, plane.Planes.Plane, plane.Planes.column}
 use Rattle.picture_rules.specs.declared.plane.Flat4.TheVariants.{Sky, Lump}
-use Rattle.picture_rules.specs.plane.Planes.{Plane, column}
 use Rattle.picture_rules.specs.plane.Floors.{run_dots, floor_dots}
 
 -- the sky's texture goes round four times a turn

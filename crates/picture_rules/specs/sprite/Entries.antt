@@ -3,8 +3,7 @@ use Rattle.std.specs.Prelude.{ℕ, ℤ, pos, int_lt, nat_lt, ◌||◌, Bool, con
 use Rattle.std.specs.Int.{is_negative}
 use Rattle.picture_rules.specs.Rules.{FRACTION_UNIT, ViewValue, bright_map, div, fixed, greater_word, lesser_word, minus, mul, plus, projection, scale_map, shr_word}
 use Rattle.picture_rules.specs.declared.sprite.TheConstants.{MAX_VISSPRITES}
-use Rattle.picture_rules.specs.declared.sprite.Placed.{Placed}
-use Rattle.picture_rules.specs.declared.sprite.Seen.{Seen}
+use Rattle.picture_rules.specs.{declared.sprite.Placed.Placed, declared.sprite.Seen.Seen}
 use Rattle.picture_rules.specs.declared.sprite.Shape5.{Shape5}
 use Rattle.picture_rules.specs.declared.sprite.SpriteEntry.{SpriteEntry}
 

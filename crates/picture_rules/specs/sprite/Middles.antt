@@ -1,10 +1,8 @@
 -- The pixels of masked mid textures, and when they are drawn (R_RenderMaskedSegRange, r_segs.c; R_DrawMasked, r_things.c).
 use Rattle.std.specs.Prelude.{ℕ, zero, suc, ◌+◌, ◌-◌, bit_and, ◌==◌, ◌&&◌, ◌++◌, ℤ, pos, Bool, true, false, cond, List, [], ◌∷◌, length, Option, Some, None, slice_get, filter}
 use Rattle.picture_rules.specs.Rules.{Art, BOTTOM_UNPEGGED, Dot, MIDDLE, MaskedColumn, Seg, Source, Surface, ViewValue, fixed, greater_word, inverse_word, joined_lists, lesser_word, listed_from, minus, painter_of, plus, posts_dots, scale_map, step_at}
-use Rattle.picture_rules.specs.declared.sprite.SpriteEntry.{SpriteEntry}
-use Rattle.picture_rules.specs.sprite.Drawsegs.{Drawseg}
-use Rattle.picture_rules.specs.sprite.Clips.{sprite_in_front}
-use Rattle.picture_rules.specs.sprite.Sprites.{sprite_dots}
+use Rattle.picture_rules.specs.{declared.sprite.SpriteEntry.SpriteEntry, sprite.Drawsegs.Drawseg}
+use Rattle.picture_rules.specs.{sprite.Clips.sprite_in_front, sprite.Sprites.sprite_dots}
 
 -- the texel row at the view's centre row: hung from the lesser ceiling, or standing on the greater floor where the line is so flagged
 unfoldable pub middle_hangs : ℤ → Surface → Surface → ℤ

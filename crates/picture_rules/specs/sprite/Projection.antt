@@ -2,8 +2,7 @@
 use Rattle.std.specs.Prelude.{ℕ, ◌/◌, ◌^◌, ℤ, int_lt, cond, Option, Some, None}
 use Rattle.picture_rules.specs.Rules.{ViewValue, abs_word, cosine_at, div, fine_angle, minus, mul, neg_word, plus, point_angle, projection, shl_word, sine_at, turn, turn_back}
 use Rattle.picture_rules.specs.declared.sprite.TheConstants.{MIN_DEPTH, SIDE_SHIFT, ROTATION_TURN, ROTATION_SHIFT}
-use Rattle.picture_rules.specs.declared.sprite.Placed.{Placed}
-use Rattle.picture_rules.specs.declared.sprite.Seen.{Seen}
+use Rattle.picture_rules.specs.{declared.sprite.Placed.Placed, declared.sprite.Seen.Seen}
 
 unfoldable pub view_sine : ViewValue → ℤ
 view_sine v = sine_at v.tables (fine_angle v.eye.angle)

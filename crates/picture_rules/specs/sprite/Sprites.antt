@@ -1,8 +1,7 @@
 -- The pixels of a sprite (R_DrawVisSprite, r_things.c).
 use Rattle.std.specs.Prelude.{ℕ, ℤ, pos, cond, Bool, List}
 use Rattle.picture_rules.specs.Rules.{Art, Dot, MaskedColumn, SPRITE, ViewValue, fixed, joined_lists, lump_source, minus, painter_of, posts_dots, rows_between, shr_word, times}
-use Rattle.picture_rules.specs.declared.sprite.SpriteEntry.{SpriteEntry}
-use Rattle.picture_rules.specs.sprite.Drawsegs.{Drawseg}
+use Rattle.picture_rules.specs.{declared.sprite.SpriteEntry.SpriteEntry, sprite.Drawsegs.Drawseg}
 use Rattle.picture_rules.specs.sprite.Clips.{sprite_bottom, sprite_top}
 
 -- the texel columns from the picture's left edge to column x, 16.16

@@ -2,8 +2,7 @@
 use Rattle.std.specs.Prelude.{ℕ, ℤ, pos, int_le, Bool, cond}
 use Rattle.word_rules.specs.Words.{plus, minus, shr_word, greater_word, lesser_word, minus_one}
 use Rattle.picture_rules.specs.declared.wall.TheConstants.{EDGE_BITS, MAX_EDGE_FRACTION}
-use Rattle.picture_rules.specs.wall.Parts.{has_texture}
-use Rattle.picture_rules.specs.declared.wall.ColumnClip.{ColumnClip}
+use Rattle.picture_rules.specs.{wall.Parts.has_texture, declared.wall.ColumnClip.ColumnClip}
 use Rattle.picture_rules.specs.declared.wall.Edges.{Edges}
 use Rattle.picture_rules.specs.declared.wall.FragmentNumbers.{FragmentNumbers}
 use Rattle.picture_rules.specs.declared.wall.RowRange.{RowRange}

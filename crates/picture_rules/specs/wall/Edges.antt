@@ -1,8 +1,7 @@
 -- The scale and the edges of a fragment at a column: each its first value and a step a column (R_RenderSegLoop, r_segs.c).
 use Rattle.std.specs.Prelude.{ℕ, ℤ, pos}
 use Rattle.picture_rules.specs.Rules.{ViewShape, fixed, minus, mul, neg_word, plus, shr_word, step_at}
-use Rattle.picture_rules.specs.declared.wall.TheConstants.{HEIGHT_SHIFT}
-use Rattle.picture_rules.specs.declared.wall.Edges.{Edges}
+use Rattle.picture_rules.specs.{declared.wall.TheConstants.HEIGHT_SHIFT, declared.wall.Edges.Edges}
 use Rattle.picture_rules.specs.declared.wall.FragmentNumbers.{FragmentNumbers}
 
 -- the centre row, with 12 bits of fraction

@@ -3,12 +3,10 @@ use Rattle.std.specs.Prelude.{ℕ, ◌+◌, ◌-◌, ◌*◌, ℤ, pos, Bool, co
 use Rattle.std.specs.Int.{from_bool}
 use Rattle.picture_rules.specs.Rules.{ViewValue, listed_from, minus_one}
 use Rattle.picture_rules.specs.declared.wall.TheConstants.{SIL_BOTTOM, SIL_TOP}
-use Rattle.picture_rules.specs.declared.wall.Clip.{Clip}
+use Rattle.picture_rules.specs.{declared.wall.Clip.Clip, declared.wall.FragmentNote.FragmentNote}
 use Rattle.picture_rules.specs.declared.wall.Clip.TheVariants.{Absent, Constant, Saved}
-use Rattle.picture_rules.specs.declared.wall.FragmentNote.{FragmentNote}
 use Rattle.picture_rules.specs.declared.wall.FragmentNumbers.{FragmentNumbers}
-use Rattle.picture_rules.specs.wall.Walls.{Wall, clip_past}
-use Rattle.picture_rules.specs.wall.Columns.{texture_column}
+use Rattle.picture_rules.specs.{wall.Walls.Wall, wall.Walls.clip_past, wall.Columns.texture_column}
 use Rattle.picture_rules.specs.wall.Openings.{saves_top, saves_bottom}
 
 -- a list of openings that is saved or not

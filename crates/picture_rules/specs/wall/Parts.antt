@@ -2,9 +2,8 @@
 use Rattle.std.specs.Prelude.{bit_and, ◌==◌, ℤ, pos, int_lt, Bool, false, not, cond, Option, Some, None}
 use Rattle.picture_rules.specs.Rules.{BOTTOM_UNPEGGED, Seg, Surface, TOP_UNPEGGED, fixed, minus, plus}
 use Rattle.picture_rules.specs.declared.wall.WallTexture.{WallTexture}
-use Rattle.picture_rules.specs.declared.wall.WallFacts.{WallFacts}
+use Rattle.picture_rules.specs.{declared.wall.WallFacts.WallFacts, declared.wall.Part.Part}
 use Rattle.picture_rules.specs.wall.Heights.{world_top, world_bottom, world_high, world_low}
-use Rattle.picture_rules.specs.declared.wall.Part.{Part}
 
 abbrev pub no_part : Part
 no_part = record { number = 0; mid = pos 0 }

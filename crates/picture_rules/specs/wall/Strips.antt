@@ -1,12 +1,9 @@
 -- What drawn fragments paint of their walls, and which rows they mark in planes (R_RenderSegLoop, r_segs.c).
 use Rattle.std.specs.Prelude.{ℕ, ◌++◌, ℤ, int_lt, Bool, cond, List, [], ◌∷◌, Option, Some, None}
 use Rattle.picture_rules.specs.Rules.{Art, Dot, ViewValue, WALL, column_dots, inverse_word, joined_lists, listed_from, natural, painter_of, row_fraction, rows_between, scale_map, texel_row}
-use Rattle.picture_rules.specs.declared.wall.ColumnClip.{ColumnClip}
-use Rattle.picture_rules.specs.declared.wall.Edges.{Edges}
-use Rattle.picture_rules.specs.declared.wall.Part.{Part}
-use Rattle.picture_rules.specs.wall.Parts.{has_texture}
-use Rattle.picture_rules.specs.wall.Columns.{texture_column}
-use Rattle.picture_rules.specs.declared.wall.RowRange.{RowRange}
+use Rattle.picture_rules.specs.{declared.wall.ColumnClip.ColumnClip, declared.wall.Edges.Edges}
+use Rattle.picture_rules.specs.{declared.wall.Part.Part, wall.Parts.has_texture}
+use Rattle.picture_rules.specs.{wall.Columns.texture_column, declared.wall.RowRange.RowRange}
 use Rattle.picture_rules.specs.wall.Clips.{middle_rows, top_rows, bottom_rows, ceiling_rows, floor_rows}
 use Rattle.picture_rules.specs.wall.Walls.{Wall, wall_edges, clip_before}
 use Rattle.picture_rules.specs.declared.wall.FragmentNumbers.{FragmentNumbers}

@@ -2,11 +2,9 @@
 use Rattle.std.specs.Prelude.{ℕ, zero, suc, ◌-◌, ◌&&◌, nat_le, Bool, false, cond, List, Option, Some, None, slice_get}
 use Rattle.picture_rules.specs.Rules.{ViewShape, ViewValue, greatest}
 use Rattle.picture_rules.specs.declared.wall.WallFacts.{WallFacts}
-use Rattle.picture_rules.specs.declared.wall.ColumnClip.{ColumnClip}
-use Rattle.picture_rules.specs.declared.wall.Edges.{Edges}
+use Rattle.picture_rules.specs.{declared.wall.ColumnClip.ColumnClip, declared.wall.Edges.Edges}
 use Rattle.picture_rules.specs.declared.wall.FragmentNumbers.{FragmentNumbers}
-use Rattle.picture_rules.specs.wall.Numbers.{fragment_numbers}
-use Rattle.picture_rules.specs.wall.Edges.{edges_at}
+use Rattle.picture_rules.specs.{wall.Numbers.fragment_numbers, wall.Edges.edges_at}
 use Rattle.picture_rules.specs.wall.Clips.{open_clip, clip_after}
 
 -- a drawn fragment: what it is drawn from, its columns, its numbers

@@ -1,5 +1,4 @@
-use Rattle.std.proofs.Common.{◌≡◌, rules, true, arith}
-use Rattle.std.specs.Result.{is_ok}
+use Rattle.view_rules.proofs.Common.{◌≡◌, rules, true, arith, is_ok}
 use Rattle.csv_tables.proofs.RowLemmas.{read_refused, read_more, read_to_end}
 use Rattle.csv_tables.proofs.path.path_rows.Goals as goal
 

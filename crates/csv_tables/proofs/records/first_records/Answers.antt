@@ -1,8 +1,5 @@
-use Rattle.std.proofs.Common.{Bor, List, ℕ, ◌≡◌, ◌∙◌, sym, refl, rules, arith, inl, inr, true, map, length, Some, ◌∷◌, []}
-use Rattle.std.specs.Result.{is_ok}
-use Rattle.std.proofs.lemmas.List.{map-append, length-map, length-append}
-use Rattle.csv.specs.Reading.{Reached, default_config, strip_bom}
-use Rattle.csv.specs.Records.{fields_of}
+use Rattle.view_rules.proofs.Common.{Bor, List, ℕ, ◌≡◌, ◌∙◌, sym, refl, rules, arith, inl, inr, true, map, length, Some, ◌∷◌, [], is_ok, map-append, length-map, length-append}
+use Rattle.csv.specs.{Reading.Reached, Reading.default_config, Reading.strip_bom, Records.fields_of}
 use Rattle.csv.specs.declared.parser.State.TheVariants as st
 use Rattle.csv.proofs.ReadFacts.{rows-end, rows-more}
 use Rattle.csv_tables.proofs.RecordLemmas.{any-length, first_records-full, first_records-end, true-false}

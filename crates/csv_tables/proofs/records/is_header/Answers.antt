@@ -1,5 +1,4 @@
-use Rattle.std.proofs.Common.{Bor, ◌≡◌, ◌+◌, ◌&&◌, ℕ, List, [], map, length, drop, sym, ap, ◌∙◌}
-use Rattle.std.proofs.lemmas.List.{length-map, get_or-map}
+use Rattle.view_rules.proofs.Common.{Bor, ◌≡◌, ◌+◌, ◌&&◌, ℕ, List, [], map, length, drop, sym, ap, ◌∙◌, length-map, get_or-map}
 use Rattle.csv.specs.Records.{fields_of}
 use Rattle.csv_tables.specs.Records.{is_header}
 use Rattle.csv_tables.proofs.RecordLemmas.{is_header-length, is_header-at, is_header-done}

@@ -1,8 +1,5 @@
-use Rattle.std.proofs.Common.{◌≡◌, ◌+◌, ◌<◌, sym, ap, rules, arith, refl, true}
-use Rattle.std.specs.Result.{is_ok}
-use Rattle.std.proofs.lemmas.List.Elements.{All-nil}
-use Rattle.csv_tables.specs.declared.things.TheConstants.{TYPES}
-use Rattle.csv_tables.specs.Things.{IsLineInRange}
+use Rattle.view_rules.proofs.Common.{◌≡◌, ◌+◌, ◌<◌, sym, ap, rules, arith, refl, true, is_ok, All-nil}
+use Rattle.csv_tables.specs.{declared.things.TheConstants.TYPES, Things.IsLineInRange}
 use Rattle.csv_tables.proofs.RowLemmas.{read_refused, read_more, read_to_end}
 use Rattle.csv_tables.proofs.ThingLemmas.{numbers-start, numbers-step}
 use Rattle.csv_tables.proofs.things.table_of_rows.Goals as goal

@@ -1,6 +1,5 @@
 use Rattle.csv.specs.Records.{fields_of}
-use Rattle.csv_tables.specs.Things.{IsLineInRange, read_line}
-use Rattle.csv_tables.specs.Slots.{AreNumbersOf}
+use Rattle.csv_tables.specs.{Things.IsLineInRange, Things.read_line, Slots.AreNumbersOf}
 use Rattle.csv_tables.proofs.RowLemmas.{ReadSoFar}
 use Rattle.csv_tables.proofs.things.table_of_rows.Given as goal
 

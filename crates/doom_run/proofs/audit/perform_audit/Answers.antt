@@ -1,8 +1,7 @@
 use Rattle.std.proofs.Common.{◌∙◌, subst}
 use Rattle.scene_rules.specs.declared.ZoneSizes.{ZoneSizes}
 use Rattle.level_audit.specs.scene_load.Loads.{loaded_sizes}
-use Rattle.doom_run.specs.Ends.{WritesDue}
-use Rattle.doom_run.specs.Jobs.{audited}
+use Rattle.doom_run.specs.{Ends.WritesDue, Jobs.audited}
 use Rattle.doom_run.proofs.DeliverLemmas.{telling_delivers}
 use Rattle.doom_run.proofs.audit.perform_audit.Goals as goal
 

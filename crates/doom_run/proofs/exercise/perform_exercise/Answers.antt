@@ -1,5 +1,4 @@
-use Rattle.job_rules.specs.Commands.{exercise}
-use Rattle.doom_run.specs.Jobs.{job_of}
+use Rattle.doom_run.specs.{Rules.exercise, Jobs.job_of}
 use Rattle.doom_run.proofs.PerformLemmas.{memory_performs}
 use Rattle.doom_run.proofs.exercise.perform_exercise.Goals as goal
 

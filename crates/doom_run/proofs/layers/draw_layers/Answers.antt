@@ -1,6 +1,5 @@
 -- No file of layers, no pictures of them, and the rows one after the other.
-use Rattle.std.proofs.Common.{w16, rules, refl}
-use Rattle.std.proofs.lemmas.Int.{to_z-of_z}
+use Rattle.picture_rules.proofs.Common.{w16, rules, refl, to_z-of_z}
 use Rattle.doom_run.proofs.OverlayLemmas.{no_book-drawn, no_table-drawn, rows-drawn}
 use Rattle.doom_run.proofs.layers.draw_layers.Goals as goal
 

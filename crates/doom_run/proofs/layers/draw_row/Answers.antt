@@ -1,6 +1,5 @@
 -- A row of another view, one whose frame has no picture, and one of this view.
-use Rattle.picture_rules.proofs.Common.{rules, Some, sym, w16}
-use Rattle.std.proofs.lemmas.Int.{to_z-of_z}
+use Rattle.picture_rules.proofs.Common.{rules, Some, sym, w16, to_z-of_z}
 use Rattle.texture_build.proofs.PaintLemmas.{paints-none, paints-same, paints-wider}
 use Rattle.weapon_overlay.specs.Layers.{layer_value}
 use Rattle.doom_run.proofs.PictureLemmas.{layer_there}

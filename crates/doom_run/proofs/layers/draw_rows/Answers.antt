@@ -1,11 +1,10 @@
 -- One row after the other.
-use Rattle.std.proofs.Common.{◌≡◌, ◌<◌, ◌+◌, ◌∷◌, [], ℕ, ℤ, List, get_or, length, w16, refl, subst, sym, arith, rules}
+use Rattle.picture_rules.proofs.Common.{◌≡◌, ◌<◌, ◌+◌, ◌∷◌, [], ℕ, ℤ, List, get_or, length, w16, refl, subst, sym, arith, rules, to_z-of_z}
 use Rattle.art_rules.specs.declared.shapes.Frame.{Frame}
 use Rattle.csv_tables.specs.declared.weapons.WeaponRow.{WeaponRow}
 use Rattle.picture_rules.specs.Words.{ViewValue}
 use Rattle.doom_run.specs.Layers.{layers_from}
 use Rattle.weapon_overlay.specs.Seen.{IsLayerPicture}
-use Rattle.std.proofs.lemmas.Int.{to_z-of_z}
 use Rattle.texture_build.specs.Views.{TexturesView}
 use Rattle.texture_build.proofs.PaintLemmas.{paints-none, paints-same, paints-then, paints-then_stop, paints-wider, slots-later}
 use Rattle.weapon_overlay.proofs.LayerLemmas.{stands-later}

@@ -1,8 +1,7 @@
 -- The layers of the rows before are drawn.
 use Rattle.picture_rules.proofs.Common.{Ok, take}
 use Rattle.texture_build.specs.Paints.{paint_state}
-use Rattle.weapon_overlay.specs.Layers.{PaintsLayer}
-use Rattle.weapon_overlay.specs.Seen.{IsLayerPicture}
+use Rattle.weapon_overlay.specs.{Layers.PaintsLayer, Seen.IsLayerPicture}
 use Rattle.doom_run.specs.Layers.{layers_from}
 use Rattle.doom_run.proofs.RowLemmas.{rows_dots}
 use Rattle.doom_run.proofs.layers.draw_rows.Given as goal

@@ -1,5 +1,4 @@
-use Rattle.std.proofs.Common.{List, length, w16, w32, rules, ap, ◌∙◌}
-use Rattle.std.proofs.lemmas.Int.{to_z-of_z}
+use Rattle.picture_rules.proofs.Common.{List, length, w16, w32, rules, ap, ◌∙◌, to_z-of_z}
 use Rattle.picture_rules.specs.Words.{Surface}
 use Rattle.doom_run.proofs.LayerLemmas.{length_surfaces, light_found}
 use Rattle.doom_run.proofs.layers.layer_light.Goals as goal

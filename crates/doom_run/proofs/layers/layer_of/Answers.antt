@@ -1,5 +1,4 @@
-use Rattle.std.proofs.Common.{option_map, w16, w32, rules, sym, ap, ◌∙◌}
-use Rattle.std.proofs.lemmas.Int.{to_z-of_z}
+use Rattle.picture_rules.proofs.Common.{option_map, w16, w32, rules, sym, ap, ◌∙◌, to_z-of_z}
 use Rattle.weapon_overlay.specs.Layers.{layer_value}
 use Rattle.doom_run.proofs.LayerLemmas.{layer_none, layer_some}
 use Rattle.doom_run.proofs.layers.layer_of.Goals as goal

@@ -1,6 +1,5 @@
 use Rattle.job_rules.specs.LevelJobs.{level_job_value}
-use Rattle.doom_run.specs.Jobs.{done, telling}
-use Rattle.doom_run.specs.Views.{view_lines, views_of}
+use Rattle.doom_run.specs.{Jobs.done, Jobs.telling, Views.view_lines, Views.views_of}
 use Rattle.doom_run.proofs.CountLemmas.{can_count}
 use Rattle.doom_run.proofs.DrawingLemmas.{ready_drawable, views_delivers}
 use Rattle.doom_run.proofs.DeliverLemmas.{memory_delivers}

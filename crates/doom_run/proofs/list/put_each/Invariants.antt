@@ -1,6 +1,5 @@
 use Rattle.std.proofs.Common.{take, Ok}
-use Rattle.art_rules.specs.Words.{Failed, Writes}
-use Rattle.doom_run.specs.Lists.{lines_from}
+use Rattle.doom_run.specs.{Rules.Failed, Rules.Writes, Lists.lines_from}
 use Rattle.doom_run.proofs.list.put_each.Given as goal
 
 -- the lines so far

@@ -2,8 +2,7 @@ use Rattle.std.proofs.Common.{List, ◌++◌, ◌∙◌, ap, append_assoc, refl}
 use Rattle.art_rules.proofs.Laws.{writes_stop, writes_stopped, writes_then}
 use Rattle.doom_run.specs.Rules.{ListedFragment, ListedPlane, ListedSprite}
 use Rattle.doom_run.specs.Lists.{fragment_line, lines_from, plane_line, sprite_line, sums_line}
-use Rattle.doom_run.proofs.LimitLemmas.{same_bytes}
-use Rattle.doom_run.proofs.ListLemmas.{items_are}
+use Rattle.doom_run.proofs.{LimitLemmas.same_bytes, ListLemmas.items_are}
 use Rattle.doom_run.proofs.list.put_items.Goals as goal
 
 pub returns-in_err-put_each : goal.returns-in_err-put_each

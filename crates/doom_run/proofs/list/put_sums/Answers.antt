@@ -1,7 +1,6 @@
 use Rattle.picture_rules.proofs.Common.{ap, codes, List, ℕ, ◌++◌, ◌∙◌}
 use Rattle.refusals.specs.Lines.{labelled}
-use Rattle.doom_run.proofs.LimitLemmas.{same_bytes}
-use Rattle.doom_run.proofs.ListLemmas.{seven_added}
+use Rattle.doom_run.proofs.{LimitLemmas.same_bytes, ListLemmas.seven_added}
 use Rattle.doom_run.proofs.list.put_sums.Goals as goal
 
 pub returns : goal.returns

@@ -1,8 +1,7 @@
 -- One view after the other, up to the first that ends the rendering.
 use Rattle.picture_rules.proofs.Common.{ap, arith, cases_lt, inl, inr, length, refl, subst, ◌<◌, ◌∙◌, ◌≡◌}
 use Rattle.job_files.specs.declared.read.SceneFiles.{SceneFiles}
-use Rattle.doom_run.specs.Frames.{form_of}
-use Rattle.doom_run.specs.Renders.{FitsAt, ready_bytes, ready_views}
+use Rattle.doom_run.specs.{Frames.form_of, Renders.FitsAt, Renders.ready_bytes, Renders.ready_views}
 use Rattle.doom_run.proofs.FitLemmas.{due_done, due_stops, fits_at-later}
 use Rattle.doom_run.proofs.FrameLemmas.{render_done, render_stops, rendered-more, rendered-none}
 use Rattle.doom_run.proofs.ReadyLemmas.{drawable-later, holds-later, view_ends-later, views_count}

@@ -2,9 +2,7 @@ use Rattle.std.proofs.Common.{subst, sym}
 use Rattle.job_rules.specs.LevelJobs.{level_job_value}
 use Rattle.level_audit.specs.declared.scene_load.load.LoadedScene.{LoadedScene}
 use Rattle.level_audit.specs.scene_load.Calls.{IsLoadedScene}
-use Rattle.doom_run.specs.Jobs.{drawing, rendered}
-use Rattle.doom_run.specs.Performs.{Delivers}
-use Rattle.doom_run.specs.Renders.{IsReady}
+use Rattle.doom_run.specs.{Jobs.drawing, Jobs.rendered, Performs.Delivers, Renders.IsReady}
 use Rattle.doom_run.proofs.DrawingLemmas.{drawing_delivers, ready_drawable}
 use Rattle.doom_run.proofs.DeliverLemmas.{memory_delivers}
 use Rattle.doom_run.proofs.render.perform_views.Goals as goal

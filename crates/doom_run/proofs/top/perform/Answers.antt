@@ -1,8 +1,7 @@
 use Rattle.std.proofs.Common.{inl, refl}
 use Rattle.art_rules.proofs.Laws.{grew_none}
 use Rattle.command_line.specs.Commands.{command_of}
-use Rattle.job_rules.specs.Commands.{IsExercise}
-use Rattle.doom_run.specs.Words.{texts}
+use Rattle.doom_run.specs.{Rules.IsExercise, Words.texts}
 use Rattle.doom_run.proofs.PerformLemmas.{command_runs, memory_runs}
 use Rattle.doom_run.proofs.top.perform.Goals as goal
 

@@ -1,11 +1,10 @@
 use Rattle.std.proofs.Common.{ap, refl, Ok, Result}
-use Rattle.art_rules.specs.Words.{and_then, Stop}
+use Rattle.doom_run.specs.{Rules.Stop, Rules.and_then, Jobs.Written, Jobs.done}
 use Rattle.art_rules.proofs.Laws.{stops_all}
 use Rattle.frame_writer.specs.Ppm.{ppm}
 use Rattle.refusals.specs.declared.refusal.Refusal.{Refusal}
 use Rattle.job_files.specs.Flats.{PictureValue, flat_verdict}
 use Rattle.job_files.proofs.StepLemmas.{status_full}
-use Rattle.doom_run.specs.Jobs.{Written, done}
 use Rattle.doom_run.proofs.EndLemmas.{bytes_deliver}
 use Rattle.doom_run.proofs.PerformLemmas.{plain_delivers, plain_stops}
 use Rattle.doom_run.proofs.top.perform_flat.Goals as goal

@@ -1,6 +1,5 @@
 use Rattle.std.proofs.Common.{ap, Ok, List, ℕ, sym, arith}
-use Rattle.job_rules.specs.Commands.{make}
-use Rattle.doom_run.specs.Jobs.{done, job_of}
+use Rattle.doom_run.specs.{Rules.make, Jobs.done, Jobs.job_of}
 use Rattle.doom_run.proofs.EndLemmas.{bytes_deliver}
 use Rattle.doom_run.proofs.PerformLemmas.{memory_performs, plain_delivers}
 use Rattle.doom_run.proofs.top.perform_make.Goals as goal

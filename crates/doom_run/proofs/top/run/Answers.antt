@@ -1,10 +1,9 @@
 use Rattle.art_rules.proofs.Laws.{prefix_written}
 use Rattle.command_line.specs.Commands.{command_of}
 use Rattle.doom_run.specs.Words.{texts}
-use Rattle.doom_run.proofs.FullLemmas.{run_held, run_room}
+use Rattle.doom_run.proofs.{FullLemmas.run_held, FullLemmas.run_room, alike.RunLemmas.trimmed-run}
 use Rattle.doom_run.proofs.RunLemmas.{absent_at, complete_at, end_at, prefix_at_end, refusal_at, steady_reads, stopped_at}
 use Rattle.doom_run.proofs.RunsLemmas.{runs_asked, runs_ends, runs_full, runs_least, runs_read_fault, runs_taken, runs_unread, runs_unwritten, runs_usage, runs_write_fault, runs_wrong, runs_zoned}
-use Rattle.doom_run.proofs.alike.RunLemmas.{trimmed-run}
 use Rattle.doom_run.proofs.top.run.Goals as goal
 
 pub returns-clause-ends : goal.returns-clause-ends

@@ -1,8 +1,6 @@
 -- The planes of the bench are those of the view, and may be drawn.
 use Rattle.picture_rules.proofs.Common.{IfSome, length, subst, sym, ℕ, ◌<◌}
-use Rattle.texture_build.specs.TexNo.{TexNo}
-use Rattle.texture_build.specs.Draws.{CanDraw}
-use Rattle.texture_build.specs.Views.{TexturesView}
+use Rattle.texture_build.specs.{TexNo.TexNo, Draws.CanDraw, Views.TexturesView}
 use Rattle.texture_build.proofs.DrawLemmas.{mapped-err, mapped-ok}
 use Rattle.frame_core.specs.Faults.{from_cache}
 use Rattle.frame_core.proofs.FloorLemmas.{floors-drawn, planes_can, sky_can}

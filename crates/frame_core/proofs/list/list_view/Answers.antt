@@ -2,8 +2,7 @@
 use Rattle.picture_rules.proofs.Common.{ap, arith, length, List, subst, ◌∙◌, ◌≡◌}
 use Rattle.frame_core.specs.Rules.{PlaneMaker, ViewListValue, ViewValue, view_list}
 use Rattle.sound_scene.specs.Pictures.{scene_of}
-use Rattle.frame_core.specs.ViewLists.{listed_planes}
-use Rattle.frame_core.specs.Workshops.{WorkshopView}
+use Rattle.frame_core.specs.{ViewLists.listed_planes, Workshops.WorkshopView}
 use Rattle.frame_core.proofs.CountLemmas.{counts-view, few-notes, within-view}
 use Rattle.frame_core.proofs.ListerLemmas.{makers-as_many, view-listed}
 use Rattle.frame_core.proofs.list.list_view.Goals as goal

@@ -1,5 +1,4 @@
-use Rattle.std.proofs.Common.{List, ℤ, pos, w16, rules, sym, ap, ◌∙◌}
-use Rattle.std.proofs.lemmas.Int.{to_z-of_z}
+use Rattle.picture_rules.proofs.Common.{List, ℤ, pos, w16, rules, sym, ap, ◌∙◌, to_z-of_z}
 use Rattle.picture_rules.specs.Words.{light_number, PlacedThing, Surface}
 use Rattle.sound_scene.specs.Pictures.{scene_of}
 use Rattle.frame_core.specs.ViewLists.{with_sprites}

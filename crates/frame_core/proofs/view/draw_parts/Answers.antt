@@ -1,19 +1,16 @@
 -- The view is placed and the bench started; then come walls, planes and the masked pass.
 use Rattle.picture_rules.proofs.Common.{ap, IfErr, IfSome, length, None, on_ok-always, Some, subst, sym, ℕ, ◌∙◌, ◌≡◌, ◌≤◌}
 use Rattle.frame_core.specs.Rules.{IsWithinFrame, Limits, OverLimit, ViewValue, view_over}
-use Rattle.frame_core.specs.declared.fault.ViewFault.{ViewFault}
-use Rattle.frame_core.specs.Faults.{limit_of_view}
+use Rattle.frame_core.specs.{declared.fault.ViewFault.ViewFault, Faults.limit_of_view}
 use Rattle.sound_scene.specs.Pictures.{scene_of}
 use Rattle.frame_core.specs.Views.{CanDrawView, tools_scene}
 use Rattle.frame_core.specs.Painters.{IsPlacedIn, limits_in}
-use Rattle.frame_core.proofs.CanLemmas.{can_count-drawable}
+use Rattle.frame_core.proofs.{CanLemmas.can_count-drawable, FloorLemmas.floors_of}
 use Rattle.texture_build.proofs.PaintLemmas.{paints-stop, paints-then_stop}
-use Rattle.frame_core.proofs.FloorLemmas.{floors_of}
 use Rattle.frame_core.proofs.MaskLemmas.{masks_dots}
 use Rattle.frame_core.proofs.PaintLemmas.{can_draw_view-later, placed-later}
-use Rattle.frame_core.proofs.CountLemmas.{within-walked}
+use Rattle.frame_core.proofs.{CountLemmas.within-walked, view.draw_parts.Given.Over}
 use Rattle.frame_core.proofs.ViewLemmas.{ReadsAlike, drawable-at, if_err-no_limit, if_err-stop, in_view-walked, paints-placed, part-at, parts-paint, placed-frame, reads-alike, reads-then, walked-at}
-use Rattle.frame_core.proofs.view.draw_parts.Given.{Over}
 use Rattle.frame_core.proofs.view.draw_parts.Goals as goal
 use Rattle.frame_core.proofs.view.draw_parts.Goals.{After-place, In_ok-draw_floors, In_ok-draw_walls}
 

@@ -2,9 +2,8 @@
 use Rattle.std.proofs.Common.{◌≡◌, OnOk, ap, rules, subst, ◌∙◌}
 use Rattle.frame_core.specs.Rules.{IsWithinFrame, ViewValue, lump_bytes, picture, view_of, view_paints}
 use Rattle.pixel_strips.specs.Canvases.{CanvasView}
-use Rattle.sound_scene.specs.Sound.{textures_view}
+use Rattle.sound_scene.specs.{Sound.textures_view, Pictures.scene_of}
 use Rattle.texture_build.specs.Draws.{FitBeside}
-use Rattle.sound_scene.specs.Pictures.{scene_of}
 use Rattle.frame_core.specs.Workshops.{WorkshopView}
 use Rattle.texture_build.proofs.DrawLemmas.{holds_art-later}
 use Rattle.frame_core.proofs.EnoughLemmas.{complete-view, enough-view}

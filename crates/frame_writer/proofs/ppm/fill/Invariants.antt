@@ -1,5 +1,4 @@
-use Rattle.std.proofs.Common.{◌≡◌, ◌*◌, take}
-use Rattle.std.specs.List.{flat_map}
+use Rattle.art_rules.proofs.Common.{◌≡◌, ◌*◌, take, flat_map}
 use Rattle.frame_writer.specs.Words.{word_colour}
 use Rattle.frame_writer.proofs.ppm.fill.Given as goal
 

@@ -1,6 +1,4 @@
-use Rattle.std.proofs.Common.{◌≡◌, ◌*◌, ◌≤◌, ℕ, List, length, take, ap, subst, sym, ◌∙◌, arith}
-use Rattle.std.specs.List.{flat_map}
-use Rattle.std.proofs.lemmas.List.{length-take-le, length-replicate}
+use Rattle.art_rules.proofs.Common.{◌≡◌, ◌*◌, ◌≤◌, ℕ, List, length, take, ap, subst, sym, ◌∙◌, arith, flat_map, length-take-le, length-replicate}
 use Rattle.art_rules.specs.Words.{Failed, Writes}
 use Rattle.frame_writer.specs.Words.{word_colour}
 use Rattle.frame_writer.proofs.ppm.put_band.Goals as goal

@@ -1,6 +1,5 @@
 use Rattle.std.proofs.Common.{◌*◌, ◌+◌, ◌-◌, refl, arith}
-use Rattle.frame_writer.specs.declared.ppm.TheConstants.{BAND_BYTES}
-use Rattle.frame_writer.specs.Words.{word_colour}
+use Rattle.frame_writer.specs.{declared.ppm.TheConstants.BAND_BYTES, Words.word_colour}
 use Rattle.frame_writer.proofs.BandLemmas.{pieces_more, pieces_left}
 use Rattle.art_rules.proofs.Laws.{writes_more, writes_stopped}
 use Rattle.frame_writer.proofs.ppm.put_bands.Goals as goal

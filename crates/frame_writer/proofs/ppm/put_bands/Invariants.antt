@@ -1,8 +1,6 @@
-use Rattle.std.proofs.Common.{◌*◌, take, Ok}
-use Rattle.std.specs.List.{flat_map}
+use Rattle.art_rules.proofs.Common.{◌*◌, take, Ok, flat_map}
 use Rattle.art_rules.specs.Words.{Failed, Writes}
-use Rattle.frame_writer.specs.declared.ppm.TheConstants.{BAND_BYTES}
-use Rattle.frame_writer.specs.Words.{word_colour}
+use Rattle.frame_writer.specs.{declared.ppm.TheConstants.BAND_BYTES, Words.word_colour}
 use Rattle.frame_writer.proofs.ppm.put_bands.Given as goal
 
 abbrev pub invariant-loop-band : goal.invariant-loop-band

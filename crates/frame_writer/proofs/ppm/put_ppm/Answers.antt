@@ -1,5 +1,4 @@
-use Rattle.std.proofs.Common.{List, ◌++◌, ℕ, ap, refl}
-use Rattle.std.specs.List.{flat_map}
+use Rattle.art_rules.proofs.Common.{List, ◌++◌, ℕ, ap, refl, flat_map}
 use Rattle.frame_writer.specs.Ppm.{colour, ppm, ppm_header}
 use Rattle.frame_writer.proofs.WordLemmas.{words_frame}
 use Rattle.art_rules.proofs.Laws.{writes_stop, writes_then}

@@ -1,6 +1,5 @@
 use Rattle.std.proofs.Common.{◌≡◌, ◌<◌, ℕ}
-use Rattle.frame_writer.specs.Ppm.{colour}
-use Rattle.frame_writer.specs.Words.{word_colour}
+use Rattle.frame_writer.specs.{Ppm.colour, Words.word_colour}
 use Rattle.frame_writer.proofs.ppm.set_words.Given as goal
 
 -- the words below this one have the colours of the palette

@@ -1,7 +1,6 @@
 use Rattle.std.proofs.Common.{refl}
 use Rattle.art_rules.proofs.Laws.{all_stand_later, step}
-use Rattle.job_files.proofs.FlatLemmas.{picture_is}
-use Rattle.job_files.proofs.StepLemmas.{stop_same}
+use Rattle.job_files.proofs.{FlatLemmas.picture_is, StepLemmas.stop_same}
 use Rattle.job_files.proofs.flat.draw_flat.Goals as goal
 
 pub returns-in_err-flat-clause-answers : goal.returns-in_err-flat-clause-answers

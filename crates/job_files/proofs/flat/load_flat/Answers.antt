@@ -1,11 +1,8 @@
 use Rattle.std.proofs.Common.{◌∷◌, [], arith, refl}
 use Rattle.art_rules.specs.Words.{directory, NameFiles}
 use Rattle.art_rules.proofs.Laws.{all_stand_later, follows_then, step}
-use Rattle.job_files.specs.Files.{wad_files}
-use Rattle.job_files.specs.Flats.{picture_in}
-use Rattle.job_files.specs.Sizes.{flat_sizes}
-use Rattle.job_files.proofs.StepLemmas.{stop_same}
-use Rattle.job_files.proofs.TakenLemmas.{art_known}
+use Rattle.job_files.specs.{Files.wad_files, Flats.picture_in, Sizes.flat_sizes}
+use Rattle.job_files.proofs.{StepLemmas.stop_same, TakenLemmas.art_known}
 use Rattle.job_files.proofs.flat.load_flat.Goals as goal
 
 pub returns-in_err-dir-clause-answers : goal.returns-in_err-dir-clause-answers

@@ -1,7 +1,6 @@
 use Rattle.std.proofs.Common.{Bor, ℕ, List, map, ◌∙◌, refl, arith}
 use Rattle.art_rules.proofs.Laws.{all_passed, follows_then, step_passed, step_stops}
-use Rattle.job_files.specs.Files.{files_in}
-use Rattle.job_files.specs.Sizes.{files_size}
+use Rattle.job_files.specs.{Files.files_in, Sizes.files_size}
 use Rattle.job_files.proofs.TakenLemmas.{listed_taken}
 use Rattle.job_files.proofs.read.read_files.Goals as goal
 

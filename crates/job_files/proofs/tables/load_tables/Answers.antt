@@ -1,5 +1,4 @@
-use Rattle.job_files.specs.declared.whole_files.FileKind.TheVariants.{Tables}
-use Rattle.job_files.specs.Lengths.{bytes_in}
+use Rattle.job_files.specs.{declared.whole_files.FileKind.TheVariants.Tables, Lengths.bytes_in}
 use Rattle.job_files.proofs.CheckLemmas.{tables_length, unread, checked}
 use Rattle.job_files.proofs.tables.load_tables.Goals as goal
 

@@ -1,5 +1,4 @@
-use Rattle.job_files.specs.declared.whole_files.FileKind.TheVariants.{Weapons}
-use Rattle.job_files.specs.Lengths.{bytes_in}
+use Rattle.job_files.specs.{declared.whole_files.FileKind.TheVariants.Weapons, Lengths.bytes_in}
 use Rattle.job_files.proofs.CheckLemmas.{weapons_length, unread, checked}
 use Rattle.job_files.proofs.texts.load_layers.Goals as goal
 

@@ -1,5 +1,4 @@
-use Rattle.job_files.specs.declared.whole_files.FileKind.TheVariants.{Path}
-use Rattle.job_files.specs.Lengths.{bytes_in}
+use Rattle.job_files.specs.{declared.whole_files.FileKind.TheVariants.Path, Lengths.bytes_in}
 use Rattle.job_files.proofs.CheckLemmas.{path_length, unread, checked}
 use Rattle.job_files.proofs.texts.load_path.Goals as goal
 

@@ -1,7 +1,6 @@
 use Rattle.std.proofs.Common.{◌∙◌, refl, arith, rules}
 use Rattle.art_rules.proofs.Laws.{all_passed, follows_then, step_passed, step_stops}
-use Rattle.job_files.specs.Files.{texts_in}
-use Rattle.job_files.specs.Sizes.{texts_size}
+use Rattle.job_files.specs.{Files.texts_in, Sizes.texts_size}
 use Rattle.job_files.proofs.texts.load_texts.Goals as goal
 
 pub returns-in_err-things : goal.returns-in_err-things

@@ -1,5 +1,4 @@
-use Rattle.job_files.specs.declared.whole_files.FileKind.TheVariants.{Things}
-use Rattle.job_files.specs.Lengths.{bytes_in}
+use Rattle.job_files.specs.{declared.whole_files.FileKind.TheVariants.Things, Lengths.bytes_in}
 use Rattle.job_files.proofs.CheckLemmas.{things_length, unread, checked}
 use Rattle.job_files.proofs.texts.load_things.Goals as goal
 

@@ -1,7 +1,6 @@
 use Rattle.std.proofs.Common.{◌∙◌, refl, arith}
 use Rattle.art_rules.specs.Words.{file_named, ReadFault, StandsForNamed}
-use Rattle.job_files.specs.Files.{in_file}
-use Rattle.job_files.specs.Lengths.{bytes_in}
+use Rattle.job_files.specs.{Files.in_file, Lengths.bytes_in}
 use Rattle.art_rules.proofs.Laws.{absent_agrees, file_agrees}
 use Rattle.job_files.proofs.TakenLemmas.{named_taken}
 use Rattle.job_files.proofs.whole_files.read_named.Goals as goal

@@ -1,8 +1,7 @@
 use Rattle.art_rules.proofs.Common.{ap, on_ok_weaker, option_map, ◌∙◌}
 use Rattle.art_rules.proofs.Laws.{done_through}
-use Rattle.texture_build.specs.TexNo.{TexNo}
-use Rattle.texture_build.specs.Views.{is_wanted}
-use Rattle.scene_rules.specs.declared.refusal.AuditRefusal.TheVariants.{Texture}
+use Rattle.texture_build.specs.{TexNo.TexNo, Views.is_wanted}
+use Rattle.level_audit.specs.Rules.{Texture}
 use Rattle.level_audit.proofs.ArtLemmas.{sides_prepared, sky_prepared, textures_wanted}
 use Rattle.level_audit.proofs.PartLemmas.{above_reads}
 use Rattle.level_audit.proofs.art.prepare_faces.Goals as goal

@@ -1,6 +1,5 @@
-use Rattle.art_rules.proofs.Common.{IfOk-weaker, length, ◌∙◌}
-use Rattle.art_rules.proofs.Laws.{ok_through}
-use Rattle.scene_rules.specs.declared.refusal.AuditRefusal.TheVariants.{Sprite}
+use Rattle.art_rules.proofs.{Common.IfOk-weaker, Common.length, Common.◌∙◌, Laws.ok_through}
+use Rattle.level_audit.specs.Rules.{Sprite}
 use Rattle.level_audit.proofs.ArtLemmas.{book_needed, pictures_there}
 use Rattle.level_audit.proofs.PartLemmas.{above_reads}
 use Rattle.level_audit.proofs.art.read_book.Goals as goal

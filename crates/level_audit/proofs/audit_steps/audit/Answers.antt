@@ -1,8 +1,7 @@
 use Rattle.level_audit.specs.Rules.{Art, MIN_FRAGMENT, block_size, itself, lump_at, lump_bytes, scene_in, sizes_of}
 use Rattle.std.proofs.Common.{◌≡◌, ◌<◌, ◌+◌, ◌∙◌, Err, refl, ap, inl, inr, arith}
 use Rattle.art_rules.proofs.Laws.{all_stand_later, follows_then}
-use Rattle.texture_build.specs.Caches.{NoRoom}
-use Rattle.texture_build.specs.Sizes.{IsGapAround}
+use Rattle.texture_build.specs.{Caches.NoRoom, Sizes.IsGapAround}
 use Rattle.texture_build.proofs.FetchLemmas.{fetch_first, fetch_gap_first, fetch_has_static, fetch_no_room, fetch_sizes, fetch_static}
 use Rattle.level_audit.specs.Reads.{IsFullAudit}
 use Rattle.level_audit.proofs.FetchLemmas.{answers_after, answers_none, fits_after, full_above, full_after, full_first, gap_after, order_after, pinned_after, rest_after, room_after, room_first, told_after}

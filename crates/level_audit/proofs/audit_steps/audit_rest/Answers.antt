@@ -1,5 +1,5 @@
 use Rattle.std.proofs.Common.{◌<◌, ◌∙◌, length, sym, ap, subst}
-use Rattle.scene_rules.specs.Words.{LevelBase}
+use Rattle.level_audit.specs.Rules.{LevelBase}
 use Rattle.sound_scene.specs.Whole.{IsWholeScene}
 use Rattle.level_audit.proofs.AuditLemmas.{base_stopped, scene_stopped, sound_passed, sound_stopped}
 use Rattle.sound_scene.proofs.SceneLemmas.{colormap_there}

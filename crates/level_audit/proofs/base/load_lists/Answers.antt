@@ -1,5 +1,4 @@
-use Rattle.scene_rules.specs.declared.refusal.AuditRefusal.TheVariants.{Texture}
-use Rattle.scene_rules.specs.Words.{lists_in}
+use Rattle.level_audit.specs.Rules.{Texture, lists_in}
 use Rattle.level_audit.proofs.PartLemmas.{above_reads}
 use Rattle.level_audit.proofs.base.load_lists.Goals as goal
 

@@ -1,5 +1,5 @@
 use Rattle.art_rules.proofs.Laws.{ok_through}
-use Rattle.scene_rules.specs.declared.refusal.AuditRefusal.TheVariants.{Map}
+use Rattle.level_audit.specs.Rules.{Map}
 use Rattle.level_audit.proofs.PartLemmas.{above_reads}
 use Rattle.level_audit.proofs.base.read_labelled.Goals as goal
 

@@ -1,5 +1,5 @@
 use Rattle.art_rules.proofs.Common.{ap, arith, list_any, ◌||◌, ◌∙◌}
-use Rattle.scene_rules.specs.Words.{is_seen_through, texture_by}
+use Rattle.level_audit.specs.Rules.{is_seen_through, texture_by}
 use Rattle.level_audit.proofs.MiddleLemmas.{bad_middle-marked, middles_single}
 use Rattle.level_audit.proofs.middles.find_bad_middle.Goals as goal
 

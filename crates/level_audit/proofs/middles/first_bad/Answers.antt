@@ -1,7 +1,7 @@
 use Rattle.art_rules.proofs.Common.{arith, below_more, Bool, length, sym, ℕ, ◌&&◌, ◌∙◌}
 use Rattle.art_rules.proofs.Laws.{least-none, least-some}
 use Rattle.texture_build.specs.Views.{is_marked}
-use Rattle.scene_rules.specs.Words.{is_bad_middle, middle_of, texture_by}
+use Rattle.level_audit.specs.Rules.{is_bad_middle, middle_of, texture_by}
 use Rattle.level_audit.proofs.MiddleLemmas.{marked_read, single_read}
 use Rattle.level_audit.proofs.middles.first_bad.Goals as goal
 

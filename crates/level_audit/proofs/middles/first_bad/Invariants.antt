@@ -1,6 +1,6 @@
 use Rattle.art_rules.proofs.Common.{false, true, ℕ, ◌&&◌, ◌<◌, ◌≡◌}
 use Rattle.texture_build.specs.Views.{is_marked}
-use Rattle.scene_rules.specs.Words.{is_bad_middle, middle_of, texture_by}
+use Rattle.level_audit.specs.Rules.{is_bad_middle, middle_of, texture_by}
 use Rattle.sound_scene.specs.Whole.{IsNoneOrSingle}
 use Rattle.level_audit.proofs.middles.first_bad.Given as goal
 

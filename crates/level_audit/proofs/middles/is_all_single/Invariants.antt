@@ -1,7 +1,6 @@
 use Rattle.art_rules.proofs.Common.{IsSome, true, ℕ, ◌<◌, ◌≡◌}
 use Rattle.art_rules.specs.Words.{is_single, single_place}
-use Rattle.texture_build.specs.Sources.{own_lookup}
-use Rattle.texture_build.specs.Views.{prepared_texture}
+use Rattle.texture_build.specs.{Sources.own_lookup, Views.prepared_texture}
 use Rattle.level_audit.proofs.middles.is_all_single.Given as goal
 
 -- each column so far has one patch, from which it is read

@@ -1,5 +1,5 @@
 use Rattle.art_rules.proofs.Common.{length, list_any, take, ◌≡◌}
-use Rattle.scene_rules.specs.Words.{is_seen_through}
+use Rattle.level_audit.specs.Rules.{is_seen_through}
 use Rattle.sound_scene.specs.Views.{AddsMarks}
 use Rattle.level_audit.proofs.middles.mark_sides.Given as goal
 

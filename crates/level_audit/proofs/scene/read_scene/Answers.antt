@@ -1,16 +1,12 @@
 use Rattle.art_rules.proofs.Common.{All, ap, Err, IfOk-weaker, inl, inr, length, List, map, Ok, refl, subst, sym, ◌∙◌}
 use Rattle.level_audit.specs.Rules.{OutOfMemory, Placed, SideTextures, TextureLists, need_of, scene_on}
 use Rattle.texture_build.proofs.CallLemmas.{reads_same, reads_short, reads_stop_first, reads_then}
-use Rattle.level_audit.specs.Faults.{above_scene}
+use Rattle.level_audit.specs.{Faults.above_scene, Asked.IsOfScene}
 use Rattle.sprite_book.specs.Calls.{IsWanted}
-use Rattle.sound_scene.specs.Bases.{base_of}
-use Rattle.sound_scene.specs.declared.parts.ReadBase.{ReadBase}
-use Rattle.sound_scene.specs.declared.parts.ReadFaces.{ReadFaces}
-use Rattle.sound_scene.specs.Whole.{AreSidePrepared}
-use Rattle.level_audit.specs.Asked.{IsOfScene}
+use Rattle.sound_scene.specs.{Bases.base_of, declared.parts.ReadBase.ReadBase}
+use Rattle.sound_scene.specs.{declared.parts.ReadFaces.ReadFaces, Whole.AreSidePrepared}
 use Rattle.sound_scene.specs.Scenes.{faces_of}
-use Rattle.level_audit.proofs.ArtLemmas.{sides_told}
-use Rattle.level_audit.proofs.PartLemmas.{faces_told, of_scene}
+use Rattle.level_audit.proofs.{ArtLemmas.sides_told, PartLemmas.faces_told, PartLemmas.of_scene}
 use Rattle.level_audit.proofs.StepLemmas.{scene_on-stop, scene_with-more, scene_with-stop}
 use Rattle.level_audit.proofs.WholeLemmas.{art_after, faces_over, middles_prepared, scene_after}
 use Rattle.level_audit.proofs.scene.read_scene.Goals as goal

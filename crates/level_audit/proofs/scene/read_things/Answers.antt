@@ -1,13 +1,10 @@
 use Rattle.std.proofs.Common.{length, map, Ok, Err, refl, ap, arith}
 use Rattle.texture_build.proofs.CallLemmas.{reads_more, reads_same, reads_stop, reads_stop_first}
 use Rattle.sprite_book.specs.Calls.{IsWanted}
-use Rattle.level_audit.specs.Faults.{above_scene}
-use Rattle.sound_scene.specs.Bases.{base_of}
-use Rattle.scene_rules.specs.Words.{need_of, scene_over}
-use Rattle.sound_scene.specs.Scenes.{faces_of}
-use Rattle.level_audit.proofs.PartLemmas.{checks_told}
+use Rattle.level_audit.specs.{Faults.above_scene, Rules.need_of, Rules.scene_over}
+use Rattle.sound_scene.specs.{Bases.base_of, Scenes.faces_of}
+use Rattle.level_audit.proofs.{PartLemmas.checks_told, WholeLemmas.middles_told}
 use Rattle.level_audit.proofs.StepLemmas.{scene_over-sound, scene_over-unread, scene_over-unsound}
-use Rattle.level_audit.proofs.WholeLemmas.{middles_told}
 use Rattle.level_audit.proofs.scene.read_things.Goals as goal
 
 pub returns-in_err-book-clause-tells : goal.returns-in_err-book-clause-tells

@@ -1,7 +1,6 @@
 use Rattle.std.proofs.Common.{List, ap, subst, ◌∙◌}
 use Rattle.level_audit.specs.Rules.{Frame, SceneValue, book_lumps, needed_lumps, zone_sizes}
-use Rattle.sound_scene.specs.Views.{lump_numbers}
-use Rattle.sound_scene.specs.Sound.{art_with}
+use Rattle.sound_scene.specs.{Views.lump_numbers, Sound.art_with}
 use Rattle.sound_scene.proofs.PictureLemmas.{HaveSame, books_same, with_book_is}
 use Rattle.level_audit.proofs.weapons.audit_weapons.Goals as goal
 

@@ -1,6 +1,5 @@
 use Rattle.std.proofs.Common.{length}
-use Rattle.level_scene.specs.Rules.{SectorFlat, flats_of, sector_flats}
-use Rattle.level_scene.specs.Bounds.{AreThere}
+use Rattle.level_scene.specs.{Rules.SectorFlat, Rules.flats_of, Rules.sector_flats, Bounds.AreThere}
 use Rattle.level_scene.proofs.EachLemmas.{each-first, each-more}
 use Rattle.level_scene.proofs.flats.find_flats.Goals as goal
 

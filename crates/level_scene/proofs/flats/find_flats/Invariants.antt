@@ -1,7 +1,6 @@
 use Rattle.art_rules.proofs.Common.{All, drop, length, ◌≡◌}
-use Rattle.level_scene.specs.Rules.{SectorFlat, each_or, flats_of}
+use Rattle.level_scene.specs.{Rules.SectorFlat, Rules.each_or, Rules.flats_of, Bounds.AreThere}
 use Rattle.scene_rules.proofs.NumberedLemmas.{each_after}
-use Rattle.level_scene.specs.Bounds.{AreThere}
 use Rattle.level_scene.proofs.flats.find_flats.Given as goal
 
 -- the flats so far, one pair a sector, and those of the sectors from i on, are those of all sectors

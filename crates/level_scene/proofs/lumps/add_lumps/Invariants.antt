@@ -1,9 +1,7 @@
-use Rattle.level_scene.specs.Rules.{is_map_lump, itself}
+use Rattle.level_scene.specs.{Rules.is_map_lump, Rules.itself, Lumps.lumps_from}
 use Rattle.std.proofs.Common.{◌≡◌, ◌<◌, ◌≤◌, ◌+◌, ℕ, take, true, Ok}
 use Rattle.map_lumps.specs.Builders.{empty_builder}
-use Rattle.lump_cache.specs.Calls.{ReadsLumps}
-use Rattle.lump_cache.specs.Sizes.{StandsBeside}
-use Rattle.level_scene.specs.Lumps.{lumps_from}
+use Rattle.lump_cache.specs.{Calls.ReadsLumps, Sizes.StandsBeside}
 use Rattle.level_scene.proofs.LumpLemmas.{added_first}
 use Rattle.level_scene.proofs.lumps.add_lumps.Given as goal
 

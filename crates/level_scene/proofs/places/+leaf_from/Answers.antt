@@ -1,5 +1,4 @@
-use Rattle.std.proofs.Common.{◌≡◌, ◌+◌, ◌-◌, ◌<◌, ℕ, w32, to_z, of_z, ap, sym, ◌∙◌, arith, rules}
-use Rattle.std.proofs.lemmas.Int.{to_z-of_z}
+use Rattle.art_rules.proofs.Common.{◌≡◌, ◌+◌, ◌-◌, ◌<◌, ℕ, w32, to_z, of_z, ap, sym, ◌∙◌, arith, rules, to_z-of_z}
 use Rattle.scene_rules.specs.Words.{Child, leaf_from}
 use Rattle.level_scene.proofs.LeafLemmas.{leaf_from-leaf, there-leaf, there-node, within-node}
 use Rattle.level_scene.proofs.places.+leaf_from.Goals as goal

@@ -1,7 +1,6 @@
 use Rattle.art_rules.proofs.Common.{All, drop, length, ◌≡◌}
-use Rattle.level_scene.specs.Rules.{SideTexture, each_or, textures_of}
+use Rattle.level_scene.specs.{Rules.SideTexture, Rules.each_or, Rules.textures_of, Bounds.AreBelow}
 use Rattle.scene_rules.proofs.NumberedLemmas.{each_after}
-use Rattle.level_scene.specs.Bounds.{AreBelow}
 use Rattle.level_scene.proofs.sides.number_sides.Given as goal
 
 -- the numbers so far, one a side, and those of the sides from i on, are those of all sides

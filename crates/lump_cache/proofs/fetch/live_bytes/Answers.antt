@@ -1,7 +1,5 @@
-use Rattle.std.proofs.Common.{◌≡◌, false, Option, subst}
-use Rattle.std.specs.Prelude.{IfSome}
-use Rattle.lump_cache.specs.Rules.{LumpNo, same_owner}
-use Rattle.lump_cache.specs.Caches.{lump_owner}
+use Rattle.zone_rules.proofs.Common.{◌≡◌, false, Option, subst, IfSome}
+use Rattle.lump_cache.specs.{Rules.LumpNo, Rules.same_owner, Caches.lump_owner}
 use Rattle.lump_cache.proofs.fetch.live_bytes.Goals as goal
 
 -- the clause of `bytes`, for the lump that there is

@@ -1,6 +1,4 @@
-use Rattle.std.proofs.Common.{◌≤◌, ◌+◌, List, ℕ, length, Option, Bor, subst}
-use Rattle.std.specs.Prelude.{IfSome}
-use Rattle.std.specs.Option.{option_copied}
+use Rattle.zone_rules.proofs.Common.{◌≤◌, ◌+◌, List, ℕ, length, Option, Bor, subst, IfSome, option_copied}
 use Rattle.zone_rules.specs.Zones.{block_size}
 use Rattle.lump_cache.proofs.fetch.live_lump.Goals as goal
 

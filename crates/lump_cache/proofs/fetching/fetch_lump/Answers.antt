@@ -1,7 +1,4 @@
-use Rattle.std.proofs.Common.{◌≡◌, ◌∙◌, ◌+◌, ◌<◌, ◌≤◌, ap, sym, subst, subst₂, ℕ, List, length, Option, None, Some, option_map, Err, true, false, refl, rules, arith, inl, inr}
-use Rattle.std.specs.Prelude.{All, IfSome, ◌⊎◌, is_some}
-use Rattle.std.proofs.lemmas.Bool.{false≢true, cases_lt}
-use Rattle.std.proofs.lemmas.Result.{err_from_is_err_and}
+use Rattle.zone_rules.proofs.Common.{◌≡◌, ◌∙◌, ◌+◌, ◌<◌, ◌≤◌, ap, sym, subst, subst₂, ℕ, List, length, Option, None, Some, option_map, Err, true, false, refl, rules, arith, inl, inr, All, IfSome, ◌⊎◌, is_some, false≢true, cases_lt, err_from_is_err_and}
 use Rattle.lump_cache.specs.Rules.{AllWithin, Block, Heap, Holding, LiesWithin, NameFiles, Owner, Tag, TakesBlock, block_left, block_size, bytes_of, counted, file_bytes, gaps, holding_of, lump_at, no_lump, owned_block, owner_at, same_owner, total, without_block, without_room}
 use Rattle.outside.proofs.ShelfLemmas.{follows_none}
 use Rattle.lump_cache.specs.Caches.{KeptOrPurged, lump_owner, with_tag_unless_static}

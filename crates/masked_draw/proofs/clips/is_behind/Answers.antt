@@ -1,6 +1,5 @@
 -- A fragment of the seg and the scales of the note is behind the sprite as the tests say.
-use Rattle.picture_rules.proofs.Common.{ap, Bool, false, int_lt, rules, sym, true, w32, ℕ, ℤ, ◌&&◌, ◌==◌, ◌||◌, ◌∙◌, ◌≡◌}
-use Rattle.std.proofs.lemmas.Int.{to_z-of_z}
+use Rattle.picture_rules.proofs.Common.{ap, Bool, false, int_lt, rules, sym, true, w32, ℕ, ℤ, ◌&&◌, ◌==◌, ◌||◌, ◌∙◌, ◌≡◌, to_z-of_z}
 use Rattle.masked_draw.specs.Rules.{Drawseg, SpriteEntry, greater_word, is_behind, is_in_front, lesser_word, seg_line, side_of}
 use Rattle.masked_draw.proofs.clips.is_behind.Goals as goal
 

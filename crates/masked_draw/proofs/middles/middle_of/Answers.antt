@@ -1,6 +1,5 @@
 -- The entries of the lists that the code reads are those of the rule.
-use Rattle.picture_rules.proofs.Common.{ap, arith, get_or_default, IfSome, IsSome, None, of_z, Option, refl, rules, slice_index_or, Some, to_z, w16, w32, ℕ, ℤ, ◌∙◌, ◌≡◌}
-use Rattle.std.proofs.lemmas.Int.{to_z-of_z}
+use Rattle.picture_rules.proofs.Common.{ap, arith, get_or_default, IfSome, IsSome, None, of_z, Option, refl, rules, slice_index_or, Some, to_z, w16, w32, ℕ, ℤ, ◌∙◌, ◌≡◌, to_z-of_z}
 use Rattle.masked_draw.specs.Rules.{Eye, FragmentNote, Sector, Seg, Side, Surface, ViewValue, masked_mid, no_side, seg_light, texture_at}
 use Rattle.texture_build.specs.Views.{TexturesView}
 use Rattle.masked_draw.specs.Lists.{MaskedLists, heights_of, middle_by, no_sector, note_mid, note_seg, noted_drawseg, sector_by, side_by}

@@ -3,8 +3,7 @@ use Rattle.picture_rules.proofs.Common.{Ok, ℕ}
 use Rattle.masked_draw.specs.Marks.{MarksBy, unmarked_dots}
 use Rattle.masked_draw.specs.Ready.{IsListed, IsMiddleColumn}
 use Rattle.masked_draw.specs.Scenes.{CanPaint, PaintsDots, mask_hands, scene_drawseg, scene_lists}
-use Rattle.masked_draw.proofs.KeptLemmas.{KeepsHands}
-use Rattle.masked_draw.proofs.MarkLemmas.{between}
+use Rattle.masked_draw.proofs.{KeptLemmas.KeepsHands, MarkLemmas.between}
 use Rattle.masked_draw.proofs.middles.paint_middle.Given as goal
 
 abbrev pub invariant-loop-x : goal.invariant-loop-x

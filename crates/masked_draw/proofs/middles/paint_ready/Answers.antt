@@ -1,11 +1,8 @@
-use Rattle.std.proofs.Common.{◌≡◌, ◌<◌, ℕ, w32, sym, subst, ◌∙◌, rules, arith}
-use Rattle.std.proofs.lemmas.Int.{to_z-of_z}
+use Rattle.picture_rules.proofs.Common.{◌≡◌, ◌<◌, ℕ, w32, sym, subst, ◌∙◌, rules, arith, to_z-of_z}
 use Rattle.masked_draw.specs.Rules.{LIGHT_LEVELS, MIDDLE, lump_bytes, scale_map}
-use Rattle.texture_build.proofs.StaticLemmas.{rest_static}
-use Rattle.texture_build.proofs.LentLemmas.{fits-lump}
+use Rattle.texture_build.proofs.{StaticLemmas.rest_static, LentLemmas.fits-lump}
 use Rattle.texture_build.specs.Views.{prepared_texture}
-use Rattle.masked_draw.specs.Ready.{IsSingle}
-use Rattle.masked_draw.specs.Scenes.{scene_drawseg}
+use Rattle.masked_draw.specs.{Ready.IsSingle, Scenes.scene_drawseg}
 use Rattle.masked_draw.proofs.MiddleLemmas.{art-lent, lent_lump, middle-draw, middle-fits, middle-light, middle-painted, read-live, single-column}
 use Rattle.masked_draw.proofs.middles.paint_ready.Goals as goal
 

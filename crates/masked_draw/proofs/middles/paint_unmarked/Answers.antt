@@ -1,11 +1,8 @@
 -- A column that is marked gets no dots, and another one those of the call.
-use Rattle.std.proofs.Common.{◌≡◌, ◌∙◌, ℕ, ℤ, Bool, true, false, List, [], to_z, of_z, w32, refl, rules, sym, ap}
-use Rattle.std.proofs.lemmas.Int.{to_z-of_z}
+use Rattle.picture_rules.proofs.Common.{◌≡◌, ◌∙◌, ℕ, ℤ, Bool, true, false, List, [], to_z, of_z, w32, refl, rules, sym, ap, to_z-of_z}
 use Rattle.picture_rules.specs.Words.{Dot, middle_column}
-use Rattle.texture_build.specs.Sources.{column_in}
-use Rattle.texture_build.specs.Views.{prepared_texture}
-use Rattle.texture_build.proofs.DrawLemmas.{draws-wider}
-use Rattle.texture_build.proofs.LiveLemmas.{draws-ready}
+use Rattle.texture_build.specs.{Sources.column_in, Views.prepared_texture}
+use Rattle.texture_build.proofs.{DrawLemmas.draws-wider, LiveLemmas.draws-ready}
 use Rattle.texture_build.proofs.PaintLemmas.{paints-live, paints-none, paints-same}
 use Rattle.masked_draw.specs.Marks.{if_unmarked, mark_of}
 use Rattle.masked_draw.specs.Scenes.{scene_art, scene_drawseg}

@@ -1,5 +1,4 @@
-use Rattle.std.proofs.Common.{rules}
-use Rattle.std.proofs.lemmas.Int.{to_z-of_z}
+use Rattle.picture_rules.proofs.Common.{rules, to_z-of_z}
 use Rattle.masked_draw.specs.Lists.{saved_column}
 use Rattle.masked_draw.proofs.middles.saved_column.Goals as goal
 

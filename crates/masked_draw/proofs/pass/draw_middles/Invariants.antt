@@ -1,10 +1,8 @@
 -- The fragments from k on are done.
 use Rattle.std.proofs.Common.{length, List}
 use Rattle.picture_rules.specs.declared.sprite.SpriteEntry.{SpriteEntry}
-use Rattle.masked_draw.specs.Marks.{MarkedTo}
-use Rattle.masked_draw.specs.Scenes.{mask_hands, scene_drawseg}
-use Rattle.masked_draw.proofs.KeptLemmas.{KeepsPass}
-use Rattle.masked_draw.proofs.LoopLemmas.{LeavesMiddles}
+use Rattle.masked_draw.specs.{Marks.MarkedTo, Scenes.mask_hands, Scenes.scene_drawseg}
+use Rattle.masked_draw.proofs.{KeptLemmas.KeepsPass, LoopLemmas.LeavesMiddles}
 use Rattle.masked_draw.proofs.pass.draw_middles.Given as goal
 
 abbrev pub invariant-loop-k : goal.invariant-loop-k

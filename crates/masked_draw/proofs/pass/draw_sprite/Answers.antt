@@ -1,8 +1,6 @@
 -- A sprite without a column, and one behind which the masked columns come first.
-use Rattle.picture_rules.proofs.Common.{and_parts, ap, arith, false, int_lt, ints, leb-true, length, List, ltb-true, nat_le, nat_lt, None, Option, pos, refl, rules, subst, sym, true, w32, ℕ, ℤ, ◌+◌, ◌-◌, ◌<ℤ◌, ◌<◌, ◌^◌, ◌∙◌, ◌≡◌, ◌≤ℤ◌, ◌≤◌}
-use Rattle.std.proofs.lemmas.Int.{to_z-of_z}
-use Rattle.masked_draw.specs.Rules.{SpriteEntry, entry_has}
-use Rattle.masked_draw.specs.Clipped.{row_in}
+use Rattle.picture_rules.proofs.Common.{and_parts, ap, arith, false, int_lt, ints, leb-true, length, List, ltb-true, nat_le, nat_lt, None, Option, pos, refl, rules, subst, sym, true, w32, ℕ, ℤ, ◌+◌, ◌-◌, ◌<ℤ◌, ◌<◌, ◌^◌, ◌∙◌, ◌≡◌, ◌≤ℤ◌, ◌≤◌, to_z-of_z}
+use Rattle.masked_draw.specs.{Rules.SpriteEntry, Rules.entry_has, Clipped.row_in}
 use Rattle.masked_draw.proofs.EntryLemmas.{entry-between, entry-numbers, entry-within}
 use Rattle.masked_draw.proofs.KeptLemmas.{keeps-more, keeps-start}
 use Rattle.masked_draw.proofs.LoopLemmas.{clips-end, clips-more, clips-start, note-get, passes-end, passes-more, passes-start, passes-stop}

@@ -1,10 +1,8 @@
 -- The fragments from k on are done.
 use Rattle.picture_rules.proofs.Common.{length, List, slice_get, Some, ℕ, ◌<◌, ◌≡◌}
 use Rattle.picture_rules.specs.declared.sprite.SpriteEntry.{SpriteEntry}
-use Rattle.masked_draw.specs.Marks.{MarkedTo}
-use Rattle.masked_draw.specs.Scenes.{mask_hands, scene_drawseg}
-use Rattle.masked_draw.proofs.KeptLemmas.{KeepsPass}
-use Rattle.masked_draw.proofs.LoopLemmas.{ClipsFrom, PassesMiddles}
+use Rattle.masked_draw.specs.{Marks.MarkedTo, Scenes.mask_hands, Scenes.scene_drawseg}
+use Rattle.masked_draw.proofs.{KeptLemmas.KeepsPass, LoopLemmas.ClipsFrom, LoopLemmas.PassesMiddles}
 use Rattle.masked_draw.proofs.pass.draw_sprite.Given as goal
 
 abbrev pub invariant-loop-k : goal.invariant-loop-k

@@ -1,8 +1,7 @@
 -- The sprites that the loop came to are drawn.
 use Rattle.picture_rules.proofs.Common.{length, Ok}
 use Rattle.picture_rules.specs.Words.{draw_order, sprites_from}
-use Rattle.masked_draw.specs.Marks.{MarkedTo}
-use Rattle.masked_draw.specs.Ready.{IsNotedMiddle, IsSpriteLump}
+use Rattle.masked_draw.specs.{Marks.MarkedTo, Ready.IsNotedMiddle, Ready.IsSpriteLump}
 use Rattle.masked_draw.specs.Scenes.{PaintsDots, mask_hands, scene_drawseg, scene_drawsegs, scene_lists}
 use Rattle.masked_draw.proofs.KeptLemmas.{KeepsPass}
 use Rattle.masked_draw.proofs.pass.draw_sprites.Given as goal

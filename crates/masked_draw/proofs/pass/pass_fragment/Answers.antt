@@ -1,6 +1,5 @@
 -- A fragment that misses the sprite, one behind it, and one in front of it.
-use Rattle.picture_rules.proofs.Common.{ap, arith, Bool, false, List, max, min, on_ok_weaker, Option, pos, refl, rules, subst, sym, true, w32, ℕ, ℤ, ◌&&◌, ◌<ℤ◌, ◌^◌, ◌∙◌, ◌≡◌, ◌≤ℤ◌, ◌≤◌}
-use Rattle.std.proofs.lemmas.Int.{to_z-of_z}
+use Rattle.picture_rules.proofs.Common.{ap, arith, Bool, false, List, max, min, on_ok_weaker, Option, pos, refl, rules, subst, sym, true, w32, ℕ, ℤ, ◌&&◌, ◌<ℤ◌, ◌^◌, ◌∙◌, ◌≡◌, ◌≤ℤ◌, ◌≤◌, to_z-of_z}
 use Rattle.masked_draw.specs.Rules.{Art, Drawseg, FragmentNote, SpriteEntry, ViewValue, is_behind}
 use Rattle.texture_build.proofs.PaintLemmas.{paints-none, paints-same}
 use Rattle.masked_draw.specs.Clipped.{clips_bottom, clips_top, row_after}

@@ -1,5 +1,4 @@
-use Rattle.std.proofs.Common.{◌≤ℤ◌, pos, rules}
-use Rattle.std.proofs.lemmas.Int.{to_z-of_z}
+use Rattle.picture_rules.proofs.Common.{◌≤ℤ◌, pos, rules, to_z-of_z}
 use Rattle.picture_rules.specs.Words.{post_first}
 use Rattle.masked_draw.proofs.PostLemmas.{post_first-low}
 use Rattle.masked_draw.proofs.posts.first_row.Goals as goal

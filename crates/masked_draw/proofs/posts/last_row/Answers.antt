@@ -1,5 +1,4 @@
-use Rattle.std.proofs.Common.{◌<ℤ◌, pos, rules, arith}
-use Rattle.std.proofs.lemmas.Int.{to_z-of_z}
+use Rattle.picture_rules.proofs.Common.{◌<ℤ◌, pos, rules, arith, to_z-of_z}
 use Rattle.picture_rules.specs.Words.{post_last}
 use Rattle.masked_draw.proofs.PostLemmas.{post_last-high}
 use Rattle.masked_draw.proofs.posts.last_row.Goals as goal

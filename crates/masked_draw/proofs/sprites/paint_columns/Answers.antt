@@ -1,6 +1,5 @@
 -- One column after the other: that of the picture that is seen at each column of the view.
-use Rattle.std.proofs.Common.{w32, sym, ◌∙◌, subst, rules, arith}
-use Rattle.std.proofs.lemmas.Int.{to_z-of_z}
+use Rattle.picture_rules.proofs.Common.{w32, sym, ◌∙◌, subst, rules, arith, to_z-of_z}
 use Rattle.picture_rules.specs.Words.{picture_column}
 use Rattle.masked_draw.specs.Clipped.{HasClipsIn, clipped_masked}
 use Rattle.masked_draw.proofs.PictureLemmas.{column-own, columns-more, columns-none, same_words}

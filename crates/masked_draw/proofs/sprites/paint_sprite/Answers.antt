@@ -1,8 +1,7 @@
 -- The picture is made live, and painted by the bytes that are lent: those of the picture and of the colormap.
 use Rattle.std.proofs.Common.{refl, rules, sym}
 use Rattle.masked_draw.specs.Rules.{SPRITE, lump_bytes, lump_source}
-use Rattle.texture_build.proofs.LentLemmas.{fits-lump}
-use Rattle.texture_build.proofs.LiveLemmas.{draws-fetch}
+use Rattle.texture_build.proofs.{LentLemmas.fits-lump, LiveLemmas.draws-fetch}
 use Rattle.texture_build.proofs.PaintLemmas.{paints-live, paints-missed}
 use Rattle.texture_build.proofs.StaticLemmas.{rest_static}
 use Rattle.masked_draw.proofs.MiddleLemmas.{art-lent, lent_lump}

@@ -1,7 +1,6 @@
 use Rattle.word_rules.proofs.Common.{ap, Err, err_from_is_err_and, sym, ◌∙◌}
-use Rattle.node_walk.specs.Rules.{Child, walk_child}
+use Rattle.node_walk.specs.{Rules.Child, Rules.walk_child, Lists.part_start}
 use Rattle.level_rules.proofs.walk.WalkLemmas.{walk-leaf, walk-too_deep}
-use Rattle.node_walk.specs.Lists.{part_start}
 use Rattle.node_walk.proofs.PartLemmas.{node_front, node_near, node_both}
 use Rattle.node_walk.proofs.VisitLemmas.{walks_none, walks_same, walks_whole, walks_then, walks_stop}
 use Rattle.node_walk.proofs.nodes.+walk_child.Goals as goal

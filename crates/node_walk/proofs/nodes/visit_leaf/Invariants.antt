@@ -1,7 +1,6 @@
 use Rattle.std.proofs.Common.{◌≡◌, Ok, length}
 use Rattle.level_rules.specs.walk.Walk.{at_segs}
-use Rattle.node_walk.specs.Lists.{part_start}
-use Rattle.node_walk.specs.Visits.{Walks}
+use Rattle.node_walk.specs.{Lists.part_start, Visits.Walks}
 use Rattle.node_walk.proofs.nodes.visit_leaf.Given as goal
 
 abbrev pub invariant-loop-k : goal.invariant-loop-k

@@ -1,7 +1,5 @@
 use Rattle.level_rules.specs.walk.Walk.{view_events}
-use Rattle.node_walk.proofs.DepthLemmas.{deeper_root}
-use Rattle.node_walk.proofs.PartLemmas.{root_part}
-use Rattle.node_walk.proofs.VisitLemmas.{walks_same}
+use Rattle.node_walk.proofs.{DepthLemmas.deeper_root, PartLemmas.root_part, VisitLemmas.walks_same}
 use Rattle.node_walk.proofs.nodes.walk.Goals as goal
 
 pub returns-clause-visits : goal.returns-clause-visits

@@ -1,6 +1,5 @@
 use Rattle.std.proofs.Common.{◌≡◌, ◌++◌, map, Ok}
-use Rattle.node_walk.specs.Rules.{FragmentEvent, fragments}
-use Rattle.node_walk.specs.Visits.{Visits}
+use Rattle.node_walk.specs.{Rules.FragmentEvent, Rules.fragments, Visits.Visits}
 use Rattle.node_walk.proofs.segs.show.Given as goal
 
 abbrev pub invariant-loop-p : goal.invariant-loop-p

@@ -1,5 +1,4 @@
-use Rattle.std.proofs.Common.{rules}
-use Rattle.std.proofs.lemmas.Int.{to_z-of_z}
+use Rattle.art_rules.proofs.Common.{rules, to_z-of_z}
 use Rattle.patch_columns.specs.Composites.{posts_in}
 use Rattle.patch_columns.proofs.ColumnLemmas.{with_posts-none}
 use Rattle.patch_columns.proofs.compose.put_in_column.Goals as goal

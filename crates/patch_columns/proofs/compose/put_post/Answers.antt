@@ -1,5 +1,4 @@
-use Rattle.std.proofs.Common.{◌≡◌, ◌+◌, ◌<◌, rules, length, arith, ◌∙◌, length-set}
-use Rattle.std.proofs.lemmas.Int.{to_z-of_z}
+use Rattle.art_rules.proofs.Common.{◌≡◌, ◌+◌, ◌<◌, rules, length, arith, ◌∙◌, length-set, to_z-of_z}
 use Rattle.art_rules.specs.Words.{first_row, put_count}
 use Rattle.patch_columns.proofs.RowLemmas.{put_count-room, put_count-bytes, row_so_far-none, row_so_far-more, row_so_far-all}
 use Rattle.patch_columns.proofs.compose.put_post.Goals as goal

@@ -1,5 +1,4 @@
-use Rattle.std.proofs.Common.{◌≡◌, ◌+ℤ◌, pos, to_z, of_z, w16, w32, rules, sym, ◌∙◌, arith}
-use Rattle.std.proofs.lemmas.Int.{to_z-of_z}
+use Rattle.art_rules.proofs.Common.{◌≡◌, ◌+ℤ◌, pos, to_z, of_z, w16, w32, rules, sym, ◌∙◌, arith, to_z-of_z}
 use Rattle.patch_columns.proofs.PutLemmas.{post_at-lies, put_all, put_one, put_last}
 use Rattle.patch_columns.proofs.compose.put_posts.Goals as goal
 

@@ -1,5 +1,4 @@
-use Rattle.art_rules.proofs.Common.{arith, ints}
-use Rattle.std.proofs.lemmas.Int.{to_z-of_z}
+use Rattle.art_rules.proofs.Common.{arith, ints, to_z-of_z}
 use Rattle.patch_columns.proofs.SeenLemmas.{own_column-first, own_column-last}
 use Rattle.patch_columns.proofs.lookups.own_column.Goals as goal
 

@@ -1,7 +1,6 @@
 use Rattle.std.proofs.Common.{ℕ, rules}
 use Rattle.pixel_strips.specs.Strips.{column_strip_dots}
-use Rattle.pixel_strips.proofs.CanvasLemmas.{recoloured}
-use Rattle.pixel_strips.proofs.CutLemmas.{cut_strip_words}
+use Rattle.pixel_strips.proofs.{CanvasLemmas.recoloured, CutLemmas.cut_strip_words}
 use Rattle.pixel_strips.proofs.column.paint_column.Goals as goal
 
 pub returns-in-Some-shades_of : goal.returns-in-Some-shades_of

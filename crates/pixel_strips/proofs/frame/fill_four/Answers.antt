@@ -1,7 +1,6 @@
 use Rattle.word_rules.proofs.Common.{arith, refl, ◌+◌}
 use Rattle.word_rules.specs.Steps.{step_at}
-use Rattle.pixel_strips.proofs.FillLemmas.{fills_four}
-use Rattle.pixel_strips.proofs.PlaceLemmas.{texel_place_later}
+use Rattle.pixel_strips.proofs.{FillLemmas.fills_four, PlaceLemmas.texel_place_later}
 use Rattle.pixel_strips.proofs.frame.fill_four.Goals as goal
 
 pub returns : goal.returns

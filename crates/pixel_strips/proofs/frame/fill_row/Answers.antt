@@ -1,6 +1,5 @@
 use Rattle.std.proofs.Common.{ℕ, ◌+◌, ◌*◌, List, ap, ap₂, ◌∙◌, arith, slice_index, slice_set}
-use Rattle.pixel_strips.specs.Rules.{FRAME_WIDTH, step_at}
-use Rattle.pixel_strips.specs.Strips.{cut_colour}
+use Rattle.pixel_strips.specs.{Rules.FRAME_WIDTH, Rules.step_at, Strips.cut_colour}
 use Rattle.pixel_strips.proofs.FillLemmas.{fill_cells-on}
 use Rattle.pixel_strips.proofs.frame.fill_row.Goals as goal
 

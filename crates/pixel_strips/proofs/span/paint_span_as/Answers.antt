@@ -1,7 +1,6 @@
 use Rattle.std.proofs.Common.{ℕ, rules}
 use Rattle.pixel_rules.specs.Strips.{span_dots}
-use Rattle.pixel_strips.proofs.CanvasLemmas.{recoloured}
-use Rattle.pixel_strips.proofs.CutLemmas.{cut_row_words}
+use Rattle.pixel_strips.proofs.{CanvasLemmas.recoloured, CutLemmas.cut_row_words}
 use Rattle.pixel_strips.proofs.span.paint_span_as.Goals as goal
 
 pub returns-in-Some-shades_of : goal.returns-in-Some-shades_of

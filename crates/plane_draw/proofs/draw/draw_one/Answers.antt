@@ -1,8 +1,7 @@
 -- A plane without a run has no dots.
 use Rattle.visplanes.specs.Planes.{plane_at}
 use Rattle.plane_draw.specs.Scenes.{plane_art}
-use Rattle.plane_draw.proofs.CanLemmas.{marked-some}
-use Rattle.plane_draw.proofs.PlaneLemmas.{plane-empty}
+use Rattle.plane_draw.proofs.{CanLemmas.marked-some, PlaneLemmas.plane-empty}
 use Rattle.texture_build.proofs.PaintLemmas.{paints-none, paints-same}
 use Rattle.plane_draw.proofs.draw.draw_one.Goals as goal
 

@@ -1,7 +1,6 @@
 -- The flat is made live, and then painted.
 use Rattle.std.proofs.Common.{ap}
-use Rattle.texture_build.proofs.DrawLemmas.{draws-wider}
-use Rattle.texture_build.proofs.LiveLemmas.{draws-fetch}
+use Rattle.texture_build.proofs.{DrawLemmas.draws-wider, LiveLemmas.draws-fetch}
 use Rattle.plane_draw.specs.Planes.{IsSkyColumn}
 use Rattle.plane_draw.proofs.CanLemmas.{flat-among, flat-there}
 use Rattle.texture_build.proofs.PaintLemmas.{paints-live, paints-missed}

@@ -1,11 +1,9 @@
 -- The bytes that are lent are those of the flat and of the colormap.
 use Rattle.picture_rules.proofs.Common.{some-same, sym}
-use Rattle.plane_draw.specs.Rules.{PLANE, lump_bytes, lump_source}
-use Rattle.texture_build.proofs.FetchLemmas.{live_faithful}
-use Rattle.texture_build.proofs.StaticLemmas.{rest_static}
+use Rattle.plane_draw.specs.{Rules.PLANE, Rules.lump_bytes, Rules.lump_source, Scenes.plane_art}
+use Rattle.texture_build.proofs.{FetchLemmas.live_faithful, StaticLemmas.rest_static}
 use Rattle.visplanes.specs.Planes.{plane_at}
 use Rattle.texture_build.proofs.LentLemmas.{colormap_lent, fits-lump}
-use Rattle.plane_draw.specs.Scenes.{plane_art}
 use Rattle.plane_draw.proofs.CanLemmas.{floor-key}
 use Rattle.plane_draw.proofs.FlatLemmas.{floor-painted, floor-placed}
 use Rattle.plane_draw.proofs.PlaneLemmas.{fit-floor}

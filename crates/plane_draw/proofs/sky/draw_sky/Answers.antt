@@ -3,8 +3,7 @@ use Rattle.std.proofs.Common.{◌≡◌, ◌<◌, ◌≤◌, ℕ, None, refl, ap
 use Rattle.picture_rules.specs.Words.{column, ViewShape}
 use Rattle.visplanes.specs.Planes.{plane_at}
 use Rattle.plane_draw.specs.Scenes.{plane_art}
-use Rattle.plane_draw.proofs.CanLemmas.{sky-number}
-use Rattle.plane_draw.proofs.KeptLemmas.{keeps-more, keeps-start}
+use Rattle.plane_draw.proofs.{CanLemmas.sky-number, KeptLemmas.keeps-more, KeptLemmas.keeps-start}
 use Rattle.plane_draw.proofs.PlaneLemmas.{columns-end, columns-more, columns-past, columns-start}
 use Rattle.texture_build.proofs.PaintLemmas.{paints-same, paints-then_stop}
 use Rattle.plane_draw.proofs.sky.draw_sky.Goals as goal

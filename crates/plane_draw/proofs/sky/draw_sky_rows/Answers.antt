@@ -1,12 +1,8 @@
 -- The run is a strip of the sky's texture.
-use Rattle.picture_rules.proofs.Common.{ap, arith, nat_tests, rules, w32, ◌<◌, ◌∙◌, ◌≤◌}
-use Rattle.std.proofs.lemmas.Int.{to_z-of_z}
-use Rattle.plane_draw.specs.Rules.{ViewShape}
+use Rattle.picture_rules.proofs.Common.{ap, arith, nat_tests, rules, w32, ◌<◌, ◌∙◌, ◌≤◌, to_z-of_z}
+use Rattle.plane_draw.specs.{Rules.ViewShape, Scenes.plane_art}
 use Rattle.texture_build.proofs.PaintLemmas.{paints-none, paints-same}
-use Rattle.plane_draw.specs.Scenes.{plane_art}
-use Rattle.plane_draw.proofs.CanLemmas.{sky-can}
-use Rattle.plane_draw.proofs.PlaneLemmas.{sky-none}
-use Rattle.plane_draw.proofs.SkyLemmas.{sky-painted}
+use Rattle.plane_draw.proofs.{CanLemmas.sky-can, PlaneLemmas.sky-none, SkyLemmas.sky-painted}
 use Rattle.plane_draw.proofs.sky.draw_sky_rows.Goals as goal
 
 pub returns-then-rows-clause-paints : goal.returns-then-rows-clause-paints

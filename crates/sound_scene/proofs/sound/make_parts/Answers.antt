@@ -1,6 +1,5 @@
 use Rattle.std.proofs.Common.{◌∙◌}
-use Rattle.sound_scene.specs.Scenes.{scene_value}
-use Rattle.sound_scene.specs.Views.{lump_numbers}
+use Rattle.sound_scene.specs.{Scenes.scene_value, Views.lump_numbers}
 use Rattle.sound_scene.proofs.PictureLemmas.{needed_alone, sizes_alone}
 use Rattle.sound_scene.proofs.sound.make_parts.Goals as goal
 

@@ -1,7 +1,6 @@
 use Rattle.std.proofs.Common.{◌≡◌, take, map, Ok}
 use Rattle.art_rules.specs.Words.{each_of, first_needs, frame_of, outline, outline_of}
-use Rattle.sprite_book.specs.Calls.{Reads, IsWanted}
-use Rattle.sprite_book.specs.Indexes.{IsPlaceOf}
+use Rattle.sprite_book.specs.{Calls.Reads, Calls.IsWanted, Indexes.IsPlaceOf}
 use Rattle.sprite_book.proofs.needs.read_frames.Given as goal
 
 abbrev pub invariant-loop-need : goal.invariant-loop-need

@@ -1,7 +1,6 @@
 use Rattle.art_rules.proofs.Common.{[], ap, false≢true, inl, MatchResult, refl, replicate, Result, Some, ℕ, ◌∙◌, ◌∷◌}
-use Rattle.lump_cache.specs.Zones.{owned_block}
+use Rattle.lump_cache.specs.{Zones.owned_block, Caches.composite_owner}
 use Rattle.zone_rules.proofs.OrderLemmas.{order_then}
-use Rattle.lump_cache.specs.Caches.{composite_owner}
 use Rattle.lump_cache.proofs.RestButLemmas.{rest_but_none}
 use Rattle.lump_cache.proofs.TakeLemmas.{take_block, take_faithful, take_order, take_others, take_gap, take_rest, take_rest_except}
 use Rattle.texture_build.specs.Builds.{StartsComposite, FailsToBegin}

@@ -1,12 +1,9 @@
 use Rattle.art_rules.proofs.Common.{[], ap, Err, err_from_is_err_and, inl, inr, refl, subst, ℕ, ◌∙◌, ◌≡◌}
 use Rattle.art_rules.proofs.Laws.{follows_none}
 use Rattle.art_rules.specs.Words.{lump_bytes}
-use Rattle.lump_cache.specs.Zones.{owned_block}
-use Rattle.lump_cache.specs.declared.fault.CacheFault.TheVariants.{ZoneFull}
-use Rattle.lump_cache.specs.Caches.{composite_owner}
-use Rattle.lump_cache.proofs.FillLemmas.{on_err}
-use Rattle.lump_cache.proofs.RestButLemmas.{rest_of_none}
-use Rattle.lump_cache.specs.Calls.{HoldContents}
+use Rattle.lump_cache.specs.{Zones.owned_block, declared.fault.CacheFault.TheVariants.ZoneFull}
+use Rattle.lump_cache.specs.{Caches.composite_owner, Calls.HoldContents}
+use Rattle.lump_cache.proofs.{FillLemmas.on_err, RestButLemmas.rest_of_none}
 use Rattle.texture_build.specs.Asked.{size_of}
 use Rattle.texture_build.specs.Builds.{StartsComposite, FailsToBegin, OthersKeep}
 use Rattle.texture_build.specs.Composites.{composite_of}

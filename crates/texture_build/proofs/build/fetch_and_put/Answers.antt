@@ -3,8 +3,7 @@ use Rattle.art_rules.specs.Words.{lump_bytes}
 use Rattle.lump_cache.specs.Orders.{KeepsOrder}
 use Rattle.zone_rules.proofs.OrderLemmas.{order_then}
 use Rattle.lump_cache.specs.Caches.{IsUnpinned, composite_owner, lump_owner}
-use Rattle.lump_cache.proofs.FaithLemmas.{bytes_in}
-use Rattle.lump_cache.proofs.RestButLemmas.{rest_but_fewer}
+use Rattle.lump_cache.proofs.{FaithLemmas.bytes_in, RestButLemmas.rest_but_fewer}
 use Rattle.lump_cache.proofs.FetchLemmas.{fetch_gap_except, fetch_no_room, fetch_rest_except, live_faithful, order_of_answer}
 use Rattle.lump_cache.proofs.ReleaseLemmas.{release_faithful, release_order, release_others, release_rest_except}
 use Rattle.texture_build.specs.Builds.{PutsPatches}

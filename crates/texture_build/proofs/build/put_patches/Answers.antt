@@ -1,7 +1,6 @@
 use Rattle.art_rules.proofs.Common.{ap, get_or, length, List, pos, slice_get-get_or, Some, subst, sym, ◌+◌, ◌<◌, ◌∙◌}
 use Rattle.art_rules.specs.declared.PlacedPatch.{PlacedPatch}
-use Rattle.texture_build.specs.Builds.{PutsPatches}
-use Rattle.texture_build.specs.Asked.{size_of}
+use Rattle.texture_build.specs.{Builds.PutsPatches, Asked.size_of}
 use Rattle.texture_build.proofs.BuildLemmas.{same_error, puts_then, puts_stop}
 use Rattle.texture_build.proofs.build.put_patches.Given.{Over}
 use Rattle.texture_build.proofs.build.put_patches.Goals as goal

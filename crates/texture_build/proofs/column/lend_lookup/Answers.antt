@@ -1,6 +1,5 @@
 use Rattle.art_rules.proofs.Common.{false, IfSome, length, List, None, Option, option_copied, option_map, Some, ℕ, ◌+◌, ◌≡◌, ◌≤◌}
-use Rattle.lump_cache.specs.Zones.{block_size, same_owner}
-use Rattle.lump_cache.specs.Caches.{lump_owner}
+use Rattle.lump_cache.specs.{Zones.block_size, Zones.same_owner, Caches.lump_owner}
 use Rattle.lump_cache.proofs.StaticLemmas.{rest_static}
 use Rattle.texture_build.specs.Rules.{ColumnLookup, Single}
 use Rattle.texture_build.specs.Sources.{ColumnView, IsLentBeside, column_from}

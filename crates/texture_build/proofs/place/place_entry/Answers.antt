@@ -1,7 +1,6 @@
-use Rattle.texture_build.specs.Rules.{MissingPatch, itself}
+use Rattle.texture_build.specs.{Rules.MissingPatch, Rules.itself, Asked.patch_lump}
 use Rattle.art_rules.proofs.Common.{ap, option_map, Some, sym, ◌∙◌, ◌≡◌}
 use Rattle.lump_cache.proofs.CallLemmas.{reads_refused, reads_wider}
-use Rattle.texture_build.specs.Asked.{patch_lump}
 use Rattle.texture_build.specs.Parts.{or_missing, step_of}
 use Rattle.texture_build.proofs.PlaceLemmas.{entry_lump, entry_missing, entry_none, entry_placed}
 use Rattle.texture_build.proofs.place.place_entry.Goals as goal

@@ -1,7 +1,6 @@
 use Rattle.art_rules.proofs.Common.{ap, arith, false, get_or, length, ◌||◌, ◌∙◌}
 use Rattle.texture_build.specs.Views.{is_marked, is_wanted}
-use Rattle.texture_build.proofs.MarkLemmas.{same_front}
-use Rattle.texture_build.proofs.PrepareLemmas.{marks_tell}
+use Rattle.texture_build.proofs.{MarkLemmas.same_front, PrepareLemmas.marks_tell}
 use Rattle.texture_build.proofs.prepare.mark_wanted.Goals as goal
 
 pub returns-clause-marked : goal.returns-clause-marked

@@ -1,7 +1,6 @@
 use Rattle.std.proofs.Common.{sym, subst}
 use Rattle.art_rules.specs.declared.ColumnLookup.{ColumnLookup}
-use Rattle.texture_build.specs.Ready.{MakesColumnLive}
-use Rattle.texture_build.specs.Sources.{IsColumnThere}
+use Rattle.texture_build.specs.{Ready.MakesColumnLive, Sources.IsColumnThere}
 use Rattle.texture_build.proofs.ReadyLemmas.{readies_single}
 use Rattle.texture_build.proofs.ready.make_ready_at.Goals as goal
 

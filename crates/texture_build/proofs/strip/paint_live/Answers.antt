@@ -1,9 +1,7 @@
 -- The bytes that are lent are those of the strip's column and of the colormap.
-use Rattle.art_rules.proofs.Common.{ap, of_z, rules, some-same, sym, to_z, w32, ◌+◌, ◌∙◌, ◌≡◌}
-use Rattle.std.proofs.lemmas.Int.{to_z-of_z}
+use Rattle.art_rules.proofs.Common.{ap, of_z, rules, some-same, sym, to_z, w32, ◌+◌, ◌∙◌, ◌≡◌, to_z-of_z}
 use Rattle.texture_build.specs.Rules.{byte_at, lump_bytes, row_fraction}
-use Rattle.texture_build.specs.Sources.{ColumnView}
-use Rattle.texture_build.specs.Strips.{art_tools}
+use Rattle.texture_build.specs.{Sources.ColumnView, Strips.art_tools}
 use Rattle.texture_build.proofs.ColumnLemmas.{single_slot}
 use Rattle.texture_build.proofs.LentLemmas.{colormap_lent, fits-column}
 use Rattle.texture_build.proofs.StripLemmas.{texture-fits, texture-painted}

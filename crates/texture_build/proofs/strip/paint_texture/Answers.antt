@@ -1,8 +1,6 @@
 -- The column is made live, and then the strip is painted.
-use Rattle.art_rules.proofs.Common.{ap, rules, w32, ◌∙◌}
-use Rattle.std.proofs.lemmas.Int.{to_z-of_z}
-use Rattle.texture_build.specs.Sources.{column_in}
-use Rattle.texture_build.specs.Views.{prepared_texture}
+use Rattle.art_rules.proofs.Common.{ap, rules, w32, ◌∙◌, to_z-of_z}
+use Rattle.texture_build.specs.{Sources.column_in, Views.prepared_texture}
 use Rattle.texture_build.proofs.LiveLemmas.{draws-ready}
 use Rattle.texture_build.proofs.PaintLemmas.{can_draw-counts, paints-live}
 use Rattle.texture_build.proofs.strip.paint_texture.Goals as goal

@@ -4,8 +4,7 @@ use Rattle.lump_cache.proofs.CallLemmas.{reads_stop_first, reads_then}
 use Rattle.lump_cache.proofs.SizeLemmas.{either_beside}
 use Rattle.texture_lists.specs.Parts.{joined_parts}
 use Rattle.texture_lists.proofs.PartLemmas.{both_lists-stop, both_lists-more, then_second}
-use Rattle.texture_lists.proofs.JudgeLemmas.{tells_end}
-use Rattle.texture_lists.proofs.BesideLemmas.{on_ok}
+use Rattle.texture_lists.proofs.{JudgeLemmas.tells_end, BesideLemmas.on_ok}
 use Rattle.texture_lists.proofs.load.load_both.Goals as goal
 
 pub returns-in_err-first-clause-tells : goal.returns-in_err-first-clause-tells

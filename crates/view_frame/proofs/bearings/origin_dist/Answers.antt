@@ -1,5 +1,4 @@
-use Rattle.std.proofs.Common.{rules}
-use Rattle.std.proofs.lemmas.Int.{to_z-of_z}
+use Rattle.word_rules.proofs.Common.{rules, to_z-of_z}
 use Rattle.view_frame.proofs.BearingLemmas.{lesser_word-low, lesser_word-greater_word}
 use Rattle.view_frame.proofs.bearings.origin_dist.Goals as goal
 

@@ -1,5 +1,4 @@
-use Rattle.word_rules.proofs.Common.{rules, unsigned_abs, ◌≡◌}
-use Rattle.std.proofs.lemmas.Int.{to_z-of_z}
+use Rattle.word_rules.proofs.Common.{rules, unsigned_abs, ◌≡◌, to_z-of_z}
 use Rattle.word_rules.specs.Words.{div, shr_word}
 use Rattle.view_rules.specs.declared.TheConstants.{SLOPE_BITS}
 use Rattle.view_frame.proofs.BearingLemmas.{slope_steps-bound}

@@ -1,5 +1,4 @@
-use Rattle.std.proofs.Common.{rules}
-use Rattle.std.proofs.lemmas.Int.{to_z-of_z}
+use Rattle.word_rules.proofs.Common.{rules, to_z-of_z}
 use Rattle.view_rules.specs.Sides.{side_of}
 use Rattle.view_frame.proofs.sides.side_of.Goals as goal
 

@@ -1,8 +1,7 @@
 use Rattle.picture_rules.proofs.Common.{ap, arith, both_ways, cases_Bool, false, false_from_ne_true, inl, inr, length, refl, rules, slice_index, subst, sym, true, ℕ, ◌+◌, ◌<◌, ◌∙◌, ◌≡◌, ◌≤◌}
 use Rattle.picture_rules.specs.Words.{column, FRAME_WIDTH, holds, Plane, span_start}
 use Rattle.pixel_strips.specs.Canvases.{CanvasView}
-use Rattle.visplanes.specs.declared.rows.Rows.{Rows}
-use Rattle.visplanes.specs.Spans.{rows_of, is_in, CanPaint}
+use Rattle.visplanes.specs.{declared.rows.Rows.Rows, Spans.rows_of, Spans.is_in, Spans.CanPaint}
 use Rattle.visplanes.proofs.RowLemmas.{is_in-from, is_in-none, is_in-rows_of}
 use Rattle.visplanes.proofs.DrawLemmas.{held_before-more, held_before-nowhere, start-kept, start-fresh, can_paint, IsPassing, spans_none, spans_more, spans_all}
 use Rattle.visplanes.proofs.draw.draw_columns.Goals as goal

@@ -1,8 +1,7 @@
 use Rattle.std.proofs.Common.{◌≡◌, ap, ◌∙◌, refl, subst}
 use Rattle.visplanes.specs.Rules.{FRAME_WIDTH, PLANE, Painter, Plane, PlaneKey, lump_source, painter_of}
 use Rattle.pixel_strips.specs.Canvases.{CanvasView, with_painter}
-use Rattle.visplanes.specs.Planes.{plane_at, flat_lump}
-use Rattle.visplanes.specs.Spans.{FloorView, HasSpans}
+use Rattle.visplanes.specs.{Planes.plane_at, Planes.flat_lump, Spans.FloorView, Spans.HasSpans}
 use Rattle.visplanes.proofs.FlatLemmas.{spans-plane}
 use Rattle.visplanes.proofs.draw.draw_plane.Goals as goal
 

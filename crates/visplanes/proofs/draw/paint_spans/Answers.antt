@@ -1,10 +1,9 @@
 use Rattle.picture_rules.proofs.Common.{ap, arith, List, slice_index, sym, ℕ, ◌+◌, ◌-◌, ◌∙◌}
 use Rattle.picture_rules.specs.Words.{Dot}
 use Rattle.pixel_strips.specs.Canvases.{CanvasView, with_dots}
-use Rattle.pixel_strips.proofs.CanvasLemmas.{dots_none}
+use Rattle.pixel_strips.proofs.{CanvasLemmas.dots_none, CanvasLemmas.with_dots-append}
 use Rattle.visplanes.specs.Spans.{closed_rows, row_dots}
 use Rattle.visplanes.proofs.DotLemmas.{closed_rows-none, closed_rows-more}
-use Rattle.pixel_strips.proofs.CanvasLemmas.{with_dots-append}
 use Rattle.visplanes.proofs.draw.paint_spans.Goals as goal
 
 pub loop-y-init : goal.loop-y-init

@@ -1,5 +1,4 @@
-use Rattle.std.proofs.Common.{rules, pos, ◌≤ℤ◌, subst}
-use Rattle.std.proofs.lemmas.Int.{to_z-of_z}
+use Rattle.picture_rules.proofs.Common.{rules, pos, ◌≤ℤ◌, subst, to_z-of_z}
 use Rattle.picture_rules.specs.Words.{IsWithinFrame, ViewShape}
 use Rattle.vissprites.proofs.EntryLemmas.{entry_of-parts, project-scale}
 use Rattle.vissprites.proofs.entries.entry_of.Goals as goal

@@ -1,6 +1,5 @@
 use Rattle.std.proofs.Common.{◌≡◌, ◌<◌, ◌≤◌, List, length, vec_len, rules, ap, sym, subst, ◌∙◌, arith}
-use Rattle.vissprites.specs.Rules.{MAX_VISSPRITES, SpriteEntry}
-use Rattle.vissprites.specs.Kept.{made_order, IsKept}
+use Rattle.vissprites.specs.{Rules.MAX_VISSPRITES, Rules.SpriteEntry, Kept.made_order, Kept.IsKept}
 use Rattle.vissprites.proofs.KeptLemmas.{insert_last-kept, with_entry-room, with_entry-full}
 use Rattle.vissprites.proofs.sprites.keep.Goals as goal
 

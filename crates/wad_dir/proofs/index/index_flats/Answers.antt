@@ -1,6 +1,5 @@
 use Rattle.std.proofs.Common.{◌∙◌}
-use Rattle.wad_dir.proofs.IndexLemmas.{indexed_alike}
-use Rattle.wad_dir.proofs.MemberLemmas.{flats_marked}
+use Rattle.wad_dir.proofs.{IndexLemmas.indexed_alike, MemberLemmas.flats_marked}
 use Rattle.wad_dir.proofs.index.index_flats.Goals as goal
 
 pub returns : goal.returns

@@ -1,6 +1,5 @@
 use Rattle.word_rules.proofs.Common.{false, get_or, List, ℕ, ◌&&◌, ◌≡◌}
-use Rattle.wad_dir.specs.Rules.{greatest, has_name}
-use Rattle.wad_dir.specs.Indexes.{indexed}
+use Rattle.wad_dir.specs.{Rules.greatest, Rules.has_name, Indexes.indexed}
 use Rattle.wad_dir.proofs.index.index_of.Given as goal
 
 abbrev pub invariant-loop-i : goal.invariant-loop-i

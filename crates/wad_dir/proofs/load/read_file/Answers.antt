@@ -1,8 +1,7 @@
 use Rattle.std.proofs.Common.{arith, ap, ◌≡◌, length, sym}
 use Rattle.wad_dir.specs.Rules.{Header, header, header_in, header_refusal}
 use Rattle.lump_rules.proofs.WadLemmas.{unless_refused_ok}
-use Rattle.wad_dir.proofs.AnswerLemmas.{part_failed}
-use Rattle.wad_dir.proofs.FileLemmas.{file_answers}
+use Rattle.wad_dir.proofs.{AnswerLemmas.part_failed, FileLemmas.file_answers}
 use Rattle.wad_dir.proofs.load.read_file.Goals as goal
 
 pub returns-in_err-entries-clause-answers : goal.returns-in_err-entries-clause-answers

@@ -2,8 +2,7 @@ use Rattle.std.proofs.Common.{length, ap, ◌∙◌, arith}
 use Rattle.wad_trim.specs.Rules.{MAX_LUMPS, called_lumps}
 use Rattle.trim_rules.proofs.ThereLemmas.{called-there}
 use Rattle.sound_scene.specs.Views.{lump_numbers}
-use Rattle.wad_trim.proofs.CalledLemmas.{called-is}
-use Rattle.wad_trim.proofs.ListLemmas.{all-numbers}
+use Rattle.wad_trim.proofs.{CalledLemmas.called-is, ListLemmas.all-numbers}
 use Rattle.wad_trim.proofs.parts.called_lumps.Goals as goal
 
 pub returns-clause-lumps : goal.returns-clause-lumps

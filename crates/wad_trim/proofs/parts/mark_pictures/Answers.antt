@@ -1,8 +1,7 @@
 use Rattle.art_rules.proofs.Common.{list_any, ◌==◌}
 use Rattle.art_rules.specs.Words.{book_lumps}
 use Rattle.sound_scene.specs.Views.{lump_numbers}
-use Rattle.sound_scene.proofs.MarkLemmas.{adds_same}
-use Rattle.sound_scene.proofs.PictureLemmas.{any_same}
+use Rattle.sound_scene.proofs.{MarkLemmas.adds_same, PictureLemmas.any_same}
 use Rattle.wad_trim.proofs.parts.mark_pictures.Goals as goal
 
 pub returns-clause-marked : goal.returns-clause-marked

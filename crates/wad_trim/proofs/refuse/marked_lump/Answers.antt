@@ -1,6 +1,5 @@
 use Rattle.art_rules.proofs.Common.{[], ap, arith, Option, option_map, sym, take, ℕ, ◌∙◌, ◌∷◌}
-use Rattle.wad_trim.specs.Rules.{LumpNo, TrimPart, marked_lump}
-use Rattle.wad_trim.specs.Lessers.{lesser}
+use Rattle.wad_trim.specs.{Rules.LumpNo, Rules.TrimPart, Rules.marked_lump, Lessers.lesser}
 use Rattle.wad_trim.proofs.MarkedLemmas.{marked-more, marked-none}
 use Rattle.wad_trim.proofs.refuse.marked_lump.Goals as goal
 

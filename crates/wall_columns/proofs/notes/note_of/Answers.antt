@@ -1,6 +1,5 @@
 -- A note is made of its parts.
-use Rattle.picture_rules.proofs.Common.{ap, arith, ints, refl, rules, sym, to_z, w32, ◌+◌, ◌-◌, ◌∙◌, ◌≡◌}
-use Rattle.std.proofs.lemmas.Int.{to_z-of_z}
+use Rattle.picture_rules.proofs.Common.{ap, arith, ints, refl, rules, sym, to_z, w32, ◌+◌, ◌-◌, ◌∙◌, ◌≡◌, to_z-of_z}
 use Rattle.wall_columns.specs.Rules.{FragmentNumbers, fragment_numbers, minus_one, silhouette_of}
 use Rattle.wall_edges.specs.Fragments.{FragmentValue}
 use Rattle.wall_columns.specs.Places.{places_of}

@@ -1,6 +1,5 @@
 -- A texture column more is written.
-use Rattle.picture_rules.proofs.Common.{arith, length-set, refl, rules, ◌∙◌}
-use Rattle.std.proofs.lemmas.Int.{to_z-of_z}
+use Rattle.picture_rules.proofs.Common.{arith, length-set, refl, rules, ◌∙◌, to_z-of_z}
 use Rattle.wall_columns.specs.Rules.{listed_from, texture_column}
 use Rattle.wall_columns.proofs.SavedLemmas.{columns-none, columns-more, columns-all}
 use Rattle.wall_columns.proofs.openings.put_columns.Goals as goal

@@ -1,11 +1,9 @@
 -- The rows of a part are a strip of its texture.
 use Rattle.picture_rules.proofs.Common.{arith, int_lt, ints, pos, subst, sym, true, ℕ, ℤ, ◌+◌, ◌<ℤ◌, ◌<◌, ◌≡◌, ◌≤ℤ◌, ◌≤◌}
-use Rattle.wall_columns.specs.Rules.{FRAME_HEIGHT, FRAME_WIDTH}
-use Rattle.texture_build.specs.Draws.{CanDraw}
-use Rattle.texture_build.specs.Paints.{painted_art}
+use Rattle.wall_columns.specs.{Rules.FRAME_HEIGHT, Rules.FRAME_WIDTH, Faults.from_cache_fault}
+use Rattle.texture_build.specs.{Draws.CanDraw, Paints.painted_art}
 use Rattle.texture_build.proofs.DrawLemmas.{mapped-err, mapped-ok}
 use Rattle.texture_build.proofs.PaintLemmas.{paints-none, paints-same}
-use Rattle.wall_columns.specs.Faults.{from_cache_fault}
 use Rattle.wall_columns.specs.Tools.{wall_state, wall_tools}
 use Rattle.wall_columns.proofs.PaintedLemmas.{part-painted, strips-empty}
 use Rattle.wall_columns.proofs.paint.paint_part.Goals as goal

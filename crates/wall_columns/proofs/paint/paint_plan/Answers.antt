@@ -1,12 +1,10 @@
 -- No strip has rows, or the first is painted, and the lower wall below an upper one.
 use Rattle.std.proofs.Common.{◌≡◌, ◌<◌, ℕ, ℤ, ◌∷◌, [], length, true, false, refl, sym, subst, ◌∙◌, inr, rules}
 use Rattle.wall_columns.specs.Rules.{FragmentNumbers, WallStrip, texture_column}
-use Rattle.texture_build.specs.Draws.{CanDraw}
-use Rattle.texture_build.specs.Paints.{painted_art}
+use Rattle.texture_build.specs.{Draws.CanDraw, Paints.painted_art}
 use Rattle.texture_build.proofs.PaintLemmas.{can_draw-later, paints-asked, paints-none, paints-same, paints-stop, paints-then, paints-wider}
 use Rattle.wall_edges.specs.Fragments.{fragment_of}
-use Rattle.wall_columns.specs.declared.clips.ColumnPlan.{ColumnPlan}
-use Rattle.wall_columns.specs.Drawn.{WallRange}
+use Rattle.wall_columns.specs.{declared.clips.ColumnPlan.ColumnPlan, Drawn.WallRange}
 use Rattle.wall_columns.specs.Painted.{PaintsStrips, strip_with}
 use Rattle.wall_columns.specs.Plans.{HasRows, IsInRows, IsPlanTexture, bottom_strip}
 use Rattle.wall_columns.specs.Tools.{wall_state, wall_tools}

@@ -1,5 +1,4 @@
-use Rattle.std.proofs.Common.{arith, ◌≡◌, ◌≤◌, ◌+◌, ◌-◌, ◌++◌, ◌∙◌, ap, ap₂, sym, length, take, drop, List, ℕ}
-use Rattle.std.proofs.lemmas.List.{take-append-drop, append_assoc, length-append, length-take, length-drop}
+use Rattle.zone_rules.proofs.Common.{arith, ◌≡◌, ◌≤◌, ◌+◌, ◌-◌, ◌++◌, ◌∙◌, ap, ap₂, sym, length, take, drop, List, ℕ, take-append-drop, append_assoc, length-append, length-take, length-drop}
 use Rattle.zone_heap.specs.Headers.{FREE_OWNER, with_word, with_use}
 use Rattle.zone_heap.proofs.WordLemmas.{written_within, used_within, length-with_word, length-with_use}
 use Rattle.zone_heap.specs.Rules.{HEADER_SIZE}

@@ -1,6 +1,4 @@
-use Rattle.std.proofs.Common.{arith, rules, ◌≡◌, ◌<◌, ◌≤◌, ◌+◌, ◌-◌, ◌++◌, ◌∷◌, [], ◌&&◌, ◌∙◌, ap, ap₂, sym, subst, refl, length, drop, true, false, ℕ, List}
-use Rattle.std.proofs.lemmas.Bool.{and_parts}
-use Rattle.std.proofs.lemmas.List.{append_assoc, length-append}
+use Rattle.zone_rules.proofs.Common.{arith, rules, ◌≡◌, ◌<◌, ◌≤◌, ◌+◌, ◌-◌, ◌++◌, ◌∷◌, [], ◌&&◌, ◌∙◌, ap, ap₂, sym, subst, refl, length, drop, true, false, ℕ, List, and_parts, append_assoc, length-append}
 use Rattle.zone_heap.specs.Rules.{is_free, join_free, HEADER_SIZE}
 use Rattle.zone_heap.specs.Headers.{word_at, with_word, header_in, block_in, is_free_header}
 use Rattle.zone_heap.specs.Regions.{joined, blocks_from, IsSplit}

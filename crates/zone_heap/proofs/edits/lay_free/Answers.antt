@@ -1,12 +1,9 @@
-use Rattle.std.proofs.Common.{arith, ◌≡◌, ◌≤◌, ◌<◌, ◌∙◌, ◌∷◌, [], ap, sym, subst, length, List, ℕ}
-use Rattle.std.proofs.lemmas.List.{append-nil}
-use Rattle.zone_rules.specs.Zones.{free_block}
-use Rattle.zone_heap.specs.Headers.{with_word, freed}
-use Rattle.zone_heap.specs.Regions.{blocks_in, IsLaid}
+use Rattle.zone_rules.proofs.Common.{arith, ◌≡◌, ◌≤◌, ◌<◌, ◌∙◌, ◌∷◌, [], ap, sym, subst, length, List, ℕ, append-nil}
+use Rattle.zone_heap.specs.{Headers.with_word, Headers.freed, Regions.blocks_in, Regions.IsLaid}
 use Rattle.zone_heap.proofs.WordLemmas.{word_same, length-with_word}
 use Rattle.zone_heap.proofs.PartLemmas.{blocks_laid}
 use Rattle.zone_heap.proofs.PurgeLemmas.{length-freed, told-freed, block-freed}
-use Rattle.zone_heap.specs.Rules.{HEADER_SIZE}
+use Rattle.zone_heap.specs.Rules.{HEADER_SIZE, free_block}
 use Rattle.zone_heap.proofs.edits.lay_free.Goals as goal
 
 module _ (xs : List ℕ) (size : ℕ) (len : length xs ≡ size) (large : HEADER_SIZE ≤ size) (small : size < 4294967296) where

@@ -1,11 +1,9 @@
-use Rattle.std.proofs.Common.{arith, rules, ◌≡◌, ◌<◌, ◌≤◌, ◌+◌, ◌++◌, ◌∷◌, [], ◌∙◌, ap, ap₂, sym, subst, refl, length, ℕ, List}
-use Rattle.std.proofs.lemmas.List.{append-nil, append_assoc, length-append}
-use Rattle.zone_heap.specs.Headers.{word_at, with_word, block_in}
+use Rattle.zone_rules.proofs.Common.{arith, rules, ◌≡◌, ◌<◌, ◌≤◌, ◌+◌, ◌++◌, ◌∷◌, [], ◌∙◌, ap, ap₂, sym, subst, refl, length, ℕ, List, append-nil, append_assoc, length-append}
+use Rattle.zone_heap.specs.{Headers.word_at, Headers.with_word, Headers.block_in, Rules.HEADER_SIZE}
 use Rattle.zone_heap.specs.Regions.{joined, blocks_from, blocks_in, AllWhole, AreLinked, last_place, ring_place, IsSplit, IsLaid, IsRing}
 use Rattle.zone_heap.proofs.WordLemmas.{written_within, written_in_front, length-with_word}
 use Rattle.zone_heap.proofs.PartLemmas.{split_le, Opened, opened_word, head_fits, nothing_left, split_first, blocks_laid, blocks_split, opened_is, whole_rest, split_next, blocks_next, length_after}
 use Rattle.zone_heap.proofs.EditLemmas.{LinkedTo, relinked, length-relinked, word-relinked, next-relinked, previous-relinked, block-relinked, length-mid, linked-append, last-append, last-any, length-ringed, word-ringed, block-ringed, linked-ringed}
-use Rattle.zone_heap.specs.Rules.{HEADER_SIZE}
 use Rattle.zone_heap.proofs.edits.link.Goals as goal
 
 pub loop-at-init : goal.loop-at-init

@@ -1,5 +1,4 @@
-use Rattle.std.proofs.Common.{arith, ◌≤◌, ap, sym, ◌∙◌, refl}
-use Rattle.std.proofs.lemmas.Bool.{cond-true, cond-false, le-leb, lt-leb}
+use Rattle.zone_rules.proofs.Common.{arith, ◌≤◌, ap, sym, ◌∙◌, refl, cond-true, cond-false, le-leb, lt-leb}
 use Rattle.zone_heap.specs.Regions.{blocks_from}
 use Rattle.zone_rules.specs.Requests.{place_around}
 use Rattle.zone_heap.proofs.PartLemmas.{opened_word, head_fits, nothing_left, split_first, blocks_laid}

@@ -1,7 +1,5 @@
-use Rattle.std.proofs.Common.{arith, ltb-true, ltb-false, rules, ◌+◌, ◌-◌, ◌<◌, ◌≤◌, ◌∙◌, ap, sym, length, cond}
-use Rattle.std.specs.Prelude.{◌==◌}
-use Rattle.zone_heap.specs.Regions.{joined}
-use Rattle.zone_heap.specs.Rules.{MIN_FRAGMENT}
+use Rattle.zone_rules.proofs.Common.{arith, ltb-true, ltb-false, rules, ◌+◌, ◌-◌, ◌<◌, ◌≤◌, ◌∙◌, ap, sym, length, cond, ◌==◌}
+use Rattle.zone_heap.specs.{Regions.joined, Rules.MIN_FRAGMENT}
 use Rattle.zone_heap.proofs.TakeLemmas.{m, size_is, region_is, word_here, fits, inside, size_here, whole_laid, whole_blocks, whole_rover, whole_len}
 use Rattle.zone_heap.proofs.TakeLemmas.{cut_laid, cut_blocks, cut_rover, cut_len}
 use Rattle.zone_heap.proofs.edits.take.Goals as goal

@@ -1,5 +1,5 @@
 use Rattle.std.proofs.Common.{arith, rules}
-use Rattle.zone_rules.specs.Zones.{is_pinned, is_purgeable, is_free}
+use Rattle.zone_heap.specs.Rules.{is_free, is_pinned, is_purgeable}
 use Rattle.zone_heap.specs.Headers.{is_free_header, is_pinned_header, is_purgeable_header}
 use Rattle.zone_heap.proofs.PartLemmas.{less_left, head_fits, free_told, pinned_told, purgeable_told}
 use Rattle.zone_heap.proofs.SumLemmas.{sum_first, sum_then, sum_small, sum_all}

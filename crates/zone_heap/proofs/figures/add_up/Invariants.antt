@@ -1,5 +1,5 @@
 use Rattle.std.proofs.Common.{◌-◌, length}
-use Rattle.zone_rules.specs.Zones.{is_pinned, is_purgeable, is_free}
+use Rattle.zone_heap.specs.Rules.{is_free, is_pinned, is_purgeable}
 use Rattle.zone_heap.proofs.SumLemmas.{IsSum}
 use Rattle.zone_heap.proofs.figures.add_up.Given as goal
 

@@ -1,6 +1,5 @@
 use Rattle.std.proofs.Common.{arith, ◌+◌, ap}
-use Rattle.zone_rules.specs.Zones.{owner_at}
-use Rattle.zone_heap.specs.Headers.{word_at}
+use Rattle.zone_heap.specs.{Rules.owner_at, Headers.word_at}
 use Rattle.zone_heap.proofs.LookLemmas.{homed_live}
 use Rattle.zone_heap.proofs.look.live_span.Goals as goal
 

@@ -1,7 +1,5 @@
 use Rattle.std.proofs.Common.{arith, ◌+◌, ◌∙◌, ap, sym, subst}
-use Rattle.zone_rules.specs.Zones.{owner_at}
-use Rattle.zone_heap.specs.Headers.{with_word}
-use Rattle.zone_heap.specs.Regions.{blocks_in, IsRing}
+use Rattle.zone_heap.specs.{Rules.owner_at, Headers.with_word, Regions.blocks_in, Regions.IsRing}
 use Rattle.zone_heap.proofs.LookLemmas.{IsFound, homed_live}
 use Rattle.zone_heap.proofs.ChangeLemmas.{tagged_ring, tagged_blocks}
 use Rattle.zone_heap.proofs.look.retag.Goals.{After-of-home}

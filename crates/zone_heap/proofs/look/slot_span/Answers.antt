@@ -1,7 +1,5 @@
-use Rattle.std.proofs.Common.{arith, ◌≡◌, ◌-◌, ◌∙◌, ap, ap₂, sym, option_map, Some, take, drop}
-use Rattle.std.specs.Prelude.{option_and_then}
-use Rattle.zone_rules.specs.Zones.{Block, Holding, owner_at}
-use Rattle.zone_heap.specs.Headers.{word_at}
+use Rattle.zone_rules.proofs.Common.{arith, ◌≡◌, ◌-◌, ◌∙◌, ap, ap₂, sym, option_map, Some, take, drop, option_and_then}
+use Rattle.zone_heap.specs.{Rules.Block, Rules.Holding, Rules.owner_at, Headers.word_at}
 use Rattle.zone_heap.specs.Homes.{composites_in}
 use Rattle.zone_heap.proofs.LookLemmas.{IsFound, homed_found, homed_none}
 use Rattle.zone_heap.proofs.ChangeLemmas.{asked_fits, bytes_found}

@@ -1,7 +1,5 @@
-use Rattle.std.proofs.Common.{arith, ◌∙◌, ap, sym, option_map, Some}
-use Rattle.std.specs.Prelude.{option_and_then}
-use Rattle.zone_rules.specs.Zones.{Block, Holding, owner_at}
-use Rattle.zone_heap.specs.Headers.{code_tag}
+use Rattle.zone_rules.proofs.Common.{arith, ◌∙◌, ap, sym, option_map, Some, option_and_then}
+use Rattle.zone_heap.specs.{Rules.Block, Rules.Holding, Rules.owner_at, Headers.code_tag}
 use Rattle.zone_heap.proofs.LookLemmas.{IsFound, homed_found, homed_none, holding_found}
 use Rattle.zone_heap.proofs.look.slot_tag.Goals.{Else-home}
 use Rattle.zone_heap.proofs.look.slot_tag.Goals as goal

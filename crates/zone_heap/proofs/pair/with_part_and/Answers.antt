@@ -1,5 +1,4 @@
-use Rattle.std.proofs.Common.{rules, refl, arith}
-use Rattle.std.proofs.lemmas.Grind.{common_steps}
+use Rattle.zone_rules.proofs.Common.{rules, refl, arith, common_steps}
 use Rattle.zone_heap.proofs.pair.with_part_and.Goals as goal
 
 pub returns-clause-part : goal.returns-clause-part

@@ -1,5 +1,4 @@
-use Rattle.std.proofs.Common.{rules, refl, arith}
-use Rattle.std.proofs.lemmas.Grind.{common_steps}
+use Rattle.zone_rules.proofs.Common.{rules, refl, arith, common_steps}
 use Rattle.zone_heap.proofs.pair.with_parts.Goals as goal
 
 pub returns-then-read-write-clause-parts : goal.returns-then-read-write-clause-parts

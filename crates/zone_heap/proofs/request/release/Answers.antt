@@ -1,10 +1,8 @@
 use Rattle.std.proofs.Common.{arith, ◌∙◌, ap, sym, subst}
-use Rattle.zone_heap.specs.Rules.{join_free, owner_at}
-use Rattle.zone_heap.specs.Regions.{blocks_in, IsLaid}
+use Rattle.zone_heap.specs.{Rules.join_free, Rules.owner_at, Regions.blocks_in, Regions.IsLaid}
 use Rattle.zone_heap.specs.Homes.{AreHome}
-use Rattle.zone_heap.proofs.HomeLemmas.{joined_home}
+use Rattle.zone_heap.proofs.{HomeLemmas.joined_home, request.release.Goals.After-of-home}
 use Rattle.zone_heap.proofs.LookLemmas.{IsFound, look, found_small, found_laid, found_blocks, found_home}
-use Rattle.zone_heap.proofs.request.release.Goals.{After-of-home}
 use Rattle.zone_heap.proofs.request.release.Goals as goal
 
 it : (c : After-of-home) → IsFound c.args.region.now (owner_at c.args.kind c.args.number) c.of-home.result

@@ -1,12 +1,10 @@
-use Rattle.std.proofs.Common.{arith, rules, ◌≡◌, ◌+◌, ◌*◌, ◌/◌, ◌<◌, ◌≤◌, ◌++◌, ◌∙◌, ap, ap₂, sym, subst, length, take, drop, ℕ}
-use Rattle.std.proofs.lemmas.List.{length-take, length-drop}
+use Rattle.zone_rules.proofs.Common.{arith, rules, ◌≡◌, ◌+◌, ◌*◌, ◌/◌, ◌<◌, ◌≤◌, ◌++◌, ◌∙◌, ap, ap₂, sym, subst, length, take, drop, ℕ, length-take, length-drop}
 use Rattle.zone_heap.specs.Rules.{Heap, Holding, Lacks, RoomAt, Tiles, cut_block, free_block, place_after, take_at, HEADER_SIZE}
 use Rattle.zone_rules.proofs.SoundLemmas.{room_end, searched_lacks, searched_tiles}
 use Rattle.zone_rules.proofs.TakeLemmas.{take_at_is}
 use Rattle.zone_heap.specs.Headers.{owner_in, used_holding}
 use Rattle.zone_heap.specs.Regions.{blocks_in, ring_place}
-use Rattle.zone_heap.specs.Homes.{IsSlot, AreExact, AreHome}
-use Rattle.zone_heap.specs.Asks.{heap_at}
+use Rattle.zone_heap.specs.{Homes.IsSlot, Homes.AreExact, Homes.AreHome, Asks.heap_at}
 use Rattle.zone_heap.proofs.HomeLemmas.{slot_small, slot_kept, taken_exact}
 use Rattle.zone_heap.proofs.request.serve.Goals.{In-Ok}
 use Rattle.zone_heap.proofs.request.serve.Goals as goal

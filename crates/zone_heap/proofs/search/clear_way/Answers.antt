@@ -1,6 +1,4 @@
-use Rattle.std.proofs.Common.{arith, ◌≡◌, ◌+◌, ◌++◌, ◌≤◌, [], ap, ap₂, sym, ◌∙◌, take, drop, subst, map, count_by, length, List, ℕ, Option, Some, None}
-use Rattle.std.specs.List.{position_or_len}
-use Rattle.std.proofs.lemmas.List.{take_at, drop_at, take_all, drop_all, append-nil, length-append}
+use Rattle.zone_rules.proofs.Common.{arith, ◌≡◌, ◌+◌, ◌++◌, ◌≤◌, [], ap, ap₂, sym, ◌∙◌, take, drop, subst, map, count_by, length, List, ℕ, Option, Some, None, position_or_len, take_at, drop_at, take_all, drop_all, append-nil, length-append}
 use Rattle.zone_heap.specs.Rules.{Block, RoomAt, Tiles, is_purgeable, join_free, purge_block}
 use Rattle.zone_heap.specs.declared.homes.Homes.{Homes}
 use Rattle.zone_heap.specs.Walks.{fit_from, starts_at, CanSearch, SearchIs}

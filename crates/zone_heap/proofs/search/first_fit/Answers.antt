@@ -1,7 +1,5 @@
-use Rattle.std.proofs.Common.{arith, ◌≡◌, ◌+◌, ◌==◌, ◌<◌, ◌≤◌, length, Some, ap, sym, ◌∙◌}
-use Rattle.std.proofs.lemmas.Bool.{cond-true, cond-false, eq-eqb, ne_eqb, le-leb, lt-leb}
-use Rattle.zone_heap.specs.Regions.{blocks_from}
-use Rattle.zone_heap.specs.Walks.{fit_from, run_place}
+use Rattle.zone_rules.proofs.Common.{arith, ◌≡◌, ◌+◌, ◌==◌, ◌<◌, ◌≤◌, length, Some, ap, sym, ◌∙◌, cond-true, cond-false, eq-eqb, ne_eqb, le-leb, lt-leb}
+use Rattle.zone_heap.specs.{Regions.blocks_from, Walks.fit_from, Walks.run_place}
 use Rattle.zone_heap.proofs.PartLemmas.{opened, less_left, head_fits, nothing_left, pinned_at, rest_same}
 use Rattle.zone_heap.proofs.search.first_fit.Goals.{then-is_pinned, else-is_pinned+else-wanted-sum, then-sum-eq0, else-sum-eq0}
 use Rattle.zone_heap.proofs.search.first_fit.Goals as goal

@@ -1,6 +1,5 @@
 use Rattle.std.proofs.Common.{◌≡◌, ◌≤◌, ◌-◌, length}
-use Rattle.zone_heap.specs.Regions.{blocks_from, IsSplit}
-use Rattle.zone_heap.specs.Walks.{fit_from}
+use Rattle.zone_heap.specs.{Regions.blocks_from, Regions.IsSplit, Walks.fit_from}
 use Rattle.zone_heap.proofs.search.first_fit.Given as goal
 
 abbrev pub invariant-loop-at : goal.invariant-loop-at

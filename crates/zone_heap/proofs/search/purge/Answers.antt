@@ -1,7 +1,5 @@
-use Rattle.std.proofs.Common.{arith, ◌≡◌, ◌++◌, ◌≤◌, ◌∷◌, [], ◌∙◌, ap, ap₂, sym, refl, length, take, drop, map, count_by, List, ℕ, zero, suc}
-use Rattle.std.proofs.lemmas.List.{append-nil}
-use Rattle.zone_heap.specs.Rules.{Block, is_purgeable, purge_block}
-use Rattle.zone_heap.specs.Regions.{blocks_from}
+use Rattle.zone_rules.proofs.Common.{arith, ◌≡◌, ◌++◌, ◌≤◌, ◌∷◌, [], ◌∙◌, ap, ap₂, sym, refl, length, take, drop, map, count_by, List, ℕ, zero, suc, append-nil}
+use Rattle.zone_heap.specs.{Rules.Block, Rules.is_purgeable, Rules.purge_block, Regions.blocks_from}
 use Rattle.zone_heap.proofs.WordLemmas.{length-with_use}
 use Rattle.zone_heap.proofs.PartLemmas.{split_le, opened, head_fits, nothing_left, rest_same, front_same, split_laid, purgeable_at}
 use Rattle.zone_heap.proofs.PurgeLemmas.{purged_blocks, passed_step, freed_step, slot_there}

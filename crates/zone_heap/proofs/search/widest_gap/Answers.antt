@@ -1,7 +1,5 @@
-use Rattle.std.proofs.Common.{arith, ◌+◌, ◌∙◌, ap, sym, max}
-use Rattle.std.proofs.lemmas.Bool.{cond-true, cond-false}
-use Rattle.zone_heap.specs.Regions.{blocks_from}
-use Rattle.zone_heap.specs.Walks.{widest_from}
+use Rattle.zone_rules.proofs.Common.{arith, ◌+◌, ◌∙◌, ap, sym, max, cond-true, cond-false}
+use Rattle.zone_heap.specs.{Regions.blocks_from, Walks.widest_from}
 use Rattle.zone_heap.proofs.PartLemmas.{opened, less_left, head_fits, nothing_left, split_first, blocks_laid, pinned_at}
 use Rattle.zone_heap.proofs.search.widest_gap.Goals.{After-is_pinned, then-is_pinned, else-is_pinned}
 use Rattle.zone_heap.proofs.search.widest_gap.Goals as goal

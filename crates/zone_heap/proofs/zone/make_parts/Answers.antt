@@ -1,5 +1,4 @@
-use Rattle.std.proofs.Common.{arith, ap, sym, subst, length, List, ℕ}
-use Rattle.std.proofs.lemmas.List.{with_items_is}
+use Rattle.zone_rules.proofs.Common.{arith, ap, sym, subst, length, List, ℕ, with_items_is}
 use Rattle.zone_heap.specs.Regions.{IsRing}
 use Rattle.zone_heap.proofs.zone.make_parts.Goals as goal
 

@@ -1,7 +1,6 @@
 use Rattle.std.proofs.Common.{arith}
 use Rattle.view_rules.specs.Sound.{IsShape}
-use Rattle.view_rules.proofs.ShapeLemmas.{within_frame}
-use Rattle.view_rules.proofs.SoundLemmas.{sound_by_refusal}
+use Rattle.view_rules.proofs.{ShapeLemmas.within_frame, SoundLemmas.sound_by_refusal}
 use Rattle.angle_tables.proofs.tables.Tables.derive.Goals as goal
 
 -- a view of one of the nine shapes has a column

@@ -1,9 +1,7 @@
-use Rattle.picture_rules.proofs.Common.{ap, codes, of_z, rules, to_z, w16, w32, ℤ, ◌++◌, ◌∙◌, ◌≡◌}
-use Rattle.std.proofs.lemmas.Int.{to_z-of_z}
+use Rattle.picture_rules.proofs.Common.{ap, codes, of_z, rules, to_z, w16, w32, ℤ, ◌++◌, ◌∙◌, ◌≡◌, to_z-of_z}
 use Rattle.refusals.specs.Lines.{labelled, labelled_signed}
 use Rattle.doom_run.specs.Lists.{flat_part, item_start, maker_part}
-use Rattle.doom_run.proofs.LimitLemmas.{same_bytes}
-use Rattle.doom_run.proofs.ListLemmas.{six_added}
+use Rattle.doom_run.proofs.{LimitLemmas.same_bytes, ListLemmas.six_added}
 use Rattle.doom_run.proofs.list.ListedPlaneListed.put.Goals as goal
 
 pub returns : goal.returns

@@ -1,6 +1,5 @@
 use Rattle.std.proofs.Common.{refl, ℕ, ◌∙◌, ◌≡◌}
-use Rattle.doom_run.specs.Rules.{Counts, ViewListValue}
-use Rattle.doom_run.specs.Lists.{items_lines, list_lines}
+use Rattle.doom_run.specs.{Rules.Counts, Rules.ViewListValue, Lists.items_lines, Lists.list_lines}
 use Rattle.doom_run.proofs.LimitLemmas.{lines_within, puts-over, same_bytes}
 use Rattle.doom_run.proofs.list.ViewListViewLines.put.Goals as goal
 

@@ -1,19 +1,15 @@
 use Rattle.std.proofs.Common.{◌≤◌, ℕ, List, Result, ap, sym, ◌∙◌, arith}
 use Rattle.frame_core.specs.Rules.{Event, FRAME_HEIGHT, Limits, surface_at}
-use Rattle.texture_build.specs.Paints.{paint_state, paint_tools}
-use Rattle.texture_build.specs.Views.{TexturesView}
+use Rattle.texture_build.specs.{Paints.paint_state, Paints.paint_tools, Views.TexturesView}
 use Rattle.texture_build.proofs.DrawLemmas.{IsMapped, mapped-err, mapped-ok}
-use Rattle.sound_scene.specs.Sound.{textures_view}
+use Rattle.sound_scene.specs.{Sound.textures_view, Pictures.lists_of}
 use Rattle.wall_columns.specs.Faults.{limit_of_result}
-use Rattle.sound_scene.specs.Pictures.{lists_of}
-use Rattle.frame_core.specs.declared.fault.ViewFault.{ViewFault}
-use Rattle.frame_core.specs.Faults.{from_draw}
+use Rattle.frame_core.specs.{declared.fault.ViewFault.ViewFault, Faults.from_draw}
 use Rattle.frame_core.specs.Views.{PaintsView, tools_scene, tools_state}
 use Rattle.frame_core.specs.Walked.{HasWalked, next_dots}
 use Rattle.frame_core.proofs.FragmentLemmas.{StoresFragment, can_draw-facts, facts-ready, ok-through, paints-fragment, told-over}
-use Rattle.frame_core.proofs.WalkedLemmas.{same_limits}
+use Rattle.frame_core.proofs.{WalkedLemmas.same_limits, bench.Bench.store_fragment.Given.Over}
 use Rattle.frame_core.proofs.WalkedFragmentLemmas.{over-fragment, walked-range}
-use Rattle.frame_core.proofs.bench.Bench.store_fragment.Given.{Over}
 use Rattle.frame_core.proofs.bench.Bench.store_fragment.Goals as goal
 use Rattle.frame_core.proofs.bench.Bench.store_fragment.Goals.{After-store_range}
 

@@ -5,8 +5,7 @@ use Rattle.scene_rules.proofs.Laws.{order_then}
 use Rattle.texture_build.specs.Caches.{IsAtRest}
 use Rattle.texture_build.proofs.SizeLemmas.{sizes_empty}
 use Rattle.job_files.specs.Files.{value_of}
-use Rattle.sound_scene.specs.Sound.{SoundValue}
-use Rattle.sound_scene.specs.Whole.{IsWholeScene}
+use Rattle.sound_scene.specs.{Sound.SoundValue, Whole.IsWholeScene}
 use Rattle.level_audit.proofs.FetchLemmas.{order_after, told_after}
 use Rattle.sound_scene.proofs.SceneLemmas.{colormap_there}
 use Rattle.level_audit.specs.scene_load.Fulls.{IsBaseWithin, IsFullOver}
@@ -16,8 +15,7 @@ use Rattle.level_audit.proofs.scene_load.ArtLemmas.{no_composites_first, no_comp
 use Rattle.level_audit.proofs.scene_load.AuditedLemmas.{both_accepted, causes_after, layers_stopped, none_given, scene_kept, scene_stopped}
 use Rattle.level_audit.proofs.scene_load.FullLemmas.{audit_full, layers_full, same_full}
 use Rattle.level_audit.proofs.scene_load.MoreLemmas.{named_layers, sizes_layers}
-use Rattle.level_audit.proofs.scene_load.ReadLemmas.{items_all}
-use Rattle.level_audit.proofs.scene_load.StayLemmas.{call_order}
+use Rattle.level_audit.proofs.{scene_load.ReadLemmas.items_all, scene_load.StayLemmas.call_order}
 use Rattle.level_audit.proofs.scene_load.load.audit_level.Goals as goal
 
 pub audit_layers-requires-clause-colormap : goal.audit_layers-requires-clause-colormap

@@ -3,8 +3,7 @@ use Rattle.art_rules.proofs.Laws.{all_stand_later, follows_then}
 use Rattle.level_audit.specs.Rules.{IsInOrder, KeepsOrder, level_job_value}
 use Rattle.texture_build.specs.Calls.{HoldContents}
 use Rattle.job_files.specs.Files.{value_of}
-use Rattle.level_audit.specs.scene_load.Fulls.{IsFullLoad}
-use Rattle.level_audit.specs.scene_load.Loads.{audited_value}
+use Rattle.level_audit.specs.{scene_load.Fulls.IsFullLoad, scene_load.Loads.audited_value}
 use Rattle.level_audit.specs.scene_load.Orders.{loaded_items}
 use Rattle.level_audit.proofs.scene_load.ArtLemmas.{all_held}
 use Rattle.level_audit.proofs.scene_load.AuditedLemmas.{causes_after, none_given}

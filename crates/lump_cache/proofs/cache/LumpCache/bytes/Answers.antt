@@ -1,5 +1,4 @@
-use Rattle.std.proofs.Common.{◌∙◌, ap₂, subst}
-use Rattle.std.specs.Option.{option_copied}
+use Rattle.zone_rules.proofs.Common.{◌∙◌, ap₂, subst, option_copied}
 use Rattle.zone_rules.specs.Zones.{Heap, IsSound, owner_at, bytes_of}
 use Rattle.lump_cache.specs.Caches.{lump_owner}
 use Rattle.lump_cache.proofs.FitLemmas.{lent_fits}

@@ -1,9 +1,7 @@
-use Rattle.std.proofs.Common.{◌∙◌, ap₂, subst, refl}
-use Rattle.std.specs.Option.{option_copied}
+use Rattle.zone_rules.proofs.Common.{◌∙◌, ap₂, subst, refl, option_copied}
 use Rattle.zone_rules.specs.Zones.{Heap, IsSound, owner_at, bytes_of}
 use Rattle.lump_cache.specs.Caches.{composite_owner}
-use Rattle.lump_cache.proofs.FitLemmas.{lent_fits}
-use Rattle.lump_cache.proofs.StaticLemmas.{rest_static}
+use Rattle.lump_cache.proofs.{FitLemmas.lent_fits, StaticLemmas.rest_static}
 use Rattle.lump_cache.proofs.cache.LumpCache.composite.Goals as goal
 
 pub returns-clause-fits : goal.returns-clause-fits

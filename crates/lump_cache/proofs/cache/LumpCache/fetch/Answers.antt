@@ -1,7 +1,6 @@
 use Rattle.std.proofs.Common.{◌≡◌, subst}
 use Rattle.zone_rules.specs.Zones.{Heap, IsLive}
-use Rattle.lump_cache.specs.Caches.{lump_owner}
-use Rattle.lump_cache.specs.Fetches.{FetchesLump}
+use Rattle.lump_cache.specs.{Caches.lump_owner, Fetches.FetchesLump}
 use Rattle.lump_cache.proofs.FetchLemmas.{fetch_counts, fetch_faithful, fetch_live, fetch_order, fetch_pinned, fetch_rest}
 use Rattle.lump_cache.proofs.cache.LumpCache.fetch.Goals as goal
 

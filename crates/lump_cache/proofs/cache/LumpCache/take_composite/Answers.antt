@@ -1,9 +1,7 @@
-use Rattle.std.proofs.Common.{◌≡◌, ◌<◌, ◌∙◌, ap, subst, refl, ℕ, Result, Ok, Err, None}
-use Rattle.std.specs.Prelude.{All, IfErr, IsErr, OnErr, OnOk}
+use Rattle.zone_rules.proofs.Common.{◌≡◌, ◌<◌, ◌∙◌, ap, subst, refl, ℕ, Result, Ok, Err, None, All, IfErr, IsErr, OnErr, OnOk}
 use Rattle.lump_cache.specs.Rules.{Heap, Level, TakesBlock, block_size, gaps, owned_block, owner_at, same_owner, total, widest}
 use Rattle.zone_heap.specs.declared.zone.ZoneFull.{ZoneFull}
-use Rattle.lump_cache.specs.Caches.{NoRoom, composite_owner}
-use Rattle.lump_cache.specs.Fetches.{RequestsBlock}
+use Rattle.lump_cache.specs.{Caches.NoRoom, Caches.composite_owner, Fetches.RequestsBlock}
 use Rattle.lump_cache.proofs.TakeLemmas.{take_counts, take_live}
 use Rattle.lump_cache.proofs.cache.LumpCache.take_composite.Goals as goal
 use Rattle.lump_cache.proofs.cache.LumpCache.take_composite.Goals.{After-malloc}

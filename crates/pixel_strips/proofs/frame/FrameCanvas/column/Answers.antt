@@ -2,8 +2,7 @@ use Rattle.word_rules.proofs.Common.{ap, arith, List, rules, with_items_is, ℕ,
 use Rattle.pixel_rules.specs.Dots.{put_dots}
 use Rattle.pixel_strips.specs.Canvases.{CanvasView, with_dots, marked_by_colour}
 use Rattle.pixel_strips.specs.Strips.{column_strip_dots, cut_strip_colour}
-use Rattle.pixel_strips.proofs.CanvasLemmas.{view_with}
-use Rattle.pixel_strips.proofs.CutLemmas.{cut_strip_from_words}
+use Rattle.pixel_strips.proofs.{CanvasLemmas.view_with, CutLemmas.cut_strip_from_words}
 use Rattle.pixel_strips.proofs.FillLemmas.{fill_cells-column}
 use Rattle.pixel_strips.proofs.frame.FrameCanvas.column.Goals as goal
 

@@ -2,8 +2,7 @@ use Rattle.word_rules.proofs.Common.{ap, arith, List, with_items_is, ℕ, ◌∙
 use Rattle.pixel_strips.specs.Rules.{put_dots, span_dots}
 use Rattle.pixel_strips.specs.Canvases.{CanvasView, with_dots, marked_by_colour}
 use Rattle.pixel_strips.specs.Strips.{cut_row_colour}
-use Rattle.pixel_strips.proofs.CanvasLemmas.{view_with}
-use Rattle.pixel_strips.proofs.CutLemmas.{cut_row_from}
+use Rattle.pixel_strips.proofs.{CanvasLemmas.view_with, CutLemmas.cut_row_from}
 use Rattle.pixel_strips.proofs.FillLemmas.{fill_cells-span}
 use Rattle.pixel_strips.proofs.frame.FrameCanvas.span.Goals as goal
 

@@ -1,5 +1,4 @@
-use Rattle.art_rules.proofs.Common.{[], ap, Bool, Global, List, map-append, sym, ◌++◌, ◌∙◌, ◌∷◌}
-use Rattle.std.proofs.Common.{Vec}
+use Rattle.art_rules.proofs.Common.{[], ap, Bool, Global, List, map-append, sym, ◌++◌, ◌∙◌, ◌∷◌, Vec}
 use Rattle.art_rules.specs.Words.{LumpNo}
 use Rattle.texture_build.specs.Views.{is_marked}
 use Rattle.texture_build.proofs.MarkLemmas.{passed_on, passed_off}

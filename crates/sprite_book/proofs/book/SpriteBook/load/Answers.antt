@@ -1,8 +1,7 @@
 use Rattle.art_rules.specs.Words.{book_of, first_needs, outlines_of}
 use Rattle.lump_cache.proofs.CallLemmas.{full_room}
-use Rattle.sprite_book.proofs.CallLemmas.{full_weaker}
+use Rattle.sprite_book.proofs.{CallLemmas.full_weaker, FrameLemmas.book_there}
 use Rattle.std.proofs.lemmas.Result.{IfOk-weaker}
-use Rattle.sprite_book.proofs.FrameLemmas.{book_there}
 use Rattle.sprite_book.proofs.book.SpriteBook.load.Goals as goal
 
 pub returns-clause-answers : goal.returns-clause-answers

@@ -1,7 +1,6 @@
 use Rattle.art_rules.proofs.Common.{ap, List, slice_index_or, subst, sym, ◌∙◌}
 use Rattle.texture_build.specs.Rules.{ColumnLookup, Empty, PreparedTexture}
-use Rattle.texture_build.specs.Sources.{IsColumnThere}
-use Rattle.texture_build.specs.Views.{ArePatchesThere}
+use Rattle.texture_build.specs.{Sources.IsColumnThere, Views.ArePatchesThere}
 use Rattle.texture_build.proofs.ColumnLemmas.{column_there}
 use Rattle.texture_build.proofs.prepared.PreparedTexture.lookup.Goals as goal
 

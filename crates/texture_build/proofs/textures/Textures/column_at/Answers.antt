@@ -1,7 +1,6 @@
 use Rattle.std.proofs.Common.{ap, ◌∙◌}
-use Rattle.texture_build.specs.Sources.{column_view}
+use Rattle.texture_build.specs.{Sources.column_view, Views.prepared_at, Views.prepared_texture}
 use Rattle.texture_build.proofs.TexelLemmas.{prepared_is, texels_lent}
-use Rattle.texture_build.specs.Views.{prepared_at, prepared_texture}
 use Rattle.texture_build.proofs.textures.Textures.column_at.Goals as goal
 
 pub returns-clause-texel : goal.returns-clause-texel

@@ -1,5 +1,4 @@
-use Rattle.std.proofs.Common.{rules}
-use Rattle.std.proofs.lemmas.Int.{to_z-of_z}
+use Rattle.word_rules.proofs.Common.{rules, to_z-of_z}
 use Rattle.view_frame.proofs.BearingLemmas.{abs_word-low}
 use Rattle.view_frame.proofs.view.View.point_dist.Goals as goal
 

@@ -1,7 +1,5 @@
 use Rattle.std.proofs.Common.{rules, ◌≡◌, ◌<◌, ◌^◌, sym, ◌∙◌, subst, arith}
-use Rattle.view_rules.specs.View.{ViewValue}
-use Rattle.view_rules.specs.Ranges.{range_in_front}
-use Rattle.view_rules.specs.Sound.{IsSound}
+use Rattle.view_rules.specs.{View.ViewValue, Ranges.range_in_front, Sound.IsSound}
 use Rattle.view_rules.proofs.RangeLemmas.{ends_in_order, range_in_front-order}
 use Rattle.view_frame.proofs.view.View.range_in_front.Goals as goal
 

@@ -1,5 +1,4 @@
-use Rattle.picture_rules.proofs.Common.{ap, arith, max, subst, sym, ℕ, ◌∙◌}
-use Rattle.std.proofs.Common.{set}
+use Rattle.picture_rules.proofs.Common.{ap, arith, max, subst, sym, ℕ, ◌∙◌, set}
 use Rattle.picture_rules.specs.Words.{Plane, with_run}
 use Rattle.visplanes.specs.Columns.{IsKept}
 use Rattle.visplanes.proofs.ColumnLemmas.{plane_of-marked, kept-more}

@@ -1,5 +1,4 @@
-use Rattle.picture_rules.proofs.Common.{ap, List, of_z, rules, to_z, w32, ℕ, ℤ, ◌∙◌, ◌≡◌}
-use Rattle.std.proofs.lemmas.Int.{to_z-of_z}
+use Rattle.picture_rules.proofs.Common.{ap, List, of_z, rules, to_z, w32, ℕ, ℤ, ◌∙◌, ◌≡◌, to_z-of_z}
 use Rattle.picture_rules.specs.Words.{distance_map, Dot, mul, row_distance, span_x, span_y}
 use Rattle.pixel_strips.specs.Canvases.{with_dots}
 use Rattle.visplanes.specs.Spans.{FloorView, distance_at, light_at, row_dots}

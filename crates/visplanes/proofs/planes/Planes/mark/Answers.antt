@@ -1,5 +1,4 @@
-use Rattle.picture_rules.proofs.Common.{ap, arith, length, length-set, length-take, List, take, ℕ, ◌<◌, ◌∙◌}
-use Rattle.std.proofs.Common.{set}
+use Rattle.picture_rules.proofs.Common.{ap, arith, length, length-set, length-take, List, take, ℕ, ◌<◌, ◌∙◌, set}
 use Rattle.picture_rules.specs.Words.{mark, Plane}
 use Rattle.visplanes.specs.Planes.{PlanesView, with_planes, IsFirst}
 use Rattle.visplanes.proofs.ListLemmas.{mark-taken, wide-put, wide-marked}

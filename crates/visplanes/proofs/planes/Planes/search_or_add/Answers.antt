@@ -1,7 +1,6 @@
 use Rattle.picture_rules.proofs.Common.{ap, arith, false≢true, length, subst, sym, ◌<◌}
 use Rattle.picture_rules.specs.Words.{PlaneChoice}
-use Rattle.visplanes.specs.Full.{ChoosesPlane}
-use Rattle.visplanes.specs.Planes.{with_planes}
+use Rattle.visplanes.specs.{Full.ChoosesPlane, Planes.with_planes}
 use Rattle.picture_rules.proofs.plane.PlaneLemmas.{find-some, find-none, find-within}
 use Rattle.visplanes.proofs.planes.Planes.search_or_add.Goals as goal
 

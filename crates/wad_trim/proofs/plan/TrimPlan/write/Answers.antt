@@ -1,8 +1,7 @@
 use Rattle.std.proofs.Common.{ℕ, List, [], ◌++◌, ap, sym, ◌∙◌, append-nil, length, arith}
 use Rattle.texture_build.proofs.FetchLemmas.{fetch_reads}
 use Rattle.wad_trim.specs.Rules.{HEADER_SIZE, TrimPart, lump_bytes, trimmed_file}
-use Rattle.wad_trim.specs.Plans.{entries_from}
-use Rattle.wad_trim.specs.Writes.{IsCopied}
+use Rattle.wad_trim.specs.{Plans.entries_from, Writes.IsCopied}
 use Rattle.wad_trim.proofs.CopyLemmas.{copied-none, fetch-failed, piece-failed, piece-put}
 use Rattle.wad_trim.proofs.FileLemmas.{bytes_by, file-begun, file-ended, head_of, so_far}
 use Rattle.wad_trim.proofs.WriteLemmas.{lumps-none, put-done, put-stopped}

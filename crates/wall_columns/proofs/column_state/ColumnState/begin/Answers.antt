@@ -1,8 +1,6 @@
 -- The openings are taken, and then the planes are checked: the first count past its room is told.
 use Rattle.std.proofs.Common.{ℕ, ◌+◌, ◌-◌, length, subst, sym, ◌∙◌}
-use Rattle.wall_columns.specs.Columns.{HasTaken}
-use Rattle.wall_columns.specs.Leaves.{checks_over}
-use Rattle.wall_columns.specs.Places.{places_of}
+use Rattle.wall_columns.specs.{Columns.HasTaken, Leaves.checks_over, Places.places_of}
 use Rattle.wall_columns.specs.Saved.{OpeningsView}
 use Rattle.wall_columns.proofs.LeafLemmas.{limit-passed_on}
 use Rattle.wall_columns.proofs.OverLemmas.{openings_over-stop, openings_over-next, same_now}

@@ -2,8 +2,7 @@
 use Rattle.std.proofs.Common.{◌<◌, length, sym, refl, arith}
 use Rattle.picture_rules.specs.Words.{checked_plane}
 use Rattle.visplanes.specs.Planes.{with_planes}
-use Rattle.wall_columns.specs.Columns.{plane_number}
-use Rattle.wall_columns.specs.Leaves.{planes_checked}
+use Rattle.wall_columns.specs.{Columns.plane_number, Leaves.planes_checked}
 use Rattle.wall_columns.proofs.LeafLemmas.{limit-told, checks_over-counts, check-ceiling, check-floor}
 use Rattle.wall_columns.proofs.column_state.ColumnState.check_planes.Goals as goal
 

@@ -1,7 +1,6 @@
 -- A column more is marked.
 use Rattle.std.proofs.Common.{◌-◌, refl, ◌∙◌}
-use Rattle.wall_edges.specs.Fragments.{FragmentValue}
-use Rattle.wall_edges.specs.declared.stepper.Stepper.{Stepper}
+use Rattle.wall_edges.specs.{Fragments.FragmentValue, declared.stepper.Stepper.Stepper}
 use Rattle.wall_columns.proofs.MarkLemmas.{HasPassed, passed_columns, passed-none, passed-more, passed-all, passes-column}
 use Rattle.wall_columns.proofs.column_state.ColumnState.count_columns.Goals as goal
 

@@ -2,11 +2,8 @@ use Rattle.picture_rules.proofs.Common.{false, subst, sym, ◌∙◌, ◌≡◌}
 use Rattle.picture_rules.specs.declared.wall.FragmentNumbers.{FragmentNumbers}
 use Rattle.texture_build.specs.Paints.{painted_art}
 use Rattle.texture_build.proofs.PaintLemmas.{paints-none, paints-same}
-use Rattle.wall_columns.specs.Columns.{columns_of}
-use Rattle.wall_columns.specs.Drawn.{WallRange}
-use Rattle.wall_columns.specs.Plans.{has_part}
-use Rattle.wall_columns.specs.Tools.{wall_state, wall_tools}
-use Rattle.wall_columns.specs.Windows.{window_at}
+use Rattle.wall_columns.specs.{Columns.columns_of, Drawn.WallRange, Plans.has_part}
+use Rattle.wall_columns.specs.{Tools.wall_state, Tools.wall_tools, Windows.window_at}
 use Rattle.wall_columns.proofs.DrawnLemmas.{along-bare}
 use Rattle.wall_columns.proofs.column_state.ColumnState.draw_columns.Goals as goal
 

@@ -4,17 +4,13 @@ use Rattle.wall_columns.specs.Rules.{ColumnClip, Edges, FRAME_WIDTH}
 use Rattle.texture_build.specs.Paints.{painted_art}
 use Rattle.texture_build.proofs.PaintLemmas.{paints-none, paints-same, paints-then, paints-then_stop}
 use Rattle.visplanes.specs.Planes.{PlanesView}
-use Rattle.wall_edges.specs.Fragments.{FragmentValue}
-use Rattle.wall_edges.specs.declared.stepper.Stepper.{Stepper}
+use Rattle.wall_edges.specs.{Fragments.FragmentValue, declared.stepper.Stepper.Stepper}
 use Rattle.wall_columns.specs.declared.column_state.ColumnState.{ColumnState}
-use Rattle.wall_columns.specs.Columns.{columns_of, HasMarked}
+use Rattle.wall_columns.specs.{Columns.columns_of, Columns.HasMarked, Plans.AreEdgeWords}
 use Rattle.wall_columns.specs.Drawn.{CanPaint, PaintsColumn, WallRange, column_painted, dots_along}
-use Rattle.wall_columns.specs.Plans.{AreEdgeWords}
-use Rattle.wall_columns.specs.Tools.{wall_state, wall_tools}
-use Rattle.wall_columns.specs.Windows.{window_at}
-use Rattle.wall_columns.proofs.ClipLemmas.{edges_at-words}
+use Rattle.wall_columns.specs.{Tools.wall_state, Tools.wall_tools, Windows.window_at}
+use Rattle.wall_columns.proofs.{ClipLemmas.edges_at-words, FirstLemmas.rows-of}
 use Rattle.wall_columns.proofs.DrawnLemmas.{along-more, along-none, can_paint-later, paints-column, strips-in, strips-drawn}
-use Rattle.wall_columns.proofs.FirstLemmas.{rows-of}
 use Rattle.wall_columns.proofs.MarkLemmas.{HasPassed, passed_columns, passed-none, passed-more, passed-all, passes-column, window_is, edges_are, height_of}
 use Rattle.wall_columns.proofs.ToolLemmas.{after-same, before-same}
 use Rattle.wall_columns.proofs.column_state.ColumnState.draw_each.Goals as goal

@@ -1,9 +1,7 @@
 -- The columns that the stepper has passed are marked and painted.
 use Rattle.std.specs.Prelude.{◌≡◌, Ok}
 use Rattle.wall_edges.specs.Steppers.{IsAt}
-use Rattle.wall_columns.specs.Windows.{window_at}
-use Rattle.wall_columns.specs.Columns.{HasMarked}
-use Rattle.wall_columns.specs.Drawn.{PaintsColumns}
+use Rattle.wall_columns.specs.{Windows.window_at, Columns.HasMarked, Drawn.PaintsColumns}
 use Rattle.wall_columns.specs.Tools.{AreSameWallTools, wall_state, wall_tools}
 use Rattle.wall_columns.proofs.MarkLemmas.{passed_columns}
 use Rattle.wall_columns.proofs.column_state.ColumnState.draw_each.Given as goal

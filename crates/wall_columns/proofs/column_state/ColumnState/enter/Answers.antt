@@ -1,8 +1,7 @@
 -- The two planes are found one after the other, and the first count past the room is told.
 use Rattle.std.proofs.Common.{◌<◌, length, ap, sym, refl, arith}
 use Rattle.visplanes.specs.Planes.{PlanesView, with_planes}
-use Rattle.wall_columns.specs.Columns.{plane_number}
-use Rattle.wall_columns.specs.Leaves.{planes_found}
+use Rattle.wall_columns.specs.{Columns.plane_number, Leaves.planes_found}
 use Rattle.wall_columns.proofs.LeafLemmas.{limit-told, leaf_over-counts, enter-floor, enter-ceiling, among-longer, longer_found}
 use Rattle.wall_columns.proofs.column_state.ColumnState.enter.Goals as goal
 

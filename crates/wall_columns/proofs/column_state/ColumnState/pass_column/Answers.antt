@@ -1,10 +1,8 @@
 -- The rows that are marked are rows of a frame, and the window stays in its ranges.
 use Rattle.std.proofs.Common.{ap, ◌∙◌}
 use Rattle.wall_columns.specs.Rules.{ColumnClip, ceiling_rows, floor_rows}
-use Rattle.wall_columns.specs.declared.clips.ColumnPlan.{ColumnPlan}
-use Rattle.wall_columns.specs.Plans.{plan_of}
-use Rattle.wall_columns.proofs.MarkLemmas.{marked-planes}
-use Rattle.wall_columns.proofs.PlanLemmas.{plan-in}
+use Rattle.wall_columns.specs.{declared.clips.ColumnPlan.ColumnPlan, Plans.plan_of}
+use Rattle.wall_columns.proofs.{MarkLemmas.marked-planes, PlanLemmas.plan-in}
 use Rattle.wall_columns.proofs.column_state.ColumnState.pass_column.Goals as goal
 
 pub mark_rows-requires-clause-rows : goal.mark_rows-requires-clause-rows

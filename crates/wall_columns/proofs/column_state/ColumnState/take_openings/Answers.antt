@@ -1,8 +1,7 @@
 -- The places end where the openings end, and their count is told where it passes the room.
 use Rattle.std.proofs.Common.{◌≡◌, ◌<◌, ◌+◌, ◌-◌, ℕ, Some, None, length, arith, refl, ap, sym, ◌∙◌}
 use Rattle.picture_rules.specs.Words.{openings_count}
-use Rattle.wall_columns.specs.declared.notes.SavePlaces.{SavePlaces}
-use Rattle.wall_columns.specs.Faults.{limit_of_fault}
+use Rattle.wall_columns.specs.{declared.notes.SavePlaces.SavePlaces, Faults.limit_of_fault}
 use Rattle.wall_columns.specs.Places.{places_of}
 use Rattle.wall_columns.proofs.LeafLemmas.{limit-passed_on, over_room-passed, over_room-within}
 use Rattle.wall_columns.proofs.NoteLemmas.{places_of-end, places_of-within}

@@ -1,6 +1,5 @@
 -- A list is saved among those that are used.
-use Rattle.std.proofs.Common.{◌≡◌, ℤ, List, ap, rules, sym, ◌∙◌}
-use Rattle.std.proofs.lemmas.List.{with_items_is}
+use Rattle.picture_rules.proofs.Common.{◌≡◌, ℤ, List, ap, rules, sym, ◌∙◌, with_items_is}
 use Rattle.wall_columns.specs.Saved.{with_list}
 use Rattle.wall_columns.proofs.PartLemmas.{saved_view}
 use Rattle.wall_columns.proofs.openings.Openings.save_clips.Goals as goal

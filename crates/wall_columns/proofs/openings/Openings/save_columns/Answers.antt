@@ -1,8 +1,6 @@
 -- The texture columns are saved among those that are used.
-use Rattle.std.proofs.Common.{◌≡◌, ◌≤◌, ◌+◌, ◌-◌, ℕ, ℤ, List, length, ap, arith, rules, sym, ◌∙◌}
-use Rattle.wall_columns.specs.Rules.{listed_from, texture_column}
-use Rattle.std.proofs.lemmas.List.{with_items_is}
-use Rattle.wall_columns.specs.Saved.{with_list}
+use Rattle.picture_rules.proofs.Common.{◌≡◌, ◌≤◌, ◌+◌, ◌-◌, ℕ, ℤ, List, length, ap, arith, rules, sym, ◌∙◌, with_items_is}
+use Rattle.wall_columns.specs.{Rules.listed_from, Rules.texture_column, Saved.with_list}
 use Rattle.picture_rules.proofs.Laws.{length-listed_from}
 use Rattle.wall_columns.proofs.PartLemmas.{saved_view}
 use Rattle.wall_columns.proofs.openings.Openings.save_columns.Goals as goal

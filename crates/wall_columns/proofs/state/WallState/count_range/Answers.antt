@@ -3,8 +3,7 @@ use Rattle.std.proofs.Common.{◌≤◌, length, ap, refl, ◌∙◌, arith}
 use Rattle.picture_rules.specs.Words.{FRAME_WIDTH, ViewShape}
 use Rattle.wall_columns.specs.Walls.{WallsView}
 use Rattle.wall_columns.proofs.BuiltLemmas.{built-count, built-range}
-use Rattle.wall_columns.proofs.LeafLemmas.{limit-passed_on}
-use Rattle.wall_columns.proofs.OverLemmas.{limit-range}
+use Rattle.wall_columns.proofs.{LeafLemmas.limit-passed_on, OverLemmas.limit-range}
 use Rattle.wall_columns.proofs.state.WallState.count_range.Goals as goal
 
 pub returns-then-is_full-clause-built : goal.returns-then-is_full-clause-built

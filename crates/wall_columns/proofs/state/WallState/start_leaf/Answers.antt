@@ -1,8 +1,6 @@
 -- A leaf is entered.
 use Rattle.std.proofs.Common.{length, sym, subst, ◌∙◌}
-use Rattle.wall_columns.specs.Built.{IsBuilt}
-use Rattle.wall_columns.specs.States.{walls_view}
-use Rattle.wall_columns.specs.Walls.{WallsView}
+use Rattle.wall_columns.specs.{Built.IsBuilt, States.walls_view, Walls.WallsView}
 use Rattle.wall_columns.proofs.BuiltLemmas.{built-leaf, built-now}
 use Rattle.wall_columns.proofs.OverLemmas.{on_ok, step_over-leaf}
 use Rattle.wall_columns.proofs.state.WallState.start_leaf.Goals as goal

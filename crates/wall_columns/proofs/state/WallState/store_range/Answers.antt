@@ -2,13 +2,11 @@
 use Rattle.std.proofs.Common.{◌≤◌, List, length, ap, refl, subst, ◌∙◌, arith}
 use Rattle.picture_rules.specs.Words.{FRAME_WIDTH, PlanesNow, ViewShape, ViewValue, Wall}
 use Rattle.texture_build.proofs.PaintLemmas.{paints-none, paints-same, paints-stop}
-use Rattle.wall_columns.specs.Columns.{HasSaved}
-use Rattle.wall_columns.specs.Tools.{wall_state, wall_tools}
+use Rattle.wall_columns.specs.{Columns.HasSaved, Tools.wall_state, Tools.wall_tools}
 use Rattle.wall_columns.specs.Walls.{WallsView}
 use Rattle.wall_columns.proofs.BuiltLemmas.{built-count, built-range}
 use Rattle.wall_columns.proofs.DrawnLemmas.{can_paint-of, paints-range}
-use Rattle.wall_columns.proofs.LeafLemmas.{limit-passed_on}
-use Rattle.wall_columns.proofs.OverLemmas.{limit-range}
+use Rattle.wall_columns.proofs.{LeafLemmas.limit-passed_on, OverLemmas.limit-range}
 use Rattle.wall_columns.proofs.state.WallState.store_range.Goals as goal
 
 pub returns-then-is_full-clause-built : goal.returns-then-is_full-clause-built

@@ -1,12 +1,8 @@
-use Rattle.std.proofs.Common.{◌≡◌, ◌∙◌, ap, ap₂, sym, subst, refl, map, option_map, List, ℕ, length, arith}
-use Rattle.std.specs.Vec.{with_items}
-use Rattle.std.proofs.lemmas.List.{with_items_is}
+use Rattle.zone_rules.proofs.Common.{◌≡◌, ◌∙◌, ap, ap₂, sym, subst, refl, map, option_map, List, ℕ, length, arith, with_items, with_items_is}
 use Rattle.zone_heap.specs.Rules.{Heap, IsSound, Owner, owned_block, owner_at, retag_block}
 use Rattle.zone_rules.proofs.ChangeLemmas.{with_tag_sound}
 use Rattle.zone_rules.proofs.OwnerLemmas.{owned_block-map, owned_retagged_others, retag_held}
-use Rattle.zone_heap.specs.View.{heap_of}
-use Rattle.zone_heap.specs.Regions.{blocks_in, IsRing}
-use Rattle.zone_heap.specs.Homes.{AreExact}
+use Rattle.zone_heap.specs.{View.heap_of, Regions.blocks_in, Regions.IsRing, Homes.AreExact}
 use Rattle.zone_heap.proofs.ZoneLemmas.{exact_tagged, zone_with}
 use Rattle.zone_heap.proofs.zone.Zone.change_tag.Given.{Over}
 use Rattle.zone_heap.proofs.zone.Zone.change_tag.Goals.{After-retag}

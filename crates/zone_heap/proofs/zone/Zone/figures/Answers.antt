@@ -1,5 +1,5 @@
 use Rattle.std.proofs.Common.{◌∙◌, ap, arith}
-use Rattle.zone_rules.specs.Zones.{Heap, used_size, purgeable_size, free_size}
+use Rattle.zone_heap.specs.Rules.{Heap, free_size, purgeable_size, used_size}
 use Rattle.zone_rules.proofs.FigureLemmas.{parts_are_size}
 use Rattle.zone_heap.specs.Regions.{blocks_in}
 use Rattle.zone_heap.proofs.zone.Zone.figures.Goals as goal

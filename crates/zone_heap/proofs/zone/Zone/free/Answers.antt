@@ -1,14 +1,9 @@
-use Rattle.std.proofs.Common.{arith, ◌≡◌, ◌∙◌, ap, ap₂, sym, subst, refl, length, List, ℕ}
-use Rattle.std.specs.Vec.{with_items}
-use Rattle.std.proofs.lemmas.List.{with_items_is}
-use Rattle.zone_heap.specs.View.{heap_of}
+use Rattle.zone_rules.proofs.Common.{arith, ◌≡◌, ◌∙◌, ap, ap₂, sym, subst, refl, length, List, ℕ, with_items, with_items_is}
+use Rattle.zone_heap.specs.{View.heap_of, Regions.blocks_in, Regions.IsRing, Homes.AreExact}
 use Rattle.zone_heap.specs.Rules.{Heap, IsSound, Owner, free_owner, join_free, owned_block, owner_at, place_around, without_block}
 use Rattle.zone_rules.proofs.SoundLemmas.{without_block_sound}
 use Rattle.zone_rules.proofs.OwnerLemmas.{owned_freed, owned_freed_others}
-use Rattle.zone_heap.specs.Regions.{blocks_in, IsRing}
-use Rattle.zone_heap.specs.Homes.{AreExact}
-use Rattle.zone_heap.proofs.ZoneLemmas.{zone_with}
-use Rattle.zone_heap.proofs.zone.Zone.free.Given.{Over}
+use Rattle.zone_heap.proofs.{ZoneLemmas.zone_with, zone.Zone.free.Given.Over}
 use Rattle.zone_heap.proofs.zone.Zone.free.Goals.{After-place_in}
 use Rattle.zone_heap.proofs.zone.Zone.free.Goals as goal
 

@@ -1,6 +1,5 @@
-use Rattle.std.proofs.Common.{◌≡◌, ◌<◌, ◌∙◌, ap, ap₂, sym, subst}
-use Rattle.std.specs.Prelude.{is_some, not, ◌==◌, IsTrue}
-use Rattle.zone_rules.specs.Zones.{Heap, owner_at, holding_of, slot_count}
+use Rattle.zone_rules.proofs.Common.{◌≡◌, ◌<◌, ◌∙◌, ap, ap₂, sym, subst, is_some, not, ◌==◌, IsTrue}
+use Rattle.zone_heap.specs.Rules.{Heap, holding_of, owner_at, slot_count}
 use Rattle.zone_heap.specs.Homes.{NO_HOME, home_in}
 use Rattle.zone_heap.proofs.ZoneLemmas.{live_told}
 use Rattle.zone_heap.proofs.zone.Zone.is_live.Goals as goal

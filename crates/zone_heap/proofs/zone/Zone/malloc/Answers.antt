@@ -1,23 +1,12 @@
-use Rattle.std.proofs.Common.{arith, ◌≡◌, ◌<◌, ◌≤◌, ◌+◌, ◌∙◌, ap, ap₂, sym, true, false, subst, List, ℕ, length, refl, Ok, Err}
-use Rattle.std.specs.Vec.{with_items}
-use Rattle.std.proofs.lemmas.Bool.{false≢true}
-use Rattle.std.proofs.lemmas.List.{with_items_is}
-use Rattle.std.specs.Prelude.{IsNone, IsErr, All}
-use Rattle.std.specs.Result.{result_ok}
-use Rattle.zone_heap.specs.View.{heap_of, IsZone}
+use Rattle.zone_rules.proofs.Common.{arith, ◌≡◌, ◌<◌, ◌≤◌, ◌+◌, ◌∙◌, ap, ap₂, sym, true, false, subst, List, ℕ, length, refl, Ok, Err, with_items, false≢true, with_items_is, IsNone, IsErr, All, result_ok}
+use Rattle.zone_heap.specs.{View.heap_of, View.IsZone, declared.search.NoRoom.NoRoom}
 use Rattle.zone_heap.specs.Rules.{Block, Heap, Holding, IsSound, Lacks, Owner, RoomAt, TakesBlock, after_search, block_left, block_size, cap_count, count_among, first_room, gaps, holding_of, is_purgeable, owned_block, owner_at, passed_blocks, place_after, place_around, purge_count, slot_count, stretches, take_at, total, widest, with_block, without_room, MIN_FRAGMENT}
-use Rattle.zone_heap.specs.declared.search.NoRoom.{NoRoom}
-use Rattle.zone_heap.specs.Walks.{widest_from}
+use Rattle.zone_heap.specs.{Walks.widest_from, Headers.owner_in, Headers.code_tag}
 use Rattle.zone_rules.proofs.TakeLemmas.{InRange}
 use Rattle.zone_rules.proofs.SoundLemmas.{lacked, without_room_sound, with_block_sound, in_range_of, full_none, full_some}
-use Rattle.zone_heap.proofs.WalkLemmas.{widest_is}
+use Rattle.zone_heap.proofs.{WalkLemmas.widest_is, FullLemmas.full_all, ChangeLemmas.code_back}
 use Rattle.zone_rules.proofs.OwnerLemmas.{none_owned, owned_searched, owned_others, owned_new, cut_size, cut_least, cut_most}
-use Rattle.zone_heap.proofs.FullLemmas.{full_all}
-use Rattle.zone_heap.specs.Headers.{owner_in, code_tag}
-use Rattle.zone_heap.specs.Regions.{blocks_in, IsRing}
-use Rattle.zone_heap.specs.Homes.{AreExact}
-use Rattle.zone_heap.specs.Asks.{heap_at}
-use Rattle.zone_heap.proofs.ChangeLemmas.{code_back}
+use Rattle.zone_heap.specs.{Regions.blocks_in, Regions.IsRing, Homes.AreExact, Asks.heap_at}
 use Rattle.zone_heap.proofs.ZoneLemmas.{owner_back, number_small, region_len, zone_with}
 use Rattle.zone_heap.proofs.zone.Zone.malloc.Given.{Over}
 use Rattle.zone_heap.proofs.zone.Zone.malloc.Goals.{After-deref_mut, After-saturating_add-self-inside}

@@ -1,7 +1,6 @@
 use Rattle.std.proofs.Common.{refl, lit≤}
 use Rattle.zone_heap.proofs.ZoneLemmas.{IsSpan, span_is, span_bound, span_bytes, spans_apart, part_zone, part_rewritten}
-use Rattle.zone_heap.proofs.zone.Zone.pair.Given.{Over}
-use Rattle.zone_heap.proofs.zone.Zone.pair.Goals.{After-live_span-to}
+use Rattle.zone_heap.proofs.{zone.Zone.pair.Given.Over, zone.Zone.pair.Goals.After-live_span-to}
 use Rattle.zone_heap.proofs.zone.Zone.pair.Goals as goal
 
 read : (g : Over) (c : After-live_span-to g) → IsSpan c.self.inside c.args.self.now 0 c.args.read.number c.live_span-from.result
