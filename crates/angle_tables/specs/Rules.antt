@@ -7,8 +7,7 @@ unfoldable pub use Rattle.view_rules.specs.Shape.{height_of_size, left_of_size, 
 pub use Rattle.view_rules.specs.Sound.{IsSound, IsWithinFrame}
 unfoldable pub use Rattle.view_rules.specs.Tables.{angle_dist_scale, angle_of_column, clip_angle, column_of_angle, dist_scale, distance_light, fine_of_column, first_seen_by, focal_length, is_seen_by, near_light, projection, raw_column, scale_light, seen_column, start_map, within_view, y_slope}
 pub use Rattle.view_rules.specs.View.{TablesValue}
-pub use Rattle.view_rules.specs.declared.Spans.TheVariants.{Full}
-pub use Rattle.view_rules.specs.declared.TablesRefusal.{TablesRefusal}
+pub use Rattle.view_rules.specs.declared.{Spans.TheVariants.Full, TablesRefusal.TablesRefusal}
 pub use Rattle.view_rules.specs.declared.TablesRefusal.TheVariants.{Angle, Sine, Tangent}
 pub use Rattle.view_rules.specs.declared.TheConstants.{COLORMAPS, COSINE_START, DISTANCE_STEPS, FRAME_HEIGHT, FRAME_WIDTH, LIGHT_LEVELS, MAX_SIZE, MIN_SIZE, ROWS_ABOVE_BAR, SCALE_STEPS, SINES, SLOPE_ANGLES, TABLES_BYTES, TANGENTS, WORD_BYTES}
 pub use Rattle.view_rules.specs.declared.ViewShape.{ViewShape}

@@ -8,8 +8,7 @@ pub use Rattle.outside.specs.Stops.{FaultFitsOrAbsent, ResultIsOrAbsent, Stop, a
 pub use Rattle.outside.specs.TallySink.{IsTallyOf, Tally}
 pub use Rattle.outside.specs.declared.fault.Fault.{Fault}
 pub use Rattle.outside.specs.declared.fault.Fault.TheVariants.{OutOfMemory, ReadFault, Refused, ZoneFull}
-pub use Rattle.outside.specs.declared.shelf.Failed.{Failed}
-pub use Rattle.outside.specs.declared.shelf.FileNo.{FileNo}
+pub use Rattle.outside.specs.declared.{shelf.Failed.Failed, shelf.FileNo.FileNo}
 pub use Rattle.word_rules.specs.Least.{or_else}
 unfoldable pub use Rattle.word_rules.specs.Least.{greatest, least}
 unfoldable pub use Rattle.word_rules.specs.Listed.{joined_lists, listed}
@@ -28,8 +27,7 @@ pub use Rattle.lump_rules.specs.declared.names.Group.TheVariants.{Flats, Sprites
 pub use Rattle.lump_rules.specs.declared.names.TheConstants.{BEHAVIOR, BEHAVIOR_AFTER, F_END, F_START, LETTER_COUNT, MAP_LUMPS, S_END, S_START}
 pub use Rattle.lump_rules.specs.declared.wad.DirRefusal.{DirRefusal}
 pub use Rattle.lump_rules.specs.declared.wad.DirRefusal.TheVariants.{Entry, NotWad, Short, TooMany}
-pub use Rattle.lump_rules.specs.declared.wad.Lump.{Lump}
-pub use Rattle.lump_rules.specs.declared.wad.LumpNo.{LumpNo}
+pub use Rattle.lump_rules.specs.declared.{wad.Lump.Lump, wad.LumpNo.LumpNo}
 pub use Rattle.lump_rules.specs.declared.wad.TheConstants.{ENTRY_SIZE, HEADER_SIZE, MAX_LUMPS}
 unfoldable pub use Rattle.view_rules.specs.Sides.{side_of}
 pub use Rattle.view_rules.specs.declared.TablesRefusal.{TablesRefusal}
@@ -38,9 +36,7 @@ pub use Rattle.pixel_rules.specs.Art.{Art}
 unfoldable pub use Rattle.pixel_rules.specs.Art.{painter_of}
 pub use Rattle.pixel_rules.specs.Dots.{Dot}
 unfoldable pub use Rattle.pixel_rules.specs.Strips.{column_dots, shade}
-pub use Rattle.pixel_rules.specs.declared.Painter.{Painter}
-pub use Rattle.pixel_rules.specs.declared.Post.{Post}
-pub use Rattle.pixel_rules.specs.declared.Source.{Source}
+pub use Rattle.pixel_rules.specs.declared.{Painter.Painter, Post.Post, Source.Source}
 pub use Rattle.pixel_rules.specs.declared.TheConstants.{COMPOSITE, LUMP, NO_SOURCE}
 pub use Rattle.art_rules.specs.Books.{Outline}
 unfoldable pub use Rattle.art_rules.specs.Books.{book_lumps, book_of, each_of, first_needs, frame_in, frame_of, is_frame, last_mention, mention_outline, outline, outline_in, outline_of, outlines_of, patch_or_bad, picked, picture_or_missing, pictures_of, same_frame, shape_in, shape_lumps, shape_of, shape_outline}

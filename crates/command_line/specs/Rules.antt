@@ -3,8 +3,7 @@ pub use Rattle.job_rules.specs.Commands.{CommandValue, IsCounted, command_value,
 pub use Rattle.job_rules.specs.LevelJobs.{FileNames, LevelJobValue, file_names, level_job_value}
 unfoldable pub use Rattle.job_rules.specs.Options.{takes}
 pub use Rattle.job_rules.specs.Ranges.{AreSettings, IsWithin, IsZone}
-pub use Rattle.job_rules.specs.declared.command.Command.{Command}
-pub use Rattle.job_rules.specs.declared.command.Format.{Format}
+pub use Rattle.job_rules.specs.declared.{command.Command.Command, command.Format.Format}
 pub use Rattle.job_rules.specs.declared.command.Format.TheVariants.{Index, Ppm}
 pub use Rattle.job_rules.specs.declared.command.LevelTask.{LevelTask}
 pub use Rattle.job_rules.specs.declared.command.LevelTask.TheVariants.{Audit, Limits, Render, Trace, Trim}

@@ -2,8 +2,7 @@
 pub use Rattle.lump_rules.specs.Contents.{AllWithin, LiesWithin, file_bytes, named_bytes}
 unfoldable pub use Rattle.lump_rules.specs.Contents.{lump_bytes}
 pub use Rattle.lump_rules.specs.Lookups.{last_of, lump_at, no_lump}
-pub use Rattle.lump_rules.specs.declared.wad.Lump.{Lump}
-pub use Rattle.lump_rules.specs.declared.wad.LumpNo.{LumpNo}
+pub use Rattle.lump_rules.specs.declared.{wad.Lump.Lump, wad.LumpNo.LumpNo}
 pub use Rattle.outside.specs.Causes.{FaultsRose}
 pub use Rattle.outside.specs.Faults.{FaultFits, HasCauseAt, HasCauses, ResultIs, fault_above, from_below, itself}
 pub use Rattle.outside.specs.Shelf.{IsLaterShelf, IsPieceAt, NameFiles, ShelfView, counted}

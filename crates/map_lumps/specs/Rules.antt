@@ -1,8 +1,6 @@
 -- The words of the rules below that this crate cites, by the page that each comes from.
 unfoldable pub use Rattle.level_rules.specs.Levels.{child_on}
-pub use Rattle.level_rules.specs.declared.Child.{Child}
-pub use Rattle.level_rules.specs.declared.Leaf.{Leaf}
-pub use Rattle.level_rules.specs.declared.Seg.{Seg}
+pub use Rattle.level_rules.specs.declared.{Child.Child, Leaf.Leaf, Seg.Seg}
 pub use Rattle.level_rules.specs.declared.maps.layout.TheConstants.{LEAF_SIZE, LINE_SIZE, NODE_SIZE, SECTOR_SIZE, SEG_SIZE, SIDE_SIZE, THING_SIZE, VERTEX_SIZE}
 pub use Rattle.level_rules.specs.declared.maps.lumps.MapLump.{MapLump}
 pub use Rattle.level_rules.specs.declared.maps.lumps.MapLump.TheVariants.{Linedefs, Nodes, Sectors, Segs, Sidedefs, Ssectors, Things, Vertexes}

@@ -1,11 +1,7 @@
 -- The words of the rules below that this crate cites, by the page that each comes from.
 pub use Rattle.level_rules.specs.Levels.{LevelLists}
 unfoldable pub use Rattle.level_rules.specs.Levels.{child_on, leaf_at, node_at, seg_at, surface_at}
-pub use Rattle.level_rules.specs.declared.Box4.{Box4}
-pub use Rattle.level_rules.specs.declared.Child.{Child}
-pub use Rattle.level_rules.specs.declared.Leaf.{Leaf}
-pub use Rattle.level_rules.specs.declared.Node.{Node}
-pub use Rattle.level_rules.specs.declared.Seg.{Seg}
+pub use Rattle.level_rules.specs.declared.{Box4.Box4, Child.Child, Leaf.Leaf, Node.Node, Seg.Seg}
 pub use Rattle.level_rules.specs.declared.Surface.{Surface}
 pub use Rattle.level_rules.specs.declared.TheConstants.{MAX_DEPTH}
 pub use Rattle.level_rules.specs.declared.maps.lumps.TheConstants.{MAX_RECORDS}

@@ -1,18 +1,11 @@
 -- The words of the rules below that this crate cites, by the page that each comes from.
 pub use Rattle.level_rules.specs.Levels.{LevelLists, is_sky, no_leaf, no_seg, no_surface, sky_flat}
 unfoldable pub use Rattle.level_rules.specs.Levels.{leaf_at, node_at, seg_at, surface_at}
-pub use Rattle.level_rules.specs.declared.Child.{Child}
-pub use Rattle.level_rules.specs.declared.Child.TheVariants.{Node}
-pub use Rattle.level_rules.specs.declared.Leaf.{Leaf}
-pub use Rattle.level_rules.specs.declared.PlacedThing.{PlacedThing}
-pub use Rattle.level_rules.specs.declared.Sector.{Sector}
-pub use Rattle.level_rules.specs.declared.Seg.{Seg}
-pub use Rattle.level_rules.specs.declared.Side.{Side}
-pub use Rattle.level_rules.specs.declared.SideTextures.{SideTextures}
-pub use Rattle.level_rules.specs.declared.Surface.{Surface}
+pub use Rattle.level_rules.specs.declared.{Child.Child, Child.TheVariants.Node, Leaf.Leaf}
+pub use Rattle.level_rules.specs.declared.{PlacedThing.PlacedThing, Sector.Sector, Seg.Seg}
+pub use Rattle.level_rules.specs.declared.{Side.Side, SideTextures.SideTextures, Surface.Surface}
 pub use Rattle.level_rules.specs.declared.TheConstants.{BOTTOM_UNPEGGED, MAX_DEPTH, SKY_FLAT, TOP_UNPEGGED}
-pub use Rattle.level_rules.specs.declared.ThingLine.{ThingLine}
-pub use Rattle.level_rules.specs.declared.maps.records.MapLeaf.{MapLeaf}
+pub use Rattle.level_rules.specs.declared.{ThingLine.ThingLine, maps.records.MapLeaf.MapLeaf}
 pub use Rattle.level_rules.specs.declared.maps.refusal.MapRefusal.{MapRefusal}
 pub use Rattle.level_rules.specs.declared.walk.TheConstants.{MAX_DRAWSEGS}
 pub use Rattle.level_rules.specs.maps.Levels.{LevelValue, MapBytes}
@@ -33,9 +26,7 @@ pub use Rattle.pixel_rules.specs.Dots.{AreInColumn, AreInFrame, Dot}
 unfoldable pub use Rattle.pixel_rules.specs.Dots.{cell_of, colour_of, is_at, last_dot, last_dot_from, mark_or, put_dots}
 unfoldable pub use Rattle.pixel_rules.specs.Posts.{picture_top, post_bottom, post_colour, post_dots, post_first, post_last, post_rows, post_texel, post_top, posts_dots}
 unfoldable pub use Rattle.pixel_rules.specs.Strips.{column_dots, row_fraction, rows_between, shade, span_colour, span_dots, span_place, texel_row}
-pub use Rattle.pixel_rules.specs.declared.MaskedColumn.{MaskedColumn}
-pub use Rattle.pixel_rules.specs.declared.Painter.{Painter}
-pub use Rattle.pixel_rules.specs.declared.Post.{Post}
+pub use Rattle.pixel_rules.specs.declared.{MaskedColumn.MaskedColumn, Painter.Painter, Post.Post}
 pub use Rattle.pixel_rules.specs.declared.Source.{Source}
 pub use Rattle.pixel_rules.specs.declared.TheConstants.{COMPOSITE, FLAT_SIDE, FRAME_CELLS, LUMP, MIDDLE, PLANE, SKY, SPRITE, WALL, WEAPON}
 unfoldable pub use Rattle.view_rules.specs.Angles.{cosine_at, sine_at, tangent_at}
@@ -47,11 +38,8 @@ unfoldable pub use Rattle.view_rules.specs.Sides.{side_by_product, side_by_slope
 pub use Rattle.view_rules.specs.Sound.{IsWithinFrame}
 unfoldable pub use Rattle.view_rules.specs.Tables.{angle_of_column, dist_scale, projection, scale_light, y_slope}
 pub use Rattle.view_rules.specs.View.{TablesValue, ViewValue, view_of}
-pub use Rattle.view_rules.specs.declared.Eye.{Eye}
-pub use Rattle.view_rules.specs.declared.Partition.{Partition}
-pub use Rattle.view_rules.specs.declared.Spans.{Spans}
-pub use Rattle.view_rules.specs.declared.Spans.TheVariants.{Full}
-pub use Rattle.view_rules.specs.declared.TablesRefusal.{TablesRefusal}
+pub use Rattle.view_rules.specs.declared.{Eye.Eye, Partition.Partition, Spans.Spans}
+pub use Rattle.view_rules.specs.declared.{Spans.TheVariants.Full, TablesRefusal.TablesRefusal}
 pub use Rattle.view_rules.specs.declared.TablesRefusal.TheVariants.{Length}
 pub use Rattle.view_rules.specs.declared.TheConstants.{FRAME_HEIGHT, FRAME_WIDTH, HALF_UNIT, LIGHT_LEVELS, MAX_FRACTION, MAX_SCALE, MAX_SIZE, MIN_SCALE, MIN_SIZE, SCALE_STEPS, TABLES_BYTES, TANGENTS}
 pub use Rattle.view_rules.specs.declared.ViewShape.{ViewShape}

@@ -2,13 +2,10 @@
 unfoldable pub use Rattle.level_rules.specs.Levels.{child_on}
 pub use Rattle.level_rules.specs.declared.Child.{Child}
 pub use Rattle.level_rules.specs.declared.Child.TheVariants.{Leaf, Node}
-pub use Rattle.level_rules.specs.declared.PlacedThing.{PlacedThing}
-pub use Rattle.level_rules.specs.declared.Sector.{Sector}
-pub use Rattle.level_rules.specs.declared.Seg.{Seg}
+pub use Rattle.level_rules.specs.declared.{PlacedThing.PlacedThing, Sector.Sector, Seg.Seg}
 pub use Rattle.level_rules.specs.declared.SideTextures.{SideTextures}
 pub use Rattle.level_rules.specs.declared.TheConstants.{MAX_DEPTH, SKY_FLAT}
-pub use Rattle.level_rules.specs.declared.Thing.{Thing}
-pub use Rattle.level_rules.specs.declared.ThingLine.{ThingLine}
+pub use Rattle.level_rules.specs.declared.{Thing.Thing, ThingLine.ThingLine}
 pub use Rattle.level_rules.specs.declared.maps.lumps.MapLump.{MapLump}
 pub use Rattle.level_rules.specs.declared.maps.lumps.MapLump.TheVariants.{Linedefs, Nodes, Sectors, Segs, Sidedefs, Ssectors, Things, Vertexes}
 pub use Rattle.level_rules.specs.declared.maps.refusal.MapRefusal.{MapRefusal}

@@ -6,10 +6,8 @@ pub use Rattle.lump_rules.specs.Wads.{directory, entry_at, entry_count, file_ref
 unfoldable pub use Rattle.lump_rules.specs.Wads.{entry_refusal, file_lumps, listing_sizes, lumps_from, lumps_in, refusal_from, whole_header_refusal}
 pub use Rattle.lump_rules.specs.declared.names.Group.{Group}
 pub use Rattle.lump_rules.specs.declared.names.Group.TheVariants.{Flats, Sprites}
-pub use Rattle.lump_rules.specs.declared.wad.DirRefusal.{DirRefusal}
-pub use Rattle.lump_rules.specs.declared.wad.Header.{Header}
-pub use Rattle.lump_rules.specs.declared.wad.Lump.{Lump}
-pub use Rattle.lump_rules.specs.declared.wad.LumpNo.{LumpNo}
+pub use Rattle.lump_rules.specs.declared.{wad.DirRefusal.DirRefusal, wad.Header.Header}
+pub use Rattle.lump_rules.specs.declared.{wad.Lump.Lump, wad.LumpNo.LumpNo}
 pub use Rattle.lump_rules.specs.declared.wad.TheConstants.{ENTRY_SIZE, HEADER_SIZE, MAX_LUMPS}
 pub use Rattle.outside.specs.Faults.{FaultFits, HasCauses, ResultIs}
 pub use Rattle.outside.specs.Shelf.{IsLaterShelf, IsPieceAt, NameFiles, ShelfView, Stands}
