@@ -18,21 +18,11 @@ pub(crate) enum AngleList {
 }
 
 /// The three tables.
+#[derive(Drop)]
 pub(crate) struct AngleLists {
     sine: Vec<i32>,
     tangent: Vec<i32>,
     angle: Vec<u32>,
-}
-
-// By hand, so that a drop of one is one call.
-impl Drop for AngleLists {
-    fn drop(self) {
-        let AngleLists {
-            sine: _,
-            tangent: _,
-            angle: _,
-        } = self;
-    }
 }
 
 impl Model for AngleLists {

@@ -8,14 +8,14 @@ ghost use Rattle.command_line.specs.Choices.{allows, takes_each, takes_given};
 
 use crate::simple::value;
 use clap::ArgMatches;
-use job_rules::OPTIONS;
+use job_rules::{OPTION_COUNT, OPTIONS};
 
 // Whether the job takes each option that is given.
 #[tactic(auto, unfolding(crate::specs::Choices::takes_given))]
 pub(crate) fn takes_given(found: &ArgMatches<'_>, job: &str) -> bool
     ensures { result ≡ takes_given (rows_of (found_of found.now)) job.now }
 {
-    let options: [&str; 11] = OPTIONS;
+    let options: [&str; OPTION_COUNT] = OPTIONS;
     takes_each(found, job, options.as_slice())
 }
 

@@ -7,7 +7,7 @@ ghost use Rattle.command_line.specs.Simple.{bare_command, option_rule, simple_co
 use crate::fault::CommandFault;
 use clap::error::ErrorKind;
 use clap::{Arg, ArgAction, ArgMatches, Command, Error};
-use job_rules::OPTIONS;
+use job_rules::{OPTION_COUNT, OPTIONS};
 use std::alloc::{AllocError, Global};
 
 // What clap finds in the words, or what stops it.
@@ -76,7 +76,7 @@ fn simple_command<'a>(alloc: Global) -> Result<Command<'a>, AllocError>
     ensures { IfOk result (λ c. app_of c ≡ simple_command) }
 {
     let parser = bare_parser(alloc).with(Arg::new(alloc, "job"))?;
-    let options: [&'static str; 11] = OPTIONS;
+    let options: [&'static str; OPTION_COUNT] = OPTIONS;
     let parser = parser.with_options(alloc, options.as_slice())?;
     let parser = parser.with(Arg::new(alloc, "rest").action(ArgAction::Append))?;
     Ok(parser.command())

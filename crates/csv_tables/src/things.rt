@@ -31,20 +31,11 @@ pub const TYPES: usize = 65_536;
 pub const MAX_HANG: u16 = 32_767;
 
 /// How the things of each type look; contracts see the lines of the file in order.
+#[derive(Drop)]
 pub struct ThingTable {
     lines: Vec<ThingLine>,
     // for each type the number of its line, from 1, or 0 where it has none
     numbers: Vec<u16>,
-}
-
-// By hand, so that a drop of one is one call.
-impl Drop for ThingTable {
-    fn drop(self) {
-        let ThingTable {
-            lines: _,
-            numbers: _,
-        } = self;
-    }
 }
 
 impl Model for ThingTable {

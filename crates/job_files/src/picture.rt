@@ -5,19 +5,10 @@ use frame_writer::{FRAME_BYTES, PALETTE_BYTES};
 use std::marker::Model;
 
 /// A frame, and the palette for its indices. Contracts see the two lists.
+#[derive(Drop)]
 pub struct Picture {
     pixels: Vec<u8>,
     playpal: Vec<u8>,
-}
-
-// By hand, so that a drop of one is one call.
-impl Drop for Picture {
-    fn drop(self) {
-        let Picture {
-            pixels: _,
-            playpal: _,
-        } = self;
-    }
 }
 
 impl Model for Picture {

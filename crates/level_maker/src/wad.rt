@@ -17,19 +17,10 @@ use std::alloc::{AllocError, Global};
 use std::marker::Model;
 
 // The lumps of a file that is being put together, and its directory.
+#[derive(Drop)]
 struct Wad {
     lumps: Vec<u8>,
     directory: Vec<u8>,
-}
-
-// By hand, so that a drop of one is one call.
-impl Drop for Wad {
-    fn drop(self) {
-        let Wad {
-            lumps: _,
-            directory: _,
-        } = self;
-    }
 }
 
 impl Model for Wad {

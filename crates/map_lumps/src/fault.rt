@@ -1,4 +1,7 @@
 // Why there is no level.
+ghost use Rattle.std.specs.Prelude.{◌≡◌};
+ghost use Rattle.map_lumps.specs.declared.fault.MapFault.TheVariants.{OutOfMemory};
+
 use level_rules::MapRefusal;
 use std::alloc::{AllocError, AllocFailed};
 use thiserror::Error;
@@ -16,9 +19,6 @@ pub enum MapFault {
 }
 
 impl From<AllocError> for MapFault {
-    ghost use Rattle.std.specs.Prelude.{◌≡◌};
-    ghost use Rattle.map_lumps.specs.declared.fault.MapFault.TheVariants.{OutOfMemory};
-
     ghost from_gives = { λ _ e. e ≡ OutOfMemory };
 
     fn from(_e: AllocError) -> MapFault {
@@ -27,9 +27,6 @@ impl From<AllocError> for MapFault {
 }
 
 impl<T: Drop> From<AllocFailed<T>> for MapFault {
-    ghost use Rattle.std.specs.Prelude.{◌≡◌};
-    ghost use Rattle.map_lumps.specs.declared.fault.MapFault.TheVariants.{OutOfMemory};
-
     ghost from_gives = { λ _ e. e ≡ OutOfMemory };
 
     fn from(_e: AllocFailed<T>) -> MapFault {

@@ -1,6 +1,7 @@
 // The records of a map lump. Rules: `level_rules/maps`, Records.
 ghost use Rattle.std.specs.Prelude.{◌≡◌, ◌<◌, ◌≤◌, ◌+◌, ◌*◌, ◌/◌, ℕ, List, length, IfOk};
-ghost use Rattle.map_lumps.specs.Rules.{box_at, child_at, child_of, leaf_in, line_at, line_in, node_in, record_at, records_in, sector_in, seg_in, side_in, thing_in, vertex_in};
+ghost use Rattle.std.proofs.Common.{rules};
+ghost use Rattle.map_lumps.specs.Rules.{LEAF_SIZE, LINE_SIZE, NODE_SIZE, SECTOR_SIZE, SEG_SIZE, SIDE_SIZE, THING_SIZE, VERTEX_SIZE, box_at, child_at, child_of, leaf_in, line_at, line_in, node_in, record_at, records_in, sector_in, seg_in, side_in, thing_in, vertex_in};
 
 use crate::fields::{angle_field, fixed_at, half_at, name_field, signed_half_at};
 use level_rules::maps::layout::*;
@@ -51,10 +52,6 @@ fn entry_at(bytes: &[u8], size: usize, n: usize) -> &[u8]
 }
 
 impl MapRecord for Thing {
-    ghost use Rattle.std.specs.Prelude.{ℕ};
-    ghost use Rattle.std.proofs.Common.{rules};
-    ghost use Rattle.map_lumps.specs.Rules.{THING_SIZE, thing_in};
-
     ghost SIZE = { THING_SIZE };
 
     const SIZE: usize = THING_SIZE;
@@ -76,10 +73,6 @@ impl MapRecord for Thing {
 }
 
 impl MapRecord for MapLine {
-    ghost use Rattle.std.specs.Prelude.{ℕ};
-    ghost use Rattle.std.proofs.Common.{rules};
-    ghost use Rattle.map_lumps.specs.Rules.{LINE_SIZE, line_in};
-
     ghost SIZE = { LINE_SIZE };
 
     const SIZE: usize = LINE_SIZE;
@@ -99,10 +92,6 @@ impl MapRecord for MapLine {
 }
 
 impl MapRecord for Side {
-    ghost use Rattle.std.specs.Prelude.{ℕ};
-    ghost use Rattle.std.proofs.Common.{rules};
-    ghost use Rattle.map_lumps.specs.Rules.{SIDE_SIZE, side_in};
-
     ghost SIZE = { SIDE_SIZE };
 
     const SIZE: usize = SIDE_SIZE;
@@ -125,10 +114,6 @@ impl MapRecord for Side {
 }
 
 impl MapRecord for MapVertex {
-    ghost use Rattle.std.specs.Prelude.{ℕ};
-    ghost use Rattle.std.proofs.Common.{rules};
-    ghost use Rattle.map_lumps.specs.Rules.{VERTEX_SIZE, vertex_in};
-
     ghost SIZE = { VERTEX_SIZE };
 
     const SIZE: usize = VERTEX_SIZE;
@@ -147,10 +132,6 @@ impl MapRecord for MapVertex {
 }
 
 impl MapRecord for MapSeg {
-    ghost use Rattle.std.specs.Prelude.{ℕ};
-    ghost use Rattle.std.proofs.Common.{rules};
-    ghost use Rattle.map_lumps.specs.Rules.{SEG_SIZE, seg_in};
-
     ghost SIZE = { SEG_SIZE };
 
     const SIZE: usize = SEG_SIZE;
@@ -173,10 +154,6 @@ impl MapRecord for MapSeg {
 }
 
 impl MapRecord for MapLeaf {
-    ghost use Rattle.std.specs.Prelude.{ℕ};
-    ghost use Rattle.std.proofs.Common.{rules};
-    ghost use Rattle.map_lumps.specs.Rules.{LEAF_SIZE, leaf_in};
-
     ghost SIZE = { LEAF_SIZE };
 
     const SIZE: usize = LEAF_SIZE;
@@ -195,10 +172,6 @@ impl MapRecord for MapLeaf {
 }
 
 impl MapRecord for Node {
-    ghost use Rattle.std.specs.Prelude.{ℕ};
-    ghost use Rattle.std.proofs.Common.{rules};
-    ghost use Rattle.map_lumps.specs.Rules.{NODE_SIZE, node_in};
-
     ghost SIZE = { NODE_SIZE };
 
     const SIZE: usize = NODE_SIZE;
@@ -218,10 +191,6 @@ impl MapRecord for Node {
 }
 
 impl MapRecord for Sector {
-    ghost use Rattle.std.specs.Prelude.{ℕ};
-    ghost use Rattle.std.proofs.Common.{rules};
-    ghost use Rattle.map_lumps.specs.Rules.{SECTOR_SIZE, sector_in};
-
     ghost SIZE = { SECTOR_SIZE };
 
     const SIZE: usize = SECTOR_SIZE;

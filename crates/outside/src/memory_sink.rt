@@ -23,25 +23,13 @@ pub struct PutFault {
 /// Bytes in memory, up to a room. The puts are numbered from 1, and those that are listed fail.
 ///
 /// A put that passes the room appends what fits, and fails too.
+#[derive(Drop)]
 pub struct MemorySink {
     bytes: Vec<u8>,
     room: usize,
     failing: Vec<PutFault>,
     calls: u64,
     faults: u64,
-}
-
-// By hand, so that a drop of one is one call.
-impl Drop for MemorySink {
-    fn drop(self) {
-        let MemorySink {
-            bytes: _,
-            room: _,
-            failing: _,
-            calls: _,
-            faults: _,
-        } = self;
-    }
 }
 
 impl Model for MemorySink {

@@ -38,21 +38,11 @@ impl Drop for ReadBase {
 /// of its sectors, in the order of their lumps.
 ///
 /// The original: `textures` of `side_t`, `skytexture`, `floorpic` and `ceilingpic` of `sector_t`.
+#[derive(Drop)]
 pub struct ReadFaces {
     pub sides: Vec<SideTextures>,
     pub sky: Option<TexNo>,
     pub flats: Vec<SectorFlats>,
-}
-
-// By hand, so that a drop of one is one call.
-impl Drop for ReadFaces {
-    fn drop(self) {
-        let ReadFaces {
-            sides: _,
-            sky: _,
-            flats: _,
-        } = self;
-    }
 }
 
 /// A scene: its base with the wanted textures prepared, what the names in the level mean, the

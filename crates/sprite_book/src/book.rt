@@ -25,19 +25,10 @@ use std::marker::Model;
 /// It keeps an index by sprite and frame, so `pick` goes over no list.
 ///
 /// The original: `sprites`, r_things.c, for all frames of all sprites.
+#[derive(Drop)]
 pub struct SpriteBook {
     list: FrameList,
     pictures: Vec<LumpNo>,
-}
-
-// By hand, so that a drop of one is one call.
-impl Drop for SpriteBook {
-    fn drop(self) {
-        let SpriteBook {
-            list: _,
-            pictures: _,
-        } = self;
-    }
 }
 
 impl Model for SpriteBook {

@@ -12,19 +12,10 @@ use std::alloc::Global;
 use std::collections::BTreeMap;
 
 /// Frames in the order in which they were added, and the place of each.
+#[derive(Drop)]
 pub struct FrameList {
     pub frames: Vec<Frame>,
     pub index: BTreeMap<(Letters, u8), usize>,
-}
-
-// By hand, so that a drop of one is one call.
-impl Drop for FrameList {
-    fn drop(self) {
-        let FrameList {
-            frames: _,
-            index: _,
-        } = self;
-    }
 }
 
 impl FrameList {

@@ -17,19 +17,10 @@ use std::collections::BTreeMap;
 pub type Letters = [u8; SPRITE_LETTERS];
 
 /// The last mention of each frame, and of each frame with a rotation.
+#[derive(Drop)]
 pub struct Mentions {
     pub frames: BTreeMap<(Letters, u8), Mention>,
     pub turned: BTreeMap<(Letters, u8, u8), Mention>,
-}
-
-// By hand, so that a drop of one is one call.
-impl Drop for Mentions {
-    fn drop(self) {
-        let Mentions {
-            frames: _,
-            turned: _,
-        } = self;
-    }
 }
 
 // Goes over the names of the sprite lumps once.

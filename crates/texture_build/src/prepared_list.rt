@@ -13,19 +13,10 @@ use std::alloc::Global;
 use std::marker::Model;
 
 // The textures of some numbers, prepared, and the lumps of their patches, ascending and each once.
+#[derive(Drop)]
 pub(crate) struct PreparedList {
     textures: Vec<Option<PreparedTexture>>,
     lumps: Vec<LumpNo>,
-}
-
-// By hand, so that a drop of one is one call.
-impl Drop for PreparedList {
-    fn drop(self) {
-        let PreparedList {
-            textures: _,
-            lumps: _,
-        } = self;
-    }
 }
 
 impl Model for PreparedList {

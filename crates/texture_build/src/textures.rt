@@ -29,19 +29,10 @@ use texture_lists::{ListedTextures, TexFault, TexNo};
 /// The textures of a directory. Contracts see the lists, and by number what is prepared.
 ///
 /// The original: `textures`, r_data.c.
+#[derive(Drop)]
 pub struct Textures {
     lists: ListedTextures,
     prepared: PreparedList,
-}
-
-// By hand, so that a drop of one is one call.
-impl Drop for Textures {
-    fn drop(self) {
-        let Textures {
-            lists: _,
-            prepared: _,
-        } = self;
-    }
 }
 
 impl Model for Textures {

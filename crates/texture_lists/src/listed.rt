@@ -22,22 +22,12 @@ use std::marker::Model;
 /// were read.
 ///
 /// The original: `textures`, r_data.c.
+#[derive(Drop)]
 pub struct ListedTextures {
     names: Vec<Name8>,
     textures: Vec<ListedTexture>,
     // the least texture of each name
     index: BTreeMap<[u8; NAME_SIZE], u16>,
-}
-
-// By hand, so that a drop of one is one call.
-impl Drop for ListedTextures {
-    fn drop(self) {
-        let ListedTextures {
-            names: _,
-            textures: _,
-            index: _,
-        } = self;
-    }
 }
 
 impl Model for ListedTextures {
