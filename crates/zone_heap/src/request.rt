@@ -11,7 +11,8 @@ ghost use Rattle.zone_heap.specs.Walks.{widest_from};
 use crate::edits::{join, link, place_in, ring_place, take};
 use crate::headers::{FREE_OWNER, Used};
 use crate::homes::{Homes, free_at};
-use crate::search::{NoRoom, search};
+use crate::search::search;
+use crate::zone::ZoneFull;
 
 /// What a slot asks for: the size of its block with the header, and what its header says.
 #[derive(Clone, Copy)]
@@ -24,7 +25,7 @@ pub struct Request {
 /// blocks were purged.
 #[derive(Clone, Copy)]
 pub struct Outcome {
-    pub place: Result<usize, NoRoom>,
+    pub place: Result<usize, ZoneFull>,
     pub rover: usize,
     pub purges: u64,
 }
@@ -49,8 +50,8 @@ pub fn serve(region: &mut [u8], homes: &mut Homes, rover: usize, request: Reques
     ensures exact { AreExact homes.new (blocks_in region.new) }
     ensures place { first_room request.wanted (stretches rover (blocks_in region.old))
         ≡ result_ok result.place }
-    ensures widest { IfErr result.place (λ n.
-        n.widest ≡ widest_from 0 0 (blocks_in region.old)) }
+    ensures full { IfErr result.place (λ full. (full.wanted ≡ request.wanted)
+        × (full.widest ≡ widest_from 0 0 (blocks_in region.old))) }
     ensures purges { result.purges
         ≡ count_among (passed_blocks request.wanted (stretches rover (blocks_in region.old)))
         (blocks_in region.old) }
@@ -63,10 +64,10 @@ pub fn serve(region: &mut [u8], homes: &mut Homes, rover: usize, request: Reques
 {
     let room = search(region, homes, rover, request.wanted);
     match room.place {
-        Err(none) => {
+        Err(full) => {
             link(region);
             Outcome {
-                place: Err(none),
+                place: Err(full),
                 rover: place_in(region, rover),
                 purges: room.purges,
             }

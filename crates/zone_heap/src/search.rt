@@ -10,6 +10,7 @@ ghost use Rattle.zone_heap.specs.Regions.{blocks_in, blocks_from, IsLaid, IsSpli
 use crate::edits::join;
 use crate::headers::header_at;
 use crate::homes::{Homes, free_at};
+use crate::zone::ZoneFull;
 
 /// A run of blocks that holds a request: the place of its first block, and how many blocks from the
 /// start of the search end with its least front.
@@ -122,17 +123,11 @@ pub fn purge(region: &mut [u8], homes: &mut Homes, from: usize, most: usize) -> 
     count
 }
 
-/// No run of blocks holds what is wanted: the size of the widest gap before anything was purged.
-#[derive(Clone, Copy)]
-pub struct NoRoom {
-    pub widest: u64,
-}
-
 /// What a search came to: where a run begins that holds, if there is one, and how many blocks were
 /// purged.
 #[derive(Clone, Copy)]
 pub struct Room {
-    pub place: Result<usize, NoRoom>,
+    pub place: Result<usize, ZoneFull>,
     pub purges: u64,
 }
 
@@ -147,8 +142,8 @@ fn clear_way(region: &mut [u8], homes: &mut Homes, rover: usize, wanted: u64) ->
     ensures search { SearchIs wanted rover (blocks_in region.old) (result_ok result.place)
         (blocks_in region.new) result.purges }
     ensures room { IfOk result.place (λ p. RoomAt p wanted (join_free (blocks_in region.new))) }
-    ensures widest { IfErr result.place (λ n.
-        n.widest ≡ widest_from 0 0 (blocks_in region.old)) }
+    ensures full { IfErr result.place (λ full. (full.wanted ≡ wanted)
+        × (full.widest ≡ widest_from 0 0 (blocks_in region.old))) }
 {
     let start = start_place(region, rover);
     let all = region.len();
@@ -170,7 +165,7 @@ fn clear_way(region: &mut [u8], homes: &mut Homes, rover: usize, wanted: u64) ->
     let widest = widest_gap(region);
     let purges = purge(region, homes, 0, all);
     Room {
-        place: Err(NoRoom { widest }),
+        place: Err(ZoneFull { wanted, widest }),
         purges,
     }
 }
@@ -191,8 +186,8 @@ pub fn search(region: &mut [u8], homes: &mut Homes, rover: usize, wanted: u64) -
         ≡ count_among (passed_blocks wanted (stretches rover (blocks_in region.old)))
         (blocks_in region.old) }
     ensures room { IfOk result.place (λ p. RoomAt p wanted (blocks_in region.new)) }
-    ensures widest { IfErr result.place (λ n.
-        n.widest ≡ widest_from 0 0 (blocks_in region.old)) }
+    ensures full { IfErr result.place (λ full. (full.wanted ≡ wanted)
+        × (full.widest ≡ widest_from 0 0 (blocks_in region.old))) }
 {
     let room = clear_way(region, homes, rover, wanted);
     join(region);

@@ -32,7 +32,7 @@ pub enum ZoneMake {
 
 /// No gap holds what is wanted: the size of the block with its header, and the widest gap, in
 /// bytes.
-#[derive(Debug, Drop, Error)]
+#[derive(Clone, Copy, Debug, Drop, Error)]
 #[error("the zone is full: a block of {wanted} bytes was wanted, the widest gap has {widest}")]
 pub struct ZoneFull {
     pub wanted: u64,
@@ -162,11 +162,8 @@ impl Zone {
         let outcome = serve(&mut self.region, &mut self.homes, rover, request);
         self.purges = self.purges.saturating_add(outcome.purges);
         self.rover = outcome.rover as u32;
-        if let Err(none) = outcome.place {
-            return Err(ZoneFull {
-                wanted,
-                widest: none.widest,
-            });
+        if let Err(full) = outcome.place {
+            return Err(full);
         }
         Ok(())
     }

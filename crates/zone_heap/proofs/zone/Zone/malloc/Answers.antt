@@ -1,5 +1,5 @@
 use Rattle.zone_rules.proofs.Common.{arith, ◌≡◌, ◌<◌, ◌≤◌, ◌+◌, ◌∙◌, ap, ap₂, sym, true, false, subst, List, ℕ, length, refl, Ok, Err, with_items, false≢true, with_items_is, IsNone, IsErr, All, result_ok}
-use Rattle.zone_heap.specs.{View.heap_of, View.IsZone, declared.search.NoRoom.NoRoom}
+use Rattle.zone_heap.specs.{View.heap_of, View.IsZone, declared.zone.ZoneFull.ZoneFull}
 use Rattle.zone_heap.specs.Rules.{Block, Heap, Holding, IsSound, Lacks, Owner, RoomAt, TakesBlock, after_search, block_left, block_size, cap_count, count_among, first_room, gaps, holding_of, is_purgeable, owned_block, owner_at, passed_blocks, place_after, place_around, purge_count, slot_count, stretches, take_at, total, widest, with_block, without_room, MIN_FRAGMENT}
 use Rattle.zone_heap.specs.{Walks.widest_from, Headers.owner_in, Headers.code_tag}
 use Rattle.zone_rules.proofs.TakeLemmas.{InRange}
@@ -54,9 +54,9 @@ abbrev new_heap : (g : Over) (c : After-saturating_add-self-inside g) → Heap
 new_heap g c = record { size = c.self.inside.size; lumps = c.serve-outcome.new.homes.lumps; composites = c.self.inside.composites; blocks = blocks_in (with_items c.self.inside.region c.serve-outcome.new.region).items; rover = c.serve-outcome.result.rover; purges = c.saturating_add-self-inside.result }
 
 -- the zone after a search that found nothing
-none_heap : (g : Over) (c : After-saturating_add-self-inside g) (none : NoRoom) → c.serve-outcome.result.place ≡ Err none
+none_heap : (g : Over) (c : After-saturating_add-self-inside g) (full : ZoneFull) → c.serve-outcome.result.place ≡ Err full
     → new_heap g c ≡ without_room c.block_size-wanted.result (heap_of c.self.inside)
-none_heap g c none e =
+none_heap g c full e =
     let inside = c.self.inside in let outcome = c.serve-outcome.ensures.none (subst IsErr (sym e) refl) in
     let blocks_are = ap blocks_in (items_are g c) ∙ outcome.0
     ∙ ap (λ xs. after_search c.block_size-wanted.result (heap_at xs inside.homes inside.rover)) c.deref_mut.ensures.value in
@@ -175,10 +175,12 @@ returns-in-Err-clause-full g c =
     )
 
 pub returns-in-Err-clause-report : goal.returns-in-Err-clause-report
-returns-in-Err-clause-report g c = (
-  c.block_size-wanted.ensures.value,
-  (let there = c.serve-outcome.ensures.widest in let widest_told = rw c.in-Err.is at there in widest_told) ∙ ap (λ xs. widest_from 0 0 (blocks_in xs)) c.deref_mut.ensures.value ∙ widest_is (blocks_in c.self.inside.region.items) ∙ ap (λ (y : Heap). widest (gaps y.blocks)) c.self.view_is,
-)
+returns-in-Err-clause-report g c =
+    let full = c.serve-outcome.ensures.full in
+    let reported = rw c.in-Err.is at full in (
+      reported.0 ∙ c.block_size-wanted.ensures.value,
+      reported.1 ∙ ap (λ xs. widest_from 0 0 (blocks_in xs)) c.deref_mut.ensures.value ∙ widest_is (blocks_in c.self.inside.region.items) ∙ ap (λ (y : Heap). widest (gaps y.blocks)) c.self.view_is,
+    )
 
 pub returns-in-Err-clause-err : goal.returns-in-Err-clause-err
 returns-in-Err-clause-err g c = none_heap g (goal.at.returns-in-Err-clause-err g c).After-saturating_add-self-inside _ c.in-Err.is
