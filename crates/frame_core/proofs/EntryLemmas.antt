@@ -103,6 +103,6 @@ module _ (Q : ℕ → Type 0) where
 pub entry_lump : (bytes : ℕ → List ℕ) (v : ViewValue) (s : SceneValue) (events : List Event) (sprites : List SpriteEntry) (i : ℕ) (e : SpriteEntry) → sprites ≡ view_entries v (scene_of bytes s) events →
     i < length sprites → list_any (λ n. n == (get_or sprites i e).lump) (book_lumps s.book) ≡ true
 entry_lump bytes v s events sprites i e is l =
-    let Q : ℕ → Type 0 = λ lump. list_any (λ n. n == lump) (book_lumps s.book) ≡ true in
-    let all = entries_have Q bytes v s (each_found (book_lumps s.book)) events in
-    All-from_recursion (λ (e : SpriteEntry). Q e.lump) sprites (subst (AllByRecursion (λ (e : SpriteEntry). Q e.lump)) (sym is) all) i e l
+    let is_book_lump : ℕ → Type 0 = λ lump. list_any (λ n. n == lump) (book_lumps s.book) ≡ true in
+    let all = entries_have is_book_lump bytes v s (each_found (book_lumps s.book)) events in
+    All-from_recursion (λ (e : SpriteEntry). is_book_lump e.lump) sprites (subst (AllByRecursion (λ (e : SpriteEntry). is_book_lump e.lump)) (sym is) all) i e l

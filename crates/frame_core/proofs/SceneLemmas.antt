@@ -35,11 +35,11 @@ got_at : {X Y R : Type 0} (f : X → Option Y) (refuse : ℕ → R) (number : �
 unfolding each_from
 got_at f refuse number [] ys i d e h l = absurd (omega (arith, l))
 got_at f refuse number (x ∷ xs) ys zero d e h l =
-    let first = first_got (f x) (refuse number) (each_from f refuse (suc number) xs) ys h in
-    first.2 ∙ ap (λ zs. Some (get_or zs 0 e)) (sym first.4)
+    let item_and_rest = first_got (f x) (refuse number) (each_from f refuse (suc number) xs) ys h in
+    item_and_rest.2 ∙ ap (λ zs. Some (get_or zs 0 e)) (sym item_and_rest.4)
 got_at f refuse number (x ∷ xs) ys (suc i) d e h l =
-    let first = first_got (f x) (refuse number) (each_from f refuse (suc number) xs) ys h in
-    got_at f refuse (suc number) xs first.1 i d e first.3 (omega (arith, l)) ∙ ap (λ zs. Some (get_or zs (suc i) e)) (sym first.4)
+    let item_and_rest = first_got (f x) (refuse number) (each_from f refuse (suc number) xs) ys h in
+    got_at f refuse (suc number) xs item_and_rest.1 i d e item_and_rest.3 (omega (arith, l)) ∙ ap (λ zs. Some (get_or zs (suc i) e)) (sym item_and_rest.4)
 
 -- the flats of a sector are those of its names
 both_named : (floor ceiling : Option Flat) (both : SectorFlats) → option_and_then (λ f. option_map (both_flats f) ceiling) floor ≡ Some both → (floor ≡ Some both.floor) × (ceiling ≡ Some both.ceiling)

@@ -116,16 +116,16 @@ pub planes-more : (planes : List Plane) (makers : List PlaneMaker) (i n : ℕ) (
     listed_planes planes (take i makers) ++ listed_plane (get_or planes i p) (get_or makers i m) ∷ [] ≡ listed_planes planes (take n makers)
 unfolding listed_planes
 planes-more planes makers i n p m e l k =
-    let f : Plane × PlaneMaker → ListedPlane = λ both. listed_plane both.0 both.1 in
+    let listed_pair : Plane × PlaneMaker → ListedPlane = λ both. listed_plane both.0 both.1 in
     let next : suc i ≡ n = omega (arith, e) in
-    sym (map-append f (zip planes (take i makers)) ((get_or planes i p, get_or makers i m) ∷ []))
-    ∙ ap (map f) (zip_more planes makers i p m l k ∙ ap (λ (j : ℕ). zip planes (take j makers)) next)
+    sym (map-append listed_pair (zip planes (take i makers)) ((get_or planes i p, get_or makers i m) ∷ []))
+    ∙ ap (map listed_pair) (zip_more planes makers i p m l k ∙ ap (λ (j : ℕ). zip planes (take j makers)) next)
 
 pub planes-none : (planes : List Plane) (makers : List PlaneMaker) (i : ℕ) → i ≡ 0 → [] ≡ listed_planes planes (take i makers)
 unfolding listed_planes
 planes-none planes makers i e =
-    let f : Plane × PlaneMaker → ListedPlane = λ both. listed_plane both.0 both.1 in
-    ap (map f) (sym (zip_none planes)) ∙ ap (λ (j : ℕ). map f (zip planes (take j makers))) (sym e)
+    let listed_pair : Plane × PlaneMaker → ListedPlane = λ both. listed_plane both.0 both.1 in
+    ap (map listed_pair) (sym (zip_none planes)) ∙ ap (λ (j : ℕ). map listed_pair (zip planes (take j makers))) (sym e)
 
 pub planes-end : (planes : List Plane) (makers : List PlaneMaker) (i : ℕ) → length makers ≤ i → listed_planes planes (take i makers) ≡ listed_planes planes makers
 planes-end planes makers i l = ap (listed_planes planes) (take_all i makers l)

@@ -31,8 +31,8 @@ frame_below n test (first ∷ rest) frame e below =
 shape_below : (n rotation : ℕ) (shapes : List Shape) (shape : Shape) → slice_get shapes rotation ≡ Some shape → AllBelow n (map (λ (s : Shape). s.lump.0) shapes) → shape.lump.0 < n
 shape_below n rotation shapes shape e below =
     let inside : rotation < length shapes = slice_get_within shapes rotation shape e in
-    let one = below rotation (shape.lump.0) (subst (λ (m : ℕ). rotation < m) (sym (length-map shapes (λ (s : Shape). s.lump.0))) inside) in
-    subst (λ (lump : ℕ). lump < n) (get_or-map (λ (s : Shape). s.lump.0) shapes rotation shape ∙ ap (λ (s : Shape). s.lump.0) (get_or_from_slice_get shapes rotation shape shape e)) one
+    let lump_below = below rotation (shape.lump.0) (subst (λ (m : ℕ). rotation < m) (sym (length-map shapes (λ (s : Shape). s.lump.0))) inside) in
+    subst (λ (lump : ℕ). lump < n) (get_or-map (λ (s : Shape). s.lump.0) shapes rotation shape ∙ ap (λ (s : Shape). s.lump.0) (get_or_from_slice_get shapes rotation shape shape e)) lump_below
 
 picked_from : (n rotation : ℕ) (frame : Option Frame) (shape : Shape) → option_and_then (λ (f : Frame). slice_get f.shapes rotation) frame ≡ Some shape →
     ((f : Frame) → frame ≡ Some f → AllBelow n (shape_lumps f)) → shape.lump.0 < n
