@@ -13,9 +13,9 @@ loop-name-init g c = record {
 
 pub returns-in_err-number-clause-stops : goal.returns-in_err-number-clause-stops
 returns-in_err-number-clause-stops g c files holds =
-    let p = err_from_is_err_and c.from_residual.result c.from_residual.ensures.1 in
+    let result_is_error = err_from_is_err_and c.from_residual.result c.from_residual.ensures.1 in
     let held = c.loop-name.invariant.follows.all_files ∙ holds in
-    rw (p.1, p.2)
+    rw (result_is_error.1, result_is_error.2)
     (λ steady. lacking_stops c.args.names.now c.loop-name.name-index _ files c.find.result _ (omega arith)
     (rw held at (c.find.ensures.steady (c.loop-name.invariant.follows.steady ∙ steady))) c.in_err-number.was)
 
