@@ -28,9 +28,9 @@ module _ (Q : ℕ → Type 0) where
   frame_has : (test : Frame → Bool) (book : List Frame) (frame : Frame) → find test book ≡ Some frame → AllByRecursion Q (joined_lists shape_lumps book) → AllByRecursion Q (shape_lumps frame)
   frame_has test [] frame e h = absurd (cc)
   frame_has test (first ∷ rest) frame e h =
-      let both : AllByRecursion Q (shape_lumps first ++ joined_lists shape_lumps rest) = subst (AllByRecursion Q) (joined_lists-cons shape_lumps first rest) h in
-      first_or_later (test first) first frame (find test rest) e (all_left (shape_lumps first) (joined_lists shape_lumps rest) both)
-      (λ later. frame_has test rest frame later (all_right (shape_lumps first) (joined_lists shape_lumps rest) both))
+      let all_lumps_pass : AllByRecursion Q (shape_lumps first ++ joined_lists shape_lumps rest) = subst (AllByRecursion Q) (joined_lists-cons shape_lumps first rest) h in
+      first_or_later (test first) first frame (find test rest) e (all_left (shape_lumps first) (joined_lists shape_lumps rest) all_lumps_pass)
+      (λ later. frame_has test rest frame later (all_right (shape_lumps first) (joined_lists shape_lumps rest) all_lumps_pass))
 
   shape_has : (rotation : ℕ) (shapes : List Shape) (shape : Shape) → slice_get shapes rotation ≡ Some shape → AllByRecursion Q (map (λ (s : Shape). s.lump.0) shapes) → Q shape.lump.0
   shape_has rotation [] shape e h = absurd (cc)

@@ -118,10 +118,10 @@ flat_shown scene lump long shown =
 flat_lump : (lumps : List Lump) (scene : SceneValue) (z : Heap) (sky : Option TexNo) (shape : ViewShape) (planes : List Plane) (lump : ℕ) → CanDrawView lumps scene z → IsSkyOf scene sky → All (IsPlaneIn shape scene) planes → IsFlatOf planes lump →
     IsViewLump lumps scene lump
 flat_lump lumps scene z sky shape planes lump can is all asked =
-    let shown : IsFlatShown scene (flat.Lump lump) = subst (IsFlatShown scene) asked.is (All-contains (IsPlaneIn shape scene) planes asked.plane all asked.among).flat in
+    let flat_is_shown : IsFlatShown scene (flat.Lump lump) = subst (IsFlatShown scene) asked.is (All-contains (IsPlaneIn shape scene) planes asked.plane all asked.among).flat in
     record {
-      there = flat_there lumps scene z sky can is (flat.Lump lump) shown;
-      drawn = or_left (list_any (has_flat lump) scene.faces.flats) (list_any (λ n. n == lump) (book_lumps scene.book)) (flat_shown scene lump can.drawable.flats shown);
+      there = flat_there lumps scene z sky can is (flat.Lump lump) flat_is_shown;
+      drawn = or_left (list_any (has_flat lump) scene.faces.flats) (list_any (λ n. n == lump) (book_lumps scene.book)) (flat_shown scene lump can.drawable.flats flat_is_shown);
     }
 
 -- what the call that draws planes paints, with these textures and this colormap

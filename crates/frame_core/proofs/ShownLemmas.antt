@@ -81,8 +81,8 @@ below z width h = grind (arith, ints)
 pub entry-last : (v : ViewValue) (number : ℕ) (thing : Placed) (seen : Seen) (shape : Shape5) (e : SpriteEntry) → v.shape.width ≤ FRAME_WIDTH → Some e ≡ entry_for v number thing seen shape → e.last ≤ℤ pos FRAME_WIDTH
 unfolding lies_within
 entry-last v number thing seen shape e l h =
-    let both = and_parts (int_le (pos 0) e.first) (int_lt e.last (pos v.shape.width)) (entry_for-lies_within v number thing seen shape e (sym h)) in
-    wider e.last v.shape.width FRAME_WIDTH (below e.last v.shape.width both.1) l
+    let columns_in_view = and_parts (int_le (pos 0) e.first) (int_lt e.last (pos v.shape.width)) (entry_for-lies_within v number thing seen shape e (sym h)) in
+    wider e.last v.shape.width FRAME_WIDTH (below e.last v.shape.width columns_in_view.1) l
 
 -- a sector's things, where it was not entered before
 pub entered-new : (bytes : ℕ → List ℕ) (v : ViewValue) (s : SceneValue) (is_known : Bool) (sector : ℕ) (list next : WalkListValue) → is_known ≡ false →

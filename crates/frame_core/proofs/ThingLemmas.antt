@@ -24,9 +24,9 @@ first_or_later n false first frame later e below after = after e
 frame_below : (n : ℕ) (test : Frame → Bool) (book : List Frame) (frame : Frame) → find test book ≡ Some frame → AllBelow n (joined_lists shape_lumps book) → AllBelow n (shape_lumps frame)
 frame_below n test [] frame e below = absurd (cc)
 frame_below n test (first ∷ rest) frame e below =
-    let both : AllBelow n (shape_lumps first ++ joined_lists shape_lumps rest) = subst (AllBelow n) (joined_lists-cons shape_lumps first rest) below in
-    first_or_later n (test first) first frame (find test rest) e (left_below n (shape_lumps first) (joined_lists shape_lumps rest) both)
-    (λ later. frame_below n test rest frame later (right_below n (shape_lumps first) (joined_lists shape_lumps rest) both))
+    let lumps_below : AllBelow n (shape_lumps first ++ joined_lists shape_lumps rest) = subst (AllBelow n) (joined_lists-cons shape_lumps first rest) below in
+    first_or_later n (test first) first frame (find test rest) e (left_below n (shape_lumps first) (joined_lists shape_lumps rest) lumps_below)
+    (λ later. frame_below n test rest frame later (right_below n (shape_lumps first) (joined_lists shape_lumps rest) lumps_below))
 
 shape_below : (n rotation : ℕ) (shapes : List Shape) (shape : Shape) → slice_get shapes rotation ≡ Some shape → AllBelow n (map (λ (s : Shape). s.lump.0) shapes) → shape.lump.0 < n
 shape_below n rotation shapes shape e below =

@@ -55,10 +55,10 @@ unfolding with_sprite
 with_room entries things list e thing s is room h =
     let same : length entries ≡ length things = (let entries_count = h.count in omega (arith, entries_count, room)) in
     let sprites_count = list_counted entries things list h in
-    let yes : nat_lt (length list.sprites) MAX_VISSPRITES ≡ true = rw sprites_count (grind (arith, nat_tests)) in
+    let has_room : nat_lt (length list.sprites) MAX_VISSPRITES ≡ true = rw sprites_count (grind (arith, nat_tests)) in
     record {
       count = (let more_things = length_push things thing in let more_entries = length_push entries e in omega (arith, same, more_things, more_entries, room));
-      sprites = ap (λ (b : Bool). cond b (list.sprites ++ s ∷ []) list.sprites) yes
+      sprites = ap (λ (b : Bool). cond b (list.sprites ++ s ∷ []) list.sprites) has_room
           ∙ ap (λ (ss : List ListedSprite). ss ++ s ∷ []) h.sprites
           ∙ ap (λ (t : ListedSprite). listed_sprites entries things ++ t ∷ []) is
           ∙ sym (sprites_push entries things e thing same);
@@ -71,10 +71,10 @@ unfolding with_sprite
 without_room entries things list thing s full h =
     let entries_to_things : length entries ≤ length things = (let entries_count = h.count in omega (arith, entries_count)) in
     let sprites_count = list_counted entries things list h in
-    let no : nat_lt (length list.sprites) MAX_VISSPRITES ≡ false = rw sprites_count (grind (arith, nat_tests)) in
-    record {
+    let no_room : nat_lt (length list.sprites) MAX_VISSPRITES ≡ false = rw sprites_count (grind (arith, nat_tests)) in record {
       count = (let entries_count = h.count in let more_things = length_push things thing in omega (arith, entries_count, more_things, full));
-      sprites = ap (λ (b : Bool). cond b (list.sprites ++ s ∷ []) list.sprites) no ∙ h.sprites ∙ sym (sprites_longer entries things thing entries_to_things);
+      sprites = ap (λ (b : Bool). cond b (list.sprites ++ s ∷ []) list.sprites) no_room ∙ h.sprites
+          ∙ sym (sprites_longer entries things thing entries_to_things);
       all = counts_more list things thing h.all;
     }
 
@@ -218,12 +218,12 @@ module _ (v : ViewValue) (scene : Scene) (es : List Event) where
       let fragments_count = fragments_counted list h in
       elim (cases_lt (length (drawsegs es)) MAX_DRAWSEGS) [
         | inl room ↦ (
-            let yes : nat_lt (length list.fragments) MAX_DRAWSEGS ≡ true = rw fragments_count (grind (arith, nat_tests)) in
-            ap (λ (b : Bool). cond b (list.fragments ++ new_fragment ∷ []) list.fragments) yes
+            let has_room : nat_lt (length list.fragments) MAX_DRAWSEGS ≡ true = rw fragments_count (grind (arith, nat_tests)) in
+            ap (λ (b : Bool). cond b (list.fragments ++ new_fragment ∷ []) list.fragments) has_room
             ∙ ap (λ (fs : List ListedFragment). fs ++ new_fragment ∷ []) h.fragments ∙ sym (fragments-room es seg first last room))
         | inr full ↦ (
-            let no : nat_lt (length list.fragments) MAX_DRAWSEGS ≡ false = rw fragments_count (grind (arith, nat_tests)) in
-            ap (λ (b : Bool). cond b (list.fragments ++ new_fragment ∷ []) list.fragments) no ∙ h.fragments ∙ sym (fragments-full es seg first last full))
+            let no_room : nat_lt (length list.fragments) MAX_DRAWSEGS ≡ false = rw fragments_count (grind (arith, nat_tests)) in
+            ap (λ (b : Bool). cond b (list.fragments ++ new_fragment ∷ []) list.fragments) no_room ∙ h.fragments ∙ sym (fragments-full es seg first last full))
       ]
 
   -- one fragment more
@@ -286,9 +286,9 @@ leaf-listed v bytes s most es n sector planes is_known b c list mid next is ther
     let scene = scene_of bytes s in
     let own : sector ≡ leaf_sector scene n = leaf_of bytes s n sector is in
     let entered : is_entered scene es (leaf_sector scene n) ≡ is_known = ap (is_entered scene es) (sym own) ∙ sym (before.entered sector there) ∙ sym known in
-    let made : next ≡ list_leaf v scene is_known n (leaf_sector scene n) planes list =
+    let next_is : next ≡ list_leaf v scene is_known n (leaf_sector scene n) planes list =
     entering ∙ ap (with_entered v scene is_known sector) making ∙ ap (λ (k : ℕ). with_entered v scene is_known k (with_makers list (Leaf n) planes)) own in
-    subst (HasListed v scene (es ++ LeafEvent n ∷ [])) (sym made)
+    subst (HasListed v scene (es ++ LeafEvent n ∷ [])) (sym next_is)
     (listed-leaf v scene es n planes is_known list entered (count ∙ ap (λ (ps : List Plane). length ps) (planes-walked v bytes s most (es ++ LeafEvent n ∷ []) c after)) h)
 
 -- a fragment that the bench has counted

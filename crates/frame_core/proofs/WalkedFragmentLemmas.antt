@@ -44,7 +44,7 @@ walked_full : (v : ViewValue) (bytes : ℕ → List ℕ) (scene : SceneValue) (m
     HasWalked v bytes scene most events old → HasWalked v bytes scene most (events ++ FragmentEvent seg first last ∷ []) (bench_of planes walls old.sprites old.entered old.sector)
 walked_full v bytes scene most events seg first last old planes walls there full same_planes same_walls h =
     let whole_scene = scene_of bytes scene in let es = events ++ FragmentEvent seg first last ∷ [] in
-    let seen = seen-fragment v bytes scene most events seg first last old planes walls h in
+    let stays_seen = seen-fragment v bytes scene most events seg first last old planes walls h in
     let steps = steps-full v whole_scene events seg first last full in
     record {
       there = All-push (IsEventIn v scene) events (FragmentEvent seg first last) h.there there;
@@ -57,11 +57,11 @@ walked_full v bytes scene most events seg first last old planes walls there full
       limits = ap (λ (w : WallsView). limits_of w planes) same_walls ∙ ap (limits_of old.walls) same_planes ∙ h.limits;
       within = ap (steps_over most) steps ∙ h.within;
       planes = subst (λ (p : PlanesView). All (IsPlaneIn v.shape scene) p.planes) (sym same_planes) h.planes;
-      sprites = seen.sprites;
-      columns = seen.columns;
-      lumps = seen.lumps;
-      entered = seen.entered;
-      sector = seen.sector;
+      sprites = stays_seen.sprites;
+      columns = stays_seen.columns;
+      lumps = stays_seen.lumps;
+      entered = stays_seen.entered;
+      sector = stays_seen.sector;
     }
 
 -- the facts of a seg from the sector of the bench make the next wall
@@ -154,7 +154,7 @@ walked_room v bytes scene most events seg first last facts old planes walls tall
     let columns = takes.there.1 in
     let ordered = columns.0 in
     let within = columns.1 in
-    let all : All (IsPlaneIn v.shape scene) (after_event before new_step.event).planes =
+    let planes_inside : All (IsPlaneIn v.shape scene) (after_event before new_step.event).planes =
     planes-wall v scene (with_wall ws wall) (length ws) wall before tall (omega arith) (omega arith) (planes_so_far v bytes scene most events old h) in
     walked_step v bytes scene most events (FragmentEvent seg first last) new_step old new h
     (record {
@@ -166,7 +166,7 @@ walked_room v bytes scene most events seg first last facts old planes walls tall
       limits = takes.limits;
       within = takes.limit ws before h.built room
           ∙ ap (λ (u : Wall). step_over (limits_of old.walls old.planes) before (length old.walls.openings) (step_of_wall v ws u)) same;
-      planes = all;
+      planes = planes_inside;
     })
     (seen-fragment v bytes scene most events seg first last old planes walls h)
 

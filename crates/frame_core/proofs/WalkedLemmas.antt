@@ -204,7 +204,7 @@ walked-leaf v bytes scene most events n sector floor ceiling old new enters h =
     let new_step : Step = leaf_step v (leaf_surface whole_scene n) in
     let is : step_of_leaf floor ceiling ≡ new_step = step_is v bytes scene n sector floor ceiling own enters.floor_is enters.ceiling_is in
     let surface : leaf_surface whole_scene n ≡ surface_at (lists_of scene) sector = surface_of_leaf bytes scene n
-    ∙ ap (surface_at (lists_of scene)) (sym own) in let all : All (IsPlaneIn v.shape scene) (after_event before new_step.event).planes =
+    ∙ ap (surface_at (lists_of scene)) (sym own) in let planes_inside : All (IsPlaneIn v.shape scene) (after_event before new_step.event).planes =
     subst (λ (t : _). All (IsPlaneIn v.shape scene) (after_event before (leaf_step v t).event).planes) (sym surface)
     (planes-leaf v scene sector before enters.inside (planes_so_far v bytes scene most events old h)) in
     let built_after : Step → Type 0 = λ t. IsBuilt v walls (after_event before t.event) new.walls new.planes.planes in
@@ -218,7 +218,7 @@ walked-leaf v bytes scene most events n sector floor ceiling old new enters h =
       openings = ap length enters.openings;
       limits = enters.limits;
       within = enters.limit walls before h.built ∙ ap (step_over (limits_of old.walls old.planes) before (length old.walls.openings)) is;
-      planes = all;
+      planes = planes_inside;
     })
     (record {
       sprites =

@@ -66,10 +66,10 @@ draw_masks-requires g c =
     let at = goal.at.draw_masks-requires g c in
     let tools_now = c.args.tools.now in let tools_later = c.draw_floors.new.tools in
     let same = floors_alike g at.In_ok-draw_floors in
-    let part = c.in_ok-draw_floors.ensures.paints in
+    let floors_painted = c.in_ok-draw_floors.ensures.paints in
     record {
-      drawable = drawable-at tools_now.dir.now tools_later.dir.now tools_now.scene.now.scene tools_later.scene.now.scene tools_later.cache.now same.1.1 same.1.0 (can_draw_view-later tools_now.dir.now.lumps tools_now.scene.now.scene c.draw_walls.new.tools.cache.now c.draw_floors.new.tools.cache.now part.draws.keeps.counts (walls_drawable g at.In_ok-draw_walls));
-      placed = subst (λ (w : ViewValue). IsPlacedIn w (g.C.Canvas.view c.draw_floors.new.tools.canvas.now)) (sym same.0) (placed-later c.args.tools.now.view.now (g.C.Canvas.view c.draw_walls.new.tools.canvas.now) (g.C.Canvas.view c.draw_floors.new.tools.canvas.now) part.place (walls_placed g at.In_ok-draw_walls));
+      drawable = drawable-at tools_now.dir.now tools_later.dir.now tools_now.scene.now.scene tools_later.scene.now.scene tools_later.cache.now same.1.1 same.1.0 (can_draw_view-later tools_now.dir.now.lumps tools_now.scene.now.scene c.draw_walls.new.tools.cache.now c.draw_floors.new.tools.cache.now floors_painted.draws.keeps.counts (walls_drawable g at.In_ok-draw_walls));
+      placed = subst (λ (w : ViewValue). IsPlacedIn w (g.C.Canvas.view c.draw_floors.new.tools.canvas.now)) (sym same.0) (placed-later c.args.tools.now.view.now (g.C.Canvas.view c.draw_walls.new.tools.canvas.now) (g.C.Canvas.view c.draw_floors.new.tools.canvas.now) floors_painted.place (walls_placed g at.In_ok-draw_walls));
       walked = walked-at tools_now.view.now tools_later.view.now tools_now.scene.now.scene tools_later.scene.now.scene
           c.draw_walls.new.bench same.0 same.1.0 c.in_ok-draw_walls.ensures.walked;
       marks = subst (λ (n : ℕ). n ≤ length c.args.marks.now) (sym (ap (λ (l : Limits). l.openings) (c.in_ok-draw_walls.ensures.limits ∙ c.start.ensures.limits))) c.requires.marks;
