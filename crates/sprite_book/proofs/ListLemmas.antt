@@ -63,9 +63,9 @@ more_at : (frames : List Frame) (frame : Frame) (sprite : List ℕ) (letter : �
     cond t (Some (length frames)) (position_from (is_frame sprite letter) 0 frames) ≡ or_else (position_from (is_frame sprite letter) 0 frames) (cond t (Some (0 + length frames)) None)
 more_at frames frame sprite letter false e absent = sym (or_else-none_right (position_from (is_frame sprite letter) 0 frames))
 more_at frames frame sprite letter true e absent =
-    let parts = and_parts (bytes_eq frame.sprite sprite) (frame.frame == letter) e in
-    let sprite_same : frame.sprite ≡ sprite = (bytes_eq-Decides frame.sprite sprite).0 parts.0 in
-    let letter_same : frame.frame ≡ letter = eqb-true frame.frame letter parts.1 in
+    let both_same = and_parts (bytes_eq frame.sprite sprite) (frame.frame == letter) e in
+    let sprite_same : frame.sprite ≡ sprite = (bytes_eq-Decides frame.sprite sprite).0 both_same.0 in
+    let letter_same : frame.frame ≡ letter = eqb-true frame.frame letter both_same.1 in
     let place_is_none : position_from (is_frame sprite letter) 0 frames ≡ None = ap (λ n. position_from (is_frame sprite n) 0 frames) (sym letter_same) ∙ ap (λ v. position_from (is_frame v frame.frame) 0 frames) (sym sprite_same) ∙ absent in
     let zero_before_length : length frames ≡ 0 + length frames = omega arith in
     rw place_is_none (ap Some zero_before_length)
