@@ -27,5 +27,5 @@ pub bytes_whole : (kind : FileKind) (size count : ℕ) (bytes : List ℕ) → si
 unfolding bytes_in
 bytes_whole kind size count bytes e h =
     let length_passes : value_unless (length_refusal kind (length bytes)) (length bytes) ≡ Ok count = rw e at h in
-    let fine = not_refused (length_refusal kind (length bytes)) (length bytes) count length_passes in
-    (rw fine.0 refl, sym fine.1)
+    let no_refusal = not_refused (length_refusal kind (length bytes)) (length bytes) count length_passes in
+    (rw no_refusal.0 refl, sym no_refusal.1)
