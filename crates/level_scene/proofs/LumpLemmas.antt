@@ -86,8 +86,8 @@ module _ (lumps : List MapLump) (n : ℕ) (are : map lump_no lumps ≡ range_wit
   pub lump_numbered : (i : ℕ) (d : MapLump) → i < n → lump_no (get_or lumps i d) ≡ i
   lump_numbered i d h =
       let count = lumps_count in
-      let read = get_or-range_with_len 0 n i 0 h in
-      sym (get_or-map lump_no lumps i d 0 (omega arith)) ∙ ap (λ xs. get_or xs i 0) are ∙ read ∙ omega arith
+      let item_is_index = get_or-range_with_len 0 n i 0 h in
+      sym (get_or-map lump_no lumps i d 0 (omega arith)) ∙ ap (λ xs. get_or xs i 0) are ∙ item_is_index ∙ omega arith
 
 -- the lumps behind a label are those of the map
 pub behind_label : (label number i : ℕ) → number ≡ label + (1 + i) → i < 8 → is_map_lump label number ≡ true

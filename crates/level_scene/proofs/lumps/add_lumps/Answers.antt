@@ -47,6 +47,6 @@ returns-in_err-add_lump-clause-tells g c =
 
 pub returns-clause-fits : goal.returns-clause-fits
 returns-clause-fits g c = λ lump among.
-    let all : c.loop-i.i ≡ 8 = omega (arith, lumps_count c.args.lumps.now 8 c.requires.lumps) in
-    let behind = is_behind_label c.args.label.0 lump c.loop-i.i all among in
+    let index_is_eight : c.loop-i.i ≡ 8 = omega (arith, lumps_count c.args.lumps.now 8 c.requires.lumps) in
+    let behind = is_behind_label c.args.label.0 lump c.loop-i.i index_is_eight among in
     c.loop-i.invariant.fits lump behind.0 behind.1
