@@ -35,13 +35,13 @@ returns-clause-paints g c =
     let scene_now = c.args.scene.now in let sky_plane = plane_at scene_now.planes.now.planes c.args.plane.0 in
     let width = ap (λ (shape : ViewShape). shape.width) c.shape.ensures.value in
     let marked_columns = c.marked-first in
-    let up : (x : ℕ) → c.loop-x.x ≤ x → x < scene_now.view.now.shape.width → column sky_plane x ≡ None =
+    let no_run_behind : (x : ℕ) → c.loop-x.x ≤ x → x < scene_now.view.now.shape.width → column sky_plane x ≡ None =
     λ x from to. marked_columns.ensures.behind x (omega (arith, width)) in
-    let down : (x : ℕ) → scene_now.view.now.shape.width ≤ x → x < c.loop-x.x → column sky_plane x ≡ None =
+    let no_run_past_width : (x : ℕ) → scene_now.view.now.shape.width ≤ x → x < c.loop-x.x → column sky_plane x ≡ None =
     λ x from to. elim c.loop-x.invariant.1 [
       | inl is ↦ marked_columns.ensures.before x (omega (arith, is))
       | inr in_view ↦ absurd (omega (arith, in_view))
     ] in
     paints-same _ (λ contents sky is. columns-past scene_now.view.now (plane_art contents scene_now) c.args.plane.0 c.in-Some.tex.0
-    sky_plane c.loop-x.x scene_now.view.now.shape.width up down
+    sky_plane c.loop-x.x scene_now.view.now.shape.width no_run_behind no_run_past_width
     ∙ columns-end scene_now.view.now (plane_art contents scene_now) c.args.plane.0 sky c.in-Some.tex.0 sky_plane c.requires.flat (sky-number scene_now.sky c.in-Some.tex sky c.in-Some.is is)) c.loop-x.invariant.0.paints
