@@ -114,10 +114,10 @@ module _ (P : ℕ → Type 0) where
   unfolding after_event wall_marked ceiling_checked floor_checked with_ceiling with_floor
   event-of s (Finds floor ceiling) all k = ceiling_found-of ceiling (floor_found floor s) (floor_found-of floor s all k.0) k.1
   event-of s (Draws w) all k =
-      let one = with_ceiling (checked_plane w.ceiling_mark s.planes s.ceiling w.first w.last) s in
-      let two = with_floor (checked_plane w.floor_mark one.planes one.floor w.first w.last) one in
-      columns-of w two.ceiling two.floor (w.last + 1 - w.first) two.planes
-      (checked-by with_floor (λ t all. all) (λ c t all. all) w.floor_mark one.floor w one
+      let after_ceiling = with_ceiling (checked_plane w.ceiling_mark s.planes s.ceiling w.first w.last) s in
+      let after_floor = with_floor (checked_plane w.floor_mark after_ceiling.planes after_ceiling.floor w.first w.last) after_ceiling in
+      columns-of w after_floor.ceiling after_floor.floor (w.last + 1 - w.first) after_floor.planes
+      (checked-by with_floor (λ t all. all) (λ c t all. all) w.floor_mark after_ceiling.floor w after_ceiling
       (checked-by with_ceiling (λ t all. all) (λ c t all. all) w.ceiling_mark s.ceiling w s all))
 
   module _ (σ : ℕ → ℕ) (one : IsOneToOne P σ) where

@@ -29,14 +29,14 @@ read_masked false z e = absurd (cc)
 middle_masked_read : (d : Drawseg) (x : ℕ) → d.masked ≡ true → middle_masked (as_read d) x ≡ middle_masked d x
 unfolding middle_masked drawseg_scale
 middle_masked_read d x e =
-    let p = read_either d.has_top d.masked (d.top_clip x) e in
-    let q = read_either d.has_bottom d.masked (d.bottom_clip x) e in cc
+    let top_clip_same = read_either d.has_top d.masked (d.top_clip x) e in
+    let bottom_clip_same = read_either d.has_bottom d.masked (d.bottom_clip x) e in cc
 
 middle_column_read : (v : ViewValue) (art : Art) (k : ℕ) (d : Drawseg) (x : ℕ) → d.masked ≡ true → middle_column v art k (as_read d) x ≡ middle_column v art k d x
 unfolding middle_column middle_by drawseg_scale
 middle_column_read v art k d x e =
-    let p = middle_masked_read d x e in
-    let q = read_masked d.masked (d.column x) e in cc
+    let masked_same = middle_masked_read d x e in
+    let column_same = read_masked d.masked (d.column x) e in cc
 
 columns_read : (sprites : List SpriteEntry) (moment : Option ℕ) (d : Drawseg) → columns_at sprites moment (as_read d) ≡ columns_at sprites moment d
 unfolding columns_at sprite_in_front is_behind
@@ -144,7 +144,7 @@ sprite_top_read ds e x =
 -- the dots of a sprite
 sprite_column_read : (v : ViewValue) (art : Art) (ds : List Drawseg) (e : SpriteEntry) (x : ℕ) → sprite_column v art (map as_read ds) e x ≡ sprite_column v art ds e x
 unfolding sprite_column sprite_masked
-sprite_column_read v art ds e x = let p = sprite_bottom_read v.shape.height ds e x in let q = sprite_top_read ds e x in cc
+sprite_column_read v art ds e x = let bottom_same = sprite_bottom_read v.shape.height ds e x in let top_same = sprite_top_read ds e x in cc
 
 sprite_dots_read : (v : ViewValue) (art : Art) (ds : List Drawseg) (e : SpriteEntry) → sprite_dots v art (map as_read ds) e ≡ sprite_dots v art ds e
 unfolding sprite_dots

@@ -6,11 +6,11 @@ use Rattle.picture_rules.proofs.plane.PlaneLemmas.{column-empty_plane}
 -- a plane that is there is one of the planes
 get_is : (planes : List Plane) (i : ℕ) (p : Plane) → slice_get planes i ≡ Some p → (i < length planes) × (get_or planes i p ≡ p)
 get_is [] i p e = cc
-get_is (q ∷ qs) zero p e = (omega arith, (let f : Some q ≡ Some p = e in cc))
-get_is (q ∷ qs) (suc i) p e = let r = get_is qs i p e in (omega (arith, r.0), r.1)
+get_is (q ∷ qs) zero p e = (omega arith, (let options_same : Some q ≡ Some p = e in cc))
+get_is (q ∷ qs) (suc i) p e = let in_rest = get_is qs i p e in (omega (arith, in_rest.0), in_rest.1)
 
 all_at : (P : Plane → Type 0) (planes : List Plane) (i : ℕ) (p : Plane) → slice_get planes i ≡ Some p → All P planes → P p
-all_at P planes i p e all = let g = get_is planes i p e in subst P g.1 (all i p g.0)
+all_at P planes i p e all = let plane_there = get_is planes i p e in subst P plane_there.1 (all i p plane_there.0)
 
 module _ (P : Plane → Type 0) where
   all_add : (planes : List Plane) (key : PlaneKey) → P (empty_plane key) → All P planes → All P (add planes key).planes
@@ -93,10 +93,10 @@ module _ (P : Plane → Type 0) where
       All P s.planes → All P (after_event s (Draws w)).planes
   unfolding after_event wall_marked ceiling_checked floor_checked
   all-draws w s l new c f all =
-      let t = ceiling_checked w s in
-      let u = floor_checked w t in
-      all_columns w u.ceiling u.floor (w.last + 1 - w.first) u.planes (omega arith) c f
-      (all_checked w.floor_mark t.floor w.first w.last t new (all_checked w.ceiling_mark s.ceiling w.first w.last s new all).0).1
+      let after_ceiling = ceiling_checked w s in
+      let after_floor = floor_checked w after_ceiling in
+      all_columns w after_floor.ceiling after_floor.floor (w.last + 1 - w.first) after_floor.planes (omega arith) c f
+      (all_checked w.floor_mark after_ceiling.floor w.first w.last after_ceiling new (all_checked w.ceiling_mark s.ceiling w.first w.last s new all).0).1
 
 -- the run of a column of a plane with one run more: the new one at its own column, else that of before
 set_column : (runs : List (Option (ℕ × ℕ))) (x k : ℕ) (r : Option (ℕ × ℕ)) →
@@ -113,13 +113,13 @@ unfolding holds holds_row column with_run
 holds-with_run p x rows y k h =
     elim (set_column p.runs x k (Some rows)) [
       | inl e ↦ inl (ap (λ (r : Option (ℕ × ℕ)). holds_row r y) (sym e) ∙ h)
-      | inr e ↦ (let t : (nat_le rows.0 y && nat_le y rows.1) ≡ true = ap (λ (r : Option (ℕ × ℕ)). holds_row r y) (sym e.1) ∙ h in inr (e.0, grind (arith, nat_tests)))
+      | inr e ↦ (let row_between : (nat_le rows.0 y && nat_le y rows.1) ≡ true = ap (λ (r : Option (ℕ × ℕ)). holds_row r y) (sym e.1) ∙ h in inr (e.0, grind (arith, nat_tests)))
     ]
 
 -- an empty plane holds nothing
 pub holds-empty_plane : (key : PlaneKey) (y k : ℕ) → holds (empty_plane key) y k ≡ true → ⊥
 unfolding holds holds_row
-holds-empty_plane key y k h = let t : false ≡ true = ap (λ (r : Option (ℕ × ℕ)). holds_row r y) (sym (column-empty_plane key k)) ∙ h in absurd (cc)
+holds-empty_plane key y k h = let false_is_true : false ≡ true = ap (λ (r : Option (ℕ × ℕ)). holds_row r y) (sym (column-empty_plane key k)) ∙ h in absurd (cc)
 
 natural_below : (z : ℤ) (height : ℕ) → pos 0 ≤ℤ z → z <ℤ pos height → natural z < height
 unfolding natural
@@ -138,11 +138,11 @@ some_rows : (height : ℕ) (rows : RowRange) (mark less : Bool) → int_lt rows.
 some_rows height rows false less e within = tt
 some_rows height rows true true e within = tt
 some_rows height rows true false e within =
-    let l = not_less rows.last rows.first e in
-    let w = within l in
-    let first = w.0 in
-    let ordered : pos 0 ≤ℤ rows.last = omega (arith, ints) in
-    natural_below rows.last height ordered w.1
+    let last_not_less = not_less rows.last rows.first e in
+    let rows_inside = within last_not_less in
+    let first_not_negative = rows_inside.0 in
+    let last_not_negative : pos 0 ≤ℤ rows.last = omega (arith, ints) in
+    natural_below rows.last height last_not_negative rows_inside.1
 
 -- the rows that a fragment marks are rows of the view
 pub marked_rows-in : (height : ℕ) (rows : RowRange) (mark : Bool) → (rows.first ≤ℤ rows.last → (pos 0 ≤ℤ rows.first) × (rows.last <ℤ pos height)) → IsRunIn height (marked_rows mark rows)

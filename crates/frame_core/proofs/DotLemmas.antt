@@ -22,14 +22,14 @@ by_room : (v : ViewValue) (scene : Scene) (es : List Event) (seg first last : �
     (wall_dots v scene.art (with_wall (walls_of v scene es) (next_wall v scene es seg first last)) (length (walls_of v scene es)) (next_wall v scene es seg first last)) []
 by_room v scene es seg first last true e =
     let walls = walls_of v scene es in
-    let w = next_wall v scene es seg first last in
-    let l : length walls < MAX_DRAWSEGS = grind (arith, nat_tests) in
-    ap (walls_dots v scene) (walls-room v scene es seg first last l)
-    ∙ walls_dots-more v scene walls w
-    ∙ ap (λ (ds : List Dot). walls_dots v scene walls ++ ds) (sym (wall_dots-front v scene.art walls (w ∷ []) (length walls) w (omega arith)))
+    let new_wall = next_wall v scene es seg first last in
+    let walls_below_most : length walls < MAX_DRAWSEGS = grind (arith, nat_tests) in
+    ap (walls_dots v scene) (walls-room v scene es seg first last walls_below_most)
+    ∙ walls_dots-more v scene walls new_wall
+    ∙ ap (λ (ds : List Dot). walls_dots v scene walls ++ ds) (sym (wall_dots-front v scene.art walls (new_wall ∷ []) (length walls) new_wall (omega arith)))
 by_room v scene es seg first last false e =
-    let l : MAX_DRAWSEGS ≤ length (walls_of v scene es) = grind (arith, nat_tests) in
-    ap (walls_dots v scene) (walls-full v scene es seg first last l) ∙ sym (append-nil (drawn_walls v es scene))
+    let most_within_walls : MAX_DRAWSEGS ≤ length (walls_of v scene es) = grind (arith, nat_tests) in
+    ap (walls_dots v scene) (walls-full v scene es seg first last most_within_walls) ∙ sym (append-nil (drawn_walls v es scene))
 
 -- a fragment adds its own
 pub drawn_walls-fragment : (v : ViewValue) (scene : Scene) (es : List Event) (seg first last : ℕ) →

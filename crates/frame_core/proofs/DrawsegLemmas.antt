@@ -118,22 +118,22 @@ module _ (bytes : ℕ → List ℕ) (v : ViewValue) (s : SceneValue) (flats : le
   mid_by d facts (Some back) own e m =
       let front : Surface = heights_of (sector_by (mask_lists s) facts.seg.front) in
       let behind : Surface = heights_of (sector_by (mask_lists s) back) in
-      let a = heights_at bytes s facts.seg.front flats in
-      let b = heights_at bytes s back flats in
+      let front_heights = heights_at bytes s facts.seg.front flats in
+      let back_heights = heights_at bytes s back flats in
       ap (λ (seg : Seg). masked_mid v.eye.z seg (heights_of (sector_by (mask_lists s) seg.front)) behind (texture_at s.base.lists.textures (middle_by (mask_lists s) d)).height (side_by (mask_lists s) seg.side).y_offset) e
       ∙ ap (λ (n : ℕ). masked_mid v.eye.z facts.seg front behind (texture_at s.base.lists.textures n).height (side_by (mask_lists s) facts.seg.side).y_offset) m
       ∙ ap (λ (h : ℕ). masked_mid v.eye.z facts.seg front behind h (side_by (mask_lists s) facts.seg.side).y_offset) (height_noted facts own)
       ∙ ap (masked_mid v.eye.z facts.seg front behind facts.middle.height) (offset_noted facts own)
       ∙ same_mid v.eye.z facts.seg front behind (surface_at (scene_of bytes s).level facts.seg.front) (surface_at (scene_of bytes s).level back) facts.middle.height facts.y_offset
-      (sym a.floor) (sym a.ceiling) (sym b.floor) (sym b.ceiling)
+      (sym front_heights.floor) (sym front_heights.ceiling) (sym back_heights.floor) (sym back_heights.ceiling)
 
   mid_noted : (w : Wall) (place : ℕ) → HasOwnFacts bytes s w.facts →
       note_mid v (textures_view s) (mask_lists s) (note_at v w place) (note_seg (mask_lists s) (note_at v w place)).back ≡ own_mid v (scene_of bytes s) w.facts w.facts.back
   unfolding back_of
   mid_noted w place own =
-      let e = seg_noted w place own in
-      ap (λ (seg : Seg). note_mid v (textures_view s) (mask_lists s) (note_at v w place) seg.back) e
-      ∙ mid_by (note_at v w place) w.facts w.facts.seg.back own e (middle_noted w place own)
+      let seg_same = seg_noted w place own in
+      ap (λ (seg : Seg). note_mid v (textures_view s) (mask_lists s) (note_at v w place) seg.back) seg_same
+      ∙ mid_by (note_at v w place) w.facts w.facts.seg.back own seg_same (middle_noted w place own)
       ∙ sym (ap (own_mid v (scene_of bytes s) w.facts) own.back)
 
   light_noted : (w : Wall) (place : ℕ) → HasOwnFacts bytes s w.facts →
@@ -149,10 +149,10 @@ module _ (bytes : ℕ → List ℕ) (v : ViewValue) (s : SceneValue) (flats : le
       DrawAlike (as_read (noted_drawseg v (textures_view s) (mask_lists s) (before ++ (saved_by v walls k w ++ after)) (note_at v w place))) (as_read (drawseg_of v (scene_of bytes s) walls k w))
   unfolding noted_drawseg drawseg_of note_at silhouette_of saves_bottom saves_top
   note_alike walls k w before after place e own =
-      let n : FragmentNumbers = w.numbers in
-      let bottom = bottom_told n.bottom.is_there n.top.is_there in
-      let top = top_told n.bottom.is_there n.top.is_there in
-      let masked = masked_told n.masked place in
+      let numbers : FragmentNumbers = w.numbers in
+      let bottom = bottom_told numbers.bottom.is_there numbers.top.is_there in
+      let top = top_told numbers.bottom.is_there numbers.top.is_there in
+      let masked = masked_told numbers.masked place in
       record {
         seg = seg_noted w place own;
         first = refl;
@@ -164,16 +164,16 @@ module _ (bytes : ℕ → List ℕ) (v : ViewValue) (s : SceneValue) (flats : le
         has_top = top;
         bottom_height = refl;
         top_height = refl;
-        bottom_clip = λ x l m. same_read _ (n.bottom.is_there || n.masked) _ _ (both_told _ _ n.bottom.is_there n.masked bottom masked)
-            (λ h. note-bottom_clip v walls k w before after place x e l m (saved_or n.bottom.is_there n.masked n.bottom_is_constant h));
-        top_clip = λ x l m. same_read _ (n.top.is_there || n.masked) _ _ (both_told _ _ n.top.is_there n.masked top masked)
-            (λ h. note-top_clip v walls k w before after place x e l m (saved_or n.top.is_there n.masked n.top_is_constant h));
+        bottom_clip = λ x l m. same_read _ (numbers.bottom.is_there || numbers.masked) _ _ (both_told _ _ numbers.bottom.is_there numbers.masked bottom masked)
+            (λ h. note-bottom_clip v walls k w before after place x e l m (saved_or numbers.bottom.is_there numbers.masked numbers.bottom_is_constant h));
+        top_clip = λ x l m. same_read _ (numbers.top.is_there || numbers.masked) _ _ (both_told _ _ numbers.top.is_there numbers.masked top masked)
+            (λ h. note-top_clip v walls k w before after place x e l m (saved_or numbers.top.is_there numbers.masked numbers.top_is_constant h));
         masked = masked;
         middle = middle_noted w place own;
         mid = mid_noted w place own;
         light = light_noted w place own;
-        column = λ x l m. same_read _ n.masked _ _ masked
-            (λ h. column_saved (before ++ (saved_by v walls k w ++ after)) w.first place x n.masked h ∙ note-middle_column v walls k w before after place x e l m h);
+        column = λ x l m. same_read _ numbers.masked _ _ masked
+            (λ h. column_saved (before ++ (saved_by v walls k w ++ after)) w.first place x numbers.masked h ∙ note-middle_column v walls k w before after place x e l m h);
       }
 
   -- so do all notes from one on
@@ -183,10 +183,10 @@ module _ (bytes : ℕ → List ℕ) (v : ViewValue) (s : SceneValue) (flats : le
   alike_from walls k [] before place e own = tt
   alike_from walls k (w ∷ ws) before place e own =
       let next : ℕ = place + room_if w.numbers.masked w + room_if (saves_top w.numbers) w + room_if (saves_bottom w.numbers) w in
-      let long : length (before ++ saved_by v walls k w) ≡ next = (let a = length-append before (saved_by v walls k w) in let b = length-saved_by v walls k w in omega arith) in
-      let P : List ℤ → Type 0 = λ openings. AllZip DrawAlike (map as_read (map (noted_drawseg v (textures_view s) (mask_lists s) openings) (notes_from v next ws))) (map as_read (drawsegs_from v (scene_of bytes s) walls (k + 1) ws)) in (
+      let long : length (before ++ saved_by v walls k w) ≡ next = (let joined_length = length-append before (saved_by v walls k w) in let openings_added = length-saved_by v walls k w in omega arith) in
+      let alike_with : List ℤ → Type 0 = λ openings. AllZip DrawAlike (map as_read (map (noted_drawseg v (textures_view s) (mask_lists s) openings) (notes_from v next ws))) (map as_read (drawsegs_from v (scene_of bytes s) walls (k + 1) ws)) in (
         note_alike walls k w before (saved_from v walls (k + 1) ws) place e own.0,
-        subst P (append_assoc before (saved_by v walls k w) (saved_from v walls (k + 1) ws)) (alike_from walls (k + 1) ws (before ++ saved_by v walls k w) next long own.1),
+        subst alike_with (append_assoc before (saved_by v walls k w) (saved_from v walls (k + 1) ws)) (alike_from walls (k + 1) ws (before ++ saved_by v walls k w) next long own.1),
       )
 
   as_many : (openings : List ℤ) (walls : List Wall) (k place : ℕ) (ws : List Wall) →

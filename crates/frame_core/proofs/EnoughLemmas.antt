@@ -239,11 +239,11 @@ module _ {v : ShelfView} {dir : DirectoryView} {scene : SceneValue} {x : Heap} (
   never_full : (wanted widest : ℕ) → IsFullForTexture (IsViewTexture scene) dir.lumps (textures_view scene) x wanted widest ⊎ IsFullFor (IsViewLump dir.lumps scene) dir x wanted widest → ⊥
   unfolding art_of
   never_full wanted widest full =
-      let rest : IsAtRest scene.base.colormap (lump_at dir.lumps scene.base.colormap).size x = subst (λ n. IsAtRest scene.base.colormap n x) (sym is) hold.rest in
-      let small = full-small dir.lumps (art_with scene (book_lumps scene.book ++ [])) x.size wanted widest (full_narrow wanted widest full) (view_full contents dir scene [] x can hold.prepared rest wanted widest full) in
+      let colormap_at_rest : IsAtRest scene.base.colormap (lump_at dir.lumps scene.base.colormap).size x = subst (λ n. IsAtRest scene.base.colormap n x) (sym is) hold.rest in
+      let small = full-small dir.lumps (art_with scene (book_lumps scene.book ++ [])) x.size wanted widest (full_narrow wanted widest full) (view_full contents dir scene [] x can hold.prepared colormap_at_rest wanted widest full) in
       let less : x.size < enough dir.lumps (art_with scene (book_lumps scene.book)) = subst (λ pictures. x.size < enough dir.lumps (art_with scene pictures)) (append-nil (book_lumps scene.book)) small in
-      let held : enough dir.lumps (art_with scene (book_lumps scene.book)) ≤ x.size = room in
-      omega (arith, less, held)
+      let enough_below_size : enough dir.lumps (art_with scene (book_lumps scene.book)) ≤ x.size = room in
+      omega (arith, less, enough_below_size)
 
   pub enough-view : {A : Type 0} {w : ShelfView} {y : Heap} (result : Result A ViewFault) → DrawsWith view_fault (IsViewTexture scene) (IsViewLump dir.lumps scene) v w dir (textures_view scene) x y result →
       IfErr result (λ fault. IfFull (view_fault fault) (λ wanted widest. ⊥))

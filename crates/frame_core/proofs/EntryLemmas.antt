@@ -28,9 +28,9 @@ module _ (Q : ℕ → Type 0) where
   frame_has : (test : Frame → Bool) (book : List Frame) (frame : Frame) → find test book ≡ Some frame → AllByRecursion Q (joined_lists shape_lumps book) → AllByRecursion Q (shape_lumps frame)
   frame_has test [] frame e h = absurd (cc)
   frame_has test (first ∷ rest) frame e h =
-      let both : AllByRecursion Q (shape_lumps first ++ joined_lists shape_lumps rest) = subst (AllByRecursion Q) (joined_lists-cons shape_lumps first rest) h in
-      first_or_later (test first) first frame (find test rest) e (all_left (shape_lumps first) (joined_lists shape_lumps rest) both)
-      (λ later. frame_has test rest frame later (all_right (shape_lumps first) (joined_lists shape_lumps rest) both))
+      let all_lumps_pass : AllByRecursion Q (shape_lumps first ++ joined_lists shape_lumps rest) = subst (AllByRecursion Q) (joined_lists-cons shape_lumps first rest) h in
+      first_or_later (test first) first frame (find test rest) e (all_left (shape_lumps first) (joined_lists shape_lumps rest) all_lumps_pass)
+      (λ later. frame_has test rest frame later (all_right (shape_lumps first) (joined_lists shape_lumps rest) all_lumps_pass))
 
   shape_has : (rotation : ℕ) (shapes : List Shape) (shape : Shape) → slice_get shapes rotation ≡ Some shape → AllByRecursion Q (map (λ (s : Shape). s.lump.0) shapes) → Q shape.lump.0
   shape_has rotation [] shape e h = absurd (cc)
@@ -103,6 +103,6 @@ module _ (Q : ℕ → Type 0) where
 pub entry_lump : (bytes : ℕ → List ℕ) (v : ViewValue) (s : SceneValue) (events : List Event) (sprites : List SpriteEntry) (i : ℕ) (e : SpriteEntry) → sprites ≡ view_entries v (scene_of bytes s) events →
     i < length sprites → list_any (λ n. n == (get_or sprites i e).lump) (book_lumps s.book) ≡ true
 entry_lump bytes v s events sprites i e is l =
-    let Q : ℕ → Type 0 = λ lump. list_any (λ n. n == lump) (book_lumps s.book) ≡ true in
-    let all = entries_have Q bytes v s (each_found (book_lumps s.book)) events in
-    All-from_recursion (λ (e : SpriteEntry). Q e.lump) sprites (subst (AllByRecursion (λ (e : SpriteEntry). Q e.lump)) (sym is) all) i e l
+    let is_book_lump : ℕ → Type 0 = λ lump. list_any (λ n. n == lump) (book_lumps s.book) ≡ true in
+    let all = entries_have is_book_lump bytes v s (each_found (book_lumps s.book)) events in
+    All-from_recursion (λ (e : SpriteEntry). is_book_lump e.lump) sprites (subst (AllByRecursion (λ (e : SpriteEntry). is_book_lump e.lump)) (sym is) all) i e l

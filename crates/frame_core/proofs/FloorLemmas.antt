@@ -24,7 +24,7 @@ abbrev pub IsSkyOf : SceneValue → Option TexNo → Type 0
 IsSkyOf scene sky = option_map (λ (tex : TexNo). tex.0) sky ≡ scene.faces.sky
 
 some_sky : (sky : Option TexNo) → IsSome (option_map (λ (tex : TexNo). tex.0) sky) → IsSome sky
-some_sky None h = absurd (let t : false ≡ true = h in cc)
+some_sky None h = absurd (let false_is_true : false ≡ true = h in cc)
 some_sky (Some tex) h = refl
 
 module _ (lumps : List Lump) (scene : SceneValue) (z : Heap) (sky : Option TexNo) (can : CanDrawView lumps scene z) (is : IsSkyOf scene sky) where
@@ -43,14 +43,14 @@ module _ (lumps : List Lump) (scene : SceneValue) (z : Heap) (sky : Option TexNo
   pub planes_can : (v : ViewValue) (canvas : CanvasView) (b : Bench) → IsPlacedIn v canvas → HasWalkedView v scene b →
       All (CanDrawPlane v.shape canvas.left canvas.top (length lumps) sky) b.planes.planes
   planes_can v canvas b placed walked = λ i d l.
-      let p = (walked (λ lump. [])).planes i d l in
+      let planes_inside = (walked (λ lump. [])).planes i d l in
       record {
-        flat = flat_there _ p.flat;
+        flat = flat_there _ planes_inside.flat;
         seen = record {
-          column = p.column;
-          row = p.row;
-          frame_column = λ x y h. omega (arith, p.column x y h, placed.columns);
-          frame_row = λ x y h. omega (arith, p.row x y h, placed.rows);
+          column = planes_inside.column;
+          row = planes_inside.row;
+          frame_column = λ x y h. omega (arith, planes_inside.column x y h, placed.columns);
+          frame_row = λ x y h. omega (arith, planes_inside.row x y h, placed.rows);
         };
       }
 
@@ -89,7 +89,7 @@ scene_art other bytes scene = refl
 
 -- the sky's texture is one that a view draws with
 sky_prepared : (scene : SceneValue) (sky : Option TexNo) (number : ℕ) → IfSome scene.faces.sky (IsPrepared (textures_view scene)) → IsSkyOf scene sky → IsSome sky → IfSome sky (λ tex. number ≡ tex.0) → IsPrepared (textures_view scene) number
-sky_prepared scene None number prepared is some same = absurd (let t : false ≡ true = some in cc)
+sky_prepared scene None number prepared is some same = absurd (let false_is_true : false ≡ true = some in cc)
 sky_prepared scene (Some tex) number prepared is some same =
     subst (IsPrepared (textures_view scene)) (sym same) (subst (λ (o : Option ℕ). IfSome o (IsPrepared (textures_view scene))) (sym is) prepared)
 
@@ -112,10 +112,10 @@ flat_shown scene lump long shown =
 flat_lump : (lumps : List Lump) (scene : SceneValue) (z : Heap) (sky : Option TexNo) (shape : ViewShape) (planes : List Plane) (lump : ℕ) → CanDrawView lumps scene z → IsSkyOf scene sky → All (IsPlaneIn shape scene) planes → IsFlatOf planes lump →
     IsViewLump lumps scene lump
 flat_lump lumps scene z sky shape planes lump can is all asked =
-    let shown : IsFlatShown scene (flat.Lump lump) = subst (IsFlatShown scene) asked.is (All-contains (IsPlaneIn shape scene) planes asked.plane all asked.among).flat in
+    let flat_is_shown : IsFlatShown scene (flat.Lump lump) = subst (IsFlatShown scene) asked.is (All-contains (IsPlaneIn shape scene) planes asked.plane all asked.among).flat in
     record {
-      there = flat_there lumps scene z sky can is (flat.Lump lump) shown;
-      drawn = or_left (list_any (has_flat lump) scene.faces.flats) (list_any (λ n. n == lump) (book_lumps scene.book)) (flat_shown scene lump can.drawable.flats shown);
+      there = flat_there lumps scene z sky can is (flat.Lump lump) flat_is_shown;
+      drawn = or_left (list_any (has_flat lump) scene.faces.flats) (list_any (λ n. n == lump) (book_lumps scene.book)) (flat_shown scene lump can.drawable.flats flat_is_shown);
     }
 
 -- what the call that draws planes paints, with these textures and this colormap
@@ -134,14 +134,14 @@ pub floors-drawn : {mark : Painter → ℕ → ℕ} {s : ViewScene} {old new : P
     PaintsFloors mark s textures colormap b.planes.planes sky old new part → PaintsView mark s (floors_of s.view s.scene) old new whole
 floors-drawn {mark} {s} {old} {new} b sky textures colormap part whole can walked is e f mapped drawn =
     let events = view_events s.view (lists_of s.scene) in
-    let all : All (IsPlaneIn s.view.shape s.scene) b.planes.planes = (walked (λ lump. [])).planes in
-    let one : PaintsFloors mark s (textures_view s.scene) s.scene.base.colormap b.planes.planes sky old new part =
+    let planes_inside : All (IsPlaneIn s.view.shape s.scene) b.planes.planes = (walked (λ lump. [])).planes in
+    let paints_scene_floors : PaintsFloors mark s (textures_view s.scene) s.scene.base.colormap b.planes.planes sky old new part =
     subst (λ (n : ℕ). PaintsFloors mark s (textures_view s.scene) n b.planes.planes sky old new part) f
     (subst (λ (t : TexturesView). PaintsFloors mark s t colormap b.planes.planes sky old new part) e drawn) in
     let some : Scene = scene_of (λ lump. []) s.scene in
     paints-mapped (λ (never : ⊥). absurd never) from_cache cache_above part whole mapped
-    (paints-wider (λ number own asked. sky_prepared s.scene sky number can.drawable.sky is asked.some asked.texture) (λ lump asked. flat_lump s.dir.lumps s.scene old.cache sky s.view.shape b.planes.planes lump can is all asked)
+    (paints-wider (λ number own asked. sky_prepared s.scene sky number can.drawable.sky is asked.some asked.texture) (λ lump asked. flat_lump s.dir.lumps s.scene old.cache sky s.view.shape b.planes.planes lump can is planes_inside asked)
     (paints-same (λ contents q. floors_of s.view s.scene (held_scene contents s))
     (λ contents q asked. ap (λ (picture : Scene). planes_dots s.view picture b.planes.planes) (scene_art (λ lump. []) (lump_bytes contents s.dir.lumps) s.scene)
     ∙ ap (planes_dots s.view (held_scene contents s)) (planes_are s.view (lump_bytes contents s.dir.lumps) s.scene (limits_in b) events b (walked (lump_bytes contents s.dir.lumps))))
-    (paints-asked (λ (q : Unit {0}). ⊤) (λ q. some) (λ q asked. held_sky (λ lump. []) s.scene sky is) one)))
+    (paints-asked (λ (q : Unit {0}). ⊤) (λ q. some) (λ q asked. held_sky (λ lump. []) s.scene sky is) paints_scene_floors)))

@@ -45,11 +45,11 @@ facts-ready lumps scene z front seg facts can sound l are =
 pub can_draw-facts : (lumps : List Lump) (scene : SceneValue) (z : Heap) (facts : WallFacts) (textures : TexturesView) (number : ℕ) → CanDrawView lumps scene z → AreFactsReady scene facts → textures ≡ textures_view scene →
     IsWallTexture facts number → CanDraw lumps textures z number
 can_draw-facts lumps scene z facts textures number can ready same is =
-    let r = ready_number scene facts number ready is in
+    let number_ready = ready_number scene facts number ready is in
     let slots = can.composites in
-    let below = r.1 in
+    let below = number_ready.1 in
     subst (λ (t : TexturesView). CanDraw lumps t z number) (sym same) (record {
-      prepared = r.0;
+      prepared = number_ready.0;
       slot = omega arith;
       there = patches_there lumps scene.prepared number can.drawable.patches;
     })
@@ -92,19 +92,19 @@ next_room : (v : ViewValue) (bytes : ℕ → List ℕ) (scene : SceneValue) (eve
 unfolding next_dots scene_of
 next_room v bytes scene events seg first last ws w e f room =
     let art : Art = view_art bytes (textures_view scene) scene.base.colormap in
-    let t : true ≡ nat_lt (length ws) MAX_DRAWSEGS = grind (arith, nat_tests) in
-    ap (λ (b : Bool). cond b (wall_dots v art (with_wall ws w) (length ws) w) []) t
+    let room_is_true : true ≡ nat_lt (length ws) MAX_DRAWSEGS = grind (arith, nat_tests) in
+    ap (λ (b : Bool). cond b (wall_dots v art (with_wall ws w) (length ws) w) []) room_is_true
     ∙ ap (λ (u : Wall). cond (nat_lt (length ws) MAX_DRAWSEGS) (wall_dots v art (with_wall ws u) (length ws) u) []) f
-    ∙ ap (λ (us : List Wall). let u : Wall = next_wall v (scene_of bytes scene) events seg first last in cond (nat_lt (length us) MAX_DRAWSEGS) (wall_dots v art (with_wall us u) (length us) u) []) e
+    ∙ ap (λ (us : List Wall). let new_wall : Wall = next_wall v (scene_of bytes scene) events seg first last in cond (nat_lt (length us) MAX_DRAWSEGS) (wall_dots v art (with_wall us new_wall) (length us) new_wall) []) e
 
 next_full : (v : ViewValue) (bytes : ℕ → List ℕ) (scene : SceneValue) (events : List Event) (seg first last : ℕ) (ws : List Wall) →
     ws ≡ walls_of v (scene_of bytes scene) events → MAX_DRAWSEGS ≤ length ws → [] ≡ next_dots v (scene_of bytes scene) events seg first last
 unfolding next_dots
 next_full v bytes scene events seg first last ws e full =
-    let t : false ≡ nat_lt (length ws) MAX_DRAWSEGS = grind (arith, nat_tests) in
-    let S : Scene = scene_of bytes scene in
-    ap (λ (b : Bool). cond b (wall_dots v S.art (with_wall (walls_of v S events) (next_wall v S events seg first last)) (length (walls_of v S events)) (next_wall v S events seg first last)) [])
-    (t ∙ ap (λ (us : List Wall). nat_lt (length us) MAX_DRAWSEGS) e)
+    let room_is_false : false ≡ nat_lt (length ws) MAX_DRAWSEGS = grind (arith, nat_tests) in
+    let whole_scene : Scene = scene_of bytes scene in
+    ap (λ (b : Bool). cond b (wall_dots v whole_scene.art (with_wall (walls_of v whole_scene events) (next_wall v whole_scene events seg first last)) (length (walls_of v whole_scene events)) (next_wall v whole_scene events seg first last)) [])
+    (room_is_false ∙ ap (λ (us : List Wall). nat_lt (length us) MAX_DRAWSEGS) e)
 
 -- What the call of the walls gives: what it takes, and paints behind those that are there; nothing
 -- past the most that a view keeps.
@@ -112,8 +112,8 @@ pub record StoresFragment (mark : Painter → ℕ → ℕ) (s : ViewScene) (t : 
     (before after : PaintState) (lower : Result (Unit {0}) DrawFault) : Type 0 where
   pub tools : t ≡ view_tools s
   pub takes : TakesFragment s.view s.scene seg first last facts old planes walls (limit_of_result lower)
-  pub paints : Paints draw_fault mark t (IsSeenOf s.view old.walls facts first last) IsNoPicture (AreBehind s.view old.walls old.planes.planes) (λ contents behind. let w : Wall = wall_of s.view facts first last in
-      wall_dots s.view (painted_art contents t) (with_wall behind.0 w) (length behind.0) w) before after lower
+  pub paints : Paints draw_fault mark t (IsSeenOf s.view old.walls facts first last) IsNoPicture (AreBehind s.view old.walls old.planes.planes) (λ contents behind. let new_wall : Wall = wall_of s.view facts first last in
+      wall_dots s.view (painted_art contents t) (with_wall behind.0 new_wall) (length behind.0) new_wall) before after lower
   pub past : length old.walls.notes ≡ MAX_DRAWSEGS → (lower ≡ Ok tt) × IsUntouched old.planes planes before.cache after.cache before.shelf after.shelf before.canvas after.canvas
 
 untouched : {planes next : PlanesView} (old new : PaintState) → IsUntouched planes next old.cache new.cache old.shelf new.shelf old.canvas new.canvas → old ≡ new
@@ -140,9 +140,9 @@ paints_lower mark s most events seg first last facts old planes walls before aft
           (paints-asked (λ (q : Unit {0}). ⊤) (λ q. behind) (λ q asked. ((walked none).built, room)) stores.paints)
       | inr full ↦
           let past = stores.past (notes_full s.view (scene_of none s.scene) events behind.1 old.walls old.planes.planes (walked none).built full) in
-          let P : PaintState → Result (Unit {0}) DrawFault → Type 0 = λ st r. Paints draw_fault mark (view_tools s) (IsSeenOf s.view old.walls facts first last) IsNoPicture (λ (q : Unit {0}). ⊤)
+          let paints_next : PaintState → Result (Unit {0}) DrawFault → Type 0 = λ st r. Paints draw_fault mark (view_tools s) (IsSeenOf s.view old.walls facts first last) IsNoPicture (λ (q : Unit {0}). ⊤)
           (λ contents q. next_dots s.view (held_scene contents s) events seg first last) before st r in
-          subst (P after) (sym past.0) (subst (λ st. P st (Ok tt)) (untouched before after past.1)
+          subst (paints_next after) (sym past.0) (subst (λ st. paints_next st (Ok tt)) (untouched before after past.1)
           (paints-same _ (λ contents (q : Unit {0}) asked. next_full s.view (lump_bytes contents s.dir.lumps) s.scene events seg first last ws (same contents) full) (paints-none before tt)))
     ]
 

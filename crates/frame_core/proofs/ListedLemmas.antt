@@ -36,12 +36,12 @@ prepared_some P (suc number) (inr is) l = is
 -- a masked fragment has a sector behind it and a middle texture
 number_some : (number place : ℕ) → IsSome (place_if (not (number == 0)) place) → 0 < number
 unfolding place_if
-number_some zero place h = absurd (let t : false ≡ true = h in cc)
+number_some zero place h = absurd (let false_is_true : false ≡ true = h in cc)
 number_some (suc number) place h = omega arith
 
 none_some : (place : ℕ) → IsSome (place_if false place) → ⊥
 unfolding place_if
-none_some place h = let t : false ≡ true = h in absurd (cc)
+none_some place h = let false_is_true : false ≡ true = h in absurd (cc)
 
 masked_some : (facts : WallFacts) (back : Option Surface) (place : ℕ) → IsSome (place_if (is_masked facts back) place) → IsSome back × (0 < facts.middle.number)
 unfolding is_masked
@@ -86,19 +86,19 @@ module _ (lumps : List Lump) (s : SceneValue) (can : IsDrawable lumps s) (sound 
       IsSome (note_at v (fragment_wall v (scene_of bytes s) f) place).masked → CanDrawMiddle lumps (textures_view s) z (mask_lists s) (note_at v (fragment_wall v (scene_of bytes s) f) place)
   unfolding note_at fragment_wall wall_of fragment_numbers numbers_by fragment_facts facts_of note_seg middle_by seg_at back_of wall_texture textures_at scene_of
   middle_ready bytes v f place l h =
-      let got = masked_some (fragment_facts (scene_of bytes s) f) (fragment_facts (scene_of bytes s) f).back place h in
+      let has_back_and_middle = masked_some (fragment_facts (scene_of bytes s) f) (fragment_facts (scene_of bytes s) f).back place h in
       let there = sound.segs f.seg no_seg l in
       let side : ℕ = (get_or s.base.level.segs f.seg no_seg).side in
-      let behind = mapped_some (surface_at (scene_of bytes s).level) (get_or s.base.level.segs f.seg no_seg).back got.0 in
+      let behind = mapped_some (surface_at (scene_of bytes s).level) (get_or s.base.level.segs f.seg no_seg).back has_back_and_middle.0 in
       let inside : side < length s.faces.sides = omega (arith, there.side, can.sides) in
       let number : ℕ = (get_or s.faces.sides side no_textures).middle in
       let same : number ≡ get_or (middles_of s.faces.sides) side 0 = sym (get_or-map (λ (t : SideTextures). t.middle) s.faces.sides side no_textures) in
       record {
         back = if_some (λ (back : ℕ). back < length s.base.level.sectors) (get_or s.base.level.segs f.seg no_seg).back there.back;
         some = behind;
-        texture = subst (CanDraw lumps (textures_view s) z) same (middle_drawn side inside got.1);
-        among = subst (λ (n : ℕ). n < length s.base.lists.textures) same (middle_among side inside got.1);
-        single = subst (λ (n : ℕ). AllColumnsSingle (prepared_texture (textures_view s) n)) same (middle_single f.seg l behind got.1);
+        texture = subst (CanDraw lumps (textures_view s) z) same (middle_drawn side inside has_back_and_middle.1);
+        among = subst (λ (n : ℕ). n < length s.base.lists.textures) same (middle_among side inside has_back_and_middle.1);
+        single = subst (λ (n : ℕ). AllColumnsSingle (prepared_texture (textures_view s) n)) same (middle_single f.seg l behind has_back_and_middle.1);
       }
 
   note_listed : (bytes : ℕ → List ℕ) (v : ViewValue) (f : LeafFragment) (place : ℕ) → f.seg < length s.base.level.segs →
@@ -119,21 +119,21 @@ module _ (lumps : List Lump) (s : SceneValue) (can : IsDrawable lumps s) (sound 
   unfolding notes_from
   listed_from bytes v place [] h = tt
   listed_from bytes v place (f ∷ fs) h =
-      let w : Wall = fragment_wall v (scene_of bytes s) f in
-      (note_listed bytes v f place h.0, listed_from bytes v (place + room_if w.numbers.masked w + room_if (saves_top w.numbers) w + room_if (saves_bottom w.numbers) w) fs h.1)
+      let new_wall : Wall = fragment_wall v (scene_of bytes s) f in
+      (note_listed bytes v f place h.0, listed_from bytes v (place + room_if new_wall.numbers.masked new_wall + room_if (saves_top new_wall.numbers) new_wall + room_if (saves_bottom new_wall.numbers) new_wall) fs h.1)
 
   -- so it is for all notes of a view
   pub notes_listed : (bytes : ℕ → List ℕ) (v : ViewValue) (events : List Event) (notes : List FragmentNote) → All (IsEventIn v s) events → notes ≡ view_notes v (walls_of v (scene_of bytes s) events) →
       All (IsListed lumps (textures_view s) z (mask_lists s)) notes
   unfolding view_notes walls_of
   notes_listed bytes v events notes there e =
-      let P : List FragmentNote → Type 0 = All (IsListed lumps (textures_view s) z (mask_lists s)) in
-      subst P (sym e) (All-from_recursion (IsListed lumps (textures_view s) z (mask_lists s)) (notes_from v 0 (map (fragment_wall v (scene_of bytes s)) (drawsegs events)))
+      let are_listed : List FragmentNote → Type 0 = All (IsListed lumps (textures_view s) z (mask_lists s)) in
+      subst are_listed (sym e) (All-from_recursion (IsListed lumps (textures_view s) z (mask_lists s)) (notes_from v 0 (map (fragment_wall v (scene_of bytes s)) (drawsegs events)))
       (listed_from bytes v 0 (drawsegs events) (drawsegs_there v s events there)))
 
 -- the middle texture of a masked note is prepared
 pub middle_prepared : (lumps : List Lump) (s : SceneValue) (z : Heap) (openings : List ℤ) (notes : List FragmentNote) (number : ℕ) (own : ℤ) → All (IsListed lumps (textures_view s) z (mask_lists s)) notes →
     IsNotedMiddle (mask_lists s) openings notes number own → IsPrepared (textures_view s) number
 middle_prepared lumps s z openings notes number own listed middle =
-    let one = subst (IsListed lumps (textures_view s) z (mask_lists s)) middle.among.2 (listed middle.among.0 middle.note middle.among.1) in
-    subst (IsPrepared (textures_view s)) (sym middle.is.texture) (one.masked middle.is.masked).texture.prepared
+    let note_in_lists = subst (IsListed lumps (textures_view s) z (mask_lists s)) middle.among.2 (listed middle.among.0 middle.note middle.among.1) in
+    subst (IsPrepared (textures_view s)) (sym middle.is.texture) (note_in_lists.masked middle.is.masked).texture.prepared

@@ -29,13 +29,13 @@ lists-passed p q next e visits lists = record {
   ok = record {
     each = λ start before stood.
         let counted = visits.ok.each start.counter before stood.counted in
-        let given : ListsNext start.counter.view start.counter.scene p.counter.bench q.bench p.list next e =
+        let lists_next : ListsNext start.counter.view start.counter.scene p.counter.bench q.bench p.list next e =
         subst (λ (s : SceneValue). ListsNext start.counter.view s p.counter.bench q.bench p.list next e) stood.counted.scene
         (subst (λ (v : ViewValue). ListsNext v p.counter.scene p.counter.bench q.bench p.list next e) stood.counted.view lists) in
         record {
           counted = counted;
           name = stood.name;
-          listed = λ bytes. given bytes (limits_in start.counter.bench) before (stood.counted.walked bytes) (counted.walked bytes) (stood.listed bytes);
+          listed = λ bytes. lists_next bytes (limits_in start.counter.bench) before (stood.counted.walked bytes) (counted.walked bytes) (stood.listed bytes);
         };
   };
   takes_on = record { each = visits.takes_on.each };
@@ -70,8 +70,8 @@ pub lister-walked : (p q : ListerValue) (events : List Event) (result : Result (
     HasWalkedNothing p.counter.view p.counter.scene p.counter.bench → p.list ≡ nothing_listed → ListerVisits p q events result → HasGathered p q events result
 lister-walked p q events (Ok unit) walked empty visits = visits.ok.each p [] (gathered_none p walked empty)
 lister-walked p q events (Err stop) walked empty visits =
-    let h = visits.err.each p [] (gathered_none p walked empty) in
-    record { counted = stopped_all p.counter q.counter visits.err.count events stop h.counted; name = h.name; listed = tt }
+    let events_gathered = visits.err.each p [] (gathered_none p walked empty) in
+    record { counted = stopped_all p.counter q.counter visits.err.count events stop events_gathered.counted; name = events_gathered.name; listed = tt }
 
 -- a list that was lent for it is the view's
 pub listed-back : (v : ViewValue) (scene : SceneValue) (list now : WalkListValue) (result : Result (Unit {0}) OverLimit) → list ≡ now → OnOk result (IsListedView v scene now) → OnOk result (IsListedView v scene list)
@@ -107,9 +107,9 @@ unfolding view_list
 view-listed v bytes s b walk planes walked listed is =
     let scene = scene_of bytes s in
     let events = view_events v (lists_of s) in
-    let all = planes-walked v bytes s (limits_in b) events b (walked bytes) in
-    let h = listed bytes in
-    events_listed v scene events walk planes h (is ∙ ap (λ (ps : List Plane). listed_planes ps walk.makers) all ∙ ap (listed_planes (event_planes v scene events)) h.makers)
+    let planes_same = planes-walked v bytes s (limits_in b) events b (walked bytes) in
+    let walk_is_listed = listed bytes in
+    events_listed v scene events walk planes walk_is_listed (is ∙ ap (λ (ps : List Plane). listed_planes ps walk.makers) planes_same ∙ ap (listed_planes (event_planes v scene events)) walk_is_listed.makers)
     ∙ ap (λ (lists : LevelLists). event_list v scene (view_events v lists)) (level_is bytes s)
 
 -- each plane of it has a maker

@@ -79,14 +79,14 @@ pub walls-built : (v : ViewValue) (s : SceneValue) (b : Bench) → HasWalkedView
     (planes_after v (scene_of no_bytes s) (view_events v (lists_of s))).planes
 walls-built v s b walked =
     let built = (walked no_bytes).built in
-    let P : List Plane → Type 0 = IsBuilt v (walls_of v (scene_of no_bytes s) (view_events v (lists_of s))) (planes_after v (scene_of no_bytes s) (view_events v (lists_of s))) b.walls in
-    subst P built.planes built
+    let is_built_with : List Plane → Type 0 = IsBuilt v (walls_of v (scene_of no_bytes s) (view_events v (lists_of s))) (planes_after v (scene_of no_bytes s) (view_events v (lists_of s))) b.walls in
+    subst is_built_with built.planes built
 
 module _ {v : ViewValue} {s : SceneValue} {b : Bench} {z : Heap} (dir : DirectoryView) (sound : IsSound s.base.level) (can : CanDrawView dir.lumps s z) (walked : HasWalkedView v s b) where
   scene_notes : All (IsListed dir.lumps (textures_view s) z (mask_lists s)) b.walls.notes
   scene_notes =
-      let w = walked no_bytes in
-      notes_listed dir.lumps s can.drawable sound z can.composites no_bytes v (view_events v (lists_of s)) b.walls.notes w.there w.built.notes
+      let is_walked = walked no_bytes in
+      notes_listed dir.lumps s can.drawable sound z can.composites no_bytes v (view_events v (lists_of s)) b.walls.notes is_walked.there is_walked.built.notes
 
   -- the notes are listed in the parts
   pub parts-listed : {parts : MaskParts} → parts ≡ parts_of s b → All (IsListed dir.lumps parts.textures z parts.lists) parts.notes
@@ -98,29 +98,29 @@ module _ {v : ViewValue} {s : SceneValue} {b : Bench} {z : Heap} (dir : Director
 
   sprite_lump : (lump : ℕ) → IsSpriteLump b.sprites lump → IsViewLump dir.lumps s lump
   sprite_lump lump k =
-      let w = walked no_bytes in
-      let P : ℕ → Type 0 = λ (m : ℕ). list_any (λ n. n == m) (book_lumps s.book) ≡ true in
-      let found = entry_lump no_bytes v s (view_events v (lists_of s)) b.sprites k.among.0 k.sprite w.sprites k.among.1 in
+      let is_walked = walked no_bytes in
+      let is_book_lump : ℕ → Type 0 = λ (m : ℕ). list_any (λ n. n == m) (book_lumps s.book) ≡ true in
+      let lump_in_book = entry_lump no_bytes v s (view_events v (lists_of s)) b.sprites k.among.0 k.sprite is_walked.sprites k.among.1 in
       let same : (get_or b.sprites k.among.0 k.sprite).lump ≡ lump = ap (λ (e : SpriteEntry). e.lump) k.among.2 ∙ sym k.is.0 in
       let below = All-contains (λ (e : SpriteEntry). has_lump_below (length dir.lumps) e ≡ true) b.sprites k.sprite sprites-below k.among in
       record {
         there = subst (λ (m : ℕ). m < length dir.lumps) (sym k.is.0) (lump_below (length dir.lumps) k.sprite below);
-        drawn = or_right (list_any (has_flat lump) s.faces.flats) (list_any (λ n. n == lump) (book_lumps s.book)) (subst P same found);
+        drawn = or_right (list_any (has_flat lump) s.faces.flats) (list_any (λ n. n == lump) (book_lumps s.book)) (subst is_book_lump same lump_in_book);
       }
 
   same_dots : (bytes : ℕ → List ℕ) →
       masked_dots v (view_art bytes (textures_view s) s.base.colormap) (noted_drawsegs v (textures_view s) (mask_lists s) b.walls.openings b.walls.notes) (draw_order b.sprites) ≡ masks_dots v s (scene_of bytes s)
   unfolding scene_of
   same_dots bytes =
-      let w = walked bytes in
-      masked_dots-noted bytes v s can.drawable.flats (scene_of bytes s).art (view_events v (lists_of s)) b.walls.notes b.walls.openings (draw_order b.sprites) w.built.notes w.built.openings
-      ∙ ap (λ (es : List SpriteEntry). masked_dots v (scene_of bytes s).art (view_drawsegs v (scene_of bytes s) (walls_of v (scene_of bytes s) (view_events v (lists_of s)))) (draw_order es)) w.sprites
+      let is_walked = walked bytes in
+      masked_dots-noted bytes v s can.drawable.flats (scene_of bytes s).art (view_events v (lists_of s)) b.walls.notes b.walls.openings (draw_order b.sprites) is_walked.built.notes is_walked.built.openings
+      ∙ ap (λ (es : List SpriteEntry). masked_dots v (scene_of bytes s).art (view_drawsegs v (scene_of bytes s) (walls_of v (scene_of bytes s) (view_events v (lists_of s)))) (draw_order es)) is_walked.sprites
 
 -- a call of the masked pass paints that of the view, its faults told as those of a view
 pub masks-above : {mark : Painter → ℕ → ℕ} {v : ViewValue} {s : SceneValue} {b : Bench} {dir : DirectoryView} {old new : PaintState} {lower : Result (Unit {0}) CacheFault} {whole : Result (Unit {0}) ViewFault} {parts : MaskParts} → parts ≡ parts_of s b →
     IsSound s.base.level → CanDrawView dir.lumps s old.cache → HasWalkedView v s b → IsMapped from_cache lower whole → DrawsMasks mark v dir b.sprites parts old new lower → PaintsView mark (view_scene v s dir) (masks_dots v s) old new whole
 masks-above {mark} {v} {s} {b} {dir} {old} {new} {lower} {whole} same sound can walked mapped draws =
-    let one : DrawsMasks mark v dir b.sprites (parts_of s b) old new lower = subst (λ (p : MaskParts). DrawsMasks mark v dir b.sprites p old new lower) same draws in
+    let draws_scene_masks : DrawsMasks mark v dir b.sprites (parts_of s b) old new lower = subst (λ (p : MaskParts). DrawsMasks mark v dir b.sprites p old new lower) same draws in
     paints-mapped (λ (never : ⊥). absurd never) from_cache cache_above lower whole mapped
     (paints-wider (λ number own k. middle_prepared dir.lumps s old.cache b.walls.openings b.walls.notes number own (scene_notes dir sound can walked) k) (λ lump k. sprite_lump dir sound can walked lump k)
-    (paints-same (λ contents q. masks_dots v s (held_scene contents (view_scene v s dir))) (λ contents q asked. same_dots dir sound can walked (lump_bytes contents dir.lumps)) one))
+    (paints-same (λ contents q. masks_dots v s (held_scene contents (view_scene v s dir))) (λ contents q asked. same_dots dir sound can walked (lump_bytes contents dir.lumps)) draws_scene_masks))

@@ -9,5 +9,5 @@ use Rattle.sound_scene.proofs.SurfaceLemmas.{surface_counts}
 pub numbers_at : (scene : SceneValue) (sector : ℕ) → CanCount scene → sector < length scene.base.level.sectors → AreFlatNumbers (surface_at (lists_of scene) sector)
 unfolding surface_at
 numbers_at scene sector can l =
-    let e = surface_counts scene.base.level.sectors scene.faces.flats can.flats in
+    let surfaces_count = surface_counts scene.base.level.sectors scene.faces.flats can.flats in
     can.numbers sector no_surface (omega arith)

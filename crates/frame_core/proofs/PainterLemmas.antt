@@ -263,8 +263,8 @@ pub leaf-visits_stop : (mark : Painter → ℕ → ℕ) (p : PainterValue) (c : 
     limit_of_fault fault ≡ steps_over limits (view_steps p.scene.view (scene_of bytes p.scene.scene) (events ++ LeafEvent n ∷ []))) →
     limits_in c ≡ limits_in p.bench → PainterVisits mark p (record p { bench = c }) (LeafEvent n ∷ []) result
 leaf-visits_stop mark p c n fault result told is over limits =
-    let e = err_from_is_err_and result told in
-    subst (PainterVisits mark p (record p { bench = c }) (LeafEvent n ∷ [])) (sym (e.1 ∙ ap Err e.2)) (leaf_stop mark p c n fault is over limits)
+    let error_is = err_from_is_err_and result told in
+    subst (PainterVisits mark p (record p { bench = c }) (LeafEvent n ∷ [])) (sym (error_is.1 ∙ ap Err error_is.2)) (leaf_stop mark p c n fault is over limits)
 
 -- a fragment that was drawn, or a fault at it
 pub fragment-visits : (mark : Painter → ℕ → ℕ) (p : PainterValue) (c : Bench) (new : PaintState) (seg first last : ℕ) (result : Result (Unit {0}) ViewFault) →

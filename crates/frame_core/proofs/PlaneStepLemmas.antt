@@ -23,8 +23,8 @@ plane_run : (shape : ViewShape) (scene : SceneValue) (p : Plane) (x : ℕ) (rows
 unfolding with_run
 plane_run shape scene p x rows w l h = record {
   flat = h.flat;
-  column = λ k y held. elim (holds-with_run p x rows y k held) [ inl old ↦ h.column k y old | inr new ↦ (let e = new.0 in omega arith) ];
-  row = λ k y held. elim (holds-with_run p x rows y k held) [ inl old ↦ h.row k y old | inr new ↦ (let e = new.1 in omega arith) ];
+  column = λ k y held. elim (holds-with_run p x rows y k held) [ inl old ↦ h.column k y old | inr new ↦ (let column_is = new.0 in omega arith) ];
+  row = λ k y held. elim (holds-with_run p x rows y k held) [ inl old ↦ h.row k y old | inr new ↦ (let row_within_run = new.1 in omega arith) ];
 }
 
 run_in : (shape : ViewShape) (scene : SceneValue) (x : ℕ) (run : Option (ℕ × ℕ)) → x < shape.width → IsRunIn shape.height run →
@@ -85,15 +85,15 @@ floor_found_in : (v : ViewValue) (scene : SceneValue) (sector : ℕ) → sector 
     IfSome (floor_key v.eye.z (surface_at (lists_of scene) sector)) (λ (k : PlaneKey). IsPlaneIn v.shape scene (empty_plane k))
 unfolding floor_key
 floor_found_in v scene sector there =
-    let s = surface_at (lists_of scene) sector in
-    key_if v.shape scene (int_lt s.floor v.eye.z) (key_of s.floor s.floor_flat s.light) (record { sector = sector; there = there; is = floor_of s s.floor s.light })
+    let surface = surface_at (lists_of scene) sector in
+    key_if v.shape scene (int_lt surface.floor v.eye.z) (key_of surface.floor surface.floor_flat surface.light) (record { sector = sector; there = there; is = floor_of surface surface.floor surface.light })
 
 ceiling_found_in : (v : ViewValue) (scene : SceneValue) (sector : ℕ) → sector < length scene.base.level.sectors →
     IfSome (ceiling_key v.eye.z (surface_at (lists_of scene) sector)) (λ (k : PlaneKey). IsPlaneIn v.shape scene (empty_plane k))
 unfolding ceiling_key
 ceiling_found_in v scene sector there =
-    let s = surface_at (lists_of scene) sector in
-    key_if v.shape scene (int_lt v.eye.z s.ceiling || is_sky s.ceiling_flat) (key_of s.ceiling s.ceiling_flat s.light) (record { sector = sector; there = there; is = ceiling_of s s.ceiling s.light })
+    let surface = surface_at (lists_of scene) sector in
+    key_if v.shape scene (int_lt v.eye.z surface.ceiling || is_sky surface.ceiling_flat) (key_of surface.ceiling surface.ceiling_flat surface.light) (record { sector = sector; there = there; is = ceiling_of surface surface.ceiling surface.light })
 
 -- after a leaf of a sector that is there
 pub planes-leaf : (v : ViewValue) (scene : SceneValue) (sector : ℕ) (s : PlanesNow) → sector < length scene.base.level.sectors →

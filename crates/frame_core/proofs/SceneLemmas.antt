@@ -34,11 +34,11 @@ got_at : {X Y R : Type 0} (f : X → Option Y) (refuse : ℕ → R) (number : �
 unfolding each_from
 got_at f refuse number [] ys i d e h l = absurd (omega (arith, l))
 got_at f refuse number (x ∷ xs) ys zero d e h l =
-    let first = first_got (f x) (refuse number) (each_from f refuse (suc number) xs) ys h in
-    first.2 ∙ ap (λ zs. Some (get_or zs 0 e)) (sym first.4)
+    let item_and_rest = first_got (f x) (refuse number) (each_from f refuse (suc number) xs) ys h in
+    item_and_rest.2 ∙ ap (λ zs. Some (get_or zs 0 e)) (sym item_and_rest.4)
 got_at f refuse number (x ∷ xs) ys (suc i) d e h l =
-    let first = first_got (f x) (refuse number) (each_from f refuse (suc number) xs) ys h in
-    got_at f refuse (suc number) xs first.1 i d e first.3 (omega (arith, l)) ∙ ap (λ zs. Some (get_or zs (suc i) e)) (sym first.4)
+    let item_and_rest = first_got (f x) (refuse number) (each_from f refuse (suc number) xs) ys h in
+    got_at f refuse (suc number) xs item_and_rest.1 i d e item_and_rest.3 (omega (arith, l)) ∙ ap (λ zs. Some (get_or zs (suc i) e)) (sym item_and_rest.4)
 
 -- the flats of a sector are those of its names
 both_named : (floor ceiling : Option Flat) (both : SectorFlats) → option_and_then (λ f. option_map (both_flats f) ceiling) floor ≡ Some both → (floor ≡ Some both.floor) × (ceiling ≡ Some both.ceiling)
@@ -114,8 +114,8 @@ are_meant lumps name level lists faces e =
     let sides = and_then-ok (side_textures lists.textures level.sides) _ faces e in
     let sky = and_then-ok (sky_texture lists.textures name level.sectors) _ faces sides.2 in
     let flats = and_then-ok (sector_flats lumps level.sectors) _ faces sky.2 in
-    let parts : Faces = record { sides = sides.0; sky = sky.0; flats = flats.0 } in
-    let same : parts ≡ faces = cc (flats.2) in
+    let meant_faces : Faces = record { sides = sides.0; sky = sky.0; flats = flats.0 } in
+    let same : meant_faces ≡ faces = cc (flats.2) in
     record { sky = sky.1 ∙ ap (λ (f : Faces). Ok f.sky) same; flats = flats.1 ∙ ap (λ (f : Faces). Ok f.flats) same }
 
 -- a sector that shows the sky has one
@@ -133,12 +133,12 @@ sector_shows : (lumps : List Lump) (sectors : List Sector) (flats : List SectorF
 unfolding sector_flats each_or flats_of has_sky shows_sky
 sector_shows lumps sectors flats i s f e l sky =
     let sector = get_or sectors i s in
-    let both = both_named (flat_named lumps sector.floor_name) (flat_named lumps sector.ceiling_name) (get_or flats i f) (got_at (flats_of lumps) _ 0 sectors flats i s f e l) in
-    let shown : (is_sky_name sector.floor_name ≡ true) ⊎ (is_sky_name sector.ceiling_name ≡ true) = elim sky [
-      | inl floor ↦ inl (sky_of_name lumps sector.floor_name (both.0 ∙ ap Some floor))
-      | inr ceiling ↦ inr (sky_of_name lumps sector.ceiling_name (both.1 ∙ ap Some ceiling))
+    let both_flats_named = both_named (flat_named lumps sector.floor_name) (flat_named lumps sector.ceiling_name) (get_or flats i f) (got_at (flats_of lumps) _ 0 sectors flats i s f e l) in
+    let either_is_sky : (is_sky_name sector.floor_name ≡ true) ⊎ (is_sky_name sector.ceiling_name ≡ true) = elim sky [
+      | inl floor ↦ inl (sky_of_name lumps sector.floor_name (both_flats_named.0 ∙ ap Some floor))
+      | inr ceiling ↦ inr (sky_of_name lumps sector.ceiling_name (both_flats_named.1 ∙ ap Some ceiling))
     ] in
-    list_any_at shows_sky sectors i s l (either_true (is_sky_name sector.floor_name) (is_sky_name sector.ceiling_name) shown)
+    list_any_at shows_sky sectors i s l (either_true (is_sky_name sector.floor_name) (is_sky_name sector.ceiling_name) either_is_sky)
 
 -- a texture number is 0, or that of a prepared texture of the lists
 abbrev pub IsNoneOrReady : SceneValue → ℕ → Type 0

@@ -81,8 +81,8 @@ below z width h = grind (arith, ints)
 pub entry-last : (v : ViewValue) (number : ℕ) (thing : Placed) (seen : Seen) (shape : Shape5) (e : SpriteEntry) → v.shape.width ≤ FRAME_WIDTH → Some e ≡ entry_for v number thing seen shape → e.last ≤ℤ pos FRAME_WIDTH
 unfolding lies_within
 entry-last v number thing seen shape e l h =
-    let both = and_parts (int_le (pos 0) e.first) (int_lt e.last (pos v.shape.width)) (entry_for-lies_within v number thing seen shape e (sym h)) in
-    wider e.last v.shape.width FRAME_WIDTH (below e.last v.shape.width both.1) l
+    let columns_in_view = and_parts (int_le (pos 0) e.first) (int_lt e.last (pos v.shape.width)) (entry_for-lies_within v number thing seen shape e (sym h)) in
+    wider e.last v.shape.width FRAME_WIDTH (below e.last v.shape.width columns_in_view.1) l
 
 -- a sector's things, where it was not entered before
 pub entered-new : (bytes : ℕ → List ℕ) (v : ViewValue) (s : SceneValue) (is_known : Bool) (sector : ℕ) (list next : WalkListValue) → is_known ≡ false →
@@ -116,16 +116,16 @@ pub planes-more : (planes : List Plane) (makers : List PlaneMaker) (i n : ℕ) (
     listed_planes planes (take i makers) ++ listed_plane (get_or planes i p) (get_or makers i m) ∷ [] ≡ listed_planes planes (take n makers)
 unfolding listed_planes
 planes-more planes makers i n p m e l k =
-    let f : Plane × PlaneMaker → ListedPlane = λ both. listed_plane both.0 both.1 in
+    let listed_pair : Plane × PlaneMaker → ListedPlane = λ both. listed_plane both.0 both.1 in
     let next : suc i ≡ n = omega (arith, e) in
-    sym (map-append f (zip planes (take i makers)) ((get_or planes i p, get_or makers i m) ∷ []))
-    ∙ ap (map f) (zip_more planes makers i p m l k ∙ ap (λ (j : ℕ). zip planes (take j makers)) next)
+    sym (map-append listed_pair (zip planes (take i makers)) ((get_or planes i p, get_or makers i m) ∷ []))
+    ∙ ap (map listed_pair) (zip_more planes makers i p m l k ∙ ap (λ (j : ℕ). zip planes (take j makers)) next)
 
 pub planes-none : (planes : List Plane) (makers : List PlaneMaker) (i : ℕ) → i ≡ 0 → [] ≡ listed_planes planes (take i makers)
 unfolding listed_planes
 planes-none planes makers i e =
-    let f : Plane × PlaneMaker → ListedPlane = λ both. listed_plane both.0 both.1 in
-    ap (map f) (sym (zip_none planes)) ∙ ap (λ (j : ℕ). map f (zip planes (take j makers))) (sym e)
+    let listed_pair : Plane × PlaneMaker → ListedPlane = λ both. listed_plane both.0 both.1 in
+    ap (map listed_pair) (sym (zip_none planes)) ∙ ap (λ (j : ℕ). map listed_pair (zip planes (take j makers))) (sym e)
 
 pub planes-end : (planes : List Plane) (makers : List PlaneMaker) (i : ℕ) → length makers ≤ i → listed_planes planes (take i makers) ≡ listed_planes planes makers
 planes-end planes makers i l = ap (listed_planes planes) (take_all i makers l)

@@ -63,18 +63,18 @@ pub steps-room : (v : ViewValue) (scene : Scene) (es : List Event) (seg first la
     view_steps v scene (es ++ FragmentEvent seg first last ∷ []) ≡ view_steps v scene es ++ step_of_wall v (walls_of v scene es) (next_wall v scene es seg first last) ∷ []
 unfolding view_steps
 steps-room v scene es seg first last h =
-    let e = walls_counted v scene es in
-    let r : length (drawsegs es) < MAX_DRAWSEGS = omega arith in
+    let walls_count = walls_counted v scene es in
+    let drawn_below_most : length (drawsegs es) < MAX_DRAWSEGS = omega arith in
     ap (λ (walls : List Wall). steps_of v scene walls (es ++ FragmentEvent seg first last ∷ [])) (walls-room v scene es seg first last h)
-    ∙ steps_of-room v scene (walls_of v scene es) (next_wall v scene es seg first last) es seg first last (e ∙ all_counted es r)
+    ∙ steps_of-room v scene (walls_of v scene es) (next_wall v scene es seg first last) es seg first last (walls_count ∙ all_counted es drawn_below_most)
 
 -- and one past the most that a view keeps is no step
 pub steps-full : (v : ViewValue) (scene : Scene) (es : List Event) (seg first last : ℕ) → MAX_DRAWSEGS ≤ length (walls_of v scene es) →
     view_steps v scene (es ++ FragmentEvent seg first last ∷ []) ≡ view_steps v scene es
 unfolding view_steps
 steps-full v scene es seg first last h =
-    let e = walls_counted v scene es in
-    let l = drawn_counted es in
+    let walls_count = walls_counted v scene es in
+    let drawn_within_all = drawn_counted es in
     ap (λ (walls : List Wall). steps_of v scene walls (es ++ FragmentEvent seg first last ∷ [])) (walls-full v scene es seg first last h)
     ∙ steps_of-full v scene (walls_of v scene es) es seg first last (omega arith)
 

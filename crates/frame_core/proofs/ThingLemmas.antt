@@ -23,15 +23,15 @@ first_or_later n false first frame later e below after = after e
 frame_below : (n : ℕ) (test : Frame → Bool) (book : List Frame) (frame : Frame) → find test book ≡ Some frame → AllBelow n (joined_lists shape_lumps book) → AllBelow n (shape_lumps frame)
 frame_below n test [] frame e below = absurd (cc)
 frame_below n test (first ∷ rest) frame e below =
-    let both : AllBelow n (shape_lumps first ++ joined_lists shape_lumps rest) = subst (AllBelow n) (joined_lists-cons shape_lumps first rest) below in
-    first_or_later n (test first) first frame (find test rest) e (left_below n (shape_lumps first) (joined_lists shape_lumps rest) both)
-    (λ later. frame_below n test rest frame later (right_below n (shape_lumps first) (joined_lists shape_lumps rest) both))
+    let lumps_below : AllBelow n (shape_lumps first ++ joined_lists shape_lumps rest) = subst (AllBelow n) (joined_lists-cons shape_lumps first rest) below in
+    first_or_later n (test first) first frame (find test rest) e (left_below n (shape_lumps first) (joined_lists shape_lumps rest) lumps_below)
+    (λ later. frame_below n test rest frame later (right_below n (shape_lumps first) (joined_lists shape_lumps rest) lumps_below))
 
 shape_below : (n rotation : ℕ) (shapes : List Shape) (shape : Shape) → slice_get shapes rotation ≡ Some shape → AllBelow n (map (λ (s : Shape). s.lump.0) shapes) → shape.lump.0 < n
 shape_below n rotation shapes shape e below =
     let inside : rotation < length shapes = slice_get_within shapes rotation shape e in
-    let one = below rotation (shape.lump.0) (subst (λ (m : ℕ). rotation < m) (sym (length-map shapes (λ (s : Shape). s.lump.0))) inside) in
-    subst (λ (lump : ℕ). lump < n) (get_or-map (λ (s : Shape). s.lump.0) shapes rotation shape ∙ ap (λ (s : Shape). s.lump.0) (get_or_from_slice_get shapes rotation shape shape e)) one
+    let lump_below = below rotation (shape.lump.0) (subst (λ (m : ℕ). rotation < m) (sym (length-map shapes (λ (s : Shape). s.lump.0))) inside) in
+    subst (λ (lump : ℕ). lump < n) (get_or-map (λ (s : Shape). s.lump.0) shapes rotation shape ∙ ap (λ (s : Shape). s.lump.0) (get_or_from_slice_get shapes rotation shape shape e)) lump_below
 
 picked_from : (n rotation : ℕ) (frame : Option Frame) (shape : Shape) → option_and_then (λ (f : Frame). slice_get f.shapes rotation) frame ≡ Some shape →
     ((f : Frame) → frame ≡ Some f → AllBelow n (shape_lumps f)) → shape.lump.0 < n

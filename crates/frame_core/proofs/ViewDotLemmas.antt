@@ -64,11 +64,11 @@ bottom_without height s = (omega (arith, ints), omega (arith, ints))
 sprite_clips-in : (v : ViewValue) (ds : List Drawseg) (e : SpriteEntry) (x : ℕ) → v.shape.height ≤ FRAME_HEIGHT → All (IsDrawsegIn v.shape) ds → AreClipsIn v.shape (sprite_masked v ds e x)
 unfolding sprite_masked sprite_top sprite_bottom
 sprite_clips-in v ds e x s a =
-    let P : ℤ → Type 0 = λ z. (minus_one ≤ℤ z) × (z ≤ℤ greatest_clip) in
-    let Q : ℤ → Type 0 = λ z. (least_clip ≤ℤ z) × (z ≤ℤ pos v.shape.height) in
+    let is_top_clip : ℤ → Type 0 = λ z. (minus_one ≤ℤ z) × (z ≤ℤ greatest_clip) in
+    let is_bottom_clip : ℤ → Type 0 = λ z. (least_clip ≤ℤ z) × (z ≤ℤ pos v.shape.height) in
     record {
-      top = at_number P (λ d. d.top_clip x) minus_one v.shape ds (greatest_that (gives_top e x) ds) a top_without (λ d i. i.top x);
-      bottom = at_number Q (λ d. d.bottom_clip x) (pos v.shape.height) v.shape ds (greatest_that (gives_bottom e x) ds) a (bottom_without v.shape.height s) (λ d i. i.bottom x);
+      top = at_number is_top_clip (λ d. d.top_clip x) minus_one v.shape ds (greatest_that (gives_top e x) ds) a top_without (λ d i. i.top x);
+      bottom = at_number is_bottom_clip (λ d. d.bottom_clip x) (pos v.shape.height) v.shape ds (greatest_that (gives_bottom e x) ds) a (bottom_without v.shape.height s) (λ d i. i.bottom x);
     }
 
 sprite_column-in : (v : ViewValue) (art : Art) (ds : List Drawseg) (e : SpriteEntry) (x : ℕ) → v.shape.height ≤ FRAME_HEIGHT → All (IsDrawsegIn v.shape) ds → x < v.shape.width → AreInView v.shape (sprite_column v art ds e x)
@@ -110,8 +110,8 @@ middles_some : (v : ViewValue) (art : Art) (ds : List Drawseg) (sprites : List S
 unfolding middles_of
 middles_some v art ds sprites moment k None e s a = tt
 middles_some v art ds sprites moment k (Some d) e s a =
-    let i : IsDrawsegIn v.shape d = subst (IsDrawsegIn v.shape) (get_or_from_slice_get ds k d d e) (a k d (slice_get_within ds k d e)) in
-    in_view-joined v.shape (middle_column v art k d) (λ x. x < v.shape.width) (columns_at sprites moment d) (λ x l. middle-in v art k d x s i l) (columns_at-in v.shape.width sprites moment d i.within)
+    let drawseg_inside : IsDrawsegIn v.shape d = subst (IsDrawsegIn v.shape) (get_or_from_slice_get ds k d d e) (a k d (slice_get_within ds k d e)) in
+    in_view-joined v.shape (middle_column v art k d) (λ x. x < v.shape.width) (columns_at sprites moment d) (λ x l. middle-in v art k d x s drawseg_inside l) (columns_at-in v.shape.width sprites moment d drawseg_inside.within)
 
 middles-in : (v : ViewValue) (art : Art) (ds : List Drawseg) (sprites : List SpriteEntry) (moment : Option ℕ) (n : ℕ) → v.shape.height ≤ FRAME_HEIGHT → All (IsDrawsegIn v.shape) ds → AreInView v.shape (middles_at v art ds sprites moment n)
 unfolding middles_at

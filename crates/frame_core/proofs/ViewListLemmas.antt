@@ -35,14 +35,14 @@ sprites_longer entries things thing l = ap (map (λ (both : SpriteEntry × Place
 sprites_counted : (entries : List SpriteEntry) (things : List PlacedThing) → length entries ≤ length things → length (listed_sprites entries things) ≡ length entries
 unfolding listed_sprites
 sprites_counted entries things l =
-    let a = length-map (zip entries things) (λ (both : SpriteEntry × PlacedThing). listed_sprite both.0 both.1) in
-    let b = length-zip entries things in
-    omega (arith, a, b, l)
+    let map_length = length-map (zip entries things) (λ (both : SpriteEntry × PlacedThing). listed_sprite both.0 both.1) in
+    let zip_length = length-zip entries things in
+    omega (arith, map_length, zip_length, l)
 
 list_counted : (entries : List SpriteEntry) (things : List PlacedThing) (list : WalkListValue) → HasSprites entries things list → length list.sprites ≡ length entries
 list_counted entries things list h =
-    let l : length entries ≤ length things = (let a = h.count in omega (arith, a)) in
-    ap length h.sprites ∙ sprites_counted entries things l
+    let entries_to_things : length entries ≤ length things = (let entries_count = h.count in omega (arith, entries_count)) in
+    ap length h.sprites ∙ sprites_counted entries things entries_to_things
 
 counts_more : (list : WalkListValue) (things : List PlacedThing) (thing : PlacedThing) → list.all_sprites ≡ count_shown (length things) → min (list.all_sprites + 1) MOST_TOLD ≡ count_shown (length (things ++ thing ∷ []))
 counts_more list things thing e =
@@ -52,12 +52,12 @@ with_room : (entries : List SpriteEntry) (things : List PlacedThing) (list : Wal
     HasSprites (entries ++ e ∷ []) (things ++ thing ∷ []) (with_sprite list (Some s))
 unfolding with_sprite
 with_room entries things list e thing s is room h =
-    let same : length entries ≡ length things = (let a = h.count in omega (arith, a, room)) in
-    let n = list_counted entries things list h in
-    let yes : nat_lt (length list.sprites) MAX_VISSPRITES ≡ true = rw n (grind (arith, nat_tests)) in
+    let same : length entries ≡ length things = (let entries_count = h.count in omega (arith, entries_count, room)) in
+    let sprites_count = list_counted entries things list h in
+    let has_room : nat_lt (length list.sprites) MAX_VISSPRITES ≡ true = rw sprites_count (grind (arith, nat_tests)) in
     record {
-      count = (let b = length_push things thing in let c = length_push entries e in omega (arith, same, b, c, room));
-      sprites = ap (λ (b : Bool). cond b (list.sprites ++ s ∷ []) list.sprites) yes
+      count = (let more_things = length_push things thing in let more_entries = length_push entries e in omega (arith, same, more_things, more_entries, room));
+      sprites = ap (λ (b : Bool). cond b (list.sprites ++ s ∷ []) list.sprites) has_room
           ∙ ap (λ (ss : List ListedSprite). ss ++ s ∷ []) h.sprites
           ∙ ap (λ (t : ListedSprite). listed_sprites entries things ++ t ∷ []) is
           ∙ sym (sprites_push entries things e thing same);
@@ -68,12 +68,12 @@ without_room : (entries : List SpriteEntry) (things : List PlacedThing) (list : 
     HasSprites entries (things ++ thing ∷ []) (with_sprite list (Some s))
 unfolding with_sprite
 without_room entries things list thing s full h =
-    let l : length entries ≤ length things = (let a = h.count in omega (arith, a)) in
-    let n = list_counted entries things list h in
-    let no : nat_lt (length list.sprites) MAX_VISSPRITES ≡ false = rw n (grind (arith, nat_tests)) in
-    record {
-      count = (let a = h.count in let b = length_push things thing in omega (arith, a, b, full));
-      sprites = ap (λ (b : Bool). cond b (list.sprites ++ s ∷ []) list.sprites) no ∙ h.sprites ∙ sym (sprites_longer entries things thing l);
+    let entries_to_things : length entries ≤ length things = (let entries_count = h.count in omega (arith, entries_count)) in
+    let sprites_count = list_counted entries things list h in
+    let no_room : nat_lt (length list.sprites) MAX_VISSPRITES ≡ false = rw sprites_count (grind (arith, nat_tests)) in record {
+      count = (let entries_count = h.count in let more_things = length_push things thing in omega (arith, entries_count, more_things, full));
+      sprites = ap (λ (b : Bool). cond b (list.sprites ++ s ∷ []) list.sprites) no_room ∙ h.sprites
+          ∙ sym (sprites_longer entries things thing entries_to_things);
       all = counts_more list things thing h.all;
     }
 
@@ -94,9 +94,9 @@ module _ (v : ViewValue) (scene : Scene) where
   unfolding with_shape is_shown add_entry with_entry entry_for entry_within shape_sprite with_sprite
   shape_with entries things list thing placed seen shape true is h = rw is (rw (append-nil things) h)
   shape_with entries things list thing placed seen shape false is h =
-      let e = entry_of v (length entries) placed seen shape (picture_first v seen shape) (picture_last v seen shape) in
-      let s = listed_sprite (entry_of v 0 placed seen shape (picture_first v seen shape) (picture_last v seen shape)) thing in
-      rw is (made_if entries things list e thing s (nat_lt (length entries) MAX_VISSPRITES) (same_listed v (length entries) placed seen shape (picture_first v seen shape) (picture_last v seen shape) thing) refl h)
+      let new_entry = entry_of v (length entries) placed seen shape (picture_first v seen shape) (picture_last v seen shape) in
+      let new_sprite = listed_sprite (entry_of v 0 placed seen shape (picture_first v seen shape) (picture_last v seen shape)) thing in
+      rw is (made_if entries things list new_entry thing new_sprite (nat_lt (length entries) MAX_VISSPRITES) (same_listed v (length entries) placed seen shape (picture_first v seen shape) (picture_last v seen shape) thing) refl h)
 
   picked_with : (entries : List SpriteEntry) (things : List PlacedThing) (list : WalkListValue) (thing : PlacedThing) (placed : Placed) (seen : Seen) (shape : Option Shape5) → HasSprites entries things list →
       HasSprites (with_shape v entries placed seen shape) (things ++ cond (is_shown v placed seen shape) (thing ∷ []) []) (with_sprite list (shape_sprite v thing placed seen shape))
@@ -145,9 +145,9 @@ sprites_same : (v : ViewValue) (scene : Scene) (sector : ℕ) (list : WalkListVa
 unfolding with_sprites
 sprites_same v scene sector list [] = record { fragments = refl; all = refl; makers = refl }
 sprites_same v scene sector list (t ∷ ts) =
-    let one = sprite_same list (thing_sprite v scene sector t) in
-    let rest = sprites_same v scene sector (with_sprite list (thing_sprite v scene sector t)) ts in
-    record { fragments = rest.fragments ∙ one.fragments; all = rest.all ∙ one.all; makers = rest.makers ∙ one.makers }
+    let same_here = sprite_same list (thing_sprite v scene sector t) in
+    let same_behind = sprites_same v scene sector (with_sprite list (thing_sprite v scene sector t)) ts in
+    record { fragments = same_behind.fragments ∙ same_here.fragments; all = same_behind.all ∙ same_here.all; makers = same_behind.makers ∙ same_here.makers }
 
 entered_same : (v : ViewValue) (scene : Scene) (is_known : Bool) (sector : ℕ) (list : WalkListValue) → IsSameButSprites list (with_entered v scene is_known sector list)
 unfolding with_entered
@@ -213,16 +213,16 @@ module _ (v : ViewValue) (scene : Scene) (es : List Event) where
   fragments_if : (list : WalkListValue) (seg first last : ℕ) → HasListed v scene es list →
       cond (nat_lt (length list.fragments) MAX_DRAWSEGS) (list.fragments ++ record { seg = seg; first = first; last = last } ∷ []) list.fragments ≡ map listed_fragment (drawsegs (es ++ FragmentEvent seg first last ∷ []))
   fragments_if list seg first last h =
-      let f : ListedFragment = record { seg = seg; first = first; last = last } in
-      let n = fragments_counted list h in
+      let new_fragment : ListedFragment = record { seg = seg; first = first; last = last } in
+      let fragments_count = fragments_counted list h in
       elim (cases_lt (length (drawsegs es)) MAX_DRAWSEGS) [
         | inl room ↦ (
-            let yes : nat_lt (length list.fragments) MAX_DRAWSEGS ≡ true = rw n (grind (arith, nat_tests)) in
-            ap (λ (b : Bool). cond b (list.fragments ++ f ∷ []) list.fragments) yes
-            ∙ ap (λ (fs : List ListedFragment). fs ++ f ∷ []) h.fragments ∙ sym (fragments-room es seg first last room))
+            let has_room : nat_lt (length list.fragments) MAX_DRAWSEGS ≡ true = rw fragments_count (grind (arith, nat_tests)) in
+            ap (λ (b : Bool). cond b (list.fragments ++ new_fragment ∷ []) list.fragments) has_room
+            ∙ ap (λ (fs : List ListedFragment). fs ++ new_fragment ∷ []) h.fragments ∙ sym (fragments-room es seg first last room))
         | inr full ↦ (
-            let no : nat_lt (length list.fragments) MAX_DRAWSEGS ≡ false = rw n (grind (arith, nat_tests)) in
-            ap (λ (b : Bool). cond b (list.fragments ++ f ∷ []) list.fragments) no ∙ h.fragments ∙ sym (fragments-full es seg first last full))
+            let no_room : nat_lt (length list.fragments) MAX_DRAWSEGS ≡ false = rw fragments_count (grind (arith, nat_tests)) in
+            ap (λ (b : Bool). cond b (list.fragments ++ new_fragment ∷ []) list.fragments) no_room ∙ h.fragments ∙ sym (fragments-full es seg first last full))
       ]
 
   -- one fragment more
@@ -230,11 +230,11 @@ module _ (v : ViewValue) (scene : Scene) (es : List Event) where
       HasListed v scene (es ++ FragmentEvent seg first last ∷ []) (list_fragment (record { seg = seg; first = first; last = last }) planes list)
   unfolding list_fragment with_fragment with_makers
   listed-fragment seg first last planes list count h =
-      let n = fragments_counted list h in
+      let fragments_count = fragments_counted list h in
       record {
         fragments = fragments_if list seg first last h;
         all = ap (λ (k : ℕ). min (k + 1) MOST_TOLD) h.all ∙ told-more (length (leaf_fragments 0 es)) ∙ ap count_shown (sym (all_fragments-fragment es seg first last));
-        makers = makers_more v scene es (FragmentEvent seg first last) list (Fragment (length list.fragments)) planes h.makers (ap Fragment n ∙ fragment_maker (length (drawsegs es)) seg first last) count;
+        makers = makers_more v scene es (FragmentEvent seg first last) list (Fragment (length list.fragments)) planes h.makers (ap Fragment fragments_count ∙ fragment_maker (length (drawsegs es)) seg first last) count;
         sprites = (
             let own : HasSprites (view_entries v scene es) (shown_things v scene es) (list_fragment (record { seg = seg; first = first; last = last }) planes list) =
             record { count = h.sprites.count; sprites = h.sprites.sprites; all = h.sprites.all } in
@@ -285,9 +285,9 @@ leaf-listed v bytes s most es n sector planes is_known b c list mid next is ther
     let scene = scene_of bytes s in
     let own : sector ≡ leaf_sector scene n = leaf_of bytes s n sector is in
     let entered : is_entered scene es (leaf_sector scene n) ≡ is_known = ap (is_entered scene es) (sym own) ∙ sym (before.entered sector there) ∙ sym known in
-    let made : next ≡ list_leaf v scene is_known n (leaf_sector scene n) planes list =
+    let next_is : next ≡ list_leaf v scene is_known n (leaf_sector scene n) planes list =
     entering ∙ ap (with_entered v scene is_known sector) making ∙ ap (λ (k : ℕ). with_entered v scene is_known k (with_makers list (Leaf n) planes)) own in
-    subst (HasListed v scene (es ++ LeafEvent n ∷ [])) (sym made)
+    subst (HasListed v scene (es ++ LeafEvent n ∷ [])) (sym next_is)
     (listed-leaf v scene es n planes is_known list entered (count ∙ ap (λ (ps : List Plane). length ps) (planes-walked v bytes s most (es ++ LeafEvent n ∷ []) c after)) h)
 
 -- a fragment that the bench has counted

@@ -28,13 +28,13 @@ last_of_fragment es seg first last = sym (last_leaf-append 0 es (FragmentEvent s
 pub seen-fragment : (v : ViewValue) (bytes : ℕ → List ℕ) (scene : SceneValue) (most : Limits) (events : List Event) (seg first last : ℕ) (old : Bench) (planes : PlanesView) (walls : WallsView) →
     HasWalked v bytes scene most events old → IsSeen v bytes scene (events ++ FragmentEvent seg first last ∷ []) (bench_of planes walls old.sprites old.entered old.sector)
 seen-fragment v bytes scene most events seg first last old planes walls h =
-    let S = scene_of bytes scene in
+    let whole_scene = scene_of bytes scene in
     record {
-      sprites = h.sprites ∙ sym (view_entries-fragment v S events seg first last);
+      sprites = h.sprites ∙ sym (view_entries-fragment v whole_scene events seg first last);
       columns = h.columns;
       lumps = h.lumps;
-      entered = λ sector l. h.entered sector l ∙ sym (entered_fragment S events seg first last sector);
-      sector = h.sector ∙ ap (leaf_sector S) (last_of_fragment events seg first last);
+      entered = λ sector l. h.entered sector l ∙ sym (entered_fragment whole_scene events seg first last sector);
+      sector = h.sector ∙ ap (leaf_sector whole_scene) (last_of_fragment events seg first last);
     }
 
 -- a fragment past the most that a view keeps
@@ -42,24 +42,25 @@ walked_full : (v : ViewValue) (bytes : ℕ → List ℕ) (scene : SceneValue) (m
     IsEventIn v scene (FragmentEvent seg first last) → MAX_DRAWSEGS ≤ length (walls_of v (scene_of bytes scene) events) → planes ≡ old.planes → walls ≡ old.walls →
     HasWalked v bytes scene most events old → HasWalked v bytes scene most (events ++ FragmentEvent seg first last ∷ []) (bench_of planes walls old.sprites old.entered old.sector)
 walked_full v bytes scene most events seg first last old planes walls there full same_planes same_walls h =
-    let S = scene_of bytes scene in
-    let es = events ++ FragmentEvent seg first last ∷ [] in
-    let seen = seen-fragment v bytes scene most events seg first last old planes walls h in
-    let steps = steps-full v S events seg first last full in
+    let whole_scene = scene_of bytes scene in let es = events ++ FragmentEvent seg first last ∷ [] in
+    let stays_seen = seen-fragment v bytes scene most events seg first last old planes walls h in
+    let steps = steps-full v whole_scene events seg first last full in
     record {
       there = All-push (IsEventIn v scene) events (FragmentEvent seg first last) h.there there;
-      built = built_as v (walls_of v S events) (walls_of v S es) (planes_after v S events) (planes_after v S es) walls old.planes.planes planes.planes
-          (walls-full v S events seg first last full) (planes_after-full v S events seg first last full) (ap (λ (p : PlanesView). p.planes) same_planes)
-          (subst (λ (w : WallsView). IsBuilt v (walls_of v S events) (planes_after v S events) w old.planes.planes) (sym same_walls) h.built);
+      built = built_as v (walls_of v whole_scene events) (walls_of v whole_scene es) (planes_after v whole_scene events) (planes_after v whole_scene es) walls
+          old.planes.planes planes.planes (walls-full v whole_scene events seg first last full) (planes_after-full v whole_scene events seg first last full)
+          (ap (λ (p : PlanesView). p.planes) same_planes)
+          (subst (λ (w : WallsView). IsBuilt v (walls_of v whole_scene events) (planes_after v whole_scene events) w old.planes.planes) (sym same_walls)
+          h.built);
       openings = ap (λ (w : WallsView). length w.openings) same_walls ∙ h.openings ∙ ap (openings_after 0) (sym steps);
       limits = ap (λ (w : WallsView). limits_of w planes) same_walls ∙ ap (limits_of old.walls) same_planes ∙ h.limits;
       within = ap (steps_over most) steps ∙ h.within;
       planes = subst (λ (p : PlanesView). All (IsPlaneIn v.shape scene) p.planes) (sym same_planes) h.planes;
-      sprites = seen.sprites;
-      columns = seen.columns;
-      lumps = seen.lumps;
-      entered = seen.entered;
-      sector = seen.sector;
+      sprites = stays_seen.sprites;
+      columns = stays_seen.columns;
+      lumps = stays_seen.lumps;
+      entered = stays_seen.entered;
+      sector = stays_seen.sector;
     }
 
 -- the facts of a seg from the sector of the bench make the next wall
@@ -100,15 +101,15 @@ pub record TakesFragment (v : ViewValue) (scene : SceneValue) (seg first last : 
 
 walls_within : (v : ViewValue) (scene : Scene) (es : List Event) → length (walls_of v scene es) ≤ MAX_DRAWSEGS
 unfolding walls_of
-walls_within v scene es = let e = length-map (drawsegs es) (fragment_wall v scene) in let l = drawsegs-within es in omega arith
+walls_within v scene es = let walls_count = length-map (drawsegs es) (fragment_wall v scene) in let drawn_within_most = drawsegs-within es in omega arith
 
 -- where no fragment more is drawn the notes are as many as a view keeps
 pub notes_full : (v : ViewValue) (scene : Scene) (es : List Event) (s : PlanesNow) (walls : WallsView) (planes : List Plane) → IsBuilt v (walls_of v scene es) s walls planes → MAX_DRAWSEGS ≤ length (walls_of v scene es) →
     length walls.notes ≡ MAX_DRAWSEGS
 unfolding view_notes
 notes_full v scene es s walls planes built full =
-    let l = walls_within v scene es in
-    let e : length walls.notes ≡ length (walls_of v scene es) = ap length built.notes ∙ notes_counted v (walls_of v scene es) 0 in
+    let walls_within_most = walls_within v scene es in
+    let notes_count : length walls.notes ≡ length (walls_of v scene es) = ap length built.notes ∙ notes_counted v (walls_of v scene es) 0 in
     omega arith
 
 -- the first limit that a fragment passes
@@ -116,17 +117,17 @@ pub over-fragment : (v : ViewValue) (bytes : ℕ → List ℕ) (scene : SceneVal
     TakesFragment v scene seg first last facts old planes walls answer → HasWalked v bytes scene most events old →
     answer ≡ steps_over most (view_steps v (scene_of bytes scene) (events ++ FragmentEvent seg first last ∷ []))
 over-fragment v bytes scene most events seg first last facts old planes walls answer takes h =
-    let S = scene_of bytes scene in
-    let ws = walls_of v S events in
-    let s = planes_after v S events in
+    let whole_scene = scene_of bytes scene in
+    let ws = walls_of v whole_scene events in
+    let before = planes_after v whole_scene events in
     let es = events ++ FragmentEvent seg first last ∷ [] in
     elim (cases_lt (length ws) MAX_DRAWSEGS) [
       | inl room ↦
-          takes.limit ws s h.built room
-          ∙ ap (λ (w : Wall). step_over (limits_of old.walls old.planes) s (length old.walls.openings) (step_of_wall v ws w)) (next_wall-facts v bytes scene events seg first last old.sector facts h.sector (takes.facts_are bytes))
-          ∙ over-step v bytes scene most events es (step_of_wall v ws (next_wall v S events seg first last)) old h (one_more-room v S events seg first last room)
+          takes.limit ws before h.built room
+          ∙ ap (λ (w : Wall). step_over (limits_of old.walls old.planes) before (length old.walls.openings) (step_of_wall v ws w)) (next_wall-facts v bytes scene events seg first last old.sector facts h.sector (takes.facts_are bytes))
+          ∙ over-step v bytes scene most events es (step_of_wall v ws (next_wall v whole_scene events seg first last)) old h (one_more-room v whole_scene events seg first last room)
       | inr full ↦
-          (takes.full (notes_full v S events s old.walls old.planes.planes h.built full)).0 ∙ sym h.within ∙ ap (steps_over most) (sym (steps-full v S events seg first last full))
+          (takes.full (notes_full v whole_scene events before old.walls old.planes.planes h.built full)).0 ∙ sym h.within ∙ ap (steps_over most) (sym (steps-full v whole_scene events seg first last full))
     ]
 
 -- what is built where the fragment is drawn
@@ -139,32 +140,32 @@ walked_room : (v : ViewValue) (bytes : ℕ → List ℕ) (scene : SceneValue) (m
     length (walls_of v (scene_of bytes scene) events) < MAX_DRAWSEGS → HasWalked v bytes scene most (events ++ FragmentEvent seg first last ∷ []) (bench_of planes walls old.sprites old.entered old.sector)
 unfolding openings_past wall_step
 walked_room v bytes scene most events seg first last facts old planes walls tall takes builds h room =
-    let S = scene_of bytes scene in
-    let ws = walls_of v S events in
-    let s = planes_after v S events in
-    let w = next_wall v S events seg first last in
-    let e : Step = step_of_wall v ws w in
+    let whole_scene = scene_of bytes scene in let ws = walls_of v whole_scene events in
+    let before = planes_after v whole_scene events in
+    let wall = next_wall v whole_scene events seg first last in
+    let new_step : Step = step_of_wall v ws wall in
     let new = bench_of planes walls old.sprites old.entered old.sector in
     let same = next_wall-facts v bytes scene events seg first last old.sector facts h.sector (takes.facts_are bytes) in
-    let P : Wall → Type 0 = λ u. IsBuilt v (with_wall ws u) (after_event s (step_of_wall v ws u).event) walls planes.planes in
-    let built : IsBuilt v (with_wall ws w) (after_event s e.event) walls planes.planes = subst P same (builds ws s h.built room) in
-    let a = next_first v S events seg first last in
-    let b = next_last v S events seg first last in
+    let built_with : Wall → Type 0 = λ u. IsBuilt v (with_wall ws u) (after_event before (step_of_wall v ws u).event) walls planes.planes in
+    let built : IsBuilt v (with_wall ws wall) (after_event before new_step.event) walls planes.planes = subst built_with same (builds ws before h.built room) in
+    let first_same = next_first v whole_scene events seg first last in
+    let last_same = next_last v whole_scene events seg first last in
     let columns = takes.there.1 in
     let ordered = columns.0 in
     let within = columns.1 in
-    let all : All (IsPlaneIn v.shape scene) (after_event s e.event).planes =
-    planes-wall v scene (with_wall ws w) (length ws) w s tall (omega arith) (omega arith) (planes_so_far v bytes scene most events old h) in
-    walked_step v bytes scene most events (FragmentEvent seg first last) e old new h
+    let planes_inside : All (IsPlaneIn v.shape scene) (after_event before new_step.event).planes =
+    planes-wall v scene (with_wall ws wall) (length ws) wall before tall (omega arith) (omega arith) (planes_so_far v bytes scene most events old h) in
+    walked_step v bytes scene most events (FragmentEvent seg first last) new_step old new h
     (record {
-      more = one_more-room v S events seg first last room;
+      more = one_more-room v whole_scene events seg first last room;
       there = takes.there;
-      built = subst (λ (us : List Wall). IsBuilt v us (after_event s e.event) walls planes.planes) (sym (walls-room v S events seg first last room)) built;
-      openings = ap length built.openings ∙ openings_more v ws w ∙ ap (λ (n : ℕ). n + openings_of w) (sym (ap length h.built.openings));
+      built = subst (λ (us : List Wall). IsBuilt v us (after_event before new_step.event) walls planes.planes)
+          (sym (walls-room v whole_scene events seg first last room)) built;
+      openings = ap length built.openings ∙ openings_more v ws wall ∙ ap (λ (n : ℕ). n + openings_of wall) (sym (ap length h.built.openings));
       limits = takes.limits;
-      within = takes.limit ws s h.built room
-          ∙ ap (λ (u : Wall). step_over (limits_of old.walls old.planes) s (length old.walls.openings) (step_of_wall v ws u)) same;
-      planes = all;
+      within = takes.limit ws before h.built room
+          ∙ ap (λ (u : Wall). step_over (limits_of old.walls old.planes) before (length old.walls.openings) (step_of_wall v ws u)) same;
+      planes = planes_inside;
     })
     (seen-fragment v bytes scene most events seg first last old planes walls h)
 
@@ -173,11 +174,11 @@ pub walked-fragment : (v : ViewValue) (bytes : ℕ → List ℕ) (scene : SceneV
     v.shape.height ≤ FRAME_HEIGHT → TakesFragment v scene seg first last facts old planes walls None → BuildsFragment v (wall_of v facts first last) old planes walls → HasWalked v bytes scene most events old →
     HasWalked v bytes scene most (events ++ FragmentEvent seg first last ∷ []) (bench_of planes walls old.sprites old.entered old.sector)
 walked-fragment v bytes scene most events seg first last facts old planes walls tall takes builds h =
-    let S = scene_of bytes scene in
-    elim (cases_lt (length (walls_of v S events)) MAX_DRAWSEGS) [
+    let whole_scene = scene_of bytes scene in
+    elim (cases_lt (length (walls_of v whole_scene events)) MAX_DRAWSEGS) [
       | inl room ↦ walked_room v bytes scene most events seg first last facts old planes walls tall takes builds h room
       | inr full ↦
-          let same = (takes.full (notes_full v S events (planes_after v S events) old.walls old.planes.planes h.built full)).1 in
+          let same = (takes.full (notes_full v whole_scene events (planes_after v whole_scene events) old.walls old.planes.planes h.built full)).1 in
           walked_full v bytes scene most events seg first last old planes walls takes.there full same.0 same.1 h
     ]
 

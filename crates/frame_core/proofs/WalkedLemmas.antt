@@ -54,19 +54,19 @@ pub walked-none : (v : ViewValue) (bytes : ℕ → List ℕ) (scene : SceneValue
     ((s : ℕ) → s < length scene.base.level.sectors → has_entered entered s ≡ false) → sector ≡ (leaf_at (lists_of scene) 0).sector →
     HasWalked v bytes scene (limits_of walls planes) [] (bench_of planes walls sprites entered sector)
 walked-none v bytes scene planes walls sprites entered sector built none no_sprites unset first =
-    let S = scene_of bytes scene in
-    record {
+    let whole_scene = scene_of bytes scene in record {
       there = All-nil (IsEventIn v scene);
-      built = built_as v [] (walls_of v S []) no_planes (planes_after v S []) walls [] planes.planes (walls-none v S) (planes_after-none v S) none built;
-      openings = ap length built.openings ∙ no_openings v ∙ sym (openings-none v S);
+      built = built_as v [] (walls_of v whole_scene []) no_planes (planes_after v whole_scene []) walls [] planes.planes
+          (walls-none v whole_scene) (planes_after-none v whole_scene) none built;
+      openings = ap length built.openings ∙ no_openings v ∙ sym (openings-none v whole_scene);
       limits = refl;
-      within = over-none (limits_of walls planes) v S;
+      within = over-none (limits_of walls planes) v whole_scene;
       planes = subst (All (IsPlaneIn v.shape scene)) (sym none) (All-nil (IsPlaneIn v.shape scene));
-      sprites = no_sprites ∙ no_entries v S;
+      sprites = no_sprites ∙ no_entries v whole_scene;
       columns = subst (AllPass (lies_within v.shape.width)) (sym no_sprites) (All-nil (λ (e : SpriteEntry). lies_within v.shape.width e ≡ true));
       lumps = λ n below. subst (AllPass (has_lump_below n)) (sym no_sprites) (All-nil (λ (e : SpriteEntry). has_lump_below n e ≡ true));
-      entered = λ s l. unset s l ∙ none_entered S s;
-      sector = first ∙ sector_of_leaf bytes scene 0 ∙ first_leaf S;
+      entered = λ s l. unset s l ∙ none_entered whole_scene s;
+      sector = first ∙ sector_of_leaf bytes scene 0 ∙ first_leaf whole_scene;
     }
 
 -- the sprites, the sectors that are entered and the sector of the leaf, as the events make them
@@ -92,19 +92,19 @@ pub over-step : (v : ViewValue) (bytes : ℕ → List ℕ) (scene : SceneValue) 
     OneMore v (scene_of bytes scene) events more e →
     step_over (limits_of old.walls old.planes) (planes_after v (scene_of bytes scene) events) (length old.walls.openings) e ≡ steps_over most (view_steps v (scene_of bytes scene) more)
 over-step v bytes scene most events more e old h one =
-    let S = scene_of bytes scene in
-    ap (λ (l : Limits). step_over l (planes_after v S events) (length old.walls.openings) e) h.limits
-    ∙ ap (λ (n : ℕ). step_over most (planes_after v S events) n e) h.openings
+    let whole_scene = scene_of bytes scene in
+    ap (λ (l : Limits). step_over l (planes_after v whole_scene events) (length old.walls.openings) e) h.limits
+    ∙ ap (λ (n : ℕ). step_over most (planes_after v whole_scene events) n e) h.openings
     ∙ sym (one.over most h.within)
 
 pub walked_step : (v : ViewValue) (bytes : ℕ → List ℕ) (scene : SceneValue) (most : Limits) (events : List Event) (event : Event) (e : Step) (old new : Bench) → HasWalked v bytes scene most events old →
     IsBuiltOn v bytes scene events event e old new → IsSeen v bytes scene (events ++ event ∷ []) new → HasWalked v bytes scene most (events ++ event ∷ []) new
 walked_step v bytes scene most events event e old new h on seen =
-    let S = scene_of bytes scene in
-    let now = after_event (planes_after v S events) e.event in
+    let whole_scene = scene_of bytes scene in
+    let now = after_event (planes_after v whole_scene events) e.event in
     record {
       there = All-push (IsEventIn v scene) events event h.there on.there;
-      built = subst (λ (s : PlanesNow). IsBuilt v (walls_of v S (events ++ event ∷ [])) s new.walls new.planes.planes) (sym on.more.planes) on.built;
+      built = subst (λ (s : PlanesNow). IsBuilt v (walls_of v whole_scene (events ++ event ∷ [])) s new.walls new.planes.planes) (sym on.more.planes) on.built;
       openings = on.openings ∙ ap (λ (n : ℕ). openings_past n e.openings) h.openings ∙ sym on.more.openings;
       limits = on.limits ∙ h.limits;
       within = sym (on.within ∙ over-step v bytes scene most events (events ++ event ∷ []) e old h on.more);
@@ -187,56 +187,56 @@ pub over-leaf : (v : ViewValue) (bytes : ℕ → List ℕ) (scene : SceneValue) 
     step_over (limits_of old.walls old.planes) (planes_after v (scene_of bytes scene) events) (length old.walls.openings) (step_of_leaf floor ceiling)
     ≡ steps_over most (view_steps v (scene_of bytes scene) (events ++ LeafEvent n ∷ []))
 over-leaf v bytes scene most events n sector floor ceiling old h own f c =
-    let S = scene_of bytes scene in
-    ap (step_over (limits_of old.walls old.planes) (planes_after v S events) (length old.walls.openings)) (step_is v bytes scene n sector floor ceiling (own ∙ sector_of_leaf bytes scene n) f c)
-    ∙ over-step v bytes scene most events (events ++ LeafEvent n ∷ []) (leaf_step v (leaf_surface S n)) old h (one_more-leaf v S events n)
+    let whole_scene = scene_of bytes scene in
+    ap (step_over (limits_of old.walls old.planes) (planes_after v whole_scene events) (length old.walls.openings)) (step_is v bytes scene n sector floor ceiling (own ∙ sector_of_leaf bytes scene n) f c)
+    ∙ over-step v bytes scene most events (events ++ LeafEvent n ∷ []) (leaf_step v (leaf_surface whole_scene n)) old h (one_more-leaf v whole_scene events n)
 
 -- one leaf more
 pub walked-leaf : (v : ViewValue) (bytes : ℕ → List ℕ) (scene : SceneValue) (most : Limits) (events : List Event) (n sector : ℕ) (floor ceiling : Option PlaneKey) (old new : Bench) →
     EntersLeaf v scene n sector floor ceiling old new → HasWalked v bytes scene most events old → HasWalked v bytes scene most (events ++ LeafEvent n ∷ []) new
 unfolding openings_past leaf_step
 walked-leaf v bytes scene most events n sector floor ceiling old new enters h =
-    let S = scene_of bytes scene in
-    let walls = walls_of v S events in
-    let s = planes_after v S events in
-    let own : sector ≡ leaf_sector S n = enters.own ∙ sector_of_leaf bytes scene n in
-    let e : Step = leaf_step v (leaf_surface S n) in
-    let is : step_of_leaf floor ceiling ≡ e = step_is v bytes scene n sector floor ceiling own enters.floor_is enters.ceiling_is in
-    let surface : leaf_surface S n ≡ surface_at (lists_of scene) sector = surface_of_leaf bytes scene n ∙ ap (surface_at (lists_of scene)) (sym own) in
-    let all : All (IsPlaneIn v.shape scene) (after_event s e.event).planes =
-    subst (λ (t : _). All (IsPlaneIn v.shape scene) (after_event s (leaf_step v t).event).planes) (sym surface)
-    (planes-leaf v scene sector s enters.inside (planes_so_far v bytes scene most events old h)) in
-    let P : Step → Type 0 = λ t. IsBuilt v walls (after_event s t.event) new.walls new.planes.planes in
-    let built : IsBuilt v walls (after_event s e.event) new.walls new.planes.planes = subst P is (enters.built walls s h.built) in
-    walked_step v bytes scene most events (LeafEvent n) e old new h
+    let whole_scene = scene_of bytes scene in let walls = walls_of v whole_scene events in
+    let before = planes_after v whole_scene events in
+    let own : sector ≡ leaf_sector whole_scene n = enters.own ∙ sector_of_leaf bytes scene n in
+    let new_step : Step = leaf_step v (leaf_surface whole_scene n) in
+    let is : step_of_leaf floor ceiling ≡ new_step = step_is v bytes scene n sector floor ceiling own enters.floor_is enters.ceiling_is in
+    let surface : leaf_surface whole_scene n ≡ surface_at (lists_of scene) sector = surface_of_leaf bytes scene n
+    ∙ ap (surface_at (lists_of scene)) (sym own) in let planes_inside : All (IsPlaneIn v.shape scene) (after_event before new_step.event).planes =
+    subst (λ (t : _). All (IsPlaneIn v.shape scene) (after_event before (leaf_step v t).event).planes) (sym surface)
+    (planes-leaf v scene sector before enters.inside (planes_so_far v bytes scene most events old h)) in
+    let built_after : Step → Type 0 = λ t. IsBuilt v walls (after_event before t.event) new.walls new.planes.planes in
+    let built : IsBuilt v walls (after_event before new_step.event) new.walls new.planes.planes = subst built_after is (enters.built walls before h.built) in
+    walked_step v bytes scene most events (LeafEvent n) new_step old new h
     (record {
-      more = one_more-leaf v S events n;
+      more = one_more-leaf v whole_scene events n;
       there = enters.there;
-      built = subst (λ (ws : List Wall). IsBuilt v ws (after_event s e.event) new.walls new.planes.planes) (sym (walls-leaf v S events n)) built;
+      built = subst (λ (ws : List Wall). IsBuilt v ws (after_event before new_step.event) new.walls new.planes.planes)
+          (sym (walls-leaf v whole_scene events n)) built;
       openings = ap length enters.openings;
       limits = enters.limits;
-      within = enters.limit walls s h.built ∙ ap (step_over (limits_of old.walls old.planes) s (length old.walls.openings)) is;
-      planes = all;
+      within = enters.limit walls before h.built ∙ ap (step_over (limits_of old.walls old.planes) before (length old.walls.openings)) is;
+      planes = planes_inside;
     })
     (record {
       sprites =
           enters.sprites bytes
-          ∙ ap (with_sector v S (has_entered old.entered sector) sector) h.sprites
-          ∙ ap (λ (b : Bool). with_sector v S b sector (view_entries v S events)) (h.entered sector enters.inside)
-          ∙ ap (λ (k : ℕ). with_sector v S (is_entered S events k) k (view_entries v S events)) own
-          ∙ sprites_leaf v S events n (is_entered S events (leaf_sector S n)) refl;
+          ∙ ap (with_sector v whole_scene (has_entered old.entered sector) sector) h.sprites
+          ∙ ap (λ (b : Bool). with_sector v whole_scene b sector (view_entries v whole_scene events)) (h.entered sector enters.inside)
+          ∙ ap (λ (k : ℕ). with_sector v whole_scene (is_entered whole_scene events k) k (view_entries v whole_scene events)) own
+          ∙ sprites_leaf v whole_scene events n (is_entered whole_scene events (leaf_sector whole_scene n)) refl;
       columns = enters.columns h.columns;
       lumps = λ m below. enters.lumps m below (h.lumps m below);
-      entered = λ k l. entered_by S events n k (has_entered new.entered k) sector (sector == k) own refl
+      entered = λ k l. entered_by whole_scene events n k (has_entered new.entered k) sector (sector == k) own refl
           (λ t. ap (has_entered new.entered) (sym (eqb-true sector k t)) ∙ enters.entered)
           (λ t. enters.others k t ∙ h.entered k l);
-      sector = enters.now ∙ own ∙ ap (leaf_sector S) (last_of_leaf events n);
+      sector = enters.now ∙ own ∙ ap (leaf_sector whole_scene) (last_of_leaf events n);
     })
 
 -- there is as much room as before
 pub same_limits : (a b : WallsView) (p q : PlanesView) → b.room ≡ a.room → q.room ≡ p.room → limits_of b q ≡ limits_of a p
 same_limits a b p q e f =
-    ap (λ (n : ℕ). let l : Limits = record { planes = q.room; openings = n } in l) e ∙ ap (λ (n : ℕ). let l : Limits = record { planes = n; openings = a.room } in l) f
+    ap (λ (n : ℕ). let limits_now : Limits = record { planes = q.room; openings = n } in limits_now) e ∙ ap (λ (n : ℕ). let limits_now : Limits = record { planes = n; openings = a.room } in limits_now) f
 
 -- an error that is passed on tells the same limit
 pub limit-stop : {A B : Type 0} (part : Result A DrawFault) (fault : DrawFault) (whole : Result B DrawFault) → part ≡ Err fault → IsErrAnd whole (λ e. e ≡ fault) → limit_of_result whole ≡ limit_of_result part

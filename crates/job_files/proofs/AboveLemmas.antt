@@ -38,22 +38,22 @@ module _ {B R Q E : Type 0} (fault_of : E → Fault R) (lift : R → Q) where
   pub causes_above : {before now : ℕ} (one : Result B E) (result : Result B (Fault Q)) → IsNamedAbove one result → HasCauses fault_of before now one → HasCauses itself before now result
   causes_above (Ok x) result is causes = rw is (record { err = tt })
   causes_above {before} {now} (Err fault) result is causes =
-      let s = err_from_is_err_and result is in
-      let k : HasCauseAt before now (itself s.0) = rw s.2 (cause_above lift before now (fault_of fault) causes.err) in
-      rw s.1 (record { err = k })
+      let result_is_error = err_from_is_err_and result is in
+      let fault_has_cause : HasCauseAt before now (itself result_is_error.0) = rw result_is_error.2 (cause_above lift before now (fault_of fault) causes.err) in
+      rw result_is_error.1 (record { err = fault_has_cause })
 
   -- what is said of a full zone
   pub fulls_above : (P : ℕ → ℕ → Type 0) (one : Result B E) (result : Result B (Fault Q)) → IsNamedAbove one result → IfErr one (λ fault. IfFull (fault_of fault) P) → IfErr result (λ fault. IfFull (itself fault) P)
   fulls_above P (Ok x) result is full = rw is tt
   fulls_above P (Err fault) result is full =
-      let s = err_from_is_err_and result is in
-      let k : IfFull (itself s.0) P = rw s.2 (full_above lift P (fault_of fault) full) in
-      rw s.1 k
+      let result_is_error = err_from_is_err_and result is in
+      let tells_of_full_zone : IfFull (itself result_is_error.0) P = rw result_is_error.2 (full_above lift P (fault_of fault) full) in
+      rw result_is_error.1 tells_of_full_zone
 
   -- what is said of a zone in order
   pub orders_above : (P : Type 0) (one : Result B E) (result : Result B (Fault Q)) → IsNamedAbove one result → MatchResult one (λ _. P) (λ fault. InOrderAt (fault_of fault) P) → MatchResult result (λ _. P) (λ fault. InOrderAt (itself fault) P)
   orders_above P (Ok x) result is order = rw is order
   orders_above P (Err fault) result is order =
-      let s = err_from_is_err_and result is in
-      let k : InOrderAt (itself s.0) P = rw s.2 (order_above lift P (fault_of fault) order) in
-      rw s.1 k
+      let result_is_error = err_from_is_err_and result is in
+      let fault_in_order : InOrderAt (itself result_is_error.0) P = rw result_is_error.2 (order_above lift P (fault_of fault) order) in
+      rw result_is_error.1 fault_in_order

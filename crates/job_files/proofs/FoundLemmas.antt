@@ -24,8 +24,8 @@ named_more : (names : List (List ℕ)) (name : List ℕ) (files : List File) (co
 unfolding files_named
 named_more [] name files contents bytes e f = let same : [] ≡ contents = cc in rw (f, ← same) refl
 named_more (first ∷ names) name files contents bytes e f =
-    let parts = both_parts (file_named first files) (files_named names files) contents e in
-    rw (parts.first_is, named_more names name files parts.rest bytes parts.others_are f) (ap (λ v. Some (v ++ bytes ∷ [])) (sym parts.both))
+    let both_files = both_parts (file_named first files) (files_named names files) contents e in
+    rw (both_files.first_is, named_more names name files both_files.rest bytes both_files.others_are f) (ap (λ v. Some (v ++ bytes ∷ [])) (sym both_files.both))
 
 lacks_others : (first : Option (List ℕ)) (others : Option (List (List ℕ))) → others ≡ None → option_and_then (λ bytes. option_map (λ rest. bytes ∷ rest) others) first ≡ None
 lacks_others None others e = refl
@@ -68,9 +68,9 @@ pub found_more : (old new : ShelfView) (numbers more : List FileNo) (number : Fi
     StandsForNamed new number.0 name files → more ≡ numbers ++ number ∷ [] → all ≡ before ++ name ∷ [] → IsLaterShelf old new →
     AllStandForNamed old numbers before files → AllStandForNamed new more all files
 found_more old new numbers more number before all name files found pushed longer follows so_far =
-    let held = held_bytes (file_named name files) found.is_held in
+    let file_bytes = held_bytes (file_named name files) found.is_held in
     rw (pushed, longer) (record {
-      contents = so_far.contents ++ held.0 ∷ [];
-      lookup = named_more before name files so_far.contents held.0 so_far.lookup held.1;
-      stand = stand_more new numbers so_far.contents number held.0 (all_stand_later old new numbers so_far.contents follows so_far.stand) (found.stands ∙ held.1);
+      contents = so_far.contents ++ file_bytes.0 ∷ [];
+      lookup = named_more before name files so_far.contents file_bytes.0 so_far.lookup file_bytes.1;
+      stand = stand_more new numbers so_far.contents number file_bytes.0 (all_stand_later old new numbers so_far.contents follows so_far.stand) (found.stands ∙ file_bytes.1);
     })

@@ -25,6 +25,6 @@ pub bytes_whole : (kind : FileKind) (size count : ℕ) (bytes : List ℕ) → si
     value_unless (length_refusal kind size) size ≡ Ok count → (bytes_in kind bytes ≡ Ok bytes) × (length bytes ≡ count)
 unfolding bytes_in
 bytes_whole kind size count bytes e h =
-    let k : value_unless (length_refusal kind (length bytes)) (length bytes) ≡ Ok count = rw e at h in
-    let fine = not_refused (length_refusal kind (length bytes)) (length bytes) count k in
-    (rw fine.0 refl, sym fine.1)
+    let length_passes : value_unless (length_refusal kind (length bytes)) (length bytes) ≡ Ok count = rw e at h in
+    let no_refusal = not_refused (length_refusal kind (length bytes)) (length bytes) count length_passes in
+    (rw no_refusal.0 refl, sym no_refusal.1)

@@ -13,9 +13,9 @@ pub wads_unfound : {B : Type 0} {steady : Bool} {value : B → List Lump} (names
     ResultIsOrAbsent itself steady value (lumps_in names files) result
 unfolding lumps_in
 wads_unfound {B} {steady} names files fault result stops is =
-    let p : (y : (Fault Refusal)) × (result ≡ Err y) × (y ≡ fault) = err_from_is_err_and result is in
-    let k : FaultFitsOrAbsent steady (lumps_in names files) (itself p.0) = rw p.2 (stops_all steady (else_absent (files_named names files)) (λ contents. no_file (wad_files contents)) (itself fault) stops) in
-    rw p.1 (record { ok = tt; err = k })
+    let result_is_error : (y : (Fault Refusal)) × (result ≡ Err y) × (y ≡ fault) = err_from_is_err_and result is in
+    let fault_fits : FaultFitsOrAbsent steady (lumps_in names files) (itself result_is_error.0) = rw result_is_error.2 (stops_all steady (else_absent (files_named names files)) (λ contents. no_file (wad_files contents)) (itself fault) stops) in
+    rw result_is_error.1 (record { ok = tt; err = fault_fits })
 
 -- all files were found
 pub lumps_found : (names : List (List ℕ)) (files : List File) (contents : List (List ℕ)) → files_named names files ≡ Some contents → lumps_in names files ≡ no_file (wad_files contents)

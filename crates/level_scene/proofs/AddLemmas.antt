@@ -31,7 +31,7 @@ module _ {v w : ShelfView} {dir : DirectoryView} {a b : Heap} (lump : MapLump) (
   -- the lump was added
   pub add_passed : r ≡ Ok tt → new ≡ with_lump old lump live → ReadsLumps itself v w dir a b (λ n. n ≡ number) (λ (done : Unit {0}). new) (λ bytes. lump_added old lump (bytes number)) (Ok tt)
   add_passed was is =
-      let small = none_refused (size_refusal lump live) (λ refusal e. let k = (sizes refusal).1 e in cc) in
+      let small = none_refused (size_refusal lump live) (λ refusal e. let result_is_refusal = (sizes refusal).1 e in cc) in
       record {
         keeps = fetched.keeps;
         answers = λ contents t. record { ok = ap (lump_added old lump) (sym (known contents t)) ∙ added_of_small old lump live small ∙ ap Ok (sym is); err = tt };
@@ -72,7 +72,7 @@ module _ {v w : ShelfView} {dir : DirectoryView} {a b : Heap} (lump : MapLump) (
 pub added_done : {X : Type 0} (part : BuilderValue → X) (old new : BuilderValue) (r : Result (Unit {0}) MapFault) (result : Result (Unit {0}) (Fault MapRefusal)) →
     MatchResult r (λ x. result ≡ Ok x) (λ e. IsErrAnd result (λ f. f ≡ map_fault e)) → OnOk r (new ≡ old) → OnOk result (part new ≡ part old)
 added_done part old new (Ok done) result is e = rw is (ap part e)
-added_done part old new (Err fault) result is e = let s = err_from_is_err_and result is in rw s.1 tt
+added_done part old new (Err fault) result is e = let result_is_error = err_from_is_err_and result is in rw result_is_error.1 tt
 
 -- what holds after any answer
 pub fits_done : {P : Type 0} (result : Result (Unit {0}) (Fault MapRefusal)) → P → OnOk result P

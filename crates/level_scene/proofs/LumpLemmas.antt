@@ -32,8 +32,8 @@ next_after bytes label place (lump ∷ lumps) (suc i) number d b c e inside at b
 pub lumps_from-next : (bytes : ℕ → List ℕ) (label place : ℕ) (lumps : List MapLump) (i k number : ℕ) (d : MapLump) (b c e : BuilderValue) → i + 1 ≡ k → i < length lumps → number ≡ label + (place + i) →
     lumps_from bytes label place (take i lumps) b ≡ Ok c → lump_added c (get_or lumps i d) (bytes number) ≡ Ok e → lumps_from bytes label place (take k lumps) b ≡ Ok e
 lumps_from-next bytes label place lumps i k number d b c e next inside at before added =
-    let s : suc i ≡ k = omega arith in
-    ap (λ n. lumps_from bytes label place (take n lumps) b) (sym s) ∙ next_after bytes label place lumps i number d b c e inside at before added
+    let next_is : suc i ≡ k = omega arith in
+    ap (λ n. lumps_from bytes label place (take n lumps) b) (sym next_is) ∙ next_after bytes label place lumps i number d b c e inside at before added
 
 -- the first lump that is too large
 pub lumps_from-stop : (bytes : ℕ → List ℕ) (label place : ℕ) (lumps : List MapLump) (i number : ℕ) (d : MapLump) (b c : BuilderValue) (refusal : MapRefusal) → i < length lumps → number ≡ label + (place + i) →
@@ -73,8 +73,8 @@ next_absent b lump i e at = rw (e, at) (next_off i (8 - i))
 pub next_added : (added : List Bool) (number i k : ℕ) → i + 1 ≡ k → added ≡ added_first i → number ≡ i → i < 8 → set added number true ≡ added_first k
 next_added added number i k next e at few =
     let left : 8 - i ≡ suc (8 - k) = omega arith in
-    let s : suc i ≡ k = omega arith in
-    rw (e, at, left) (next_on i (8 - k) ∙ ap (λ n. replicate n true ++ replicate (8 - k) false) s)
+    let next_is : suc i ≡ k = omega arith in
+    rw (e, at, left) (next_on i (8 - k) ∙ ap (λ n. replicate n true ++ replicate (8 - k) false) next_is)
 
 -- lumps in the order of their numbers
 module _ (lumps : List MapLump) (n : ℕ) (are : map lump_no lumps ≡ range_with_len 0 n) where
@@ -84,8 +84,8 @@ module _ (lumps : List MapLump) (n : ℕ) (are : map lump_no lumps ≡ range_wit
   pub lump_numbered : (i : ℕ) (d : MapLump) → i < n → lump_no (get_or lumps i d) ≡ i
   lump_numbered i d h =
       let count = lumps_count in
-      let read = get_or-range_with_len 0 n i 0 h in
-      sym (get_or-map lump_no lumps i d 0 (omega arith)) ∙ ap (λ xs. get_or xs i 0) are ∙ read ∙ omega arith
+      let item_is_index = get_or-range_with_len 0 n i 0 h in
+      sym (get_or-map lump_no lumps i d 0 (omega arith)) ∙ ap (λ xs. get_or xs i 0) are ∙ item_is_index ∙ omega arith
 
 -- the lumps behind a label are those of the map
 pub behind_label : (label number i : ℕ) → number ≡ label + (1 + i) → i < 8 → is_map_lump label number ≡ true

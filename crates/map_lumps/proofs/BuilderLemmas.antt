@@ -6,5 +6,5 @@ use Rattle.map_lumps.specs.Builders.{BuilderValue, all_added, empty_builder, wit
 -- a builder to which the lumps are added in their order
 abbrev pub with_lumps : MapBytes → BuilderValue
 with_lumps b =
-    let four = with_lump (with_lump (with_lump (with_lump empty_builder Things b.things) Linedefs b.lines) Sidedefs b.sides) Vertexes b.vertexes in
-    with_lump (with_lump (with_lump (with_lump four Segs b.segs) Ssectors b.leaves) Nodes b.nodes) Sectors b.sectors
+    let with_first_four = with_lump (with_lump (with_lump (with_lump empty_builder Things b.things) Linedefs b.lines) Sidedefs b.sides) Vertexes b.vertexes in
+    with_lump (with_lump (with_lump (with_lump with_first_four Segs b.segs) Ssectors b.leaves) Nodes b.nodes) Sectors b.sectors

@@ -23,10 +23,10 @@ all_digits-step xs i l = at_drop_more all_ascii_digits xs i 0 l
 
 -- a number of i digits and one more
 pub digit-room : (v i c : ℕ) → v < 10 ^ i → c < 10 → v * 10 + c < 10 ^ (i + 1)
-digit-room v i c l d = let e = pow_more 10 i in rw e (omega (arith, l, d))
+digit-room v i c l d = let power_more = pow_more 10 i in rw power_more (omega (arith, l, d))
 
 pub digits-room : (v i : ℕ) → v < 10 ^ i → i ≤ 10 → v < 10 ^ 10
-digits-room v i l d = let s : 10 ^ i ≤ 10 ^ 10 = pow-le-pow_right (omega arith) d in omega (arith, l, s)
+digits-room v i l d = let powers_in_order : 10 ^ i ≤ 10 ^ 10 = pow-le-pow_right (omega arith) d in omega (arith, l, powers_in_order)
 
 -- a digit is from 48 to 57
 pub digit-low : (c : ℕ) → is_ascii_digit c ≡ true → (48 ≤ c) × (c - 48 < 10)

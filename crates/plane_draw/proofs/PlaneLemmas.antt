@@ -75,16 +75,16 @@ from_listed : (v : ViewValue) (scene : Scene) (f : ℕ → List Dot) (n : ℕ) (
 unfolding joined_lists planes_from
 from_listed v scene f n [] same = refl
 from_listed v scene f n (p ∷ ps) same =
-    let none : n + 0 ≡ n = omega arith in
-    let first : f n ≡ plane_dots v scene.art scene.sky n p =
-    sym (ap f none) ∙ same 0 (omega arith) ∙ ap (λ (m : ℕ). plane_dots v scene.art scene.sky m p) none in
+    let plus_zero : n + 0 ≡ n = omega arith in
+    let dots_here : f n ≡ plane_dots v scene.art scene.sky n p =
+    sym (ap f plus_zero) ∙ same 0 (omega arith) ∙ ap (λ (m : ℕ). plane_dots v scene.art scene.sky m p) plus_zero in
     let next : (k : ℕ) → n + 1 + k ≡ n + (k + 1) = λ k. omega arith in
-    ap (λ (xs : List Dot). xs ++ joined_lists f (map (λ k. k) (range_with_len (n + 1) (length ps)))) first
+    ap (λ (xs : List Dot). xs ++ joined_lists f (map (λ k. k) (range_with_len (n + 1) (length ps)))) dots_here
     ∙ ap (λ (xs : List Dot). plane_dots v scene.art scene.sky n p ++ xs)
     (from_listed v scene f (n + 1) ps (λ k inside.
-    let up : k + 1 ≡ suc k = omega arith in
+    let next_is : k + 1 ≡ suc k = omega arith in
     ap f (next k) ∙ same (k + 1) (omega arith)
-    ∙ ap (λ (m : ℕ). plane_dots v scene.art scene.sky (n + (k + 1)) (plane_at (p ∷ ps) m)) up
+    ∙ ap (λ (m : ℕ). plane_dots v scene.art scene.sky (n + (k + 1)) (plane_at (p ∷ ps) m)) next_is
     ∙ ap (λ (m : ℕ). plane_dots v scene.art scene.sky m (plane_at ps k)) (sym (next k))))
 
 pub planes-end : (v : ViewValue) (scene : Scene) (planes : List Plane) →
@@ -117,12 +117,12 @@ columns_on : (v : ViewValue) (art : Art) (n sky : ℕ) (p : Plane) (a k : ℕ) �
     first_columns v art n sky p a ≡ first_columns v art n sky p (a + k)
 columns_on v art n sky p a zero none = let same : a ≡ a + 0 = omega arith in ap (first_columns v art n sky p) same
 columns_on v art n sky p a (suc k) none =
-    let one : a + k + 1 ≡ a + suc k = omega arith in
+    let next_column_is : a + k + 1 ≡ a + suc k = omega arith in
     columns_on v art n sky p a k (λ x from to. none x from (omega arith))
     ∙ sym (append-nil (first_columns v art n sky p (a + k)))
     ∙ ap (λ (xs : List Dot). first_columns v art n sky p (a + k) ++ xs) (sky-no_run v art n sky (a + k) (column p (a + k)) (none (a + k) (omega arith) (omega arith)))
     ∙ columns-more v art n sky p (a + k)
-    ∙ ap (first_columns v art n sky p) one
+    ∙ ap (first_columns v art n sky p) next_column_is
 
 pub columns-past : (v : ViewValue) (art : Art) (n sky : ℕ) (p : Plane) (a b : ℕ) →
     ((x : ℕ) → a ≤ x → x < b → column p x ≡ None) → ((x : ℕ) → b ≤ x → x < a → column p x ≡ None) →

@@ -30,8 +30,8 @@ module _ {X Y R : Type 0} (f : X → Option Y) (refuse : ℕ → R) where
   pub each_after-next : (before : List Y) (i : ℕ) (xs : List X) (x d : X) (y : Y) → i < length xs → get_or xs i d ≡ x → f x ≡ Some y → each_after f refuse before i (drop i xs) ≡ each_after f refuse (before ++ y ∷ []) (i + 1) (drop (i + 1) xs)
   unfolding each_after each_from
   each_after-next before i xs x d y l g e =
-      let s : suc i ≡ i + 1 = omega arith in
-      at_drop_more (each_after f refuse before i) xs i d l ∙ rw (g, e, s) (with_one before y (each_from f refuse (i + 1) (drop (i + 1) xs)))
+      let next_is : suc i ≡ i + 1 = omega arith in
+      at_drop_more (each_after f refuse before i) xs i d l ∙ rw (g, e, next_is) (with_one before y (each_from f refuse (i + 1) (drop (i + 1) xs)))
 
   -- the end
   pub each_after-end : (before : List Y) (i : ℕ) (xs : List X) → length xs ≤ i → each_after f refuse before i (drop i xs) ≡ Ok before

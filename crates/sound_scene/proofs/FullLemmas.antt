@@ -10,7 +10,7 @@ contained_greatest : {X : Type 0} (f : X → ℕ) (xs : List X) (x : X) → Cont
 unfolding greatest_by
 contained_greatest f [] x has = among_none x has
 contained_greatest f (y ∷ xs) x has = elim (among_cases y xs x has) [
-  | inl same ↦ let at : f y ≡ f x = ap f same in omega (arith, at)
+  | inl same ↦ let value_same : f y ≡ f x = ap f same in omega (arith, value_same)
   | inr later ↦ omega (arith, contained_greatest f xs x later)
 ]
 

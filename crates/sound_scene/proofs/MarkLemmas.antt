@@ -30,8 +30,8 @@ map_added a b label i e one = λ number l. one number l ∙ ap (λ (n : ℕ). is
 
 range_past : (a n k : ℕ) → k < a → All (λ (m : ℕ). (m == k) ≡ false) (range_with_len a n)
 range_past a n k l = λ j d m.
-    let at : get_or (range_with_len a n) j d ≡ a + j = get_or-range_with_len a n j d (omega (arith, m, length-range_with_len a n)) in
-    ap (λ (i : ℕ). i == k) at ∙ eq-false_above (a + j) k (omega (arith, l))
+    let item_is : get_or (range_with_len a n) j d ≡ a + j = get_or-range_with_len a n j d (omega (arith, m, length-range_with_len a n)) in
+    ap (λ (i : ℕ). i == k) item_is ∙ eq-false_above (a + j) k (omega (arith, l))
 
 -- a number below all
 none_past : (p : ℕ → Bool) (a n k : ℕ) → k < a → list_any (λ (m : ℕ). m == k) (filter p (range_with_len a n)) ≡ false
@@ -63,11 +63,11 @@ passed_later p a k rest l more =
 pub any_passed : (p : ℕ → Bool) (a n k : ℕ) → a ≤ k → k < a + n → list_any (λ (m : ℕ). m == k) (filter p (range_with_len a n)) ≡ p k
 any_passed p a zero k b l = absurd (omega arith)
 any_passed p a (suc n) k b l =
-    let rest = filter p (range_with_len (a + 1) n) in
-    first_or (p a) a k rest
+    let marked_behind = filter p (range_with_len (a + 1) n) in
+    first_or (p a) a k marked_behind
     ∙ elim (cases_lt a k) [
-      | inl m ↦ passed_later p a k rest m (any_passed p (a + 1) n k (omega arith) (omega arith))
-      | inr m ↦ passed_here p a k rest (omega arith) (none_past p (a + 1) n k (omega arith))
+      | inl m ↦ passed_later p a k marked_behind m (any_passed p (a + 1) n k (omega arith) (omega arith))
+      | inr m ↦ passed_here p a k marked_behind (omega arith) (none_past p (a + 1) n k (omega arith))
     ]
 
 -- the lumps of the patches of all textures

@@ -73,12 +73,12 @@ module _ {X Y R : Type 0} (f : X → Result Y R) where
   unfolding each_of
   each_made [] ys z e has = among_none z has
   each_made (x ∷ xs) ys z e has =
-      let a = and_then-ok (f x) (λ y. and_then (each_of f xs) (λ ys. Ok (y ∷ ys))) ys e in
-      let b = and_then-ok (each_of f xs) (λ ys. Ok (a.0 ∷ ys)) ys a.2 in
-      let all : a.0 ∷ b.0 ≡ ys = cc in
-      subst (λ zs. IsMade zs z) all (elim (among_cases x xs z has) [
-        | inl same ↦ record { made = a.0; is = ap f (sym same) ∙ a.1; among = among_first a.0 b.0 }
-        | inr later ↦ made_later a.0 b.0 z (each_made xs b.0 z b.1 later)
+      let head_item = and_then-ok (f x) (λ y. and_then (each_of f xs) (λ ys. Ok (y ∷ ys))) ys e in
+      let tail_items = and_then-ok (each_of f xs) (λ ys. Ok (head_item.0 ∷ ys)) ys head_item.2 in
+      let items_same : head_item.0 ∷ tail_items.0 ≡ ys = cc in
+      subst (λ zs. IsMade zs z) items_same (elim (among_cases x xs z has) [
+        | inl same ↦ record { made = head_item.0; is = ap f (sym same) ∙ head_item.1; among = among_first head_item.0 tail_items.0 }
+        | inr later ↦ made_later head_item.0 tail_items.0 z (each_made xs tail_items.0 z tail_items.1 later)
       ])
 
 -- where two functions agree on each accepted item, they agree on accepted lists
@@ -86,7 +86,7 @@ pub each_same : {X Y R : Type 0} (f g : X → Result Y R) → ((x : X) (y : Y) �
 unfolding each_of
 each_same f g same [] ys e = e
 each_same f g same (x ∷ xs) ys e =
-    let a = and_then-ok (f x) (λ y. and_then (each_of f xs) (λ ys. Ok (y ∷ ys))) ys e in
-    let b = and_then-ok (each_of f xs) (λ ys. Ok (a.0 ∷ ys)) ys a.2 in
-    ap (λ r. and_then r (λ y. and_then (each_of g xs) (λ ys. Ok (y ∷ ys)))) (same x a.0 a.1)
-    ∙ ap (λ r. and_then r (λ ys. Ok (a.0 ∷ ys))) (each_same f g same xs b.0 b.1) ∙ b.2
+    let head_item = and_then-ok (f x) (λ y. and_then (each_of f xs) (λ ys. Ok (y ∷ ys))) ys e in
+    let tail_items = and_then-ok (each_of f xs) (λ ys. Ok (head_item.0 ∷ ys)) ys head_item.2 in
+    ap (λ r. and_then r (λ y. and_then (each_of g xs) (λ ys. Ok (y ∷ ys)))) (same x head_item.0 head_item.1)
+    ∙ ap (λ r. and_then r (λ ys. Ok (head_item.0 ∷ ys))) (each_same f g same xs tail_items.0 tail_items.1) ∙ tail_items.2

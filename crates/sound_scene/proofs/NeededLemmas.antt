@@ -35,7 +35,7 @@ among_greatest : (f : ℕ → ℕ) (xs : List ℕ) (k : ℕ) → list_any (λ n.
 unfolding greatest_by
 among_greatest f [] k on = cc
 among_greatest f (x ∷ xs) k on = elim (or_cases (x == k) (list_any (λ n. n == k) xs) on) [
-  | inl same ↦ let at : f x ≡ f k = ap f (eqb-true x k same) in omega (arith, at)
+  | inl same ↦ let value_same : f x ≡ f k = ap f (eqb-true x k same) in omega (arith, value_same)
   | inr later ↦ omega (arith, among_greatest f xs k later)
 ]
 

@@ -69,6 +69,6 @@ pub with_book_is : (lumps : List Lump) (book : List Frame) (sound : SoundValue) 
     named ≡ needed_lumps lumps (art_with sound.scene pictures) → sizes ≡ zone_sizes lumps (art_with sound.scene pictures) → record sound { named = named; sizes = sizes } ≡ with_book lumps book sound
 unfolding with_book
 with_book_is lumps book sound pictures named sizes same one two =
-    let all = book_lumps sound.scene.book ++ book_lumps book in
-    ap (λ (ns : List ℕ). record sound { named = ns; sizes = sizes }) (one ∙ needed_same lumps sound.scene pictures all same)
-    ∙ ap (λ (z : ZoneSizes). record sound { named = needed_lumps lumps (art_with sound.scene all); sizes = z }) (two ∙ sizes_same lumps sound.scene pictures all same)
+    let all_lumps = book_lumps sound.scene.book ++ book_lumps book in
+    ap (λ (ns : List ℕ). record sound { named = ns; sizes = sizes }) (one ∙ needed_same lumps sound.scene pictures all_lumps same)
+    ∙ ap (λ (z : ZoneSizes). record sound { named = needed_lumps lumps (art_with sound.scene all_lumps); sizes = z }) (two ∙ sizes_same lumps sound.scene pictures all_lumps same)

@@ -45,10 +45,11 @@ module _ (bytes : ℕ → List ℕ) (lumps : List Lump) (base : LevelBase) (face
   over_parts : (scene : SceneValue) → scene_over bytes lumps base faces placed prepared ≡ Ok scene → (book : List Frame) × (book_in bytes lumps placed ≡ Ok book) × (made_scene base faces placed prepared book ≡ scene)
   unfolding scene_over
   over_parts scene e =
-      let done = from_below Scene (checked placed (bad_middle (texture_by prepared) base.level.segs faces.sides)) in
-      let a = and_then-ok (from_below Sprite (book_in bytes lumps placed)) (λ book. and_then done (λ done. Ok (made_scene base faces placed prepared book))) scene e in
-      let b = and_then-ok done (λ done. Ok (made_scene base faces placed prepared a.0)) scene a.2 in
-      (a.0, from_below-ok Sprite (book_in bytes lumps placed) a.0 a.1, let made : made_scene base faces placed prepared a.0 ≡ scene = cc in made)
+      let middles_checked = from_below Scene (checked placed (bad_middle (texture_by prepared) base.level.segs faces.sides)) in
+      let own_book = and_then-ok (from_below Sprite (book_in bytes lumps placed)) (λ book. and_then middles_checked (λ done. Ok (made_scene base faces placed prepared book))) scene e in
+      let checks_passed = and_then-ok middles_checked (λ done. Ok (made_scene base faces placed prepared own_book.0)) scene own_book.2 in
+      (own_book.0, from_below-ok Sprite (book_in bytes lumps placed) own_book.0 own_book.1,
+      let scene_same : made_scene base faces placed prepared own_book.0 ≡ scene = cc in scene_same)
 
 module _ (bytes : ℕ → List ℕ) (lumps : List Lump) (lines : List ThingLine) (name : List ℕ) (skill : ℕ) where
   -- the base was refused
@@ -70,15 +71,15 @@ pub record IsBaseOf (lumps : List Lump) (name : List ℕ) (base : LevelBase) : T
 pub base_parts : (bytes : ℕ → List ℕ) (lumps : List Lump) (name : List ℕ) (base : LevelBase) → base_in bytes lumps name ≡ Ok base → IsBaseOf lumps name base
 unfolding base_in base_over level_in
 base_parts bytes lumps name base e =
-    let a = and_then-ok (from_below Art (colormap_of lumps)) _ base e in
-    let b = and_then-ok (from_below Art (playpal_of lumps)) _ base a.2 in
-    let c = and_then-ok (from_below Map (level_in bytes lumps name)) _ base b.2 in
-    let d = and_then-ok (from_below Texture (lists_in bytes lumps)) _ base c.2 in
-    let found = and_then-ok (label_of lumps name) _ c.0 (from_below-ok Map (level_in bytes lumps name) c.0 c.1) in
-    let level = and_then-ok (level_of _) _ c.0 found.2 in
-    let made : ◌≡◌ {A = LevelBase} (record { colormap = a.0; playpal = b.0; palette = take PALETTE_SIZE (bytes b.0); label = c.0.0; level = c.0.1; lists = d.0 }) base = cc in
-    let pair : (found.0, level.0) ≡ c.0 = cc in
-    subst (IsBaseOf lumps name) made (record { colormap = from_below-ok Art (colormap_of lumps) a.0 a.1; playpal = from_below-ok Art (playpal_of lumps) b.0 b.1; label = found.1 ∙ ap (λ (x : ℕ × _). Ok x.0) pair })
+    let own_colormap = and_then-ok (from_below Art (colormap_of lumps)) _ base e in
+    let own_playpal = and_then-ok (from_below Art (playpal_of lumps)) _ base own_colormap.2 in
+    let own_level = and_then-ok (from_below Map (level_in bytes lumps name)) _ base own_playpal.2 in
+    let own_lists = and_then-ok (from_below Texture (lists_in bytes lumps)) _ base own_level.2 in
+    let own_label = and_then-ok (label_of lumps name) _ own_level.0 (from_below-ok Map (level_in bytes lumps name) own_level.0 own_level.1) in
+    let level = and_then-ok (level_of _) _ own_level.0 own_label.2 in
+    let base_same : ◌≡◌ {A = LevelBase} (record { colormap = own_colormap.0; playpal = own_playpal.0; palette = take PALETTE_SIZE (bytes own_playpal.0); label = own_level.0.0; level = own_level.0.1; lists = own_lists.0 }) base = cc in
+    let level_same : (own_label.0, level.0) ≡ own_level.0 = cc in
+    subst (IsBaseOf lumps name) base_same (record { colormap = from_below-ok Art (colormap_of lumps) own_colormap.0 own_colormap.1; playpal = from_below-ok Art (playpal_of lumps) own_playpal.0 own_playpal.1; label = own_label.1 ∙ ap (λ (x : ℕ × _). Ok x.0) level_same })
 
 -- what an accepted scene is made of
 pub record IsSceneOf (bytes : ℕ → List ℕ) (lumps : List Lump) (lines : List ThingLine) (name : List ℕ) (skill : ℕ) (scene : SceneValue) : Type 0 where
@@ -97,8 +98,9 @@ module _ (bytes : ℕ → List ℕ) (lumps : List Lump) (lines : List ThingLine)
   pub scene_parts : scene_in bytes lumps lines name skill ≡ Ok scene → IsSceneOf bytes lumps lines name skill scene
   unfolding scene_in scene_on scene_with
   scene_parts e =
-      let a = and_then-ok (base_in bytes lumps name) (scene_on bytes lumps lines skill name) scene e in
-      let b = and_then-ok (from_below Scene (faces_in lumps name a.0.level a.0.lists)) _ scene a.2 in
-      let c = and_then-ok (from_below Texture (prepared_textures (last_of lumps) bytes a.0.lists (is_wanted_texture b.0.sides b.0.sky))) (scene_over bytes lumps a.0 b.0 (placed_things a.0.level lines skill)) scene b.2 in
-      parts_over a.0 b.0 c.0 a.1 (from_below-ok Scene (faces_in lumps name a.0.level a.0.lists) b.0 b.1)
-      (from_below-ok Texture (prepared_textures (last_of lumps) bytes a.0.lists (is_wanted_texture b.0.sides b.0.sky)) c.0 c.1) c.2
+      let own_base = and_then-ok (base_in bytes lumps name) (scene_on bytes lumps lines skill name) scene e in
+      let own_faces = and_then-ok (from_below Scene (faces_in lumps name own_base.0.level own_base.0.lists)) _ scene own_base.2 in
+      let textures = and_then-ok (from_below Texture (prepared_textures (last_of lumps) bytes own_base.0.lists (is_wanted_texture own_faces.0.sides own_faces.0.sky))) (scene_over bytes lumps own_base.0 own_faces.0 (placed_things own_base.0.level lines skill)) scene own_faces.2 in
+      parts_over own_base.0 own_faces.0 textures.0 own_base.1
+      (from_below-ok Scene (faces_in lumps name own_base.0.level own_base.0.lists) own_faces.0 own_faces.1) (from_below-ok Texture
+      (prepared_textures (last_of lumps) bytes own_base.0.lists (is_wanted_texture own_faces.0.sides own_faces.0.sky)) textures.0 textures.1) textures.2

@@ -79,8 +79,8 @@ needed_increase lumps art = IsStrictlyIncreasing-filter (is_needed lumps art) (r
 
 range_below : (n : ℕ) → All (λ (m : ℕ). m < n) (range_with_len 0 n)
 range_below n = λ k d l.
-    let m : k < n = omega (arith, l, length-range_with_len 0 n) in
-    omega (arith, get_or-range_with_len 0 n k d m)
+    let index_inside : k < n = omega (arith, l, length-range_with_len 0 n) in
+    omega (arith, get_or-range_with_len 0 n k d index_inside)
 
 numbers_all : (n : ℕ) (lumps : List LumpNo) → All (λ (m : ℕ). m < n) (lump_numbers lumps) → All (λ (lump : LumpNo). lump.0 < n) lumps
 numbers_all n [] all = All-nil (λ (lump : LumpNo). lump.0 < n)

@@ -65,8 +65,8 @@ module _ {A B C D E F : Type 0} {v w x : ShelfView} {dir : DirectoryView} {a b c
     causes = record { err = tt };
     full = tt;
     order = λ items all k.
-        let k1 = one.order items all k in
-        order_then k1 (subst (λ (y : Result F (Fault SpriteRefusal)). MatchResult y (λ _. KeepsOrder items b c w.taken x.taken) (λ fault. InOrderAt (itself fault) (KeepsOrder items b c w.taken x.taken))) is (two.order items (λ lump s. all lump (among lump s)) k1.order));
+        let order_so_far = one.order items all k in
+        order_then order_so_far (subst (λ (y : Result F (Fault SpriteRefusal)). MatchResult y (λ _. KeepsOrder items b c w.taken x.taken) (λ fault. InOrderAt (itself fault) (KeepsOrder items b c w.taken x.taken))) is (two.order items (λ lump s. all lump (among lump s)) order_so_far.order));
   }
 
   -- a part stops the call, after others
@@ -83,16 +83,16 @@ module _ {A B C D E F : Type 0} {v w x : ShelfView} {dir : DirectoryView} {a b c
     causes = record { err = cause_later v.faults w.faults x.faults (itself fault) one.keeps.follows.faults (subst (λ (y : Result F (Fault SpriteRefusal)). IfErr y (λ f. HasCauseAt w.faults x.faults (itself f))) is two.causes.err) };
     full = full_at (itself fault) (λ wanted widest' k. full_for_earlier among one.keeps wanted widest' k) (subst (λ (y : Result F (Fault SpriteRefusal)). IfErr y (λ f. IfFull (itself f) (IsFullFor some dir b))) is two.full);
     order = λ items all k.
-        let k1 = one.order items all k in
-        order_at (itself fault) (λ k2. order_then k1 k2) (subst (λ (y : Result F (Fault SpriteRefusal)). MatchResult y (λ _. KeepsOrder items b c w.taken x.taken) (λ f. InOrderAt (itself f) (KeepsOrder items b c w.taken x.taken))) is (two.order items (λ lump s. all lump (among lump s)) k1.order));
+        let order_so_far = one.order items all k in
+        order_at (itself fault) (λ k2. order_then order_so_far k2) (subst (λ (y : Result F (Fault SpriteRefusal)). MatchResult y (λ _. KeepsOrder items b c w.taken x.taken) (λ f. InOrderAt (itself f) (KeepsOrder items b c w.taken x.taken))) is (two.order items (λ lump s. all lump (among lump s)) order_so_far.order));
   }
 
 -- the same error goes on
 pub reads_same : {A B : Type 0} {v w : ShelfView} {dir : DirectoryView} {a b : Heap} {p q : List (Option Patch)} {wants : ℕ → Type 0} {value : B → A} (result : Result B (Fault SpriteRefusal)) (fault : (Fault SpriteRefusal)) (expected : (ℕ → List ℕ) → Result A SpriteRefusal) → IsErrAnd result (λ e. e ≡ fault) →
     Reads v w dir a b p q wants value expected (Err fault) → Reads v w dir a b p q wants value expected result
 reads_same {v} {w} {dir} {a} {b} {p} {q} {wants} {value} result fault expected is tells =
-    let s = err_from_is_err_and result is in
-    subst (Reads v w dir a b p q wants value expected) (sym (s.1 ∙ ap Err s.2)) tells
+    let result_is_error = err_from_is_err_and result is in
+    subst (Reads v w dir a b p q wants value expected) (sym (result_is_error.1 ∙ ap Err result_is_error.2)) tells
 
 module _ {v w : ShelfView} {dir : DirectoryView} {a b : Heap} {p q : List (Option Patch)} {wants : ℕ → Type 0} where
   -- memory ran out after what was done

@@ -40,7 +40,7 @@ outlines_push pictures shapes k d patch shape h l is before =
 -- a frame, once its pictures are found
 pub frame_refused : (bytes : ℕ → List ℕ) (lumps : List Lump) (need : Need) (r : Result (List Mention) SpriteRefusal) (e : SpriteRefusal) → r ≡ pictures_of (mentions lumps need.sprite) need → r ≡ Err e → frame_of bytes lumps need ≡ Err e
 unfolding frame_of
-frame_refused bytes lumps need r e is was = let h : pictures_of (mentions lumps need.sprite) need ≡ Err e = sym is ∙ was in rw h refl
+frame_refused bytes lumps need r e is was = let is_refused : pictures_of (mentions lumps need.sprite) need ≡ Err e = sym is ∙ was in rw is_refused refl
 
 pub frame_stop : (bytes : ℕ → List ℕ) (lumps : List Lump) (need : Need) (pictures : List Mention) (e : SpriteRefusal) → pictures_of (mentions lumps need.sprite) need ≡ Ok pictures → each_of (shape_of bytes) pictures ≡ Err e → frame_of bytes lumps need ≡ Err e
 unfolding frame_of
@@ -63,14 +63,14 @@ module _ (P : Mention → Type 0) where
   last_holds passes (x ∷ xs) m all e = last_step (last_that passes xs) (passes x) (last_holds passes xs m (All-tail P x xs all)) e where
     last_step : (r : Option Mention) (t : Bool) → (r ≡ Some m → P m) → or_else r (cond t (Some x) None) ≡ Some m → P m
     last_step (Some y) t k h = k h
-    last_step None true k h = let s : x ≡ m = cc in subst P s (All-head P x xs all)
+    last_step None true k h = let mention_same : x ≡ m = cc in subst P mention_same (All-head P x xs all)
     last_step None false k h = cc
 
   picture_holds : (xs : List Mention) (frame k : ℕ) (m : Mention) → All P xs → frame_picture xs frame k ≡ Some m → P m
   unfolding frame_picture picture_if picture_by
   picture_holds xs frame k m all e = by_last (last_that (is_of_frame frame) xs) refl e where
     by_kind : (last : Mention) (t : Bool) → P last → cond t (Some last) (last_that (is_of_rotation frame (suc k)) xs) ≡ Some m → P m
-    by_kind last true p h = let s : last ≡ m = cc in subst P s p
+    by_kind last true p h = let mention_same : last ≡ m = cc in subst P mention_same p
     by_kind last false p h = last_holds (is_of_rotation frame (suc k)) xs m all h
 
     by_last : (r : Option Mention) → last_that (is_of_frame frame) xs ≡ r → picture_if xs frame r k ≡ Some m → P m
@@ -79,16 +79,16 @@ module _ (P : Mention → Type 0) where
 
   each_holds : {X : Type 0} (f : X → Result Mention SpriteRefusal) → ((x : X) (m : Mention) → f x ≡ Ok m → P m) → (xs : List X) (ms : List Mention) → each_of f xs ≡ Ok ms → All P ms
   unfolding each_of
-  each_holds f one [] ms e = let s : [] ≡ ms = cc in subst (All P) s (All-nil P)
+  each_holds f one [] ms e = let mentions_same : [] ≡ ms = cc in subst (All P) mentions_same (All-nil P)
   each_holds f one (x ∷ xs) ms e = by_item (f x) (each_of f xs) (one x) (each_holds f one xs) e where
     by_item : (a : Result Mention SpriteRefusal) (b : Result (List Mention) SpriteRefusal) → ((m : Mention) → a ≡ Ok m → P m) → ((ns : List Mention) → b ≡ Ok ns → All P ns) → and_then a (λ v. and_then b (λ vs. Ok (v ∷ vs))) ≡ Ok ms → All P ms
-    by_item (Ok v) (Ok vs) h k g = let s : v ∷ vs ≡ ms = cc in subst (All P) s (All-cons P v vs (h v refl) (k vs refl))
+    by_item (Ok v) (Ok vs) h k g = let mentions_same : v ∷ vs ≡ ms = cc in subst (All P) mentions_same (All-cons P v vs (h v refl) (k vs refl))
     by_item (Ok v) (Err r) h k g = cc
     by_item (Err r) b h k g = cc
 
   found_holds : (o : Option Mention) (e : SpriteRefusal) (m : Mention) → ((n : Mention) → o ≡ Some n → P n) → ok_or o e ≡ Ok m → P m
   found_holds None e m h k = cc
-  found_holds (Some x) e m h k = let s : x ≡ m = cc in subst P s (h x refl)
+  found_holds (Some x) e m h k = let mention_same : x ≡ m = cc in subst P mention_same (h x refl)
 
   pictures_hold : (all : List Mention) (need : Need) (pictures : List Mention) → All P all → pictures_of all need ≡ Ok pictures → All P pictures
   unfolding pictures_of picture_or_missing
@@ -155,8 +155,8 @@ module _ (lumps : List Lump) where
     by_pictures : (r : Result (List Mention) SpriteRefusal) → pictures_of (mentions lumps need.sprite) need ≡ r → (o : Outline) → and_then r (λ pictures. Ok (record { sprite = need.sprite; frame = need.frame; pictures = map mention_outline pictures })) ≡ Ok o → map shape_outline frame.shapes ≡ o.pictures →
         All (λ (shape : Shape). shape.lump.0 < length lumps) frame.shapes
     by_pictures (Ok pictures) is o h same =
-        let d : ◌≡◌ {A = Outline} (record { sprite = need.sprite; frame = need.frame; pictures = map mention_outline pictures }) o = cc in
-        shapes_there frame.shapes pictures (same ∙ sym (ap (λ (x : Outline). x.pictures) d)) (pictures_there lumps need pictures is)
+        let outline_same : ◌≡◌ {A = Outline} (record { sprite = need.sprite; frame = need.frame; pictures = map mention_outline pictures }) o = cc in
+        shapes_there frame.shapes pictures (same ∙ sym (ap (λ (x : Outline). x.pictures) outline_same)) (pictures_there lumps need pictures is)
     by_pictures (Err r) is o h same = cc
 
   pub book_there : (needs : List Need) (book : List Frame) → each_of (outline_of lumps) needs ≡ Ok (map outline book) → All (λ (frame : Frame). All (λ (shape : Shape). shape.lump.0 < length lumps) frame.shapes) book

@@ -9,8 +9,8 @@ first-push : (p : Frame → Bool) (i : ℕ) (xs : List Frame) (x : Frame) (t : B
     cond t (Some i) (position_from p (i + 1) (xs ++ x ∷ [])) ≡ or_else (cond t (Some i) (position_from p (i + 1) xs)) (cond (p x) (Some (i + suc (length xs))) None)
 first-push p i xs x true h = refl
 first-push p i xs x false h =
-    let e : (i + 1) + length xs ≡ i + suc (length xs) = omega arith in
-    h ∙ ap (λ n. or_else (position_from p (i + 1) xs) (cond (p x) (Some n) None)) e
+    let end_place_same : (i + 1) + length xs ≡ i + suc (length xs) = omega arith in
+    h ∙ ap (λ n. or_else (position_from p (i + 1) xs) (cond (p x) (Some n) None)) end_place_same
 
 -- the place of a frame in a longer list
 place-push : (p : Frame → Bool) (i : ℕ) (xs : List Frame) (x : Frame) → position_from p i (xs ++ x ∷ []) ≡ or_else (position_from p i xs) (cond (p x) (Some (i + length xs)) None)
@@ -25,8 +25,8 @@ pub record IsFound (p : Frame → Bool) (i : ℕ) (xs : List Frame) (d : Frame) 
   pub frame : find p xs ≡ Some (get_or xs k d)
 
 first_found : (p : Frame → Bool) (i : ℕ) (y : Frame) (xs : List Frame) (d : Frame) (j : ℕ) (t : Bool) → p y ≡ t → (position_from p (i + 1) xs ≡ Some j → IsFound p (i + 1) xs d j) → cond t (Some i) (position_from p (i + 1) xs) ≡ Some j → IsFound p i (y ∷ xs) d j
-first_found p i y xs d j true h later e = let s : i ≡ j = cc in record { k = 0; is = omega arith; below = omega arith; frame = rw h refl }
-first_found p i y xs d j false h later e = let f = later e in record { k = suc f.k; is = omega (arith, f.is); below = omega (arith, f.below); frame = rw h f.frame }
+first_found p i y xs d j true h later e = let place_same : i ≡ j = cc in record { k = 0; is = omega arith; below = omega arith; frame = rw h refl }
+first_found p i y xs d j false h later e = let found_behind = later e in record { k = suc found_behind.k; is = omega (arith, found_behind.is); below = omega (arith, found_behind.below); frame = rw h found_behind.frame }
 
 place_found : (p : Frame → Bool) (i : ℕ) (xs : List Frame) (d : Frame) (j : ℕ) → position_from p i xs ≡ Some j → IsFound p i xs d j
 place_found p i [] d j e = cc
@@ -44,30 +44,31 @@ abbrev pub no_frame : Frame
 no_frame = record { sprite = []; frame = 0; shapes = [] }
 
 pub place_below : (p : Frame → Bool) (frames : List Frame) (place : ℕ) → position_from p 0 frames ≡ Some place → place < length frames
-place_below p frames place e = let f = place_found p 0 frames no_frame place e in omega (arith, f.is, f.below)
+place_below p frames place e = let frame_at_place = place_found p 0 frames no_frame place e in omega (arith, frame_at_place.is, frame_at_place.below)
 
 pub picked_found : (frames : List Frame) (sprite : List ℕ) (letter rotation place : ℕ) (d : Frame) → position_from (is_frame sprite letter) 0 frames ≡ Some place → picked frames sprite letter rotation ≡ slice_get (get_or frames place d).shapes rotation
 unfolding picked
 picked_found frames sprite letter rotation place d e =
-    let f = place_found (is_frame sprite letter) 0 frames d place e in
-    let same : f.k ≡ place = omega (arith, f.is) in
-    rw f.frame (ap (λ n. slice_get (get_or frames n d).shapes rotation) same)
+    let frame_at_place = place_found (is_frame sprite letter) 0 frames d place e in
+    let same : frame_at_place.k ≡ place = omega (arith, frame_at_place.is) in
+    rw frame_at_place.frame (ap (λ n. slice_get (get_or frames n d).shapes rotation) same)
 
 pub picked_none : (frames : List Frame) (sprite : List ℕ) (letter rotation : ℕ) → position_from (is_frame sprite letter) 0 frames ≡ None → picked frames sprite letter rotation ≡ None
 unfolding picked
-picked_none frames sprite letter rotation e = let n : find (is_frame sprite letter) frames ≡ None = place_none (is_frame sprite letter) 0 frames e in rw n refl
+picked_none frames sprite letter rotation e =
+    let finds_nothing : find (is_frame sprite letter) frames ≡ None = place_none (is_frame sprite letter) 0 frames e in rw finds_nothing refl
 
 -- a frame was added
 more_at : (frames : List Frame) (frame : Frame) (sprite : List ℕ) (letter : ℕ) (t : Bool) → (bytes_eq frame.sprite sprite && frame.frame == letter) ≡ t → position_from (is_frame frame.sprite frame.frame) 0 frames ≡ None →
     cond t (Some (length frames)) (position_from (is_frame sprite letter) 0 frames) ≡ or_else (position_from (is_frame sprite letter) 0 frames) (cond t (Some (0 + length frames)) None)
 more_at frames frame sprite letter false e absent = sym (or_else-none_right (position_from (is_frame sprite letter) 0 frames))
 more_at frames frame sprite letter true e absent =
-    let parts = and_parts (bytes_eq frame.sprite sprite) (frame.frame == letter) e in
-    let s : frame.sprite ≡ sprite = (bytes_eq-Decides frame.sprite sprite).0 parts.0 in
-    let l : frame.frame ≡ letter = eqb-true frame.frame letter parts.1 in
-    let none : position_from (is_frame sprite letter) 0 frames ≡ None = ap (λ n. position_from (is_frame sprite n) 0 frames) (sym l) ∙ ap (λ v. position_from (is_frame v frame.frame) 0 frames) (sym s) ∙ absent in
-    let z : length frames ≡ 0 + length frames = omega arith in
-    rw none (ap Some z)
+    let both_same = and_parts (bytes_eq frame.sprite sprite) (frame.frame == letter) e in
+    let sprite_same : frame.sprite ≡ sprite = (bytes_eq-Decides frame.sprite sprite).0 both_same.0 in
+    let letter_same : frame.frame ≡ letter = eqb-true frame.frame letter both_same.1 in
+    let place_is_none : position_from (is_frame sprite letter) 0 frames ≡ None = ap (λ n. position_from (is_frame sprite n) 0 frames) (sym letter_same) ∙ ap (λ v. position_from (is_frame v frame.frame) 0 frames) (sym sprite_same) ∙ absent in
+    let zero_before_length : length frames ≡ 0 + length frames = omega arith in
+    rw place_is_none (ap Some zero_before_length)
 
 pub place_more : (frames : List Frame) (frame : Frame) (place : ℕ) (old new : BTreeMap (List ℕ × ℕ) ℕ) → Updates frame_cmp old new (frame.sprite, frame.frame) (Some place) → place ≡ length frames → IsPlaceOf old frames →
     position_from (is_frame frame.sprite frame.frame) 0 frames ≡ None → IsPlaceOf new (frames ++ frame ∷ [])

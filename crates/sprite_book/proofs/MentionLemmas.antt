@@ -85,9 +85,9 @@ unfolding members
 members_below lumps =
     All-filter (is_member Sprites lumps) (λ n. n < length lumps) (range_with_len 0 (length lumps))
     (All-from_get_or (λ n. n < length lumps) (range_with_len 0 (length lumps)) 0 (λ i h.
-    let l = length-range_with_len 0 (length lumps) in
-    let k : i < length lumps = omega arith in
-    let e = get_or-range_with_len 0 (length lumps) i 0 k in
+    let range_length = length-range_with_len 0 (length lumps) in
+    let index_below_lumps : i < length lumps = omega arith in
+    let item_is_index = get_or-range_with_len 0 (length lumps) i 0 index_below_lumps in
     omega arith))
 
 -- the numbers of some lumps
@@ -104,23 +104,23 @@ index_none index e f lumps numbers = record {
 
 pub entry_below : (entries : List LumpNo) (lumps : List Lump) (i : ℕ) (d : LumpNo) → numbers_of entries ≡ members Sprites lumps → i < length entries → (get_or entries i d).0 < length lumps
 entry_below entries lumps i d e h =
-    let n = length-map entries (λ (lump : LumpNo). lump.0) in
+    let numbers_length = length-map entries (λ (lump : LumpNo). lump.0) in
     let below : All (λ n. n < length lumps) (numbers_of entries) = subst (All (λ n. n < length lumps)) (sym e) (members_below lumps) in
-    let at = All-get_or (λ n. n < length lumps) (numbers_of entries) i d.0 (omega arith) below in
-    subst (λ n. n < length lumps) (get_or-map (λ (lump : LumpNo). lump.0) entries i d) at
+    let number_below = All-get_or (λ n. n < length lumps) (numbers_of entries) i d.0 (omega arith) below in
+    subst (λ n. n < length lumps) (get_or-map (λ (lump : LumpNo). lump.0) entries i d) number_below
 
 -- the mentions of one lump more
 more_mentions : (lumps : List Lump) (entries : List LumpNo) (i : ℕ) (d : LumpNo) (name : List ℕ) (sprite : List ℕ) → i < length entries → name ≡ (lump_at lumps (get_or entries i d).0).name →
     joined_lists (lump_mentions lumps sprite) (take i (numbers_of entries)) ++ cond (is_of_sprite sprite name) (name_mentions (get_or entries i d).0 name) [] ≡ joined_lists (lump_mentions lumps sprite) (take (i + 1) (numbers_of entries))
 unfolding lump_mentions joined_lists
 more_mentions lumps entries i d name sprite h e =
-    let n = length-map entries (λ (lump : LumpNo). lump.0) in
-    let f = lump_mentions lumps sprite in
-    let lt : i < length (numbers_of entries) = omega arith in
-    let taken : take (i + 1) (numbers_of entries) ≡ take i (numbers_of entries) ++ (get_or entries i d).0 ∷ [] =
-    take_more (numbers_of entries) i d.0 lt ∙ ap (λ m. take i (numbers_of entries) ++ m ∷ []) (get_or-map (λ (lump : LumpNo). lump.0) entries i d) in
-    sym (ap (joined_lists f) taken ∙ joined_lists-append f (take i (numbers_of entries)) ((get_or entries i d).0 ∷ []) ∙ ap (λ v. joined_lists f (take i (numbers_of entries)) ++ v) (append-nil (f (get_or entries i d).0))
-    ∙ ap (λ v. joined_lists f (take i (numbers_of entries)) ++ cond (is_of_sprite sprite v) (name_mentions (get_or entries i d).0 v) []) (sym e))
+    let numbers_length = length-map entries (λ (lump : LumpNo). lump.0) in
+    let sprite_mentions = lump_mentions lumps sprite in
+    let index_inside : i < length (numbers_of entries) = omega arith in
+    let one_number_more : take (i + 1) (numbers_of entries) ≡ take i (numbers_of entries) ++ (get_or entries i d).0 ∷ [] =
+    take_more (numbers_of entries) i d.0 index_inside ∙ ap (λ m. take i (numbers_of entries) ++ m ∷ []) (get_or-map (λ (lump : LumpNo). lump.0) entries i d) in
+    sym (ap (joined_lists sprite_mentions) one_number_more ∙ joined_lists-append sprite_mentions (take i (numbers_of entries)) ((get_or entries i d).0 ∷ []) ∙ ap (λ v. joined_lists sprite_mentions (take i (numbers_of entries)) ++ v) (append-nil (sprite_mentions (get_or entries i d).0))
+    ∙ ap (λ v. joined_lists sprite_mentions (take i (numbers_of entries)) ++ cond (is_of_sprite sprite v) (name_mentions (get_or entries i d).0 v) []) (sym e))
 
 pub index_step : (index : Mentions) (lumps : List Lump) (entries : List LumpNo) (i : ℕ) (d : LumpNo) (name : List ℕ) → i < length entries → name ≡ (lump_at lumps (get_or entries i d).0).name →
     IsIndexOf index (λ sprite. joined_lists (lump_mentions lumps sprite) (take i (numbers_of entries)) ++ cond (is_of_sprite sprite name) (name_mentions (get_or entries i d).0 name) []) →
@@ -132,5 +132,5 @@ pub index_whole : (index : Mentions) (lumps : List Lump) (entries : List LumpNo)
     IsIndexOf index (λ sprite. joined_lists (lump_mentions lumps sprite) (take i (numbers_of entries))) → IsIndexOf index (mentions lumps)
 unfolding mentions
 index_whole index lumps entries i h e is =
-    let n : i ≡ length (numbers_of entries) = h ∙ sym (length-map entries (λ (lump : LumpNo). lump.0)) in
-    index_alike index _ _ is (λ sprite. ap (joined_lists (lump_mentions lumps sprite)) (ap (λ k. take k (numbers_of entries)) n ∙ take-length (numbers_of entries) ∙ e))
+    let index_is_length : i ≡ length (numbers_of entries) = h ∙ sym (length-map entries (λ (lump : LumpNo). lump.0)) in
+    index_alike index _ _ is (λ sprite. ap (joined_lists (lump_mentions lumps sprite)) (ap (λ k. take k (numbers_of entries)) index_is_length ∙ take-length (numbers_of entries) ∙ e))

@@ -67,7 +67,7 @@ needs_cut xs n rest e = record {
 
 any_step : (t : Need → Bool) (x : Need) (xs ys : List Need) (s : Bool) → (s ≡ false → t x ≡ false) → list_any t xs ≡ list_any t ys → list_any t (cond s (x ∷ xs) xs) ≡ (t x || list_any t ys)
 any_step t x xs ys true h e = ap (λ v. t x || v) e
-any_step t x xs ys false h e = let f : t x ≡ false = h refl in e ∙ sym (ap (λ v. v || list_any t ys) f)
+any_step t x xs ys false h e = let test_is_false : t x ≡ false = h refl in e ∙ sym (ap (λ v. v || list_any t ys) test_is_false)
 
 any_filter : (t q : Need → Bool) → ((n : Need) → q n ≡ false → t n ≡ false) → (xs : List Need) → list_any t (filter q xs) ≡ list_any t xs
 any_filter t q h [] = refl
@@ -76,14 +76,14 @@ any_filter t q h (x ∷ xs) = any_step t x (filter q xs) xs (q x) (h x) (any_fil
 same_parts : (a b : Need) → same_frame a b ≡ true → (a.sprite ≡ b.sprite) × (a.frame ≡ b.frame)
 unfolding same_frame
 same_parts a b e =
-    let p = and_parts (bytes_eq a.sprite b.sprite) (a.frame == b.frame) e in
-    ((bytes_eq-Decides a.sprite b.sprite).0 p.0, eqb-true a.frame b.frame p.1)
+    let tests_true = and_parts (bytes_eq a.sprite b.sprite) (a.frame == b.frame) e in
+    ((bytes_eq-Decides a.sprite b.sprite).0 tests_true.0, eqb-true a.frame b.frame tests_true.1)
 
 same_as : (a b c : Need) → same_frame a b ≡ true → same_frame b c ≡ same_frame a c
 unfolding same_frame
 same_as a b c e =
-    let p = same_parts a b e in
-    ap (λ s. bytes_eq s c.sprite && b.frame == c.frame) (sym p.0) ∙ ap (λ f. bytes_eq a.sprite c.sprite && f == c.frame) (sym p.1)
+    let parts_same = same_parts a b e in
+    ap (λ s. bytes_eq s c.sprite && b.frame == c.frame) (sym parts_same.0) ∙ ap (λ f. bytes_eq a.sprite c.sprite && f == c.frame) (sym parts_same.1)
 
 left_out : (a b c : Need) → same_frame a c ≡ false → not (same_frame a b) ≡ false → same_frame b c ≡ false
 left_out a b c f h = by_test (same_frame a b) refl h where
@@ -106,7 +106,7 @@ outline_keys : (lumps : List Lump) (need : Need) (o : Outline) → outline_of lu
 unfolding outline_of outline_in
 outline_keys lumps need o e = by_pictures (pictures_of (mentions lumps need.sprite) need) e where
   by_pictures : (r : Result (List Mention) SpriteRefusal) → and_then r (λ pictures. Ok (record { sprite = need.sprite; frame = need.frame; pictures = map mention_outline pictures })) ≡ Ok o → (need.sprite ≡ o.sprite) × (need.frame ≡ o.frame)
-  by_pictures (Ok pictures) h = let d : ◌≡◌ {A = Outline} (record { sprite = need.sprite; frame = need.frame; pictures = map mention_outline pictures }) o = cc in (ap (λ (x : Outline). x.sprite) d, ap (λ (x : Outline). x.frame) d)
+  by_pictures (Ok pictures) h = let outline_same : ◌≡◌ {A = Outline} (record { sprite = need.sprite; frame = need.frame; pictures = map mention_outline pictures }) o = cc in (ap (λ (x : Outline). x.sprite) outline_same, ap (λ (x : Outline). x.frame) outline_same)
   by_pictures (Err r) h = cc
 
 pub frame_keys : (lumps : List Lump) (need : Need) (frame : Frame) → outline_of lumps need ≡ Ok (outline frame) → (need.sprite ≡ frame.sprite) × (need.frame ≡ frame.frame)

@@ -16,7 +16,7 @@ patch_bad bytes lump e = rw e refl
 
 found_patch : (o : Option Patch) (e : SpriteRefusal) (patch : Patch) → ok_or o e ≡ Ok patch → o ≡ Some patch
 found_patch None e patch h = cc
-found_patch (Some x) e patch h = let d : x ≡ patch = cc in ap Some d
+found_patch (Some x) e patch h = let patch_same : x ≡ patch = cc in ap Some patch_same
 
 patch_was : (bytes : ℕ → List ℕ) (lump : ℕ) (patch : Patch) → patch_or_bad bytes lump ≡ Ok patch → patch_of (bytes lump) ≡ Some patch
 unfolding patch_or_bad
@@ -44,8 +44,8 @@ module _ {view after : ShelfView} {dir : DirectoryView} {old new : Heap} (lump :
 
 -- the lump was read before
 pub read_before : (bytes : ℕ → List ℕ) (patches : List (Option Patch)) (lump : ℕ) (patch : Patch) → ArePatchesOf bytes patches → slice_index_or patches lump None ≡ Some patch → patch_or_bad bytes lump ≡ Ok patch
-read_before bytes patches lump patch are is =
-    let h : patch_of (bytes lump) ≡ Some patch = subst (λ x. IfSome x (λ p. patch_of (bytes lump) ≡ Some p)) is (are.at lump) in patch_is bytes lump patch h
+read_before bytes patches lump patch are is = let lump_is_patch : patch_of (bytes lump) ≡ Some patch =
+    subst (λ x. IfSome x (λ p. patch_of (bytes lump) ≡ Some p)) is (are.at lump) in patch_is bytes lump patch lump_is_patch
 
 -- the lump is read now
 set_read : (bytes : ℕ → List ℕ) (patches : List (Option Patch)) (lump : ℕ) (patch : Patch) → lump < length patches → ArePatchesOf bytes patches → patch_of (bytes lump) ≡ Some patch → ArePatchesOf bytes (set patches lump (Some patch))

@@ -46,7 +46,7 @@ one_less n = omega (arith, ints)
 last_column : (width : ℕ) → minus (pos width) (pos 1) <ℤ pos width
 unfolding minus int_wrap
 last_column zero = omega (arith, ints)
-last_column (suc n) = let P : ℤ → Type 0 = λ z. int_wrap w32 z <ℤ pos (suc n) in subst P (sym (one_less n)) (wrapped_below n)
+last_column (suc n) = let is_below_width : ℤ → Type 0 = λ z. int_wrap w32 z <ℤ pos (suc n) in subst is_below_width (sym (one_less n)) (wrapped_below n)
 
 low_column : (a : ℤ) → int_le (pos 0) (greater_word a (pos 0)) ≡ true
 unfolding greater_word
@@ -67,8 +67,8 @@ entry_of-lies_within v number thing seen shape a1 a2 =
 pub entry_for-lies_within : (v : ViewValue) (number : ℕ) (thing : Placed) (seen : Seen) (shape : Shape5) (e : SpriteEntry) → entry_for v number thing seen shape ≡ Some e → lies_within v.shape.width e ≡ true
 unfolding entry_for entry_within
 entry_for-lies_within v number thing seen shape e h =
-    let P : SpriteEntry → Type 0 = λ f. lies_within v.shape.width f ≡ true in
-    subst P (made _ _ e h) (entry_of-lies_within v number thing seen shape _ _)
+    let lies_in_view : SpriteEntry → Type 0 = λ f. lies_within v.shape.width f ≡ true in
+    subst lies_in_view (made _ _ e h) (entry_of-lies_within v number thing seen shape _ _)
 
 entry_of-lump : (v : ViewValue) (number : ℕ) (thing : Placed) (seen : Seen) (shape : Shape5) (a1 a2 : ℤ) (lumps : ℕ) → shape.lump < lumps →
     has_lump_below lumps (entry_of v number thing seen shape a1 a2) ≡ true
@@ -80,5 +80,5 @@ pub entry_for-lump : (v : ViewValue) (number : ℕ) (thing : Placed) (seen : See
     has_lump_below lumps e ≡ true
 unfolding entry_for entry_within
 entry_for-lump v number thing seen shape e lumps l h =
-    let P : SpriteEntry → Type 0 = λ f. has_lump_below lumps f ≡ true in
-    subst P (made _ _ e h) (entry_of-lump v number thing seen shape _ _ lumps l)
+    let lump_is_below : SpriteEntry → Type 0 = λ f. has_lump_below lumps f ≡ true in
+    subst lump_is_below (made _ _ e h) (entry_of-lump v number thing seen shape _ _ lumps l)

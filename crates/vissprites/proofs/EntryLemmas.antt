@@ -15,8 +15,8 @@ div_positive n (negsuc m) l h = cc
 sprite_scale-positive : (v : ViewValue) (d : ℤ) → v.shape.centre_x ≤ 160 → int_lt d MIN_DEPTH ≡ false → pos 0 ≤ℤ sprite_scale v d
 unfolding sprite_scale
 sprite_scale-positive v d l h =
-    let P : ℤ → Type 0 = λ p. pos 0 ≤ℤ div p d in
-    subst P (sym (projection_is v.shape l)) (div_positive v.shape.centre_x d l h)
+    let scale_not_negative : ℤ → Type 0 = λ p. pos 0 ≤ℤ div p d in
+    subst scale_not_negative (sym (projection_is v.shape l)) (div_positive v.shape.centre_x d l h)
 
 seen_cases : (near far : Bool) (seen found : Seen) → cond near None (cond far None (Some found)) ≡ Some seen → (near ≡ false) × (found ≡ seen)
 seen_cases true far seen found h = cc
@@ -26,17 +26,17 @@ seen_cases false false seen found h = (refl, cc)
 within_scale : (v : ViewValue) (thing : Placed) (d across : ℤ) (seen : Seen) → seen_within v thing d across ≡ Some seen → (int_lt d MIN_DEPTH ≡ false) × (sprite_scale v d ≡ seen.scale)
 unfolding seen_within seen_at
 within_scale v thing d across seen h =
-    let s = seen_cases _ _ seen (seen_at v thing d across) h in
-    (s.0, ap (λ (f : Seen). f.scale) s.1)
+    let depth_and_seen = seen_cases _ _ seen (seen_at v thing d across) h in
+    (depth_and_seen.0, ap (λ (f : Seen). f.scale) depth_and_seen.1)
 
 -- what is seen has a scale that is not negative
 pub project-scale : (v : ViewValue) (thing : Placed) (seen : Seen) → IsWithinFrame v.shape → project v thing ≡ Some seen → pos 0 ≤ℤ seen.scale
 unfolding project
 project-scale v thing seen f h =
-    let l : v.shape.centre_x ≤ 160 = omega (arith, f.centre_x, f.width) in
-    let s = within_scale v thing (depth v thing.x thing.y) (side v thing.x thing.y) seen h in
-    let P : ℤ → Type 0 = λ z. pos 0 ≤ℤ z in
-    subst P s.1 (sprite_scale-positive v (depth v thing.x thing.y) l s.0)
+    let centre_below_160 : v.shape.centre_x ≤ 160 = omega (arith, f.centre_x, f.width) in
+    let depth_and_scale = within_scale v thing (depth v thing.x thing.y) (side v thing.x thing.y) seen h in
+    let not_negative : ℤ → Type 0 = λ z. pos 0 ≤ℤ z in
+    subst not_negative depth_and_scale.1 (sprite_scale-positive v (depth v thing.x thing.y) centre_below_160 depth_and_scale.0)
 
 -- an entry is made of its parts
 pub entry_of-parts : (v : ViewValue) (number : ℕ) (thing : Placed) (seen : Seen) (shape : Shape5) (a1 a2 first last a x y gz gzt mid scale iscale : ℤ) (colormap : ℕ) →

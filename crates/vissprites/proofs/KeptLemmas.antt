@@ -12,10 +12,10 @@ are_below-more : (m n : ℕ) (es : List SpriteEntry) → m ≤ n → are_below m
 unfolding are_below
 are_below-more m n [] l h = refl
 are_below-more m n (e ∷ es) l h =
-    let p = and_parts (nat_lt e.number m) (are_below m es) h in
-    let q : nat_lt e.number m ≡ true = p.0 in
-    let r : nat_lt e.number n ≡ true = grind (arith, nat_tests) in
-    and-true_true (nat_lt e.number n) (are_below n es) r (are_below-more m n es l p.1)
+    let both_below = and_parts (nat_lt e.number m) (are_below m es) h in
+    let number_below_m : nat_lt e.number m ≡ true = both_below.0 in
+    let number_below_n : nat_lt e.number n ≡ true = grind (arith, nat_tests) in
+    and-true_true (nat_lt e.number n) (are_below n es) number_below_n (are_below-more m n es l both_below.1)
 
 below_cases : (n : ℕ) (e f : SpriteEntry) (fs gs : List SpriteEntry) (b : Bool) → nat_lt e.number n ≡ true → are_below n (f ∷ fs) ≡ true → are_below n gs ≡ true →
     are_below n (cond b (e ∷ (f ∷ fs)) (f ∷ gs)) ≡ true
@@ -41,8 +41,8 @@ are_below-made_order : (n : ℕ) (es : List SpriteEntry) → are_below n es ≡ 
 unfolding made_order
 are_below-made_order n [] h = h
 are_below-made_order n (e ∷ es) h =
-    let p = rest_below n e es h in
-    are_below-insert_made n e (made_order es) p.0 (are_below-made_order n es p.1)
+    let both_below = rest_below n e es h in
+    are_below-insert_made n e (made_order es) both_below.0 (are_below-made_order n es both_below.1)
 
 are_below-insert_last : (n : ℕ) (e : SpriteEntry) (fs : List SpriteEntry) → nat_lt e.number n ≡ true → are_below n fs ≡ true → are_below n (insert_last e fs) ≡ true
 unfolding insert_last
@@ -55,8 +55,8 @@ insert_made-last : (e : SpriteEntry) (fs : List SpriteEntry) → are_below e.num
 unfolding insert_made
 insert_made-last e [] h = refl
 insert_made-last e (f ∷ fs) h =
-    let p = rest_below e.number f fs h in
-    rw (less f.number e.number p.0) (ap (λ (gs : List SpriteEntry). f ∷ gs) (insert_made-last e fs p.1))
+    let both_below = rest_below e.number f fs h in
+    rw (less f.number e.number both_below.0) (ap (λ (gs : List SpriteEntry). f ∷ gs) (insert_made-last e fs both_below.1))
 
 append_cases : (e f g : SpriteEntry) (gs hs : List SpriteEntry) (b : Bool) → hs ≡ insert_made f gs ++ e ∷ [] →
     cond b (f ∷ (g ∷ (gs ++ e ∷ []))) (g ∷ hs) ≡ cond b (f ∷ (g ∷ gs)) (g ∷ insert_made f gs) ++ e ∷ []

@@ -20,8 +20,8 @@ begins f ordered within fits = record {
 pub at_first : (f g : FragmentValue) → f ≡ g → f.first ≤ f.last → f.last < FRAME_WIDTH → FitsSigned w32 f.numbers.scale1 →
     IsAt g 0 (record { x = f.first; left = f.last - f.first + 1; now = edges_first f.shape f.numbers; step = edges_step f.numbers })
 at_first f g e ordered within fits =
-    let P : FragmentValue → Type 0 = λ h. IsAt h 0 (record { x = f.first; left = f.last - f.first + 1; now = edges_first f.shape f.numbers; step = edges_step f.numbers }) in
-    subst P e (begins f ordered within fits)
+    let is_at_first : FragmentValue → Type 0 = λ h. IsAt h 0 (record { x = f.first; left = f.last - f.first + 1; now = edges_first f.shape f.numbers; step = edges_step f.numbers }) in
+    subst is_at_first e (begins f ordered within fits)
 
 edges_on : (f : FragmentValue) (k : ℕ) (now step : Edges) → now ≡ edges_at f.shape f.numbers k → step ≡ edges_step f.numbers →
     edges_plus now step ≡ edges_at f.shape f.numbers (k + 1)
@@ -40,16 +40,16 @@ at_next f k s h l = record {
 at_more : (f : FragmentValue) (k : ℕ) (s : Stepper) → IsAt f k s → 0 < s.left → IsAt f (k + 1) (next_stepper s)
 unfolding next_stepper
 at_more f k s h l =
-    let P : Bool → Type 0 = λ b. IsAt f (k + 1) (cond b s (one_column_on s)) in
-    subst P (sym (eq-false_positive s.left l)) (at_next f k s h l)
+    let is_at_next : Bool → Type 0 = λ b. IsAt f (k + 1) (cond b s (one_column_on s)) in
+    subst is_at_next (sym (eq-false_positive s.left l)) (at_next f k s h l)
 
 -- a stepper that began at the first column stands, after k answers, at column number k, or behind the last one
 pub at_column : (f : FragmentValue) (s : Stepper) (k : ℕ) → IsAt f 0 s → f.first + k ≤ f.last + 1 → IsAt f k (stepper_after k s)
 unfolding stepper_after
 at_column f s zero h l = h
 at_column f s (suc k) h l =
-    let i = at_column f s k h (omega arith) in
-    let left : 0 < (stepper_after k s).left = omega (arith, i.x, i.left) in
-    let e : k + 1 ≡ suc k = omega arith in
-    let P : ℕ → Type 0 = λ n. IsAt f n (next_stepper (stepper_after k s)) in
-    subst P e (at_more f k (stepper_after k s) i left)
+    let is_at_column = at_column f s k h (omega arith) in
+    let left : 0 < (stepper_after k s).left = omega (arith, is_at_column.x, is_at_column.left) in
+    let next_is : k + 1 ≡ suc k = omega arith in
+    let next_is_at : ℕ → Type 0 = λ n. IsAt f n (next_stepper (stepper_after k s)) in
+    subst next_is_at next_is (at_more f k (stepper_after k s) is_at_column left)

@@ -6,11 +6,11 @@ pub loop-digit-preserved : goal.loop-digit-preserved
 loop-digit-preserved c =
     let inv = c.loop-digit.invariant in
     let inside : c.loop-digit.digit-index < length c.args.digits.now = search rules in
-    let parts = and-parts _ _ (sym (all_digits-step c.args.digits.now c.loop-digit.digit-index inside) ∙ inv.2) in
-    let low = digit-low (get_or c.args.digits.now c.loop-digit.digit-index 0) parts.0 in (
+    let digit_and_before = and-parts _ _ (sym (all_digits-step c.args.digits.now c.loop-digit.digit-index inside) ∙ inv.2) in
+    let low = digit-low (get_or c.args.digits.now c.loop-digit.digit-index 0) digit_and_before.0 in (
       sym (digits_after-step c.loop-digit.value c.args.digits.now c.loop-digit.digit-index inside) ∙ inv.0,
       digit-room c.loop-digit.value c.loop-digit.digit-index _ inv.1 low.1,
-      parts.1,
+      digit_and_before.1,
     )
 
 pub returns-clause-value : goal.returns-clause-value

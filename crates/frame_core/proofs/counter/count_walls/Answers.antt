@@ -5,6 +5,6 @@ use Rattle.frame_core.proofs.counter.count_walls.Goals as goal
 
 pub returns : goal.returns
 returns c =
-    let h = counter-walked _ _ _ _ c.requires.walked c.walk_view.ensures in
-    let same = sym h.name in
-    counted-view _ _ _ c.walk_view.result h (search rules)
+    let events_counted = counter-walked _ _ _ _ c.requires.walked c.walk_view.ensures in
+    let same = sym events_counted.name in
+    counted-view _ _ _ c.walk_view.result events_counted (search rules)

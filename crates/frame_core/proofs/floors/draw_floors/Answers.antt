@@ -8,15 +8,15 @@ use Rattle.frame_core.proofs.floors.draw_floors.Goals as goal
 
 pub draw_planes-requires : goal.draw_planes-requires
 draw_planes-requires g c =
-    let t = c.args.tools.now in
-    let scene = t.scene.now.scene in
+    let tools_now = c.args.tools.now in
+    let scene = tools_now.scene.now.scene in
     record {
       slots = c.requires.drawable.slots;
-      colormap = subst (λ (n : ℕ). n < length t.dir.now.lumps) (sym c.colormap.ensures) c.requires.drawable.colormap;
+      colormap = subst (λ (n : ℕ). n < length tools_now.dir.now.lumps) (sym c.colormap.ensures) c.requires.drawable.colormap;
       placed = c.requires.placed;
-      sky = subst (λ (textures : TexturesView). IfSome c.sky.result (λ (tex : TexNo). CanDraw t.dir.now.lumps textures t.cache.now tex.0)) (sym c.textures.ensures)
-          (sky_can t.dir.now.lumps scene t.cache.now c.sky.result c.requires.drawable c.sky.ensures);
-      planes = planes_can t.dir.now.lumps scene t.cache.now c.sky.result c.requires.drawable c.sky.ensures t.view.now (g.C.Canvas.view t.canvas.now) c.args.bench.now c.requires.placed c.requires.walked;
+      sky = subst (λ (textures : TexturesView). IfSome c.sky.result (λ (tex : TexNo). CanDraw tools_now.dir.now.lumps textures tools_now.cache.now tex.0)) (sym c.textures.ensures)
+          (sky_can tools_now.dir.now.lumps scene tools_now.cache.now c.sky.result c.requires.drawable c.sky.ensures);
+      planes = planes_can tools_now.dir.now.lumps scene tools_now.cache.now c.sky.result c.requires.drawable c.sky.ensures tools_now.view.now (g.C.Canvas.view tools_now.canvas.now) c.args.bench.now c.requires.placed c.requires.walked;
     }
 
 pub returns-in_err-draw_planes-clause-paints : goal.returns-in_err-draw_planes-clause-paints

@@ -17,12 +17,12 @@ pub loop-index-preserved : goal.loop-index-preserved
 loop-index-preserved c =
     let planes = c.args.planes.now.planes in
     let makers = c.args.makers.now in
-    let i = c.loop-index.index in
+    let plane_index = c.loop-index.index in
     record {
       items = c.push_within.ensures.items
           ∙ ap (λ (ps : List ListedPlane). ps ++ c.listed_plane-plane.result ∷ []) c.loop-index.invariant.items
-          ∙ ap (λ (p : ListedPlane). listed_planes planes (take i makers) ++ p ∷ []) c.listed_plane-plane.ensures
-          ∙ planes-more planes makers i (i + 1) no_plane _ refl c.loop-index-test.true c.requires.makers;
+          ∙ ap (λ (p : ListedPlane). listed_planes planes (take plane_index makers) ++ p ∷ []) c.listed_plane-plane.ensures
+          ∙ planes-more planes makers plane_index (plane_index + 1) no_plane _ refl c.loop-index-test.true c.requires.makers;
       count = c.push_within.ensures.count ∙ ap (λ (n : ℕ). n + 1) c.loop-index.invariant.count;
       capacity = omega (arith, c.loop-index.invariant.capacity, c.push_within.ensures.capacity);
     }

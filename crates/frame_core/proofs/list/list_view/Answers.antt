@@ -30,7 +30,7 @@ returns-clause-list c = λ bytes.
     let bench = c.list_walls.new.bench in
     let walk = c.list_walls.new.list in
     let planes = c.list_planes.new.listed.items in
-    let made : ViewListValue = record { fragments = walk.fragments; planes = planes; sprites = walk.sprites; all_fragments = walk.all_fragments; all_sprites = walk.all_sprites } in
-    subst (λ (v : ViewValue). made ≡ view_list v (scene_of bytes scene)) c.new-view.ensures
+    let whole_list : ViewListValue = record { fragments = walk.fragments; planes = planes; sprites = walk.sprites; all_fragments = walk.all_fragments; all_sprites = walk.all_sprites } in
+    subst (λ (v : ViewValue). whole_list ≡ view_list v (scene_of bytes scene)) c.new-view.ensures
     (view-listed c.new-view.result bytes scene bench walk planes c.in_ok-list_walls.ensures.counted.walked c.in_ok-list_walls.ensures.listed
     (c.list_planes.ensures.items ∙ ap (listed_planes bench.planes.planes) c.makers.ensures))

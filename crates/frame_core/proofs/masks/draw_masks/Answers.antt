@@ -6,16 +6,16 @@ use Rattle.frame_core.proofs.masks.draw_masks.Goals as goal
 
 pub draw_masked-requires-clause-noted : goal.draw_masked-requires-clause-noted
 draw_masked-requires-clause-noted g c =
-    let v = c.args.tools.now.view.now in
-    let s = c.args.tools.now.scene.now.scene in
-    let b = c.args.bench.now in
+    let view_now = c.args.tools.now.view.now in
+    let scene_now = c.args.tools.now.scene.now.scene in
+    let bench_now = c.args.bench.now in
     let same = parts-same c.args.tools.now.scene.now.scene c.args.bench.now c.level-level.ensures c.textures.ensures c.colormap.ensures c.segs.ensures.value c.sides.ensures.value c.sectors.ensures.value c.middles.ensures
     c.openings-openings.ensures.value c.notes.ensures.value in
     let columns = c.requires.placed.columns in
     let rows = c.requires.placed.rows in
-    let width : v.shape.width ≤ FRAME_WIDTH = omega (arith, columns) in
-    let height : v.shape.height ≤ FRAME_HEIGHT = omega (arith, rows) in
-    parts-noted v s b same (c.notes.ensures.noted v _ _ width height (walls-built v s b c.requires.walked))
+    let width : view_now.shape.width ≤ FRAME_WIDTH = omega (arith, columns) in
+    let height : view_now.shape.height ≤ FRAME_HEIGHT = omega (arith, rows) in
+    parts-noted view_now scene_now bench_now same (c.notes.ensures.noted view_now _ _ width height (walls-built view_now scene_now bench_now c.requires.walked))
 
 pub draw_masked-requires-clause-listed : goal.draw_masked-requires-clause-listed
 draw_masked-requires-clause-listed g c =

@@ -15,13 +15,13 @@ shape_of-tools-3 g c = sym (ap (λ (n : PainterNames). n.cache) (painter-viewed 
 
 pub returns : goal.returns
 returns g c =
-    let h = painter-viewed g.C.Canvas.mark _ _ _ c.walked_scene-walked.ensures.lists c.requires.walked c.walk.ensures.visits in
-    let same = sym (ap (λ (n : PainterNames). n.bench) h.names) in
-    let limits = h.limits in
+    let view_painted = painter-viewed g.C.Canvas.mark _ _ _ c.walked_scene-walked.ensures.lists c.requires.walked c.walk.ensures.visits in
+    let same = sym (ap (λ (n : PainterNames). n.bench) view_painted.names) in
+    let limits = view_painted.limits in
     record {
       same = search rules;
-      walked = bench-walked _ _ _ _ c.walk.new.visitor.bench.now c.walk.result (search rules) h.limits h.walked;
-      over = fault-over _ _ _ c.walk.result h.over;
-      paints = h.paints;
+      walked = bench-walked _ _ _ _ c.walk.new.visitor.bench.now c.walk.result (search rules) view_painted.limits view_painted.walked;
+      over = fault-over _ _ _ c.walk.result view_painted.over;
+      paints = view_painted.paints;
       limits = search rules;
     }

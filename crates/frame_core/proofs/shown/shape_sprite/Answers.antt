@@ -5,15 +5,15 @@ use Rattle.frame_core.proofs.shown.shape_sprite.Goals as goal
 
 pub listed_sprite-requires-clause-first : goal.listed_sprite-requires-clause-first
 listed_sprite-requires-clause-first c =
-    let frame = c.shape-width.ensures.frame.width in
-    let l : c.args.view.now.shape.width ≤ FRAME_WIDTH = subst (λ (s : ViewShape). s.width ≤ FRAME_WIDTH) c.shape-width.ensures.value (omega (arith, frame)) in
-    entry-first c.args.view.now 0 _ c.args.seen c.args.shape _ l c.in-Some.ensures
+    let frame = c.shape-width.ensures.frame.width in let width_below_frame : c.args.view.now.shape.width ≤ FRAME_WIDTH =
+    subst (λ (s : ViewShape). s.width ≤ FRAME_WIDTH) c.shape-width.ensures.value (omega (arith, frame)) in
+    entry-first c.args.view.now 0 _ c.args.seen c.args.shape _ width_below_frame c.in-Some.ensures
 
 pub listed_sprite-requires-clause-last : goal.listed_sprite-requires-clause-last
 listed_sprite-requires-clause-last c =
-    let frame = c.shape-width.ensures.frame.width in
-    let l : c.args.view.now.shape.width ≤ FRAME_WIDTH = subst (λ (s : ViewShape). s.width ≤ FRAME_WIDTH) c.shape-width.ensures.value (omega (arith, frame)) in
-    entry-last c.args.view.now 0 _ c.args.seen c.args.shape _ l c.in-Some.ensures
+    let frame = c.shape-width.ensures.frame.width in let width_below_frame : c.args.view.now.shape.width ≤ FRAME_WIDTH =
+    subst (λ (s : ViewShape). s.width ≤ FRAME_WIDTH) c.shape-width.ensures.value (omega (arith, frame)) in
+    entry-last c.args.view.now 0 _ c.args.seen c.args.shape _ width_below_frame c.in-Some.ensures
 
 pub returns-in-Some : goal.returns-in-Some
 returns-in-Some c = shape_listed c.args.view.now c.args.thing.now _ c.args.seen c.args.shape _ _ c.in-Some.ensures c.listed_sprite.ensures

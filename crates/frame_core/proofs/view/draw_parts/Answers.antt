@@ -30,10 +30,10 @@ walls_drawable g c = can_draw_view-later c.args.tools.now.dir.now.lumps c.args.t
 
 walls_placed : (g : Over) (c : In_ok-draw_walls g) → IsPlacedIn c.args.tools.now.view.now (g.C.Canvas.view c.draw_walls.new.tools.canvas.now)
 walls_placed g c =
-    let v = c.args.tools.now.view.now in
+    let view_now = c.args.tools.now.view.now in
     let here = g.C.Canvas.view c.place.new.self in
-    placed-later v here (g.C.Canvas.view c.draw_walls.new.tools.canvas.now) c.in_ok-draw_walls.ensures.paints.place
-    (placed-frame v c.shape-shape.result (g.C.Canvas.view c.args.tools.now.canvas.now) here c.shape-shape.ensures.value c.shape-shape.ensures.frame c.place.ensures)
+    placed-later view_now here (g.C.Canvas.view c.draw_walls.new.tools.canvas.now) c.in_ok-draw_walls.ensures.paints.place
+    (placed-frame view_now c.shape-shape.result (g.C.Canvas.view c.args.tools.now.canvas.now) here c.shape-shape.ensures.value c.shape-shape.ensures.frame c.place.ensures)
 
 -- and so behind the planes
 floors_alike : (g : Over) (c : In_ok-draw_floors g) → ReadsAlike c.args.tools.now c.draw_floors.new.tools
@@ -48,38 +48,38 @@ draw_walls-requires-clause-placed g c = placed g (goal.at.draw_walls-requires-cl
 
 pub draw_floors-requires : goal.draw_floors-requires
 draw_floors-requires g c =
-    let d = (goal.at.draw_floors-requires g c).In_ok-draw_walls in
-    let t = c.args.tools.now in
-    let u = c.draw_walls.new.tools in
-    let same = walls_alike g d in
+    let walls_passed = (goal.at.draw_floors-requires g c).In_ok-draw_walls in
+    let tools_now = c.args.tools.now in let tools_later = c.draw_walls.new.tools in let same = walls_alike g walls_passed in
     record {
-      drawable = drawable-at t.dir.now u.dir.now t.scene.now.scene u.scene.now.scene u.cache.now same.1.1 same.1.0 (walls_drawable g d);
-      placed = subst (λ (w : ViewValue). IsPlacedIn w (g.C.Canvas.view c.draw_walls.new.tools.canvas.now)) (sym same.0) (walls_placed g d);
-      walked = walked-at t.view.now u.view.now t.scene.now.scene u.scene.now.scene c.draw_walls.new.bench same.0 same.1.0 c.in_ok-draw_walls.ensures.walked;
+      drawable = drawable-at tools_now.dir.now tools_later.dir.now tools_now.scene.now.scene tools_later.scene.now.scene
+          tools_later.cache.now same.1.1 same.1.0 (walls_drawable g walls_passed);
+      placed = subst (λ (w : ViewValue). IsPlacedIn w (g.C.Canvas.view c.draw_walls.new.tools.canvas.now)) (sym same.0) (walls_placed g walls_passed);
+      walked = walked-at tools_now.view.now tools_later.view.now tools_now.scene.now.scene tools_later.scene.now.scene
+          c.draw_walls.new.bench same.0 same.1.0 c.in_ok-draw_walls.ensures.walked;
     }
 
 pub draw_masks-requires : goal.draw_masks-requires
 draw_masks-requires g c =
     let at = goal.at.draw_masks-requires g c in
-    let t = c.args.tools.now in
-    let u = c.draw_floors.new.tools in
+    let tools_now = c.args.tools.now in let tools_later = c.draw_floors.new.tools in
     let same = floors_alike g at.In_ok-draw_floors in
-    let part = c.in_ok-draw_floors.ensures.paints in
+    let floors_painted = c.in_ok-draw_floors.ensures.paints in
     record {
-      drawable = drawable-at t.dir.now u.dir.now t.scene.now.scene u.scene.now.scene u.cache.now same.1.1 same.1.0 (can_draw_view-later t.dir.now.lumps t.scene.now.scene c.draw_walls.new.tools.cache.now c.draw_floors.new.tools.cache.now part.draws.keeps.counts (walls_drawable g at.In_ok-draw_walls));
-      placed = subst (λ (w : ViewValue). IsPlacedIn w (g.C.Canvas.view c.draw_floors.new.tools.canvas.now)) (sym same.0) (placed-later c.args.tools.now.view.now (g.C.Canvas.view c.draw_walls.new.tools.canvas.now) (g.C.Canvas.view c.draw_floors.new.tools.canvas.now) part.place (walls_placed g at.In_ok-draw_walls));
-      walked = walked-at t.view.now u.view.now t.scene.now.scene u.scene.now.scene c.draw_walls.new.bench same.0 same.1.0 c.in_ok-draw_walls.ensures.walked;
+      drawable = drawable-at tools_now.dir.now tools_later.dir.now tools_now.scene.now.scene tools_later.scene.now.scene tools_later.cache.now same.1.1 same.1.0 (can_draw_view-later tools_now.dir.now.lumps tools_now.scene.now.scene c.draw_walls.new.tools.cache.now c.draw_floors.new.tools.cache.now floors_painted.draws.keeps.counts (walls_drawable g at.In_ok-draw_walls));
+      placed = subst (λ (w : ViewValue). IsPlacedIn w (g.C.Canvas.view c.draw_floors.new.tools.canvas.now)) (sym same.0) (placed-later c.args.tools.now.view.now (g.C.Canvas.view c.draw_walls.new.tools.canvas.now) (g.C.Canvas.view c.draw_floors.new.tools.canvas.now) floors_painted.place (walls_placed g at.In_ok-draw_walls));
+      walked = walked-at tools_now.view.now tools_later.view.now tools_now.scene.now.scene tools_later.scene.now.scene
+          c.draw_walls.new.bench same.0 same.1.0 c.in_ok-draw_walls.ensures.walked;
       marks = subst (λ (n : ℕ). n ≤ length c.args.marks.now) (sym (ap (λ (l : Limits). l.openings) (c.in_ok-draw_walls.ensures.limits ∙ c.start.ensures.limits))) c.requires.marks;
     }
 
 pub returns-in_err-draw_walls-clause-over : goal.returns-in_err-draw_walls-clause-over
 returns-in_err-draw_walls-clause-over g c =
     λ bytes.
-    let v = c.args.tools.now.view.now in
-    let scene = scene_of bytes c.args.tools.now.scene.now.scene in
-    let P : Limits → ViewFault → Type 0 = λ limits fault. IfSome (limit_of_view fault) (λ (over : OverLimit). view_over v scene limits ≡ Some over) in
-    if_err-stop (P (limits_in c.args.bench.now)) c.draw_walls.result _ _ c.in_err-draw_walls.was c.from_residual.ensures.1
-    (subst (λ (limits : Limits). IfErr c.draw_walls.result (P limits)) c.start.ensures.limits (c.draw_walls.ensures.over bytes))
+    let view_now = c.args.tools.now.view.now in
+    let scene = scene_of bytes c.args.tools.now.scene.now.scene in let is_over_at : Limits → ViewFault → Type 0 =
+    λ limits fault. IfSome (limit_of_view fault) (λ (over : OverLimit). view_over view_now scene limits ≡ Some over) in
+    if_err-stop (is_over_at (limits_in c.args.bench.now)) c.draw_walls.result _ _ c.in_err-draw_walls.was c.from_residual.ensures.1
+    (subst (λ (limits : Limits). IfErr c.draw_walls.result (is_over_at limits)) c.start.ensures.limits (c.draw_walls.ensures.over bytes))
 
 pub returns-in_err-draw_walls-clause-paints : goal.returns-in_err-draw_walls-clause-paints
 returns-in_err-draw_walls-clause-paints g c =
@@ -89,25 +89,25 @@ returns-in_err-draw_walls-clause-paints g c =
 pub returns-in_err-draw_floors-clause-over : goal.returns-in_err-draw_floors-clause-over
 returns-in_err-draw_floors-clause-over g c =
     λ bytes.
-    let P : OverLimit → Type 0 = λ over. view_over c.args.tools.now.view.now (scene_of bytes c.args.tools.now.scene.now.scene) (limits_in c.args.bench.now) ≡ Some over in
-    if_err-stop (λ fault. IfSome (limit_of_view fault) P) c.draw_floors.result _ _ c.in_err-draw_floors.was c.from_residual-in_err-draw_floors.ensures.1 (if_err-no_limit P c.draw_floors.result c.draw_floors.ensures.faults)
+    let is_over : OverLimit → Type 0 = λ over. view_over c.args.tools.now.view.now (scene_of bytes c.args.tools.now.scene.now.scene) (limits_in c.args.bench.now) ≡ Some over in
+    if_err-stop (λ fault. IfSome (limit_of_view fault) is_over) c.draw_floors.result _ _ c.in_err-draw_floors.was c.from_residual-in_err-draw_floors.ensures.1 (if_err-no_limit is_over c.draw_floors.result c.draw_floors.ensures.faults)
 
 pub returns-in_err-draw_floors-clause-paints : goal.returns-in_err-draw_floors-clause-paints
 returns-in_err-draw_floors-clause-paints g c =
-    let t = c.args.tools.now in
+    let tools_now = c.args.tools.now in
     let same = walls_alike g (goal.at.returns-in_err-draw_floors-clause-paints g c).In_ok-draw_walls in
-    paints-placed t.view.now c.shape-shape.result (g.C.Canvas.view t.canvas.now) (g.C.Canvas.view c.place.new.self) c.shape-shape.ensures.value c.place.ensures
-    (paints-then_stop c.in_err-draw_floors.was c.from_residual-in_err-draw_floors.ensures.1 c.in_ok-draw_walls.ensures.paints
-    (part-at floors_of t c.draw_walls.new.tools same c.draw_floors.ensures.paints))
+    paints-placed tools_now.view.now c.shape-shape.result (g.C.Canvas.view tools_now.canvas.now) (g.C.Canvas.view c.place.new.self) c.shape-shape.ensures.value
+    c.place.ensures (paints-then_stop c.in_err-draw_floors.was c.from_residual-in_err-draw_floors.ensures.1 c.in_ok-draw_walls.ensures.paints
+    (part-at floors_of tools_now c.draw_walls.new.tools same c.draw_floors.ensures.paints))
 
 pub returns-clause-within : goal.returns-clause-within
 returns-clause-within g c =
     λ bytes.
-    let v = c.args.tools.now.view.now in
+    let view_now = c.args.tools.now.view.now in
     let scene = c.args.tools.now.scene.now.scene in
     on_ok-always _ c.draw_masks.result
-    (subst (λ (limits : Limits). view_over v (scene_of bytes scene) limits ≡ None) (c.in_ok-draw_walls.ensures.limits ∙ c.start.ensures.limits)
-    (within-walked v bytes scene c.draw_walls.new.bench c.in_ok-draw_walls.ensures.walked))
+    (subst (λ (limits : Limits). view_over view_now (scene_of bytes scene) limits ≡ None) (c.in_ok-draw_walls.ensures.limits ∙ c.start.ensures.limits)
+    (within-walked view_now bytes scene c.draw_walls.new.bench c.in_ok-draw_walls.ensures.walked))
 
 pub returns-clause-over : goal.returns-clause-over
 returns-clause-over g c =
@@ -116,12 +116,12 @@ returns-clause-over g c =
 
 pub returns-clause-paints : goal.returns-clause-paints
 returns-clause-paints g c =
-    let t = c.args.tools.now in
+    let tools_now = c.args.tools.now in
     let at = goal.at.returns-clause-paints g c in
-    let one = walls_alike g at.In_ok-draw_walls in
-    let two = floors_alike g at.In_ok-draw_floors in
-    paints-placed t.view.now c.shape-shape.result (g.C.Canvas.view t.canvas.now) (g.C.Canvas.view c.place.new.self) c.shape-shape.ensures.value c.place.ensures
-    (parts-paint (tools_scene t) c.in_ok-draw_walls.ensures.paints (part-at floors_of t c.draw_walls.new.tools one c.in_ok-draw_floors.ensures.paints) (part-at masks_dots t c.draw_floors.new.tools two c.draw_masks.ensures.paints))
+    let same_after_walls = walls_alike g at.In_ok-draw_walls in
+    let same_after_floors = floors_alike g at.In_ok-draw_floors in
+    paints-placed tools_now.view.now c.shape-shape.result (g.C.Canvas.view tools_now.canvas.now) (g.C.Canvas.view c.place.new.self) c.shape-shape.ensures.value
+    c.place.ensures (parts-paint (tools_scene tools_now) c.in_ok-draw_walls.ensures.paints (part-at floors_of tools_now c.draw_walls.new.tools same_after_walls c.in_ok-draw_floors.ensures.paints) (part-at masks_dots tools_now c.draw_floors.new.tools same_after_floors c.draw_masks.ensures.paints))
 
 pub returns-clause-in_view : goal.returns-clause-in_view
 returns-clause-in_view g c =

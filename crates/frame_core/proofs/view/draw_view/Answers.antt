@@ -20,9 +20,9 @@ returns-clause-picture g c = λ contents count hold.
 
 pub returns-clause-fits : goal.returns-clause-fits
 returns-clause-fits g c = λ contents count hold.
-    let s = c.args.scene.now.scene in
+    let scene_now = c.args.scene.now.scene in
     let dir = c.args.dir.now in
-    subst (λ (v : ViewValue). OnOk c.draw_parts.result (FitBeside dir.lumps (textures_view s) s.base.colormap count c.args.cache.now.size (view_paints v (scene_of (lump_bytes contents dir.lumps) s)))) c.new-view.ensures
+    subst (λ (v : ViewValue). OnOk c.draw_parts.result (FitBeside dir.lumps (textures_view scene_now) scene_now.base.colormap count c.args.cache.now.size (view_paints v (scene_of (lump_bytes contents dir.lumps) scene_now)))) c.new-view.ensures
     (c.draw_parts.ensures.paints.fits contents count tt hold tt)
 
 pub returns-clause-over : goal.returns-clause-over

@@ -7,12 +7,12 @@ use Rattle.job_files.proofs.flat.prepare_flat.Goals as goal
 
 pub returns-clause-answers : goal.returns-clause-answers
 returns-clause-answers g c files holds =
-    let found : StandsForNamed (g.S.Shelf.view c.find.new.self) c.in_ok-number.number.0 c.args.file.now files = rw holds at c.in_ok-number.ensures.found in
+    let file_there : StandsForNamed (g.S.Shelf.view c.find.new.self) c.in_ok-number.number.0 c.args.file.now files = rw holds at c.in_ok-number.ensures.found in
     file_agrees (file_named c.args.file.now files) (λ bytes. flat_picture c.args.name.now (bytes ∷ [])) c.load_flat.result
-    found.is_held c.find.ensures.follows.steady (λ bytes is. c.load_flat.ensures.answers bytes (found.stands ∙ is))
+    file_there.is_held c.find.ensures.follows.steady (λ bytes is. c.load_flat.ensures.answers bytes (file_there.stands ∙ is))
 
 pub returns-clause-taken : goal.returns-clause-taken
 returns-clause-taken g c files holds =
-    let found : StandsForNamed (g.S.Shelf.view c.find.new.self) c.in_ok-number.number.0 c.args.file.now files = rw holds at c.in_ok-number.ensures.found in
-    flat_taken c.args.name.now c.args.file.now files (g.S.Shelf.view c.args.shelf.now).taken (g.S.Shelf.view c.load_flat.new.shelf).taken found.is_held
-    (λ bytes is. omega (arith, c.find.ensures.untaken, c.load_flat.ensures.taken bytes (found.stands ∙ is)))
+    let file_there : StandsForNamed (g.S.Shelf.view c.find.new.self) c.in_ok-number.number.0 c.args.file.now files = rw holds at c.in_ok-number.ensures.found in
+    flat_taken c.args.name.now c.args.file.now files (g.S.Shelf.view c.args.shelf.now).taken (g.S.Shelf.view c.load_flat.new.shelf).taken file_there.is_held
+    (λ bytes is. omega (arith, c.find.ensures.untaken, c.load_flat.ensures.taken bytes (file_there.stands ∙ is)))

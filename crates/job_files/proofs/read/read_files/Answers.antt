@@ -12,9 +12,9 @@ returns-in_err-tables-clause-answers g c files holds =
 pub returns-in_err-texts-clause-answers : goal.returns-in_err-texts-clause-answers
 unfolding files_in
 returns-in_err-texts-clause-answers g c files holds =
-    let held = c.load_tables.ensures.follows.all_files ∙ holds in
+    let files_hold = c.load_tables.ensures.follows.all_files ∙ holds in
     step_passed _ _ c.in_ok-tables.tables (c.in_ok-tables.ensures.answers files holds).ok c.load_tables.ensures.follows.steady
-    (step_stops _ _ c.from_residual-in_err-texts.result (c.load_texts.ensures.answers files held) c.in_err-texts.was refl c.from_residual-in_err-texts.ensures.1)
+    (step_stops _ _ c.from_residual-in_err-texts.result (c.load_texts.ensures.answers files files_hold) c.in_err-texts.was refl c.from_residual-in_err-texts.ensures.1)
 
 pub returns-in_err-texts-clause-follows : goal.returns-in_err-texts-clause-follows
 returns-in_err-texts-clause-follows g c = follows_then c.in_ok-tables.ensures.follows c.in_err-texts.ensures.follows
@@ -22,19 +22,19 @@ returns-in_err-texts-clause-follows g c = follows_then c.in_ok-tables.ensures.fo
 pub returns-in_err-dir-clause-answers : goal.returns-in_err-dir-clause-answers
 unfolding files_in
 returns-in_err-dir-clause-answers g c files holds =
-    let held = c.load_tables.ensures.follows.all_files ∙ holds in
-    let still = c.load_texts.ensures.follows.all_files ∙ held in
+    let files_hold = c.load_tables.ensures.follows.all_files ∙ holds in
+    let still = c.load_texts.ensures.follows.all_files ∙ files_hold in
     step_passed _ _ c.in_ok-tables.tables (c.in_ok-tables.ensures.answers files holds).ok c.load_tables.ensures.follows.steady
-    (step_passed _ _ c.in_ok-texts.texts (c.in_ok-texts.ensures.answers files held).ok c.load_texts.ensures.follows.steady
+    (step_passed _ _ c.in_ok-texts.texts (c.in_ok-texts.ensures.answers files files_hold).ok c.load_texts.ensures.follows.steady
     (step_stops _ _ c.from_residual-in_err-dir.result (c.load_wads.ensures.answers files still) c.in_err-dir.was refl c.from_residual-in_err-dir.ensures.1))
 
 pub returns-clause-answers : goal.returns-clause-answers
 unfolding files_in
 returns-clause-answers g c files holds =
-    let held = c.load_tables.ensures.follows.all_files ∙ holds in
-    let still = c.load_texts.ensures.follows.all_files ∙ held in
+    let files_hold = c.load_tables.ensures.follows.all_files ∙ holds in
+    let still = c.load_texts.ensures.follows.all_files ∙ files_hold in
     step_passed _ _ c.in_ok-tables.tables (c.in_ok-tables.ensures.answers files holds).ok c.load_tables.ensures.follows.steady
-    (step_passed _ _ c.in_ok-texts.texts (c.in_ok-texts.ensures.answers files held).ok c.load_texts.ensures.follows.steady
+    (step_passed _ _ c.in_ok-texts.texts (c.in_ok-texts.ensures.answers files files_hold).ok c.load_texts.ensures.follows.steady
     (step_passed _ _ c.in_ok-dir.dir.lumps (c.in_ok-dir.ensures.answers files still).ok c.load_wads.ensures.follows.steady (all_passed _ _ refl)))
 
 pub returns-clause-contents : goal.returns-clause-contents
@@ -51,21 +51,21 @@ returns-in_err-tables-clause-taken_of g c files contents holds named = omega (ar
 pub returns-in_err-texts-clause-taken_of : goal.returns-in_err-texts-clause-taken_of
 unfolding files_size
 returns-in_err-texts-clause-taken_of g c files contents holds named =
-    let held = c.load_tables.ensures.follows.all_files ∙ holds in
-    omega (arith, c.load_tables.ensures.taken_of files holds, c.load_texts.ensures.taken_of files held)
+    let files_hold = c.load_tables.ensures.follows.all_files ∙ holds in
+    omega (arith, c.load_tables.ensures.taken_of files holds, c.load_texts.ensures.taken_of files files_hold)
 
 pub returns-in_err-dir-clause-taken_of : goal.returns-in_err-dir-clause-taken_of
 unfolding files_size
 returns-in_err-dir-clause-taken_of g c files contents holds named =
-    let held = c.load_tables.ensures.follows.all_files ∙ holds in
-    let still = c.load_texts.ensures.follows.all_files ∙ held in
-    let listed = listed_taken (map (λ (wad : Bor (List ℕ)). wad.now) c.args.wads.now) files contents named in
-    omega (arith, listed, c.load_tables.ensures.taken_of files holds, c.load_texts.ensures.taken_of files held, c.load_wads.ensures.taken files contents still named)
+    let files_hold = c.load_tables.ensures.follows.all_files ∙ holds in
+    let still = c.load_texts.ensures.follows.all_files ∙ files_hold in
+    let wads_are_listed = listed_taken (map (λ (wad : Bor (List ℕ)). wad.now) c.args.wads.now) files contents named in
+    omega (arith, wads_are_listed, c.load_tables.ensures.taken_of files holds, c.load_texts.ensures.taken_of files files_hold, c.load_wads.ensures.taken files contents still named)
 
 pub returns-clause-taken_of : goal.returns-clause-taken_of
 unfolding files_size
 returns-clause-taken_of g c files contents holds named =
-    let held = c.load_tables.ensures.follows.all_files ∙ holds in
-    let still = c.load_texts.ensures.follows.all_files ∙ held in
-    let listed = listed_taken (map (λ (wad : Bor (List ℕ)). wad.now) c.args.wads.now) files contents named in
-    omega (arith, listed, c.load_tables.ensures.taken_of files holds, c.load_texts.ensures.taken_of files held, c.load_wads.ensures.taken files contents still named)
+    let files_hold = c.load_tables.ensures.follows.all_files ∙ holds in
+    let still = c.load_texts.ensures.follows.all_files ∙ files_hold in
+    let wads_are_listed = listed_taken (map (λ (wad : Bor (List ℕ)). wad.now) c.args.wads.now) files contents named in
+    omega (arith, wads_are_listed, c.load_tables.ensures.taken_of files holds, c.load_texts.ensures.taken_of files files_hold, c.load_wads.ensures.taken files contents still named)

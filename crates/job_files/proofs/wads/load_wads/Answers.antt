@@ -11,10 +11,10 @@ returns-in_err-numbers-clause-answers g c files holds =
 
 pub returns-clause-answers : goal.returns-clause-answers
 returns-clause-answers g c files holds =
-    let found = c.in_ok-numbers.ensures.found files holds in
-    let stand : NameFiles (g.S.Shelf.view c.find_all.new.shelf) c.deref.result.now found.contents = rw c.deref.ensures.value found.stand in
-    rw (lumps_found _ files found.contents found.lookup, ← c.find_all.ensures.follows.steady)
-    (no_file_agrees (wad_files found.contents) c.load_dir.result (c.load_dir.ensures.answers found.contents stand))
+    let numbers_stand = c.in_ok-numbers.ensures.found files holds in
+    let stand : NameFiles (g.S.Shelf.view c.find_all.new.shelf) c.deref.result.now numbers_stand.contents = rw c.deref.ensures.value numbers_stand.stand in
+    rw (lumps_found _ files numbers_stand.contents numbers_stand.lookup, ← c.find_all.ensures.follows.steady)
+    (no_file_agrees (wad_files numbers_stand.contents) c.load_dir.result (c.load_dir.ensures.answers numbers_stand.contents stand))
 
 pub returns-clause-contents : goal.returns-clause-contents
 returns-clause-contents g c files contents holds named =

@@ -14,12 +14,12 @@ returns-in_err-file-clause-answers g c files holds =
 pub returns-clause-answers : goal.returns-clause-answers
 unfolding in_file
 returns-clause-answers g c files holds =
-    let found : StandsForNamed (g.S.Shelf.view c.find.new.self) c.in_ok-file.file.0 c.args.name.now files = rw holds at c.in_ok-file.ensures.found in
+    let file_there : StandsForNamed (g.S.Shelf.view c.find.new.self) c.in_ok-file.file.0 c.args.name.now files = rw holds at c.in_ok-file.ensures.found in
     file_agrees (file_named c.args.name.now files) (bytes_in c.args.kind) c.read_file.result
-    found.is_held c.find.ensures.follows.steady (λ bytes is. c.read_file.ensures.answers bytes (found.stands ∙ is))
+    file_there.is_held c.find.ensures.follows.steady (λ bytes is. c.read_file.ensures.answers bytes (file_there.stands ∙ is))
 
 pub returns-clause-taken_of : goal.returns-clause-taken_of
 returns-clause-taken_of g c files holds =
-    let found : StandsForNamed (g.S.Shelf.view c.find.new.self) c.in_ok-file.file.0 c.args.name.now files = rw holds at c.in_ok-file.ensures.found in
-    let fits = named_taken c.args.name.now files (g.S.Shelf.view c.find.new.self).taken (g.S.Shelf.view c.read_file.new.shelf).taken found.is_held (λ bytes is. c.read_file.ensures.taken_of bytes (found.stands ∙ is)) in
+    let file_there : StandsForNamed (g.S.Shelf.view c.find.new.self) c.in_ok-file.file.0 c.args.name.now files = rw holds at c.in_ok-file.ensures.found in
+    let fits = named_taken c.args.name.now files (g.S.Shelf.view c.find.new.self).taken (g.S.Shelf.view c.read_file.new.shelf).taken file_there.is_held (λ bytes is. c.read_file.ensures.taken_of bytes (file_there.stands ∙ is)) in
     omega (arith, fits, c.find.ensures.untaken)

@@ -8,4 +8,4 @@ unfolding sector_flats
 returns-in-None-clause-answers c = each-first _ SectorFlat _ _ _ _ c.loop-i.invariant.so_far c.loop-i-test.true c.index-sectors-i.is _ c.in-None.ensures.found
 
 pub loop-i-preserved : goal.loop-i-preserved
-loop-i-preserved c = let m = each-more (flats_of c.args.dir.now.lumps) SectorFlat _ _ _ _ c.loop-i.invariant.so_far c.loop-i-test.true c.index-sectors-i.is (AreThere (length c.args.dir.now.lumps)) _ _ c.loop-i.invariant.count c.loop-i.invariant.there c.in-Some.ensures.found c.in-Some.ensures.there c.in_ok-push-in-Some.ensures.items in record { so_far = m.so_far; count = m.count; there = m.all }
+loop-i-preserved c = let one_flat_more = each-more (flats_of c.args.dir.now.lumps) SectorFlat _ _ _ _ c.loop-i.invariant.so_far c.loop-i-test.true c.index-sectors-i.is (AreThere (length c.args.dir.now.lumps)) _ _ c.loop-i.invariant.count c.loop-i.invariant.there c.in-Some.ensures.found c.in-Some.ensures.there c.in_ok-push-in-Some.ensures.items in record { so_far = one_flat_more.so_far; count = one_flat_more.count; there = one_flat_more.all }

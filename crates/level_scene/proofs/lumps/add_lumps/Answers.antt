@@ -24,29 +24,29 @@ add_lump-requires-clause-absent g c =
 pub loop-i-preserved : goal.loop-i-preserved
 loop-i-preserved g c =
     let lumps = c.args.lumps.now in
-    let i = c.loop-i.i in
-    let few : i < 8 = omega (arith, lumps_count lumps 8 c.requires.lumps) in
+    let lump_index = c.loop-i.i in
+    let few : lump_index < 8 = omega (arith, lumps_count lumps 8 c.requires.lumps) in
     record {
-      tells = reads_more (λ bytes. lumps_from bytes c.args.label.0 1 (take (i + 1) lumps) empty_builder) tt tt c.loop-i.invariant.tells c.add_lump.result c.add_lump.ensures.tells c.in_ok-add_lump.was
-          (λ n e. behind_label c.args.label.0 n i (omega (arith, e)) few)
-          (λ bytes one two. lumps_from-next bytes c.args.label.0 1 lumps i (i + 1) _ Things empty_builder c.loop-i.builder c.add_lump.new.builder refl (omega arith) (omega arith) one two);
-      added = c.in_ok-add_lump.ensures.added ∙ next_added c.loop-i.builder.added _ i (i + 1) refl c.loop-i.invariant.added (lump_numbered lumps 8 c.requires.lumps i Things few) few;
-      fits = up_to_more (StandsBeside c.args.dir.now.lumps c.args.cache.now) c.args.label.0 i (i + 1) _ refl refl c.loop-i.invariant.fits
+      tells = reads_more (λ bytes. lumps_from bytes c.args.label.0 1 (take (lump_index + 1) lumps) empty_builder) tt tt c.loop-i.invariant.tells c.add_lump.result c.add_lump.ensures.tells c.in_ok-add_lump.was
+          (λ n e. behind_label c.args.label.0 n lump_index (omega (arith, e)) few)
+          (λ bytes one two. lumps_from-next bytes c.args.label.0 1 lumps lump_index (lump_index + 1) _ Things empty_builder c.loop-i.builder c.add_lump.new.builder refl (omega arith) (omega arith) one two);
+      added = c.in_ok-add_lump.ensures.added ∙ next_added c.loop-i.builder.added _ lump_index (lump_index + 1) refl c.loop-i.invariant.added (lump_numbered lumps 8 c.requires.lumps lump_index Things few) few;
+      fits = up_to_more (StandsBeside c.args.dir.now.lumps c.args.cache.now) c.args.label.0 lump_index (lump_index + 1) _ refl refl c.loop-i.invariant.fits
           (beside_earlier _ c.loop-i.invariant.tells.keeps c.in_ok-add_lump.ensures.fits);
     }
 
 pub returns-in_err-add_lump-clause-tells : goal.returns-in_err-add_lump-clause-tells
 returns-in_err-add_lump-clause-tells g c =
     let lumps = c.args.lumps.now in
-    let i = c.loop-i.i in
-    let few : i < 8 = omega (arith, lumps_count lumps 8 c.requires.lumps) in
+    let lump_index = c.loop-i.i in
+    let few : lump_index < 8 = omega (arith, lumps_count lumps 8 c.requires.lumps) in
     reads_same c.from_residual.result c.in_err-add_lump.field-0.0 (λ bytes. lumps_from bytes c.args.label.0 1 lumps empty_builder) c.from_residual.ensures.1
     (reads_stop (λ bytes. lumps_from bytes c.args.label.0 1 lumps empty_builder) c.in_err-add_lump.field-0.0 c.loop-i.invariant.tells c.add_lump.result c.add_lump.ensures.tells c.in_err-add_lump.was
-    (λ n e. behind_label c.args.label.0 n i (omega (arith, e)) few)
-    (λ bytes e one two. lumps_from-stop bytes c.args.label.0 1 lumps i _ Things empty_builder c.loop-i.builder e (omega arith) (omega arith) one two))
+    (λ n e. behind_label c.args.label.0 n lump_index (omega (arith, e)) few)
+    (λ bytes e one two. lumps_from-stop bytes c.args.label.0 1 lumps lump_index _ Things empty_builder c.loop-i.builder e (omega arith) (omega arith) one two))
 
 pub returns-clause-fits : goal.returns-clause-fits
 returns-clause-fits g c = λ lump among.
-    let all : c.loop-i.i ≡ 8 = omega (arith, lumps_count c.args.lumps.now 8 c.requires.lumps) in
-    let behind = is_behind_label c.args.label.0 lump c.loop-i.i all among in
+    let index_is_eight : c.loop-i.i ≡ 8 = omega (arith, lumps_count c.args.lumps.now 8 c.requires.lumps) in
+    let behind = is_behind_label c.args.label.0 lump c.loop-i.i index_is_eight among in
     c.loop-i.invariant.fits lump behind.0 behind.1

@@ -11,12 +11,12 @@ no_textures = record { top = 0; bottom = 0; middle = 0 }
 pub loop-side-preserved : goal.loop-side-preserved
 loop-side-preserved c =
     let sides = c.args.sides.now in
-    let i = c.loop-side.side-index in
+    let index = c.loop-side.side-index in
     record {
       wanted = λ number.
           c.in_ok-add_side.ensures.wanted number
-          ∙ (ap (λ b. b || (not (number == 0) && shows_texture number (get_or sides i no_textures))) (c.loop-side.invariant.wanted number)
-          ∙ sym (is_wanted-more sides (option_map (λ (tex : TexNo). tex.0) c.args.sky) number i no_textures (omega arith)));
-      below = λ count all sky.
-          c.in_ok-add_side.ensures.below count (All-get_or (AreBelow count) sides i no_textures (omega arith) all) (c.loop-side.invariant.below count all sky);
+          ∙ (ap (λ b. b || (not (number == 0) && shows_texture number (get_or sides index no_textures))) (c.loop-side.invariant.wanted number)
+          ∙ sym (is_wanted-more sides (option_map (λ (tex : TexNo). tex.0) c.args.sky) number index no_textures (omega arith)));
+      below = λ count all sky. c.in_ok-add_side.ensures.below count
+          (All-get_or (AreBelow count) sides index no_textures (omega arith) all) (c.loop-side.invariant.below count all sky);
     }

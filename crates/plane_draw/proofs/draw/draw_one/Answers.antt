@@ -7,8 +7,8 @@ use Rattle.plane_draw.proofs.draw.draw_one.Goals as goal
 
 pub returns-then-is_empty-clause-paints : goal.returns-then-is_empty-clause-paints
 returns-then-is_empty-clause-paints g c =
-    let s = c.args.scene.now in
-    paints-same _ (λ contents sky is. plane-empty s.view.now (plane_art contents s) sky c.args.plane.0 (plane_at s.planes.now.planes c.args.plane.0) (c.is_empty.ensures.0 c.if-is_empty.true)) (paints-none _ _)
+    let scene_now = c.args.scene.now in
+    paints-same _ (λ contents sky is. plane-empty scene_now.view.now (plane_art contents scene_now) sky c.args.plane.0 (plane_at scene_now.planes.now.planes c.args.plane.0) (c.is_empty.ensures.0 c.if-is_empty.true)) (paints-none _ _)
 
 pub draw_floor-requires-clause-marked : goal.draw_floor-requires-clause-marked
 draw_floor-requires-clause-marked g c =

@@ -20,6 +20,6 @@ loop-number-preserved g c =
 
 pub returns-clause-paints : goal.returns-clause-paints
 returns-clause-paints g c =
-    let s = c.args.scene.now in
-    let end : c.loop-number.number ≡ length s.planes.now.planes = omega arith in
-    planes-painted s (paints-same _ (λ contents sky is. ap (first_planes s.view.now (plane_art contents s) sky s.planes.now.planes) end) c.loop-number.invariant.paints)
+    let scene_now = c.args.scene.now in
+    let end : c.loop-number.number ≡ length scene_now.planes.now.planes = omega arith in
+    planes-painted scene_now (paints-same _ (λ contents sky is. ap (first_planes scene_now.view.now (plane_art contents scene_now) sky scene_now.planes.now.planes) end) c.loop-number.invariant.paints)

@@ -15,19 +15,19 @@ draw_plane-requires-clause-floor g c =
 
 pub returns-in-Some-bytes-clause-painted : goal.returns-in-Some-bytes-clause-painted
 returns-in-Some-bytes-clause-painted g c = λ view contents count sky hold.
-    let s = c.args.scene.now in
-    let own = some-same _ _ _ c.in-Some.ensures.value (live_faithful contents s.dir.now c.args.hands.now.cache.now c.args.lump.0 c.requires.lump hold.files.faithful c.requires.live) in
+    let scene_now = c.args.scene.now in
+    let own = some-same _ _ _ c.in-Some.ensures.value (live_faithful contents scene_now.dir.now c.args.hands.now.cache.now c.args.lump.0 c.requires.lump hold.files.faithful c.requires.live) in
     let shades = some-same _ _ _ c.in-Some-bytes.ensures.value (colormap_lent hold c.requires.ready.0.colormap) in
-    floor-painted g.C.Canvas.mark _ s.view.now (lump_bytes contents s.dir.now.lumps) s.textures.now s.colormap.0 c.args.plane.0 sky c.args.lump.0 (plane_at s.planes.now.planes c.args.plane.0) _ _ _ _
+    floor-painted g.C.Canvas.mark _ scene_now.view.now (lump_bytes contents scene_now.dir.now.lumps) scene_now.textures.now scene_now.colormap.0 c.args.plane.0 sky c.args.lump.0 (plane_at scene_now.planes.now.planes c.args.plane.0) _ _ _ _
     c.requires.flat own shades c.draw_plane.ensures
 
 pub returns-in-Some-bytes-clause-fits : goal.returns-in-Some-bytes-clause-fits
 unfolding lump_source
 returns-in-Some-bytes-clause-fits g c = λ view contents count sky hold.
-    let s = c.args.scene.now in
-    fit-floor s.dir.now.lumps s.textures.now s.colormap.0 count c.args.hands.now.cache.now.size s.view.now (plane_art contents s) sky c.args.plane.0 c.args.lump.0 (plane_at s.planes.now.planes c.args.plane.0)
+    let scene_now = c.args.scene.now in
+    fit-floor scene_now.dir.now.lumps scene_now.textures.now scene_now.colormap.0 count c.args.hands.now.cache.now.size scene_now.view.now (plane_art contents scene_now) sky c.args.plane.0 c.args.lump.0 (plane_at scene_now.planes.now.planes c.args.plane.0)
     c.requires.flat
-    (fits-lump hold PLANE c.args.plane.0 c.args.lump.0 c.in-Some.flat.now c.requires.lump (sym c.in-Some.ensures.value) (λ apart. c.in-Some.ensures.fits s.colormap.0 count (rest_static hold.rest) apart))
+    (fits-lump hold PLANE c.args.plane.0 c.args.lump.0 c.in-Some.flat.now c.requires.lump (sym c.in-Some.ensures.value) (λ apart. c.in-Some.ensures.fits scene_now.colormap.0 count (rest_static hold.rest) apart))
 
 pub returns-in-Some-bytes-clause-place : goal.returns-in-Some-bytes-clause-place
 returns-in-Some-bytes-clause-place g c =

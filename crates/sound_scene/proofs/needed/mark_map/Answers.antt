@@ -5,5 +5,5 @@ use Rattle.sound_scene.proofs.needed.mark_map.Goals as goal
 
 pub returns-clause-marked : goal.returns-clause-marked
 returns-clause-marked c =
-    let eight : length MAP_LUMPS ≡ 8 = refl in
+    let map_has_eight_lumps : length MAP_LUMPS ≡ 8 = refl in
     map_added c.args.marks.now c.loop-i.marks c.args.label.0 c.loop-i.i (omega arith) c.loop-i.invariant.marked

@@ -14,10 +14,10 @@ loop-number-init c = record {
 pub loop-number-preserved : goal.loop-number-preserved
 loop-number-preserved c =
     let prepared = c.args.textures.now.prepared in
-    let i = c.loop-number.number in
+    let texture_number = c.loop-number.number in
     record {
-      greatest = greatest_step composite_block prepared i None _ _ _ (λ l. composite_block-none) c.loop-number.invariant.greatest c.composite_block.ensures.value c.with_block-blocks.ensures.greatest;
-      sum = sum_step composite_block prepared i None _ _ _ (λ l. composite_block-none) c.loop-number.invariant.sum c.composite_block.ensures.value c.with_block-blocks.ensures.sum;
+      greatest = greatest_step composite_block prepared texture_number None _ _ _ (λ l. composite_block-none) c.loop-number.invariant.greatest c.composite_block.ensures.value c.with_block-blocks.ensures.greatest;
+      sum = sum_step composite_block prepared texture_number None _ _ _ (λ l. composite_block-none) c.loop-number.invariant.sum c.composite_block.ensures.value c.with_block-blocks.ensures.sum;
       greatest_fits = omega (arith, c.composite_block.ensures.fits);
       sum_fits = omega (arith, c.composite_block.ensures.fits);
     }

@@ -15,13 +15,13 @@ loop-lump-init c = record {
 pub loop-lump-preserved : goal.loop-lump-preserved
 loop-lump-preserved c =
     let lumps = c.args.lumps.now in
-    let i = c.loop-lump.lump-index in
+    let index = c.loop-lump.lump-index in
     let block : LumpNo → ℕ = λ lump. lump_block c.args.dir.now.lumps lump.0 in
-    let within : i < length lumps = c.loop-lump-test.true in
-    let few = index_below lumps i _ _ c.requires.ascending within c.lump_block.ensures.number in
+    let within : index < length lumps = c.loop-lump-test.true in
+    let few = index_below lumps index _ _ c.requires.ascending within c.lump_block.ensures.number in
     record {
-      greatest = greatest_step block lumps i _ _ _ _ (λ l. absurd (omega arith)) c.loop-lump.invariant.greatest c.lump_block.ensures.value c.with_block-blocks.ensures.greatest;
-      sum = sum_step block lumps i _ _ _ _ (λ l. absurd (omega arith)) c.loop-lump.invariant.sum c.lump_block.ensures.value c.with_block-blocks.ensures.sum;
+      greatest = greatest_step block lumps index _ _ _ _ (λ l. absurd (omega arith)) c.loop-lump.invariant.greatest c.lump_block.ensures.value c.with_block-blocks.ensures.greatest;
+      sum = sum_step block lumps index _ _ _ _ (λ l. absurd (omega arith)) c.loop-lump.invariant.sum c.lump_block.ensures.value c.with_block-blocks.ensures.sum;
       greatest_fits = omega (arith, c.lump_block.ensures.fits);
       few = omega arith;
       sum_fits = omega (arith, c.lump_block.ensures.fits);

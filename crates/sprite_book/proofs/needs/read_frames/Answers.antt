@@ -29,38 +29,38 @@ add-requires-clause-absent g c = frame_absent c.args.dir.now.lumps (get_or c.arg
 
 pub loop-need-preserved : goal.loop-need-preserved
 loop-need-preserved g c =
-    let d = no_need in
-    let i = c.loop-need.need-index in
+    let empty_need = no_need in let place = c.loop-need.need-index in
     let needed = c.args.needed.now in
     let frames = c.loop-need.list.frames.items in
     let lumps = c.args.dir.now.lumps in
-    let h : i < length needed = omega arith in
-    let new = need_asked lumps (take i needed) frames (get_or needed i d) c.loop-need.invariant.outlines c.has.ensures c.if-has.false in
+    let place_below_needs : place < length needed = omega arith in
+    let new = need_asked lumps (take place needed) frames (get_or needed place empty_need) c.loop-need.invariant.outlines c.has.ensures c.if-has.false in
     record {
-      tells = reads_more (λ bytes. each_of (frame_of bytes lumps) (first_needs (take (i + 1) needed))) c.in_ok-frame.frame tt c.loop-need.invariant.tells c.read_frame.result c.read_frame.ensures.tells c.in_ok-frame.was (wanted_need needed i d h)
-          (λ bytes one two. need_push (frame_of bytes lumps) needed i d frames c.in_ok-frame.frame h new one two ∙ ap Ok (sym c.in_ok-add.ensures.frames));
-      outlines = need_push (outline_of lumps) needed i d (map outline frames) (outline c.in_ok-frame.frame) h new c.loop-need.invariant.outlines c.in_ok-frame.ensures.outline
+      tells = reads_more (λ bytes. each_of (frame_of bytes lumps) (first_needs (take (place + 1) needed))) c.in_ok-frame.frame tt c.loop-need.invariant.tells c.read_frame.result c.read_frame.ensures.tells c.in_ok-frame.was (wanted_need needed place empty_need place_below_needs)
+          (λ bytes one two. need_push (frame_of bytes lumps) needed place empty_need frames c.in_ok-frame.frame place_below_needs new one two
+          ∙ ap Ok (sym c.in_ok-add.ensures.frames));
+      outlines = need_push (outline_of lumps) needed place empty_need (map outline frames) (outline c.in_ok-frame.frame) place_below_needs new c.loop-need.invariant.outlines c.in_ok-frame.ensures.outline
           ∙ ap Ok (sym (ap (map outline) c.in_ok-add.ensures.frames ∙ map-append outline frames (c.in_ok-frame.frame ∷ [])));
       placed = c.in_ok-add.ensures.placed;
     }
 
 pub returns-in_err-frame-clause-tells : goal.returns-in_err-frame-clause-tells
 returns-in_err-frame-clause-tells g c =
-    let i = c.loop-need.need-index in
+    let place = c.loop-need.need-index in
     let needed = c.args.needed.now in
-    let h : i < length needed = omega arith in
+    let place_below_needs : place < length needed = omega arith in
     reads_same c.from_residual.result c.in_err-frame.field-0.0 _ c.from_residual.ensures.1
-    (reads_stop _ c.in_err-frame.field-0.0 c.loop-need.invariant.tells c.read_frame.result c.read_frame.ensures.tells c.in_err-frame.was (wanted_need needed i no_need h)
-    (λ bytes e. need_stop (frame_of bytes c.args.dir.now.lumps) needed i no_need c.loop-need.list.frames.items e h (need_asked _ _ _ (get_or needed i no_need) c.loop-need.invariant.outlines c.has.ensures c.if-has.false)))
+    (reads_stop _ c.in_err-frame.field-0.0 c.loop-need.invariant.tells c.read_frame.result c.read_frame.ensures.tells c.in_err-frame.was (wanted_need needed place no_need place_below_needs)
+    (λ bytes e. need_stop (frame_of bytes c.args.dir.now.lumps) needed place no_need c.loop-need.list.frames.items e place_below_needs (need_asked _ _ _ (get_or needed place no_need) c.loop-need.invariant.outlines c.has.ensures c.if-has.false)))
 
 pub returns-in_err-add-clause-tells : goal.returns-in_err-add-clause-tells
 returns-in_err-add-clause-tells g c =
-    let i = c.loop-need.need-index in
+    let place = c.loop-need.need-index in
     let needed = c.args.needed.now in
     let lumps = c.args.dir.now.lumps in
     let frames = c.loop-need.list.frames.items in
-    let h : i < length needed = omega arith in
+    let place_below_needs : place < length needed = omega arith in
     let value : Unit {0} → List Frame = λ done. frames ++ c.in_ok-frame.frame ∷ [] in
-    let one = reads_more {wants = IsWanted lumps needed} {value = value} (λ bytes. each_of (frame_of bytes lumps) (first_needs (take (i + 1) needed))) c.in_ok-frame.frame tt c.loop-need.invariant.tells c.read_frame.result c.read_frame.ensures.tells c.in_ok-frame.was (wanted_need needed i no_need h)
-    (λ bytes. need_push (frame_of bytes lumps) needed i no_need frames c.in_ok-frame.frame h (need_asked _ _ _ (get_or needed i no_need) c.loop-need.invariant.outlines c.has.ensures c.if-has.false)) in
-    reads_same c.from_residual-in_err-add.result OutOfMemory _ c.from_residual-in_err-add.ensures.1 (reads_short one)
+    let reads_with_frame = reads_more {wants = IsWanted lumps needed} {value = value} (λ bytes. each_of (frame_of bytes lumps) (first_needs (take (place + 1) needed))) c.in_ok-frame.frame tt c.loop-need.invariant.tells c.read_frame.result c.read_frame.ensures.tells c.in_ok-frame.was (wanted_need needed place no_need place_below_needs)
+    (λ bytes. need_push (frame_of bytes lumps) needed place no_need frames c.in_ok-frame.frame place_below_needs (need_asked _ _ _ (get_or needed place no_need) c.loop-need.invariant.outlines c.has.ensures c.if-has.false)) in
+    reads_same c.from_residual-in_err-add.result OutOfMemory _ c.from_residual-in_err-add.ensures.1 (reads_short reads_with_frame)

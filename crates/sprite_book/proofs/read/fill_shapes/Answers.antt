@@ -16,12 +16,12 @@ loop-k-init g c = record {
 
 pub loop-k-preserved : goal.loop-k-preserved
 loop-k-preserved g c =
-    let l : c.loop-k.k < length c.loop-k.shapes = omega arith in
+    let index_below_shapes : c.loop-k.k < length c.loop-k.shapes = omega arith in
     record {
       tells = reads_more (λ bytes. each_of (shape_of bytes) (take (c.loop-k.k + 1) c.args.pictures.now)) c.in_ok-patch.patch tt c.loop-k.invariant.tells c.read_patch.result c.read_patch.ensures c.in_ok-patch.was
           (λ lump e. (_, Contains-get_or c.args.pictures.now c.loop-k.k no_mention (omega arith), sym e))
-          (λ bytes one two. shapes_push bytes c.args.pictures.now c.loop-k.shapes c.loop-k.k no_mention c.in_ok-patch.patch c.shape_in.result (omega arith) l c.shape_in.ensures one two);
-      outlines = outlines_push c.args.pictures.now c.loop-k.shapes c.loop-k.k no_mention c.in_ok-patch.patch c.shape_in.result (omega arith) l c.shape_in.ensures c.loop-k.invariant.outlines;
+          (λ bytes one two. shapes_push bytes c.args.pictures.now c.loop-k.shapes c.loop-k.k no_mention c.in_ok-patch.patch c.shape_in.result (omega arith) index_below_shapes c.shape_in.ensures one two);
+      outlines = outlines_push c.args.pictures.now c.loop-k.shapes c.loop-k.k no_mention c.in_ok-patch.patch c.shape_in.result (omega arith) index_below_shapes c.shape_in.ensures c.loop-k.invariant.outlines;
     }
 
 pub returns-in_err-patch-clause-tells : goal.returns-in_err-patch-clause-tells

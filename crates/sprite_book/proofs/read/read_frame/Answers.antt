@@ -7,11 +7,11 @@ use Rattle.sprite_book.proofs.read.read_frame.Goals as goal
 
 pub returns-in_err-pictures-clause-tells : goal.returns-in_err-pictures-clause-tells
 returns-in_err-pictures-clause-tells g c =
-    let all = mentions c.args.dir.now.lumps in
+    let all_mentions = mentions c.args.dir.now.lumps in
     let judged = refused c.find_pictures.result c.map_err.result c.in_err-pictures.field-0.0 c.map_err.ensures.cases c.in_err-pictures.was in
     reads_same c.from_residual.result _ (λ bytes. frame_of bytes c.args.dir.now.lumps c.args.need.now) c.from_residual.ensures.1
     (reads_refused (g.S.Shelf.view c.args.shelf.now) c.args.dir.now c.args.cache.now c.args.patches.now c.in_err-pictures.field-0.0 judged.0 judged.2
-    (λ bytes. frame_refused bytes c.args.dir.now.lumps c.args.need.now c.find_pictures.result judged.0 (c.find_pictures.ensures all c.requires.indexed) judged.1))
+    (λ bytes. frame_refused bytes c.args.dir.now.lumps c.args.need.now c.find_pictures.result judged.0 (c.find_pictures.ensures all_mentions c.requires.indexed) judged.1))
 
 pub fill_shapes-requires-clause-there : goal.fill_shapes-requires-clause-there
 fill_shapes-requires-clause-there g c = pictures_there c.args.dir.now.lumps c.args.need.now c.in_ok-pictures.pictures (sym (c.find_pictures.ensures (mentions c.args.dir.now.lumps) c.requires.indexed) ∙ passed c.find_pictures.result c.map_err.result c.in_ok-pictures.pictures c.map_err.ensures.cases c.in_ok-pictures.was)

@@ -14,7 +14,7 @@ returns c =
 -- what is seen has a scale that is not negative
 pub sprite_map-requires-clause-scale : goal.sprite_map-requires-clause-scale
 sprite_map-requires-clause-scale c =
-    let P : ViewShape → Type 0 = IsWithinFrame in
-    let frame : IsWithinFrame c.args.view.now.shape = subst P c.shape.ensures.value c.shape.ensures.frame in
+    let is_within_frame : ViewShape → Type 0 = IsWithinFrame in
+    let frame : IsWithinFrame c.args.view.now.shape = subst is_within_frame c.shape.ensures.value c.shape.ensures.frame in
     let scale : pos 0 ≤ℤ c.args.seen.scale = project-scale c.args.view.now c.args.thing.now c.args.seen frame c.requires.seen in
     search (rules, to_z-of_z)

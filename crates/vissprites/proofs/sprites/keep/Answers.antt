@@ -14,8 +14,8 @@ pub returns-then-len-clause-kept : goal.returns-then-len-clause-kept
 returns-then-len-clause-kept c =
     let len : vec_len c.args.kept.now ≡ length c.args.kept.now.items = search rules in
     let room : length c.args.kept.now.items < MAX_VISSPRITES = omega arith in
-    let P : List SpriteEntry → Type 0 = IsKept in
-    subst P (sym c.insert_last.ensures.entries) (insert_last-kept c.args.entry c.args.kept.now.items c.requires.kept (c.requires.number ∙ len) room)
+    let is_kept : List SpriteEntry → Type 0 = IsKept in
+    subst is_kept (sym c.insert_last.ensures.entries) (insert_last-kept c.args.entry c.args.kept.now.items c.requires.kept (c.requires.number ∙ len) room)
 
 -- without it nothing changes
 pub returns-else-len-clause-entries : goal.returns-else-len-clause-entries

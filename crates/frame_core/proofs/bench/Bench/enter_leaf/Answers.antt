@@ -8,29 +8,29 @@ use Rattle.frame_core.proofs.bench.Bench.enter_leaf.Goals as goal
 
 pub returns-in_err-start_leaf-clause-over : goal.returns-in_err-start_leaf-clause-over
 returns-in_err-start_leaf-clause-over c = λ bytes most events h.
-    let v = c.args.view.now in
+    let view_now = c.args.view.now in
     let scene = c.args.scene.now.scene in
     limit-stop c.start_leaf.result c.in_err-start_leaf.field-0.0 c.from_residual.result c.in_err-start_leaf.was c.from_residual.ensures.1
-    ∙ c.start_leaf.ensures.limit v (walls_of v (scene_of bytes scene) events) (planes_after v (scene_of bytes scene) events) h.built
-    ∙ over-leaf v bytes scene most events c.args.leaf c.sector_of-sector.result _ _ c.args.self.now h c.sector_of-sector.ensures.value c.planes_of-planes.ensures.floor c.planes_of-planes.ensures.ceiling
+    ∙ c.start_leaf.ensures.limit view_now (walls_of view_now (scene_of bytes scene) events) (planes_after view_now (scene_of bytes scene) events) h.built
+    ∙ over-leaf view_now bytes scene most events c.args.leaf c.sector_of-sector.result _ _ c.args.self.now h c.sector_of-sector.ensures.value c.planes_of-planes.ensures.floor c.planes_of-planes.ensures.ceiling
 
 pub returns-clause-walked : goal.returns-clause-walked
 returns-clause-walked c = λ bytes most events h.
-    let v = c.args.view.now in
+    let view_now = c.args.view.now in
     let scene = c.args.scene.now.scene in
     let old = c.args.self.now in
     let stays = c.in_ok-start_leaf.ensures.stays in
     let between = bench_of c.start_leaf.new.planes c.start_leaf.new.self old.sprites old.entered c.sector_of-sector.result in
-    walked-leaf v bytes scene most events c.args.leaf c.sector_of-sector.result _ _ old c.enter_sector.new.self
-    (enters-leaf v scene c.args.leaf c.sector_of-sector.result _ _ old between c.enter_sector.new.self c.enter_sector.ensures.walls c.enter_sector.ensures.planes c.enter_sector.ensures.sector refl refl refl
+    walked-leaf view_now bytes scene most events c.args.leaf c.sector_of-sector.result _ _ old c.enter_sector.new.self
+    (enters-leaf view_now scene c.args.leaf c.sector_of-sector.result _ _ old between c.enter_sector.new.self c.enter_sector.ensures.walls c.enter_sector.ensures.planes c.enter_sector.ensures.sector refl refl refl
     c.requires.there c.sector_of-sector.ensures.value c.sector_of-sector.ensures.there c.planes_of-planes.ensures.floor c.planes_of-planes.ensures.ceiling
-    (λ ws s b. c.in_ok-start_leaf.ensures.built v ws s b) (λ ws s b. c.in_ok-start_leaf.ensures.limit v ws s b)
+    (λ ws s b. c.in_ok-start_leaf.ensures.built view_now ws s b) (λ ws s b. c.in_ok-start_leaf.ensures.limit view_now ws s b)
     (ap (λ (w : WallsView). w.openings) stays) (same_limits old.walls c.start_leaf.new.self old.planes c.start_leaf.new.planes (ap (λ (w : WallsView). w.room) stays) c.in_ok-start_leaf.ensures.room)
     c.enter_sector.ensures.sprites c.enter_sector.ensures.columns c.enter_sector.ensures.lumps c.enter_sector.ensures.own c.enter_sector.ensures.others) h
 
 pub returns-clause-over : goal.returns-clause-over
 returns-clause-over c = λ bytes most events h.
-    let v = c.args.view.now in
+    let view_now = c.args.view.now in
     let scene = c.args.scene.now.scene in
-    c.in_ok-start_leaf.ensures.limit v (walls_of v (scene_of bytes scene) events) (planes_after v (scene_of bytes scene) events) h.built
-    ∙ over-leaf v bytes scene most events c.args.leaf c.sector_of-sector.result _ _ c.args.self.now h c.sector_of-sector.ensures.value c.planes_of-planes.ensures.floor c.planes_of-planes.ensures.ceiling
+    c.in_ok-start_leaf.ensures.limit view_now (walls_of view_now (scene_of bytes scene) events) (planes_after view_now (scene_of bytes scene) events) h.built
+    ∙ over-leaf view_now bytes scene most events c.args.leaf c.sector_of-sector.result _ _ c.args.self.now h c.sector_of-sector.ensures.value c.planes_of-planes.ensures.floor c.planes_of-planes.ensures.ceiling

@@ -25,20 +25,20 @@ stored : (g : Over) (c : After-store_range g) → StoresFragment g.C.Canvas.mark
     c.facts_of-facts.result c.args.self.now c.store_range.new.tools.planes.now c.store_range.new.self (tools_state g.S.Shelf.view g.C.Canvas.view c.args.tools.now)
     (paint_state (g.S.Shelf.view c.store_range.new.tools.shelf.now) c.store_range.new.tools.cache.now (g.C.Canvas.view c.store_range.new.tools.canvas.now)) c.store_range.result
 stored g c =
-    let e = c.store_range.ensures in
-    let t = c.args.tools.now in
-    let b = c.args.self.now in
+    let fragment_stored = c.store_range.ensures in
+    let tools_now = c.args.tools.now in
+    let old = c.args.self.now in
     record {
-      tools = ap (λ (textures : TexturesView). paint_tools t.dir.now textures c.colormap.result.0) c.textures.ensures ∙ ap (paint_tools t.dir.now (textures_view t.scene.now.scene)) c.colormap.ensures;
+      tools = ap (λ (textures : TexturesView). paint_tools tools_now.dir.now textures c.colormap.result.0) c.textures.ensures ∙ ap (paint_tools tools_now.dir.now (textures_view tools_now.scene.now.scene)) c.colormap.ensures;
       takes = record {
         there = c.requires.there;
         facts_are = c.facts_of-facts.ensures.facts;
-        limit = e.limit;
-        limits = same_limits b.walls c.store_range.new.self b.planes c.store_range.new.tools.planes.now e.room e.planes_room;
-        full = λ n. (ap limit_of_result (e.past n), ((e.past_tools n).same_planes, e.past_state n));
+        limit = fragment_stored.limit;
+        limits = same_limits old.walls c.store_range.new.self old.planes c.store_range.new.tools.planes.now fragment_stored.room fragment_stored.planes_room;
+        full = λ n. (ap limit_of_result (fragment_stored.past n), ((fragment_stored.past_tools n).same_planes, fragment_stored.past_state n));
       };
-      paints = e.paints;
-      past = λ n. (e.past n, e.past_tools n);
+      paints = fragment_stored.paints;
+      past = λ n. (fragment_stored.past n, fragment_stored.past_tools n);
     }
 
 -- what it paints, by the answer that its own is turned into
@@ -47,9 +47,9 @@ painted : (g : Over) (c : After-store_range g) (whole : Result (Unit {0}) ViewFa
     PaintsView g.C.Canvas.mark (tools_scene c.args.tools.now) (λ scene. next_dots c.args.tools.now.view.now scene events c.args.seg c.args.first c.args.last) (tools_state g.S.Shelf.view g.C.Canvas.view c.args.tools.now)
     (paint_state (g.S.Shelf.view c.store_range.new.tools.shelf.now) c.store_range.new.tools.cache.now (g.C.Canvas.view c.store_range.new.tools.canvas.now)) whole
 painted g c whole mapped most events walked =
-    let t = c.args.tools.now in
-    let ready = facts-ready t.dir.now.lumps t.scene.now.scene t.cache.now (surface_at (lists_of t.scene.now.scene) c.args.self.now.sector) c.args.seg c.facts_of-facts.result c.requires.drawable c.facts_of-facts.ensures.sound c.requires.there.0 c.facts_of-facts.ensures.facts in
-    paints-fragment (tools_scene t) most events c.args.seg c.args.first c.args.last c.facts_of-facts.result c.args.self.now _ _ _ _ c.store_range.result whole (stored g c) mapped ready walked
+    let tools_now = c.args.tools.now in
+    let ready = facts-ready tools_now.dir.now.lumps tools_now.scene.now.scene tools_now.cache.now (surface_at (lists_of tools_now.scene.now.scene) c.args.self.now.sector) c.args.seg c.facts_of-facts.result c.requires.drawable c.facts_of-facts.ensures.sound c.requires.there.0 c.facts_of-facts.ensures.facts in
+    paints-fragment (tools_scene tools_now) most events c.args.seg c.args.first c.args.last c.facts_of-facts.result c.args.self.now _ _ _ _ c.store_range.result whole (stored g c) mapped ready walked
 
 pub returns-in_err-store_range-clause-over : goal.returns-in_err-store_range-clause-over
 returns-in_err-store_range-clause-over g c = λ bytes most events h.

@@ -5,10 +5,10 @@ use Rattle.frame_core.proofs.counter.ViewCounterVisitor.fragment.Goals as goal
 
 pub returns-in-Ok : goal.returns-in-Ok
 returns-in-Ok c =
-    let e = c.in-Ok.ensures in
-    counts-passed _ _ (FragmentEvent c.args.seg c.args.first c.args.last) e.walked e.takes e.limits
+    let fragment_counted = c.in-Ok.ensures in
+    counts-passed _ _ (FragmentEvent c.args.seg c.args.first c.args.last) fragment_counted.walked fragment_counted.takes fragment_counted.limits
 
 pub returns-in-Err : goal.returns-in-Err
 returns-in-Err c =
-    let e = c.in-Err.ensures in
-    counts-stopped _ _ (FragmentEvent c.args.seg c.args.first c.args.last) c.in-Err.fault c.over_limit.result c.over_limit.ensures e.over e.limits
+    let limit_passed = c.in-Err.ensures in counts-stopped _ _ (FragmentEvent c.args.seg c.args.first c.args.last)
+    c.in-Err.fault c.over_limit.result c.over_limit.ensures limit_passed.over limit_passed.limits

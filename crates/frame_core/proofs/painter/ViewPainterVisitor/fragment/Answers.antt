@@ -4,5 +4,5 @@ use Rattle.frame_core.proofs.painter.ViewPainterVisitor.fragment.Goals as goal
 
 pub returns : goal.returns
 returns g c =
-    let e = c.store_fragment.ensures in
-    fragment-visits g.C.Canvas.mark _ _ _ c.args.seg c.args.first c.args.last c.store_fragment.result e.counts e.place e.walked e.over e.paints e.takes e.limits
+    let fragment_stored = c.store_fragment.ensures in fragment-visits g.C.Canvas.mark _ _ _ c.args.seg c.args.first c.args.last c.store_fragment.result
+    fragment_stored.counts fragment_stored.place fragment_stored.walked fragment_stored.over fragment_stored.paints fragment_stored.takes fragment_stored.limits

@@ -8,10 +8,10 @@ enter_leaf-requires-clause-scene g c = can_count-drawable _ _ _ c.requires.drawa
 
 pub returns-in_err-enter_leaf : goal.returns-in_err-enter_leaf
 returns-in_err-enter_leaf g c =
-    let e = c.in_err-enter_leaf.ensures in
-    leaf-visits_stop g.C.Canvas.mark _ _ c.args.leaf c.in_err-enter_leaf.field-0.0 c.from_residual.result c.from_residual.ensures.1 e.faults e.over e.limits
+    let limit_passed = c.in_err-enter_leaf.ensures in leaf-visits_stop g.C.Canvas.mark _ _ c.args.leaf c.in_err-enter_leaf.field-0.0
+    c.from_residual.result c.from_residual.ensures.1 limit_passed.faults limit_passed.over limit_passed.limits
 
 pub returns : goal.returns
 returns g c =
-    let e = c.in_ok-enter_leaf.ensures in
-    leaf-visits g.C.Canvas.mark _ _ c.args.leaf e.walked e.takes e.limits
+    let leaf_entered = c.in_ok-enter_leaf.ensures in
+    leaf-visits g.C.Canvas.mark _ _ c.args.leaf leaf_entered.walked leaf_entered.takes leaf_entered.limits

@@ -5,8 +5,8 @@ use Rattle.sprite_book.proofs.list.FrameList.pick.Goals as goal
 
 pub index-requires : goal.index-requires
 index-requires c =
-    let l : vec_len c.args.self.now.frames ≡ length c.args.self.now.frames.items = search rules in
-    let h : c.in-Some.place.now < length c.args.self.now.frames.items = place_below (is_frame c.args.sprite c.args.frame) c.args.self.now.frames.items c.in-Some.place.now (sym (c.requires.at c.args.sprite c.args.frame) ∙ sym c.in-Some.ensures.value) in
+    let frames_length : vec_len c.args.self.now.frames ≡ length c.args.self.now.frames.items = search rules in
+    let place_below_frames : c.in-Some.place.now < length c.args.self.now.frames.items = place_below (is_frame c.args.sprite c.args.frame) c.args.self.now.frames.items c.in-Some.place.now (sym (c.requires.at c.args.sprite c.args.frame) ∙ sym c.in-Some.ensures.value) in
     omega arith
 
 pub returns-in-Some : goal.returns-in-Some

@@ -16,7 +16,7 @@ range_between-requires c =
 pub returns-clause-order : goal.returns-clause-order
 returns-clause-order c =
     λ x1 x2 e.
-    let P : ViewValue → Type 0 = λ v. IsSound v.tables v.shape in
-    let sound = subst P c.self.view_is c.clip_angle-clip.ensures.sound in
+    let tables_sound : ViewValue → Type 0 = λ v. IsSound v.tables v.shape in
+    let sound = subst tables_sound c.self.view_is c.clip_angle-clip.ensures.sound in
     let value : c.range_between.result ≡ range_in_front c.args.self.now c.args.span c.args.angle1 c.args.angle2 = unfold range_in_front in search rules in
     range_in_front-order c.args.self.now c.args.angle1 c.args.angle2 x1 x2 sound (omega arith) (omega arith) c.requires c.args.span (sym value ∙ e)

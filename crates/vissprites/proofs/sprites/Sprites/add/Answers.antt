@@ -34,15 +34,15 @@ returns-in_default-clause-value c =
 pub returns-in-Some-clause-columns : goal.returns-in-Some-clause-columns
 returns-in-Some-clause-columns c =
     λ all.
-    let P : List SpriteEntry → Type 0 = AllPass (lies_within c.args.view.now.shape.width) in
-    subst P (sym (returns-in-Some-clause-value c))
+    let all_lie_in_view : List SpriteEntry → Type 0 = AllPass (lies_within c.args.view.now.shape.width) in
+    subst all_lie_in_view (sym (returns-in-Some-clause-value c))
     (add-all (lies_within c.args.view.now.shape.width) c.args.view.now c.args.self.now c.args.thing.now c.args.seen c.args.shape all
     (λ e h. entry_for-lies_within c.args.view.now _ c.args.thing.now c.args.seen c.args.shape e h))
 
 pub returns-in-Some-clause-lumps : goal.returns-in-Some-clause-lumps
 returns-in-Some-clause-lumps c =
     λ n below all.
-    let P : List SpriteEntry → Type 0 = AllPass (has_lump_below n) in
-    subst P (sym (returns-in-Some-clause-value c))
+    let all_lumps_below : List SpriteEntry → Type 0 = AllPass (has_lump_below n) in
+    subst all_lumps_below (sym (returns-in-Some-clause-value c))
     (add-all (has_lump_below n) c.args.view.now c.args.self.now c.args.thing.now c.args.seen c.args.shape all
     (λ e h. entry_for-lump c.args.view.now _ c.args.thing.now c.args.seen c.args.shape e n below h))

@@ -7,8 +7,8 @@ use Rattle.vissprites.proofs.sprites.Sprites.clear.Goals as goal
 -- the room stays
 pub invariant_of-self : goal.invariant_of-self
 invariant_of-self c =
-    let P : List SpriteEntry → Type 0 = IsKept in
-    (subst P (sym c.clear.ensures.items) none_kept, omega (arith, c.self.invariant.1, c.clear.ensures.capacity))
+    let is_kept : List SpriteEntry → Type 0 = IsKept in
+    (subst is_kept (sym c.clear.ensures.items) none_kept, omega (arith, c.self.invariant.1, c.clear.ensures.capacity))
 
 pub returns : goal.returns
 returns c = ap made_order c.clear.ensures.items ∙ made_order-none

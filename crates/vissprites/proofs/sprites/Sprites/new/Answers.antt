@@ -6,8 +6,8 @@ use Rattle.vissprites.proofs.sprites.Sprites.new.Goals as goal
 
 pub invariant_of-result : goal.invariant_of-result
 invariant_of-result c =
-    let P : List SpriteEntry → Type 0 = IsKept in
-    (subst P (sym c.in_ok-kept.ensures.items) none_kept, c.in_ok-kept.ensures.capacity)
+    let is_kept : List SpriteEntry → Type 0 = IsKept in
+    (subst is_kept (sym c.in_ok-kept.ensures.items) none_kept, c.in_ok-kept.ensures.capacity)
 
 pub returns : goal.returns
 returns c = ap made_order c.in_ok-kept.ensures.items ∙ made_order-none
