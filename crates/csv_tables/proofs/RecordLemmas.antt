@@ -81,8 +81,8 @@ unfolding Reached records_from
 reached-take cfg s s2 xs ys [] m h l = refl
 reached-take cfg s s2 xs ys (r ∷ rs) zero h l = absurd (omega arith)
 reached-take cfg s s2 [] ys (r ∷ rs) (suc m) h l =
-    let one = reached-last cfg s s2 ys r rs h in
-    rw (h.1, one) (ap (λ (t : List (List ℕ)). t ∷ []) (sym h.2))
+    let no_more_rows = reached-last cfg s s2 ys r rs h in
+    rw (h.1, no_more_rows) (ap (λ (t : List (List ℕ)). t ∷ []) (sym h.2))
 reached-take cfg s s2 (c ∷ xs) ys (r ∷ rs) (suc m) h l =
     let fewer = next-fewer cfg s [] [] c xs h.0 h.1 in
     let more = reached-take cfg h.0.1 s2 h.0.2 ys rs m h.3 (omega arith) in
@@ -93,14 +93,14 @@ reached-end : (cfg : Config) (s s2 : State) (xs ys : List ℕ) (rows : List (Lis
 unfolding Reached records_from
 reached-end cfg s s2 xs ys [] m zero h e l k = refl
 reached-end cfg s s2 xs ys [] zero (suc n) h e l k = absurd (omega arith)
-reached-end cfg s s2 xs ys [] (suc m) (suc n) h e l k = let none : next_record cfg s [] [] xs ≡ None = rw (h.0, h.1) e in rw none refl
+reached-end cfg s s2 xs ys [] (suc m) (suc n) h e l k = let no_record_left : next_record cfg s [] [] xs ≡ None = rw (h.0, h.1) e in rw no_record_left refl
 reached-end cfg s s2 xs ys (r ∷ rs) m zero h e l k = absurd (omega arith)
 reached-end cfg s s2 xs ys (r ∷ rs) zero (suc n) h e l k = absurd (omega arith)
 reached-end cfg s s2 [] ys (r ∷ rs) (suc m) (suc n) h e l k =
-    let one = reached-last cfg s s2 ys r rs h in
+    let no_more_rows = reached-last cfg s s2 ys r rs h in
     let at = next-at_end cfg s [] [] h.0 h.1 in
     let after = no-more cfg m n in
-    rw (h.1, at.0, at.1, after, one) (ap (λ (t : List (List ℕ)). t ∷ []) (sym h.2))
+    rw (h.1, at.0, at.1, after, no_more_rows) (ap (λ (t : List (List ℕ)). t ∷ []) (sym h.2))
 reached-end cfg s s2 (c ∷ xs) ys (r ∷ rs) (suc m) (suc n) h e l k =
     let fewer = next-fewer cfg s [] [] c xs h.0 h.1 in
     let more = reached-end cfg h.0.1 s2 h.0.2 ys rs m n h.3 e (omega arith) (omega arith) in
@@ -127,8 +127,8 @@ is_header-length [] [] d = absurd (d refl)
 is_header-length [] (f ∷ fs) d = refl
 is_header-length (n ∷ ns) [] d = refl
 is_header-length (n ∷ ns) (f ∷ fs) d =
-    let e = is_header-length ns fs (λ e. d (ap suc e)) in
-    rw e (false-end (bytes_eq f n))
+    let rest_differs = is_header-length ns fs (λ e. d (ap suc e)) in
+    rw rest_differs (false-end (bytes_eq f n))
 
 -- field i of a header is its name
 pub is_header-step : (names fields : List (List ℕ)) (i : ℕ) → i < length names → length fields ≡ length names → is_header (drop i names) (drop i fields) ≡ (option_map_or (λ f. bytes_eq f (get_or names i [])) (field_at fields i) false && is_header (drop (i + 1) names) (drop (i + 1) fields))
@@ -137,9 +137,9 @@ is_header-step [] fields i l e = absurd (omega arith)
 is_header-step (n ∷ ns) [] i l e = absurd (omega (arith, e))
 is_header-step (n ∷ ns) (f ∷ fs) zero l e = refl
 is_header-step (n ∷ ns) (f ∷ fs) (suc i) l e =
-    let h = is_header-step ns fs i (omega arith) (omega (arith, e)) in
-    let a : suc i + 1 ≡ suc (i + 1) = omega arith in
-    rw a h
+    let rest_step = is_header-step ns fs i (omega arith) (omega (arith, e)) in
+    let next_index_is : suc i + 1 ≡ suc (i + 1) = omega arith in
+    rw next_index_is rest_step
 
 pub is_header-end : is_header [] [] ≡ true
 unfolding is_header
@@ -156,9 +156,9 @@ is_header-at names fields i text r l e h g =
 pub is_header-done : (names : List (Bor (List ℕ))) (fields : List (List ℕ)) (i : ℕ) → length names ≤ i → length fields ≡ length names → is_header (drop i (map (λ n. n.now) names)) (drop i fields) ≡ true
 is_header-done names fields i l e =
     let len : length (map (λ (n : Bor (List ℕ)). n.now) names) ≡ length names = length-map names (λ n. n.now) in
-    let a : drop i (map (λ (n : Bor (List ℕ)). n.now) names) ≡ [] = drop_of_length-le (map (λ (n : Bor (List ℕ)). n.now) names) (rw len l) in
-    let b : drop i fields ≡ [] = drop_of_length-le fields (rw e l) in
-    rw (a, b) is_header-end
+    let no_names_left : drop i (map (λ (n : Bor (List ℕ)). n.now) names) ≡ [] = drop_of_length-le (map (λ (n : Bor (List ℕ)). n.now) names) (rw len l) in
+    let no_fields_left : drop i fields ≡ [] = drop_of_length-le fields (rw e l) in
+    rw (no_names_left, no_fields_left) is_header-end
 
 pub true-false : true ≡ false → ⊥
 true-false e = cc

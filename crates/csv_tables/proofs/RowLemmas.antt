@@ -24,8 +24,8 @@ rows_after-more : {A : Type 0} (read : List A → ℕ → List (List ℕ) → Re
     → rows_after read rows (drop i records) ≡ then_checked (read rows (i + 1) fields) (λ row. rows_after read (rows ++ row ∷ []) (drop (i + 1) records))
 unfolding rows_after
 rows_after-more read rows records i fields l g n =
-    let one = at_drop_more (rows_after read rows) records i [] l in
-    rw (one, g, n) refl
+    let next_record_is = at_drop_more (rows_after read rows) records i [] l in
+    rw (next_record_is, g, n) refl
 
 pub rows_after-taken : {A : Type 0} (read : List A → ℕ → List (List ℕ) → Result A CsvRefusal) (rows : List A) (records : List (List (List ℕ))) (i : ℕ) (fields : List (List ℕ)) (row : A) → i < length records → get_or records i [] ≡ fields → length rows ≡ i
     → read rows (i + 1) fields ≡ Ok row → rows_after read rows (drop i records) ≡ rows_after read (rows ++ row ∷ []) (drop (i + 1) records)

@@ -17,10 +17,10 @@ unfolding row_of
 row_of-more [] line kind e = refl
 row_of-more (l ∷ lines) line kind e =
     elim (cases_eq l.kind line.kind) [
-      | inl same ↦ let b : (l.kind == line.kind) ≡ true = eq-eqb l.kind line.kind same in absurd (some-none l.row (rw b at e))
+      | inl same ↦ let kind_same : (l.kind == line.kind) ≡ true = eq-eqb l.kind line.kind same in absurd (some-none l.row (rw kind_same at e))
       | inr other ↦
-          let b : (l.kind == line.kind) ≡ false = ne_eqb l.kind line.kind other in
-          let more = row_of-more lines line kind (rw b at e) in
+          let kind_differs : (l.kind == line.kind) ≡ false = ne_eqb l.kind line.kind other in
+          let more = row_of-more lines line kind (rw kind_differs at e) in
           elim (cases_eq l.kind kind) [
             | inl here ↦
                 let at : (l.kind == kind) ≡ true = eq-eqb l.kind kind here in
@@ -97,13 +97,13 @@ numbers-step lines line numbers n h l e next =
       ];
       rows = λ kind k. elim (cases_eq line.kind kind) [
         | inl same ↦
-            let b : (line.kind == kind) ≡ true = eq-eqb line.kind kind same in
+            let kind_same : (line.kind == kind) ≡ true = eq-eqb line.kind kind same in
             let at : get_or (set numbers line.kind n) line.kind 0 ≡ n = get_or-set_same numbers line.kind n 0 (rw h.all l) in
             let here : get_or (set numbers line.kind n) kind 0 ≡ n = ap (λ q. get_or (set numbers line.kind n) q 0) (sym same) ∙ at in
-            ap (numbered_row (lines ++ line ∷ [])) here ∙ numbered_row-last lines line n next ∙ sym (row_of-more lines line kind e ∙ rw b refl)
+            ap (numbered_row (lines ++ line ∷ [])) here ∙ numbered_row-last lines line n next ∙ sym (row_of-more lines line kind e ∙ rw kind_same refl)
         | inr other ↦
-            let b : (line.kind == kind) ≡ false = ne_eqb line.kind kind other in
+            let kind_differs : (line.kind == kind) ≡ false = ne_eqb line.kind kind other in
             let off : get_or (set numbers line.kind n) kind 0 ≡ get_or numbers kind 0 = get_or-set_other numbers line.kind kind n 0 (λ q. other (sym q)) in
-            ap (numbered_row (lines ++ line ∷ [])) off ∙ numbered_row-first lines line (get_or numbers kind 0) (h.within kind) ∙ h.rows kind k ∙ sym (row_of-more lines line kind e ∙ rw b refl)
+            ap (numbered_row (lines ++ line ∷ [])) off ∙ numbered_row-first lines line (get_or numbers kind 0) (h.within kind) ∙ h.rows kind k ∙ sym (row_of-more lines line kind e ∙ rw kind_differs refl)
       ];
     }
