@@ -15,7 +15,7 @@ use Rattle.lump_cache.proofs.RoomButLemmas.{owned_fits}
 module _ (o : Owner) (x : Block) (bs : List Block) (b : Block) (e : owned_block o (x ∷ bs) ≡ Some b) where
   held_first : is_held_by o x ≡ true → x ≡ b
   held_first h =
-      let s : Some x ≡ Some b = sym (cond-true (is_held_by o x) (Some x) (owned_block o bs) h) ∙ e in
+      let first_is_owned : Some x ≡ Some b = sym (cond-true (is_held_by o x) (Some x) (owned_block o bs) h) ∙ e in
       cc
 
   held_behind : is_held_by o x ≡ false → owned_block o bs ≡ Some b
@@ -71,12 +71,12 @@ module _ (z : Heap) (sound : IsSound z) (o : Owner) where
     go : (x : Option Block) → owned_block (lump_owner colormap) z.blocks ≡ x → HasStatic count x → block_size count + block_size (length xs) ≤ z.size
     go None is has = absurd has
     go (Some r) is has =
-        let l = lump_owner colormap in
-        let first = asked_least z.lumps z.composites r.size count r.holding (static_asked count r.holding has) (owned_fits l r z.lumps z.composites z.blocks sound.fits is) in
+        let colormap_owner = lump_owner colormap in
+        let colormap_fits = asked_least z.lumps z.composites r.size count r.holding (static_asked count r.holding has) (owned_fits colormap_owner r z.lumps z.composites z.blocks sound.fits is) in
         let lent = bytes_least z.lumps z.composites b.size b.holding xs (owned_fits o b z.lumps z.composites z.blocks sound.fits e) k in
-        let both = two_fit l o apart z.blocks r b is e in
+        let both = two_fit colormap_owner o apart z.blocks r b is e in
         let ends = tiles_end 0 z.size z.blocks sound.tiles in
-        omega (arith, first, lent, both, ends)
+        omega (arith, colormap_fits, lent, both, ends)
 
   -- the same of a call that lends these bytes
   pub lent_fits : (lent : Option (List ℕ)) → lent ≡ bytes_of o z.blocks → (colormap count : ℕ) → HasStatic count (owned_block (lump_owner colormap) z.blocks) → same_owner (lump_owner colormap) o ≡ false → IfSome lent (λ bytes. block_size count + block_size (length bytes) ≤ z.size)
