@@ -82,13 +82,13 @@ module _ (n zone : ℕ) (format : Format) where
       EndsAt steady (job_verdict exercise_job held) old old (Limit view kind count)
   over_end steady old view kind count t0 t1 ends held =
       let by = accepted_by made_views (rendered (Frame format)) loading ends.accepted ends.is in
-      let r = made_views by.0 in
-      let limit : rendered_end r ≡ Limit view kind count = ap (λ (a : Accepted). a.end) by.2 ∙ ends.due in
+      let views_value = made_views by.0 in
+      let limit : rendered_end views_value ≡ Limit view kind count = ap (λ (a : Accepted). a.end) by.2 ∙ ends.due in
       record {
-        accepted = accepted_in (loaded_sizes by.0).enough (exercised n format r);
+        accepted = accepted_in (loaded_sizes by.0).enough (exercised n format views_value);
         is = ap (λ (l : Result LoadedValue (Stop Refusal)). drawn_by made_views (exercised n format) l) by.1;
         due = limit;
-        written = subst (λ (bytes : List ℕ). Grew old old bytes) (sym (over_unwritten n format r view kind count limit)) (grew_none old);
+        written = subst (λ (bytes : List ℕ). Grew old old bytes) (sym (over_unwritten n format views_value view kind count limit)) (grew_none old);
       }
 
   stopped_end : (steady : Bool) (old t0 t1 : List ℕ → Type 0) (status : Status) → IsTrue steady → (status ≡ Done → ⊥) → (status ≡ WriteFault → ⊥) → EndsAt steady (job_verdict render_job (made_files n)) t0 t1 status → (held : List File) →
@@ -157,20 +157,20 @@ module _ (n zone : ℕ) (format : Format) where
     exercise_done view old new faults later status summary first rendering summed writes failed =
         let all = said Done rendering in
         let by = accepted_by made_views (rendered (Frame format)) loading all.ends.accepted all.ends.is in
-        let r = made_views by.0 in
-        let end : rendered_end r ≡ Done = ap (λ (a : Accepted). a.end) by.2 ∙ all.ends.due in
-        let put : Grew (IsTallyOf t0) (IsTallyOf t1) (rendered_bytes (Frame format) r) = subst (λ (a : Accepted). Grew (IsTallyOf t0) (IsTallyOf t1) a.output) (sym by.2) all.ends.written in
-        let few : length r.views ≤ MAX_VIEWS = subst (λ k. k ≤ MAX_VIEWS) (sym (views_rows (wad_bytes made_wads (made_files n) by.0.files.lumps) (made_level zone).settings by.0)) (loaded_few (made_level zone) made_wads (made_files n) by.0 by.1) in
-        let line : summary_line summary ≡ exercised_bytes n format r = ap (λ (s : Summary). summary_line s) summed ∙ tallied_line n format r t1 few end (tally_of first put) in
-        let due : done (summary_line summary) ≡ exercised n format r =
-        ap (λ (bytes : List ℕ). record { output = bytes; end = Done }) line ∙ ap (λ (e : Status). record { output = exercised_bytes n format r; end = e }) (sym end) in
+        let views_value = made_views by.0 in
+        let end : rendered_end views_value ≡ Done = ap (λ (a : Accepted). a.end) by.2 ∙ all.ends.due in
+        let put : Grew (IsTallyOf t0) (IsTallyOf t1) (rendered_bytes (Frame format) views_value) = subst (λ (a : Accepted). Grew (IsTallyOf t0) (IsTallyOf t1) a.output) (sym by.2) all.ends.written in
+        let few : length views_value.views ≤ MAX_VIEWS = subst (λ k. k ≤ MAX_VIEWS) (sym (views_rows (wad_bytes made_wads (made_files n) by.0.files.lumps) (made_level zone).settings by.0)) (loaded_few (made_level zone) made_wads (made_files n) by.0 by.1) in
+        let line : summary_line summary ≡ exercised_bytes n format views_value = ap (λ (s : Summary). summary_line s) summed ∙ tallied_line n format views_value t1 few end (tally_of first put) in
+        let due : done (summary_line summary) ≡ exercised n format views_value =
+        ap (λ (bytes : List ℕ). record { output = bytes; end = Done }) line ∙ ap (λ (e : Status). record { output = exercised_bytes n format views_value; end = e }) (sym end) in
         let delivers : DeliversAt (done (summary_line summary)) old new status = bytes_deliver (summary_line summary) old new status writes in
         record {
           behaves = due_behaves false view view (done (summary_line summary)) old new faults later status (record { ends = delivers; write_fault = failed });
           asked = λ e. absurd (delivers_all (done (summary_line summary)) old new status delivers (rw e tt));
           zoned = λ wanted widest e. refl;
           tells = λ held holds. record {
-            ends = renders_end view.steady _ (loaded_sizes by.0).enough (exercised n format r) old new status
+            ends = renders_end view.steady _ (loaded_sizes by.0).enough (exercised n format views_value) old new status
                 (ap (λ (l : Result LoadedValue (Stop Refusal)). drawn_by made_views (exercised n format) l) by.1)
                 (delivers_render view.steady _ old new status (subst (λ (w : Written). DeliversAt w old new status) due delivers));
             zone_full = λ wanted widest e. absurd (delivers_all (done (summary_line summary)) old new status delivers (rw e tt));

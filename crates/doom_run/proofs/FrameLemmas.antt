@@ -150,9 +150,9 @@ stopped_within {form} {r} {n} so_far below here part =
 stopped_over : {form : ViewForm} {r : ViewsValue} {n : ℕ} {old mid new : List ℕ → Type 0} (steady : Bool) (view : ℕ) (over : OverLimit) → Rendered form r n old mid → n < length r.views → view ≡ n → over_at r n ≡ Some over → Grew mid new [] →
     RendersAt steady (rendered form r) old new (Limit view over.kind over.count)
 stopped_over {form} {r} {n} {old} {mid} {new} steady view over so_far below same is none =
-    let first : first_over r ≡ Some n = some_over r n over below so_far.within is in (
-      ap (end_at r) first ∙ ap (limit_at n) is ∙ ap (λ (k : ℕ). Limit k over.kind over.count) (sym same),
-      grew_more (rendered_bytes form r) so_far.written none (append-nil _ ∙ due_by form r (Some n) first),
+    let first_over_is : first_over r ≡ Some n = some_over r n over below so_far.within is in (
+      ap (end_at r) first_over_is ∙ ap (limit_at n) is ∙ ap (λ (k : ℕ). Limit k over.kind over.count) (sym same),
+      grew_more (rendered_bytes form r) so_far.written none (append-nil _ ∙ due_by form r (Some n) first_over_is),
     )
 
 -- the n-th view ends the rendering

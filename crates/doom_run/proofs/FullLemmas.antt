@@ -87,8 +87,9 @@ no_smaller zone enough due small same room = omega (arith, small, same, room)
 task_room : (wanted widest' : ℕ) (task : Task) (held : List File) (accepted : Accepted) → IsFullTask task held wanted widest' → accepted.enough ≤ zone_of task → task_verdict task held ≡ Ok accepted → ⊥
 task_room wanted widest' (plain writes reads) held accepted full room e = full
 task_room wanted widest' (over work) held accepted full room e =
-    let p = accepted_load work.delivery (λ loaded. wad_bytes work.wads (work.files held) loaded.files.lumps) (load_in work.level work.wads (work.files held)) accepted e in
-    no_smaller work.level.settings.zone (loaded_sizes p.0).enough accepted.enough (full_small work.level work.wads (work.files held) p.0 full p.1) p.2 room
+    let load_ok = accepted_load work.delivery (λ loaded. wad_bytes work.wads (work.files held) loaded.files.lumps) (load_in work.level work.wads (work.files held)) accepted e in
+    no_smaller work.level.settings.zone (loaded_sizes load_ok.0).enough accepted.enough
+    (full_small work.level work.wads (work.files held) load_ok.0 full load_ok.1) load_ok.2 room
 
 pub run_room : (command : Option CommandValue) (held : List File) (accepted : Accepted) (wanted widest' : ℕ) →
     IfSome command (λ command. IsFullRun command held wanted widest') → IfSome command (λ command. accepted.enough ≤ zone_of (job_of command).task) → and_then (else_usage command) (λ command. job_verdict (job_of command) held) ≡ Ok accepted → ⊥

@@ -54,9 +54,9 @@ module _ (k : ℕ) (view after : ShelfView) (old new : ReadyViews) (keeps : Keep
     read_fault = λ e. absurd (cc);
     write_fault = λ e. absurd (cc);
     zone_full = λ wanted widest' e.
-        let first : wide ≡ wanted = cc in
-        let second : gap ≡ widest' = cc in
-        subst (λ (n : ℕ). IsFullView old n widest') first (subst (λ (n : ℕ). IsFullView old wide n) second (full_view old wide gap full));
+        let wanted_same : wide ≡ wanted = cc in
+        let widest_same : gap ≡ widest' = cc in
+        subst (λ (n : ℕ). IsFullView old n widest') wanted_same (subst (λ (n : ℕ). IsFullView old wide n) widest_same (full_view old wide gap full));
     rises = omega arith;
     keeps = keeps;
   }

@@ -13,12 +13,12 @@ row_layers book light k n row = cond (row.view == k) (option_to_list (layer_of b
 -- those of some rows, and then of others
 layers_from-append : (book : List Frame) (light : ℤ) (k n : ℕ) (xs ys : List WeaponRow) → layers_from book light k n (xs ++ ys) ≡ layers_from book light k n xs ++ layers_from book light k (n + length xs) ys
 unfolding layers_from
-layers_from-append book light k n [] ys = let e : n ≡ n + 0 = omega arith in ap (λ (m : ℕ). layers_from book light k m ys) e
+layers_from-append book light k n [] ys = let number_same : n ≡ n + 0 = omega arith in ap (λ (m : ℕ). layers_from book light k m ys) number_same
 layers_from-append book light k n (x ∷ xs) ys =
-    let e : n + 1 + length xs ≡ n + length (x ∷ xs) = omega arith in
+    let next_number_is : n + 1 + length xs ≡ n + length (x ∷ xs) = omega arith in
     ap (λ (ls : List WeaponLayer). row_layers book light k n x ++ ls) (layers_from-append book light k (n + 1) xs ys)
     ∙ sym (append_assoc (row_layers book light k n x) (layers_from book light k (n + 1) xs) (layers_from book light k (n + 1 + length xs) ys))
-    ∙ ap (λ (m : ℕ). (row_layers book light k n x ++ layers_from book light k (n + 1) xs) ++ layers_from book light k m ys) e
+    ∙ ap (λ (m : ℕ). (row_layers book light k n x ++ layers_from book light k (n + 1) xs) ++ layers_from book light k m ys) next_number_is
 
 -- the dots of the layers of rows, of which the first has number n
 abbrev pub rows_dots : ViewValue → List Frame → ℤ → ℕ → ℕ → List WeaponRow → Art → List Dot
@@ -32,11 +32,11 @@ rows_dots-none v book light k art = refl
 dots_more : (v : ViewValue) (book : List Frame) (light : ℤ) (k i : ℕ) (rows : List WeaponRow) (row : WeaponRow) (art : Art) → i < length rows →
     rows_dots v book light k 1 (take (i + 1) rows) art ≡ rows_dots v book light k 1 (take i rows) art ++ rows_dots v book light k (i + 1) (get_or rows i row ∷ []) art
 dots_more v book light k i rows row art there =
-    let e : 1 + length (take i rows) ≡ i + 1 = omega (arith, length-take i rows) in
+    let row_number_is : 1 + length (take i rows) ≡ i + 1 = omega (arith, length-take i rows) in
     ap (λ (xs : List WeaponRow). rows_dots v book light k 1 xs art) (take_more rows i row there)
     ∙ ap (joined_lists (weapon_dots v art)) (layers_from-append book light k 1 (take i rows) (get_or rows i row ∷ []))
     ∙ joined_lists-append (weapon_dots v art) (layers_from book light k 1 (take i rows)) (layers_from book light k (1 + length (take i rows)) (get_or rows i row ∷ []))
-    ∙ ap (λ (m : ℕ). rows_dots v book light k 1 (take i rows) art ++ rows_dots v book light k m (get_or rows i row ∷ []) art) e
+    ∙ ap (λ (m : ℕ). rows_dots v book light k 1 (take i rows) art ++ rows_dots v book light k m (get_or rows i row ∷ []) art) row_number_is
 
 pub rows_dots-more : (v : ViewValue) (book : List Frame) (light lit : ℤ) (k i : ℕ) (rows : List WeaponRow) (row : WeaponRow) (art : Art) → lit ≡ light → i < length rows →
     rows_dots v book light k 1 (take i rows) art ++ rows_dots v book lit k (i + 1) (get_or rows i row ∷ []) art ≡ rows_dots v book light k 1 (take (i + 1) rows) art
@@ -136,15 +136,15 @@ pub row_layers-among : (book : List Frame) (light : ℤ) (k n i : ℕ) (rows : L
 unfolding layers_from
 row_layers-among book light k n i [] row layer there has = absurd (omega (arith, there))
 row_layers-among book light k n zero (x ∷ xs) row layer there has =
-    let e : n + 0 ≡ n = omega arith in
+    let number_same : n + 0 ≡ n = omega arith in
     Contains-append_left (row_layers book light k n x) (layers_from book light k (n + 1) xs) layer
     (subst (λ (ls : List WeaponLayer). Contains ls layer) (append-nil (row_layers book light k n x))
-    (subst (λ (m : ℕ). Contains (row_layers book light k m x ++ []) layer) e has))
+    (subst (λ (m : ℕ). Contains (row_layers book light k m x ++ []) layer) number_same has))
 row_layers-among book light k n (suc j) (x ∷ xs) row layer there has =
-    let e : n + suc j ≡ n + 1 + j = omega arith in
+    let number_same : n + suc j ≡ n + 1 + j = omega arith in
     Contains-append_right (row_layers book light k n x) (layers_from book light k (n + 1) xs) layer
     (row_layers-among book light k (n + 1) j xs row layer (omega (arith, there))
-    (subst (λ (m : ℕ). Contains (layers_from book light k m (get_or xs j row ∷ [])) layer) e has))
+    (subst (λ (m : ℕ). Contains (layers_from book light k m (get_or xs j row ∷ [])) layer) number_same has))
 
 -- that of a row of this view is the row's own
 pub row_layer-own : (book : List Frame) (light lit : ℤ) (k n : ℕ) (row : WeaponRow) (layer : WeaponLayer) → lit ≡ light → row.view ≡ k → Some layer ≡ layer_of book lit n row →
@@ -178,5 +178,5 @@ table_layer-among book light k n (x ∷ xs) layer has =
 pub row_layers-first : (book : List Frame) (light : ℤ) (k i : ℕ) (rows : List WeaponRow) (row : WeaponRow) (layer : WeaponLayer) → i < length rows →
     Contains (layers_from book light k (i + 1) (get_or rows i row ∷ [])) layer → Contains (layers_from book light k 1 rows) layer
 row_layers-first book light k i rows row layer there has =
-    let e : i + 1 ≡ 1 + i = omega arith in
-    row_layers-among book light k 1 i rows row layer there (subst (λ (m : ℕ). Contains (layers_from book light k m (get_or rows i row ∷ [])) layer) e has)
+    let is_next : i + 1 ≡ 1 + i = omega arith in
+    row_layers-among book light k 1 i rows row layer there (subst (λ (m : ℕ). Contains (layers_from book light k m (get_or rows i row ∷ [])) layer) is_next has)

@@ -89,9 +89,9 @@ written_full (Ok done) wanted widest' is = absurd (cc)
 written_full (Err write.ReadFault) wanted widest' is = absurd (cc)
 written_full (Err write.WriteFault) wanted widest' is = absurd (cc)
 written_full (Err (write.ZoneFull asked gap)) wanted widest' is =
-    let first : asked ≡ wanted = cc in
-    let second : gap ≡ widest' = cc in
-    rw (first, second) refl
+    let wanted_same : asked ≡ wanted = cc in
+    let widest_same : gap ≡ widest' = cc in
+    rw (wanted_same, widest_same) refl
 
 -- a level that was loaded, and the parts of its trimmed file
 module _ (level : LevelJobValue) (wads : List (List ℕ)) (files : List File) (loaded : LoadedScene) (plan : List TrimPart) (stands : IsLoadedScene level loaded) (is : load_in level wads files ≡ Ok (loaded_value loaded))
@@ -110,12 +110,12 @@ module _ (level : LevelJobValue) (wads : List (List ℕ)) (files : List File) (l
   unfolding load_in
   copied_needed lump copied =
       let value = loaded_value loaded in
-      let a = and_then-ok (files_in level.files wads level.settings files) _ value is in
+      let files_ok = and_then-ok (files_in level.files wads level.settings files) _ value is in
       audited_by (λ l. (pictures : List ℕ) (parts : List TrimPart) → trim_plan l.files.lumps (art_with l.scene pictures) level.map_name ≡ Ok parts → IsCopied parts lump → is_needed l.files.lumps (art_with l.scene pictures) lump ≡ true)
-      (wad_bytes wads files a.0.lumps) level a.0 value (audited_of level wads files a.0 value a.1 is)
+      (wad_bytes wads files files_ok.0.lumps) level files_ok.0 value (audited_of level wads files files_ok.0 value files_ok.1 is)
       (λ scene weapons accepted layers pictures parts plan among.
-      copied-needed (wad_bytes wads files a.0.lumps) a.0.lumps a.0.things level.map_name level.settings.skill scene pictures parts lump
-      (scene_parts (wad_bytes wads files a.0.lumps) a.0.lumps a.0.things level.map_name level.settings.skill scene accepted) plan among)
+      copied-needed (wad_bytes wads files files_ok.0.lumps) files_ok.0.lumps files_ok.0.things level.map_name level.settings.skill scene pictures parts lump
+      (scene_parts (wad_bytes wads files files_ok.0.lumps) files_ok.0.lumps files_ok.0.things level.map_name level.settings.skill scene accepted) plan among)
       (loaded_pictures value) plan (plan_ok _ plan planned) copied
 
   -- what is copied is asked for
