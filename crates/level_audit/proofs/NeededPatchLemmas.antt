@@ -28,12 +28,13 @@ module _ (last : List ℕ → Option ℕ) (bytes : ℕ → List ℕ) (names : Li
   unfolding placed_patches
   patch_placed [] patches e has = among_none entry has
   patch_placed (first ∷ rest) patches e has =
-      let a = some_step (placed_patch last bytes names first) (λ patch. option_map (λ patches. patch ∷ patches) (placed_patches last bytes names rest)) patches e in
-      let b = some_made (placed_patches last bytes names rest) (λ patches. a.0 ∷ patches) patches a.2 in
-      ap (list_any (λ (patch : PlacedPatch). patch.lump == lump)) (sym b.2)
+      let first_patch_is = some_step (placed_patch last bytes names first) (λ patch. option_map (λ patches. patch ∷ patches) (placed_patches last bytes names rest)) patches e in
+      let rest_patches_are = some_made (placed_patches last bytes names rest) (λ patches. first_patch_is.0 ∷ patches) patches first_patch_is.2 in
+      ap (list_any (λ (patch : PlacedPatch). patch.lump == lump)) (sym rest_patches_are.2)
       ∙ elim (among_cases first rest entry has) [
-        | inl same ↦ or_left (a.0.lump == lump) (list_any (λ (patch : PlacedPatch). patch.lump == lump) b.0) (placed_there a.0 (ap (placed_patch last bytes names) (sym same) ∙ a.1))
-        | inr later ↦ or_right (a.0.lump == lump) (list_any (λ (patch : PlacedPatch). patch.lump == lump) b.0) (patch_placed rest b.0 b.1 later)
+        | inl same ↦ or_left (first_patch_is.0.lump == lump) (list_any (λ (patch : PlacedPatch). patch.lump == lump) rest_patches_are.0) (placed_there first_patch_is.0 (ap (placed_patch last bytes names) (sym same) ∙ first_patch_is.1))
+        | inr later ↦ or_right (first_patch_is.0.lump == lump) (list_any (λ (patch : PlacedPatch). patch.lump == lump) rest_patches_are.0)
+            (patch_placed rest rest_patches_are.0 rest_patches_are.1 later)
       ]
 
   -- a prepared texture has the patches that were placed
@@ -66,17 +67,17 @@ module _ (prepare : ℕ → Texture → Result PreparedTexture TexRefusal) (want
   unfolding prepared_from
   some_passes n k [] out e at same = cc
   some_passes n zero (x ∷ ts) out e at same =
-      let a = and_then-ok (prepared_if (wanted n) (prepare n x)) _ out e in
-      let b = and_then-ok (prepared_from prepare wanted (suc n) ts) _ out a.2 in
-      let all : a.0 ∷ b.0 ≡ out = cc in
+      let first_ok = and_then-ok (prepared_if (wanted n) (prepare n x)) _ out e in
+      let rest_ok = and_then-ok (prepared_from prepare wanted (suc n) ts) _ out first_ok.2 in
+      let all : first_ok.0 ∷ rest_ok.0 ≡ out = cc in
       let here : n ≡ m = omega arith in
       let it : x ≡ t = cc in
-      ap (list_any p) (sym all) ∙ or_left (p a.0) (list_any p b.0) (one_passes (wanted n) (prepare n x) a.0 (ap wanted here ∙ chosen) (ap (λ (i : ℕ). prepare i x) here ∙ ap (prepare m) it) a.1)
+      ap (list_any p) (sym all) ∙ or_left (p first_ok.0) (list_any p rest_ok.0) (one_passes (wanted n) (prepare n x) first_ok.0 (ap wanted here ∙ chosen) (ap (λ (i : ℕ). prepare i x) here ∙ ap (prepare m) it) first_ok.1)
   some_passes n (suc k) (x ∷ ts) out e at same =
-      let a = and_then-ok (prepared_if (wanted n) (prepare n x)) _ out e in
-      let b = and_then-ok (prepared_from prepare wanted (suc n) ts) _ out a.2 in
-      let all : a.0 ∷ b.0 ≡ out = cc in
-      ap (list_any p) (sym all) ∙ or_right (p a.0) (list_any p b.0) (some_passes (suc n) k ts b.0 b.1 at (omega arith))
+      let first_ok = and_then-ok (prepared_if (wanted n) (prepare n x)) _ out e in
+      let rest_ok = and_then-ok (prepared_from prepare wanted (suc n) ts) _ out first_ok.2 in
+      let all : first_ok.0 ∷ rest_ok.0 ≡ out = cc in
+      ap (list_any p) (sym all) ∙ or_right (p first_ok.0) (list_any p rest_ok.0) (some_passes (suc n) k ts rest_ok.0 rest_ok.1 at (omega arith))
 
 -- the patch that may be asked for is of one of the prepared textures
 pub wanted_patch : (bytes : ℕ → List ℕ) (lumps : List Lump) (lists : TextureLists) (wanted : ℕ → Bool) (textures : List (Option PreparedTexture)) (lump : ℕ) → prepared_textures (last_of lumps) bytes lists wanted ≡ Ok textures → IsWantedPatch lumps lists wanted lump → is_patch_of_any textures lump ≡ true

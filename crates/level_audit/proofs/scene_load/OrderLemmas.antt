@@ -221,11 +221,11 @@ items_roomy loaded zone fits =
     let needed = is_needed lumps (art_with loaded.scene (loaded_pictures loaded)) in
     let numbers = filter needed (range_with_len 0 (length lumps)) in
     let both = sum_by-append item_block (map (lump_item lumps) numbers) (composite_items 0 prepared) in
-    let first = lump_blocks lumps numbers in
-    let second = composite_blocks prepared 0 in
+    let lump_blocks_sum = lump_blocks lumps numbers in
+    let composite_blocks_sum = composite_blocks prepared 0 in
     record {
       distinct = lumps_distinct lumps needed 0 (length lumps) (composite_items 0 prepared) (λ k. composites_of_lump prepared 0 k) (composites_distinct prepared 0);
-      room = omega (arith, both, first, second, fits);
+      room = omega (arith, both, lump_blocks_sum, composite_blocks_sum, fits);
     }
 
 -- what is live of them has no more bytes that are read than the needed lumps
@@ -237,9 +237,9 @@ items_read loaded blocks =
     let items = map (lump_item lumps) (loaded_lumps loaded) in
     let most = live_most lump_size (items ++ composite_items 0 prepared) blocks in
     let both = sum_by-append lump_size items (composite_items 0 prepared) in
-    let first = lumps_read lumps (loaded_lumps loaded) in
-    let second = composites_unread prepared 0 in
-    omega (arith, most, both, first, second)
+    let lump_sizes_sum = lumps_read lumps (loaded_lumps loaded) in
+    let composites_read_none = composites_unread prepared 0 in
+    omega (arith, most, both, lump_sizes_sum, composites_read_none)
 
 -- a call that keeps a zone in order for them reads no more than the needed lumps
 pub lumps_taken : (loaded : LoadedValue) {old new : Heap} {before after : ℕ} → KeepsOrder (loaded_items loaded) old new before after → after ≤ before + lumps_size loaded

@@ -68,8 +68,8 @@ module _ (lumps : List Lump) where
   unfolding label_of
   map_there name label lump is among =
       let parts = label_parts (last_of lumps name) label (found_or (map_of lumps name) _ label is) in
-      let first = last_there name label parts.0 in
-      let all = named_within lumps (lump_at lumps label).file (suc label) MAP_LUMPS (omega (arith, first)) (label_names label parts.1) in
+      let label_below_count = last_there name label parts.0 in
+      let all = named_within lumps (lump_at lumps label).file (suc label) MAP_LUMPS (omega (arith, label_below_count)) (label_names label parts.1) in
       let last = map_last label lump among in
       omega (arith, all, last)
 
