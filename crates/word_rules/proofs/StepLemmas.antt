@@ -44,8 +44,8 @@ stepped_back first step k n e =
 pub step_at-zero : (first step : ℤ) → FitsSigned w32 first → first ≡ step_at first step 0
 unfolding step_at plus times
 step_at-zero first step f =
-    let none : first +ℤ pos 0 *ℤ step ≡ first = ap (λ (z : ℤ). first +ℤ z) (zero-*ℤ step) ∙ +ℤ_idr first in
-    sym (int_wrap-add_right w32 first (pos 0 *ℤ step) ∙ ap (int_wrap w32) none ∙ int_wrap_fits w32 first f)
+    let no_step_added : first +ℤ pos 0 *ℤ step ≡ first = ap (λ (z : ℤ). first +ℤ z) (zero-*ℤ step) ∙ +ℤ_idr first in
+    sym (int_wrap-add_right w32 first (pos 0 *ℤ step) ∙ ap (int_wrap w32) no_step_added ∙ int_wrap_fits w32 first f)
 
 -- one step more
 pub step_at-more : (first step : ℤ) (k n : ℕ) → k + 1 ≡ n → plus (step_at first step k) step ≡ step_at first step n

@@ -99,10 +99,10 @@ bits_of_word (negsuc n) f = let signed_bounds = f.sfits in omega arith
 pub shl_of_bits : (z : ℤ) (k : ℕ) → FitsSigned w32 z → k < 32 → cast_signed w32 ((cast_unsigned w32 z * 2 ^ k) % 2 ^ 32) ≡ shl_word z k
 unfolding shl_word
 shl_of_bits z k f h =
-    let small : 2 ^ k < 2 ^ 32 = pow-lt h in
-    wrapping_mul-bits w32 (cast_unsigned w32 z) (2 ^ k) (bits_of_word z f) small
+    let power_small : 2 ^ k < 2 ^ 32 = pow-lt h in
+    wrapping_mul-bits w32 (cast_unsigned w32 z) (2 ^ k) (bits_of_word z f) power_small
     ∙ ap (λ (y : ℤ). word (y *ℤ cast_signed w32 (2 ^ k))) (to_z-of_z w32 z f)
-    ∙ ap (λ (y : ℤ). word (z *ℤ y)) (signed_of_bits (2 ^ k) small)
+    ∙ ap (λ (y : ℤ). word (z *ℤ y)) (signed_of_bits (2 ^ k) power_small)
     ∙ int_wrap-mul_right w32 z (pos (2 ^ k))
 
 -- the greater of two is at least the first, and the lesser at most
