@@ -16,7 +16,7 @@ lies contents file bytes lump is lt e off =
     let file_length : length (file_bytes contents lump.file) ≡ length bytes = ap (λ k. length (file_bytes contents k)) is ∙ ap length e in
     record {
       file = omega arith;
-      bytes = λ some. let fits : lump.place + lump.size ≤ length bytes = not_past lump.size lump.place (length bytes) off some in omega arith;
+      bytes = λ some. let lump_fits_file : lump.place + lump.size ≤ length bytes = not_past lump.size lump.place (length bytes) off some in omega arith;
     }
 
 file_within : (contents : List (List ℕ)) (file : ℕ) (bytes : List ℕ) → file < length contents → file_bytes contents file ≡ bytes →
@@ -32,14 +32,14 @@ within_from : (contents : List (List ℕ)) (file before : ℕ) (rest : List (Lis
 unfolding refusal_from lumps_from
 within_from contents file before [] same le none = All-nil (LiesWithin contents)
 within_from contents file before (bytes ∷ rest) same le none =
-    let both = or_else-none (file_refusal file before bytes) (refusal_from (suc file) (before + entry_count (header bytes)) rest) none in
-    let entries = or_else-none (header_refusal file before bytes) (entry_refusal file (length bytes) (file_lumps file bytes)) both.0 in
+    let neither_refused = or_else-none (file_refusal file before bytes) (refusal_from (suc file) (before + entry_count (header bytes)) rest) none in
+    let entries = or_else-none (header_refusal file before bytes) (entry_refusal file (length bytes) (file_lumps file bytes)) neither_refused.0 in
     let file_has_bytes : file_bytes contents file ≡ bytes = ap (file_bytes contents) (sym (add-zero file)) ∙ same 0 (omega arith) in
     All-append (LiesWithin contents) (file_lumps file bytes) (lumps_from (suc file) rest)
     (file_within contents file bytes (omega arith) file_has_bytes entries.1)
     (within_from contents (suc file) (before + entry_count (header bytes)) rest
     (λ k lt. let file_number_same : suc file + k ≡ file + suc k = omega arith in ap (file_bytes contents) file_number_same ∙ same (suc k) (omega arith))
-    (omega arith) both.1)
+    (omega arith) neither_refused.1)
 
 -- each lump of a directory lies within its file
 pub directory_within : (contents : List (List ℕ)) (lumps : List Lump) → directory contents ≡ Ok lumps → AllWithin contents lumps
