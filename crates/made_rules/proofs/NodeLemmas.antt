@@ -49,14 +49,14 @@ back-piece part d = (pieces_by part (divides_columns part) refl d).1
 pub front-is_part : (part piece : Part) → IsPart part → is_one_cell part ≡ false → piece ≡ front_part part → IsPart piece
 front-is_part part piece p e f =
     let front : IsPiece part (front_part part) = front-piece part (divisible part p.columns p.rows e) in
-    let within : IsPart (front_part part) = record { columns = front.columns; rows = front.rows; east = omega arith; north = omega arith } in
-    subst IsPart (sym f) within
+    let front_within : IsPart (front_part part) = record { columns = front.columns; rows = front.rows; east = omega arith; north = omega arith } in
+    subst IsPart (sym f) front_within
 
 pub back-is_part : (part piece : Part) → IsPart part → is_one_cell part ≡ false → piece ≡ back_part part → IsPart piece
 back-is_part part piece p e f =
     let back : IsPiece part (back_part part) = back-piece part (divisible part p.columns p.rows e) in
-    let within : IsPart (back_part part) = record { columns = back.columns; rows = back.rows; east = omega arith; north = omega arith } in
-    subst IsPart (sym f) within
+    let back_within : IsPart (back_part part) = record { columns = back.columns; rows = back.rows; east = omega arith; north = omega arith } in
+    subst IsPart (sym f) back_within
 
 pub front-smaller :
     (part piece : Part) → IsPart part → is_one_cell part ≡ false → piece ≡ front_part part → width piece + height piece < width part + height part
@@ -177,13 +177,13 @@ part_nodes-parts bytes side first part within e =
     = enough depth (width (back_part part) + height (back_part part)) side (first + node_count (front_part part)) (back_part part) back.columns back.rows (omega arith) (omega arith) in
     let deeper : part_nodes side first part ≡ nodes_within (suc depth) side first part
     = enough depth (suc depth) side first part columns_ordered rows_ordered (omega arith) (omega arith) in
-    let whole :
+    let nodes_are_joined :
     part_nodes side first part
     ≡ nodes_within depth side first (front_part part)
     ++ nodes_within depth side (first + node_count (front_part part)) (back_part part)
     ++ node_bytes side first part
     = deeper ∙ this_list (is_one_cell part) _ e in
-    joined bytes (part_nodes side first (front_part part)) (part_nodes side (first + node_count (front_part part)) (back_part part)) (node_bytes side first part) _ _ _ front_nodes_are back_nodes_are whole
+    joined bytes (part_nodes side first (front_part part)) (part_nodes side (first + node_count (front_part part)) (back_part part)) (node_bytes side first part) _ _ _ front_nodes_are back_nodes_are nodes_are_joined
 
 line_length : (part : Part) (b : Bool) → length (cond b (halves ((CELL_SIZE * made_middle_column part) ∷ (CELL_SIZE * part.south) ∷ 0 ∷ (CELL_SIZE * height part) ∷ [])) (halves ((CELL_SIZE * part.west) ∷ (CELL_SIZE * middle_row part) ∷ (CELL_SIZE * width part) ∷ 0 ∷ []))) ≡ 8
 unfolding halves half
