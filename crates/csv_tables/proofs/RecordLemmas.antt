@@ -26,19 +26,19 @@ next-at_end : (cfg : Config) (s : State) (fields : List (List ℕ)) (field : Lis
 unfolding next_record
 next-at_end cfg s fields field p e =
     elim (if_some (ends_at_end s) (Some (fields ++ (field ∷ []), st.StartRecord, [])) None p e) [
-      | inl h ↦ let same : ◌≡◌ {A = Read} (fields ++ (field ∷ []), st.StartRecord, []) p = cc in (sym (ap (λ (q : Read). q.1) same), sym (ap (λ (q : Read). q.2) same))
+      | inl h ↦ let read_is : ◌≡◌ {A = Read} (fields ++ (field ∷ []), st.StartRecord, []) p = cc in (sym (ap (λ (q : Read). q.1) read_is), sym (ap (λ (q : Read). q.2) read_is))
       | inr h ↦ absurd (none-some p h)
     ]
 
 -- a record leaves no more bytes than there were, and fewer where there were any
 next-shorter : (cfg : Config) (s : State) (fields : List (List ℕ)) (field xs : List ℕ) (p : Read) → next_record cfg s fields field xs ≡ Some p → length p.2 ≤ length xs
 unfolding next_record
-next-shorter cfg s fields field [] p e = let none = next-at_end cfg s fields field p e in let len : length p.2 ≡ 0 = ap length none.1 in omega arith
+next-shorter cfg s fields field [] p e = let at_end = next-at_end cfg s fields field p e in let none_left : length p.2 ≡ 0 = ap length at_end.1 in omega arith
 next-shorter cfg s fields field (c ∷ rest) p e =
     elim (if_some (is_end (step cfg s c).1) (Some (fields_after (step cfg s c).1 fields field, (step cfg s c).0, rest)) (next_record cfg (step cfg s c).0 (fields_after (step cfg s c).1 fields field) (field_after (step cfg s c).1 c field) rest) p e) [
       | inl h ↦
-          let same : ◌≡◌ {A = Read} (fields_after (step cfg s c).1 fields field, (step cfg s c).0, rest) p = cc in
-          let len : length rest ≡ length p.2 = ap (λ (q : Read). length q.2) same in
+          let read_is : ◌≡◌ {A = Read} (fields_after (step cfg s c).1 fields field, (step cfg s c).0, rest) p = cc in
+          let rest_length_same : length rest ≡ length p.2 = ap (λ (q : Read). length q.2) read_is in
           omega arith
       | inr h ↦ let less = next-shorter cfg (step cfg s c).0 (fields_after (step cfg s c).1 fields field) (field_after (step cfg s c).1 c field) rest p h in omega arith
     ]
@@ -48,8 +48,8 @@ unfolding next_record
 next-fewer cfg s fields field c rest p e =
     elim (if_some (is_end (step cfg s c).1) (Some (fields_after (step cfg s c).1 fields field, (step cfg s c).0, rest)) (next_record cfg (step cfg s c).0 (fields_after (step cfg s c).1 fields field) (field_after (step cfg s c).1 c field) rest) p e) [
       | inl h ↦
-          let same : ◌≡◌ {A = Read} (fields_after (step cfg s c).1 fields field, (step cfg s c).0, rest) p = cc in
-          let len : length rest ≡ length p.2 = ap (λ (q : Read). length q.2) same in
+          let read_is : ◌≡◌ {A = Read} (fields_after (step cfg s c).1 fields field, (step cfg s c).0, rest) p = cc in
+          let rest_length_same : length rest ≡ length p.2 = ap (λ (q : Read). length q.2) read_is in
           omega arith
       | inr h ↦ next-shorter cfg (step cfg s c).0 (fields_after (step cfg s c).1 fields field) (field_after (step cfg s c).1 c field) rest p h
     ]
@@ -64,9 +64,9 @@ reached-last : (cfg : Config) (s s2 : State) (ys : List ℕ) (r : List (List ℕ
 unfolding Reached
 reached-last cfg s s2 ys r [] h = refl
 reached-last cfg s s2 ys r (q ∷ qs) h =
-    let at = next-at_end cfg s [] [] h.0 h.1 in
-    let more : next_record cfg h.0.1 [] [] h.0.2 ≡ Some h.3.0 = h.3.1 in
-    absurd (none-some h.3.0 (sym (start-none cfg) ∙ rw (at.0, at.1) at more))
+    let ends_empty = next-at_end cfg s [] [] h.0 h.1 in
+    let next_is : next_record cfg h.0.1 [] [] h.0.2 ≡ Some h.3.0 = h.3.1 in
+    absurd (none-some h.3.0 (sym (start-none cfg) ∙ rw (ends_empty.0, ends_empty.1) at next_is))
 
 no-more : (cfg : Config) (m n : ℕ) → take n (records_from cfg m st.StartRecord []) ≡ []
 unfolding records_from next_record
@@ -85,8 +85,8 @@ reached-take cfg s s2 [] ys (r ∷ rs) (suc m) h l =
     rw (h.1, no_more_rows) (ap (λ (t : List (List ℕ)). t ∷ []) (sym h.2))
 reached-take cfg s s2 (c ∷ xs) ys (r ∷ rs) (suc m) h l =
     let fewer = next-fewer cfg s [] [] c xs h.0 h.1 in
-    let more = reached-take cfg h.0.1 s2 h.0.2 ys rs m h.3 (omega arith) in
-    rw (h.1, more) (ap (λ (t : List (List ℕ)). t ∷ rs) (sym h.2))
+    let rest_reached = reached-take cfg h.0.1 s2 h.0.2 ys rs m h.3 (omega arith) in
+    rw (h.1, rest_reached) (ap (λ (t : List (List ℕ)). t ∷ rs) (sym h.2))
 
 -- and all of them where none comes after
 reached-end : (cfg : Config) (s s2 : State) (xs ys : List ℕ) (rows : List (List (List ℕ))) (m n : ℕ) → Reached cfg s xs rows s2 ys → next_record cfg s2 [] [] ys ≡ None → length xs < m → length rows ≤ n → take n (records_from cfg m s xs) ≡ rows
@@ -98,13 +98,13 @@ reached-end cfg s s2 xs ys (r ∷ rs) m zero h e l k = absurd (omega arith)
 reached-end cfg s s2 xs ys (r ∷ rs) zero (suc n) h e l k = absurd (omega arith)
 reached-end cfg s s2 [] ys (r ∷ rs) (suc m) (suc n) h e l k =
     let no_more_rows = reached-last cfg s s2 ys r rs h in
-    let at = next-at_end cfg s [] [] h.0 h.1 in
+    let ends_empty = next-at_end cfg s [] [] h.0 h.1 in
     let after = no-more cfg m n in
-    rw (h.1, at.0, at.1, after, no_more_rows) (ap (λ (t : List (List ℕ)). t ∷ []) (sym h.2))
+    rw (h.1, ends_empty.0, ends_empty.1, after, no_more_rows) (ap (λ (t : List (List ℕ)). t ∷ []) (sym h.2))
 reached-end cfg s s2 (c ∷ xs) ys (r ∷ rs) (suc m) (suc n) h e l k =
     let fewer = next-fewer cfg s [] [] c xs h.0 h.1 in
-    let more = reached-end cfg h.0.1 s2 h.0.2 ys rs m n h.3 e (omega arith) (omega arith) in
-    rw (h.1, more) (ap (λ (t : List (List ℕ)). t ∷ rs) (sym h.2))
+    let rest_reached = reached-end cfg h.0.1 s2 h.0.2 ys rs m n h.3 e (omega arith) (omega arith) in
+    rw (h.1, rest_reached) (ap (λ (t : List (List ℕ)). t ∷ rs) (sym h.2))
 
 -- a loop that stops at its limit
 pub first_records-full : (n : ℕ) (bytes ys : List ℕ) (s2 : State) (rows : List (List (List ℕ))) → Reached default_config st.StartRecord (strip_bom bytes) rows s2 ys → length rows ≡ n → rows ≡ take n (csv_records bytes)
@@ -150,13 +150,13 @@ pub ruleset header_steps = (is_header-length, is_header-step, is_header-end)
 -- one field more of a header, and the end of the names
 pub is_header-at : (names : List (Bor (List ℕ))) (fields : List (List ℕ)) (i : ℕ) (text : List ℕ) (r : Bool) → i < length names → length fields ≡ length names → r ≡ option_map_or (λ f. bytes_eq f text) (field_at fields i) false → get_or (map (λ n. n.now) names) i [] ≡ text → is_header (drop i (map (λ n. n.now) names)) (drop i fields) ≡ (r && is_header (drop (i + 1) (map (λ n. n.now) names)) (drop (i + 1) fields))
 is_header-at names fields i text r l e h g =
-    let len : length (map (λ (n : Bor (List ℕ)). n.now) names) ≡ length names = length-map names (λ n. n.now) in
-    rw (h, ← g) (is_header-step (map (λ n. n.now) names) fields i (rw len l) (e ∙ sym len))
+    let name_count : length (map (λ (n : Bor (List ℕ)). n.now) names) ≡ length names = length-map names (λ n. n.now) in
+    rw (h, ← g) (is_header-step (map (λ n. n.now) names) fields i (rw name_count l) (e ∙ sym name_count))
 
 pub is_header-done : (names : List (Bor (List ℕ))) (fields : List (List ℕ)) (i : ℕ) → length names ≤ i → length fields ≡ length names → is_header (drop i (map (λ n. n.now) names)) (drop i fields) ≡ true
 is_header-done names fields i l e =
-    let len : length (map (λ (n : Bor (List ℕ)). n.now) names) ≡ length names = length-map names (λ n. n.now) in
-    let no_names_left : drop i (map (λ (n : Bor (List ℕ)). n.now) names) ≡ [] = drop_of_length-le (map (λ (n : Bor (List ℕ)). n.now) names) (rw len l) in
+    let name_count : length (map (λ (n : Bor (List ℕ)). n.now) names) ≡ length names = length-map names (λ n. n.now) in
+    let no_names_left : drop i (map (λ (n : Bor (List ℕ)). n.now) names) ≡ [] = drop_of_length-le (map (λ (n : Bor (List ℕ)). n.now) names) (rw name_count l) in
     let no_fields_left : drop i fields ≡ [] = drop_of_length-le fields (rw e l) in
     rw (no_names_left, no_fields_left) is_header-end
 

@@ -30,8 +30,8 @@ rows_after-err read rows [] refusal e = absurd (ok-err rows refusal e)
 rows_after-err read rows (fields ∷ rest) refusal e =
     elim (parted (read rows (length rows + 1) fields)) [
       | inl taken ↦
-          let more : rows_after read (rows ++ taken.0 ∷ []) rest ≡ Err refusal = rw taken.1 at e in
-          let refused_record = rows_after-err read (rows ++ taken.0 ∷ []) rest refusal more in (
+          let rest_refused : rows_after read (rows ++ taken.0 ∷ []) rest ≡ Err refusal = rw taken.1 at e in
+          let refused_record = rows_after-err read (rows ++ taken.0 ∷ []) rest refusal rest_refused in (
             suc refused_record.0,
             omega (arith, refused_record.1),
             record {
@@ -41,8 +41,8 @@ rows_after-err read rows (fields ∷ rest) refusal e =
             },
           )
       | inr refused ↦
-          let same : refused.0 ≡ refusal = err-same refused.0 refusal (rw refused.1 at e) in
-          (0, omega arith, record { before = rows; taken = refl; is_read = refused.1 ∙ ap Err same })
+          let refusal_same : refused.0 ≡ refusal = err-same refused.0 refusal (rw refused.1 at e) in
+          (0, omega arith, record { before = rows; taken = refl; is_read = refused.1 ∙ ap Err refusal_same })
     ]
 
 -- where it is not, there is a row for each record
@@ -53,8 +53,8 @@ rows_after-length read rows all [] e = let same : rows ≡ all = cc in let lengt
 rows_after-length read rows all (fields ∷ rest) e =
     elim (parted (read rows (length rows + 1) fields)) [
       | inl taken ↦
-          let more : rows_after read (rows ++ taken.0 ∷ []) rest ≡ Ok all = rw taken.1 at e in
-          let all_length = rows_after-length read (rows ++ taken.0 ∷ []) all rest more in
+          let rest_accepted : rows_after read (rows ++ taken.0 ∷ []) rest ≡ Ok all = rw taken.1 at e in
+          let all_length = rows_after-length read (rows ++ taken.0 ∷ []) all rest rest_accepted in
           let longer_by_row : length (rows ++ taken.0 ∷ []) ≡ length rows + 1 = length-append rows (taken.0 ∷ []) in
           omega (arith, all_length, longer_by_row)
       | inr refused ↦ absurd (ok-err all refused.0 (sym e ∙ rw refused.1 refl))
@@ -69,12 +69,12 @@ rows_after-within read limit rows all [] past l e = let same : rows ≡ all = cc
 rows_after-within read limit rows all (fields ∷ rest) past l e =
     elim (parted (read rows (length rows + 1) fields)) [
       | inl taken ↦
-          let more : rows_after read (rows ++ taken.0 ∷ []) rest ≡ Ok all = rw taken.1 at e in
+          let rest_accepted : rows_after read (rows ++ taken.0 ∷ []) rest ≡ Ok all = rw taken.1 at e in
           elim (cases_eq (length rows) limit) [
             | inl full ↦ absurd (ok-err taken.0 TooMany (sym taken.1 ∙ past rows (length rows + 1) fields (omega (arith, full))))
             | inr free ↦
                 let longer_by_row : length (rows ++ taken.0 ∷ []) ≡ length rows + 1 = length-append rows (taken.0 ∷ []) in
-                rows_after-within read limit (rows ++ taken.0 ∷ []) all rest past (omega (arith, l, free, longer_by_row)) more
+                rows_after-within read limit (rows ++ taken.0 ∷ []) all rest past (omega (arith, l, free, longer_by_row)) rest_accepted
           ]
       | inr refused ↦ absurd (ok-err all refused.0 (sym e ∙ rw refused.1 refl))
     ]

@@ -33,8 +33,8 @@ pub loop-row-preserved : goal.loop-row-preserved
 loop-row-preserved c =
     let inv = c.loop-row.invariant in
     let next_record = rw (c.in-Some.is, c.in-Ok.is) at ((c.next.ensures.steps inv.2 inv.0).0 inv.1) in
-    let good : is_ok c.push.result ≡ true = search rules in
-    let items = rw good at c.push.ensures.items in
+    let push_is_ok : is_ok c.push.result ≡ true = search rules in
+    let items = rw push_is_ok at c.push.ensures.items in
     let rows_reached = rows-more (λ (s : Bor (List ℕ)). Some s.now) c.loop-row.row-iterator.rdr c.next.new.self.rdr (fields_of c.in-Ok.fields) default_config st.StartRecord (strip_bom c.args.bytes.now) inv.4 (map fields_of c.loop-row.rows.items) inv.3 inv.5 inv.6 next_record.0 in (
       next_record.0.3 ∙ inv.0,
       inl next_record.1,
@@ -64,5 +64,5 @@ pub prove-unreachable-requires : goal.prove-unreachable-requires
 prove-unreachable-requires c =
     let inv = c.loop-row.invariant in
     let next_refused = rw (c.in-Some.is, c.in-Err.is) at ((c.next.ensures.steps inv.2 inv.0).0 inv.1) in
-    let off = any-length (λ (s : Bor (List ℕ)). Some s.now) c.loop-row.row-iterator.rdr c.next.new.self.rdr c.in-Err.error.kind inv.8 next_refused in
-    true-false (sym c.if-prove.true ∙ c.is_of_length-refused.ensures ∙ off)
+    let not_of_length = any-length (λ (s : Bor (List ℕ)). Some s.now) c.loop-row.row-iterator.rdr c.next.new.self.rdr c.in-Err.error.kind inv.8 next_refused in
+    true-false (sym c.if-prove.true ∙ c.is_of_length-refused.ensures ∙ not_of_length)
