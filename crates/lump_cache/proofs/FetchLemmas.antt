@@ -40,9 +40,9 @@ live_faithful contents dir z lump there faithful live = go (holding_of (lump_own
   go : (h : Option Holding) → holding_of (lump_owner lump) z.blocks ≡ h → IsSome h → bytes_of (lump_owner lump) z.blocks ≡ Some (lump_bytes contents dir.lumps lump)
   go None e k = cc
   go (Some h) e k =
-      let is : bytes_of (lump_owner lump) z.blocks ≡ Some h.bytes = rw e refl in
-      let same : h.bytes ≡ lump_bytes contents dir.lumps lump = subst (λ x. IfSome x (λ bytes. bytes ≡ lump_bytes contents dir.lumps lump)) is (faithful.at lump there) in
-      is ∙ ap Some same
+      let owner_has_bytes : bytes_of (lump_owner lump) z.blocks ≡ Some h.bytes = rw e refl in
+      let bytes_faithful : h.bytes ≡ lump_bytes contents dir.lumps lump = subst (λ x. IfSome x (λ bytes. bytes ≡ lump_bytes contents dir.lumps lump)) owner_has_bytes (faithful.at lump there) in
+      owner_has_bytes ∙ ap Some bytes_faithful
 
 module _ {dir : DirectoryView} {lump : ℕ} {tag : Tag} {view after : ShelfView} {old new : Heap} {result : Result (Unit {0}) CacheFault} (f : FetchesLump dir lump tag view after old new result) where
   abbrev owner : Owner

@@ -28,8 +28,8 @@ module _ (o : Owner) (b : Block) where
   around_step c bs once u k later e true h =
       let first_is_owned : Some c ≡ Some b = sym (cond-true (is_held_by o c) (Some c) (owned_block o bs) h) ∙ e in
       let block_same : c ≡ b = cc in
-      let here : Around c (c ∷ bs) = record { front = []; back = bs; is = refl; open_front = tt; open_back = all_open o bs u (lacks_held o c.holding bs h once) (others_behind o c bs once k) } in
-      subst (λ (x : Block). Around x (c ∷ bs)) block_same here
+      let around_first : Around c (c ∷ bs) = record { front = []; back = bs; is = refl; open_front = tt; open_back = all_open o bs u (lacks_held o c.holding bs h once) (others_behind o c bs once k) } in
+      subst (λ (x : Block). Around x (c ∷ bs)) block_same around_first
   around_step c bs once u k later e false h =
       let around_rest = later (sym (cond-false (is_held_by o c) (Some c) (owned_block o bs) h) ∙ e) in
       record { front = c ∷ around_rest.front; back = around_rest.back; is = ap (λ xs. c ∷ xs) around_rest.is; open_front = (front_open o c bs c.holding refl h k, around_rest.open_front); open_back = around_rest.open_back }
@@ -71,9 +71,9 @@ two_gaps w b bs some r k = go (is_pinned b) refl where
 -- where that block is pinned, they have what the others have
 around_within : (b : Block) (front back : List Block) → is_pinned b ≡ true → widest (gaps (front ++ (b ∷ back))) ≤ total front + total back
 around_within b [] back p =
-    let same = ap widest (gaps_behind b back p) in
+    let widest_same = ap widest (gaps_behind b back p) in
     let widest_at_most = widest_within back in
-    omega (arith, same, widest_at_most)
+    omega (arith, widest_same, widest_at_most)
 around_within b (c ∷ front) back p =
     let widest_at_most = around_within b front back p in
     let widest_grows = widest_more c (front ++ (b ∷ back)) in
@@ -82,10 +82,10 @@ around_within b (c ∷ front) back p =
 
 around_most : (b : Block) (bs : List Block) → is_pinned b ≡ true → Around b bs → widest (gaps bs) + b.size ≤ total bs
 around_most b bs p r =
-    let same = ap (λ xs. widest (gaps xs)) r.is in
+    let widest_same = ap (λ xs. widest (gaps xs)) r.is in
     let widest_at_most = around_within b r.front r.back p in
-    let sum : total bs ≡ total r.front + (b.size + total r.back) = ap total r.is ∙ sum_by-append (λ (c : Block). c.size) r.front (b ∷ r.back) ∙ ap (λ n. total r.front + n) (total-cons b r.back) in
-    omega (arith, same, widest_at_most, sum)
+    let total_is : total bs ≡ total r.front + (b.size + total r.back) = ap total r.is ∙ sum_by-append (λ (c : Block). c.size) r.front (b ∷ r.back) ∙ ap (λ n. total r.front + n) (total-cons b r.back) in
+    omega (arith, widest_same, widest_at_most, total_is)
 
 -- a zone at rest but for a block of so many bytes
 module _ (colormap size : ℕ) (o : Owner) (asked : ℕ) (z : Heap) (rest : IsAtRestExcept colormap size (o ∷ []) z) (apart : same_owner (lump_owner colormap) o ≡ false) where
@@ -107,12 +107,12 @@ module _ (colormap size : ℕ) (o : Owner) (asked : ℕ) (z : Heap) (rest : IsAt
         go r (Some b) e h p =
             let widest_gap : ℕ = widest (gaps r.rest) in
             let around' = around o b r.rest r.unique (others_open r) e in
-            let few = two_gaps (widest_gap + 1) b r.rest (omega arith) around' (all_small (widest_gap + 1) (gaps r.rest) (omega arith)) in
-            let most = around_most b r.rest p around' in
-            let fits = owned_fits o b z.lumps z.composites r.rest r.fits e in
-            let large = asked_size z.lumps z.composites b.size asked b.holding h fits in
-            let least = asked_least z.lumps z.composites b.size asked b.holding h fits in
-            subst (IsGapBesideTwo z.size (block_size size + block_size asked)) (sym (ap widest r.gaps_are)) (omega (arith, most, least, r.least), omega (arith, few, large, r.sum))
+            let total_at_most = two_gaps (widest_gap + 1) b r.rest (omega arith) around' (all_small (widest_gap + 1) (gaps r.rest) (omega arith)) in
+            let widest_with_block = around_most b r.rest p around' in
+            let block_fits = owned_fits o b z.lumps z.composites r.rest r.fits e in
+            let large = asked_size z.lumps z.composites b.size asked b.holding h block_fits in
+            let size_at_least = asked_least z.lumps z.composites b.size asked b.holding h block_fits in
+            subst (IsGapBesideTwo z.size (block_size size + block_size asked)) (sym (ap widest r.gaps_are)) (omega (arith, widest_with_block, size_at_least, r.least), omega (arith, total_at_most, large, r.sum))
 
 -- the same by what a call without room reports
 pub gap_of_except : (n : ℕ) (z : Heap) (wanted widest' : ℕ) → IsSound z → NoRoom n z wanted widest' → (colormap size : ℕ) (o : Owner) (asked : ℕ) → IsAtRestExcept colormap size (o ∷ []) z → same_owner (lump_owner colormap) o ≡ false → HasAsked asked (owned_block o z.blocks) → IsPinned (owned_block o z.blocks) → IsGapBesideTwo z.size (block_size size + block_size asked) widest'

@@ -79,8 +79,8 @@ module _ (o : Owner) where
   pub front_open : (b : Block) (bs : List Block) (x : Option Holding) → b.holding ≡ x → holds_for o x ≡ false → OthersOpen (b ∷ bs) → pins x ≡ false
   front_open b bs None e h k = refl
   front_open b bs (Some x) e h k =
-      let held : is_held_by x.owner b ≡ true = ap (holds_for x.owner) e ∙ owner_self x.owner in
-      ap pins (sym e) ∙ subst IsUnpinned (cond-true (is_held_by x.owner b) (Some b) (owned_block x.owner bs) held) (k x.owner (owner_turned x.owner o h))
+      let owner_holds : is_held_by x.owner b ≡ true = ap (holds_for x.owner) e ∙ owner_self x.owner in
+      ap pins (sym e) ∙ subst IsUnpinned (cond-true (is_held_by x.owner b) (Some b) (owned_block x.owner bs) owner_holds) (k x.owner (owner_turned x.owner o h))
 
   pub all_open : (bs : List Block) → Unique bs → Lacks o bs → OthersOpen bs → AllOpen bs
   all_open [] u l k = tt
@@ -153,7 +153,7 @@ module _ (o : Owner) (size : ℕ) (z : Heap) (block : Block) (place : block.plac
       let owner_holds_first = first_is b bs t e in
       let first_is_static = first_static b bs owner_holds_first e in
       let large = asked_size z.lumps z.composites b.size size b.holding (static_asked size b.holding first_is_static) f.0 in
-      let small = asked_least z.lumps z.composites b.size size b.holding (static_asked size b.holding first_is_static) f.0 in
+      let size_at_least = asked_least z.lumps z.composites b.size size b.holding (static_asked size b.holding first_is_static) f.0 in
       let ends = tiles_end (0 + b.size) z.size bs t.2 in
       record {
         rest = bs;
@@ -162,7 +162,7 @@ module _ (o : Owner) (size : ℕ) (z : Heap) (block : Block) (place : block.plac
         fits = f.1;
         gaps_are = ap gaps is ∙ gaps_behind b bs (static_pinned size b.holding first_is_static);
         sum = omega (arith, large, ends);
-        least = omega (arith, small, ends);
+        least = omega (arith, size_at_least, ends);
         owned = λ q apart. ap (owned_block q) is ∙ cond-false (is_held_by q b) (Some b) (owned_block q bs) (held_once o q b.holding owner_holds_first apart);
       }
 
@@ -188,10 +188,10 @@ gap_of_rest n z wanted widest' sound full colormap size rest =
 -- a zone without a live block is one gap
 empty_gap : (z : Heap) → IsEmpty z → IsSound z → widest (gaps z.blocks) ≡ z.size
 empty_gap z none sound =
-    let is = empty_is z.size z.blocks sound.tiles sound.apart none (sound_size z sound) in
-    let same = ap (λ bs. widest (gaps bs)) is in
-    let sum = total-cons (free_block 0 z.size) [] in
-    omega (arith, same, sum)
+    let one_free_block = empty_is z.size z.blocks sound.tiles sound.apart none (sound_size z sound) in
+    let widest_same = ap (λ bs. widest (gaps bs)) one_free_block in
+    let total_is = total-cons (free_block 0 z.size) [] in
+    omega (arith, widest_same, total_is)
 
 pub gap_of_empty : (n : ℕ) (z : Heap) (wanted widest' : ℕ) → IsSound z → NoRoom n z wanted widest' → IsEmpty z → widest' ≡ z.size
 gap_of_empty n z wanted widest' sound full none = full.widest_is ∙ empty_gap z none sound

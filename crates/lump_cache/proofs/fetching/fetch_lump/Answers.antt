@@ -95,7 +95,7 @@ pub returns-in-Ok-clause-fetches : goal.returns-in-Ok-clause-fetches
 returns-in-Ok-clause-fetches g c =
     let after_read = (goal.at.returns-in-Ok-clause-fetches g c).After-read_into in
     let old = c.args.zone.now in
-    let made = c.malloc.new.self in
+    let zone_made = c.malloc.new.self in
     let new = c.read_into.new.zone in
     let owner = lump_owner c.args.lump.0 in
     let lump = lump_at c.args.dir.now.lumps c.args.lump.0 in
@@ -103,10 +103,10 @@ returns-in-Ok-clause-fetches g c =
     let after = g.S.Shelf.view c.read_into.new.shelf in
     let block_filled = c.read_into.ensures.filled in
     let takes_block = taken g after_read in
-    let len = written_len owner _ c.args.tag old made new _ takes_block block_filled in
+    let bytes_length = written_len owner _ c.args.tag old zone_made new _ takes_block block_filled in
     miss_ok c.args.dir.now c.args.lump.0 c.args.tag view old c.requires.sound new (search rules) (others g after_read)
     after (room old _ _ c.size-size.ensures c.in_ok-malloc.ensures.full.1) c.read_into.ensures.follows (filled g after_read)
-    (λ contents stand. some_bytes owner new.blocks block_filled.bytes _ (written_bytes owner _ c.args.tag old made new _ takes_block block_filled) (filled_lump contents c.args.dir.now.lumps view c.args.dir.now.files c.args.lump.0 c.file.result c.place.result block_filled.bytes stand c.file.ensures c.place.ensures len (rw c.in-Ok.is at block_filled.says)))
+    (λ contents stand. some_bytes owner new.blocks block_filled.bytes _ (written_bytes owner _ c.args.tag old zone_made new _ takes_block block_filled) (filled_lump contents c.args.dir.now.lumps view c.args.dir.now.files c.args.lump.0 c.file.result c.place.result block_filled.bytes stand c.file.ensures c.place.ensures bytes_length (rw c.in-Ok.is at block_filled.says)))
     (λ some. subst (λ (b : Option (List ℕ)). IfSome b (λ xs. after.taken ≡ counted view.taken (length xs))) (ap bytes_in takes_block.block) c.in-Ok.ensures.taken ∙ ap (counted view.taken) takes_block.len)
     (λ zero. absurd (c.if-size-eq0.false (c.size-size.ensures ∙ zero)))
 
@@ -119,14 +119,14 @@ steady_read g c contents stand within steady =
     let view = g.S.Shelf.view c.args.shelf.now in
     let lies : LiesWithin contents lump = within c.args.lump.0 no_lump c.requires.listed in
     let size = c.size-size.ensures in
-    let some : 0 < lump.size = pos_size c.size-size.result lump.size size c.if-size-eq0.false in
-    let fits = lies.bytes some in
-    let at = c.place.ensures in
-    let len = takes_block.len in
+    let lump_not_empty : 0 < lump.size = pos_size c.size-size.result lump.size size c.if-size-eq0.false in
+    let lump_fits_file = lies.bytes lump_not_empty in
+    let place_is = c.place.ensures in
+    let block_length = takes_block.len in
     let file = file_stands view c.args.dir.now.files contents lump.file c.file.result stand c.file.ensures in
     let fails_in_file = subst (λ (x : Option (List ℕ)). IfSome x (λ bytes. IfSome (bytes_of (lump_owner c.args.lump.0) c.malloc.new.self.blocks) (λ xs. c.place.result + length xs ≤ length bytes → false ≡ true))) file steady in
     let fails_within = subst (λ (x : Option (List ℕ)). IfSome x (λ xs. c.place.result + length xs ≤ length (file_bytes contents lump.file) → false ≡ true)) (ap bytes_in takes_block.block) fails_in_file in
-    false≢true (fails_within (omega (arith, fits, at, len))) where
+    false≢true (fails_within (omega (arith, lump_fits_file, place_is, block_length))) where
       pos_size : (n m : ℕ) → n ≡ m → (n ≡ 0 → ⊥) → 0 < m
       pos_size n m e h = go (cases_lt 0 m) where
         go : (0 < m) ⊎ (m ≤ 0) → 0 < m
