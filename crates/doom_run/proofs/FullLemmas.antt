@@ -45,7 +45,7 @@ delivers_held (Err refusal) accept e = cc
 absent_load : (loading : Result LoadedValue (Stop Refusal)) (next : LoadedValue → Result Accepted (Stop Refusal)) → ((loaded : LoadedValue) → next loaded ≡ Err files.absent → ⊥) →
     and_then loading next ≡ Err files.absent → loading ≡ Err files.absent
 absent_load (Ok loaded) next held e = absurd (held loaded e)
-absent_load (Err stop) next held e = let same : stop ≡ files.absent = cc in ap (λ (s : Stop Refusal). Err s) same
+absent_load (Err stop) next held e = let stop_is_absent : stop ≡ files.absent = cc in ap (λ (s : Stop Refusal). Err s) stop_is_absent
 
 -- one that accepts has loaded, and its zone is enough for what was loaded
 enough_of : {R : Type 0} (enough : ℕ) (made : Result Written R) (accepted : Accepted) → and_then (no_file made) (λ written. Ok (record { output = written.output; end = written.end; enough = enough })) ≡ Ok accepted → accepted.enough ≡ enough
@@ -64,7 +64,7 @@ below_absent (Err files.absent) e = refl
 below_absent (Err (files.stopped refusal)) e = absurd (cc)
 
 below_accepted : {A : Type 0} (expected : Result A (Stop Refusal)) (value : A) → from_below at_step expected ≡ Ok value → expected ≡ Ok value
-below_accepted (Ok found) value e = let same : found ≡ value = cc in ap Ok same
+below_accepted (Ok found) value e = let value_same : found ≡ value = cc in ap Ok value_same
 below_accepted (Err stop) value e = absurd (cc)
 
 -- where a zone is full, no file is absent

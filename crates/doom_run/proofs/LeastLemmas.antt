@@ -45,7 +45,7 @@ by_test true m x y zone on off = on refl
 by_test false m x y zone on off = off refl
 
 not_same : (x y : ℕ) → (x == y) ≡ false → x ≢ y
-not_same x y e same = absurd (let on = eq-eqb x y same in cc)
+not_same x y e same = absurd (let numbers_same = eq-eqb x y same in cc)
 
 -- what a painter reads
 module _ (lumps : List Lump) (textures : TexturesView) (colormap zone : ℕ) (least : lump_block lumps colormap ≤ zone) where

@@ -36,10 +36,10 @@ lines-append : {A : Type 0} (line : ℕ → A → List ℕ) (k : ℕ) (xs ys : L
 unfolding lines_from
 lines-append line k [] ys = ap (λ (n : ℕ). lines_from line n ys) (sym (add-zero k))
 lines-append line k (x ∷ xs) ys =
-    let far : k + 1 + length xs ≡ k + length (x ∷ xs) = omega arith in
+    let next_number_is : k + 1 + length xs ≡ k + length (x ∷ xs) = omega arith in
     ap (λ (v : List ℕ). line k x ++ v) (lines-append line (k + 1) xs ys)
     ∙ sym (append_assoc (line k x) (lines_from line (k + 1) xs) (lines_from line (k + 1 + length xs) ys))
-    ∙ ap (λ (n : ℕ). (line k x ++ lines_from line (k + 1) xs) ++ lines_from line n ys) far
+    ∙ ap (λ (n : ℕ). (line k x ++ lines_from line (k + 1) xs) ++ lines_from line n ys) next_number_is
 
 lines-one : {A : Type 0} (line : ℕ → A → List ℕ) (k : ℕ) (x : A) (xs : List A) → lines_from line k (x ∷ xs) ≡ line k x ++ lines_from line (k + 1) xs
 unfolding lines_from

@@ -42,7 +42,7 @@ unfolding path_in
 path_few bytes rows e = let records_ok = then_ok (table_records bytes) path_of_records rows e in records_few records_ok.0 rows records_ok.2
 
 no_file-ok : {A R : Type 0} (r : Result A R) (value : A) → no_file r ≡ Ok value → r ≡ Ok value
-no_file-ok (Ok found) value e = let same : found ≡ value = cc in ap Ok same
+no_file-ok (Ok found) value e = let value_same : found ≡ value = cc in ap Ok value_same
 no_file-ok (Err reason) value e = absurd (cc)
 
 -- what a file gives is what some bytes give
@@ -58,9 +58,9 @@ texts_few names files texts e =
     let path_ok = and_then-ok (in_file path_file names.path files) _ texts things_ok.2 in
     let weapons_ok = and_then-ok (in_optional_file weapons_file names.weapon files) _ texts path_ok.2 in
     let path_bytes = file_ok path_file names.path files path_ok.0 path_ok.1 in
-    let few : length path_ok.0 ≤ MAX_VIEWS = path_few path_bytes.0 path_ok.0 (from_below-ok refusal.Path (path_in path_bytes.0) path_ok.0 path_bytes.1) in
-    let same : path_ok.0 ≡ texts.path = cc (weapons_ok.2) in
-    rw same at few
+    let views_few : length path_ok.0 ≤ MAX_VIEWS = path_few path_bytes.0 path_ok.0 (from_below-ok refusal.Path (path_in path_bytes.0) path_ok.0 path_bytes.1) in
+    let path_same : path_ok.0 ≡ texts.path = cc (weapons_ok.2) in
+    rw path_same at views_few
 
 files_few : (names : FileNames) (wads : List (List ℕ)) (settings : Settings) (files : List File) (values : FilesValue) → files_in names wads settings files ≡ Ok values → length values.path ≤ MAX_VIEWS
 unfolding files_in
@@ -68,9 +68,9 @@ files_few names wads settings files values e =
     let tables_ok = and_then-ok (in_file (tables_file settings) names.tables files) _ values e in
     let texts_ok = and_then-ok (texts_in names files) _ values tables_ok.2 in
     let lumps_ok = and_then-ok (lumps_in wads files) _ values texts_ok.2 in
-    let few : length texts_ok.0.path ≤ MAX_VIEWS = texts_few names files texts_ok.0 texts_ok.1 in
-    let same : texts_ok.0.path ≡ values.path = cc (lumps_ok.2) in
-    rw same at few
+    let views_few : length texts_ok.0.path ≤ MAX_VIEWS = texts_few names files texts_ok.0 texts_ok.1 in
+    let path_same : texts_ok.0.path ≡ values.path = cc (lumps_ok.2) in
+    rw path_same at views_few
 
 -- a scene that is loaded has no more views than a path may have
 pub loaded_few : (level : LevelJobValue) (wads : List (List ℕ)) (files : List File) (loaded : LoadedValue) → load_in level wads files ≡ Ok loaded → length loaded.files.path ≤ MAX_VIEWS
@@ -129,9 +129,9 @@ memory_holds shelf given files failing e same = ap (λ (s : ShelfInMemory). (mem
 pub memory_steady : (shelf : ShelfInMemory) (given : List File) (failing : List ℕ) → shelf ≡ record { files = given; failing = failing; calls = 0; faults = 0; taken = 0 } → failing ≡ [] → IsTrue (memory_view shelf).steady
 memory_steady shelf given failing e none =
     let steady : IsTrue (memory_view (record { files = given; failing = []; calls = 0; faults = 0; taken = 0 })).steady = refl in
-    let same : shelf ≡ record { files = given; failing = []; calls = 0; faults = 0; taken = 0 } =
+    let shelf_is : shelf ≡ record { files = given; failing = []; calls = 0; faults = 0; taken = 0 } =
     e ∙ ap (λ (f : List ℕ). record { files = given; failing = f; calls = 0; faults = 0; taken = 0 }) none in
-    subst (λ (s : ShelfInMemory). IsTrue (memory_view s).steady) (sym same) steady
+    subst (λ (s : ShelfInMemory). IsTrue (memory_view s).steady) (sym shelf_is) steady
 
 module _ (n zone : ℕ) where
   texts_held : texts_in (made_level zone).files (made_files n) ≡ Err absent → ⊥

@@ -67,8 +67,8 @@ rows_layers loaded k eye rows book v light art some own same lit =
 
 -- their pictures are of the book
 by_table : (table : Option (List WeaponRow)) (book : Option (List Frame)) (light : ℤ) (k : ℕ) (layer : WeaponLayer) → Contains (layers_by table book light k) layer → Contains (weapon_lumps book) layer.shape.lump
-by_table None book light k layer has = absurd (let none : has.0 < 0 = has.1 in omega (arith, none))
-by_table (Some rows) None light k layer has = absurd (let none : has.0 < 0 = has.1 in omega (arith, none))
+by_table None book light k layer has = absurd (let below_zero : has.0 < 0 = has.1 in omega (arith, below_zero))
+by_table (Some rows) None light k layer has = absurd (let below_zero : has.0 < 0 = has.1 in omega (arith, below_zero))
 by_table (Some rows) (Some book) light k layer has = table_layer-among book light k 1 rows layer has
 
 layer_lump : (loaded : LoadedScene) (k : ℕ) (eye : Eye) (lump : ℕ) → IsLayerPicture (view_of loaded.files.tables eye) (layers_of (loaded_value loaded) k eye) lump → IsLayerLump loaded lump

@@ -33,8 +33,8 @@ pub renders-then : {a b c : ShelfView} {x y z : ReadyViews} {i j k : ℕ} {statu
 renders-then {status = status} one two = record {
   answers = two.answers;
   order = λ items asked order.
-      let kept = one.order items asked order in
-      after_all status (λ more. order_then kept more) (two.order items (asked-later items one.keeps asked) kept.order);
+      let order_kept = one.order items asked order in
+      after_all status (λ more. order_then order_kept more) (two.order items (asked-later items one.keeps asked) order_kept.order);
   read_fault = λ e. omega (arith, one.keeps.art.follows.faults, two.read_fault e);
   write_fault = λ e. omega (arith, one.rises, two.write_fault e);
   zone_full = λ wanted widest' e. full-first wanted widest' one.keeps (two.zone_full wanted widest' e);

@@ -96,8 +96,8 @@ shape_has (suc rotation) (first ∷ rest) shape e = among_later first.lump.0 (ma
 found_by : (passes : Bool) (first frame : Frame) (later : Option Frame) (rest : List ℕ) (lump : ℕ) → cond passes (Some first) later ≡ Some frame → Contains (shape_lumps frame) lump →
     (later ≡ Some frame → Contains rest lump) → Contains (shape_lumps first ++ rest) lump
 found_by true first frame later rest lump e has after =
-    let same : first ≡ frame = cc in
-    Contains-append_left (shape_lumps first) rest lump (subst (λ (f : Frame). Contains (shape_lumps f) lump) (sym same) has)
+    let frame_same : first ≡ frame = cc in
+    Contains-append_left (shape_lumps first) rest lump (subst (λ (f : Frame). Contains (shape_lumps f) lump) (sym frame_same) has)
 found_by false first frame later rest lump e has after = Contains-append_right (shape_lumps first) rest lump (after e)
 
 found_has : (test : Frame → Bool) (book : List Frame) (frame : Frame) (lump : ℕ) → find test book ≡ Some frame → Contains (shape_lumps frame) lump → Contains (joined_lists shape_lumps book) lump
@@ -122,8 +122,8 @@ layer_from : (book : List Frame) (light : ℤ) (n : ℕ) (row : WeaponRow) (shap
 unfolding layer_with
 layer_from book light n row None layer at is = absurd (cc)
 layer_from book light n row (Some shape) layer at is =
-    let same : layer_with light n row shape ≡ layer = cc in
-    subst (λ (l : WeaponLayer). Contains (book_lumps book) l.shape.lump) same (picked_among book row.sprite row.frame 0 shape at)
+    let layer_same : layer_with light n row shape ≡ layer = cc in
+    subst (λ (l : WeaponLayer). Contains (book_lumps book) l.shape.lump) layer_same (picked_among book row.sprite row.frame 0 shape at)
 
 -- so is that of a row's layer
 pub layer_among : (book : List Frame) (light : ℤ) (n : ℕ) (row : WeaponRow) (layer : WeaponLayer) → Some layer ≡ layer_of book light n row → Contains (book_lumps book) layer.shape.lump
@@ -159,15 +159,15 @@ row_layer-own book light lit k n row layer same own is =
 -- the lump of a layer of a table is one of the book's
 by_row : (book : List Frame) (light : ℤ) (n : ℕ) (row : WeaponRow) (own : Bool) (found : Option WeaponLayer) (layer : WeaponLayer) → found ≡ layer_of book light n row →
     Contains (cond own (option_to_list found) []) layer → Contains (book_lumps book) layer.shape.lump
-by_row book light n row true None layer is has = absurd (let none : has.0 < 0 = has.1 in omega (arith, none))
+by_row book light n row true None layer is has = absurd (let below_zero : has.0 < 0 = has.1 in omega (arith, below_zero))
 by_row book light n row true (Some one) layer is (zero, within, same) =
     subst (λ (l : WeaponLayer). Contains (book_lumps book) l.shape.lump) same (layer_among book light n row one is)
-by_row book light n row true (Some one) layer is (suc k, within, same) = absurd (let few : suc k < 1 = within in omega (arith, few))
-by_row book light n row false found layer is has = absurd (let none : has.0 < 0 = has.1 in omega (arith, none))
+by_row book light n row true (Some one) layer is (suc k, within, same) = absurd (let number_below_one : suc k < 1 = within in omega (arith, number_below_one))
+by_row book light n row false found layer is has = absurd (let below_zero : has.0 < 0 = has.1 in omega (arith, below_zero))
 
 pub table_layer-among : (book : List Frame) (light : ℤ) (k n : ℕ) (rows : List WeaponRow) (layer : WeaponLayer) → Contains (layers_from book light k n rows) layer → Contains (book_lumps book) layer.shape.lump
 unfolding layers_from
-table_layer-among book light k n [] layer has = absurd (let none : has.0 < 0 = has.1 in omega (arith, none))
+table_layer-among book light k n [] layer has = absurd (let below_zero : has.0 < 0 = has.1 in omega (arith, below_zero))
 table_layer-among book light k n (x ∷ xs) layer has =
     elim (Contains-append_cases (row_layers book light k n x) (layers_from book light k (n + 1) xs) layer has) [
       | inl own ↦ by_row book light n x (x.view == k) (layer_of book light n x) layer refl own

@@ -103,7 +103,7 @@ module _ (level : LevelJobValue) (wads : List (List ℕ)) (files : List File) (l
   copied_there lump copied = All-contains (IsPartThere (length lumps)) plan (copy_part lump) there copied
 
   plan_ok : (o : Result (List TrimPart) TrimRefusal) (parts : List TrimPart) → from_below Trim o ≡ Ok parts → o ≡ Ok parts
-  plan_ok (Ok found) parts e = let same : found ≡ parts = cc in ap Ok same
+  plan_ok (Ok found) parts e = let parts_same : found ≡ parts = cc in ap Ok parts_same
   plan_ok (Err refusal) parts e = absurd (cc)
 
   copied_needed : (lump : ℕ) → IsCopied plan lump → is_needed lumps (loaded_art (loaded_value loaded)) lump ≡ true
@@ -128,11 +128,11 @@ module _ (level : LevelJobValue) (wads : List (List ℕ)) (files : List File) (l
   trim_draw wanted widest' full =
       let scene = loaded.scene.scene in
       let value : LoadedValue = loaded_value loaded in
-      let copied : IsArtFull lumps (loaded_art value) loaded.cache.size wanted widest' = inl (record {
+      let art_full : IsArtFull lumps (loaded_art value) loaded.cache.size wanted widest' = inl (record {
         lump = full.lump;
         there = copied_there full.lump full.asked;
         needed = copied_needed full.lump full.asked;
         is = full.wanted_is;
         gap = full.gap scene.base.colormap (lump_at lumps scene.base.colormap).size stands.audited.rest;
       }) in
-      art_draw level wads files value is wanted widest' full.narrow (subst (λ n. IsArtFull lumps (loaded_art value) n wanted widest') stands.zone copied)
+      art_draw level wads files value is wanted widest' full.narrow (subst (λ n. IsArtFull lumps (loaded_art value) n wanted widest') stands.zone art_full)
