@@ -102,7 +102,7 @@ module _ (dir : DirectoryView) (a b : Heap) (colormap : ℕ) (result : Result So
   pinned_after c tag stays = go result same where
     held : (h : Option Holding) → option_map (λ (x : Holding). x.tag) h ≡ Some Static → holds_static h ≡ true
     held None e = cc
-    held (Some h) e = let is : h.tag ≡ Static = cc in ap is_static_tag is
+    held (Some h) e = let tag_is_static : h.tag ≡ Static = cc in ap is_static_tag tag_is_static
 
     before : holds_static (holding_of (lump_owner colormap) b.blocks) ≡ true
     before = held (holding_of (lump_owner colormap) b.blocks) tag

@@ -14,15 +14,15 @@ some_step (Some x) f y e = (x, refl, e)
 
 some_made : {X Y : Type 0} (o : Option X) (f : X → Y) (y : Y) → option_map f o ≡ Some y → (x : X) × (o ≡ Some x) × (f x ≡ y)
 some_made None f y e = cc
-some_made (Some x) f y e = (x, refl, let same : f x ≡ y = cc in same)
+some_made (Some x) f y e = (x, refl, let value_is : f x ≡ y = cc in value_is)
 
 -- the patches of a texture whose lumps are all found
 module _ (last : List ℕ → Option ℕ) (bytes : ℕ → List ℕ) (names : List (List ℕ)) (entry : TextureEntry) (lump : ℕ) (is : option_and_then last (slice_get names entry.number) ≡ Some lump) where
   placed_there : (patch : PlacedPatch) → placed_patch last bytes names entry ≡ Some patch → (patch.lump == lump) ≡ true
   unfolding placed_patch place_lump
   placed_there patch e =
-      let here : place_lump bytes entry lump ≡ Some patch = sym (ap (option_and_then (place_lump bytes entry)) is) ∙ e in
-      eq-eqb patch.lump lump (lump_placed entry lump (Some (bytes lump)) (place_lump bytes entry lump) patch refl here)
+      let patch_is : place_lump bytes entry lump ≡ Some patch = sym (ap (option_and_then (place_lump bytes entry)) is) ∙ e in
+      eq-eqb patch.lump lump (lump_placed entry lump (Some (bytes lump)) (place_lump bytes entry lump) patch refl patch_is)
 
   patch_placed : (entries : List TextureEntry) (patches : List PlacedPatch) → placed_patches last bytes names entries ≡ Some patches → Contains entries entry → list_any (λ (patch : PlacedPatch). patch.lump == lump) patches ≡ true
   unfolding placed_patches
@@ -43,7 +43,7 @@ module _ (last : List ℕ → Option ℕ) (bytes : ℕ → List ℕ) (names : Li
   too_big_or number t patches made e = go (nat_lt MAX_COMPOSITE (composite_size patches t.width t.height)) e where
     go : (b : Bool) → cond b (Err (TooBig number)) (Ok (texture_of bytes t patches)) ≡ Ok made → patches ≡ made.patches
     go true k = cc
-    go false k = let same : texture_of bytes t patches ≡ made = cc in ap (λ (p : PreparedTexture). p.patches) same
+    go false k = let texture_is : texture_of bytes t patches ≡ made = cc in ap (λ (p : PreparedTexture). p.patches) texture_is
 
   missing_or : (number : ℕ) (t : Texture) (patches : Option (List PlacedPatch)) (made : PreparedTexture) → unless_missing bytes number t patches ≡ Ok made → patches ≡ Some made.patches
   unfolding unless_missing
@@ -61,7 +61,7 @@ module _ (prepare : ℕ → Texture → Result PreparedTexture TexRefusal) (want
   unfolding prepared_if
   one_passes false r first on same e = cc
   one_passes true (Err refusal) first on same e = cc
-  one_passes true (Ok made) first on same e = let is : Some made ≡ first = cc in ap p (sym is) ∙ passes made (sym same)
+  one_passes true (Ok made) first on same e = let first_is_made : Some made ≡ first = cc in ap p (sym first_is_made) ∙ passes made (sym same)
 
   some_passes : (n k : ℕ) (ts : List Texture) (out : List (Option PreparedTexture)) → prepared_from prepare wanted n ts ≡ Ok out → slice_get ts k ≡ Some t → n + k ≡ m → list_any p out ≡ true
   unfolding prepared_from
@@ -69,15 +69,15 @@ module _ (prepare : ℕ → Texture → Result PreparedTexture TexRefusal) (want
   some_passes n zero (x ∷ ts) out e at same =
       let first_ok = and_then-ok (prepared_if (wanted n) (prepare n x)) _ out e in
       let rest_ok = and_then-ok (prepared_from prepare wanted (suc n) ts) _ out first_ok.2 in
-      let all : first_ok.0 ∷ rest_ok.0 ≡ out = cc in
-      let here : n ≡ m = omega arith in
-      let it : x ≡ t = cc in
-      ap (list_any p) (sym all) ∙ or_left (p first_ok.0) (list_any p rest_ok.0) (one_passes (wanted n) (prepare n x) first_ok.0 (ap wanted here ∙ chosen) (ap (λ (i : ℕ). prepare i x) here ∙ ap (prepare m) it) first_ok.1)
+      let list_is : first_ok.0 ∷ rest_ok.0 ≡ out = cc in
+      let number_is : n ≡ m = omega arith in
+      let texture_same : x ≡ t = cc in
+      ap (list_any p) (sym list_is) ∙ or_left (p first_ok.0) (list_any p rest_ok.0) (one_passes (wanted n) (prepare n x) first_ok.0 (ap wanted number_is ∙ chosen) (ap (λ (i : ℕ). prepare i x) number_is ∙ ap (prepare m) texture_same) first_ok.1)
   some_passes n (suc k) (x ∷ ts) out e at same =
       let first_ok = and_then-ok (prepared_if (wanted n) (prepare n x)) _ out e in
       let rest_ok = and_then-ok (prepared_from prepare wanted (suc n) ts) _ out first_ok.2 in
-      let all : first_ok.0 ∷ rest_ok.0 ≡ out = cc in
-      ap (list_any p) (sym all) ∙ or_right (p first_ok.0) (list_any p rest_ok.0) (some_passes (suc n) k ts rest_ok.0 rest_ok.1 at (omega arith))
+      let list_is : first_ok.0 ∷ rest_ok.0 ≡ out = cc in
+      ap (list_any p) (sym list_is) ∙ or_right (p first_ok.0) (list_any p rest_ok.0) (some_passes (suc n) k ts rest_ok.0 rest_ok.1 at (omega arith))
 
 -- the patch that may be asked for is of one of the prepared textures
 pub wanted_patch : (bytes : ℕ → List ℕ) (lumps : List Lump) (lists : TextureLists) (wanted : ℕ → Bool) (textures : List (Option PreparedTexture)) (lump : ℕ) → prepared_textures (last_of lumps) bytes lists wanted ≡ Ok textures → IsWantedPatch lumps lists wanted lump → is_patch_of_any textures lump ≡ true

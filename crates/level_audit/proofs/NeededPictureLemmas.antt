@@ -44,7 +44,7 @@ first_of (x ∷ needs) need has = elim (among_cases x needs need has) [
 -- a need of the same frame has the same pictures
 found_else : {X E : Type 0} (o : Option X) (e other : E) (x : X) → ok_or o e ≡ Ok x → ok_or o other ≡ Ok x
 found_else None e other x is = cc
-found_else (Some y) e other x is = let same : y ≡ x = cc in ap Ok same
+found_else (Some y) e other x is = let value_same : y ≡ x = cc in ap Ok value_same
 
 module _ (all : List Mention) (need first : Need) (frame : need.frame ≡ first.frame) where
   same_last : (mention : Mention) → last_mention all need ≡ Ok mention → last_mention all first ≡ Ok mention
@@ -71,8 +71,8 @@ shape_there : (bytes : ℕ → List ℕ) (mention : Mention) (shape : Shape) →
 unfolding shape_of shape_in
 shape_there bytes mention shape e =
     let patch_is = and_then-ok (patch_or_bad bytes mention.lump) (λ patch. Ok (shape_in mention patch)) shape e in
-    let same : shape_in mention patch_is.0 ≡ shape = cc in
-    ap (λ (s : Shape). s.lump.0) (sym same)
+    let shape_same : shape_in mention patch_is.0 ≡ shape = cc in
+    ap (λ (s : Shape). s.lump.0) (sym shape_same)
 
 -- a frame has the lumps of its pictures
 frame_lumps : (bytes : ℕ → List ℕ) (lumps : List Lump) (need : Need) (pictures : List Mention) (frame : Frame) (mention : Mention) → pictures_of (mentions lumps need.sprite) need ≡ Ok pictures → frame_of bytes lumps need ≡ Ok frame → Contains pictures mention → list_any (λ n. n == mention.lump) (shape_lumps frame) ≡ true
@@ -80,10 +80,10 @@ unfolding frame_of frame_in shape_lumps
 frame_lumps bytes lumps need pictures frame mention are e has =
     let pictures_are = and_then-ok (pictures_of (mentions lumps need.sprite) need) (λ pictures. and_then (each_of (shape_of bytes) pictures) (λ shapes. Ok (frame_in need shapes))) frame e in
     let shapes_are = and_then-ok (each_of (shape_of bytes) pictures_are.0) (λ shapes. Ok (frame_in need shapes)) frame pictures_are.2 in
-    let made : frame_in need shapes_are.0 ≡ frame = cc in let shapes : shapes_are.0 ≡ frame.shapes = ap (λ (f : Frame). f.shapes) made in
-    let of : each_of (shape_of bytes) pictures ≡ Ok frame.shapes
+    let frame_same : frame_in need shapes_are.0 ≡ frame = cc in let shapes : shapes_are.0 ≡ frame.shapes = ap (λ (f : Frame). f.shapes) frame_same in
+    let each_shape_is : each_of (shape_of bytes) pictures ≡ Ok frame.shapes
     = ap (each_of (shape_of bytes)) (same_value pictures pictures_are.0 are pictures_are.1) ∙ shapes_are.1 ∙ ap Ok shapes in
-    let shape_is = each_made (shape_of bytes) pictures frame.shapes mention of has in
+    let shape_is = each_made (shape_of bytes) pictures frame.shapes mention each_shape_is has in
     any_mapped (λ n. n == mention.lump) (λ (shape : Shape). shape.lump.0) frame.shapes shape_is.made shape_is.among (eq-eqb shape_is.made.lump.0 mention.lump (shape_there bytes mention shape_is.made shape_is.is))
 
 -- the picture that may be asked for is of one of the book's shapes
@@ -96,5 +96,5 @@ needed_picture bytes lumps needs book lump e asked =
     let of_first : pictures_of (mentions lumps first_need.first.sprite) first_need.first ≡ Ok wanted.pictures =
     ap (λ s. pictures_of (mentions lumps s) first_need.first) first_need.sprite ∙ same_pictures (mentions lumps asked.need.sprite) asked.need first_need.first (sym first_need.frame) wanted.pictures wanted.are in
     let frame_is = each_made (frame_of bytes lumps) (first_needs needs) book first_need.first e first_need.among in
-    let there = frame_lumps bytes lumps first_need.first wanted.pictures frame_is.made mention of_first frame_is.is wanted.among.1 in
-    any_joined (λ n. n == lump) shape_lumps book frame_is.made frame_is.among (subst (λ (k : ℕ). list_any (λ n. n == k) (shape_lumps frame_is.made) ≡ true) wanted.among.2 there)
+    let lump_in_frame = frame_lumps bytes lumps first_need.first wanted.pictures frame_is.made mention of_first frame_is.is wanted.among.1 in
+    any_joined (λ n. n == lump) shape_lumps book frame_is.made frame_is.among (subst (λ (k : ℕ). list_any (λ n. n == k) (shape_lumps frame_is.made) ≡ true) wanted.among.2 lump_in_frame)

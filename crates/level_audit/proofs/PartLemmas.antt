@@ -55,5 +55,5 @@ pub of_scene : {B : Type 0} {v w : ShelfView} {dir : DirectoryView} {a b : Heap}
     lent ≡ base.lists → faces_in dir.lumps name base.level lent ≡ Ok faces → ReadsLumps itself v w dir a b (IsOfArt dir.lumps lines skill base faces) value (λ bytes. scene_with bytes dir.lumps lines skill base faces) result →
     ReadsLumps itself v w dir a b (IsOfScene dir.lumps lines skill name base) value (λ bytes. scene_on bytes dir.lumps lines skill name base) result
 of_scene {dir} {lines} {skill} {name} {base} {faces} {result} same meant art =
-    let are : faces_in dir.lumps name base.level base.lists ≡ Ok faces = subst (λ (lists : TextureLists). faces_in dir.lumps name base.level lists ≡ Ok faces) same meant in
-    reads_wider result (λ lump asked. record { faces = faces; are = are; asked = asked }) (λ bytes. sym (scene_on-more bytes dir.lumps lines skill name base faces (ap (from_below Scene) are))) art
+    let faces_ok : faces_in dir.lumps name base.level base.lists ≡ Ok faces = subst (λ (lists : TextureLists). faces_in dir.lumps name base.level lists ≡ Ok faces) same meant in
+    reads_wider result (λ lump asked. record { faces = faces; are = faces_ok; asked = asked }) (λ bytes. sym (scene_on-more bytes dir.lumps lines skill name base faces (ap (from_below Scene) faces_ok))) art

@@ -59,8 +59,8 @@ base_lists bytes lumps name base e =
     let playpal_ok = and_then-ok (from_below Art (playpal_of lumps)) _ base colormap_ok.2 in
     let level_ok = and_then-ok (from_below Map (level_in bytes lumps name)) _ base playpal_ok.2 in
     let lists_ok = and_then-ok (from_below Texture (lists_in bytes lumps)) _ base level_ok.2 in
-    let same : lists_ok.0 ≡ base.lists = cc (lists_ok.2) in
-    from_below-ok Texture (lists_in bytes lumps) lists_ok.0 lists_ok.1 ∙ ap Ok same
+    let lists_same : lists_ok.0 ≡ base.lists = cc (lists_ok.2) in
+    from_below-ok Texture (lists_in bytes lumps) lists_ok.0 lists_ok.1 ∙ ap Ok lists_same
 
 -- the textures of an accepted scene are those of the files that have these contents
 pub scene_textures : (contents : List (List ℕ)) (lumps : List Lump) (lines : List ThingLine) (name : List ℕ) (skill : ℕ) (scene : SceneValue) → scene_in (lump_bytes contents lumps) lumps lines name skill ≡ Ok scene → AreTexturesOf contents lumps (textures_view scene)

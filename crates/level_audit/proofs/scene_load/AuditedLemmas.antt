@@ -48,8 +48,8 @@ unfolding audited_in
 audited_by P bytes level found loaded e each =
     let scene_ok = and_then-ok (scene_in bytes found.lumps found.things level.map_name level.settings.skill) _ loaded e in
     let weapons_ok = and_then-ok (weapons_of bytes found.lumps found.weapons) _ loaded scene_ok.2 in
-    let made : ◌≡◌ {A = LoadedValue} (record { files = found; scene = scene_ok.0; weapons = weapons_ok.0 }) loaded = cc (weapons_ok.2) in
-    subst P made (each scene_ok.0 weapons_ok.0 scene_ok.1 weapons_ok.1)
+    let loaded_is : ◌≡◌ {A = LoadedValue} (record { files = found; scene = scene_ok.0; weapons = weapons_ok.0 }) loaded = cc (weapons_ok.2) in
+    subst P loaded_is (each scene_ok.0 weapons_ok.0 scene_ok.1 weapons_ok.1)
 
 -- a read that failed later has made the count rise
 pub causes_after : {B D R : Type 0} {before between now : ℕ} (r : Result D (Fault R)) (fault : Fault R) (result : Result B (Fault R)) → before ≤ between → HasCauses itself between now r → r ≡ Err fault → IsErrAnd result (λ e. e ≡ fault) → HasCauses itself before now result

@@ -35,7 +35,7 @@ memory_causes {before} {now} fault result tells is =
 
 -- what no refusal of the lumps has stopped is audited
 unstopped : {A : Type 0} (expected : Result A AuditRefusal) (value : A) → stops_of_audit expected ≡ Ok value → expected ≡ Ok value
-unstopped (Ok found) value e = let same : found ≡ value = cc in ap Ok same
+unstopped (Ok found) value e = let value_same : found ≡ value = cc in ap Ok value_same
 unstopped (Err refusal) value e = absurd (cc)
 
 module _ (level : LevelJobValue) (wads : List (List ℕ)) (held : List File) where
@@ -74,6 +74,6 @@ module _ (level : LevelJobValue) (wads : List (List ℕ)) (held : List File) whe
     pub told_wads : {w : ShelfView} {dir : DirectoryView} {z : Heap} → files_in level.files wads level.settings held ≡ Ok found →
         ((contents : List (List ℕ)) → files_named wads held ≡ Some contents → NameFiles w dir.files contents × AllWithin contents dir.lumps) → ((contents : List (List ℕ)) → IsFaithful contents dir.lumps z) → HoldContents w dir z (wad_contents wads held)
     told_wads are stand faithful =
-        let listed = wads_accepted level.files wads level.settings held found are in
-        let both = stand listed.contents listed.named in
-        rw listed.named (record { stand = both.0; within = both.1; faithful = faithful listed.contents })
+        let files_listed = wads_accepted level.files wads level.settings held found are in
+        let both_stand = stand files_listed.contents files_listed.named in
+        rw files_listed.named (record { stand = both_stand.0; within = both_stand.1; faithful = faithful files_listed.contents })

@@ -105,7 +105,7 @@ returns-in-Ok-fetch-clause-faithful g c = λ contents stand faithful.
 pub returns-in-Ok-fetch-clause-order : goal.returns-in-Ok-fetch-clause-order
 returns-in-Ok-fetch-clause-order g c = λ contents items told all k.
     let colormap_fetched = c.in-Ok-fetch.ensures in
-    let later = told_after colormap_fetched.fetches.follows colormap_fetched.faithful contents told in
+    let holds_contents = told_after colormap_fetched.fetches.follows colormap_fetched.faithful contents told in
     let fetch_keeps_order = colormap_fetched.order items (all c.in-Ok.colormap.0 (inl c.in-Ok.ensures.lump)) k in
     order_after itself c.audit_rest.new.cache _ c.audit_rest.result fetch_keeps_order
-    (c.audit_rest.ensures.tells.order items (λ lump asked. all lump (inr (asked contents later))) fetch_keeps_order.order)
+    (c.audit_rest.ensures.tells.order items (λ lump asked. all lump (inr (asked contents holds_contents))) fetch_keeps_order.order)

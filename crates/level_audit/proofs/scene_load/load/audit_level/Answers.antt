@@ -42,9 +42,9 @@ returns-in_err-scene g c =
       counts = scene_tells.counts;
       faithful = scene_tells.faithful;
       order = λ contents expected told accepted order.
-          let all = items_all _ level found expected accepted in
+          let has_items = items_all _ level found expected accepted in
           let keeps_order = KeepsOrder (loaded_items expected) c.args.cache.now c.audit.new.cache (g.S.Shelf.view c.args.shelf.now).taken (g.S.Shelf.view c.audit.new.shelf).taken in
-          call_order (λ _. keeps_order) keeps_order keeps_order c.audit.result _ result (scene_tells.order contents (loaded_items expected) told (λ lump read. all lump (inl read)) order) was is (λ k. k);
+          call_order (λ _. keeps_order) keeps_order keeps_order c.audit.result _ result (scene_tells.order contents (loaded_items expected) told (λ lump read. has_items lump (inl read)) order) was is (λ k. k);
       follows = scene_tells.follows;
       causes = causes_after c.audit.result _ result (omega arith) scene_tells.causes was is;
     }
@@ -71,9 +71,9 @@ returns-in_err-weapons g c =
       counts = (counts.0 ∙ scene_tells.counts.0, counts.1 ∙ scene_tells.counts.1, counts.2 ∙ scene_tells.counts.2);
       faithful = λ contents stand faithful. tells.keeps.faithful contents (all_stand_later _ _ files.dir.files contents scene_tells.follows stand) (scene_tells.faithful contents stand faithful);
       order = λ contents expected told accepted order.
-          let all = items_all _ level found expected accepted in
-          let scene_in_order = scene_tells.order contents (loaded_items expected) told (λ lump read. all lump (inl read)) order in
-          let layers_in_order = tells.order (loaded_items expected) (λ lump asked. all lump (inr asked)) scene_in_order.order in
+          let has_items = items_all _ level found expected accepted in
+          let scene_in_order = scene_tells.order contents (loaded_items expected) told (λ lump read. has_items lump (inl read)) order in
+          let layers_in_order = tells.order (loaded_items expected) (λ lump asked. has_items lump (inr asked)) scene_in_order.order in
           let keeps_order = KeepsOrder (loaded_items expected) c.args.cache.now c.audit_layers.new.cache (g.S.Shelf.view c.args.shelf.now).taken (g.S.Shelf.view c.audit_layers.new.shelf).taken in
           call_order (λ _. keeps_order) keeps_order keeps_order c.audit_layers.result _ result
           (order_after itself c.audit_layers.new.cache (g.S.Shelf.view c.audit_layers.new.shelf).taken c.audit_layers.result
@@ -91,13 +91,13 @@ returns g c =
     let lumps = files.dir.lumps in let found = value_of files in
     let sound = c.in_ok-scene.scene in let weapons = c.in_ok-weapons.weapons in
     let with_all = c.in_ok-weapons.ensures.scene in
-    let same = ap (λ (s : SoundValue). s.scene) with_all ∙ scene_kept lumps weapons sound in
+    let scene_same = ap (λ (s : SoundValue). s.scene) with_all ∙ scene_kept lumps weapons sound in
     let colormap = sound.scene.base.colormap in
     let counts = tells.keeps.counts in
     record {
       answers = λ contents told. record {
         ok = both_accepted _ level found sound.scene weapons (scene_tells.answers contents told).ok (tells.answers contents (told_after scene_tells.follows scene_tells.faithful contents told)).ok
-            ∙ ap (λ (s : SceneValue). Ok (record { files = found; scene = s; weapons = weapons })) (sym same);
+            ∙ ap (λ (s : SceneValue). Ok (record { files = found; scene = s; weapons = weapons })) (sym scene_same);
         err = tt;
       };
       full = λ contents told. tt;
@@ -106,21 +106,21 @@ returns g c =
             (sym with_all) (named_layers found weapons sound scene_tells.named);
         sizes = subst (λ (s : SoundValue). s.sizes ≡ loaded_sizes (audited_value found (s, weapons)))
             (sym with_all) (sizes_layers found weapons sound scene_tells.sizes);
-        rest = subst (λ (s : SceneValue). IsAtRest s.base.colormap (lump_at lumps s.base.colormap).size c.audit_layers.new.cache) (sym same)
+        rest = subst (λ (s : SceneValue). IsAtRest s.base.colormap (lump_at lumps s.base.colormap).size c.audit_layers.new.cache) (sym scene_same)
             (tells.keeps.rest colormap (lump_at lumps colormap).size (scene_tells.rest c.requires.empty));
-        whole = subst (IsWholeScene lumps files.things level.map_name level.settings.skill) (sym same) scene_tells.whole;
-        fits = subst (λ (s : SceneValue). IsBaseWithin lumps level s.base.colormap) (sym same)
+        whole = subst (IsWholeScene lumps files.things level.map_name level.settings.skill) (sym scene_same) scene_tells.whole;
+        fits = subst (λ (s : SceneValue). IsBaseWithin lumps level s.base.colormap) (sym scene_same)
             (λ lump asked other. rw (← c.requires.size) (scene_tells.fits (sizes_empty lumps c.args.cache.now c.requires.empty) lump asked other));
-        colormap = subst (λ (s : SceneValue). s.base.colormap < length lumps) (sym same) (colormap_there lumps colormap scene_tells.colormap);
+        colormap = subst (λ (s : SceneValue). s.base.colormap < length lumps) (sym scene_same) (colormap_there lumps colormap scene_tells.colormap);
         layers = c.in_ok-weapons.ensures.there;
       };
       fresh = no_composites_then tells.keeps (no_composites_first c.args.cache.now c.audit.new.cache c.requires.empty scene_tells.composites);
       counts = (counts.0 ∙ scene_tells.counts.0, counts.1 ∙ scene_tells.counts.1, counts.2 ∙ scene_tells.counts.2);
       faithful = λ contents stand faithful. tells.keeps.faithful contents (all_stand_later _ _ files.dir.files contents scene_tells.follows stand) (scene_tells.faithful contents stand faithful);
       order = λ contents expected told accepted order.
-          let all = items_all _ level found expected accepted in
-          let scene_in_order = scene_tells.order contents (loaded_items expected) told (λ lump read. all lump (inl read)) order in
-          order_then scene_in_order (tells.order (loaded_items expected) (λ lump asked. all lump (inr asked)) scene_in_order.order);
+          let has_items = items_all _ level found expected accepted in
+          let scene_in_order = scene_tells.order contents (loaded_items expected) told (λ lump read. has_items lump (inl read)) order in
+          order_then scene_in_order (tells.order (loaded_items expected) (λ lump asked. has_items lump (inr asked)) scene_in_order.order);
       follows = follows_then scene_tells.follows tells.keeps.follows;
       causes = record { err = tt };
     }

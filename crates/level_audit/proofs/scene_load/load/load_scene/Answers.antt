@@ -88,7 +88,7 @@ returns-in_err-scene g c =
 pub returns : goal.returns
 returns g c =
     let files_tell = c.in_ok-files.ensures in
-    let made = c.in_ok-cache.ensures in
+    let cache_tells = c.in_ok-cache.ensures in
     let level = level_job_value c.args.level.now in
     let later = audited_above level c.in_ok-files.files c.audit_level.result (Ok (c.in_ok-scene.scene, c.in_ok-scene.weapons)) c.in_ok-scene.ensures.cases c.audit_level.ensures in
     let dir = c.in_ok-files.files.dir in
@@ -96,30 +96,30 @@ returns g c =
     record {
       answers = λ files holds.
           let are = (files_tell.answers files holds).ok in
-          let told = told_wads level _ files _ are (λ contents named. files_tell.contents files contents holds named) made.faithful in
+          let told = told_wads level _ files _ are (λ contents named. files_tell.contents files contents holds named) cache_tells.faithful in
           all_loaded level _ files _ _ are (later.answers _ told).ok;
       full = λ files holds. tt;
       loaded = record {
         audited = later.audited;
-        slots = omega (arith, later.counts.1, made.slots);
-        composites = later.counts.2 ∙ made.composites;
-        zone = later.counts.0 ∙ made.size;
+        slots = omega (arith, later.counts.1, cache_tells.slots);
+        composites = later.counts.2 ∙ cache_tells.composites;
+        zone = later.counts.0 ∙ cache_tells.size;
         few = files_tell.count;
       };
       holds = λ files contents holds named.
-          let both = files_tell.contents files contents holds named in
-          let before = made.faithful contents in
+          let contents_stand = files_tell.contents files contents holds named in
+          let before = cache_tells.faithful contents in
           let loaded = audited_value found (c.in_ok-scene.scene, c.in_ok-scene.weapons) in
-          let accepted = (later.answers contents (record { stand = both.0; within = both.1; faithful = before })).ok in
-          let held : HoldContents (g.S.Shelf.view c.audit_level.new.shelf) dir c.audit_level.new.cache contents = record { stand = all_stand_later _ _ dir.files contents later.follows both.0; within = both.1; faithful = later.faithful contents both.0 before } in
+          let accepted = (later.answers contents (record { stand = contents_stand.0; within = contents_stand.1; faithful = before })).ok in
+          let holds_contents : HoldContents (g.S.Shelf.view c.audit_level.new.shelf) dir c.audit_level.new.cache contents = record { stand = all_stand_later _ _ dir.files contents later.follows contents_stand.0; within = contents_stand.1; faithful = later.faithful contents contents_stand.0 before } in
           record {
-            contents = held;
-            art = all_held contents level found loaded _ refl accepted later.audited.rest held later.fresh;
+            contents = holds_contents;
+            art = all_held contents level found loaded _ refl accepted later.audited.rest holds_contents later.fresh;
           };
       order = λ files contents expected holds named loads room.
           let are = (files_tell.answers files holds).ok in
-          let told = told_wads level _ files _ are (λ contents named. files_tell.contents files contents holds named) made.faithful in
-          let cache_ordered : IsInOrder (loaded_items expected) c.in_ok-cache.cache = made.order (loaded_items expected) (items_roomy expected level.settings.zone room) in
+          let told = told_wads level _ files _ are (λ contents named. files_tell.contents files contents holds named) cache_tells.faithful in
+          let cache_ordered : IsInOrder (loaded_items expected) c.in_ok-cache.cache = cache_tells.order (loaded_items expected) (items_roomy expected level.settings.zone room) in
           let read = files_tell.taken_of files contents holds named in
           let keeps = later.order _ expected told (audited_of level _ files _ expected are loads) cache_ordered in
           record { order = keeps.order; taken = omega (arith, keeps.taken, read) };
