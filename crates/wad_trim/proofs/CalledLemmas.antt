@@ -33,14 +33,14 @@ above_gone p q a (suc n) top l = by_value (p a) (above_gone p q (a + 1) n top (o
 
 range_parts : (a m n : ℕ) → range_with_len a (m + n) ≡ range_with_len a m ++ range_with_len (a + m) n
 range_parts a zero n =
-    let none : 0 + n ≡ n = omega arith in
-    let here : a ≡ a + 0 = omega arith in
-    ap (range_with_len a) none ∙ ap (λ (k : ℕ). range_with_len k n) here
+    let count_same : 0 + n ≡ n = omega arith in
+    let start_same : a ≡ a + 0 = omega arith in
+    ap (range_with_len a) count_same ∙ ap (λ (k : ℕ). range_with_len k n) start_same
 range_parts a (suc m) n =
-    let far : a + 1 + m ≡ a + suc m = omega arith in
-    let whole : suc m + n ≡ suc (m + n) = omega arith in
-    ap (range_with_len a) whole
-    ∙ ap (λ (xs : List ℕ). a ∷ xs) (range_parts (a + 1) m n ∙ ap (λ (k : ℕ). range_with_len (a + 1) m ++ range_with_len k n) far)
+    let next_start_is : a + 1 + m ≡ a + suc m = omega arith in
+    let count_is : suc m + n ≡ suc (m + n) = omega arith in
+    ap (range_with_len a) count_is
+    ∙ ap (λ (xs : List ℕ). a ∷ xs) (range_parts (a + 1) m n ∙ ap (λ (k : ℕ). range_with_len (a + 1) m ++ range_with_len k n) next_start_is)
 
 pub patches-below : (prepared : List (Option PreparedTexture)) (q : ℕ → Bool) (n most : ℕ) → n ≤ most →
     filter (λ k. nat_lt k n && q k) (patch_lumps prepared most) ≡ filter q (patch_lumps prepared n)
@@ -48,8 +48,8 @@ unfolding patch_lumps
 patches-below prepared q n most l =
     let is_patch = is_patch_of_any prepared in
     let test : ℕ → Bool = λ k. nat_lt k n && q k in
-    let whole : most ≡ n + (most - n) = omega (arith, l) in
-    ap (λ (m : ℕ). filter test (filter is_patch (range_with_len 0 m))) whole
+    let most_is_sum : most ≡ n + (most - n) = omega (arith, l) in
+    ap (λ (m : ℕ). filter test (filter is_patch (range_with_len 0 m))) most_is_sum
     ∙ ap (λ (xs : List ℕ). filter test (filter is_patch xs)) (range_parts 0 n (most - n))
     ∙ ap (filter test) (filter-append is_patch (range_with_len 0 n) (range_with_len (0 + n) (most - n)))
     ∙ filter-append test (filter is_patch (range_with_len 0 n)) (filter is_patch (range_with_len (0 + n) (most - n)))

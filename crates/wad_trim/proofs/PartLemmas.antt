@@ -22,13 +22,13 @@ all-there lumps art name parts e = parts_below lumps parts (subst (AllByRecursio
 pub behind-more : (old now new : List TrimPart) (label i : ℕ) (part : TrimPart) → part ≡ copy_part (label + 1 + i) → now ≡ old ++ map copy_part (range_with_len (suc label) i) → new ≡ now ++ part ∷ [] →
     new ≡ old ++ map copy_part (range_with_len (suc label) (i + 1))
 behind-more old now new label i part is before push =
-    let at : suc label + i ≡ label + 1 + i = omega arith in
+    let next_lump_is : suc label + i ≡ label + 1 + i = omega arith in
     let copies = map copy_part (range_with_len (suc label) i) in
     push
     ∙ ap (λ (v : List TrimPart). v ++ part ∷ []) before
     ∙ append_assoc old copies (part ∷ [])
     ∙ ap (λ (p : TrimPart). old ++ (copies ++ p ∷ [])) is
-    ∙ ap (λ (v : List TrimPart). old ++ v) (sym (map-range_with_len_more copy_part (suc label) i (label + 1 + i) at))
+    ∙ ap (λ (v : List TrimPart). old ++ v) (sym (map-range_with_len_more copy_part (suc label) i (label + 1 + i) next_lump_is))
 
 regroup_parts : (a b c d : List TrimPart) → ((a ++ b) ++ c) ++ d ≡ a ++ (b ++ (c ++ d))
 regroup_parts a b c d = simp append_assoc

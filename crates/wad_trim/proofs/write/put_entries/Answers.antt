@@ -25,8 +25,8 @@ pub overflow_add-place : goal.overflow_add-place
 overflow_add-place g c =
     let lumps = c.args.dir.now.lumps in
     let parts = c.args.parts.now in
-    let all : HEADER_SIZE + parts_size lumps parts ≤ MAX_FILE_BYTES = fits-size lumps parts c.requires.fits in
-    omega (arith, c.part_size-size.ensures, all, size-within lumps parts c.loop-part.part-index c.part-item.result (omega arith) c.part-item.is, c.loop-part.invariant.place)
+    let file_fits : HEADER_SIZE + parts_size lumps parts ≤ MAX_FILE_BYTES = fits-size lumps parts c.requires.fits in
+    omega (arith, c.part_size-size.ensures, file_fits, size-within lumps parts c.loop-part.part-index c.part-item.result (omega arith) c.part-item.is, c.loop-part.invariant.place)
 
 pub loop-part-preserved : goal.loop-part-preserved
 loop-part-preserved g c =
