@@ -10,16 +10,16 @@ use Rattle.csv_tables.specs.Rows.{rows_after}
 pub rows_after-end : {A : Type 0} (read : List A → ℕ → List (List ℕ) → Result A CsvRefusal) (rows : List A) (records : List (List (List ℕ))) (i : ℕ) → length records ≤ i → rows_after read rows (drop i records) ≡ Ok rows
 unfolding rows_after
 rows_after-end read rows records i l =
-    let none : drop i records ≡ [] = drop_of_length-le records l in
-    rw none refl
+    let no_record_left : drop i records ≡ [] = drop_of_length-le records l in
+    rw no_record_left refl
 
 -- one record more
 rows_after-more : {A : Type 0} (read : List A → ℕ → List (List ℕ) → Result A CsvRefusal) (rows : List A) (records : List (List (List ℕ))) (i : ℕ) (fields : List (List ℕ)) → i < length records → get_or records i [] ≡ fields → length rows ≡ i
     → rows_after read rows (drop i records) ≡ then_checked (read rows (i + 1) fields) (λ row. rows_after read (rows ++ row ∷ []) (drop (i + 1) records))
 unfolding rows_after
 rows_after-more read rows records i fields l g n =
-    let one = at_drop_more (rows_after read rows) records i [] l in
-    rw (one, g, n) refl
+    let next_record_is = at_drop_more (rows_after read rows) records i [] l in
+    rw (next_record_is, g, n) refl
 
 pub rows_after-taken : {A : Type 0} (read : List A → ℕ → List (List ℕ) → Result A CsvRefusal) (rows : List A) (records : List (List (List ℕ))) (i : ℕ) (fields : List (List ℕ)) (row : A) → i < length records → get_or records i [] ≡ fields → length rows ≡ i
     → read rows (i + 1) fields ≡ Ok row → rows_after read rows (drop i records) ≡ rows_after read (rows ++ row ∷ []) (drop (i + 1) records)
@@ -50,8 +50,8 @@ rows_after-first {A} read limit (suc n) rows (fields ∷ records) past l m =
           and_then-err _ _ TooMany refused ∙ sym (and_then-err _ _ TooMany refused)
       | inr open_ ↦
           and_then-same (read rows (length rows + 1) fields) _ _ (λ row.
-          let len : length (rows ++ row ∷ []) ≡ length rows + 1 = length-append rows (row ∷ []) in
-          rows_after-first read limit n (rows ++ row ∷ []) records past (omega (arith, len)) (omega (arith, len)))
+          let longer_by_row : length (rows ++ row ∷ []) ≡ length rows + 1 = length-append rows (row ∷ []) in
+          rows_after-first read limit n (rows ++ row ∷ []) records past (omega (arith, longer_by_row)) (omega (arith, longer_by_row)))
     ]
 
 -- two refusals of one result
@@ -66,7 +66,7 @@ pub record ReadSoFar {A R : Type 0} (kept : A → Type 0) (read : List A → ℕ
 
 -- the record at i among the fields
 within_fields : {R : Type 0} (fields_of : R → List (List ℕ)) (records : List R) (i : ℕ) → i < length records → i < length (map fields_of records)
-within_fields fields_of records i l = let len = length-map records fields_of in rw len l
+within_fields fields_of records i l = let records_length = length-map records fields_of in rw records_length l
 
 fields_at : {R : Type 0} (fields_of : R → List (List ℕ)) (records : List R) (i : ℕ) (record_ : R) → i < length records → record_ ≡ get_or records i record_ → get_or (map fields_of records) i [] ≡ fields_of record_
 fields_at fields_of records i record_ l is = get_or-map fields_of records i record_ [] l ∙ ap fields_of (sym is)
@@ -86,4 +86,4 @@ read_refused {A} {R} {T} kept read fields_of records rows i record_ a b old l is
 
 pub read_to_end : {A R : Type 0} (kept : A → Type 0) (read : List A → ℕ → List (List ℕ) → Result A CsvRefusal) (fields_of : R → List (List ℕ)) (records : List R) (rows : List A) (i : ℕ) → ReadSoFar kept read fields_of records rows i
     → length records ≤ i → rows_after read [] (map fields_of records) ≡ Ok rows
-read_to_end kept read fields_of records rows i old l = let len = length-map records fields_of in old.so_far ∙ rows_after-end read rows (map fields_of records) i (rw len l)
+read_to_end kept read fields_of records rows i old l = let records_length = length-map records fields_of in old.so_far ∙ rows_after-end read rows (map fields_of records) i (rw records_length l)

@@ -27,33 +27,33 @@ rows_after-err read rows [] refusal e = absurd (ok-err rows refusal e)
 rows_after-err read rows (fields ∷ rest) refusal e =
     elim (parted (read rows (length rows + 1) fields)) [
       | inl taken ↦
-          let more : rows_after read (rows ++ taken.0 ∷ []) rest ≡ Err refusal = rw taken.1 at e in
-          let h = rows_after-err read (rows ++ taken.0 ∷ []) rest refusal more in (
-            suc h.0,
-            omega (arith, h.1),
+          let rest_refused : rows_after read (rows ++ taken.0 ∷ []) rest ≡ Err refusal = rw taken.1 at e in
+          let refused_record = rows_after-err read (rows ++ taken.0 ∷ []) rest refusal rest_refused in (
+            suc refused_record.0,
+            omega (arith, refused_record.1),
             record {
-              before = h.2.before;
-              taken = rw taken.1 h.2.taken;
-              is_read = h.2.is_read;
+              before = refused_record.2.before;
+              taken = rw taken.1 refused_record.2.taken;
+              is_read = refused_record.2.is_read;
             },
           )
       | inr refused ↦
-          let same : refused.0 ≡ refusal = err-same refused.0 refusal (rw refused.1 at e) in
-          (0, omega arith, record { before = rows; taken = refl; is_read = refused.1 ∙ ap Err same })
+          let refusal_same : refused.0 ≡ refusal = err-same refused.0 refusal (rw refused.1 at e) in
+          (0, omega arith, record { before = rows; taken = refl; is_read = refused.1 ∙ ap Err refusal_same })
     ]
 
 -- where it is not, there is a row for each record
 pub rows_after-length : {A : Type 0} (read : List A → ℕ → List (List ℕ) → Result A CsvRefusal) (rows all : List A) (records : List (List (List ℕ)))
     → rows_after read rows records ≡ Ok all → length all ≡ length rows + length records
 unfolding rows_after
-rows_after-length read rows all [] e = let same : rows ≡ all = cc in let n : length rows ≡ length all = ap length same in omega arith
+rows_after-length read rows all [] e = let same : rows ≡ all = cc in let lengths_same : length rows ≡ length all = ap length same in omega arith
 rows_after-length read rows all (fields ∷ rest) e =
     elim (parted (read rows (length rows + 1) fields)) [
       | inl taken ↦
-          let more : rows_after read (rows ++ taken.0 ∷ []) rest ≡ Ok all = rw taken.1 at e in
-          let h = rows_after-length read (rows ++ taken.0 ∷ []) all rest more in
-          let n : length (rows ++ taken.0 ∷ []) ≡ length rows + 1 = length-append rows (taken.0 ∷ []) in
-          omega (arith, h, n)
+          let rest_accepted : rows_after read (rows ++ taken.0 ∷ []) rest ≡ Ok all = rw taken.1 at e in
+          let all_length = rows_after-length read (rows ++ taken.0 ∷ []) all rest rest_accepted in
+          let longer_by_row : length (rows ++ taken.0 ∷ []) ≡ length rows + 1 = length-append rows (taken.0 ∷ []) in
+          omega (arith, all_length, longer_by_row)
       | inr refused ↦ absurd (ok-err all refused.0 (sym e ∙ rw refused.1 refl))
     ]
 
@@ -62,16 +62,16 @@ pub rows_after-within : {A : Type 0} (read : List A → ℕ → List (List ℕ) 
     → ((rows : List A) (row : ℕ) (fields : List (List ℕ)) → limit < row → read rows row fields ≡ Err TooMany)
     → length rows ≤ limit → rows_after read rows records ≡ Ok all → length all ≤ limit
 unfolding rows_after
-rows_after-within read limit rows all [] past l e = let same : rows ≡ all = cc in let n : length rows ≡ length all = ap length same in omega arith
+rows_after-within read limit rows all [] past l e = let same : rows ≡ all = cc in let lengths_same : length rows ≡ length all = ap length same in omega arith
 rows_after-within read limit rows all (fields ∷ rest) past l e =
     elim (parted (read rows (length rows + 1) fields)) [
       | inl taken ↦
-          let more : rows_after read (rows ++ taken.0 ∷ []) rest ≡ Ok all = rw taken.1 at e in
+          let rest_accepted : rows_after read (rows ++ taken.0 ∷ []) rest ≡ Ok all = rw taken.1 at e in
           elim (cases_eq (length rows) limit) [
             | inl full ↦ absurd (ok-err taken.0 TooMany (sym taken.1 ∙ past rows (length rows + 1) fields (omega (arith, full))))
             | inr free ↦
-                let n : length (rows ++ taken.0 ∷ []) ≡ length rows + 1 = length-append rows (taken.0 ∷ []) in
-                rows_after-within read limit (rows ++ taken.0 ∷ []) all rest past (omega (arith, l, free, n)) more
+                let longer_by_row : length (rows ++ taken.0 ∷ []) ≡ length rows + 1 = length-append rows (taken.0 ∷ []) in
+                rows_after-within read limit (rows ++ taken.0 ∷ []) all rest past (omega (arith, l, free, longer_by_row)) rest_accepted
           ]
       | inr refused ↦ absurd (ok-err all refused.0 (sym e ∙ rw refused.1 refl))
     ]

@@ -14,18 +14,18 @@ unfolding row_of
 row_of-more [] line kind e = refl
 row_of-more (l ∷ lines) line kind e =
     elim (cases_eq l.kind line.kind) [
-      | inl same ↦ let b : (l.kind == line.kind) ≡ true = eq-eqb l.kind line.kind same in absurd (some-none l.row (rw b at e))
+      | inl same ↦ let kind_same : (l.kind == line.kind) ≡ true = eq-eqb l.kind line.kind same in absurd (some-none l.row (rw kind_same at e))
       | inr other ↦
-          let b : (l.kind == line.kind) ≡ false = ne_eqb l.kind line.kind other in
-          let more = row_of-more lines line kind (rw b at e) in
+          let kind_differs : (l.kind == line.kind) ≡ false = ne_eqb l.kind line.kind other in
+          let rest_row_of = row_of-more lines line kind (rw kind_differs at e) in
           elim (cases_eq l.kind kind) [
             | inl here ↦
-                let at : (l.kind == kind) ≡ true = eq-eqb l.kind kind here in
-                let off : (line.kind == kind) ≡ false = ne_eqb line.kind kind (λ q. other (here ∙ sym q)) in
-                rw (at, off) refl
+                let line_kind_same : (l.kind == kind) ≡ true = eq-eqb l.kind kind here in
+                let new_kind_differs : (line.kind == kind) ≡ false = ne_eqb line.kind kind (λ q. other (here ∙ sym q)) in
+                rw (line_kind_same, new_kind_differs) refl
             | inr there ↦
-                let off : (l.kind == kind) ≡ false = ne_eqb l.kind kind there in
-                rw off more
+                let line_kind_differs : (l.kind == kind) ≡ false = ne_eqb l.kind kind there in
+                rw line_kind_differs rest_row_of
           ]
     ]
 
@@ -48,8 +48,8 @@ numbered_row-last : (lines : List ThingLine) (line : ThingLine) (n : ℕ) → n 
 unfolding numbered_row
 numbered_row-last lines line zero e = absurd (omega arith)
 numbered_row-last lines line (suc n) e =
-    let same : n ≡ length lines = omega arith in
-    rw same (ap (option_map (λ (x : ThingLine). x.row)) (slice_get-last lines line))
+    let number_is_length : n ≡ length lines = omega arith in
+    rw number_is_length (ap (option_map (λ (x : ThingLine). x.row)) (slice_get-last lines line))
 
 zeros-at : (n kind : ℕ) → ◌≡◌ {A = ℕ} (get_or (replicate n 0) kind 0) 0
 zeros-at zero kind = refl
@@ -72,8 +72,8 @@ pub numbers-start : (numbers : List ℕ) → numbers ≡ replicate TYPES 0 → A
 unfolding row_of numbered_row
 numbers-start numbers e = record {
   all = ap length e ∙ length-replicate {0} {A = ℕ} TYPES 0;
-  within = λ kind. let none : get_or numbers kind 0 ≡ 0 = zero-at TYPES kind numbers e in omega arith;
-  rows = λ kind k. let none : get_or numbers kind 0 ≡ 0 = zero-at TYPES kind numbers e in rw none refl;
+  within = λ kind. let number_is_zero : get_or numbers kind 0 ≡ 0 = zero-at TYPES kind numbers e in omega arith;
+  rows = λ kind k. let number_is_zero : get_or numbers kind 0 ≡ 0 = zero-at TYPES kind numbers e in rw number_is_zero refl;
 }
 
 -- one line more, and its number
@@ -84,9 +84,9 @@ numbers-step lines line numbers n h l e next =
       all = length-set numbers line.kind n ∙ h.all;
       within = λ kind. elim (cases_eq line.kind kind) [
         | inl same ↦
-            let at : get_or (set numbers line.kind n) line.kind 0 ≡ n = get_or-set_same numbers line.kind n 0 (rw h.all l) in
-            let here : get_or (set numbers line.kind n) kind 0 ≡ n = ap (λ q. get_or (set numbers line.kind n) q 0) (sym same) ∙ at in
-            omega (arith, here, longer)
+            let number_is_set : get_or (set numbers line.kind n) line.kind 0 ≡ n = get_or-set_same numbers line.kind n 0 (rw h.all l) in
+            let number_here : get_or (set numbers line.kind n) kind 0 ≡ n = ap (λ q. get_or (set numbers line.kind n) q 0) (sym same) ∙ number_is_set in
+            omega (arith, number_here, longer)
         | inr other ↦
             let off : get_or (set numbers line.kind n) kind 0 ≡ get_or numbers kind 0 = get_or-set_other numbers line.kind kind n 0 (λ q. other (sym q)) in
             let old = h.within kind in
@@ -94,13 +94,13 @@ numbers-step lines line numbers n h l e next =
       ];
       rows = λ kind k. elim (cases_eq line.kind kind) [
         | inl same ↦
-            let b : (line.kind == kind) ≡ true = eq-eqb line.kind kind same in
-            let at : get_or (set numbers line.kind n) line.kind 0 ≡ n = get_or-set_same numbers line.kind n 0 (rw h.all l) in
-            let here : get_or (set numbers line.kind n) kind 0 ≡ n = ap (λ q. get_or (set numbers line.kind n) q 0) (sym same) ∙ at in
-            ap (numbered_row (lines ++ line ∷ [])) here ∙ numbered_row-last lines line n next ∙ sym (row_of-more lines line kind e ∙ rw b refl)
+            let kind_same : (line.kind == kind) ≡ true = eq-eqb line.kind kind same in
+            let number_is_set : get_or (set numbers line.kind n) line.kind 0 ≡ n = get_or-set_same numbers line.kind n 0 (rw h.all l) in
+            let number_here : get_or (set numbers line.kind n) kind 0 ≡ n = ap (λ q. get_or (set numbers line.kind n) q 0) (sym same) ∙ number_is_set in
+            ap (numbered_row (lines ++ line ∷ [])) number_here ∙ numbered_row-last lines line n next ∙ sym (row_of-more lines line kind e ∙ rw kind_same refl)
         | inr other ↦
-            let b : (line.kind == kind) ≡ false = ne_eqb line.kind kind other in
+            let kind_differs : (line.kind == kind) ≡ false = ne_eqb line.kind kind other in
             let off : get_or (set numbers line.kind n) kind 0 ≡ get_or numbers kind 0 = get_or-set_other numbers line.kind kind n 0 (λ q. other (sym q)) in
-            ap (numbered_row (lines ++ line ∷ [])) off ∙ numbered_row-first lines line (get_or numbers kind 0) (h.within kind) ∙ h.rows kind k ∙ sym (row_of-more lines line kind e ∙ rw b refl)
+            ap (numbered_row (lines ++ line ∷ [])) off ∙ numbered_row-first lines line (get_or numbers kind 0) (h.within kind) ∙ h.rows kind k ∙ sym (row_of-more lines line kind e ∙ rw kind_differs refl)
       ];
     }

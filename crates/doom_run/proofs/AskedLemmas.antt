@@ -82,5 +82,5 @@ both_asked ready items asked lump (inr layer) = asked.layers lump layer
 -- the list has what later views ask for
 pub asked-later : {a b : ShelfView} {x y : ReadyViews} (items : List Item) → KeepsReady a b x y → HasReadyAsked items x → HasReadyAsked items y
 asked-later {x = x} {y} items keeps asked =
-    let both = asked_for items x.loaded.files y.loaded.files x.loaded.scene y.loaded.scene keeps.files keeps.scene (asked.textures, asked.lumps) in
-    record { textures = both.0; lumps = both.1; layers = layers_for items x.loaded.files y.loaded.files x.loaded.weapons y.loaded.weapons keeps.files keeps.weapons asked.layers }
+    let asked_both = asked_for items x.loaded.files y.loaded.files x.loaded.scene y.loaded.scene keeps.files keeps.scene (asked.textures, asked.lumps) in
+    record { textures = asked_both.0; lumps = asked_both.1; layers = layers_for items x.loaded.files y.loaded.files x.loaded.weapons y.loaded.weapons keeps.files keeps.weapons asked.layers }

@@ -16,9 +16,9 @@ unfolding surfaces_of surface_of
 numbers_within count [] flats few there = All-nil AreFlatNumbers
 numbers_within count (sector ∷ sectors) [] few there = All-nil AreFlatNumbers
 numbers_within count (sector ∷ sectors) (f ∷ flats) few there =
-    let first = All-head (AreThere count) f flats there in
+    let flats_are_there = All-head (AreThere count) f flats there in
     All-cons AreFlatNumbers (surface_of sector f) (surfaces_of sectors flats)
-    (record { floor = number_within count f.floor few first.floor; ceiling = number_within count f.ceiling few first.ceiling })
+    (record { floor = number_within count f.floor few flats_are_there.floor; ceiling = number_within count f.ceiling few flats_are_there.ceiling })
     (numbers_within count sectors flats few (All-tail (AreThere count) f flats there))
 
 pub can_count : (lumps : List Lump) (scene : SceneValue) (z : Heap) → CanDrawView lumps scene z → CanCount scene

@@ -28,8 +28,8 @@ none_drawn : (level : LevelJobValue) (wads : List (List ℕ)) (files : List File
     load_in level wads files ≡ Ok (loaded_value loaded) → delivery_least level delivery (wad_bytes wads files loaded.files.dir.lumps) (loaded_value loaded) ≤ level.settings.zone
 unfolding delivery_least
 none_drawn level wads files delivery loaded stands none is =
-    let r = views_of (wad_bytes wads files loaded.files.dir.lumps) level.settings (loaded_value loaded) in
-    subst (λ vs. least_over (loaded_value loaded) r.scene vs ≤ level.settings.zone) (sym (none r)) (least_none level wads files (loaded_value loaded) is stands.audited.fits r.scene)
+    let views_value = views_of (wad_bytes wads files loaded.files.dir.lumps) level.settings (loaded_value loaded) in
+    subst (λ vs. least_over (loaded_value loaded) views_value.scene vs ≤ level.settings.zone) (sym (none views_value)) (least_none level wads files (loaded_value loaded) is stands.audited.fits views_value.scene)
 
 -- a fault before anything is written, after loading
 module _ (level : LevelJobValue) (delivery : Delivery) (view : ShelfView) (loaded : LoadedScene) (old : List ℕ → Type 0) (faults : ℕ) where
@@ -49,14 +49,14 @@ pub telling_delivers : (level : LevelJobValue) (view : ShelfView) (loaded : Load
     ((bytes : ℕ → List ℕ) → WritesDue (tells bytes (loaded_value loaded)) old new faults later status) → Delivers level (telling tells) view view loaded old new faults later status
 telling_delivers level view loaded tells old new faults later status stands writes =
     let due : Written = tells (λ lump. []) (loaded_value loaded) in
-    let one = writes (λ lump. []) in
+    let writes_due = writes (λ lump. []) in
     record {
-      behaves = due_behaves false view view due old new faults later status one;
+      behaves = due_behaves false view view due old new faults later status writes_due;
       tells = λ wads files of.
           let bytes = wad_bytes wads files loaded.files.dir.lumps in
           record {
             ends = renders_end view.steady _ (loaded_sizes (loaded_value loaded)).enough (tells bytes (loaded_value loaded)) old new status refl (delivers_render view.steady _ old new status (writes bytes).ends);
-            zone_full = λ wanted widest e. absurd (delivers_all due old new status one.ends (rw e tt));
+            zone_full = λ wanted widest e. absurd (delivers_all due old new status writes_due.ends (rw e tt));
             least = λ end. none_drawn level wads files (telling tells) loaded stands (λ views. refl) of.is;
             reads = λ calm order. omega (arith, items_read (loaded_value loaded) loaded.cache.blocks);
           };

@@ -20,18 +20,18 @@ use Rattle.doom_run.proofs.DeliverLemmas.{telling_delivers}
 -- a scene that was loaded is drawable once it is ready
 pub ready_drawable : (level : LevelJobValue) (loaded : LoadedScene) (ready : ReadyViews) → ready.loaded ≡ loaded → IsLoadedScene level loaded → IsDrawable ready.loaded
 ready_drawable level loaded ready is stands =
-    let here : IsLoadedScene level ready.loaded = subst (IsLoadedScene level) (sym is) stands in
-    (drawable level ready.loaded here, here.audited.layers)
+    let loaded_stands : IsLoadedScene level ready.loaded = subst (IsLoadedScene level) (sym is) stands in
+    (drawable level ready.loaded loaded_stands, loaded_stands.audited.layers)
 
 -- a job that tells of the views of a ready scene
 pub views_delivers : (level : LevelJobValue) (view : ShelfView) (loaded : LoadedScene) (ready : ReadyViews) (tells : ViewsValue → Written) (old new : List ℕ → Type 0) (faults later : ℕ) (status : Status) → ready.loaded ≡ loaded → ready.shop.limits ≡ limits_of_settings level.settings →
     IsLoadedScene level loaded → ((bytes : ℕ → List ℕ) → WritesDue (tells (ready_views bytes ready)) old new faults later status) →
     Delivers level (telling (λ bytes loaded. tells (views_of bytes level.settings loaded))) view view loaded old new faults later status
 views_delivers level view loaded ready tells old new faults later status is limits stands writes =
-    let here : IsLoadedScene level ready.loaded = subst (IsLoadedScene level) (sym is) stands in
+    let loaded_stands : IsLoadedScene level ready.loaded = subst (IsLoadedScene level) (sym is) stands in
     subst (λ (l : LoadedScene). Delivers level (telling (λ bytes loaded. tells (views_of bytes level.settings loaded))) view view l old new faults later status) is
-    (telling_delivers level view ready.loaded (λ bytes loaded. tells (views_of bytes level.settings loaded)) old new faults later status here
-    (λ bytes. subst (λ (r : ViewsValue). WritesDue (tells r) old new faults later status) (sym (ready_as bytes level ready (record { loaded = here; limits = limits }))) (writes bytes)))
+    (telling_delivers level view ready.loaded (λ bytes loaded. tells (views_of bytes level.settings loaded)) old new faults later status loaded_stands
+    (λ bytes. subst (λ (r : ViewsValue). WritesDue (tells r) old new faults later status) (sym (ready_as bytes level ready (record { loaded = loaded_stands; limits = limits }))) (writes bytes)))
 
 -- a job that draws: by what drawing and writing the views of a ready scene came to
 module _ (level : LevelJobValue) (form : ViewForm) (ready left : ReadyViews) (view after : ShelfView) (old new : List ℕ → Type 0) (faults later : ℕ) (status : Status) where

@@ -23,9 +23,10 @@ use Rattle.doom_run.proofs.BlockLemmas.{art_draw}
 pub loaded_textures : (level : LevelJobValue) (wads : List (List ℕ)) (files : List File) (loaded : LoadedValue) → load_in level wads files ≡ Ok loaded → AreTexturesOf (wad_contents wads files) loaded.files.lumps (textures_view loaded.scene)
 unfolding load_in
 loaded_textures level wads files loaded e =
-    let a = and_then-ok (files_in level.files wads level.settings files) _ loaded e in
-    audited_by (λ l. AreTexturesOf (wad_contents wads files) l.files.lumps (textures_view l.scene)) (wad_bytes wads files a.0.lumps) level a.0 loaded (audited_of level wads files a.0 loaded a.1 e)
-    (λ scene weapons accepted layers. scene_textures (wad_contents wads files) a.0.lumps a.0.things level.map_name level.settings.skill scene accepted)
+    let files_ok = and_then-ok (files_in level.files wads level.settings files) _ loaded e in
+    audited_by (λ l. AreTexturesOf (wad_contents wads files) l.files.lumps (textures_view l.scene)) (wad_bytes wads files files_ok.0.lumps) level files_ok.0 loaded (audited_of level wads files files_ok.0 loaded files_ok.1 e)
+    (λ scene weapons accepted layers.
+    scene_textures (wad_contents wads files) files_ok.0.lumps files_ok.0.things level.map_name level.settings.skill scene accepted)
 
 -- a loaded scene may be drawn
 pub drawable : (level : LevelJobValue) (loaded : LoadedScene) → IsLoadedScene level loaded → CanDrawView loaded.files.dir.lumps loaded.scene.scene loaded.cache

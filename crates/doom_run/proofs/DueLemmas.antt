@@ -22,13 +22,13 @@ unfolding due_views
 due_by form r o is = ap (λ (o : Option ℕ). frames_of form r (take (unwrap_or o (length r.views)) r.views)) (sym is)
 
 not_past : (r : ViewsValue) (n i : ℕ) → ((k : ℕ) → k < n → over_at r k ≡ None) → is_some (over_at r i) ≡ true → n ≤ i
-not_past r n i within passes = elim (cases_lt i n) [ inl s ↦ absurd (let none : over_at r i ≡ None = within i s in cc) | inr s ↦ omega (arith, s) ]
+not_past r n i within passes = elim (cases_lt i n) [ inl s ↦ absurd (let not_over : over_at r i ≡ None = within i s in cc) | inr s ↦ omega (arith, s) ]
 
 due_past : (r : ViewsValue) (n : ℕ) (o : Option ℕ) → least (λ k. is_some (over_at r k)) (length r.views) ≡ o → n ≤ length r.views → ((k : ℕ) → k < n → over_at r k ≡ None) → n ≤ unwrap_or o (length r.views)
 due_past r n None is few within = few
 due_past r n (Some i) is few within =
-    let found = least-is (λ k. is_some (over_at r k)) (length r.views) i is in
-    not_past r n i within found.1
+    let least_is = least-is (λ k. is_some (over_at r k)) (length r.views) i is in
+    not_past r n i within least_is.1
 
 take_more : (n d m : ℕ) (views : List SeenView) → n + d ≡ m → take n views ++ take d (drop n views) ≡ take m views
 take_more zero d m views e = ap (λ (k : ℕ). take k views) (omega (arith, e))
@@ -46,6 +46,6 @@ pub due_front : (form : ViewForm) (r : ViewsValue) (n : ℕ) → n ≤ length r.
     (rest : List ℕ) × (frames_of form r (take n r.views) ++ rest ≡ rendered_bytes form r)
 unfolding first_over due_views
 due_front form r n few within =
-    let m : ℕ = unwrap_or (least (λ k. is_some (over_at r k)) (length r.views)) (length r.views) in
-    let le : n ≤ m = due_past r n _ refl few within in
-    (frames_of form r (take (m - n) (drop n r.views)), sym (frames_append form r (take n r.views) (take (m - n) (drop n r.views))) ∙ ap (frames_of form r) (take_more n (m - n) m r.views (omega (arith, le))))
+    let due_count : ℕ = unwrap_or (least (λ k. is_some (over_at r k)) (length r.views)) (length r.views) in
+    let le : n ≤ due_count = due_past r n _ refl few within in
+    (frames_of form r (take (due_count - n) (drop n r.views)), sym (frames_append form r (take n r.views) (take (due_count - n) (drop n r.views))) ∙ ap (frames_of form r) (take_more n (due_count - n) due_count r.views (omega (arith, le))))

@@ -76,9 +76,9 @@ pub record AreNamed (wads : List (List ℕ)) (held : List File) : Type 0 where
 pub loaded_named : (level : LevelJobValue) (wads : List (List ℕ)) (held : List File) (loaded : LoadedValue) → load_in level wads held ≡ Ok loaded → AreNamed wads held
 unfolding load_in
 loaded_named level wads held loaded e =
-    let a = and_then-ok (files_in level.files wads level.settings held) _ loaded e in
-    let listed = wads_accepted level.files wads level.settings held a.0 a.1 in
-    record { contents = listed.contents; named = listed.named; are = ap (λ (c : Option (List (List ℕ))). unwrap_or c []) listed.named }
+    let files_ok = and_then-ok (files_in level.files wads level.settings held) _ loaded e in
+    let files_listed = wads_accepted level.files wads level.settings held files_ok.0 files_ok.1 in
+    record { contents = files_listed.contents; named = files_listed.named; are = ap (λ (c : Option (List (List ℕ))). unwrap_or c []) files_listed.named }
 
 -- a delivery is done, failed to write, or met a limit: what holds of none of these holds of no delivery
 delivers_none : (P : Status → Type 0) → (P Done → ⊥) → (P WriteFault → ⊥) → ((view : ℕ) (kind : LimitKind) (count : ℕ) → P (Limit view kind count) → ⊥) →

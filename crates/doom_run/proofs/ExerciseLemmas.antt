@@ -80,13 +80,13 @@ module _ (n zone : ℕ) (format : Format) where
       EndsAt steady (job_verdict exercise_job held) old old (Limit view kind count)
   over_end steady old view kind count t0 t1 ends held =
       let by = accepted_by made_views (rendered (Frame format)) loading ends.accepted ends.is in
-      let r = made_views by.0 in
-      let limit : rendered_end r ≡ Limit view kind count = ap (λ (a : Accepted). a.end) by.2 ∙ ends.due in
+      let views_value = made_views by.0 in
+      let limit : rendered_end views_value ≡ Limit view kind count = ap (λ (a : Accepted). a.end) by.2 ∙ ends.due in
       record {
-        accepted = accepted_in (loaded_sizes by.0).enough (exercised n format r);
+        accepted = accepted_in (loaded_sizes by.0).enough (exercised n format views_value);
         is = ap (λ (l : Result LoadedValue (Stop Refusal)). drawn_by made_views (exercised n format) l) by.1;
         due = limit;
-        written = subst (λ (bytes : List ℕ). Grew old old bytes) (sym (over_unwritten n format r view kind count limit)) (grew_none old);
+        written = subst (λ (bytes : List ℕ). Grew old old bytes) (sym (over_unwritten n format views_value view kind count limit)) (grew_none old);
       }
 
   stopped_end : (steady : Bool) (old t0 t1 : List ℕ → Type 0) (status : Status) → IsTrue steady → (status ≡ Done → ⊥) → (status ≡ WriteFault → ⊥) → EndsAt steady (job_verdict render_job (made_files n)) t0 t1 status → (held : List File) →
@@ -118,7 +118,7 @@ module _ (n zone : ℕ) (format : Format) where
     exercise_stops view old faults status done rendering =
         let failed : status ≡ WriteFault → ⊥ = λ e. no_rise (rendering.behaves.write_fault e) in
         let reads = not_read status rendering in
-        let all = said status rendering in
+        let render_tells = said status rendering in
         record {
           behaves = record {
             unwritten = λ is. grew_none old;
@@ -131,9 +131,9 @@ module _ (n zone : ℕ) (format : Format) where
           zoned = λ wanted widest e. refl;
           tells = λ held holds. record {
             ends = steady_end view.steady before.steady status old held on reads
-                (stopped_end before.steady old (IsTallyOf t0) (IsTallyOf t1) status on done failed all.ends held);
-            zone_full = all.zone_full;
-            least = λ end. subst (λ k. k ≤ zone) least_alike (all.least end);
+                (stopped_end before.steady old (IsTallyOf t0) (IsTallyOf t1) status on done failed render_tells.ends held);
+            zone_full = render_tells.zone_full;
+            least = λ end. subst (λ k. k ≤ zone) least_alike (render_tells.least end);
             reads = λ calm. takes_none exercise_job.task held view.taken;
           };
         }
@@ -153,26 +153,26 @@ module _ (n zone : ℕ) (format : Format) where
         summary ≡ record { sectors = 4 * n * n; views = 3 * n; frames = t1.count / frame_size format; bytes = t1.count; sum = t1.sum } →
         DeliversBytes (summary_line summary) old new status → (status ≡ WriteFault → FaultsRose faults later) → Performs exercise_job view view old new faults later status
     exercise_done view old new faults later status summary first rendering summed writes failed =
-        let all = said Done rendering in
-        let by = accepted_by made_views (rendered (Frame format)) loading all.ends.accepted all.ends.is in
-        let r = made_views by.0 in
-        let end : rendered_end r ≡ Done = ap (λ (a : Accepted). a.end) by.2 ∙ all.ends.due in
-        let put : Grew (IsTallyOf t0) (IsTallyOf t1) (rendered_bytes (Frame format) r) = subst (λ (a : Accepted). Grew (IsTallyOf t0) (IsTallyOf t1) a.output) (sym by.2) all.ends.written in
-        let few : length r.views ≤ MAX_VIEWS = subst (λ k. k ≤ MAX_VIEWS) (sym (views_rows (wad_bytes made_wads (made_files n) by.0.files.lumps) (made_level zone).settings by.0)) (loaded_few (made_level zone) made_wads (made_files n) by.0 by.1) in
-        let line : summary_line summary ≡ exercised_bytes n format r = ap (λ (s : Summary). summary_line s) summed ∙ tallied_line n format r t1 few end (tally_of first put) in
-        let due : done (summary_line summary) ≡ exercised n format r =
-        ap (λ (bytes : List ℕ). record { output = bytes; end = Done }) line ∙ ap (λ (e : Status). record { output = exercised_bytes n format r; end = e }) (sym end) in
+        let render_tells = said Done rendering in
+        let by = accepted_by made_views (rendered (Frame format)) loading render_tells.ends.accepted render_tells.ends.is in
+        let views_value = made_views by.0 in
+        let end : rendered_end views_value ≡ Done = ap (λ (a : Accepted). a.end) by.2 ∙ render_tells.ends.due in
+        let grew_by_frames : Grew (IsTallyOf t0) (IsTallyOf t1) (rendered_bytes (Frame format) views_value) = subst (λ (a : Accepted). Grew (IsTallyOf t0) (IsTallyOf t1) a.output) (sym by.2) render_tells.ends.written in
+        let views_few : length views_value.views ≤ MAX_VIEWS = subst (λ k. k ≤ MAX_VIEWS) (sym (views_rows (wad_bytes made_wads (made_files n) by.0.files.lumps) (made_level zone).settings by.0)) (loaded_few (made_level zone) made_wads (made_files n) by.0 by.1) in
+        let line : summary_line summary ≡ exercised_bytes n format views_value = ap (λ (s : Summary). summary_line s) summed ∙ tallied_line n format views_value t1 views_few end (tally_of first grew_by_frames) in
+        let due : done (summary_line summary) ≡ exercised n format views_value =
+        ap (λ (bytes : List ℕ). record { output = bytes; end = Done }) line ∙ ap (λ (e : Status). record { output = exercised_bytes n format views_value; end = e }) (sym end) in
         let delivers : DeliversAt (done (summary_line summary)) old new status = bytes_deliver (summary_line summary) old new status writes in
         record {
           behaves = due_behaves false view view (done (summary_line summary)) old new faults later status (record { ends = delivers; write_fault = failed });
           asked = λ e. absurd (delivers_all (done (summary_line summary)) old new status delivers (rw e tt));
           zoned = λ wanted widest e. refl;
           tells = λ held holds. record {
-            ends = renders_end view.steady _ (loaded_sizes by.0).enough (exercised n format r) old new status
+            ends = renders_end view.steady _ (loaded_sizes by.0).enough (exercised n format views_value) old new status
                 (ap (λ (l : Result LoadedValue (Stop Refusal)). drawn_by made_views (exercised n format) l) by.1)
                 (delivers_render view.steady _ old new status (subst (λ (w : Written). DeliversAt w old new status) due delivers));
             zone_full = λ wanted widest e. absurd (delivers_all (done (summary_line summary)) old new status delivers (rw e tt));
-            least = λ is. subst (λ k. k ≤ zone) least_alike (all.least tt);
+            least = λ is. subst (λ k. k ≤ zone) least_alike (render_tells.least tt);
             reads = λ calm. takes_none exercise_job.task held view.taken;
           };
         }

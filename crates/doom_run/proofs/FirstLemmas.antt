@@ -23,18 +23,19 @@ first-more f n =
 
 -- what some numbers give begins what more give
 pub first-begins : (f : ℕ → List ℕ) (n m : ℕ) → (rest : List ℕ) × (first_of f n ++ rest ≡ first_of f (n + m))
-first-begins f n zero = let e : n ≡ n + zero = omega arith in ([], append-nil (first_of f n) ∙ ap (first_of f) e)
+first-begins f n zero = let number_same : n ≡ n + zero = omega arith in ([], append-nil (first_of f n) ∙ ap (first_of f) number_same)
 first-begins f n (suc m) =
-    let p : (rest : List ℕ) × (first_of f n ++ rest ≡ first_of f (n + m)) = first-begins f n m in
-    let e : n + m + 1 ≡ n + suc m = omega arith in
-    (p.0 ++ f (n + m), sym (append_assoc (first_of f n) p.0 (f (n + m))) ∙ ap (λ (xs : List ℕ). xs ++ f (n + m)) p.1 ∙ first-more f (n + m) ∙ ap (first_of f) e)
+    let rest_behind : (rest : List ℕ) × (first_of f n ++ rest ≡ first_of f (n + m)) = first-begins f n m in
+    let next_number_is : n + m + 1 ≡ n + suc m = omega arith in
+    (rest_behind.0 ++ f (n + m), sym (append_assoc (first_of f n) rest_behind.0 (f (n + m)))
+    ∙ ap (λ (xs : List ℕ). xs ++ f (n + m)) rest_behind.1 ∙ first-more f (n + m) ∙ ap (first_of f) next_number_is)
 
 -- a prefix of what the first numbers give is one of what more give
 pub prefix_first : {a b : List ℕ → Type 0} (f : ℕ → List ℕ) (n m : ℕ) → n ≤ m → GrewByPrefix a b (first_of f n) → GrewByPrefix a b (first_of f m)
 prefix_first f n m le grew =
-    let p : (rest : List ℕ) × (first_of f n ++ rest ≡ first_of f (n + (m - n))) = first-begins f n (m - n) in
-    let e : n + (m - n) ≡ m = omega arith in
-    prefix_of_more p.0 (first_of f m) grew (p.1 ∙ ap (first_of f) e)
+    let rest_behind : (rest : List ℕ) × (first_of f n ++ rest ≡ first_of f (n + (m - n))) = first-begins f n (m - n) in
+    let numbers_add_up : n + (m - n) ≡ m = omega arith in
+    prefix_of_more rest_behind.0 (first_of f m) grew (rest_behind.1 ∙ ap (first_of f) numbers_add_up)
 
 -- nothing was written yet
 pub none_first : {E : Type 0} (f : ℕ → List ℕ) (a : List ℕ → Type 0) (i : ℕ) → Writes {E = E} a a i i (first_of f 0) (Ok tt)

@@ -42,7 +42,7 @@ over_at-eye bytes ready k eye at =
 
 frame_from : (f : SeenView → List ℕ) (o : Option SeenView) (bytes : List ℕ) → option_map f o ≡ Some bytes → bytes ≡ option_map_or f o []
 frame_from f None bytes e = absurd (cc)
-frame_from f (Some v) bytes e = let same : f v ≡ bytes = cc in sym same
+frame_from f (Some v) bytes e = let bytes_same : f v ≡ bytes = cc in sym bytes_same
 
 -- what is written is that of the number
 pub frame_is : (r : ViewsValue) (k : ℕ) (c : ViewCanvas) → IsDrawnAt r k c → canvas_bytes r.palette c ≡ frame_at (form_of c) r k
@@ -78,10 +78,10 @@ module _ {k : ℕ} {view after : ShelfView} {ready left : ReadyViews} {c : ViewC
   pub view_written : {F : Type 0} {old new : List ℕ → Type 0} {i j : ℕ} (palette : List ℕ) (put : Result (Unit {0}) F) (unit : Unit {0}) → drawn ≡ Ok unit → form_of c ≡ form → palette ≡ left.loaded.scene.scene.base.palette →
       Writes old new i j (canvas_bytes palette c) put → (over_at first_views k ≡ None) × Writes old new i j (frame_at form first_views k) put
   view_written {old = old} {new} {i} {j} palette put unit was kept same writes =
-      let here : IsDrawnAt first_views k c = rw was at (draws.drawn contents count holds) in
-      let none : over_at first_views k ≡ None = rw was at (draws.within (ready_bytes contents ready)) in
-      let frame = frame_of (ready_bytes contents ready) form ready k palette c kept (same ∙ ap (λ (s : SoundValue). s.scene.base.palette) draws.keeps.scene) here in
-      (none, subst (λ (bytes : List ℕ). Writes old new i j bytes put) frame writes)
+      let drawn_at : IsDrawnAt first_views k c = rw was at (draws.drawn contents count holds) in
+      let not_over : over_at first_views k ≡ None = rw was at (draws.within (ready_bytes contents ready)) in
+      let frame = frame_of (ready_bytes contents ready) form ready k palette c kept (same ∙ ap (λ (s : SoundValue). s.scene.base.palette) draws.keeps.scene) drawn_at in
+      (not_over, subst (λ (bytes : List ℕ). Writes old new i j bytes put) frame writes)
 
 -- the first n views were written, and none of them is over a limit
 pub record Rendered (form : ViewForm) (r : ViewsValue) (n : ℕ) (old new : List ℕ → Type 0) : Type 0 where
@@ -96,9 +96,9 @@ rendered-none form r old = record { within = λ k below. absurd (omega (arith, b
 joined_more : (f : SeenView → List ℕ) (views : List SeenView) (n : ℕ) (v : SeenView) → slice_get views n ≡ Some v → joined_lists f (take n views) ++ f v ≡ joined_lists f (take (n + 1) views)
 unfolding joined_lists
 joined_more f views n v at =
-    let here : get_or views n v ≡ v = get_or_from_slice_get views n v v at in
-    let more : take (n + 1) views ≡ take n views ++ (v ∷ []) = rw add-one (take-suc views n v (slice_get_within views n v at) ∙ ap (λ x. take n views ++ (x ∷ [])) here) in
-    sym (ap (joined_lists f) more ∙ joined_lists-append f (take n views) (v ∷ []) ∙ ap (λ xs. joined_lists f (take n views) ++ xs) (append-nil (f v)))
+    let view_is : get_or views n v ≡ v = get_or_from_slice_get views n v v at in
+    let taken_grows : take (n + 1) views ≡ take n views ++ (v ∷ []) = rw add-one (take-suc views n v (slice_get_within views n v at) ∙ ap (λ x. take n views ++ (x ∷ [])) view_is) in
+    sym (ap (joined_lists f) taken_grows ∙ joined_lists-append f (take n views) (v ∷ []) ∙ ap (λ xs. joined_lists f (take n views) ++ xs) (append-nil (f v)))
 
 joined_at : (f : SeenView → List ℕ) (views : List SeenView) (n : ℕ) (o : Option SeenView) → n < length views → slice_get views n ≡ o → joined_lists f (take n views) ++ option_map_or f o [] ≡ joined_lists f (take (n + 1) views)
 joined_at f views n None below at = absurd (none_within views n below at)
@@ -110,7 +110,7 @@ unfolding frames_of frame_at
 frame_more form r n below = joined_at (view_bytes form r.palette r.scene) r.views n (slice_get r.views n) below refl
 
 within_more : (r : ViewsValue) (n k : ℕ) → ((k : ℕ) → k < n → over_at r k ≡ None) → over_at r n ≡ None → k < n + 1 → over_at r k ≡ None
-within_more r n k within here below = elim (cases_lt k n) [ inl s ↦ within k s | inr s ↦ let same : k ≡ n = omega (arith, s, below) in ap (over_at r) same ∙ here ]
+within_more r n k within here below = elim (cases_lt k n) [ inl s ↦ within k s | inr s ↦ let number_same : k ≡ n = omega (arith, s, below) in ap (over_at r) number_same ∙ here ]
 
 -- one view more
 pub rendered-more : {form : ViewForm} {r : ViewsValue} {n : ℕ} {old mid new : List ℕ → Type 0} (steady : Bool) (status : Status) →
@@ -125,8 +125,8 @@ rendered-more {form} {r} {n} {old} {mid} {new} steady status so_far below ends i
 -- the last view was written
 pub render_done : {form : ViewForm} {r : ViewsValue} {old new : List ℕ → Type 0} (steady : Bool) (n : ℕ) → n ≡ length r.views → Rendered form r n old new → RendersAt steady (rendered form r) old new Done
 render_done {form} {r} {old} {new} steady n all so_far =
-    let within : (k : ℕ) → k < length r.views → over_at r k ≡ None = λ k below. so_far.within k (omega (arith, all, below)) in
-    let none : first_over r ≡ None = none_over r within in
+    let never_over : (k : ℕ) → k < length r.views → over_at r k ≡ None = λ k below. so_far.within k (omega (arith, all, below)) in
+    let none : first_over r ≡ None = none_over r never_over in
     let due : frames_of form r (take n r.views) ≡ rendered_bytes form r = ap (λ (m : ℕ). frames_of form r (take m r.views)) all ∙ due_by form r None none in
     (ap (end_at r) none, subst (Grew old new) due so_far.written)
 
@@ -146,9 +146,9 @@ stopped_within {form} {r} {n} so_far below here part =
 stopped_over : {form : ViewForm} {r : ViewsValue} {n : ℕ} {old mid new : List ℕ → Type 0} (steady : Bool) (view : ℕ) (over : OverLimit) → Rendered form r n old mid → n < length r.views → view ≡ n → over_at r n ≡ Some over → Grew mid new [] →
     RendersAt steady (rendered form r) old new (Limit view over.kind over.count)
 stopped_over {form} {r} {n} {old} {mid} {new} steady view over so_far below same is none =
-    let first : first_over r ≡ Some n = some_over r n over below so_far.within is in (
-      ap (end_at r) first ∙ ap (limit_at n) is ∙ ap (λ (k : ℕ). Limit k over.kind over.count) (sym same),
-      grew_more (rendered_bytes form r) so_far.written none (append-nil _ ∙ due_by form r (Some n) first),
+    let first_over_is : first_over r ≡ Some n = some_over r n over below so_far.within is in (
+      ap (end_at r) first_over_is ∙ ap (limit_at n) is ∙ ap (λ (k : ℕ). Limit k over.kind over.count) (sym same),
+      grew_more (rendered_bytes form r) so_far.written none (append-nil _ ∙ due_by form r (Some n) first_over_is),
     )
 
 -- the n-th view ends the rendering

@@ -44,7 +44,7 @@ delivers_held (Err refusal) accept e = cc
 absent_load : (loading : Result LoadedValue (Stop Refusal)) (next : LoadedValue → Result Accepted (Stop Refusal)) → ((loaded : LoadedValue) → next loaded ≡ Err files.absent → ⊥) →
     and_then loading next ≡ Err files.absent → loading ≡ Err files.absent
 absent_load (Ok loaded) next held e = absurd (held loaded e)
-absent_load (Err stop) next held e = let same : stop ≡ files.absent = cc in ap (λ (s : Stop Refusal). Err s) same
+absent_load (Err stop) next held e = let stop_is_absent : stop ≡ files.absent = cc in ap (λ (s : Stop Refusal). Err s) stop_is_absent
 
 -- one that accepts has loaded, and its zone is enough for what was loaded
 enough_of : {R : Type 0} (enough : ℕ) (made : Result Written R) (accepted : Accepted) → and_then (no_file made) (λ written. Ok (record { output = written.output; end = written.end; enough = enough })) ≡ Ok accepted → accepted.enough ≡ enough
@@ -63,7 +63,7 @@ below_absent (Err files.absent) e = refl
 below_absent (Err (files.stopped refusal)) e = absurd (cc)
 
 below_accepted : {A : Type 0} (expected : Result A (Stop Refusal)) (value : A) → from_below at_step expected ≡ Ok value → expected ≡ Ok value
-below_accepted (Ok found) value e = let same : found ≡ value = cc in ap Ok same
+below_accepted (Ok found) value e = let value_same : found ≡ value = cc in ap Ok value_same
 below_accepted (Err stop) value e = absurd (cc)
 
 -- where a zone is full, no file is absent
@@ -86,8 +86,9 @@ no_smaller zone enough due small same room = omega (arith, small, same, room)
 task_room : (wanted widest' : ℕ) (task : Task) (held : List File) (accepted : Accepted) → IsFullTask task held wanted widest' → accepted.enough ≤ zone_of task → task_verdict task held ≡ Ok accepted → ⊥
 task_room wanted widest' (plain writes reads) held accepted full room e = full
 task_room wanted widest' (over work) held accepted full room e =
-    let p = accepted_load work.delivery (λ loaded. wad_bytes work.wads (work.files held) loaded.files.lumps) (load_in work.level work.wads (work.files held)) accepted e in
-    no_smaller work.level.settings.zone (loaded_sizes p.0).enough accepted.enough (full_small work.level work.wads (work.files held) p.0 full p.1) p.2 room
+    let load_ok = accepted_load work.delivery (λ loaded. wad_bytes work.wads (work.files held) loaded.files.lumps) (load_in work.level work.wads (work.files held)) accepted e in
+    no_smaller work.level.settings.zone (loaded_sizes load_ok.0).enough accepted.enough
+    (full_small work.level work.wads (work.files held) load_ok.0 full load_ok.1) load_ok.2 room
 
 pub run_room : (command : Option CommandValue) (held : List File) (accepted : Accepted) (wanted widest' : ℕ) →
     IfSome command (λ command. IsFullRun command held wanted widest') → IfSome command (λ command. accepted.enough ≤ zone_of (job_of command).task) → and_then (else_usage command) (λ command. job_verdict (job_of command) held) ≡ Ok accepted → ⊥

@@ -17,8 +17,8 @@ pub light_found : (scene : SceneValue) (eye : Eye) (surfaces : List Surface) (n 
     (slice_index_or surfaces n no_surface).light ≡ layer_light scene eye
 unfolding layer_light surface_at
 light_found scene eye surfaces n x y are is h v =
-    let same : n ≡ sector_at scene.base.level eye.x eye.y = is ∙ ap (λ (a : ℤ). sector_at scene.base.level a y) h ∙ ap (λ (b : ℤ). sector_at scene.base.level eye.x b) v in
-    ap (λ (xs : List Surface). (slice_index_or xs n no_surface).light) are ∙ ap (λ (k : ℕ). (slice_index_or (surfaces_of scene.base.level.sectors scene.faces.flats) k no_surface).light) same
+    let sector_same : n ≡ sector_at scene.base.level eye.x eye.y = is ∙ ap (λ (a : ℤ). sector_at scene.base.level a y) h ∙ ap (λ (b : ℤ). sector_at scene.base.level eye.x b) v in
+    ap (λ (xs : List Surface). (slice_index_or xs n no_surface).light) are ∙ ap (λ (k : ℕ). (slice_index_or (surfaces_of scene.base.level.sectors scene.faces.flats) k no_surface).light) sector_same
 
 -- the frame of a row has no picture
 pub layer_none : (book : List Frame) (light : ℤ) (number : ℕ) (row : WeaponRow) → picked book row.sprite row.frame 0 ≡ None → None ≡ layer_of book light number row
@@ -30,5 +30,5 @@ pub layer_some : (book : List Frame) (light light' : ℤ) (number : ℕ) (row : 
     ◌≡◌ {A = Option WeaponLayer} (Some (record { row = number; shape = drawn_shape shape; sx = sx; sy = sy; bright = row.bright; light = light' })) (layer_of book light number row)
 unfolding layer_of layer_with
 layer_some book light light' number row shape sx sy some x y l =
-    let made : ℤ → ℤ → ℤ → Option WeaponLayer = λ a b c. Some (record { row = number; shape = drawn_shape shape; sx = a; sy = b; bright = row.bright; light = c }) in
-    ap (λ (a : ℤ). made a sy light') x ∙ ap (λ (b : ℤ). made row.sx b light') y ∙ ap (λ (c : ℤ). made row.sx row.sy c) l ∙ ap (option_map (layer_with light number row)) (sym some)
+    let layer_made : ℤ → ℤ → ℤ → Option WeaponLayer = λ a b c. Some (record { row = number; shape = drawn_shape shape; sx = a; sy = b; bright = row.bright; light = c }) in
+    ap (λ (a : ℤ). layer_made a sy light') x ∙ ap (λ (b : ℤ). layer_made row.sx b light') y ∙ ap (λ (c : ℤ). layer_made row.sx row.sy c) l ∙ ap (option_map (layer_with light number row)) (sym some)

@@ -26,8 +26,8 @@ module _ {X : Type 0} (f : X → ℕ) (m zone : ℕ) (least : m ≤ zone) where
   taken_beside zero xs each = omega (arith, least)
   taken_beside (suc n) [] each = omega (arith, least)
   taken_beside (suc n) (x ∷ xs) each =
-      let first : m + f x ≤ zone = each 0 (omega arith) in
-      omega (arith, first, taken_beside n xs (λ k l. each (suc k) (omega (arith, l))))
+      let first_fits_zone : m + f x ≤ zone = each 0 (omega arith) in
+      omega (arith, first_fits_zone, taken_beside n xs (λ k l. each (suc k) (omega (arith, l))))
 
 -- of numbers in a range
 range_beside : (f : ℕ → ℕ) (m zone first n : ℕ) → m ≤ zone → ((k : ℕ) → m + f k ≤ zone) → m + greatest_by f (range_with_len first n) ≤ zone
@@ -41,7 +41,7 @@ by_test true m x y zone on off = on refl
 by_test false m x y zone on off = off refl
 
 not_same : (x y : ℕ) → (x == y) ≡ false → x ≢ y
-not_same x y e same = absurd (let on = eq-eqb x y same in cc)
+not_same x y e same = absurd (let numbers_same = eq-eqb x y same in cc)
 
 -- what a painter reads
 module _ (lumps : List Lump) (textures : TexturesView) (colormap zone : ℕ) (least : lump_block lumps colormap ≤ zone) where
@@ -123,10 +123,10 @@ module _ (lumps : List Lump) (name : List ℕ) (base : LevelBase) (parts : IsBas
 loaded_base : (level : LevelJobValue) (wads : List (List ℕ)) (files : List File) (loaded : LoadedValue) → load_in level wads files ≡ Ok loaded → IsBaseOf loaded.files.lumps level.map_name loaded.scene.base
 unfolding load_in
 loaded_base level wads files loaded e =
-    let a = and_then-ok (files_in level.files wads level.settings files) _ loaded e in
-    audited_by (λ l. IsBaseOf l.files.lumps level.map_name l.scene.base) (wad_bytes wads files a.0.lumps) level a.0 loaded (audited_of level wads files a.0 loaded a.1 e)
+    let files_ok = and_then-ok (files_in level.files wads level.settings files) _ loaded e in
+    audited_by (λ l. IsBaseOf l.files.lumps level.map_name l.scene.base) (wad_bytes wads files files_ok.0.lumps) level files_ok.0 loaded (audited_of level wads files files_ok.0 loaded files_ok.1 e)
     (λ scene weapons accepted layers.
-    base_parts (wad_bytes wads files a.0.lumps) a.0.lumps level.map_name scene.base (scene_parts (wad_bytes wads files a.0.lumps) a.0.lumps a.0.things level.map_name level.settings.skill scene accepted).base)
+    base_parts (wad_bytes wads files files_ok.0.lumps) files_ok.0.lumps level.map_name scene.base (scene_parts (wad_bytes wads files files_ok.0.lumps) files_ok.0.lumps files_ok.0.things level.map_name level.settings.skill scene accepted).base)
 
 module _ (level : LevelJobValue) (wads : List (List ℕ)) (files : List File) (loaded : LoadedValue) (is : load_in level wads files ≡ Ok loaded) (within : IsBaseWithin loaded.files.lumps level loaded.scene.base.colormap) where
   beside : (lump : ℕ) → IsOfBase loaded.files.lumps level.map_name lump → lump ≢ loaded.scene.base.colormap → lump_block loaded.files.lumps loaded.scene.base.colormap + lump_block loaded.files.lumps lump ≤ level.settings.zone

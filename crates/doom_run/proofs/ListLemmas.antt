@@ -36,10 +36,10 @@ lines-append : {A : Type 0} (line : ℕ → A → List ℕ) (k : ℕ) (xs ys : L
 unfolding lines_from
 lines-append line k [] ys = ap (λ (n : ℕ). lines_from line n ys) (sym (add-zero k))
 lines-append line k (x ∷ xs) ys =
-    let far : k + 1 + length xs ≡ k + length (x ∷ xs) = omega arith in
+    let next_number_is : k + 1 + length xs ≡ k + length (x ∷ xs) = omega arith in
     ap (λ (v : List ℕ). line k x ++ v) (lines-append line (k + 1) xs ys)
     ∙ sym (append_assoc (line k x) (lines_from line (k + 1) xs) (lines_from line (k + 1 + length xs) ys))
-    ∙ ap (λ (n : ℕ). (line k x ++ lines_from line (k + 1) xs) ++ lines_from line n ys) far
+    ∙ ap (λ (n : ℕ). (line k x ++ lines_from line (k + 1) xs) ++ lines_from line n ys) next_number_is
 
 lines-one : {A : Type 0} (line : ℕ → A → List ℕ) (k : ℕ) (x : A) (xs : List A) → lines_from line k (x ∷ xs) ≡ line k x ++ lines_from line (k + 1) xs
 unfolding lines_from
@@ -58,9 +58,9 @@ pub lines-left : {A : Type 0} (line : ℕ → A → List ℕ) (xs : List A) (i :
     lines_from line 0 (take i xs) ++ (line i x ++ lines_behind line xs i) ≡ lines_from line 0 xs
 lines-left line xs i x is l =
     let short = length-take-le i xs (omega arith) in
-    let n : 0 + length (take i xs) ≡ i = omega (arith, short) in
+    let taken_length : 0 + length (take i xs) ≡ i = omega (arith, short) in
     ap (λ (v : List ℕ). lines_from line 0 (take i xs) ++ v)
-    (ap (λ y. line i y ++ lines_behind line xs i) is ∙ sym (lines-one line i (get_or xs i x) (drop (suc i) xs)) ∙ ap (lines_from line i) (sym (drop-cons xs i x l)) ∙ ap (λ (k : ℕ). lines_from line k (drop i xs)) (sym n))
+    (ap (λ y. line i y ++ lines_behind line xs i) is ∙ sym (lines-one line i (get_or xs i x) (drop (suc i) xs)) ∙ ap (lines_from line i) (sym (drop-cons xs i x l)) ∙ ap (λ (k : ℕ). lines_from line k (drop i xs)) (sym taken_length))
     ∙ sym (lines-append line 0 (take i xs) (drop i xs))
     ∙ ap (lines_from line 0) (take-append-drop i xs)
 
@@ -69,8 +69,8 @@ pub lines-more : {A : Type 0} (line : ℕ → A → List ℕ) (xs : List A) (i :
     lines_from line 0 (take i xs) ++ line i x ≡ lines_from line 0 (take (i + 1) xs)
 lines-more line xs i x is l =
     let short = length-take-le i xs (omega arith) in
-    let n : 0 + length (take i xs) ≡ i = omega (arith, short) in
-    ap (λ (v : List ℕ). lines_from line 0 (take i xs) ++ v) (ap (line i) is ∙ sym (lines-last line i (get_or xs i x)) ∙ ap (λ (k : ℕ). lines_from line k (get_or xs i x ∷ [])) (sym n))
+    let taken_length : 0 + length (take i xs) ≡ i = omega (arith, short) in
+    ap (λ (v : List ℕ). lines_from line 0 (take i xs) ++ v) (ap (line i) is ∙ sym (lines-last line i (get_or xs i x)) ∙ ap (λ (k : ℕ). lines_from line k (get_or xs i x ∷ [])) (sym taken_length))
     ∙ sym (lines-append line 0 (take i xs) (get_or xs i x ∷ []))
     ∙ ap (lines_from line 0) (sym (take_more xs i x l))
 

@@ -32,54 +32,54 @@ records_few : (records : List (List (List ℕ))) (rows : List Eye) → path_of_r
 unfolding path_of_records
 records_few [] rows e = absurd (cc)
 records_few (head ∷ rest) rows e =
-    let w = then_ok (path_width head) _ rows e in
-    rows_after-within (λ _. path_row w.0) MAX_VIEWS [] rows rest (λ _ row fields past. row_past w.0 row fields past) (omega arith) w.2
+    let width_ok = then_ok (path_width head) _ rows e in
+    rows_after-within (λ _. path_row width_ok.0) MAX_VIEWS [] rows rest (λ _ row fields past. row_past width_ok.0 row fields past) (omega arith) width_ok.2
 
 -- a path that is accepted has no more views than the limit
 pub path_few : (bytes : List ℕ) (rows : List Eye) → path_in bytes ≡ Ok rows → length rows ≤ MAX_VIEWS
 unfolding path_in
-path_few bytes rows e = let t = then_ok (table_records bytes) path_of_records rows e in records_few t.0 rows t.2
+path_few bytes rows e = let records_ok = then_ok (table_records bytes) path_of_records rows e in records_few records_ok.0 rows records_ok.2
 
 no_file-ok : {A R : Type 0} (r : Result A R) (value : A) → no_file r ≡ Ok value → r ≡ Ok value
-no_file-ok (Ok found) value e = let same : found ≡ value = cc in ap Ok same
+no_file-ok (Ok found) value e = let value_same : found ≡ value = cc in ap Ok value_same
 no_file-ok (Err reason) value e = absurd (cc)
 
 -- what a file gives is what some bytes give
 file_ok : {A : Type 0} (read : List ℕ → Result A Refusal) (name : List ℕ) (files : List File) (value : A) → in_file read name files ≡ Ok value → (bytes : List ℕ) × (read bytes ≡ Ok value)
 unfolding in_file
 file_ok read name files value e =
-    let a = and_then-ok (else_absent (file_named name files)) _ value e in (a.0, no_file-ok (read a.0) value a.2)
+    let file_there = and_then-ok (else_absent (file_named name files)) _ value e in (file_there.0, no_file-ok (read file_there.0) value file_there.2)
 
 texts_few : (names : FileNames) (files : List File) (texts : TextTables) → texts_in names files ≡ Ok texts → length texts.path ≤ MAX_VIEWS
 unfolding texts_in
 texts_few names files texts e =
-    let a = and_then-ok (in_file things_file names.things files) _ texts e in
-    let b = and_then-ok (in_file path_file names.path files) _ texts a.2 in
-    let c = and_then-ok (in_optional_file weapons_file names.weapon files) _ texts b.2 in
-    let f = file_ok path_file names.path files b.0 b.1 in
-    let few : length b.0 ≤ MAX_VIEWS = path_few f.0 b.0 (from_below-ok refusal.Path (path_in f.0) b.0 f.1) in
-    let same : b.0 ≡ texts.path = cc (c.2) in
-    rw same at few
+    let things_ok = and_then-ok (in_file things_file names.things files) _ texts e in
+    let path_ok = and_then-ok (in_file path_file names.path files) _ texts things_ok.2 in
+    let weapons_ok = and_then-ok (in_optional_file weapons_file names.weapon files) _ texts path_ok.2 in
+    let path_bytes = file_ok path_file names.path files path_ok.0 path_ok.1 in
+    let views_few : length path_ok.0 ≤ MAX_VIEWS = path_few path_bytes.0 path_ok.0 (from_below-ok refusal.Path (path_in path_bytes.0) path_ok.0 path_bytes.1) in
+    let path_same : path_ok.0 ≡ texts.path = cc (weapons_ok.2) in
+    rw path_same at views_few
 
 files_few : (names : FileNames) (wads : List (List ℕ)) (settings : Settings) (files : List File) (values : FilesValue) → files_in names wads settings files ≡ Ok values → length values.path ≤ MAX_VIEWS
 unfolding files_in
 files_few names wads settings files values e =
-    let a = and_then-ok (in_file (tables_file settings) names.tables files) _ values e in
-    let b = and_then-ok (texts_in names files) _ values a.2 in
-    let c = and_then-ok (lumps_in wads files) _ values b.2 in
-    let few : length b.0.path ≤ MAX_VIEWS = texts_few names files b.0 b.1 in
-    let same : b.0.path ≡ values.path = cc (c.2) in
-    rw same at few
+    let tables_ok = and_then-ok (in_file (tables_file settings) names.tables files) _ values e in
+    let texts_ok = and_then-ok (texts_in names files) _ values tables_ok.2 in
+    let lumps_ok = and_then-ok (lumps_in wads files) _ values texts_ok.2 in
+    let views_few : length texts_ok.0.path ≤ MAX_VIEWS = texts_few names files texts_ok.0 texts_ok.1 in
+    let path_same : texts_ok.0.path ≡ values.path = cc (lumps_ok.2) in
+    rw path_same at views_few
 
 -- a scene that is loaded has no more views than a path may have
 pub loaded_few : (level : LevelJobValue) (wads : List (List ℕ)) (files : List File) (loaded : LoadedValue) → load_in level wads files ≡ Ok loaded → length loaded.files.path ≤ MAX_VIEWS
 unfolding load_in
 loaded_few level wads files loaded e =
-    let a = and_then-ok (files_in level.files wads level.settings files) _ loaded e in
-    let b = no_file-ok (from_below Level (audited_in (wad_bytes wads files a.0.lumps) level a.0)) loaded a.2 in
-    let c = from_below-ok Level (audited_in (wad_bytes wads files a.0.lumps) level a.0) loaded b in
-    audited_by (λ (l : LoadedValue). length l.files.path ≤ MAX_VIEWS) (wad_bytes wads files a.0.lumps) level a.0 loaded c
-    (λ scene weapons s w. files_few level.files wads level.settings files a.0 a.1)
+    let files_ok = and_then-ok (files_in level.files wads level.settings files) _ loaded e in
+    let level_ok = no_file-ok (from_below Level (audited_in (wad_bytes wads files files_ok.0.lumps) level files_ok.0)) loaded files_ok.2 in
+    let audit_ok = from_below-ok Level (audited_in (wad_bytes wads files files_ok.0.lumps) level files_ok.0) loaded level_ok in
+    audited_by (λ (l : LoadedValue). length l.files.path ≤ MAX_VIEWS) (wad_bytes wads files files_ok.0.lumps) level files_ok.0 loaded audit_ok
+    (λ scene weapons s w. files_few level.files wads level.settings files files_ok.0 files_ok.1)
 
 -- steps that ask for no file find none absent
 none_asked : {A R : Type 0} (r : Result A R) → no_file r ≡ Err absent → ⊥
@@ -128,9 +128,9 @@ memory_holds shelf given files failing e same = ap (λ (s : ShelfInMemory). (mem
 pub memory_steady : (shelf : ShelfInMemory) (given : List File) (failing : List ℕ) → shelf ≡ record { files = given; failing = failing; calls = 0; faults = 0; taken = 0 } → failing ≡ [] → IsTrue (memory_view shelf).steady
 memory_steady shelf given failing e none =
     let steady : IsTrue (memory_view (record { files = given; failing = []; calls = 0; faults = 0; taken = 0 })).steady = refl in
-    let same : shelf ≡ record { files = given; failing = []; calls = 0; faults = 0; taken = 0 } =
+    let shelf_is : shelf ≡ record { files = given; failing = []; calls = 0; faults = 0; taken = 0 } =
     e ∙ ap (λ (f : List ℕ). record { files = given; failing = f; calls = 0; faults = 0; taken = 0 }) none in
-    subst (λ (s : ShelfInMemory). IsTrue (memory_view s).steady) (sym same) steady
+    subst (λ (s : ShelfInMemory). IsTrue (memory_view s).steady) (sym shelf_is) steady
 
 module _ (n zone : ℕ) where
   texts_held : texts_in (made_level zone).files (made_files n) ≡ Err absent → ⊥

@@ -36,11 +36,11 @@ module _ {mark : Painter → ℕ → ℕ} (k : ℕ) (eye : Eye) (old new : Loade
       DrawsLayers mark k eye view after old new before now result
   unfolding scene_of
   layers_drawn keeps all =
-      let one = all (textures_view old.scene.scene) in record {
-        painted = λ contents count hold. one.painted contents count tt (record { rest = hold.rest; files = hold.files }) tt;
-        fits = λ contents count hold. one.fits contents count tt (record { rest = hold.rest; files = hold.files }) tt;
-        draws = one.draws;
-        place = one.place;
+      let paints_layer = all (textures_view old.scene.scene) in record {
+        painted = λ contents count hold. paints_layer.painted contents count tt (record { rest = hold.rest; files = hold.files }) tt;
+        fits = λ contents count hold. paints_layer.fits contents count tt (record { rest = hold.rest; files = hold.files }) tt;
+        draws = paints_layer.draws;
+        place = paints_layer.place;
         keeps = keeps;
       }
 
@@ -61,8 +61,8 @@ rows_layers loaded k eye rows book v light art some own same lit =
 
 -- their pictures are of the book
 by_table : (table : Option (List WeaponRow)) (book : Option (List Frame)) (light : ℤ) (k : ℕ) (layer : WeaponLayer) → Contains (layers_by table book light k) layer → Contains (weapon_lumps book) layer.shape.lump
-by_table None book light k layer has = absurd (let none : has.0 < 0 = has.1 in omega (arith, none))
-by_table (Some rows) None light k layer has = absurd (let none : has.0 < 0 = has.1 in omega (arith, none))
+by_table None book light k layer has = absurd (let below_zero : has.0 < 0 = has.1 in omega (arith, below_zero))
+by_table (Some rows) None light k layer has = absurd (let below_zero : has.0 < 0 = has.1 in omega (arith, below_zero))
 by_table (Some rows) (Some book) light k layer has = table_layer-among book light k 1 rows layer has
 
 layer_lump : (loaded : LoadedScene) (k : ℕ) (eye : Eye) (lump : ℕ) → IsLayerPicture (view_of loaded.files.tables eye) (layers_of (loaded_value loaded) k eye) lump → IsLayerLump loaded lump
@@ -145,16 +145,16 @@ module _ {mark : Painter → ℕ → ℕ} (k : ℕ) (eye : Eye) (old new : Loade
       DrawsLayered {A = Unit {0}} mark k eye view after old new before now (Ok tt)
   unfolding overlaid_paints
   layered-then one inside window two =
-      let v = view_of old.files.tables eye in
+      let eye_view = view_of old.files.tables eye in
       let layers = layers_of (loaded_value old) k eye in
       record {
-        painted = λ contents count hold. overlaid-dots v (loaded_scene contents old) layers (one.painted contents count tt hold tt) (two.painted contents count (holds_art-later one.draws.keeps hold));
+        painted = λ contents count hold. overlaid-dots eye_view (loaded_scene contents old) layers (one.painted contents count tt hold tt) (two.painted contents count (holds_art-later one.draws.keeps hold));
         in_view = λ bytes.
-            in_view-append v.shape (view_paints v (scene_of bytes old.scene.scene)) (joined_lists (weapon_dots v (scene_of bytes old.scene.scene).art) layers) (inside bytes)
-            (layers_dots-in v (scene_of bytes old.scene.scene).art layers (omega (arith, window.height)) (omega (arith, window.width)));
+            in_view-append eye_view.shape (view_paints eye_view (scene_of bytes old.scene.scene)) (joined_lists (weapon_dots eye_view (scene_of bytes old.scene.scene).art) layers) (inside bytes)
+            (layers_dots-in eye_view (scene_of bytes old.scene.scene).art layers (omega (arith, window.height)) (omega (arith, window.width)));
         window = window;
         fits = λ contents count hold.
-            fit_beside-append old.files.dir.lumps (textures_view old.scene.scene) old.scene.scene.base.colormap count old.cache.size (view_paints v (loaded_scene contents old)) (layers_dots k eye old (loaded_scene contents old))
+            fit_beside-append old.files.dir.lumps (textures_view old.scene.scene) old.scene.scene.base.colormap count old.cache.size (view_paints eye_view (loaded_scene contents old)) (layers_dots k eye old (loaded_scene contents old))
             (one.fits contents count tt hold tt)
             (subst (λ (n : ℕ). FitBeside old.files.dir.lumps (textures_view old.scene.scene) old.scene.scene.base.colormap count n (layers_dots k eye old (loaded_scene contents old))) one.draws.keeps.counts.0
             (two.fits contents count (holds_art-later one.draws.keeps hold)));

@@ -165,12 +165,12 @@ module _ (level : LevelJobValue) (wads : List (List ℕ)) (delivery : Delivery) 
               zone_full = λ wanted widest e. inr (said.zone_full wanted widest e);
               least = λ end. subst (λ n. n ≤ level.settings.zone) (sym (least_by held value is)) (said.least end);
               reads = λ calm expected also room.
-                  let same : value ≡ expected = same_value value expected is also in
+                  let value_same : value ≡ expected = same_value value expected is also in
                   let named = loaded_named level wads held value is in
-                  let wide : (loaded_sizes value).roomy ≤ level.settings.zone = subst (λ (l : LoadedValue). (loaded_sizes l).roomy ≤ level.settings.zone) (sym same) room in
-                  let once = now.order held named.contents value (holds refl) named.named is wide in
-                  let read = said.reads (λ some. calm (rose some)) once.order in
-                  let all : after.taken ≤ before.taken + (files_size level.files wads held + lumps_size value) = omega (arith, once.taken, read) in
-                  subst (λ (l : LoadedValue). after.taken ≤ before.taken + (files_size level.files wads held + lumps_size l)) same all;
+                  let zone_is_roomy : (loaded_sizes value).roomy ≤ level.settings.zone = subst (λ (l : LoadedValue). (loaded_sizes l).roomy ≤ level.settings.zone) (sym value_same) room in
+                  let once = now.order held named.contents value (holds refl) named.named is zone_is_roomy in
+                  let bytes_read = said.reads (λ some. calm (rose some)) once.order in
+                  let taken_most : after.taken ≤ before.taken + (files_size level.files wads held + lumps_size value) = omega (arith, once.taken, bytes_read) in
+                  subst (λ (l : LoadedValue). after.taken ≤ before.taken + (files_size level.files wads held + lumps_size l)) value_same taken_most;
             };
       }

@@ -31,8 +31,8 @@ pub renders-then : {a b c : ShelfView} {x y z : ReadyViews} {i j k : ℕ} {statu
 renders-then {status = status} one two = record {
   answers = two.answers;
   order = λ items asked order.
-      let kept = one.order items asked order in
-      after_all status (λ more. order_then kept more) (two.order items (asked-later items one.keeps asked) kept.order);
+      let order_kept = one.order items asked order in
+      after_all status (λ more. order_then order_kept more) (two.order items (asked-later items one.keeps asked) order_kept.order);
   read_fault = λ e. omega (arith, one.keeps.art.follows.faults, two.read_fault e);
   write_fault = λ e. omega (arith, one.rises, two.write_fault e);
   zone_full = λ wanted widest' e. full-first wanted widest' one.keeps (two.zone_full wanted widest' e);
@@ -52,9 +52,9 @@ module _ (k : ℕ) (view after : ShelfView) (old new : ReadyViews) (keeps : Keep
     read_fault = λ e. absurd (cc);
     write_fault = λ e. absurd (cc);
     zone_full = λ wanted widest' e.
-        let first : wide ≡ wanted = cc in
-        let second : gap ≡ widest' = cc in
-        subst (λ (n : ℕ). IsFullView old n widest') first (subst (λ (n : ℕ). IsFullView old wide n) second (full_view old wide gap full));
+        let wanted_same : wide ≡ wanted = cc in
+        let widest_same : gap ≡ widest' = cc in
+        subst (λ (n : ℕ). IsFullView old n widest') wanted_same (subst (λ (n : ℕ). IsFullView old wide n) widest_same (full_view old wide gap full));
     rises = omega arith;
     keeps = keeps;
   }

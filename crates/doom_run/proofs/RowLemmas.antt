@@ -13,12 +13,12 @@ row_layers book light k n row = cond (row.view == k) (option_to_list (layer_of b
 -- those of some rows, and then of others
 layers_from-append : (book : List Frame) (light : ℤ) (k n : ℕ) (xs ys : List WeaponRow) → layers_from book light k n (xs ++ ys) ≡ layers_from book light k n xs ++ layers_from book light k (n + length xs) ys
 unfolding layers_from
-layers_from-append book light k n [] ys = let e : n ≡ n + 0 = omega arith in ap (λ (m : ℕ). layers_from book light k m ys) e
+layers_from-append book light k n [] ys = let number_same : n ≡ n + 0 = omega arith in ap (λ (m : ℕ). layers_from book light k m ys) number_same
 layers_from-append book light k n (x ∷ xs) ys =
-    let e : n + 1 + length xs ≡ n + length (x ∷ xs) = omega arith in
+    let next_number_is : n + 1 + length xs ≡ n + length (x ∷ xs) = omega arith in
     ap (λ (ls : List WeaponLayer). row_layers book light k n x ++ ls) (layers_from-append book light k (n + 1) xs ys)
     ∙ sym (append_assoc (row_layers book light k n x) (layers_from book light k (n + 1) xs) (layers_from book light k (n + 1 + length xs) ys))
-    ∙ ap (λ (m : ℕ). (row_layers book light k n x ++ layers_from book light k (n + 1) xs) ++ layers_from book light k m ys) e
+    ∙ ap (λ (m : ℕ). (row_layers book light k n x ++ layers_from book light k (n + 1) xs) ++ layers_from book light k m ys) next_number_is
 
 -- the dots of the layers of rows, of which the first has number n
 abbrev pub rows_dots : ViewValue → List Frame → ℤ → ℕ → ℕ → List WeaponRow → Art → List Dot
@@ -32,11 +32,11 @@ rows_dots-none v book light k art = refl
 dots_more : (v : ViewValue) (book : List Frame) (light : ℤ) (k i : ℕ) (rows : List WeaponRow) (row : WeaponRow) (art : Art) → i < length rows →
     rows_dots v book light k 1 (take (i + 1) rows) art ≡ rows_dots v book light k 1 (take i rows) art ++ rows_dots v book light k (i + 1) (get_or rows i row ∷ []) art
 dots_more v book light k i rows row art there =
-    let e : 1 + length (take i rows) ≡ i + 1 = omega (arith, length-take i rows) in
+    let row_number_is : 1 + length (take i rows) ≡ i + 1 = omega (arith, length-take i rows) in
     ap (λ (xs : List WeaponRow). rows_dots v book light k 1 xs art) (take_more rows i row there)
     ∙ ap (joined_lists (weapon_dots v art)) (layers_from-append book light k 1 (take i rows) (get_or rows i row ∷ []))
     ∙ joined_lists-append (weapon_dots v art) (layers_from book light k 1 (take i rows)) (layers_from book light k (1 + length (take i rows)) (get_or rows i row ∷ []))
-    ∙ ap (λ (m : ℕ). rows_dots v book light k 1 (take i rows) art ++ rows_dots v book light k m (get_or rows i row ∷ []) art) e
+    ∙ ap (λ (m : ℕ). rows_dots v book light k 1 (take i rows) art ++ rows_dots v book light k m (get_or rows i row ∷ []) art) row_number_is
 
 pub rows_dots-more : (v : ViewValue) (book : List Frame) (light lit : ℤ) (k i : ℕ) (rows : List WeaponRow) (row : WeaponRow) (art : Art) → lit ≡ light → i < length rows →
     rows_dots v book light k 1 (take i rows) art ++ rows_dots v book lit k (i + 1) (get_or rows i row ∷ []) art ≡ rows_dots v book light k 1 (take (i + 1) rows) art
@@ -96,8 +96,8 @@ shape_has (suc rotation) (first ∷ rest) shape e = among_later first.lump.0 (ma
 found_by : (passes : Bool) (first frame : Frame) (later : Option Frame) (rest : List ℕ) (lump : ℕ) → cond passes (Some first) later ≡ Some frame → Contains (shape_lumps frame) lump →
     (later ≡ Some frame → Contains rest lump) → Contains (shape_lumps first ++ rest) lump
 found_by true first frame later rest lump e has after =
-    let same : first ≡ frame = cc in
-    Contains-append_left (shape_lumps first) rest lump (subst (λ (f : Frame). Contains (shape_lumps f) lump) (sym same) has)
+    let frame_same : first ≡ frame = cc in
+    Contains-append_left (shape_lumps first) rest lump (subst (λ (f : Frame). Contains (shape_lumps f) lump) (sym frame_same) has)
 found_by false first frame later rest lump e has after = Contains-append_right (shape_lumps first) rest lump (after e)
 
 found_has : (test : Frame → Bool) (book : List Frame) (frame : Frame) (lump : ℕ) → find test book ≡ Some frame → Contains (shape_lumps frame) lump → Contains (joined_lists shape_lumps book) lump
@@ -122,8 +122,8 @@ layer_from : (book : List Frame) (light : ℤ) (n : ℕ) (row : WeaponRow) (shap
 unfolding layer_with
 layer_from book light n row None layer at is = absurd (cc)
 layer_from book light n row (Some shape) layer at is =
-    let same : layer_with light n row shape ≡ layer = cc in
-    subst (λ (l : WeaponLayer). Contains (book_lumps book) l.shape.lump) same (picked_among book row.sprite row.frame 0 shape at)
+    let layer_same : layer_with light n row shape ≡ layer = cc in
+    subst (λ (l : WeaponLayer). Contains (book_lumps book) l.shape.lump) layer_same (picked_among book row.sprite row.frame 0 shape at)
 
 -- so is that of a row's layer
 pub layer_among : (book : List Frame) (light : ℤ) (n : ℕ) (row : WeaponRow) (layer : WeaponLayer) → Some layer ≡ layer_of book light n row → Contains (book_lumps book) layer.shape.lump
@@ -136,15 +136,15 @@ pub row_layers-among : (book : List Frame) (light : ℤ) (k n i : ℕ) (rows : L
 unfolding layers_from
 row_layers-among book light k n i [] row layer there has = absurd (omega (arith, there))
 row_layers-among book light k n zero (x ∷ xs) row layer there has =
-    let e : n + 0 ≡ n = omega arith in
+    let number_same : n + 0 ≡ n = omega arith in
     Contains-append_left (row_layers book light k n x) (layers_from book light k (n + 1) xs) layer
     (subst (λ (ls : List WeaponLayer). Contains ls layer) (append-nil (row_layers book light k n x))
-    (subst (λ (m : ℕ). Contains (row_layers book light k m x ++ []) layer) e has))
+    (subst (λ (m : ℕ). Contains (row_layers book light k m x ++ []) layer) number_same has))
 row_layers-among book light k n (suc j) (x ∷ xs) row layer there has =
-    let e : n + suc j ≡ n + 1 + j = omega arith in
+    let number_same : n + suc j ≡ n + 1 + j = omega arith in
     Contains-append_right (row_layers book light k n x) (layers_from book light k (n + 1) xs) layer
     (row_layers-among book light k (n + 1) j xs row layer (omega (arith, there))
-    (subst (λ (m : ℕ). Contains (layers_from book light k m (get_or xs j row ∷ [])) layer) e has))
+    (subst (λ (m : ℕ). Contains (layers_from book light k m (get_or xs j row ∷ [])) layer) number_same has))
 
 -- that of a row of this view is the row's own
 pub row_layer-own : (book : List Frame) (light lit : ℤ) (k n : ℕ) (row : WeaponRow) (layer : WeaponLayer) → lit ≡ light → row.view ≡ k → Some layer ≡ layer_of book lit n row →
@@ -159,15 +159,15 @@ row_layer-own book light lit k n row layer same own is =
 -- the lump of a layer of a table is one of the book's
 by_row : (book : List Frame) (light : ℤ) (n : ℕ) (row : WeaponRow) (own : Bool) (found : Option WeaponLayer) (layer : WeaponLayer) → found ≡ layer_of book light n row →
     Contains (cond own (option_to_list found) []) layer → Contains (book_lumps book) layer.shape.lump
-by_row book light n row true None layer is has = absurd (let none : has.0 < 0 = has.1 in omega (arith, none))
+by_row book light n row true None layer is has = absurd (let below_zero : has.0 < 0 = has.1 in omega (arith, below_zero))
 by_row book light n row true (Some one) layer is (zero, within, same) =
     subst (λ (l : WeaponLayer). Contains (book_lumps book) l.shape.lump) same (layer_among book light n row one is)
-by_row book light n row true (Some one) layer is (suc k, within, same) = absurd (let few : suc k < 1 = within in omega (arith, few))
-by_row book light n row false found layer is has = absurd (let none : has.0 < 0 = has.1 in omega (arith, none))
+by_row book light n row true (Some one) layer is (suc k, within, same) = absurd (let number_below_one : suc k < 1 = within in omega (arith, number_below_one))
+by_row book light n row false found layer is has = absurd (let below_zero : has.0 < 0 = has.1 in omega (arith, below_zero))
 
 pub table_layer-among : (book : List Frame) (light : ℤ) (k n : ℕ) (rows : List WeaponRow) (layer : WeaponLayer) → Contains (layers_from book light k n rows) layer → Contains (book_lumps book) layer.shape.lump
 unfolding layers_from
-table_layer-among book light k n [] layer has = absurd (let none : has.0 < 0 = has.1 in omega (arith, none))
+table_layer-among book light k n [] layer has = absurd (let below_zero : has.0 < 0 = has.1 in omega (arith, below_zero))
 table_layer-among book light k n (x ∷ xs) layer has =
     elim (Contains-append_cases (row_layers book light k n x) (layers_from book light k (n + 1) xs) layer has) [
       | inl own ↦ by_row book light n x (x.view == k) (layer_of book light n x) layer refl own
@@ -178,5 +178,5 @@ table_layer-among book light k n (x ∷ xs) layer has =
 pub row_layers-first : (book : List Frame) (light : ℤ) (k i : ℕ) (rows : List WeaponRow) (row : WeaponRow) (layer : WeaponLayer) → i < length rows →
     Contains (layers_from book light k (i + 1) (get_or rows i row ∷ [])) layer → Contains (layers_from book light k 1 rows) layer
 row_layers-first book light k i rows row layer there has =
-    let e : i + 1 ≡ 1 + i = omega arith in
-    row_layers-among book light k 1 i rows row layer there (subst (λ (m : ℕ). Contains (layers_from book light k m (get_or rows i row ∷ [])) layer) e has)
+    let is_next : i + 1 ≡ 1 + i = omega arith in
+    row_layers-among book light k 1 i rows row layer there (subst (λ (m : ℕ). Contains (layers_from book light k m (get_or rows i row ∷ [])) layer) is_next has)

@@ -126,5 +126,5 @@ complete_at steady verdict old new OutOfMemory accepted ends e read write full =
 pub steady_reads : (steady : Bool) (verdict : Result Accepted RunStop) (old new : List ℕ → Type 0) (status : Status) (accepted : Accepted) →
     EndsAt steady verdict old new status → verdict ≡ Ok accepted → (status ≡ ReadFault → IsTrue steady) → status ≡ ReadFault → ⊥
 steady_reads steady verdict old new status accepted ends e holds is =
-    let h : EndsAt steady verdict old new ReadFault = rw is at ends in
-    accepts_or_stops verdict accepted absent e (h.0 (holds is))
+    let ends_read_fault : EndsAt steady verdict old new ReadFault = rw is at ends in
+    accepts_or_stops verdict accepted absent e (ends_read_fault.0 (holds is))

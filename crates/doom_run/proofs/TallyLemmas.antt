@@ -20,8 +20,8 @@ length_picture v scene = length-map _ _ ∙ length-listed _ FRAME_CELLS
 length_colours : (palette frame : List ℕ) → length (flat_map (colour palette) frame) ≡ length frame * 3
 length_colours palette [] = refl
 length_colours palette (index ∷ frame) =
-    let e = length_colours palette frame in
-    let n = length-append (colour palette index) (flat_map (colour palette) frame) in omega (arith, e, n)
+    let rest_length = length_colours palette frame in
+    let joined_length = length-append (colour palette index) (flat_map (colour palette) frame) in omega (arith, rest_length, joined_length)
 
 length_header : length ppm_header ≡ 15
 unfolding ppm_header
@@ -30,28 +30,28 @@ length_header = refl
 length_ppm : (frame palette : List ℕ) → length (ppm frame palette) ≡ 15 + length frame * 3
 unfolding ppm
 length_ppm frame palette =
-    let a = length-append ppm_header (flat_map (colour palette) frame) in
-    let b = length_header in
-    let c = length_colours palette frame in omega (arith, a, b, c)
+    let joined_length = length-append ppm_header (flat_map (colour palette) frame) in
+    let header_length = length_header in
+    let colours_length = length_colours palette frame in omega (arith, joined_length, header_length, colours_length)
 
 -- the bytes of a frame as it is written
 length_frame : (format : Format) (palette : List ℕ) (v : SeenView) (scene : Scene) → length (frame_bytes format palette (overlaid_picture v.view scene v.layers)) ≡ frame_size format
 length_frame Index palette v scene = length_picture v scene
 length_frame Ppm palette v scene =
-    let a = length_ppm (overlaid_picture v.view scene v.layers) palette in let b = length_picture v scene in omega (arith, a, b)
+    let ppm_size = length_ppm (overlaid_picture v.view scene v.layers) palette in let cell_count = length_picture v scene in omega (arith, ppm_size, cell_count)
 
 -- the bytes of frames
 length_frames : (format : Format) (r : ViewsValue) (views : List SeenView) → length (frames_of (Frame format) r views) ≡ length views * frame_size format
 unfolding frames_of joined_lists
 length_frames format r [] = omega arith
 length_frames Index r (v ∷ views) =
-    let e = length_frames Index r views in
-    let f = length_frame Index r.palette v r.scene in
-    let n = length-append (frame_bytes Index r.palette (overlaid_picture v.view r.scene v.layers)) (frames_of (Frame Index) r views) in omega (arith, e, f, n)
+    let rest_length = length_frames Index r views in let frame_length = length_frame Index r.palette v r.scene in
+    let joined_length = length-append (frame_bytes Index r.palette (overlaid_picture v.view r.scene v.layers)) (frames_of (Frame Index) r views) in
+    omega (arith, rest_length, frame_length, joined_length)
 length_frames Ppm r (v ∷ views) =
-    let e = length_frames Ppm r views in
-    let f = length_frame Ppm r.palette v r.scene in
-    let n = length-append (frame_bytes Ppm r.palette (overlaid_picture v.view r.scene v.layers)) (frames_of (Frame Ppm) r views) in omega (arith, e, f, n)
+    let rest_length = length_frames Ppm r views in let frame_length = length_frame Ppm r.palette v r.scene in
+    let joined_length = length-append (frame_bytes Ppm r.palette (overlaid_picture v.view r.scene v.layers)) (frames_of (Frame Ppm) r views) in
+    omega (arith, rest_length, frame_length, joined_length)
 
 -- all views are due where none is over
 due_all : (r : ViewsValue) → first_over r ≡ None → due_views r ≡ r.views
@@ -77,8 +77,8 @@ none_written_over n format r (Some over) view kind count e = refl
 -- a tally that took bytes after none is one of these bytes
 pub tally_of : {old new : Tally} {bytes : List ℕ} → old ≡ record { count = 0; sum = 0 } → Grew (IsTallyOf old) (IsTallyOf new) bytes → IsTallyOf new bytes
 tally_of {new} {bytes} e grew =
-    let first : Grew (IsTallyOf (record { count = 0; sum = 0 })) (IsTallyOf new) bytes = rw e at grew in
-    first.each [] (record { count = refl; sum = refl })
+    let grew_from_none : Grew (IsTallyOf (record { count = 0; sum = 0 })) (IsTallyOf new) bytes = rw e at grew in
+    grew_from_none.each [] (record { count = refl; sum = refl })
 
 -- a number of frames of that size, counted by their bytes
 whole_frames : (format : Format) (frames : ℕ) → frames * frame_size format / frame_size format ≡ frames

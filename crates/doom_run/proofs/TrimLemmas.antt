@@ -83,9 +83,9 @@ written_full (Ok done) wanted widest' is = absurd (cc)
 written_full (Err write.ReadFault) wanted widest' is = absurd (cc)
 written_full (Err write.WriteFault) wanted widest' is = absurd (cc)
 written_full (Err (write.ZoneFull asked gap)) wanted widest' is =
-    let first : asked ≡ wanted = cc in
-    let second : gap ≡ widest' = cc in
-    rw (first, second) refl
+    let wanted_same : asked ≡ wanted = cc in
+    let widest_same : gap ≡ widest' = cc in
+    rw (wanted_same, widest_same) refl
 
 -- a level that was loaded, and the parts of its trimmed file
 module _ (level : LevelJobValue) (wads : List (List ℕ)) (files : List File) (loaded : LoadedScene) (plan : List TrimPart) (stands : IsLoadedScene level loaded) (is : load_in level wads files ≡ Ok (loaded_value loaded))
@@ -97,19 +97,19 @@ module _ (level : LevelJobValue) (wads : List (List ℕ)) (files : List File) (l
   copied_there lump copied = All-contains (IsPartThere (length lumps)) plan (copy_part lump) there copied
 
   plan_ok : (o : Result (List TrimPart) TrimRefusal) (parts : List TrimPart) → from_below Trim o ≡ Ok parts → o ≡ Ok parts
-  plan_ok (Ok found) parts e = let same : found ≡ parts = cc in ap Ok same
+  plan_ok (Ok found) parts e = let parts_same : found ≡ parts = cc in ap Ok parts_same
   plan_ok (Err refusal) parts e = absurd (cc)
 
   copied_needed : (lump : ℕ) → IsCopied plan lump → is_needed lumps (loaded_art (loaded_value loaded)) lump ≡ true
   unfolding load_in
   copied_needed lump copied =
       let value = loaded_value loaded in
-      let a = and_then-ok (files_in level.files wads level.settings files) _ value is in
+      let files_ok = and_then-ok (files_in level.files wads level.settings files) _ value is in
       audited_by (λ l. (pictures : List ℕ) (parts : List TrimPart) → trim_plan l.files.lumps (art_with l.scene pictures) level.map_name ≡ Ok parts → IsCopied parts lump → is_needed l.files.lumps (art_with l.scene pictures) lump ≡ true)
-      (wad_bytes wads files a.0.lumps) level a.0 value (audited_of level wads files a.0 value a.1 is)
+      (wad_bytes wads files files_ok.0.lumps) level files_ok.0 value (audited_of level wads files files_ok.0 value files_ok.1 is)
       (λ scene weapons accepted layers pictures parts plan among.
-      copied-needed (wad_bytes wads files a.0.lumps) a.0.lumps a.0.things level.map_name level.settings.skill scene pictures parts lump
-      (scene_parts (wad_bytes wads files a.0.lumps) a.0.lumps a.0.things level.map_name level.settings.skill scene accepted) plan among)
+      copied-needed (wad_bytes wads files files_ok.0.lumps) files_ok.0.lumps files_ok.0.things level.map_name level.settings.skill scene pictures parts lump
+      (scene_parts (wad_bytes wads files files_ok.0.lumps) files_ok.0.lumps files_ok.0.things level.map_name level.settings.skill scene accepted) plan among)
       (loaded_pictures value) plan (plan_ok _ plan planned) copied
 
   -- what is copied is asked for
@@ -122,11 +122,11 @@ module _ (level : LevelJobValue) (wads : List (List ℕ)) (files : List File) (l
   trim_draw wanted widest' full =
       let scene = loaded.scene.scene in
       let value : LoadedValue = loaded_value loaded in
-      let copied : IsArtFull lumps (loaded_art value) loaded.cache.size wanted widest' = inl (record {
+      let art_full : IsArtFull lumps (loaded_art value) loaded.cache.size wanted widest' = inl (record {
         lump = full.lump;
         there = copied_there full.lump full.asked;
         needed = copied_needed full.lump full.asked;
         is = full.wanted_is;
         gap = full.gap scene.base.colormap (lump_at lumps scene.base.colormap).size stands.audited.rest;
       }) in
-      art_draw level wads files value is wanted widest' full.narrow (subst (λ n. IsArtFull lumps (loaded_art value) n wanted widest') stands.zone copied)
+      art_draw level wads files value is wanted widest' full.narrow (subst (λ n. IsArtFull lumps (loaded_art value) n wanted widest') stands.zone art_full)

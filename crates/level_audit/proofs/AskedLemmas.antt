@@ -90,16 +90,16 @@ module _ (bytes : ℕ → List ℕ) (lumps : List Lump) (lines : List ThingLine)
   -- a zone that does not hold COLORMAP, or COLORMAP and a further lump
   pub small_first : (size wanted : ℕ) → wanted ≡ block_size (lump_at lumps colormap).size → size < wanted → size < (sizes_of lumps scene).enough
   small_first size wanted e l =
-      let same : block_size (lump_at lumps scene.base.colormap).size ≡ block_size (lump_at lumps colormap).size = ap (λ (n : ℕ). block_size (lump_at lumps n).size) colormap_is in
-      omega (arith, e, l, same, enough_colormap lumps scene)
+      let block_size_same : block_size (lump_at lumps scene.base.colormap).size ≡ block_size (lump_at lumps colormap).size = ap (λ (n : ℕ). block_size (lump_at lumps n).size) colormap_is in
+      omega (arith, e, l, block_size_same, enough_colormap lumps scene)
 
   pub small_later : (size wanted lump : ℕ) → IsAfterColormap bytes lumps lines name skill lump → wanted ≡ block_size (lump_at lumps lump).size → size < block_size (lump_at lumps colormap).size + wanted + MIN_FRAGMENT → size < (sizes_of lumps scene).enough
   unfolding lump_block
   small_later size wanted lump asked e l =
-      let there : scene.base.colormap < length lumps = colormap_there lumps scene.base.colormap (base_parts bytes lumps name scene.base parts_of.base).colormap in
-      let block : wanted ≤ greatest_by (λ number. block_size (lump_at lumps number).size) (needed_lumps lumps (art_of scene)) = omega (arith, e, needed_block lumps scene lump there (needed_later bytes lumps lines name skill scene parts_of lump asked)) in
-      let same : block_size (lump_at lumps scene.base.colormap).size ≡ block_size (lump_at lumps colormap).size = ap (λ (n : ℕ). block_size (lump_at lumps n).size) colormap_is in
-      omega (arith, l, same, enough_beside lumps scene wanted block)
+      let colormap_in_lumps : scene.base.colormap < length lumps = colormap_there lumps scene.base.colormap (base_parts bytes lumps name scene.base parts_of.base).colormap in
+      let block : wanted ≤ greatest_by (λ number. block_size (lump_at lumps number).size) (needed_lumps lumps (art_of scene)) = omega (arith, e, needed_block lumps scene lump colormap_in_lumps (needed_later bytes lumps lines name skill scene parts_of lump asked)) in
+      let block_size_same : block_size (lump_at lumps scene.base.colormap).size ≡ block_size (lump_at lumps colormap).size = ap (λ (n : ℕ). block_size (lump_at lumps n).size) colormap_is in
+      omega (arith, l, block_size_same, enough_beside lumps scene wanted block)
 
 -- no room for a later lump, from a zone at rest
 pub enough_after : {w : ShelfView} (dir : DirectoryView) (a b : Heap) (contents : List (List ℕ)) (lines : List ThingLine) (name : List ℕ) (skill : ℕ) (scene : SceneValue) (colormap : ℕ) (result : Result SoundValue (Fault AuditRefusal)) → colormap_of dir.lumps ≡ Ok colormap → scene_in (lump_bytes contents dir.lumps) dir.lumps lines name skill ≡ Ok scene → HoldContents w dir b contents →

@@ -39,11 +39,11 @@ module _ (lumps : List Lump) (z : Heap) where
   pub map_beside : (name : List ℕ) (label : ℕ) → label_of lumps name ≡ Ok label → ((lump : ℕ) → is_map_lump label lump ≡ true → StandsBeside lumps z lump) → (lump : ℕ) → IsLumpOfMap lumps name lump → StandsBeside lumps z lump
   map_beside name label is beside lump asked =
       let other = asked.is in
-      let same : asked.label ≡ label = cc in
-      beside lump (subst (λ n. is_map_lump n lump ≡ true) same asked.among)
+      let label_same : asked.label ≡ label = cc in
+      beside lump (subst (λ n. is_map_lump n lump ≡ true) label_same asked.among)
 
   -- the PLAYPAL that was found is the only one
   pub playpal_beside : (playpal : ℕ) → playpal_of lumps ≡ Ok playpal → StandsBeside lumps z playpal → (lump : ℕ) → playpal_of lumps ≡ Ok lump → StandsBeside lumps z lump
   playpal_beside playpal is beside lump asked =
-      let same : playpal ≡ lump = cc in
-      subst (StandsBeside lumps z) same beside
+      let playpal_same : playpal ≡ lump = cc in
+      subst (StandsBeside lumps z) playpal_same beside

@@ -7,14 +7,14 @@ use Rattle.art_rules.proofs.Laws.{lump_bytes-length}
 -- where a list has the first so many, filling up adds nothing to them
 pub filled_first : (n count held left : ℕ) (bytes part filled : List ℕ) → count ≡ min n (length bytes) → part ≡ take count bytes → held ≡ length (take count bytes) → left ≡ n - held → filled ≡ take n part ++ replicate left 0 → n ≤ length bytes → filled ≡ take n bytes
 filled_first n count held left bytes part filled counted is holds rest fills long =
-    let whole : count ≡ n = omega (arith, counted, long) in
-    let first : part ≡ take n bytes = is ∙ ap (λ k. take k bytes) whole in
-    let len : length (take n bytes) ≡ n = length-take n bytes ∙ omega (arith, long) in
-    let none : left ≡ 0 = omega (arith, rest, holds, ap (λ k. length (take k bytes)) whole, len) in
-    fills ∙ ap (λ k. take n part ++ replicate k 0) none ∙ append-nil (take n part) ∙ take_all n part (omega (arith, ap length first, len)) ∙ first
+    let count_is : count ≡ n = omega (arith, counted, long) in
+    let part_is : part ≡ take n bytes = is ∙ ap (λ k. take k bytes) count_is in
+    let length_is : length (take n bytes) ≡ n = length-take n bytes ∙ omega (arith, long) in
+    let no_rest : left ≡ 0 = omega (arith, rest, holds, ap (λ k. length (take k bytes)) count_is, length_is) in
+    fills ∙ ap (λ k. take n part ++ replicate k 0) no_rest ∙ append-nil (take n part) ∙ take_all n part (omega (arith, ap length part_is, length_is)) ∙ part_is
 
 -- a live lump that is long enough by the directory has the first so many bytes, where contents are held
 pub live_long : (contents : List (List ℕ)) (lumps : List Lump) (number n : ℕ) (bytes : List ℕ) → number < length lumps → AllWithin contents lumps → bytes ≡ lump_bytes contents lumps number → n ≤ (lump_at lumps number).size → n ≤ length bytes
 live_long contents lumps number n bytes there within is long =
-    let len = ap length is ∙ lump_bytes-length contents lumps number (All-get_or (LiesWithin contents) lumps number no_lump there within) in
-    omega (arith, len, long)
+    let bytes_length = ap length is ∙ lump_bytes-length contents lumps number (All-get_or (LiesWithin contents) lumps number no_lump there within) in
+    omega (arith, bytes_length, long)

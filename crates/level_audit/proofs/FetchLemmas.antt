@@ -23,14 +23,14 @@ told_after {v} {w} {dir} follows faithful contents told = record {
 -- no colormap
 pub answers_none : {B : Type 0} {value : B → SceneValue} (steady : Bool) (expected : Result SceneValue AuditRefusal) (refusal : AuditRefusal) (result : Result B (Fault AuditRefusal)) → expected ≡ Err refusal → IsErrAnd result (λ e. e ≡ Refused refusal) → ResultIs itself steady value expected result
 answers_none steady expected refusal result e is =
-    let s = err_from_is_err_and result is in
-    rw (s.1, s.2) (record { ok = tt; err = e })
+    let error_is = err_from_is_err_and result is in
+    rw (error_is.1, error_is.2) (record { ok = tt; err = e })
 
 -- what is said of a zone without room for the fetched lump, said of the audit
 pub full_above : (P Q : ℕ → ℕ → Type 0) (fetched : Result (Unit {0}) CacheFault) (fault : CacheFault) (result : Result SoundValue (Fault AuditRefusal)) → fetched ≡ Err fault → IsErrAnd result (λ e. e ≡ from_cache {R = AuditRefusal} fault) → ((wanted widest' : ℕ) → P wanted widest' → Q wanted widest') → WhereFull fetched P → IfErr result (λ f. IfFull (itself f) Q)
 full_above P Q fetched fault result was is then_ full =
-    let s = err_from_is_err_and result is in
-    subst (λ (r : Result SoundValue (Fault AuditRefusal)). IfErr r (λ f. IfFull (itself f) Q)) (sym (s.1 ∙ ap Err s.2)) (go fault (subst (λ (r : Result (Unit {0}) CacheFault). WhereFull r P) was full)) where
+    let error_is = err_from_is_err_and result is in
+    subst (λ (r : Result SoundValue (Fault AuditRefusal)). IfErr r (λ f. IfFull (itself f) Q)) (sym (error_is.1 ∙ ap Err error_is.2)) (go fault (subst (λ (r : Result (Unit {0}) CacheFault). WhereFull r P) was full)) where
       go : (f : CacheFault) → WhereFull {A = Unit {0}} (Err f) P → IfFull (itself (from_cache {R = AuditRefusal} f)) Q
       go ReadFault k = tt
       go (ZoneFull wanted widest') k = then_ wanted widest' k
@@ -100,7 +100,7 @@ module _ (dir : DirectoryView) (a b : Heap) (colormap : ℕ) (result : Result So
   pinned_after c tag stays = go result same where
     held : (h : Option Holding) → option_map (λ (x : Holding). x.tag) h ≡ Some Static → holds_static h ≡ true
     held None e = cc
-    held (Some h) e = let is : h.tag ≡ Static = cc in ap is_static_tag is
+    held (Some h) e = let tag_is_static : h.tag ≡ Static = cc in ap is_static_tag tag_is_static
 
     before : holds_static (holding_of (lump_owner colormap) b.blocks) ≡ true
     before = held (holding_of (lump_owner colormap) b.blocks) tag

@@ -17,10 +17,10 @@ all_single t last n e l all = range_all (is_single t.patches) 0 (mask_of (length
 pub not_all_single : (t : PreparedTexture) (last x : ℕ) → last ≡ mask_of (length t.columns) → x ≤ last → is_single t.patches x ≡ false → is_all_single t ≡ false
 unfolding is_all_single
 not_all_single t last x e l other =
-    let n = mask_of (length t.columns) + 1 in
-    let m : x < n = omega (arith, e) in
-    let long : x < length (range_with_len 0 n) = omega (arith, length-range_with_len 0 n) in
-    list_all_at (is_single t.patches) (range_with_len 0 n) x 0 long (ap (is_single t.patches) (get_or-range_with_len 0 n x 0 m ∙ zero-add x) ∙ other)
+    let column_count = mask_of (length t.columns) + 1 in let column_below_count : x < column_count = omega (arith, e) in
+    let column_in_range : x < length (range_with_len 0 column_count) = omega (arith, length-range_with_len 0 column_count) in
+    list_all_at (is_single t.patches) (range_with_len 0 column_count) x 0 column_in_range
+    (ap (is_single t.patches) (get_or-range_with_len 0 column_count x 0 column_below_count ∙ zero-add x) ∙ other)
 
 least_same : (p q : ℕ → Bool) (n : ℕ) → ((k : ℕ) → k < n → p k ≡ q k) → least p n ≡ least q n
 unfolding least

@@ -14,26 +14,27 @@ some_step (Some x) f y e = (x, refl, e)
 
 some_made : {X Y : Type 0} (o : Option X) (f : X → Y) (y : Y) → option_map f o ≡ Some y → (x : X) × (o ≡ Some x) × (f x ≡ y)
 some_made None f y e = cc
-some_made (Some x) f y e = (x, refl, let same : f x ≡ y = cc in same)
+some_made (Some x) f y e = (x, refl, let value_is : f x ≡ y = cc in value_is)
 
 -- the patches of a texture whose lumps are all found
 module _ (last : List ℕ → Option ℕ) (bytes : ℕ → List ℕ) (names : List (List ℕ)) (entry : TextureEntry) (lump : ℕ) (is : option_and_then last (slice_get names entry.number) ≡ Some lump) where
   placed_there : (patch : PlacedPatch) → placed_patch last bytes names entry ≡ Some patch → (patch.lump == lump) ≡ true
   unfolding placed_patch place_lump
   placed_there patch e =
-      let here : place_lump bytes entry lump ≡ Some patch = sym (ap (option_and_then (place_lump bytes entry)) is) ∙ e in
-      eq-eqb patch.lump lump (lump_placed entry lump (Some (bytes lump)) (place_lump bytes entry lump) patch refl here)
+      let patch_is : place_lump bytes entry lump ≡ Some patch = sym (ap (option_and_then (place_lump bytes entry)) is) ∙ e in
+      eq-eqb patch.lump lump (lump_placed entry lump (Some (bytes lump)) (place_lump bytes entry lump) patch refl patch_is)
 
   patch_placed : (entries : List TextureEntry) (patches : List PlacedPatch) → placed_patches last bytes names entries ≡ Some patches → Contains entries entry → list_any (λ (patch : PlacedPatch). patch.lump == lump) patches ≡ true
   unfolding placed_patches
   patch_placed [] patches e has = among_none entry has
   patch_placed (first ∷ rest) patches e has =
-      let a = some_step (placed_patch last bytes names first) (λ patch. option_map (λ patches. patch ∷ patches) (placed_patches last bytes names rest)) patches e in
-      let b = some_made (placed_patches last bytes names rest) (λ patches. a.0 ∷ patches) patches a.2 in
-      ap (list_any (λ (patch : PlacedPatch). patch.lump == lump)) (sym b.2)
+      let first_patch_is = some_step (placed_patch last bytes names first) (λ patch. option_map (λ patches. patch ∷ patches) (placed_patches last bytes names rest)) patches e in
+      let rest_patches_are = some_made (placed_patches last bytes names rest) (λ patches. first_patch_is.0 ∷ patches) patches first_patch_is.2 in
+      ap (list_any (λ (patch : PlacedPatch). patch.lump == lump)) (sym rest_patches_are.2)
       ∙ elim (among_cases first rest entry has) [
-        | inl same ↦ or_left (a.0.lump == lump) (list_any (λ (patch : PlacedPatch). patch.lump == lump) b.0) (placed_there a.0 (ap (placed_patch last bytes names) (sym same) ∙ a.1))
-        | inr later ↦ or_right (a.0.lump == lump) (list_any (λ (patch : PlacedPatch). patch.lump == lump) b.0) (patch_placed rest b.0 b.1 later)
+        | inl same ↦ or_left (first_patch_is.0.lump == lump) (list_any (λ (patch : PlacedPatch). patch.lump == lump) rest_patches_are.0) (placed_there first_patch_is.0 (ap (placed_patch last bytes names) (sym same) ∙ first_patch_is.1))
+        | inr later ↦ or_right (first_patch_is.0.lump == lump) (list_any (λ (patch : PlacedPatch). patch.lump == lump) rest_patches_are.0)
+            (patch_placed rest rest_patches_are.0 rest_patches_are.1 later)
       ]
 
   -- a prepared texture has the patches that were placed
@@ -42,7 +43,7 @@ module _ (last : List ℕ → Option ℕ) (bytes : ℕ → List ℕ) (names : Li
   too_big_or number t patches made e = go (nat_lt MAX_COMPOSITE (composite_size patches t.width t.height)) e where
     go : (b : Bool) → cond b (Err (TooBig number)) (Ok (texture_of bytes t patches)) ≡ Ok made → patches ≡ made.patches
     go true k = cc
-    go false k = let same : texture_of bytes t patches ≡ made = cc in ap (λ (p : PreparedTexture). p.patches) same
+    go false k = let texture_is : texture_of bytes t patches ≡ made = cc in ap (λ (p : PreparedTexture). p.patches) texture_is
 
   missing_or : (number : ℕ) (t : Texture) (patches : Option (List PlacedPatch)) (made : PreparedTexture) → unless_missing bytes number t patches ≡ Ok made → patches ≡ Some made.patches
   unfolding unless_missing
@@ -60,23 +61,23 @@ module _ (prepare : ℕ → Texture → Result PreparedTexture TexRefusal) (want
   unfolding prepared_if
   one_passes false r first on same e = cc
   one_passes true (Err refusal) first on same e = cc
-  one_passes true (Ok made) first on same e = let is : Some made ≡ first = cc in ap p (sym is) ∙ passes made (sym same)
+  one_passes true (Ok made) first on same e = let first_is_made : Some made ≡ first = cc in ap p (sym first_is_made) ∙ passes made (sym same)
 
   some_passes : (n k : ℕ) (ts : List Texture) (out : List (Option PreparedTexture)) → prepared_from prepare wanted n ts ≡ Ok out → slice_get ts k ≡ Some t → n + k ≡ m → list_any p out ≡ true
   unfolding prepared_from
   some_passes n k [] out e at same = cc
   some_passes n zero (x ∷ ts) out e at same =
-      let a = and_then-ok (prepared_if (wanted n) (prepare n x)) _ out e in
-      let b = and_then-ok (prepared_from prepare wanted (suc n) ts) _ out a.2 in
-      let all : a.0 ∷ b.0 ≡ out = cc in
-      let here : n ≡ m = omega arith in
-      let it : x ≡ t = cc in
-      ap (list_any p) (sym all) ∙ or_left (p a.0) (list_any p b.0) (one_passes (wanted n) (prepare n x) a.0 (ap wanted here ∙ chosen) (ap (λ (i : ℕ). prepare i x) here ∙ ap (prepare m) it) a.1)
+      let first_ok = and_then-ok (prepared_if (wanted n) (prepare n x)) _ out e in
+      let rest_ok = and_then-ok (prepared_from prepare wanted (suc n) ts) _ out first_ok.2 in
+      let list_is : first_ok.0 ∷ rest_ok.0 ≡ out = cc in
+      let number_is : n ≡ m = omega arith in
+      let texture_same : x ≡ t = cc in
+      ap (list_any p) (sym list_is) ∙ or_left (p first_ok.0) (list_any p rest_ok.0) (one_passes (wanted n) (prepare n x) first_ok.0 (ap wanted number_is ∙ chosen) (ap (λ (i : ℕ). prepare i x) number_is ∙ ap (prepare m) texture_same) first_ok.1)
   some_passes n (suc k) (x ∷ ts) out e at same =
-      let a = and_then-ok (prepared_if (wanted n) (prepare n x)) _ out e in
-      let b = and_then-ok (prepared_from prepare wanted (suc n) ts) _ out a.2 in
-      let all : a.0 ∷ b.0 ≡ out = cc in
-      ap (list_any p) (sym all) ∙ or_right (p a.0) (list_any p b.0) (some_passes (suc n) k ts b.0 b.1 at (omega arith))
+      let first_ok = and_then-ok (prepared_if (wanted n) (prepare n x)) _ out e in
+      let rest_ok = and_then-ok (prepared_from prepare wanted (suc n) ts) _ out first_ok.2 in
+      let list_is : first_ok.0 ∷ rest_ok.0 ≡ out = cc in
+      ap (list_any p) (sym list_is) ∙ or_right (p first_ok.0) (list_any p rest_ok.0) (some_passes (suc n) k ts rest_ok.0 rest_ok.1 at (omega arith))
 
 -- the patch that may be asked for is of one of the prepared textures
 pub wanted_patch : (bytes : ℕ → List ℕ) (lumps : List Lump) (lists : TextureLists) (wanted : ℕ → Bool) (textures : List (Option PreparedTexture)) (lump : ℕ) → prepared_textures (last_of lumps) bytes lists wanted ≡ Ok textures → IsWantedPatch lumps lists wanted lump → is_patch_of_any textures lump ≡ true

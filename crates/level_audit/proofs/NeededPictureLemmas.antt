@@ -17,8 +17,8 @@ pub record IsFirst (needs : List Need) (need : Need) : Type 0 where
 frame_parts : (a b : Need) → same_frame a b ≡ true → (a.sprite ≡ b.sprite) × (a.frame ≡ b.frame)
 unfolding same_frame
 frame_parts a b e =
-    let p = and_parts (bytes_eq a.sprite b.sprite) (a.frame == b.frame) e in
-    ((bytes_eq-Decides a.sprite b.sprite).0 p.0, eqb-true a.frame b.frame p.1)
+    let parts_same = and_parts (bytes_eq a.sprite b.sprite) (a.frame == b.frame) e in
+    ((bytes_eq-Decides a.sprite b.sprite).0 parts_same.0, eqb-true a.frame b.frame parts_same.1)
 
 first_of : (needs : List Need) (need : Need) → Contains needs need → IsFirst needs need
 unfolding first_needs
@@ -44,7 +44,7 @@ first_of (x ∷ needs) need has = elim (among_cases x needs need has) [
 -- a need of the same frame has the same pictures
 found_else : {X E : Type 0} (o : Option X) (e other : E) (x : X) → ok_or o e ≡ Ok x → ok_or o other ≡ Ok x
 found_else None e other x is = cc
-found_else (Some y) e other x is = let same : y ≡ x = cc in ap Ok same
+found_else (Some y) e other x is = let value_same : y ≡ x = cc in ap Ok value_same
 
 module _ (all : List Mention) (need first : Need) (frame : need.frame ≡ first.frame) where
   same_last : (mention : Mention) → last_mention all need ≡ Ok mention → last_mention all first ≡ Ok mention
@@ -62,39 +62,39 @@ module _ (all : List Mention) (need first : Need) (frame : need.frame ≡ first.
   same_pictures : (pictures : List Mention) → pictures_of all need ≡ Ok pictures → pictures_of all first ≡ Ok pictures
   unfolding pictures_of
   same_pictures pictures e =
-      let a = and_then-ok (last_mention all need) (λ last. each_of (picture_or_missing all need) (range_with_len 0 ROTATIONS)) pictures e in
-      ap (λ r. and_then r (λ last. each_of (picture_or_missing all first) (range_with_len 0 ROTATIONS))) (same_last a.0 a.1)
-      ∙ each_same (picture_or_missing all need) (picture_or_missing all first) same_picture (range_with_len 0 ROTATIONS) pictures a.2
+      let last_mention_is = and_then-ok (last_mention all need) (λ last. each_of (picture_or_missing all need) (range_with_len 0 ROTATIONS)) pictures e in
+      ap (λ r. and_then r (λ last. each_of (picture_or_missing all first) (range_with_len 0 ROTATIONS))) (same_last last_mention_is.0 last_mention_is.1)
+      ∙ each_same (picture_or_missing all need) (picture_or_missing all first) same_picture (range_with_len 0 ROTATIONS) pictures last_mention_is.2
 
 -- a shape is of the lump of its picture
 shape_there : (bytes : ℕ → List ℕ) (mention : Mention) (shape : Shape) → shape_of bytes mention ≡ Ok shape → shape.lump.0 ≡ mention.lump
 unfolding shape_of shape_in
 shape_there bytes mention shape e =
-    let a = and_then-ok (patch_or_bad bytes mention.lump) (λ patch. Ok (shape_in mention patch)) shape e in
-    let same : shape_in mention a.0 ≡ shape = cc in
-    ap (λ (s : Shape). s.lump.0) (sym same)
+    let patch_is = and_then-ok (patch_or_bad bytes mention.lump) (λ patch. Ok (shape_in mention patch)) shape e in
+    let shape_same : shape_in mention patch_is.0 ≡ shape = cc in
+    ap (λ (s : Shape). s.lump.0) (sym shape_same)
 
 -- a frame has the lumps of its pictures
 frame_lumps : (bytes : ℕ → List ℕ) (lumps : List Lump) (need : Need) (pictures : List Mention) (frame : Frame) (mention : Mention) → pictures_of (mentions lumps need.sprite) need ≡ Ok pictures → frame_of bytes lumps need ≡ Ok frame → Contains pictures mention → list_any (λ n. n == mention.lump) (shape_lumps frame) ≡ true
 unfolding frame_of frame_in shape_lumps
 frame_lumps bytes lumps need pictures frame mention are e has =
-    let a = and_then-ok (pictures_of (mentions lumps need.sprite) need) (λ pictures. and_then (each_of (shape_of bytes) pictures) (λ shapes. Ok (frame_in need shapes))) frame e in
-    let b = and_then-ok (each_of (shape_of bytes) a.0) (λ shapes. Ok (frame_in need shapes)) frame a.2 in
-    let made : frame_in need b.0 ≡ frame = cc in
-    let shapes : b.0 ≡ frame.shapes = ap (λ (f : Frame). f.shapes) made in
-    let of : each_of (shape_of bytes) pictures ≡ Ok frame.shapes = ap (each_of (shape_of bytes)) (same_value pictures a.0 are a.1) ∙ b.1 ∙ ap Ok shapes in
-    let one = each_made (shape_of bytes) pictures frame.shapes mention of has in
-    any_mapped (λ n. n == mention.lump) (λ (shape : Shape). shape.lump.0) frame.shapes one.made one.among (eq-eqb one.made.lump.0 mention.lump (shape_there bytes mention one.made one.is))
+    let pictures_are = and_then-ok (pictures_of (mentions lumps need.sprite) need) (λ pictures. and_then (each_of (shape_of bytes) pictures) (λ shapes. Ok (frame_in need shapes))) frame e in
+    let shapes_are = and_then-ok (each_of (shape_of bytes) pictures_are.0) (λ shapes. Ok (frame_in need shapes)) frame pictures_are.2 in
+    let frame_same : frame_in need shapes_are.0 ≡ frame = cc in let shapes : shapes_are.0 ≡ frame.shapes = ap (λ (f : Frame). f.shapes) frame_same in
+    let each_shape_is : each_of (shape_of bytes) pictures ≡ Ok frame.shapes
+    = ap (each_of (shape_of bytes)) (same_value pictures pictures_are.0 are pictures_are.1) ∙ shapes_are.1 ∙ ap Ok shapes in
+    let shape_is = each_made (shape_of bytes) pictures frame.shapes mention each_shape_is has in
+    any_mapped (λ n. n == mention.lump) (λ (shape : Shape). shape.lump.0) frame.shapes shape_is.made shape_is.among (eq-eqb shape_is.made.lump.0 mention.lump (shape_there bytes mention shape_is.made shape_is.is))
 
 -- the picture that may be asked for is of one of the book's shapes
 pub needed_picture : (bytes : ℕ → List ℕ) (lumps : List Lump) (needs : List Need) (book : List Frame) (lump : ℕ) → each_of (frame_of bytes lumps) (first_needs needs) ≡ Ok book → IsWanted lumps needs lump → list_any (λ n. n == lump) (book_lumps book) ≡ true
 unfolding book_lumps
 needed_picture bytes lumps needs book lump e asked =
-    let f = first_of needs asked.need asked.is in
+    let first_need = first_of needs asked.need asked.is in
     let wanted = asked.wanted in
     let mention = wanted.among.0 in
-    let of_first : pictures_of (mentions lumps f.first.sprite) f.first ≡ Ok wanted.pictures =
-    ap (λ s. pictures_of (mentions lumps s) f.first) f.sprite ∙ same_pictures (mentions lumps asked.need.sprite) asked.need f.first (sym f.frame) wanted.pictures wanted.are in
-    let one = each_made (frame_of bytes lumps) (first_needs needs) book f.first e f.among in
-    let there = frame_lumps bytes lumps f.first wanted.pictures one.made mention of_first one.is wanted.among.1 in
-    any_joined (λ n. n == lump) shape_lumps book one.made one.among (subst (λ (k : ℕ). list_any (λ n. n == k) (shape_lumps one.made) ≡ true) wanted.among.2 there)
+    let of_first : pictures_of (mentions lumps first_need.first.sprite) first_need.first ≡ Ok wanted.pictures =
+    ap (λ s. pictures_of (mentions lumps s) first_need.first) first_need.sprite ∙ same_pictures (mentions lumps asked.need.sprite) asked.need first_need.first (sym first_need.frame) wanted.pictures wanted.are in
+    let frame_is = each_made (frame_of bytes lumps) (first_needs needs) book first_need.first e first_need.among in
+    let lump_in_frame = frame_lumps bytes lumps first_need.first wanted.pictures frame_is.made mention of_first frame_is.is wanted.among.1 in
+    any_joined (λ n. n == lump) shape_lumps book frame_is.made frame_is.among (subst (λ (k : ℕ). list_any (λ n. n == k) (shape_lumps frame_is.made) ≡ true) wanted.among.2 lump_in_frame)

@@ -13,7 +13,7 @@ use Rattle.level_audit.proofs.StepLemmas.{scene_on-more}
 -- a call of a layer below whose refusal is named here
 through_above : {B R Q : Type 0} (lift : R → Q) (one : Result B (Fault R)) (result : Result B (Fault Q)) → IsThrough (λ e f. f ≡ fault_above lift e) one result → result ≡ result_above (fault_above lift) one
 through_above lift (Ok x) result is = is
-through_above lift (Err e) result is = let s = err_from_is_err_and result is in s.1 ∙ ap Err s.2
+through_above lift (Err e) result is = let error_is = err_from_is_err_and result is in error_is.1 ∙ ap Err error_is.2
 
 pub above_reads : {A B R Q : Type 0} {v w : ShelfView} {dir : DirectoryView} {a b : Heap} {wants : ℕ → Type 0} {value : B → A} {expected : (ℕ → List ℕ) → Result A R} (lift : R → Q) (one : Result B (Fault R)) (result : Result B (Fault Q)) →
     IsThrough (λ e f. f ≡ fault_above lift e) one result → ReadsLumps itself v w dir a b wants value expected one → ReadsLumps itself v w dir a b wants value (λ bytes. from_below lift (expected bytes)) result
@@ -51,5 +51,5 @@ pub of_scene : {B : Type 0} {v w : ShelfView} {dir : DirectoryView} {a b : Heap}
     lent ≡ base.lists → faces_in dir.lumps name base.level lent ≡ Ok faces → ReadsLumps itself v w dir a b (IsOfArt dir.lumps lines skill base faces) value (λ bytes. scene_with bytes dir.lumps lines skill base faces) result →
     ReadsLumps itself v w dir a b (IsOfScene dir.lumps lines skill name base) value (λ bytes. scene_on bytes dir.lumps lines skill name base) result
 of_scene {dir} {lines} {skill} {name} {base} {faces} {result} same meant art =
-    let are : faces_in dir.lumps name base.level base.lists ≡ Ok faces = subst (λ (lists : TextureLists). faces_in dir.lumps name base.level lists ≡ Ok faces) same meant in
-    reads_wider result (λ lump asked. record { faces = faces; are = are; asked = asked }) (λ bytes. sym (scene_on-more bytes dir.lumps lines skill name base faces (ap (from_below Scene) are))) art
+    let faces_ok : faces_in dir.lumps name base.level base.lists ≡ Ok faces = subst (λ (lists : TextureLists). faces_in dir.lumps name base.level lists ≡ Ok faces) same meant in
+    reads_wider result (λ lump asked. record { faces = faces; are = faces_ok; asked = asked }) (λ bytes. sym (scene_on-more bytes dir.lumps lines skill name base faces (ap (from_below Scene) faces_ok))) art

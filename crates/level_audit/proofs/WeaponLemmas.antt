@@ -11,11 +11,11 @@ use Rattle.level_audit.specs.Weapons.{need_of_row, needs_from, weapon_art, weapo
 needs_more : (number : ℕ) (rows : List WeaponRow) (i : ℕ) (d : WeaponRow) → i < length rows → needs_from number (take (i + 1) rows) ≡ needs_from number (take i rows) ++ need_of_row (i + number) (get_or rows i d) ∷ []
 unfolding needs_from
 needs_more number [] i d l = absurd (omega arith)
-needs_more number (row ∷ rows) zero d l = let here : number ≡ 0 + number = omega arith in ap (λ (n : ℕ). need_of_row n row ∷ []) here
+needs_more number (row ∷ rows) zero d l = let number_same : number ≡ 0 + number = omega arith in ap (λ (n : ℕ). need_of_row n row ∷ []) number_same
 needs_more number (row ∷ rows) (suc i) d l =
-    let more : suc i + 1 ≡ suc (i + 1) = omega arith in
-    let later : i + suc number ≡ suc i + number = omega arith in
-    rw more (ap (◌∷◌ (need_of_row number row)) (needs_more (suc number) rows i d (omega arith) ∙ ap (λ (n : ℕ). needs_from (suc number) (take i rows) ++ need_of_row n (get_or rows i d) ∷ []) later))
+    let next_index_is : suc i + 1 ≡ suc (i + 1) = omega arith in
+    let numbers_add_up : i + suc number ≡ suc i + number = omega arith in
+    rw next_index_is (ap (◌∷◌ (need_of_row number row)) (needs_more (suc number) rows i d (omega arith) ∙ ap (λ (n : ℕ). needs_from (suc number) (take i rows) ++ need_of_row n (get_or rows i d) ∷ []) numbers_add_up))
 
 -- of no row
 pub needs_none : (rows : List WeaponRow) → [] ≡ weapon_needs (take 0 rows)

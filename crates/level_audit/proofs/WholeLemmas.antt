@@ -81,7 +81,7 @@ module _ (lumps : List Lump) (lines : List ThingLine) (name : List ℕ) (skill :
   scene_of_art : (scene : ReadScene) → AreFacesOf lumps name (base_of base) (faces_of faces) → base_of scene.base ≡ base_of base → scene.faces ≡ faces → IsWholeArt lumps lines skill (scene_value scene) →
       IsWholeScene lumps lines name skill (scene_value scene)
   scene_of_art scene are e f art =
-      let all : AreFacesOf lumps name (base_of scene.base) (faces_of scene.faces) =
+      let faces_of_scene : AreFacesOf lumps name (base_of scene.base) (faces_of scene.faces) =
       subst (λ (b : LevelBase). AreFacesOf lumps name b (faces_of scene.faces)) (sym e) (subst (λ (f : ReadFaces). AreFacesOf lumps name (base_of base) (faces_of f)) (sym f) are) in
       search rules
 

@@ -141,8 +141,8 @@ module _ {A B C D E F R G : Type 0} {fault_of : G → Fault R} {v w x : ShelfVie
     causes = record { err = tt };
     full = tt;
     order = λ items all k.
-        let k1 = one.order items all k in
-        order_then k1 (subst (λ (y : Result F G). MatchResult y (λ _. KeepsOrder items b c w.taken x.taken) (λ fault. InOrderAt (fault_of fault) (KeepsOrder items b c w.taken x.taken))) is (two.order items (λ lump s. all lump (among lump s)) k1.order));
+        let order_before = one.order items all k in
+        order_then order_before (subst (λ (y : Result F G). MatchResult y (λ _. KeepsOrder items b c w.taken x.taken) (λ fault. InOrderAt (fault_of fault) (KeepsOrder items b c w.taken x.taken))) is (two.order items (λ lump s. all lump (among lump s)) order_before.order));
   }
 
   -- a part stops the call, after others
@@ -156,16 +156,16 @@ module _ {A B C D E F R G : Type 0} {fault_of : G → Fault R} {v w x : ShelfVie
     causes = record { err = cause_later v.faults w.faults x.faults (fault_of fault) one.keeps.follows.faults (subst (λ (y : Result F G). IfErr y (λ f. HasCauseAt w.faults x.faults (fault_of f))) is two.causes.err) };
     full = full_at (fault_of fault) (λ wanted widest' k. full_for_earlier among one.keeps wanted widest' k) (subst (λ (y : Result F G). IfErr y (λ f. IfFull (fault_of f) (IsFullFor some dir b))) is two.full);
     order = λ items all k.
-        let k1 = one.order items all k in
-        order_at (fault_of fault) (λ k2. order_then k1 k2) (subst (λ (y : Result F G). MatchResult y (λ _. KeepsOrder items b c w.taken x.taken) (λ f. InOrderAt (fault_of f) (KeepsOrder items b c w.taken x.taken))) is (two.order items (λ lump s. all lump (among lump s)) k1.order));
+        let order_before = one.order items all k in
+        order_at (fault_of fault) (λ k2. order_then order_before k2) (subst (λ (y : Result F G). MatchResult y (λ _. KeepsOrder items b c w.taken x.taken) (λ f. InOrderAt (fault_of f) (KeepsOrder items b c w.taken x.taken))) is (two.order items (λ lump s. all lump (among lump s)) order_before.order));
   }
 
 -- the same error goes on
 pub reads_same : {A B R E : Type 0} {fault_of : E → Fault R} {v w : ShelfView} {dir : DirectoryView} {a b : Heap} {wants : ℕ → Type 0} {value : B → A} (result : Result B E) (fault : E) (expected : (ℕ → List ℕ) → Result A R) → IsErrAnd result (λ e. e ≡ fault) →
     ReadsLumps fault_of v w dir a b wants value expected (Err fault) → ReadsLumps fault_of v w dir a b wants value expected result
 reads_same {fault_of} {v} {w} {dir} {a} {b} {wants} {value} result fault expected is reads =
-    let s = err_from_is_err_and result is in
-    subst (ReadsLumps fault_of v w dir a b wants value expected) (sym (s.1 ∙ ap Err s.2)) reads
+    let error_is = err_from_is_err_and result is in
+    subst (ReadsLumps fault_of v w dir a b wants value expected) (sym (error_is.1 ∙ ap Err error_is.2)) reads
 
 -- the value is seen another way
 pub reads_as : {A B C D R E : Type 0} {fault_of : E → Fault R} {v w : ShelfView} {dir : DirectoryView} {a b : Heap} {wants some : ℕ → Type 0} {value : B → A} {first : D → C} {expected : (ℕ → List ℕ) → Result A R} {before : (ℕ → List ℕ) → Result C R} (answer : D) (got : B) →

@@ -8,7 +8,7 @@ use Rattle.lump_cache.specs.Caches.{KeptOrPurged, IsFaithful, lump_owner, with_t
 pub file_stands : (view : ShelfView) (numbers : List FileNo) (contents : List (List ℕ)) (k : ℕ) (number : FileNo) → NameFiles view numbers contents → slice_get numbers k ≡ Some number → view.file number.0 ≡ Some (file_bytes contents k)
 file_stands view [] contents k number a e = cc
 file_stands view (n ∷ ns) [] k number a e = absurd a
-file_stands view (n ∷ ns) (c ∷ cs) zero number a e = let s : n ≡ number = cc in subst (λ (m : FileNo). view.file m.0 ≡ Some c) s a.0
+file_stands view (n ∷ ns) (c ∷ cs) zero number a e = let number_is : n ≡ number = cc in subst (λ (m : FileNo). view.file m.0 ≡ Some c) number_is a.0
 file_stands view (n ∷ ns) (c ∷ cs) (suc k) number a e = file_stands view ns cs k number a.1 e
 
 -- a piece of a lump's size, read from its place, is the lump
@@ -38,9 +38,9 @@ some_bytes o bs xs Q e q = subst (λ x. IfSome x Q) (sym e) q
 pub filled_lump : (contents : List (List ℕ)) (lumps : List Lump) (view : ShelfView) (numbers : List FileNo) (n : ℕ) (number : FileNo) (place : ℕ) (w : List ℕ) → NameFiles view numbers contents → slice_get numbers (lump_at lumps n).file ≡ Some number → place ≡ (lump_at lumps n).place → length w ≡ (lump_at lumps n).size
     → IfSome (view.file number.0) (λ bytes. IsPieceAt bytes place w) → w ≡ lump_bytes contents lumps n
 filled_lump contents lumps view numbers n number place w a s p len says =
-    let e = file_stands view numbers contents (lump_at lumps n).file number a s in
-    let k : IsPieceAt (file_bytes contents (lump_at lumps n).file) place w = subst (λ x. IfSome x (λ bytes. IsPieceAt bytes place w)) e says in
-    piece_is_lump contents lumps n (file_bytes contents (lump_at lumps n).file) w refl len (subst (λ m. IsPieceAt (file_bytes contents (lump_at lumps n).file) m w) p k)
+    let file_is = file_stands view numbers contents (lump_at lumps n).file number a s in
+    let file_piece : IsPieceAt (file_bytes contents (lump_at lumps n).file) place w = subst (λ x. IfSome x (λ bytes. IsPieceAt bytes place w)) file_is says in
+    piece_is_lump contents lumps n (file_bytes contents (lump_at lumps n).file) w refl len (subst (λ m. IsPieceAt (file_bytes contents (lump_at lumps n).file) m w) p file_piece)
 
 lump_apart : (l n : ℕ) → (n ≡ l → ⊥) → same_owner (lump_owner l) (lump_owner n) ≡ false
 lump_apart l n h = ne_eqb l n (λ e. h (sym e))

@@ -37,9 +37,9 @@ live_faithful contents dir z lump there faithful live = go (holding_of (lump_own
   go : (h : Option Holding) → holding_of (lump_owner lump) z.blocks ≡ h → IsSome h → bytes_of (lump_owner lump) z.blocks ≡ Some (lump_bytes contents dir.lumps lump)
   go None e k = cc
   go (Some h) e k =
-      let is : bytes_of (lump_owner lump) z.blocks ≡ Some h.bytes = rw e refl in
-      let same : h.bytes ≡ lump_bytes contents dir.lumps lump = subst (λ x. IfSome x (λ bytes. bytes ≡ lump_bytes contents dir.lumps lump)) is (faithful.at lump there) in
-      is ∙ ap Some same
+      let owner_has_bytes : bytes_of (lump_owner lump) z.blocks ≡ Some h.bytes = rw e refl in
+      let bytes_faithful : h.bytes ≡ lump_bytes contents dir.lumps lump = subst (λ x. IfSome x (λ bytes. bytes ≡ lump_bytes contents dir.lumps lump)) owner_has_bytes (faithful.at lump there) in
+      owner_has_bytes ∙ ap Some bytes_faithful
 
 module _ {dir : DirectoryView} {lump : ℕ} {tag : Tag} {view after : ShelfView} {old new : Heap} {result : Result (Unit {0}) CacheFault} (f : FetchesLump dir lump tag view after old new result) where
   abbrev owner : Owner
@@ -152,8 +152,8 @@ module _ {dir : DirectoryView} {lump : ℕ} {tag : Tag} {view after : ShelfView}
   pub fetch_first : tag ≡ Static → IsEmpty old → OnOk result (IsAtRest lump size new)
   fetch_first static none =
       on_ok result (λ takes.
-      let t = takes (rw (none owner) refl) in
-      first_at_rest lump size tag old new new f.sound static none t _ t.block refl (static, refl)
+      let takes_block = takes (rw (none owner) refl) in
+      first_at_rest lump size tag old new new f.sound static none takes_block _ takes_block.block refl (static, refl)
       (λ o apart. kept_unpinned (owned_block o old.blocks) (owned_block o new.blocks) (f.others o apart) (subst IsUnpinned (sym (none o)) tt))) fetch_takes
 
   -- with the tag `Static` the lump is pinned for the whole run, whatever was live before
@@ -177,10 +177,10 @@ module _ {dir : DirectoryView} {lump : ℕ} {tag : Tag} {view after : ShelfView}
   taken_least = on_ok result (λ taken none. go taken none (cases_lt 0 size)) f.taken where
     go : (IsNone (holding_of owner old.blocks) → 0 < size → after.taken ≡ counted view.taken size) → IsNone (holding_of owner old.blocks) → (0 < size) ⊎ (size ≤ 0) → after.taken ≤ view.taken + size
     go taken none (inl some) =
-        let e = taken none some in
-        let m = counted_least view.taken size in
-        omega (arith, e, m)
-    go taken none (inr zero) = let e = ap (λ (v : ShelfView). v.taken) (f.untouched (omega (arith, zero))) in omega (arith, e)
+        let bytes_counted = taken none some in
+        let counted_at_most = counted_least view.taken size in
+        omega (arith, bytes_counted, counted_at_most)
+    go taken none (inr zero) = let bytes_taken_same = ap (λ (v : ShelfView). v.taken) (f.untouched (omega (arith, zero))) in omega (arith, bytes_taken_same)
 
   -- a cache in order for a list that has the lump has room for it, and stays in order
   pub fetch_order : (items : List Item) → has_item items owner size ≡ true → IsInOrder items old → MatchAnswer result (KeepsOrder items old new view.taken after.taken) (λ wanted widest'. ⊥) ⊤

@@ -42,7 +42,7 @@ module _ (o : Owner) (size : ℕ) (tag : Tag) (first old new : Heap) (P : List �
   written_is = filled_block o old new P f ∙ ap (option_map (write_block o f.bytes)) t.block ∙ ap Some (cond-true (is_held_by o taken_block) (record taken_block { holding = write_holding f.bytes taken_block.holding }) taken_block (same_refl o))
 
   before_was : t.bytes ≡ f.before
-  before_was = let e : Some t.bytes ≡ Some f.before = sym (ap (λ (x : Option Block). option_map (λ (h : Holding). h.bytes) (option_and_then (λ (b : Block). b.holding) x)) t.block) ∙ f.before_is in cc
+  before_was = let bytes_same : Some t.bytes ≡ Some f.before = sym (ap (λ (x : Option Block). option_map (λ (h : Holding). h.bytes) (option_and_then (λ (b : Block). b.holding) x)) t.block) ∙ f.before_is in cc
 
   pub written_len : length f.bytes ≡ size
   written_len = f.len ∙ ap length (sym before_was) ∙ t.len
@@ -59,7 +59,7 @@ owned_fits o l m [] h f e = cc
 owned_fits o l m (b ∷ bs) h f e = go (is_held_by o b) e (λ k. owned_fits o l m bs h f.1 k) where
   here : (x : Option Holding) → x ≡ Some h → FitsHolding l m b.size x → length h.bytes ≡ h.asked
   here None e f = cc
-  here (Some k) e f = let s : k ≡ h = cc in subst (λ (y : Holding). length y.bytes ≡ y.asked) s f.2
+  here (Some k) e f = let holding_same : k ≡ h = cc in subst (λ (y : Holding). length y.bytes ≡ y.asked) holding_same f.2
 
   go : (t : Bool) → option_and_then (λ (x : Block). x.holding) (cond t (Some b) (owned_block o bs)) ≡ Some h → (holding_of o bs ≡ Some h → length h.bytes ≡ h.asked) → length h.bytes ≡ h.asked
   go true k rest = here b.holding k f.0
@@ -68,7 +68,7 @@ owned_fits o l m (b ∷ bs) h f e = go (is_held_by o b) e (λ k. owned_fits o l 
 pub filled_sound : (o : Owner) (old new : Heap) (P : List ℕ → Type 0) → IsFilled o old new P → IsSound old → IsSound new
 filled_sound o old new P f s = subst IsSound (sym f.zone) (with_bytes_sound o f.bytes old s (λ h e. f.len ∙ ap length (sym (same h e)) ∙ owned_fits o old.lumps old.composites old.blocks h s.fits e)) where
   same : (h : Holding) → holding_of o old.blocks ≡ Some h → h.bytes ≡ f.before
-  same h e = let k : Some h.bytes ≡ Some f.before = sym (ap (option_map (λ (x : Holding). x.bytes)) e) ∙ f.before_is in cc
+  same h e = let bytes_same : Some h.bytes ≡ Some f.before = sym (ap (option_map (λ (x : Holding). x.bytes)) e) ∙ f.before_is in cc
 
 pub use_live : (tag : Tag) (size : ℕ) (b : Option Block) → HasBlock tag size b → IsSome (option_and_then (λ (x : Block). x.holding) b)
 use_live tag size None k = absurd k

@@ -9,7 +9,7 @@ pub first_at_rest : (l size : ℕ) (tag : Tag) (old made new : Heap) → IsSound
 first_at_rest l size tag old made new s static none t block is at pinned others = record {
   block = block;
   is = is;
-  place = at ∙ empty_place (block_size size) t.place old s (let k = block_least size in omega (arith, k)) none t.place_is;
+  place = at ∙ empty_place (block_size size) t.place old s (let block_size_least = block_least size in omega (arith, block_size_least)) none t.place_is;
   pinned = pinned;
   others = others;
 }

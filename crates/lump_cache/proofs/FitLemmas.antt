@@ -11,7 +11,7 @@ use Rattle.lump_cache.proofs.RoomLemmas.{asked_least, held_once, static_asked}
 module _ (o : Owner) (x : Block) (bs : List Block) (b : Block) (e : owned_block o (x ∷ bs) ≡ Some b) where
   held_first : is_held_by o x ≡ true → x ≡ b
   held_first h =
-      let s : Some x ≡ Some b = sym (cond-true (is_held_by o x) (Some x) (owned_block o bs) h) ∙ e in
+      let first_is_owned : Some x ≡ Some b = sym (cond-true (is_held_by o x) (Some x) (owned_block o bs) h) ∙ e in
       cc
 
   held_behind : is_held_by o x ≡ false → owned_block o bs ≡ Some b
@@ -23,13 +23,13 @@ one_fits o [] b e = cc
 one_fits o (x ∷ bs) b e = go (is_held_by o x) refl (one_fits o bs b) where
   go : (t : Bool) → is_held_by o x ≡ t → (owned_block o bs ≡ Some b → b.size ≤ total bs) → b.size ≤ total (x ∷ bs)
   go true h later =
-      let same = ap (λ (c : Block). c.size) (held_first o x bs b e h) in
-      let sum = total-cons x bs in
-      omega (arith, same, sum)
+      let sizes_same = ap (λ (c : Block). c.size) (held_first o x bs b e h) in
+      let total_is = total-cons x bs in
+      omega (arith, sizes_same, total_is)
   go false h later =
-      let few = later (held_behind o x bs b e h) in
-      let sum = total-cons x bs in
-      omega (arith, few, sum)
+      let rest_fits = later (held_behind o x bs b e h) in
+      let total_is = total-cons x bs in
+      omega (arith, rest_fits, total_is)
 
 -- nor are the blocks of two owners
 module _ (o p : Owner) (apart : same_owner o p ≡ false) where
@@ -38,26 +38,26 @@ module _ (o p : Owner) (apart : same_owner o p ≡ false) where
   two_fit (x ∷ bs) b c e f = go (is_held_by o x) (is_held_by p x) refl refl (two_fit bs b c) where
     go : (t u : Bool) → is_held_by o x ≡ t → is_held_by p x ≡ u → (owned_block o bs ≡ Some b → owned_block p bs ≡ Some c → b.size + c.size ≤ total bs) → b.size + c.size ≤ total (x ∷ bs)
     go true u h k later =
-        let same = ap (λ (y : Block). y.size) (held_first o x bs b e h) in
-        let other = one_fits p bs c (held_behind p x bs c f (held_once o p x.holding h apart)) in
-        let sum = total-cons x bs in
-        omega (arith, same, other, sum)
+        let sizes_same = ap (λ (y : Block). y.size) (held_first o x bs b e h) in
+        let other_fits = one_fits p bs c (held_behind p x bs c f (held_once o p x.holding h apart)) in
+        let total_is = total-cons x bs in
+        omega (arith, sizes_same, other_fits, total_is)
     go false true h k later =
-        let same = ap (λ (y : Block). y.size) (held_first p x bs c f k) in
-        let other = one_fits o bs b (held_behind o x bs b e h) in
-        let sum = total-cons x bs in
-        omega (arith, same, other, sum)
+        let sizes_same = ap (λ (y : Block). y.size) (held_first p x bs c f k) in
+        let other_fits = one_fits o bs b (held_behind o x bs b e h) in
+        let total_is = total-cons x bs in
+        omega (arith, sizes_same, other_fits, total_is)
     go false false h k later =
-        let few = later (held_behind o x bs b e h) (held_behind p x bs c f k) in
-        let sum = total-cons x bs in
-        omega (arith, few, sum)
+        let rest_fits = later (held_behind o x bs b e h) (held_behind p x bs c f k) in
+        let total_is = total-cons x bs in
+        omega (arith, rest_fits, total_is)
 
 -- a block has the size for what was asked for, and for the bytes that it has
 bytes_least : (lumps composites size : ℕ) (h : Option Holding) (xs : List ℕ) → FitsHolding lumps composites size h → option_map (λ (x : Holding). x.bytes) h ≡ Some xs → block_size (length xs) ≤ size
 bytes_least lumps composites size None xs f e = cc
 bytes_least lumps composites size (Some h) xs f e =
-    let same : h.bytes ≡ xs = cc in
-    subst (λ (m : ℕ). block_size m ≤ size) (sym f.2 ∙ ap length same) f.0
+    let bytes_same : h.bytes ≡ xs = cc in
+    subst (λ (m : ℕ). block_size m ≤ size) (sym f.2 ∙ ap length bytes_same) f.0
 
 -- a zone where the colormap is pinned for the whole run holds its block and one for the bytes of another
 -- owner
@@ -67,12 +67,12 @@ module _ (z : Heap) (sound : IsSound z) (o : Owner) where
     go : (x : Option Block) → owned_block (lump_owner colormap) z.blocks ≡ x → HasStatic count x → block_size count + block_size (length xs) ≤ z.size
     go None is has = absurd has
     go (Some r) is has =
-        let l = lump_owner colormap in
-        let first = asked_least z.lumps z.composites r.size count r.holding (static_asked count r.holding has) (owned_fits l r z.lumps z.composites z.blocks sound.fits is) in
-        let lent = bytes_least z.lumps z.composites b.size b.holding xs (owned_fits o b z.lumps z.composites z.blocks sound.fits e) k in
-        let both = two_fit l o apart z.blocks r b is e in
+        let colormap_owner = lump_owner colormap in
+        let colormap_fits = asked_least z.lumps z.composites r.size count r.holding (static_asked count r.holding has) (owned_fits colormap_owner r z.lumps z.composites z.blocks sound.fits is) in
+        let bytes_fit = bytes_least z.lumps z.composites b.size b.holding xs (owned_fits o b z.lumps z.composites z.blocks sound.fits e) k in
+        let both_fit = two_fit colormap_owner o apart z.blocks r b is e in
         let ends = tiles_end 0 z.size z.blocks sound.tiles in
-        omega (arith, first, lent, both, ends)
+        omega (arith, colormap_fits, bytes_fit, both_fit, ends)
 
   -- the same of a call that lends these bytes
   pub lent_fits : (lent : Option (List ℕ)) → lent ≡ bytes_of o z.blocks → (colormap count : ℕ) → HasStatic count (owned_block (lump_owner colormap) z.blocks) → same_owner (lump_owner colormap) o ≡ false → IfSome lent (λ bytes. block_size count + block_size (length bytes) ≤ z.size)

@@ -30,7 +30,7 @@ on_above R P (Err e) p = tt
 module _ {B R : Type 0} where
   lifted_is : (fetched : Result B CacheFault) (result : Result B (Fault R)) → IsLifted fetched result → result ≡ result_above from_cache fetched
   lifted_is (Ok x) result is = is
-  lifted_is (Err e) result is = let s = err_from_is_err_and result is in s.1 ∙ ap Err s.2
+  lifted_is (Err e) result is = let error_is = err_from_is_err_and result is in error_is.1 ∙ ap Err error_is.2
 
   -- what is told of the value, and after an Ok
   pub lifted_ok : (P : B → Type 0) (fetched : Result B CacheFault) (result : Result B (Fault R)) → IsLifted fetched result → IfOk fetched P → IfOk result P

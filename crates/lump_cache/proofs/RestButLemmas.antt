@@ -55,8 +55,8 @@ pub not_colormap : (colormap size : ℕ) (pinned : List Owner) (z : Heap) (l : O
 not_colormap colormap size pinned z l rest s = go (same_owner l (lump_owner colormap)) refl where
   go : (t : Bool) → same_owner l (lump_owner colormap) ≡ t → t ≡ false
   go true e =
-      let x : holding_of l z.blocks ≡ rest.block.holding = ap (λ (q : Owner). holding_of q z.blocks) (owner_eq l (lump_owner colormap) e) ∙ ap (option_and_then (λ (b : Block). b.holding)) rest.is in
-      absurd (false≢true (sym s ∙ ap holds_static x ∙ static_held size rest.block.holding rest.static))
+      let holding_is_colormaps : holding_of l z.blocks ≡ rest.block.holding = ap (λ (q : Owner). holding_of q z.blocks) (owner_eq l (lump_owner colormap) e) ∙ ap (option_and_then (λ (b : Block). b.holding)) rest.is in
+      absurd (false≢true (sym s ∙ ap holds_static holding_is_colormaps ∙ static_held size rest.block.holding rest.static))
   go false e = refl
 
 -- one owner beside the colormap's has another block, or none, and the others are kept or purged
@@ -76,7 +76,7 @@ module _ (colormap size : ℕ) (pinned : List Owner) (old new : Heap) (l : Owner
     is = colormap_stays;
     place = rest.place;
     static = rest.static;
-    others = λ o h n. let p = or_parts (same_owner o l) (list_any (same_owner o) pinned) n in kept_unpinned (owned_block o old.blocks) (owned_block o new.blocks) (others o (owner_flip o l p.0)) (rest.others o h p.1);
+    others = λ o h n. let neither_owner = or_parts (same_owner o l) (list_any (same_owner o) pinned) n in kept_unpinned (owned_block o old.blocks) (owned_block o new.blocks) (others o (owner_flip o l neither_owner.0)) (rest.others o h neither_owner.1);
     passing = passing_stays s;
   }
 
@@ -101,14 +101,14 @@ rest_but_wider colormap size pinned z l r =
 pub rest_but_fewer : (colormap size : ℕ) (pinned : List Owner) (z : Heap) (l : Owner) → (same_owner (lump_owner colormap) l ≡ false → IsUnpinned (owned_block l z.blocks)) → IsAtRestExcept colormap size (l ∷ pinned) z → IsAtRestExcept colormap size pinned z
 rest_but_fewer colormap size pinned z l u r = record { block = r.block; is = r.is; place = r.place; static = r.static; others = λ o h n. go o h n (same_owner o l) refl; passing = r.passing } where
   go : (o : Owner) → same_owner (lump_owner colormap) o ≡ false → list_any (same_owner o) pinned ≡ false → (t : Bool) → same_owner o l ≡ t → IsUnpinned (owned_block o z.blocks)
-  go o h n true e = let k = owner_eq o l e in subst (λ (q : Owner). IsUnpinned (owned_block q z.blocks)) (sym k) (u (ap (same_owner (lump_owner colormap)) (sym k) ∙ h))
+  go o h n true e = let owner_same = owner_eq o l e in subst (λ (q : Owner). IsUnpinned (owned_block q z.blocks)) (sym owner_same) (u (ap (same_owner (lump_owner colormap)) (sym owner_same) ∙ h))
   go o h n false e = r.others o h (or_from (same_owner o l) (list_any (same_owner o) pinned) e n)
 
 pub owned_held : (o : Owner) (b : Block) (bs : List Block) → owned_block o bs ≡ Some b → is_held_by o b ≡ true
 owned_held o b [] e = cc
 owned_held o b (c ∷ bs) e = go (is_held_by o c) refl e (λ k. owned_held o b bs k) where
   go : (t : Bool) → is_held_by o c ≡ t → cond t (Some c) (owned_block o bs) ≡ Some b → (owned_block o bs ≡ Some b → is_held_by o b ≡ true) → is_held_by o b ≡ true
-  go true h k rest = let x : c ≡ b = cc in ap (is_held_by o) (sym x) ∙ h
+  go true h k rest = let block_same : c ≡ b = cc in ap (is_held_by o) (sym block_same) ∙ h
   go false h k rest = rest k
 
 -- a new tag

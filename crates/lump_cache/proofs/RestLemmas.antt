@@ -55,8 +55,8 @@ module _ (colormap size : ℕ) (old : Heap) (rest : IsAtRest colormap size old) 
   } where
     apart : (t : Bool) → same_owner (lump_owner l) (lump_owner colormap) ≡ t → t ≡ false
     apart true e =
-        let x : rest.block.holding ≡ None = sym (ap (option_and_then (λ (b : Block). b.holding)) rest.is) ∙ ap (λ (q : Owner). holding_of q old.blocks) (sym (owner_eq (lump_owner l) (lump_owner colormap) e)) ∙ none in
-        absurd (subst (IsStatic size) x rest.pinned)
+        let colormap_holds_none : rest.block.holding ≡ None = sym (ap (option_and_then (λ (b : Block). b.holding)) rest.is) ∙ ap (λ (q : Owner). holding_of q old.blocks) (sym (owner_eq (lump_owner l) (lump_owner colormap) e)) ∙ none in
+        absurd (subst (IsStatic size) colormap_holds_none rest.pinned)
     apart false e = refl
 
     go : (o : Owner) → same_owner (lump_owner colormap) o ≡ false → (t : Bool) → same_owner (lump_owner l) o ≡ t → IsUnpinned (owned_block o new.blocks)
@@ -79,8 +79,8 @@ module _ (colormap size : ℕ) (old : Heap) (rest : IsAtRest colormap size old) 
   rest_retag l = go (holds_static (holding_of l old.blocks)) refl where
     apart : holds_static (holding_of l old.blocks) ≡ false → (t : Bool) → same_owner l (lump_owner colormap) ≡ t → t ≡ false
     apart s true e =
-        let x : holding_of l old.blocks ≡ rest.block.holding = ap (λ (q : Owner). holding_of q old.blocks) (owner_eq l (lump_owner colormap) e) ∙ ap (option_and_then (λ (b : Block). b.holding)) rest.is in
-        absurd (false≢true (sym s ∙ ap holds_static x ∙ static_held size rest.block.holding rest.pinned))
+        let holding_is_colormaps : holding_of l old.blocks ≡ rest.block.holding = ap (λ (q : Owner). holding_of q old.blocks) (owner_eq l (lump_owner colormap) e) ∙ ap (option_and_then (λ (b : Block). b.holding)) rest.is in
+        absurd (false≢true (sym s ∙ ap holds_static holding_is_colormaps ∙ static_held size rest.block.holding rest.pinned))
     apart s false e = refl
 
     go : (t : Bool) → holds_static (holding_of l old.blocks) ≡ t → IsAtRest colormap size (cond t old (with_tag l Cache old))

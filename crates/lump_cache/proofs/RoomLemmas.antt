@@ -26,17 +26,17 @@ first_gap b (c ∷ bs) rest a e = rw (a.0, first_gap c bs rest a.1 e, a.1.0) ref
 pub first_small : (w : ℕ) (bs rest : List Block) → 0 < w → AllOpen bs → opens rest ≡ false → AllSmall w (gaps (bs ++ rest)) → (total bs < w) × AllSmall w (gaps rest)
 first_small w [] rest some a e k = (omega arith, k)
 first_small w (b ∷ bs) rest some a e k =
-    let s = subst (AllSmall w) (first_gap b bs rest a e) k in
-    (All-head (λ g. total g < w) (b ∷ bs) (gaps rest) s, All-tail (λ g. total g < w) (b ∷ bs) (gaps rest) s)
+    let gaps_small = subst (AllSmall w) (first_gap b bs rest a e) k in
+    (All-head (λ g. total g < w) (b ∷ bs) (gaps rest) gaps_small, All-tail (λ g. total g < w) (b ∷ bs) (gaps rest) gaps_small)
 
 pub open_small : (w : ℕ) (bs : List Block) → 0 < w → AllOpen bs → AllSmall w (gaps bs) → total bs < w
 open_small w bs some a k = (first_small w bs [] some a refl (subst (λ xs. AllSmall w (gaps xs)) (sym (append-nil bs)) k)).0
 
 -- a block makes the widest gap behind it wider by no more than itself
 in_front_most : (b : Block) (o : Bool) (gs : List (List Block)) → widest (in_front b o gs) ≤ b.size + widest gs
-in_front_most b false gs = let e = total-cons b [] in omega arith
-in_front_most b true [] = let e = total-cons b [] in omega arith
-in_front_most b true (g ∷ gs) = let e = total-cons b g in omega arith
+in_front_most b false gs = let total_is = total-cons b [] in omega arith
+in_front_most b true [] = let total_is = total-cons b [] in omega arith
+in_front_most b true (g ∷ gs) = let total_is = total-cons b g in omega arith
 
 pub widest_more : (b : Block) (bs : List Block) → widest (gaps (b ∷ bs)) ≤ b.size + widest (gaps bs)
 widest_more b bs = go (is_pinned b) where
@@ -47,7 +47,7 @@ widest_more b bs = go (is_pinned b) where
 -- so no gap is wider than all blocks together
 pub widest_within : (bs : List Block) → widest (gaps bs) ≤ total bs
 widest_within [] = omega arith
-widest_within (b ∷ bs) = let e = total-cons b bs in let k = widest_more b bs in let l = widest_within bs in omega arith
+widest_within (b ∷ bs) = let total_is = total-cons b bs in let widest_grows = widest_more b bs in let rest_within = widest_within bs in omega arith
 
 -- a pinned block is of no gap
 pub gaps_behind : (b : Block) (bs : List Block) → is_pinned b ≡ true → gaps (b ∷ bs) ≡ gaps bs
@@ -76,8 +76,8 @@ module _ (o : Owner) where
   pub front_open : (b : Block) (bs : List Block) (x : Option Holding) → b.holding ≡ x → holds_for o x ≡ false → OthersOpen (b ∷ bs) → pins x ≡ false
   front_open b bs None e h k = refl
   front_open b bs (Some x) e h k =
-      let held : is_held_by x.owner b ≡ true = ap (holds_for x.owner) e ∙ owner_self x.owner in
-      ap pins (sym e) ∙ subst IsUnpinned (cond-true (is_held_by x.owner b) (Some b) (owned_block x.owner bs) held) (k x.owner (owner_turned x.owner o h))
+      let owner_holds : is_held_by x.owner b ≡ true = ap (holds_for x.owner) e ∙ owner_self x.owner in
+      ap pins (sym e) ∙ subst IsUnpinned (cond-true (is_held_by x.owner b) (Some b) (owned_block x.owner bs) owner_holds) (k x.owner (owner_turned x.owner o h))
 
   pub all_open : (bs : List Block) → Unique bs → Lacks o bs → OthersOpen bs → AllOpen bs
   all_open [] u l k = tt
@@ -85,9 +85,9 @@ module _ (o : Owner) where
 
 within_step : (o : Owner) (p : ℕ) (c : Block) (bs : List Block) (b : Block) → p ≤ c.place → (owned_block o bs ≡ Some b → p ≤ b.place) → owned_block o (c ∷ bs) ≡ Some b → (t : Bool) → is_held_by o c ≡ t → p ≤ b.place
 within_step o p c bs b here later e true h =
-    let s : Some c ≡ Some b = sym (cond-true (is_held_by o c) (Some c) (owned_block o bs) h) ∙ e in
-    let d : c ≡ b = cc in
-    subst (λ (x : Block). p ≤ x.place) d here
+    let first_is_owned : Some c ≡ Some b = sym (cond-true (is_held_by o c) (Some c) (owned_block o bs) h) ∙ e in
+    let block_same : c ≡ b = cc in
+    subst (λ (x : Block). p ≤ x.place) block_same here
 within_step o p c bs b here later e false h = later (sym (cond-false (is_held_by o c) (Some c) (owned_block o bs) h) ∙ e)
 
 owned_within : (o : Owner) (p q : ℕ) (bs : List Block) (b : Block) → Within p q bs → owned_block o bs ≡ Some b → p ≤ b.place
@@ -140,27 +140,27 @@ module _ (o : Owner) (size : ℕ) (z : Heap) (block : Block) (place : block.plac
 
   first_static : (b : Block) (bs : List Block) → is_held_by o b ≡ true → owned_block o (b ∷ bs) ≡ Some block → IsStatic size b.holding
   first_static b bs h e =
-      let s : Some b ≡ Some block = sym (cond-true (is_held_by o b) (Some b) (owned_block o bs) h) ∙ e in
-      let d : block ≡ b = cc in
-      subst (λ (x : Block). IsStatic size x.holding) d static
+      let first_is_owned : Some b ≡ Some block = sym (cond-true (is_held_by o b) (Some b) (owned_block o bs) h) ∙ e in
+      let block_same : block ≡ b = cc in
+      subst (λ (x : Block). IsStatic size x.holding) block_same static
 
   behind_of : (bs : List Block) → z.blocks ≡ bs → Tiles 0 z.size bs → Unique bs → AllFit z.lumps z.composites bs → owned_block o bs ≡ Some block → Behind o size z
   behind_of [] is t u f e = cc
   behind_of (b ∷ bs) is t u f e =
-      let h = first_is b bs t e in
-      let s = first_static b bs h e in
-      let large = asked_size z.lumps z.composites b.size size b.holding (static_asked size b.holding s) f.0 in
-      let small = asked_least z.lumps z.composites b.size size b.holding (static_asked size b.holding s) f.0 in
+      let owner_holds_first = first_is b bs t e in
+      let first_is_static = first_static b bs owner_holds_first e in
+      let large = asked_size z.lumps z.composites b.size size b.holding (static_asked size b.holding first_is_static) f.0 in
+      let size_at_least = asked_least z.lumps z.composites b.size size b.holding (static_asked size b.holding first_is_static) f.0 in
       let ends = tiles_end (0 + b.size) z.size bs t.2 in
       record {
         rest = bs;
-        lacks = lacks_held o b.holding bs h u.0;
+        lacks = lacks_held o b.holding bs owner_holds_first u.0;
         unique = u.1;
         fits = f.1;
-        gaps_are = ap gaps is ∙ gaps_behind b bs (static_pinned size b.holding s);
+        gaps_are = ap gaps is ∙ gaps_behind b bs (static_pinned size b.holding first_is_static);
         sum = omega (arith, large, ends);
-        least = omega (arith, small, ends);
-        owned = λ q apart. ap (owned_block q) is ∙ cond-false (is_held_by q b) (Some b) (owned_block q bs) (held_once o q b.holding h apart);
+        least = omega (arith, size_at_least, ends);
+        owned = λ q apart. ap (owned_block q) is ∙ cond-false (is_held_by q b) (Some b) (owned_block q bs) (held_once o q b.holding owner_holds_first apart);
       }
 
   pub behind : IsSound z → owned_block o z.blocks ≡ Some block → Behind o size z
@@ -169,13 +169,13 @@ module _ (o : Owner) (size : ℕ) (z : Heap) (block : Block) (place : block.plac
 -- the widest gap of a zone at rest
 pub gap_at_rest : (z : Heap) → IsSound z → (colormap size : ℕ) → IsAtRest colormap size z → IsGapBeside z.size (block_size size) (widest (gaps z.blocks))
 gap_at_rest z sound colormap size rest =
-    let o = lump_owner colormap in
-    let r = behind o size z rest.block rest.place rest.pinned sound rest.is in
-    let open' = all_open o r.rest r.unique r.lacks (λ q apart. subst IsUnpinned (r.owned q apart) (rest.others q apart)) in
-    let w : ℕ = widest (gaps r.rest) in
-    let few = open_small (w + 1) r.rest (omega arith) open' (all_small (w + 1) (gaps r.rest) (omega arith)) in
-    let most = widest_within r.rest in
-    subst (IsGapBeside z.size (block_size size)) (sym (ap widest r.gaps_are)) (omega (arith, most, r.least), omega (arith, few, r.sum))
+    let owner = lump_owner colormap in
+    let zone_rest = behind owner size z rest.block rest.place rest.pinned sound rest.is in
+    let open' = all_open owner zone_rest.rest zone_rest.unique zone_rest.lacks (λ q apart. subst IsUnpinned (zone_rest.owned q apart) (rest.others q apart)) in
+    let widest_gap : ℕ = widest (gaps zone_rest.rest) in
+    let few = open_small (widest_gap + 1) zone_rest.rest (omega arith) open' (all_small (widest_gap + 1) (gaps zone_rest.rest) (omega arith)) in
+    let most = widest_within zone_rest.rest in
+    subst (IsGapBeside z.size (block_size size)) (sym (ap widest zone_rest.gaps_are)) (omega (arith, most, zone_rest.least), omega (arith, few, zone_rest.sum))
 
 -- the same by what a call without room reports
 pub gap_of_rest : (n : ℕ) (z : Heap) (wanted widest' : ℕ) → IsSound z → NoRoom n z wanted widest' → (colormap size : ℕ) → IsAtRest colormap size z → IsGapBeside z.size (block_size size) widest'
@@ -185,10 +185,10 @@ gap_of_rest n z wanted widest' sound full colormap size rest =
 -- a zone without a live block is one gap
 empty_gap : (z : Heap) → IsEmpty z → IsSound z → widest (gaps z.blocks) ≡ z.size
 empty_gap z none sound =
-    let is = empty_is z.size z.blocks sound.tiles sound.apart none (sound_size z sound) in
-    let same = ap (λ bs. widest (gaps bs)) is in
-    let sum = total-cons (free_block 0 z.size) [] in
-    omega (arith, same, sum)
+    let one_free_block = empty_is z.size z.blocks sound.tiles sound.apart none (sound_size z sound) in
+    let widest_same = ap (λ bs. widest (gaps bs)) one_free_block in
+    let total_is = total-cons (free_block 0 z.size) [] in
+    omega (arith, widest_same, total_is)
 
 pub gap_of_empty : (n : ℕ) (z : Heap) (wanted widest' : ℕ) → IsSound z → NoRoom n z wanted widest' → IsEmpty z → widest' ≡ z.size
 gap_of_empty n z wanted widest' sound full none = full.widest_is ∙ empty_gap z none sound

@@ -56,8 +56,8 @@ sizes_fetched lumps lump tag old new r inside hit block empty others has = recor
 -- a lump that stands beside the colormap later did so before
 pub beside_earlier : {v w : ShelfView} {dir : DirectoryView} {a b : Heap} (lump : ℕ) → PreservesCache v w dir a b → StandsBeside dir.lumps b lump → StandsBeside dir.lumps a lump
 beside_earlier {dir} {a} lump keeps beside = λ colormap count static has other.
-    let later = subst (HasStatic count) (sym (keeps.static (lump_owner colormap) (has_static_held count (owned_block (lump_owner colormap) a.blocks) static))) static in
-    subst (λ n. block_size count + block_size (lump_at dir.lumps lump).size ≤ n) keeps.counts.0 (beside colormap count later (keeps.sizes has) other)
+    let static_later = subst (HasStatic count) (sym (keeps.static (lump_owner colormap) (has_static_held count (owned_block (lump_owner colormap) a.blocks) static))) static in
+    subst (λ n. block_size count + block_size (lump_at dir.lumps lump).size ≤ n) keeps.counts.0 (beside colormap count static_later (keeps.sizes has) other)
 
 -- lumps of an earlier and of a later call
 pub either_beside : {v w : ShelfView} {dir : DirectoryView} {a b : Heap} {early late : ℕ → Type 0} → PreservesCache v w dir a b → ((lump : ℕ) → early lump → StandsBeside dir.lumps a lump) → ((lump : ℕ) → late lump → StandsBeside dir.lumps b lump) → (lump : ℕ) → early lump ⊎ late lump → StandsBeside dir.lumps a lump
@@ -76,8 +76,8 @@ pub beside_named : (lumps : List Lump) (name : List ℕ) (z : Heap) (lump : Opti
     ((colormap count : ℕ) → HasStatic count (owned_block (lump_owner colormap) z.blocks) → IfSome lump (λ l. same_owner (lump_owner colormap) (lump_owner l.0) ≡ false) → IfSome lent (λ bytes. block_size count + block_size (length bytes) ≤ z.size)) → (number : ℕ) → IsLast lumps name number → StandsBeside lumps z number
 beside_named lumps name z None lent found there live is fits number last = cc
 beside_named lumps name z (Some l) lent found there live is fits number last =
-    let same : l.0 ≡ number = cc in
-    subst (StandsBeside lumps z) same (go (holding_of (lump_owner l.0) z.blocks) refl live) where
+    let number_same : l.0 ≡ number = cc in
+    subst (StandsBeside lumps z) number_same (go (holding_of (lump_owner l.0) z.blocks) refl live) where
       go : (h : Option Holding) → holding_of (lump_owner l.0) z.blocks ≡ h → IsSome h → StandsBeside lumps z l.0
       go None e k = let none : ⊥ = cc in absurd none
       go (Some h) e k =

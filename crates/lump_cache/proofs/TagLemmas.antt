@@ -46,7 +46,7 @@ module _ (o : Owner) (tag : Tag) where
 
   set_same : (h : Option Holding) → option_map (λ (x : Holding). x.tag) h ≡ Some tag → set_tag tag h ≡ h
   set_same None e = refl
-  set_same (Some h) e = let k : h.tag ≡ tag = cc in ap (λ t. Some (record h { tag = t })) (sym k)
+  set_same (Some h) e = let tag_same : h.tag ≡ tag = cc in ap (λ t. Some (record h { tag = t })) (sym tag_same)
 
   blocks_same : (bs : List Block) → Unique bs → tag_in (owned_block o bs) ≡ Some tag → map (retag_block o tag) bs ≡ bs
   blocks_same [] u e = refl

@@ -12,10 +12,10 @@ not_past size place end e some = grind (arith, nat_tests)
 lies : (contents : List (List ℕ)) (file : ℕ) (bytes : List ℕ) (lump : Lump) → lump.file ≡ file → file < length contents → file_bytes contents file ≡ bytes →
     passes_end (length bytes) lump ≡ false → LiesWithin contents lump
 lies contents file bytes lump is lt e off =
-    let n : length (file_bytes contents lump.file) ≡ length bytes = ap (λ k. length (file_bytes contents k)) is ∙ ap length e in
+    let file_length : length (file_bytes contents lump.file) ≡ length bytes = ap (λ k. length (file_bytes contents k)) is ∙ ap length e in
     record {
       file = omega arith;
-      bytes = λ some. let fits : lump.place + lump.size ≤ length bytes = not_past lump.size lump.place (length bytes) off some in omega arith;
+      bytes = λ some. let lump_fits_file : lump.place + lump.size ≤ length bytes = not_past lump.size lump.place (length bytes) off some in omega arith;
     }
 
 file_within : (contents : List (List ℕ)) (file : ℕ) (bytes : List ℕ) → file < length contents → file_bytes contents file ≡ bytes →
@@ -31,14 +31,14 @@ within_from : (contents : List (List ℕ)) (file before : ℕ) (rest : List (Lis
 unfolding refusal_from lumps_from
 within_from contents file before [] same le none = All-nil (LiesWithin contents)
 within_from contents file before (bytes ∷ rest) same le none =
-    let both = or_else-none (file_refusal file before bytes) (refusal_from (suc file) (before + entry_count (header bytes)) rest) none in
-    let entries = or_else-none (header_refusal file before bytes) (entry_refusal file (length bytes) (file_lumps file bytes)) both.0 in
-    let first : file_bytes contents file ≡ bytes = ap (file_bytes contents) (sym (add-zero file)) ∙ same 0 (omega arith) in
+    let neither_refused = or_else-none (file_refusal file before bytes) (refusal_from (suc file) (before + entry_count (header bytes)) rest) none in
+    let entries = or_else-none (header_refusal file before bytes) (entry_refusal file (length bytes) (file_lumps file bytes)) neither_refused.0 in
+    let file_has_bytes : file_bytes contents file ≡ bytes = ap (file_bytes contents) (sym (add-zero file)) ∙ same 0 (omega arith) in
     All-append (LiesWithin contents) (file_lumps file bytes) (lumps_from (suc file) rest)
-    (file_within contents file bytes (omega arith) first entries.1)
+    (file_within contents file bytes (omega arith) file_has_bytes entries.1)
     (within_from contents (suc file) (before + entry_count (header bytes)) rest
-    (λ k lt. let e : suc file + k ≡ file + suc k = omega arith in ap (file_bytes contents) e ∙ same (suc k) (omega arith))
-    (omega arith) both.1)
+    (λ k lt. let file_number_same : suc file + k ≡ file + suc k = omega arith in ap (file_bytes contents) file_number_same ∙ same (suc k) (omega arith))
+    (omega arith) neither_refused.1)
 
 -- each lump of a directory lies within its file
 pub directory_within : (contents : List (List ℕ)) (lumps : List Lump) → directory contents ≡ Ok lumps → AllWithin contents lumps
@@ -48,7 +48,7 @@ directory_within contents lumps e =
 
 fits : (size place n : ℕ) → (0 < size → place + size ≤ n) → min size (n - place) ≡ size
 fits zero place n within = omega arith
-fits (suc size) place n within = let h : place + suc size ≤ n = within (omega arith) in omega arith
+fits (suc size) place n within = let end_within : place + suc size ≤ n = within (omega arith) in omega arith
 
 -- a lump that lies within its file has as many bytes as its entry says
 pub lump_bytes-length : (contents : List (List ℕ)) (lumps : List Lump) (number : ℕ) → LiesWithin contents (lump_at lumps number) →

@@ -35,8 +35,8 @@ unpassed file n false e = refl
 pub entry_refusal_none : (file size : ℕ) (lumps : List Lump) → entry_refusal file size lumps ≡ None → All (λ lump. passes_end size lump ≡ false) lumps
 unfolding entry_refusal
 entry_refusal_none file size lumps e k d lt =
-    let n : ℕ = position_or_len (passes_end size) lumps in
-    let off : nat_lt n (length lumps) ≡ false = unpassed file n (nat_lt n (length lumps)) e in
-    let decides : Decides (nat_lt n (length lumps)) (n < length lumps) = Decides-ltb n (length lumps) in
-    let past : length lumps ≤ n = omega (arith, off, ltb-false) in
+    let first_passing : ℕ = position_or_len (passes_end size) lumps in
+    let no_lump_passes : nat_lt first_passing (length lumps) ≡ false = unpassed file first_passing (nat_lt first_passing (length lumps)) e in
+    let decides : Decides (nat_lt first_passing (length lumps)) (first_passing < length lumps) = Decides-ltb first_passing (length lumps) in
+    let past : length lumps ≤ first_passing = omega (arith, no_lump_passes, ltb-false) in
     fails_before_first (passes_end size) lumps k d (omega arith)

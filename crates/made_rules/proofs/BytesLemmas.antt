@@ -35,8 +35,8 @@ records-none bytes f = grind (arith, common_steps)
 pub records-more : (bytes : List ℕ) (f : ℕ → List ℕ) (n : ℕ) → (bytes ++ records f n) ++ f n ≡ bytes ++ records f (n + 1)
 unfolding records
 records-more bytes f n =
-    let more : range_with_len 0 (n + 1) ≡ range_with_len 0 n ++ n ∷ [] = grind (arith, range-more 0 n) in
-    flat_map_more f bytes (range_with_len 0 n) n ∙ ap (λ ns. bytes ++ flat_map f ns) (sym more)
+    let range_grows : range_with_len 0 (n + 1) ≡ range_with_len 0 n ++ n ∷ [] = grind (arith, range-more 0 n) in
+    flat_map_more f bytes (range_with_len 0 n) n ∙ ap (λ ns. bytes ++ flat_map f ns) (sym range_grows)
 
 -- the same of a lump that begins with its records
 pub records-first : (f : ℕ → List ℕ) → [] ≡ records f 0

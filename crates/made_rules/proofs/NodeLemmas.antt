@@ -47,14 +47,14 @@ back-piece part d = (pieces_by part (divides_columns part) refl d).1
 pub front-is_part : (part piece : Part) → IsPart part → is_one_cell part ≡ false → piece ≡ front_part part → IsPart piece
 front-is_part part piece p e f =
     let front : IsPiece part (front_part part) = front-piece part (divisible part p.columns p.rows e) in
-    let within : IsPart (front_part part) = record { columns = front.columns; rows = front.rows; east = omega arith; north = omega arith } in
-    subst IsPart (sym f) within
+    let front_within : IsPart (front_part part) = record { columns = front.columns; rows = front.rows; east = omega arith; north = omega arith } in
+    subst IsPart (sym f) front_within
 
 pub back-is_part : (part piece : Part) → IsPart part → is_one_cell part ≡ false → piece ≡ back_part part → IsPart piece
 back-is_part part piece p e f =
     let back : IsPiece part (back_part part) = back-piece part (divisible part p.columns p.rows e) in
-    let within : IsPart (back_part part) = record { columns = back.columns; rows = back.rows; east = omega arith; north = omega arith } in
-    subst IsPart (sym f) within
+    let back_within : IsPart (back_part part) = record { columns = back.columns; rows = back.rows; east = omega arith; north = omega arith } in
+    subst IsPart (sym f) back_within
 
 pub front-smaller :
     (part piece : Part) → IsPart part → is_one_cell part ≡ false → piece ≡ front_part part → width piece + height piece < width part + height part
@@ -88,12 +88,12 @@ count_by_cases :
 unfolding node_count divides_columns made_middle_column middle_row
 count_by_cases part true e d =
     let wide : height part ≤ width part = grind (arith, nat_tests, e) in
-    let m = (part.west + part.east) / 2 in
-    beside (part.east - m) (m - part.west) (height part) (width part) (omega arith) (omega arith) (omega arith) (omega arith)
+    let column_between = (part.west + part.east) / 2 in
+    beside (part.east - column_between) (column_between - part.west) (height part) (width part) (omega arith) (omega arith) (omega arith) (omega arith)
 count_by_cases part false e d =
     let high : width part < height part = grind (arith, nat_tests, e) in
-    let m = (part.south + part.north) / 2 in
-    above (m - part.south) (part.north - m) (width part) (height part) (omega arith) (omega arith) (omega arith) (omega arith)
+    let row_between = (part.south + part.north) / 2 in
+    above (row_between - part.south) (part.north - row_between) (width part) (height part) (omega arith) (omega arith) (omega arith) (omega arith)
 
 -- the nodes of both parts and one more
 node_count_of : (part : Part) → IsDivisible part → node_count part ≡ node_count (front_part part) + node_count (back_part part) + 1
@@ -124,12 +124,12 @@ enough zero b side first part p q m n = absurd (omega arith)
 enough (suc a) zero side first part p q m n = absurd (omega arith)
 enough (suc a) (suc b) side first part p q m n =
     second_list (is_one_cell part) _ _ (λ (e : is_one_cell part ≡ false).
-    let d : IsDivisible part = divisible part p q e in
-    let front : IsPiece part (front_part part) = front-piece part d in
-    let back : IsPiece part (back_part part) = back-piece part d in
-    let f : nodes_within a side first (front_part part) ≡ nodes_within b side first (front_part part)
+    let part_divisible : IsDivisible part = divisible part p q e in
+    let front : IsPiece part (front_part part) = front-piece part part_divisible in
+    let back : IsPiece part (back_part part) = back-piece part part_divisible in
+    let front_nodes_same : nodes_within a side first (front_part part) ≡ nodes_within b side first (front_part part)
     = enough a b side first (front_part part) front.columns front.rows (omega arith) (omega arith) in
-    let g : nodes_within a side (first + node_count (front_part part)) (back_part part) ≡ nodes_within b side (first + node_count (front_part part)) (back_part part)
+    let back_nodes_same : nodes_within a side (first + node_count (front_part part)) (back_part part) ≡ nodes_within b side (first + node_count (front_part part)) (back_part part)
     = enough a b side (first + node_count (front_part part)) (back_part part) back.columns back.rows (omega arith) (omega arith) in
     (cc))
 
@@ -163,24 +163,25 @@ pub part_nodes-parts :
     ≡ bytes ++ part_nodes side first part
 unfolding part_nodes nodes_within
 part_nodes-parts bytes side first part within e =
-    let p = within.columns in
-    let q = within.rows in
-    let d : IsDivisible part = divisible part p q e in
-    let front : IsPiece part (front_part part) = front-piece part d in
-    let back : IsPiece part (back_part part) = back-piece part d in
-    let n = width part + height part in
-    let f : nodes_within n side first (front_part part) ≡ part_nodes side first (front_part part)
-    = enough n (width (front_part part) + height (front_part part)) side first (front_part part) front.columns front.rows (omega arith) (omega arith) in
-    let g : nodes_within n side (first + node_count (front_part part)) (back_part part) ≡ part_nodes side (first + node_count (front_part part)) (back_part part)
-    = enough n (width (back_part part) + height (back_part part)) side (first + node_count (front_part part)) (back_part part) back.columns back.rows (omega arith) (omega arith) in
-    let deeper : part_nodes side first part ≡ nodes_within (suc n) side first part = enough n (suc n) side first part p q (omega arith) (omega arith) in
-    let whole :
+    let columns_ordered = within.columns in
+    let rows_ordered = within.rows in
+    let part_divisible : IsDivisible part = divisible part columns_ordered rows_ordered e in
+    let front : IsPiece part (front_part part) = front-piece part part_divisible in
+    let back : IsPiece part (back_part part) = back-piece part part_divisible in
+    let depth = width part + height part in
+    let front_nodes_are : nodes_within depth side first (front_part part) ≡ part_nodes side first (front_part part)
+    = enough depth (width (front_part part) + height (front_part part)) side first (front_part part) front.columns front.rows (omega arith) (omega arith) in
+    let back_nodes_are : nodes_within depth side (first + node_count (front_part part)) (back_part part) ≡ part_nodes side (first + node_count (front_part part)) (back_part part)
+    = enough depth (width (back_part part) + height (back_part part)) side (first + node_count (front_part part)) (back_part part) back.columns back.rows (omega arith) (omega arith) in
+    let deeper : part_nodes side first part ≡ nodes_within (suc depth) side first part
+    = enough depth (suc depth) side first part columns_ordered rows_ordered (omega arith) (omega arith) in
+    let nodes_are_joined :
     part_nodes side first part
-    ≡ nodes_within n side first (front_part part)
-    ++ nodes_within n side (first + node_count (front_part part)) (back_part part)
+    ≡ nodes_within depth side first (front_part part)
+    ++ nodes_within depth side (first + node_count (front_part part)) (back_part part)
     ++ node_bytes side first part
     = deeper ∙ this_list (is_one_cell part) _ e in
-    joined bytes (part_nodes side first (front_part part)) (part_nodes side (first + node_count (front_part part)) (back_part part)) (node_bytes side first part) _ _ _ f g whole
+    joined bytes (part_nodes side first (front_part part)) (part_nodes side (first + node_count (front_part part)) (back_part part)) (node_bytes side first part) _ _ _ front_nodes_are back_nodes_are nodes_are_joined
 
 line_length : (part : Part) (b : Bool) → length (cond b (halves ((CELL_SIZE * made_middle_column part) ∷ (CELL_SIZE * part.south) ∷ 0 ∷ (CELL_SIZE * height part) ∷ [])) (halves ((CELL_SIZE * part.west) ∷ (CELL_SIZE * middle_row part) ∷ (CELL_SIZE * width part) ∷ 0 ∷ []))) ≡ 8
 unfolding halves half
@@ -203,9 +204,9 @@ node_length side first part =
 one_cell_count : (part : Part) → is_one_cell part ≡ true → 0 ≡ NODE_SIZE * node_count part
 unfolding is_one_cell node_count
 one_cell_count part e =
-    let w : width part ≡ 1 = grind (arith, nat_tests, e) in
-    let h : height part ≡ 1 = grind (arith, nat_tests, e) in
-    rw (w, h) refl
+    let width_is_one : width part ≡ 1 = grind (arith, nat_tests, e) in
+    let height_is_one : height part ≡ 1 = grind (arith, nat_tests, e) in
+    rw (width_is_one, height_is_one) refl
 
 length_of_choice : (b : Bool) (xs : List ℕ) (n : ℕ) → (b ≡ true → 0 ≡ n) → (b ≡ false → length xs ≡ n) → length (cond b [] xs) ≡ n
 length_of_choice true xs n none some = none refl
@@ -218,8 +219,8 @@ length_within (suc depth) side first part p m =
     length_of_choice (is_one_cell part) _ _ (one_cell_count part) (λ (e : is_one_cell part ≡ false).
     let front : IsPart (front_part part) = front-is_part part (front_part part) p e refl in
     let back : IsPart (back_part part) = back-is_part part (back_part part) p e refl in
-    let f : width (front_part part) + height (front_part part) < width part + height part = front-smaller part (front_part part) p e refl in
-    let g : width (back_part part) + height (back_part part) < width part + height part = back-smaller part (back_part part) p e refl in
+    let front_is_smaller : width (front_part part) + height (front_part part) < width part + height part = front-smaller part (front_part part) p e refl in
+    let back_is_smaller : width (back_part part) + height (back_part part) < width part + height part = back-smaller part (back_part part) p e refl in
     simp length-append
     (omega (arith, node_count-parts part p e, length_within depth side first (front_part part) front (omega arith), length_within depth side (first + node_count (front_part part)) (back_part part) back (omega arith), node_length side first part)))
 

@@ -14,9 +14,9 @@ pub entries-append : (place : ℕ) (xs ys : List Lump) → entries place (xs ++ 
 unfolding entries contents
 entries-append place [] ys = rw add-zero refl
 entries-append place (x ∷ xs) ys =
-    let rest = entries-append (place + length x.bytes) xs ys in
+    let rest_entries = entries-append (place + length x.bytes) xs ys in
     let behind : place + length x.bytes + length (contents xs) ≡ place + length (x.bytes ++ contents xs) = grind (arith, common_steps) in
-    rw (rest, behind) (simp append_assoc)
+    rw (rest_entries, behind) (simp append_assoc)
 
 same_parts : (lumps lumps' directory directory' : List ℕ) → lumps ≡ lumps' → directory ≡ directory' → parts_of lumps directory ≡ parts_of lumps' directory'
 same_parts lumps lumps' directory directory' e f = cc

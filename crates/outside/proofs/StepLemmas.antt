@@ -22,10 +22,11 @@ pub stop : {A B C D R Q E F : Type 0} {fault_of : E → Fault R} {above : F → 
     (f : R → Q) (convert : E → F) → ((x : E) → above (convert x) ≡ fault_above f (fault_of x)) → (next : C → Result A Q) (fault : E) (result : Result B F) →
     ResultIs fault_of steady v first r → r ≡ Err fault → IsErrAnd result (λ e. e ≡ convert fault) → ResultIs above steady value (and_then (from_below f first) next) result
 stop {A} {B} {C} {D} {R} {Q} {E} {F} {fault_of} {above} {steady} {v} {value} {first} {r} f convert tells next fault result answers was is =
-    let p : (y : F) × (result ≡ Err y) × (y ≡ convert fault) = err_from_is_err_and result is in
-    let h : FaultFits steady first (fault_of fault) = rw was at answers.err in
-    let k : FaultFits steady (and_then (from_below f first) next) (above p.0) = rw (p.2, tells fault) (stops f steady first next (fault_of fault) h) in
-    rw p.1 (record { ok = tt; err = k })
+    let error_is : (y : F) × (result ≡ Err y) × (y ≡ convert fault) = err_from_is_err_and result is in
+    let step_fault_fits : FaultFits steady first (fault_of fault) = rw was at answers.err in
+    let fault_fits : FaultFits steady (and_then (from_below f first) next) (above error_is.0)
+    = rw (error_is.2, tells fault) (stops f steady first next (fault_of fault) step_fault_fits) in
+    rw error_is.1 (record { ok = tt; err = fault_fits })
 
 last_stops : {C R Q : Type 0} (f : R → Q) (steady : Bool) (last : Result C R) (fault : Fault R) →
     FaultFits steady last fault → FaultFits steady (from_below f last) (fault_above f fault)
@@ -39,10 +40,11 @@ pub last_stop : {B C D R Q E F : Type 0} {fault_of : E → Fault R} {above : F �
     (f : R → Q) (convert : E → F) → ((x : E) → above (convert x) ≡ fault_above f (fault_of x)) → (fault : E) (result : Result B F) →
     ResultIs fault_of steady v last r → r ≡ Err fault → IsErrAnd result (λ e. e ≡ convert fault) → ResultIs above steady value (from_below f last) result
 last_stop {B} {C} {D} {R} {Q} {E} {F} {fault_of} {above} {steady} {v} {value} {last} {r} f convert tells fault result answers was is =
-    let p : (y : F) × (result ≡ Err y) × (y ≡ convert fault) = err_from_is_err_and result is in
-    let h : FaultFits steady last (fault_of fault) = rw was at answers.err in
-    let k : FaultFits steady (from_below f last) (above p.0) = rw (p.2, tells fault) (last_stops f steady last (fault_of fault) h) in
-    rw p.1 (record { ok = tt; err = k })
+    let error_is : (y : F) × (result ≡ Err y) × (y ≡ convert fault) = err_from_is_err_and result is in
+    let last_fault_fits : FaultFits steady last (fault_of fault) = rw was at answers.err in
+    let fault_fits : FaultFits steady (from_below f last) (above error_is.0)
+    = rw (error_is.2, tells fault) (last_stops f steady last (fault_of fault) last_fault_fits) in
+    rw error_is.1 (record { ok = tt; err = fault_fits })
 
 -- the last step was passed
 pub last_step : {B C R Q F : Type 0} {above : F → Fault Q} (steady : Bool) (value : B → C) (f : R → Q) (last : Result C R) (found : B) →

@@ -23,10 +23,11 @@ step_passed first next found e s agrees = rw (e, ← s) agrees
 pub step_stops : {A B C D R E : Type 0} {fault_of : E → Fault R} {steady later : Bool} {v : D → C} {value : B → A} {first : Result C (Stop R)} {r : Result D E} (next : C → Result A (Stop R)) (fault : E) (result : Result B E) →
     ResultIsOrAbsent fault_of later v first r → r ≡ Err fault → later ≡ steady → IsErrAnd result (λ e. e ≡ fault) → ResultIsOrAbsent fault_of steady value (and_then first next) result
 step_stops {A} {B} {C} {D} {R} {E} {fault_of} {steady} {later} {v} {value} {first} {r} next fault result agrees was s is =
-    let p : (y : E) × (result ≡ Err y) × (y ≡ fault) = err_from_is_err_and result is in
-    let h : FaultFitsOrAbsent later first (fault_of fault) = rw was at agrees.err in
-    let k : FaultFitsOrAbsent steady (and_then first next) (fault_of p.0) = rw (p.2, ← s) (stops_all later first next (fault_of fault) h) in
-    rw p.1 (record { ok = tt; err = k })
+    let error_is : (y : E) × (result ≡ Err y) × (y ≡ fault) = err_from_is_err_and result is in
+    let step_fault_fits : FaultFitsOrAbsent later first (fault_of fault) = rw was at agrees.err in
+    let fault_fits : FaultFitsOrAbsent steady (and_then first next) (fault_of error_is.0)
+    = rw (error_is.2, ← s) (stops_all later first next (fault_of fault) step_fault_fits) in
+    rw error_is.1 (record { ok = tt; err = fault_fits })
 
 -- what bytes tell is fault_of of the steps that ask for no file
 pub told_stops : {A R : Type 0} (steady : Bool) (expected : Result A R) (fault : Fault R) → FaultFits steady expected fault → FaultFitsOrAbsent steady (no_file expected) fault
@@ -52,16 +53,16 @@ file_agrees {A} {B} {R} {E} {fault_of} {steady} {later} {value} (Some bytes) nex
 -- a call that failed did not find the file
 pub not_held : {D F : Type 0} (file : Option (List ℕ)) (r : Result D F) (failed : F) → (IsSome file → IsOk r) → r ≡ Err failed → file ≡ None
 not_held None r failed there was = refl
-not_held (Some bytes) r failed there was = absurd (let h = rw was at (there refl) in cc)
+not_held (Some bytes) r failed there was = absurd (let failure_is_ok = rw was at (there refl) in cc)
 
 -- a file was asked for, and the call failed
 pub absent_agrees : {A B D R E F : Type 0} {fault_of : E → Fault R} {steady : Bool} {value : B → A} (file : Option (List ℕ)) (next : List ℕ → Result A (Stop R)) (fault : E) (r : Result D F) (failed : F) (result : Result B E) →
     (IsTrue steady → IsSome file → IsOk r) → r ≡ Err failed → fault_of fault ≡ ReadFault → IsErrAnd result (λ e. e ≡ fault) →
     ResultIsOrAbsent fault_of steady value (and_then (else_absent file) next) result
 absent_agrees {A} {B} {D} {R} {E} {F} {fault_of} {steady} {value} file next fault r failed result there was tells is =
-    let p : (y : E) × (result ≡ Err y) × (y ≡ fault) = err_from_is_err_and result is in
-    let k : FaultFitsOrAbsent steady (and_then (else_absent file) next) (fault_of p.0) = rw (p.2, tells) (λ holds. rw (not_held file r failed (there holds) was) refl) in
-    rw p.1 (record { ok = tt; err = k })
+    let error_is : (y : E) × (result ≡ Err y) × (y ≡ fault) = err_from_is_err_and result is in
+    let fault_fits : FaultFitsOrAbsent steady (and_then (else_absent file) next) (fault_of error_is.0) = rw (error_is.2, tells) (λ holds. rw (not_held file r failed (there holds) was) refl) in
+    rw error_is.1 (record { ok = tt; err = fault_fits })
 
 -- what is fault_of of steps that read nothing
 unread_stops : {A R : Type 0} (steady : Bool) (expected : Result A R) (fault : Fault R) → FaultFits true expected fault → FaultFitsOrAbsent steady (no_file expected) fault

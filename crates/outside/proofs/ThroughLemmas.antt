@@ -11,11 +11,11 @@ module _ {A E F : Type 0} (W : E → F → Type 0) where
   -- what holds of the value, and after an Ok
   pub ok_through : (P : A → Type 0) (one : Result A E) (result : Result A F) → IsThrough W one result → IfOk one P → IfOk result P
   ok_through P (Ok x) result is p = rw is p
-  ok_through P (Err e) result is p = let s = err_from_is_err_and result is in rw s.1 tt
+  ok_through P (Err e) result is p = let error_is = err_from_is_err_and result is in rw error_is.1 tt
 
   pub done_through : (P : Type 0) (one : Result A E) (result : Result A F) → IsThrough W one result → OnOk one P → OnOk result P
   done_through P (Ok x) result is p = rw is p
-  done_through P (Err e) result is p = let s = err_from_is_err_and result is in rw s.1 tt
+  done_through P (Err e) result is p = let error_is = err_from_is_err_and result is in rw error_is.1 tt
 
 -- what holds of every value
 pub if_ok : {A E : Type 0} (P : A → Type 0) (result : Result A E) → ((x : A) → P x) → IfOk result P

@@ -8,7 +8,7 @@ below_kept : (p q : ℕ → Bool) (a n top : ℕ) → a + n ≤ top → filter (
 below_kept p q a zero top l = refl
 below_kept p q a (suc n) top l = by_value (p a) (below_kept p q (a + 1) n top (omega (arith, l))) where
   less : nat_lt a top ≡ true
-  less = let m : a < top = omega (arith, l) in grind (arith, nat_tests)
+  less = let number_below_top : a < top = omega (arith, l) in grind (arith, nat_tests)
 
   by_value : (b : Bool) → filter (λ k. nat_lt k top && q k) (filter p (range_with_len (a + 1) n)) ≡ filter q (filter p (range_with_len (a + 1) n)) →
       filter (λ k. nat_lt k top && q k) (cond b (a ∷ filter p (range_with_len (a + 1) n)) (filter p (range_with_len (a + 1) n)))
@@ -33,29 +33,29 @@ above_gone p q a (suc n) top l = by_value (p a) (above_gone p q (a + 1) n top (o
 
 range_parts : (a m n : ℕ) → range_with_len a (m + n) ≡ range_with_len a m ++ range_with_len (a + m) n
 range_parts a zero n =
-    let none : 0 + n ≡ n = omega arith in
-    let here : a ≡ a + 0 = omega arith in
-    ap (range_with_len a) none ∙ ap (λ (k : ℕ). range_with_len k n) here
+    let count_same : 0 + n ≡ n = omega arith in
+    let start_same : a ≡ a + 0 = omega arith in
+    ap (range_with_len a) count_same ∙ ap (λ (k : ℕ). range_with_len k n) start_same
 range_parts a (suc m) n =
-    let far : a + 1 + m ≡ a + suc m = omega arith in
-    let whole : suc m + n ≡ suc (m + n) = omega arith in
-    ap (range_with_len a) whole
-    ∙ ap (λ (xs : List ℕ). a ∷ xs) (range_parts (a + 1) m n ∙ ap (λ (k : ℕ). range_with_len (a + 1) m ++ range_with_len k n) far)
+    let next_start_is : a + 1 + m ≡ a + suc m = omega arith in
+    let count_is : suc m + n ≡ suc (m + n) = omega arith in
+    ap (range_with_len a) count_is
+    ∙ ap (λ (xs : List ℕ). a ∷ xs) (range_parts (a + 1) m n ∙ ap (λ (k : ℕ). range_with_len (a + 1) m ++ range_with_len k n) next_start_is)
 
 pub patches-below : (prepared : List (Option PreparedTexture)) (q : ℕ → Bool) (n most : ℕ) → n ≤ most →
     filter (λ k. nat_lt k n && q k) (patch_lumps prepared most) ≡ filter q (patch_lumps prepared n)
 unfolding patch_lumps
 patches-below prepared q n most l =
-    let p = is_patch_of_any prepared in
+    let is_patch = is_patch_of_any prepared in
     let test : ℕ → Bool = λ k. nat_lt k n && q k in
-    let whole : most ≡ n + (most - n) = omega (arith, l) in
-    ap (λ (m : ℕ). filter test (filter p (range_with_len 0 m))) whole
-    ∙ ap (λ (xs : List ℕ). filter test (filter p xs)) (range_parts 0 n (most - n))
-    ∙ ap (filter test) (filter-append p (range_with_len 0 n) (range_with_len (0 + n) (most - n)))
-    ∙ filter-append test (filter p (range_with_len 0 n)) (filter p (range_with_len (0 + n) (most - n)))
-    ∙ ap (λ (xs : List ℕ). filter test (filter p (range_with_len 0 n)) ++ xs) (above_gone p q (0 + n) (most - n) n (omega arith))
-    ∙ append-nil (filter test (filter p (range_with_len 0 n)))
-    ∙ below_kept p q 0 n n (omega arith)
+    let most_is_sum : most ≡ n + (most - n) = omega (arith, l) in
+    ap (λ (m : ℕ). filter test (filter is_patch (range_with_len 0 m))) most_is_sum
+    ∙ ap (λ (xs : List ℕ). filter test (filter is_patch xs)) (range_parts 0 n (most - n))
+    ∙ ap (filter test) (filter-append is_patch (range_with_len 0 n) (range_with_len (0 + n) (most - n)))
+    ∙ filter-append test (filter is_patch (range_with_len 0 n)) (filter is_patch (range_with_len (0 + n) (most - n)))
+    ∙ ap (λ (xs : List ℕ). filter test (filter is_patch (range_with_len 0 n)) ++ xs) (above_gone is_patch q (0 + n) (most - n) n (omega arith))
+    ∙ append-nil (filter test (filter is_patch (range_with_len 0 n)))
+    ∙ below_kept is_patch q 0 n n (omega arith)
 
 -- the fixed lumps, and the patches that are none of them
 pub called-is : (lumps : List Lump) (prepared : List (Option PreparedTexture)) (fixed start given patches called : List ℕ) (count most : ℕ) → count ≡ length lumps → count ≤ most →

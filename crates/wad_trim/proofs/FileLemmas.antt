@@ -14,10 +14,10 @@ unfolding entries_from parts_size
 entries-append lumps place [] ys = ap (λ (n : ℕ). entries_from lumps n ys) (sym (add-zero place))
 entries-append lumps place (x ∷ xs) ys =
     let next = place + part_size lumps x in
-    let far : next + parts_size lumps xs ≡ place + parts_size lumps (x ∷ xs) = omega (arith, sum_by-cons (part_size lumps) x xs) in
+    let place_same : next + parts_size lumps xs ≡ place + parts_size lumps (x ∷ xs) = omega (arith, sum_by-cons (part_size lumps) x xs) in
     ap (λ (es : List ℕ). entry lumps place x ++ es) (entries-append lumps next xs ys)
     ∙ sym (append_assoc (entry lumps place x) (entries_from lumps next xs) (entries_from lumps (next + parts_size lumps xs) ys))
-    ∙ ap (λ (n : ℕ). (entry lumps place x ++ entries_from lumps next xs) ++ entries_from lumps n ys) far
+    ∙ ap (λ (n : ℕ). (entry lumps place x ++ entries_from lumps next xs) ++ entries_from lumps n ys) place_same
 
 entries-one : (lumps : List Lump) (place : ℕ) (part : TrimPart) (rest : List TrimPart) →
     entries_from lumps place (part ∷ rest) ≡ entry lumps place part ++ entries_from lumps (place + part_size lumps part) rest
@@ -91,9 +91,9 @@ size-append lumps (x ∷ xs) ys = omega (arith, sum_by-cons (part_size lumps) x 
 pub size-within : (lumps : List Lump) (parts : List TrimPart) (i : ℕ) (part : TrimPart) → i < length parts → part ≡ get_or parts i part →
     parts_size lumps (take i parts) + part_size lumps part ≤ parts_size lumps parts
 size-within lumps parts i part l is =
-    let all : parts_size lumps (take (i + 1) parts) + parts_size lumps (drop (i + 1) parts) ≡ parts_size lumps parts =
+    let sizes_add_up : parts_size lumps (take (i + 1) parts) + parts_size lumps (drop (i + 1) parts) ≡ parts_size lumps parts =
     sym (size-append lumps (take (i + 1) parts) (drop (i + 1) parts)) ∙ ap (parts_size lumps) (take-append-drop (i + 1) parts) in
-    omega (arith, all, size-more lumps parts i part l is)
+    omega (arith, sizes_add_up, size-more lumps parts i part l is)
 
 -- a lump that a part copies is copied
 any_default : (xs : List TrimPart) (j : ℕ) (x y : TrimPart) → j < length xs → get_or xs j x ≡ get_or xs j y
@@ -124,7 +124,7 @@ size-none lumps = refl
 -- what fits a file: its bytes before the entries
 pub fits-size : (lumps : List Lump) (parts : List TrimPart) → FitsFile lumps parts → HEADER_SIZE + parts_size lumps parts ≤ MAX_FILE_BYTES
 unfolding file_size
-fits-size lumps parts fits = let all : HEAD_SIZE + parts_size lumps parts + ENTRY_SIZE * length parts ≤ MAX_FILE_BYTES = fits.bytes in omega (arith, all)
+fits-size lumps parts fits = let room : HEAD_SIZE + parts_size lumps parts + ENTRY_SIZE * length parts ≤ MAX_FILE_BYTES = fits.bytes in omega (arith, room)
 
 -- the header of a file of parts
 abbrev pub head_of : List Lump → List TrimPart → List ℕ
@@ -187,10 +187,10 @@ module _ (files : List (List ℕ)) (lumps : List Lump) (within : AllWithin files
   whole-entries place [] there = refl
   whole-entries place (p ∷ parts) there =
       let size = part-sized p (first p parts there) in
-      let rest = entries_from lumps (place + part_size lumps p) parts in
+      let rest_entries = entries_from lumps (place + part_size lumps p) parts in
       ap (λ (n : ℕ). word_bytes place ++ word_bytes n ++ part_name lumps p ++ entries (place + n) (map (part_lump (lump_bytes files lumps) lumps) parts)) size
       ∙ ap (λ (v : List ℕ). word_bytes place ++ word_bytes (part_size lumps p) ++ part_name lumps p ++ v) (whole-entries (place + part_size lumps p) parts (behind p parts there))
-      ∙ ap (λ (v : List ℕ). v ++ rest) (append_assoc (word_bytes place) (word_bytes (part_size lumps p)) (part_name lumps p))
+      ∙ ap (λ (v : List ℕ). v ++ rest_entries) (append_assoc (word_bytes place) (word_bytes (part_size lumps p)) (part_name lumps p))
 
   -- header, bytes and entries are the file
   pub whole-file : (parts : List TrimPart) → All (IsPartThere (length lumps)) parts →

@@ -61,8 +61,8 @@ marked-more lumps parts i d l =
     let so_far : ℕ → Bool = λ n. list_any (is_lump_part n) (take i parts) && is_mark (lump_at lumps n).name in
     let here : ℕ → Bool = λ n. list_any (is_lump_part n) (get_or parts i d ∷ []) && is_mark (lump_at lumps n).name in
     let next : ℕ → Bool = λ n. list_any (is_lump_part n) (take (i + 1) parts) && is_mark (lump_at lumps n).name in
-    let same : next ≡ (λ n. so_far n || here n) = λ j n. marked_either lumps parts i d n l j in
-    ap (λ (f : ℕ → Bool). least f (length lumps)) same ∙ least_either so_far here (length lumps)
+    let next_is_either : next ≡ (λ n. so_far n || here n) = λ j n. marked_either lumps parts i d n l j in
+    ap (λ (f : ℕ → Bool). least f (length lumps)) next_is_either ∙ least_either so_far here (length lumps)
 
 -- no part at all
 pub marked-none : (lumps : List Lump) → marked_lump lumps [] ≡ None
@@ -82,7 +82,7 @@ only m mark top true e l =
     (λ k s. ap (λ (t : Bool). (t || false) && mark k) (eq-false_above m k s))
 only m mark top false e l = least-none (λ n. ((m == n) || false) && mark n) top (λ k s. unmarked k (m == k) refl) where
   unmarked : (k : ℕ) (t : Bool) → (m == k) ≡ t → ((t || false) && mark k) ≡ false
-  unmarked k true same = let at : m ≡ k = grind (arith, nat_tests) in ap mark (sym at) ∙ e
+  unmarked k true same = let number_same : m ≡ k = grind (arith, nat_tests) in ap mark (sym number_same) ∙ e
   unmarked k false same = refl
 
 -- a part with a lump, by whether that has the name of a mark
@@ -91,8 +91,8 @@ pub marked-listed : (lumps : List Lump) (part : TrimPart) (m : ℕ) → ((n : �
 unfolding marked_lump
 marked-listed lumps part m is l =
     let mark : ℕ → Bool = λ n. is_mark (lump_at lumps n).name in
-    let same : (λ (n : ℕ). list_any (is_lump_part n) (part ∷ []) && mark n) ≡ (λ n. ((m == n) || false) && mark n) = λ j n. ap (λ (b : Bool). (b || false) && mark n) (is n) j in
-    ap (λ (f : ℕ → Bool). least f (length lumps)) same ∙ only m mark (length lumps) (mark m) refl l
+    let marks_same : (λ (n : ℕ). list_any (is_lump_part n) (part ∷ []) && mark n) ≡ (λ n. ((m == n) || false) && mark n) = λ j n. ap (λ (b : Bool). (b || false) && mark n) (is n) j in
+    ap (λ (f : ℕ → Bool). least f (length lumps)) marks_same ∙ only m mark (length lumps) (mark m) refl l
 
 -- the number of a lump that is there where a test passes
 pub number-cond : (b : Bool) (lump : LumpNo) → option_map (λ (l : LumpNo). l.0) (cond b (Some lump) None) ≡ cond b (Some lump.0) None

@@ -74,7 +74,7 @@ module _ (lumps : List Lump) (art : SceneArt) (name : List ℕ)
   listed wanted needs = one_listed wanted needs (last_of lumps wanted) refl
 
   same_last : (wanted : List ℕ) (a n : ℕ) → last_of lumps wanted ≡ Some a → last_of lumps wanted ≡ Some n → (a == n) ≡ true
-  same_last wanted a n is js = let same : a ≡ n = cc in eq-eqb a n same
+  same_last wanted a n is js = let number_same : a ≡ n = cc in eq-eqb a n number_same
 
   fixed : AllByRecursion IsNeeded (fixed_lumps lumps)
   unfolding fixed_lumps
@@ -107,12 +107,12 @@ module _ (lumps : List Lump) (art : SceneArt) (name : List ℕ)
   label_needed : list_any (has_name lumps name) (called_lumps lumps art.prepared) ≡ true → is_needed lumps art art.label ≡ true
   label_needed any =
       let all = both (λ n. IsNumber lumps n × IsLastOfName lumps n) IsNeeded _ (both (IsNumber lumps) (IsLastOfName lumps) _ (called-there lumps art.prepared) called_last) called in
-      let one = one_passes (has_name lumps name) (λ n. (IsNumber lumps n × IsLastOfName lumps n) × IsNeeded n) (called_lumps lumps art.prepared) all any in
-      let named : (lump_at lumps one.0).name ≡ name = (bytes_eq-Decides (lump_at lumps one.0).name name).0 (sym (is_lump-at (λ lump. bytes_eq lump.name name) lumps one.0 one.2.0.0) ∙ one.1) in
-      let found : last_of lumps name ≡ Some one.0 = ap (last_of lumps) (sym named) ∙ one.2.0.1 in
-      let is : last_of lumps name ≡ Some art.label = (label-is lumps name art.label label).0 in
-      let same : one.0 ≡ art.label = cc in
-      subst IsNeeded same one.2.1
+      let by_name = one_passes (has_name lumps name) (λ n. (IsNumber lumps n × IsLastOfName lumps n) × IsNeeded n) (called_lumps lumps art.prepared) all any in
+      let name_same : (lump_at lumps by_name.0).name ≡ name = (bytes_eq-Decides (lump_at lumps by_name.0).name name).0 (sym (is_lump-at (λ lump. bytes_eq lump.name name) lumps by_name.0 by_name.2.0.0) ∙ by_name.1) in
+      let name_is_called : last_of lumps name ≡ Some by_name.0 = ap (last_of lumps) (sym name_same) ∙ by_name.2.0.1 in
+      let last_is_label : last_of lumps name ≡ Some art.label = (label-is lumps name art.label label).0 in
+      let lumps_same : by_name.0 ≡ art.label = cc in
+      subst IsNeeded lumps_same by_name.2.1
 
   copied : (ns : List ℕ) → AllByRecursion IsNeeded ns → AllByRecursion (IsPartNeeded lumps art) (map copy_part ns)
   copied [] all = tt
@@ -143,10 +143,10 @@ module _ (lumps : List Lump) (art : SceneArt) (name : List ℕ)
   pub parts-needed : AllByRecursion (IsPartNeeded lumps art) (trim_parts lumps art name)
   unfolding trim_parts
   parts-needed =
-      let P = IsPartNeeded lumps art in
-      all-append P (group_parts F_START (flat_lumps lumps art.flats) F_END) _ (grouped F_START (flat_lumps lumps art.flats) F_END flats)
-      (all-append P (group_parts S_START (picture_lumps lumps art.pictures) S_END) _ (grouped S_START (picture_lumps lumps art.pictures) S_END pictures)
-      (all-append P (map_parts (list_any (has_name lumps name) (called_lumps lumps art.prepared)) (map_of lumps name)) _ level
+      let per_part = IsPartNeeded lumps art in
+      all-append per_part (group_parts F_START (flat_lumps lumps art.flats) F_END) _ (grouped F_START (flat_lumps lumps art.flats) F_END flats)
+      (all-append per_part (group_parts S_START (picture_lumps lumps art.pictures) S_END) _ (grouped S_START (picture_lumps lumps art.pictures) S_END pictures)
+      (all-append per_part (map_parts (list_any (has_name lumps name) (called_lumps lumps art.prepared)) (map_of lumps name)) _ level
       (copied (filter (λ n. not (has_name lumps name n)) (called_lumps lumps art.prepared))
       (all-filter IsNeeded (λ n. not (has_name lumps name n)) (called_lumps lumps art.prepared) called))))
 
@@ -177,7 +177,7 @@ pub copied-needed : (bytes : ℕ → List ℕ) (lumps : List Lump) (lines : List
 copied-needed bytes lumps lines name skill scene pictures parts n made plan copied =
     let art = art_with scene pictures in
     let base = base_parts bytes lumps name scene.base made.base in
-    let all = parts-needed lumps art name (palette_last lumps scene.base.playpal base.playpal) (colormap_last lumps scene.base.colormap base.colormap) (label_last lumps name scene.base.label base.label)
+    let all_needed = parts-needed lumps art name (palette_last lumps scene.base.playpal base.playpal) (colormap_last lumps scene.base.colormap base.colormap) (label_last lumps name scene.base.label base.label)
     (patches-last lumps bytes scene.base.lists (is_wanted_texture scene.faces.sides scene.faces.sky) scene.prepared made.prepared) in
-    let here : AllByRecursion (IsPartNeeded lumps art) parts = subst (AllByRecursion (IsPartNeeded lumps art)) (plan-accepted lumps art name parts plan).0 all in
-    All-contains (IsPartNeeded lumps art) parts (copy_part n) (All-from_recursion (IsPartNeeded lumps art) parts here) copied
+    let parts_are_needed : AllByRecursion (IsPartNeeded lumps art) parts = subst (AllByRecursion (IsPartNeeded lumps art)) (plan-accepted lumps art name parts plan).0 all_needed in
+    All-contains (IsPartNeeded lumps art) parts (copy_part n) (All-from_recursion (IsPartNeeded lumps art) parts parts_are_needed) copied

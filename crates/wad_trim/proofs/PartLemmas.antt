@@ -21,13 +21,13 @@ all-there lumps art name parts e = parts_below lumps parts (subst (AllByRecursio
 pub behind-more : (old now new : List TrimPart) (label i : ℕ) (part : TrimPart) → part ≡ copy_part (label + 1 + i) → now ≡ old ++ map copy_part (range_with_len (suc label) i) → new ≡ now ++ part ∷ [] →
     new ≡ old ++ map copy_part (range_with_len (suc label) (i + 1))
 behind-more old now new label i part is before push =
-    let at : suc label + i ≡ label + 1 + i = omega arith in
+    let next_lump_is : suc label + i ≡ label + 1 + i = omega arith in
     let copies = map copy_part (range_with_len (suc label) i) in
     push
     ∙ ap (λ (v : List TrimPart). v ++ part ∷ []) before
     ∙ append_assoc old copies (part ∷ [])
     ∙ ap (λ (p : TrimPart). old ++ (copies ++ p ∷ [])) is
-    ∙ ap (λ (v : List TrimPart). old ++ v) (sym (map-range_with_len_more copy_part (suc label) i (label + 1 + i) at))
+    ∙ ap (λ (v : List TrimPart). old ++ v) (sym (map-range_with_len_more copy_part (suc label) i (label + 1 + i) next_lump_is))
 
 regroup_parts : (a b c d : List TrimPart) → ((a ++ b) ++ c) ++ d ≡ a ++ (b ++ (c ++ d))
 regroup_parts a b c d = simp append_assoc
@@ -41,16 +41,16 @@ pub parts-are : (lumps : List Lump) (art : SceneArt) (name : List ℕ) (flats pi
 unfolding trim_parts filled
 parts-are lumps art name flats pictures called more a b c d e f g h i none p q r s =
     let called' = called_lumps lumps art.prepared in
-    let one = group_parts F_START (flat_lumps lumps art.flats) F_END in
-    let two = group_parts S_START (picture_lumps lumps art.pictures) S_END in
-    let three = map_parts (list_any (has_name lumps name) called') (map_of lumps name) in
-    let four = map copy_part (filter (λ n. not (has_name lumps name n)) called') in
-    let p' = p ∙ ap (λ (n : List ℕ). a ++ group_parts F_START n F_END) f in
-    let q' = q ∙ ap (λ (n : List ℕ). b ++ group_parts S_START n S_END) g in
-    let r' = r ∙ ap (λ (n : List ℕ). c ++ map_parts (list_any (has_name lumps name) n) (map_of lumps name)) h in
+    let flat_parts = group_parts F_START (flat_lumps lumps art.flats) F_END in
+    let picture_parts = group_parts S_START (picture_lumps lumps art.pictures) S_END in
+    let level_parts = map_parts (list_any (has_name lumps name) called') (map_of lumps name) in
+    let called_parts = map copy_part (filter (λ n. not (has_name lumps name n)) called') in
+    let flats_added = p ∙ ap (λ (n : List ℕ). a ++ group_parts F_START n F_END) f in
+    let pictures_added = q ∙ ap (λ (n : List ℕ). b ++ group_parts S_START n S_END) g in
+    let level_added = r ∙ ap (λ (n : List ℕ). c ++ map_parts (list_any (has_name lumps name) n) (map_of lumps name)) h in
     s ∙ ap (λ (n : List ℕ). d ++ map copy_part (filter (λ k. not (has_name lumps name k)) n)) i
-    ∙ ap (λ (v : List TrimPart). v ++ four) (r' ∙ ap (λ (v : List TrimPart). v ++ three) (q' ∙ ap (λ (v : List TrimPart). v ++ two) (p' ∙ ap (λ (v : List TrimPart). v ++ one) none)))
-    ∙ regroup_parts one two three four
+    ∙ ap (λ (v : List TrimPart). v ++ called_parts) (level_added ∙ ap (λ (v : List TrimPart). v ++ level_parts) (pictures_added ∙ ap (λ (v : List TrimPart). v ++ picture_parts) (flats_added ∙ ap (λ (v : List TrimPart). v ++ flat_parts) none)))
+    ∙ regroup_parts flat_parts picture_parts level_parts called_parts
 
 -- no more lumps pass than there are
 few_kept : (p : ℕ → Bool) (n : ℕ) → length (filter p (range_with_len 0 n)) ≤ n
@@ -78,17 +78,17 @@ few_listed lumps name = few_last (last_of lumps name)
 few_fixed : (lumps : List Lump) → length (fixed_lumps lumps) ≤ 5
 unfolding fixed_lumps
 few_fixed lumps =
-    let a = listed_last lumps PLAYPAL in
-    let b = listed_last lumps COLORMAP in
-    let c = listed_last lumps PNAMES in
-    let d = listed_last lumps TEXTURE1 in
-    let e = listed_last lumps TEXTURE2 in
+    let palette_lumps = listed_last lumps PLAYPAL in
+    let colormap_lumps = listed_last lumps COLORMAP in
+    let patch_name_lumps = listed_last lumps PNAMES in
+    let texture1_lumps = listed_last lumps TEXTURE1 in
+    let texture2_lumps = listed_last lumps TEXTURE2 in
     omega (
       arith,
-      length-append a (b ++ (c ++ (d ++ e))),
-      length-append b (c ++ (d ++ e)),
-      length-append c (d ++ e),
-      length-append d e,
+      length-append palette_lumps (colormap_lumps ++ (patch_name_lumps ++ (texture1_lumps ++ texture2_lumps))),
+      length-append colormap_lumps (patch_name_lumps ++ (texture1_lumps ++ texture2_lumps)),
+      length-append patch_name_lumps (texture1_lumps ++ texture2_lumps),
+      length-append texture1_lumps texture2_lumps,
       few_listed lumps PLAYPAL,
       few_listed lumps COLORMAP,
       few_listed lumps PNAMES,
@@ -103,9 +103,9 @@ few_patches prepared n = few_kept (is_patch_of_any prepared) n
 few_called : (lumps : List Lump) (prepared : List (Option PreparedTexture)) → length (called_lumps lumps prepared) ≤ 5 + length lumps
 unfolding called_lumps
 few_called lumps prepared =
-    let p : ℕ → Bool = λ n. not (list_any (λ m. m == n) (fixed_lumps lumps)) in
-    let rest = filter p (patch_lumps prepared (length lumps)) in
-    omega (arith, length-append (fixed_lumps lumps) rest, few_fixed lumps, few_filtered p (patch_lumps prepared (length lumps)), few_patches prepared (length lumps))
+    let not_fixed : ℕ → Bool = λ n. not (list_any (λ m. m == n) (fixed_lumps lumps)) in
+    let rest = filter not_fixed (patch_lumps prepared (length lumps)) in
+    omega (arith, length-append (fixed_lumps lumps) rest, few_fixed lumps, few_filtered not_fixed (patch_lumps prepared (length lumps)), few_patches prepared (length lumps))
 
 few_group : (start end : List ℕ) (ns : List ℕ) → length (group_parts start ns end) ≡ length ns + 2
 unfolding group_parts
@@ -115,7 +115,7 @@ few_map : (called : Bool) (o : Option ℕ) → length (map_parts called o) ≤ 9
 unfolding map_parts
 few_map called None = omega arith
 few_map called (Some label) =
-    let eight : length MAP_LUMPS ≡ 8 = refl in
+    let map_lump_count : length MAP_LUMPS ≡ 8 = refl in
     omega (arith, length-map (range_with_len (suc label) (length MAP_LUMPS)) copy_part, length-range_with_len (suc label) (length MAP_LUMPS))
 
 -- how many parts there are at most
@@ -123,24 +123,24 @@ parts-few : (lumps : List Lump) (art : SceneArt) (name : List ℕ) → length lu
 unfolding trim_parts
 parts-few lumps art name l =
     let called = called_lumps lumps art.prepared in
-    let p : ℕ → Bool = λ n. not (has_name lumps name n) in
-    let one = group_parts F_START (flat_lumps lumps art.flats) F_END in
-    let two = group_parts S_START (picture_lumps lumps art.pictures) S_END in
-    let three = map_parts (list_any (has_name lumps name) called) (map_of lumps name) in
-    let four = map copy_part (filter p called) in
+    let not_named : ℕ → Bool = λ n. not (has_name lumps name n) in
+    let flat_parts = group_parts F_START (flat_lumps lumps art.flats) F_END in
+    let picture_parts = group_parts S_START (picture_lumps lumps art.pictures) S_END in
+    let level_parts = map_parts (list_any (has_name lumps name) called) (map_of lumps name) in
+    let called_parts = map copy_part (filter not_named called) in
     omega (
       arith,
       l,
-      length-append one (two ++ (three ++ four)),
-      length-append two (three ++ four),
-      length-append three four,
+      length-append flat_parts (picture_parts ++ (level_parts ++ called_parts)),
+      length-append picture_parts (level_parts ++ called_parts),
+      length-append level_parts called_parts,
       few_group F_START F_END (flat_lumps lumps art.flats),
       few_flats lumps art.flats,
       few_group S_START S_END (picture_lumps lumps art.pictures),
       few_pictures lumps art.pictures,
       few_map (list_any (has_name lumps name) called) (map_of lumps name),
-      length-map (filter p called) copy_part,
-      few_filtered p called,
+      length-map (filter not_named called) copy_part,
+      few_filtered not_named called,
       few_called lumps art.prepared,
     )
 

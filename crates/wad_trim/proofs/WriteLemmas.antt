@@ -56,8 +56,8 @@ lumps-then {v} {w} {x} {dir} {a} {b} {c} {p} {q} {r} {i} {j} {k} result expected
   later_faults = omega (arith, one.later_faults, two.later_faults);
   full = λ wanted widest e. full_for_earlier later one.keeps wanted widest (two.full wanted widest e);
   order = λ items all o.
-      let first = one.order items (λ n s. all n (earlier n s)) o in
-      in_order_at result (λ next. order_then first next) (two.order items (λ n s. all n (later n s)) first.order);
+      let order_before = one.order items (λ n s. all n (earlier n s)) o in
+      in_order_at result (λ next. order_then order_before next) (two.order items (λ n s. all n (later n s)) order_before.order);
 } where
   risen : (l m n : ℕ) → l ≤ m → FaultsRose m n → FaultsRose l n
   risen l m n le rose = omega (arith, le, rose)
@@ -92,8 +92,8 @@ pub lumps-given : {v w : ShelfView} {dir : DirectoryView} {a b : Heap} {p q : Li
     (result : Result (Unit {0}) TrimWrite) (fault : TrimWrite) → IsErrAnd result (λ above. above ≡ fault) → WritesLumps v w dir a b p q i j wants expected (Err fault) →
     WritesLumps v w dir a b p q i j wants expected result
 lumps-given {v} {w} {dir} {a} {b} {p} {q} {i} {j} {wants} {expected} result fault is one =
-    let s = err_from_is_err_and result is in
-    subst (WritesLumps v w dir a b p q i j wants expected) (sym (s.1 ∙ ap Err s.2)) one
+    let error_is = err_from_is_err_and result is in
+    subst (WritesLumps v w dir a b p q i j wants expected) (sym (error_is.1 ∙ ap Err error_is.2)) one
 
 -- a put of a piece, whole or stopped
 put_whole : (view : ShelfView) (dir : DirectoryView) (z : Heap) {p q : List ℕ → Type 0} {i j : ℕ} {piece : List ℕ} (wants : ℕ → Type 0) (result : Result (Unit {0}) Failed) (unit : Unit {0}) →
@@ -172,9 +172,9 @@ fetch_writes {v} {w} {dir} {a} {b} {wants} p i (Err (cache.ZoneFull much most)) 
   write_fault = λ e. absurd (cc);
   later_faults = omega arith;
   full = λ wanted widest e.
-      let first : much ≡ wanted = cc in
-      let second : most ≡ widest = cc in
-      subst (λ (n : ℕ). IsFullFor wants dir a n widest) first (subst (λ (n : ℕ). IsFullFor wants dir a much n) second one.full);
+      let wanted_same : much ≡ wanted = cc in
+      let widest_same : most ≡ widest = cc in
+      subst (λ (n : ℕ). IsFullFor wants dir a n widest) wanted_same (subst (λ (n : ℕ). IsFullFor wants dir a much n) widest_same one.full);
   order = one.order;
 }
 

@@ -32,13 +32,13 @@ listed-all f xs n d l h = fill_by_all f xs n d l h
 pub listed_from-none : {X : Type 0} (f : ℕ → X) (first last : ℕ) → last < first → listed_from f first last ≡ []
 unfolding listed_from
 listed_from-none f first last h =
-    let e : last + 1 - first ≡ 0 = omega arith in ap (λ (n : ℕ). map f (range_with_len first n)) e
+    let count_is_zero : last + 1 - first ≡ 0 = omega arith in ap (λ (n : ℕ). map f (range_with_len first n)) count_is_zero
 
 -- a list from first to last, by its length
 pub listed_from-length : {X : Type 0} (f : ℕ → X) (first last n : ℕ) → first + n ≡ last + 1 → map f (range_with_len first n) ≡ listed_from f first last
 unfolding listed_from
 listed_from-length f first last n h =
-    let e : n ≡ last + 1 - first = omega arith in ap (λ (m : ℕ). map f (range_with_len first m)) e
+    let count_is : n ≡ last + 1 - first = omega arith in ap (λ (m : ℕ). map f (range_with_len first m)) count_is
 
 pub length-listed_from : {X : Type 0} (f : ℕ → X) (first last : ℕ) → length (listed_from f first last) ≡ last + 1 - first
 unfolding listed_from
@@ -73,8 +73,8 @@ pub joined_lists-next : {Y : Type 0} (f : ℕ → List Y) (first next : ℕ) →
     joined_lists f (map (λ x. x) (range_with_len first (next + 1 - first))) ≡ joined_lists f (map (λ x. x) (range_with_len first (next - first))) ++ f next
 joined_lists-next {Y} f first next l =
     let before : List ℕ = map (λ x. x) (range_with_len first (next - first)) in
-    let n : next + 1 - first ≡ next - first + 1 = omega arith in
-    ap (λ (k : ℕ). joined_lists f (map (λ x. x) (range_with_len first k))) n
+    let count_grows : next + 1 - first ≡ next - first + 1 = omega arith in
+    ap (λ (k : ℕ). joined_lists f (map (λ x. x) (range_with_len first k))) count_grows
     ∙ ap (joined_lists f) (map-range_with_len_more (λ x. x) first (next - first) next (omega (arith, l)))
     ∙ joined_lists-append f before (next ∷ [])
     ∙ ap (λ (ys : List Y). joined_lists f before ++ ys) (joined_lists-one f next)

@@ -102,8 +102,8 @@ any-contains xs k = (found, passes) where
   found : list_any (λ n. n == k) xs ≡ true → Contains xs k
   found e =
       let any = Any-from_list_any (λ (n : ℕ). n == k) xs e in
-      let same : any.1 ≡ k = eq-from_true any.1 k any.4 in
-      (any.0, any.2, subst (λ (n : ℕ). get_or xs any.0 n ≡ n) same any.3)
+      let number_same : any.1 ≡ k = eq-from_true any.1 k any.4 in
+      (any.0, any.2, subst (λ (n : ℕ). get_or xs any.0 n ≡ n) number_same any.3)
 
   passes : Contains xs k → list_any (λ n. n == k) xs ≡ true
   passes there = list_any_at (λ (n : ℕ). n == k) xs there.0 k there.1 (eq-true (get_or xs there.0 k) k there.2)

@@ -13,39 +13,39 @@ turned a b c = +ℤ_assoc a b c ∙ ap (λ (z : ℤ). a +ℤ z) (+ℤ_comm b c) 
 -- so many steps, and one step more
 one_step_more : (step : ℤ) (k n : ℕ) → k + 1 ≡ n → step +ℤ pos k *ℤ step ≡ pos n *ℤ step
 one_step_more step k n e =
-    let f : suc k ≡ n = omega arith in
-    +ℤ_comm step (pos k *ℤ step) ∙ sym (suc_ℤ-*ℤ (pos k) step) ∙ ap (λ (m : ℕ). pos m *ℤ step) f
+    let next_is : suc k ≡ n = omega arith in
+    +ℤ_comm step (pos k *ℤ step) ∙ sym (suc_ℤ-*ℤ (pos k) step) ∙ ap (λ (m : ℕ). pos m *ℤ step) next_is
 
 -- a sum of first and k steps, and one step more
 pub stepped : (first step : ℤ) (k n : ℕ) → k + 1 ≡ n → plus (plus first (times (pos k) step)) step ≡ plus first (times (pos n) step)
 unfolding plus times
 stepped first step k n e =
-    let r : int_wrap w32 ((first +ℤ int_wrap w32 (pos k *ℤ step)) +ℤ step) ≡ int_wrap w32 ((first +ℤ step) +ℤ int_wrap w32 (pos k *ℤ step)) =
+    let sum_turned : int_wrap w32 ((first +ℤ int_wrap w32 (pos k *ℤ step)) +ℤ step) ≡ int_wrap w32 ((first +ℤ step) +ℤ int_wrap w32 (pos k *ℤ step)) =
     ap (int_wrap w32) (turned first (int_wrap w32 (pos k *ℤ step)) step) in
-    let q : (first +ℤ step) +ℤ pos k *ℤ step ≡ first +ℤ pos n *ℤ step =
+    let step_counted : (first +ℤ step) +ℤ pos k *ℤ step ≡ first +ℤ pos n *ℤ step =
     +ℤ_assoc first step (pos k *ℤ step) ∙ ap (λ (z : ℤ). first +ℤ z) (one_step_more step k n e) in
-    int_wrap-add_left w32 (first +ℤ int_wrap w32 (pos k *ℤ step)) step ∙ r
-    ∙ int_wrap-add_right w32 (first +ℤ step) (pos k *ℤ step) ∙ ap (int_wrap w32) q ∙ sym (int_wrap-add_right w32 first (pos n *ℤ step))
+    int_wrap-add_left w32 (first +ℤ int_wrap w32 (pos k *ℤ step)) step ∙ sum_turned
+    ∙ int_wrap-add_right w32 (first +ℤ step) (pos k *ℤ step) ∙ ap (int_wrap w32) step_counted ∙ sym (int_wrap-add_right w32 first (pos n *ℤ step))
 
 -- a difference of first and k steps, and one step more
 pub stepped_back : (first step : ℤ) (k n : ℕ) → k + 1 ≡ n → minus (minus first (times (pos k) step)) step ≡ minus first (times (pos n) step)
 unfolding minus times
 stepped_back first step k n e =
-    let r : int_wrap w32 ((first -ℤ int_wrap w32 (pos k *ℤ step)) -ℤ step) ≡ int_wrap w32 ((first -ℤ step) -ℤ int_wrap w32 (pos k *ℤ step)) =
+    let difference_turned : int_wrap w32 ((first -ℤ int_wrap w32 (pos k *ℤ step)) -ℤ step) ≡ int_wrap w32 ((first -ℤ step) -ℤ int_wrap w32 (pos k *ℤ step)) =
     ap (int_wrap w32) (turned first (neg_ℤ (int_wrap w32 (pos k *ℤ step))) (neg_ℤ step)) in
-    let q : (first -ℤ step) -ℤ pos k *ℤ step ≡ first -ℤ pos n *ℤ step =
+    let step_counted : (first -ℤ step) -ℤ pos k *ℤ step ≡ first -ℤ pos n *ℤ step =
     +ℤ_assoc first (neg_ℤ step) (neg_ℤ (pos k *ℤ step))
     ∙ ap (λ (z : ℤ). first +ℤ z) (sym (neg_ℤ-+ℤ step (pos k *ℤ step)))
     ∙ ap (λ (z : ℤ). first -ℤ z) (one_step_more step k n e) in
-    int_wrap-add_left w32 (first -ℤ int_wrap w32 (pos k *ℤ step)) (neg_ℤ step) ∙ r
-    ∙ int_wrap-sub_right w32 (first -ℤ step) (pos k *ℤ step) ∙ ap (int_wrap w32) q ∙ sym (int_wrap-sub_right w32 first (pos n *ℤ step))
+    int_wrap-add_left w32 (first -ℤ int_wrap w32 (pos k *ℤ step)) (neg_ℤ step) ∙ difference_turned
+    ∙ int_wrap-sub_right w32 (first -ℤ step) (pos k *ℤ step) ∙ ap (int_wrap w32) step_counted ∙ sym (int_wrap-sub_right w32 first (pos n *ℤ step))
 
 -- no step yet
 pub step_at-zero : (first step : ℤ) → FitsSigned w32 first → first ≡ step_at first step 0
 unfolding step_at plus times
 step_at-zero first step f =
-    let none : first +ℤ pos 0 *ℤ step ≡ first = ap (λ (z : ℤ). first +ℤ z) (zero-*ℤ step) ∙ +ℤ_idr first in
-    sym (int_wrap-add_right w32 first (pos 0 *ℤ step) ∙ ap (int_wrap w32) none ∙ int_wrap_fits w32 first f)
+    let no_step_added : first +ℤ pos 0 *ℤ step ≡ first = ap (λ (z : ℤ). first +ℤ z) (zero-*ℤ step) ∙ +ℤ_idr first in
+    sym (int_wrap-add_right w32 first (pos 0 *ℤ step) ∙ ap (int_wrap w32) no_step_added ∙ int_wrap_fits w32 first f)
 
 -- one step more
 pub step_at-more : (first step : ℤ) (k n : ℕ) → k + 1 ≡ n → plus (step_at first step k) step ≡ step_at first step n
@@ -54,8 +54,8 @@ step_at-more first step k n e = stepped first step k n e
 
 more_times : (step k n : ℕ) → k + 1 ≡ n → n * step ≡ k * step + step
 more_times step k n e =
-    let d : 1 * step ≡ step = omega arith in
-    ap (λ (m : ℕ). m * step) (sym e) ∙ add-mul k 1 step ∙ ap (λ (m : ℕ). k * step + m) d
+    let step_once : 1 * step ≡ step = omega arith in
+    ap (λ (m : ℕ). m * step) (sym e) ∙ add-mul k 1 step ∙ ap (λ (m : ℕ). k * step + m) step_once
 
 on_step : (first step p q : ℕ) → q ≡ p + step → turn ((first + p) % 2 ^ 32) step ≡ (first + q) % 2 ^ 32
 on_step first step p q e = omega arith

@@ -21,11 +21,11 @@ word_of_low_bits (negsuc n) f = ap (cast_signed w32) (and_mask (2 ^ 64 - suc n) 
 
 -- a 32-bit word fits 64 bits
 pub widened : (z : ℤ) → FitsSigned w32 z → FitsSigned w64 z
-widened z f = let h = f.sfits in record { sfits = omega arith }
+widened z f = let signed_bounds = f.sfits in record { sfits = omega arith }
 
 abs_bound : (z : ℤ) → FitsSigned w32 z → unsigned_abs z ≤ 2147483648
-abs_bound (pos n) f = let h = f.sfits in omega arith
-abs_bound (negsuc n) f = let h = f.sfits in omega arith
+abs_bound (pos n) f = let signed_bounds = f.sfits in omega arith
+abs_bound (negsuc n) f = let signed_bounds = f.sfits in omega arith
 
 -- the product of two words fits 64 bits
 pub product_fits : (a b : ℤ) → FitsSigned w32 a → FitsSigned w32 b → FitsSigned w64 (a *ℤ b)
@@ -33,7 +33,7 @@ product_fits a b f g = fits_signed_mul w64 a b 2147483648 2147483648 (abs_bound 
 
 -- a shift to the right keeps what fits
 pub shifted_fits : (w : Width) (z : ℤ) (k : ℕ) → FitsSigned w z → FitsSigned w (int_shr z k)
-shifted_fits w z k f = let h = f.sfits in let g = mag_shr z (2 ^ k) in record { sfits = omega arith }
+shifted_fits w z k f = let signed_bounds = f.sfits in let magnitude_shrinks = mag_shr z (2 ^ k) in record { sfits = omega arith }
 
 pub word_fits : (z : ℤ) → FitsSigned w32 (word z)
 word_fits z = SFits-int_wrap w32 z
@@ -92,17 +92,17 @@ unfolding int_wrap
 signed_of_bits n h = ap (cast_signed w32) (bits_below n h)
 
 bits_of_word : (z : ℤ) → FitsSigned w32 z → cast_unsigned w32 z < 2 ^ 32
-bits_of_word (pos n) f = let h = f.sfits in omega arith
-bits_of_word (negsuc n) f = let h = f.sfits in omega arith
+bits_of_word (pos n) f = let signed_bounds = f.sfits in omega arith
+bits_of_word (negsuc n) f = let signed_bounds = f.sfits in omega arith
 
 -- the bits of a word that is shifted to the left, read as a signed word
 pub shl_of_bits : (z : ℤ) (k : ℕ) → FitsSigned w32 z → k < 32 → cast_signed w32 ((cast_unsigned w32 z * 2 ^ k) % 2 ^ 32) ≡ shl_word z k
 unfolding shl_word
 shl_of_bits z k f h =
-    let small : 2 ^ k < 2 ^ 32 = pow-lt h in
-    wrapping_mul-bits w32 (cast_unsigned w32 z) (2 ^ k) (bits_of_word z f) small
+    let power_small : 2 ^ k < 2 ^ 32 = pow-lt h in
+    wrapping_mul-bits w32 (cast_unsigned w32 z) (2 ^ k) (bits_of_word z f) power_small
     ∙ ap (λ (y : ℤ). word (y *ℤ cast_signed w32 (2 ^ k))) (to_z-of_z w32 z f)
-    ∙ ap (λ (y : ℤ). word (z *ℤ y)) (signed_of_bits (2 ^ k) small)
+    ∙ ap (λ (y : ℤ). word (z *ℤ y)) (signed_of_bits (2 ^ k) power_small)
     ∙ int_wrap-mul_right w32 z (pos (2 ^ k))
 
 -- the greater of two is at least the first, and the lesser at most

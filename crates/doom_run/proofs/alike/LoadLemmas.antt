@@ -65,10 +65,10 @@ layers-moved trimmed lumps σ a pictures held bytes None weapons e gives = (None
 layers-moved trimmed lumps σ a pictures held bytes (Some rows) weapons e gives =
     let needs = first_needs (weapon_needs rows) in
     let book = and_then-ok (from_below WeaponArt (weapon_book bytes lumps rows)) _ weapons e in
-    let same : Some book.0 ≡ weapons = ok_of (Some book.0) weapons book.2 in
-    let found = below weapon_refusal (each_of (frame_of bytes lumps) needs) book.0 (below WeaponArt (weapon_book bytes lumps rows) book.0 book.1) in
-    let moved = book-moved trimmed lumps σ a pictures held bytes needs book.0 found (λ n any. gives n (ap (λ w. list_any (λ m. m == n) (weapon_lumps w)) (sym same) ∙ any)) in
-    (Some moved.0, layers_made (λ k. bytes (σ k)) trimmed rows moved.0 moved.1, ap Some moved.2 ∙ same)
+    let layers_are : Some book.0 ≡ weapons = ok_of (Some book.0) weapons book.2 in
+    let book_is = below weapon_refusal (each_of (frame_of bytes lumps) needs) book.0 (below WeaponArt (weapon_book bytes lumps rows) book.0 book.1) in
+    let book_moved = book-moved trimmed lumps σ a pictures held bytes needs book.0 book_is (λ n any. gives n (ap (λ w. list_any (λ m. m == n) (weapon_lumps w)) (sym layers_are) ∙ any)) in
+    (Some book_moved.0, layers_made (λ k. bytes (σ k)) trimmed rows book_moved.0 book_moved.1, ap Some book_moved.2 ∙ layers_are)
 
 faces_flats : (lumps : List Lump) (name : List ℕ) (level : LevelValue) (lists : TextureLists) (faces : Faces) → faces_in lumps name level lists ≡ Ok faces → sector_flats lumps level.sectors ≡ Ok faces.flats
 unfolding faces_in
@@ -76,8 +76,8 @@ faces_flats lumps name level lists faces e =
     let sides = and_then-ok (side_textures lists.textures level.sides) _ faces e in
     let sky = and_then-ok (sky_texture lists.textures name level.sectors) _ faces sides.2 in
     let flats = and_then-ok (sector_flats lumps level.sectors) _ faces sky.2 in
-    let made : ◌≡◌ {A = Faces} (record { sides = sides.0; sky = sky.0; flats = flats.0 }) faces = ok_of _ faces flats.2 in
-    flats.1 ∙ ap (λ (f : Faces). Ok f.flats) made
+    let faces_are : ◌≡◌ {A = Faces} (record { sides = sides.0; sky = sky.0; flats = flats.0 }) faces = ok_of _ faces flats.2 in
+    flats.1 ∙ ap (λ (f : Faces). Ok f.flats) faces_are
 
 book_found : (bytes : ℕ → List ℕ) (lumps : List Lump) (scene : SceneValue) → book_in bytes lumps scene.placed ≡ Ok scene.book
     → each_of (frame_of bytes lumps) (first_needs (map need_of scene.placed)) ≡ Ok scene.book
@@ -140,36 +140,36 @@ trimmed-load level wads files loaded is parts plan name others stands =
     let trimmed = trimmed_lumps bytes lumps all in
     let file = trimmed_file bytes lumps all in
     let steps = load-steps level wads files loaded is in
-    let listed : directory contents ≡ Ok lumps = lumps-listed wads files lumps steps.values.lumps in
-    let most : length lumps ≤ MAX_LUMPS = directory-few contents lumps listed in
-    let few : length lumps ≤ SKY_FLAT = omega arith in
+    let directory_is : directory contents ≡ Ok lumps = lumps-listed wads files lumps steps.values.lumps in
+    let lumps_within : length lumps ≤ MAX_LUMPS = directory-few contents lumps directory_is in
+    let lumps_few : length lumps ≤ SKY_FLAT = omega arith in
     let lines = loaded.files.things in
     let skill = level.settings.skill in
     let made = scene-steps bytes lumps lines level.map_name skill loaded.scene steps.scene in
     let sprites : AllByRecursion (IsSprite lumps) pictures = all-append (IsSprite lumps) (book_lumps loaded.scene.book) (weapon_lumps loaded.weapons)
     (book-sprites bytes lumps (first_needs (map need_of loaded.scene.placed)) loaded.scene.book (book_found bytes lumps loaded.scene made.book))
     (layers_sprites bytes lumps loaded.files.weapons loaded.weapons steps.weapons) in
-    let scene = trimmed-scene contents lumps listed few lines level.map_name skill loaded.scene steps.scene pictures sprites
+    let scene = trimmed-scene contents lumps directory_is lumps_few lines level.map_name skill loaded.scene steps.scene pictures sprites
     (λ n any. any_left (λ m. m == n) (book_lumps loaded.scene.book) (weapon_lumps loaded.weapons) any) parts plan in
-    let held = pictures-held bytes lumps art level.map_name sprites (plan-unmarked lumps art level.map_name parts plan) in
-    let weapons = layers-moved trimmed lumps σ (first_picture lumps art) pictures held bytes loaded.files.weapons loaded.weapons steps.weapons
+    let holds_pictures = pictures-held bytes lumps art level.map_name sprites (plan-unmarked lumps art level.map_name parts plan) in
+    let weapons = layers-moved trimmed lumps σ (first_picture lumps art) pictures holds_pictures bytes loaded.files.weapons loaded.weapons steps.weapons
     (λ n any. any_right (λ m. m == n) (book_lumps loaded.scene.book) (weapon_lumps loaded.weapons) any) in
-    let directory-is : directory (file ∷ []) ≡ Ok trimmed = plan-directory contents lumps listed art level.map_name parts plan in
+    let directory-is : directory (file ∷ []) ≡ Ok trimmed = plan-directory contents lumps directory_is art level.map_name parts plan in
     let moved : LoadedValue = record {
       files = record { tables = loaded.files.tables; things = lines; path = loaded.files.path; weapons = loaded.files.weapons; lumps = trimmed };
       scene = scene.0;
       weapons = weapons.0;
     } in
-    let same : wad_bytes (name ∷ []) others trimmed ≡ (λ k. bytes (σ k)) =
-    ap (λ o. lump_bytes (unwrap_or o []) trimmed) (one-named name file others stands.trimmed) ∙ bytes-moved contents lumps all few in (
+    let bytes_same : wad_bytes (name ∷ []) others trimmed ≡ (λ k. bytes (σ k)) =
+    ap (λ o. lump_bytes (unwrap_or o []) trimmed) (one-named name file others stands.trimmed) ∙ bytes-moved contents lumps all lumps_few in (
       moved,
       load-made level (name ∷ []) others moved (record {
         values = files_moved level wads files loaded file name others trimmed steps stands directory-is;
-        scene = subst (λ b. scene_in b trimmed lines level.map_name skill ≡ Ok scene.0) (sym same) scene.1;
-        weapons = subst (λ b. weapons_of b trimmed loaded.files.weapons ≡ Ok weapons.0) (sym same) weapons.1;
+        scene = subst (λ b. scene_in b trimmed lines level.map_name skill ≡ Ok scene.0) (sym bytes_same) scene.1;
+        weapons = subst (λ b. weapons_of b trimmed loaded.files.weapons ≡ Ok weapons.0) (sym bytes_same) weapons.1;
       }),
       record { tables = refl; path = refl; rows = refl; scene = scene.2; weapons = weapons.2 },
-      same,
-      compared bytes lumps few art level.map_name parts plan lines skill loaded.scene.base.level
+      bytes_same,
+      compared bytes lumps lumps_few art level.map_name parts plan lines skill loaded.scene.base.level
           (faces_flats lumps level.map_name loaded.scene.base.level loaded.scene.base.lists loaded.scene.faces made.faces) scene.0 scene.1 scene.2.level,
     )

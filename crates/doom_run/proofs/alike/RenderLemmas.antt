@@ -197,16 +197,16 @@ trimmed-views level wads files loaded is parts plan name others stands =
     let load = trimmed-load level wads files loaded is parts plan name others
     (subst (λ ps. StandsForWads level.files (trimmed_file bytes lumps ps) name files others) (sym (plan-accepted lumps art level.map_name parts plan).0) stands) in
     let moved = load.0 in
-    let P = IsFlatPlace (length (flat_lumps lumps loaded.scene.faces.flats)) in
+    let flat_places = IsFlatPlace (length (flat_lumps lumps loaded.scene.faces.flats)) in
     let alike = load.4 in
-    let views = views-moved σ bytes moved loaded load.2 P level.settings alike in
-    let first = views_of bytes level.settings loaded in
-    let second = views_of (λ k. bytes (σ k)) level.settings moved in
+    let views = views-moved σ bytes moved loaded load.2 flat_places level.settings alike in
+    let views_untrimmed = views_of bytes level.settings loaded in
+    let views_trimmed = views_of (λ k. bytes (σ k)) level.settings moved in
     record {
       moved = moved;
       loads = load.1;
       bytes = λ k. bytes (σ k);
       same = load.3;
-      rendered = λ format. sym (rendered-same P σ alike.one alike.has_sky alike.sky second first views format);
-      end = sym (end-same P σ alike.one alike.has_sky alike.sky second first views);
+      rendered = λ format. sym (rendered-same flat_places σ alike.one alike.has_sky alike.sky views_trimmed views_untrimmed views format);
+      end = sym (end-same flat_places σ alike.one alike.has_sky alike.sky views_trimmed views_untrimmed views);
     }

@@ -18,7 +18,7 @@ use Rattle.doom_run.proofs.alike.SpansLemmas.{load-with, loaded_with}
 use Rattle.doom_run.proofs.alike.StepLemmas.{below, ok_of}
 
 no_file_ok : {A R : Type 0} (r : Result A R) (x : A) → no_file r ≡ Ok x → r ≡ Ok x
-no_file_ok (Ok y) x e = let same : y ≡ x = cc in ap Ok same
+no_file_ok (Ok y) x e = let value_same : y ≡ x = cc in ap Ok value_same
 no_file_ok (Err reason) x e = cc
 
 -- what rendering determines of a level that is loaded
@@ -60,8 +60,8 @@ trim_accepted level bytes loaded accepted e =
     let made = and_then-ok (no_file (and_then (plan_in level loaded) (λ parts. Ok (done (trimmed_file bytes loaded.files.lumps parts))))) (λ written. Ok (accepted_in (loaded_sizes loaded).enough written)) accepted e in
     let planned = and_then-ok (plan_in level loaded) (λ parts. Ok (done (trimmed_file bytes loaded.files.lumps parts))) made.0 (no_file_ok _ made.0 made.1) in
     let written : done (trimmed_file bytes loaded.files.lumps planned.0) ≡ made.0 = ok_of {R = Refusal} (done (trimmed_file bytes loaded.files.lumps planned.0)) made.0 planned.2 in
-    let all : accepted_in (loaded_sizes loaded).enough made.0 ≡ accepted = ok_of {R = Stop Refusal} (accepted_in (loaded_sizes loaded).enough made.0) accepted made.2 in
-    (planned.0, below Trim (trim_plan loaded.files.lumps (art_with loaded.scene (loaded_pictures loaded)) level.map_name) planned.0 planned.1, ap (λ (w : Written). w.output) written ∙ ap (λ (a : Accepted). a.output) all)
+    let accepted_is : accepted_in (loaded_sizes loaded).enough made.0 ≡ accepted = ok_of {R = Stop Refusal} (accepted_in (loaded_sizes loaded).enough made.0) accepted made.2 in
+    (planned.0, below Trim (trim_plan loaded.files.lumps (art_with loaded.scene (loaded_pictures loaded)) level.map_name) planned.0 planned.1, ap (λ (w : Written). w.output) written ∙ ap (λ (a : Accepted). a.output) accepted_is)
 
 -- What a run that trims writes renders as the WADs do.
 pub trimmed-run : (words : List (List ℕ)) (files : List File) (level : LevelJobValue) (wads : List (List ℕ)) (accepted : Accepted)
@@ -69,5 +69,5 @@ pub trimmed-run : (words : List (List ℕ)) (files : List File) (level : LevelJo
 trimmed-run words files level wads accepted is e =
     let trims : job_verdict (job_of (level_job TrimTask level wads)) files ≡ Ok accepted = ap (λ o. and_then {B = Accepted} (else_usage o) (λ command. job_verdict (job_of command) files)) (sym is) ∙ e in
     let load = and_then-ok (load_in level wads files) (λ loaded. delivered (trimming level) (wad_bytes wads files loaded.files.lumps) loaded) accepted (below at_step (work_verdict (level_work level wads (trimming level)) files) accepted trims) in
-    let made = trim_accepted level (wad_bytes wads files load.0.files.lumps) load.0 accepted load.2 in
-    subst (λ bytes. RendersAlike level wads files bytes) made.2 (trimmed-renders level wads files load.0 made.0 load.1 made.1)
+    let parts_ok = trim_accepted level (wad_bytes wads files load.0.files.lumps) load.0 accepted load.2 in
+    subst (λ bytes. RendersAlike level wads files bytes) parts_ok.2 (trimmed-renders level wads files load.0 parts_ok.0 load.1 parts_ok.1)

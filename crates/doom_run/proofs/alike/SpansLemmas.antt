@@ -33,9 +33,9 @@ tables_file-with : (spans : Spans) (settings : Settings) (name : List ℕ) (file
     in_file (tables_file (settings_with spans settings)) name files ≡ Ok (tables_with spans tables)
 unfolding in_file
 tables_file-with spans settings name files tables is =
-    let read = and_then-ok (else_absent (file_named name files)) _ tables is in
-    let here = below Tables (tables_in settings read.0) tables (no_file-ok (tables_file settings read.0) tables read.2) in
-    rw read.1 (ap (λ t. no_file (from_below Tables t)) (tables-with spans settings read.0 tables here))
+    let file_there = and_then-ok (else_absent (file_named name files)) _ tables is in
+    let tables_ok = below Tables (tables_in settings file_there.0) tables (no_file-ok (tables_file settings file_there.0) tables file_there.2) in
+    rw file_there.1 (ap (λ t. no_file (from_below Tables t)) (tables-with spans settings file_there.0 tables tables_ok))
 
 -- the same of a whole load
 pub load-with : (spans : Spans) (level : LevelJobValue) (wads : List (List ℕ)) (files : List File) (loaded : LoadedValue) → load_in level wads files ≡ Ok loaded →

@@ -13,11 +13,11 @@ pub ok_of : {X R : Type 0} (a b : X) → (let l : Result X R = Ok a in l) ≡ Ok
 ok_of a b e = cc
 
 pub below : {A R Q : Type 0} (f : R → Q) (r : Result A R) (x : A) → from_below f r ≡ Ok x → r ≡ Ok x
-below f (Ok y) x e = let same : y ≡ x = cc in ap Ok same
+below f (Ok y) x e = let value_same : y ≡ x = cc in ap Ok value_same
 below f (Err reason) x e = cc
 
 pub no_file-ok : {A R : Type 0} (r : Result A R) (x : A) → no_file r ≡ Ok x → r ≡ Ok x
-no_file-ok (Ok y) x e = let same : y ≡ x = cc in ap Ok same
+no_file-ok (Ok y) x e = let value_same : y ≡ x = cc in ap Ok value_same
 no_file-ok (Err reason) x e = cc
 
 -- the tables of text
@@ -32,8 +32,8 @@ texts-steps names files texts e =
     let things = and_then-ok (in_file things_file names.things files) _ texts e in
     let path = and_then-ok (in_file path_file names.path files) _ texts things.2 in
     let weapons = and_then-ok (in_optional_file weapons_file names.weapon files) _ texts path.2 in
-    let made : ◌≡◌ {A = TextTables} (record { things = things.0; path = path.0; weapons = weapons.0 }) texts = ok_of _ texts weapons.2 in
-    subst (IsTextsOf names files) made (record { things = things.1; path = path.1; weapons = weapons.1 })
+    let texts_are : ◌≡◌ {A = TextTables} (record { things = things.0; path = path.0; weapons = weapons.0 }) texts = ok_of _ texts weapons.2 in
+    subst (IsTextsOf names files) texts_are (record { things = things.1; path = path.1; weapons = weapons.1 })
 
 -- all files
 pub record IsFilesOf (names : FileNames) (wads : List (List ℕ)) (settings : Settings) (files : List File) (values : FilesValue) : Type 0 where
@@ -51,8 +51,8 @@ files-steps names wads settings files values e =
     let texts = and_then-ok (texts_in names files) _ values tables.2 in
     let lumps = and_then-ok (lumps_in wads files) _ values texts.2 in
     let parts = texts-steps names files texts.0 texts.1 in
-    let made : ◌≡◌ {A = FilesValue} (record { tables = tables.0; things = texts.0.things; path = texts.0.path; weapons = texts.0.weapons; lumps = lumps.0 }) values = ok_of _ values lumps.2 in
-    subst (IsFilesOf names wads settings files) made (record { tables = tables.1; things = parts.things; path = parts.path; weapons = parts.weapons; lumps = lumps.1 })
+    let values_are : ◌≡◌ {A = FilesValue} (record { tables = tables.0; things = texts.0.things; path = texts.0.path; weapons = texts.0.weapons; lumps = lumps.0 }) values = ok_of _ values lumps.2 in
+    subst (IsFilesOf names wads settings files) values_are (record { tables = tables.1; things = parts.things; path = parts.path; weapons = parts.weapons; lumps = lumps.1 })
 
 pub files-made : (names : FileNames) (wads : List (List ℕ)) (settings : Settings) (files : List File) (values : FilesValue)
     → IsFilesOf names wads settings files values → files_in names wads settings files ≡ Ok values
@@ -74,8 +74,8 @@ load-steps level wads files loaded e =
     let audited = below Level (audited_in bytes level values.0) loaded (no_file-ok (from_below Level (audited_in bytes level values.0)) loaded values.2) in
     let scene = and_then-ok (scene_in bytes values.0.lumps values.0.things level.map_name level.settings.skill) _ loaded audited in
     let weapons = and_then-ok (weapons_of bytes values.0.lumps values.0.weapons) _ loaded scene.2 in
-    let made : ◌≡◌ {A = LoadedValue} (record { files = values.0; scene = scene.0; weapons = weapons.0 }) loaded = ok_of _ loaded weapons.2 in
-    subst (IsLoadOf level wads files) made (record {
+    let loaded_is : ◌≡◌ {A = LoadedValue} (record { files = values.0; scene = scene.0; weapons = weapons.0 }) loaded = ok_of _ loaded weapons.2 in
+    subst (IsLoadOf level wads files) loaded_is (record {
       values = files-steps level.files wads level.settings files values.0 values.1;
       scene = scene.1;
       weapons = weapons.1;

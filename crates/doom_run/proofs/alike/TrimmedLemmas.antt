@@ -63,9 +63,9 @@ level-leaf b level e =
     let parts = unless_step _ (joined_level (records_of b)) level e in
     let records = or_else-none (sizes_refusal b) (records_refusal (records_of b)) parts.0 in
     let leaf = or_else-none (no_leaf_refusal (records_of b).leaves) _ records.1 in
-    let some : 0 < length (records_of b).leaves = some_leaf (records_of b).leaves leaf.0 in
+    let has_leaves : 0 < length (records_of b).leaves = some_leaf (records_of b).leaves leaf.0 in
     let count : length (joined_leaves (records_of b)) ≡ length (records_of b).leaves = length-map (records_of b).leaves _ in
-    let same : length (joined_leaves (records_of b)) ≡ length level.leaves = ap (λ (l : LevelValue). length l.leaves) parts.1 in
+    let leaf_count_same : length (joined_leaves (records_of b)) ≡ length level.leaves = ap (λ (l : LevelValue). length l.leaves) parts.1 in
     omega arith
 
 -- and so a sector
@@ -79,8 +79,8 @@ level-sector b level e =
 pub scene-sectors : (b : MapBytes) (scene : SceneValue) → level_of b ≡ Ok scene.base.level → length scene.faces.flats ≡ length scene.base.level.sectors → HasSectors (lists_of scene)
 scene-sectors b scene e count =
     let sound = level_of-sound b scene.base.level e in
-    let same : length (surfaces_of scene.base.level.sectors scene.faces.flats) ≡ length scene.base.level.sectors = surface_counts scene.base.level.sectors scene.faces.flats count in
-    let some : 0 < length scene.base.level.sectors = level-sector b scene.base.level e in
+    let sector_count_same : length (surfaces_of scene.base.level.sectors scene.faces.flats) ≡ length scene.base.level.sectors = surface_counts scene.base.level.sectors scene.faces.flats count in
+    let has_sectors : 0 < length scene.base.level.sectors = level-sector b scene.base.level e in
     record {
       some = omega arith;
       leaves = λ k d lt. let in_sector = (sound.leaves k d lt).sector in omega arith;

@@ -53,12 +53,12 @@ composites_none bytes textures z none = record { at = λ number. none_is (prepar
 base_lists : (bytes : ℕ → List ℕ) (lumps : List Lump) (name : List ℕ) (base : LevelBase) → base_in bytes lumps name ≡ Ok base → lists_in bytes lumps ≡ Ok base.lists
 unfolding base_in base_over
 base_lists bytes lumps name base e =
-    let a = and_then-ok (from_below Art (colormap_of lumps)) _ base e in
-    let b = and_then-ok (from_below Art (playpal_of lumps)) _ base a.2 in
-    let c = and_then-ok (from_below Map (level_in bytes lumps name)) _ base b.2 in
-    let d = and_then-ok (from_below Texture (lists_in bytes lumps)) _ base c.2 in
-    let same : d.0 ≡ base.lists = cc (d.2) in
-    from_below-ok Texture (lists_in bytes lumps) d.0 d.1 ∙ ap Ok same
+    let colormap_ok = and_then-ok (from_below Art (colormap_of lumps)) _ base e in
+    let playpal_ok = and_then-ok (from_below Art (playpal_of lumps)) _ base colormap_ok.2 in
+    let level_ok = and_then-ok (from_below Map (level_in bytes lumps name)) _ base playpal_ok.2 in
+    let lists_ok = and_then-ok (from_below Texture (lists_in bytes lumps)) _ base level_ok.2 in
+    let lists_same : lists_ok.0 ≡ base.lists = cc (lists_ok.2) in
+    from_below-ok Texture (lists_in bytes lumps) lists_ok.0 lists_ok.1 ∙ ap Ok lists_same
 
 -- the textures of an accepted scene are those of the files that have these contents
 pub scene_textures : (contents : List (List ℕ)) (lumps : List Lump) (lines : List ThingLine) (name : List ℕ) (skill : ℕ) (scene : SceneValue) → scene_in (lump_bytes contents lumps) lumps lines name skill ≡ Ok scene → AreTexturesOf contents lumps (textures_view scene)

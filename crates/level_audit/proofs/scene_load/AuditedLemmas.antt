@@ -18,9 +18,9 @@ stops steady first next OutOfMemory h = tt
 step_stopped : {A B C D R E : Type 0} {told : E → Fault R} {steady later : Bool} {v : D → C} {value : B → A} {first : Result C R} {r : Result D E} (next : C → Result A R) (fault : E) (result : Result B E) →
     ResultIs told later v first r → r ≡ Err fault → later ≡ steady → IsErrAnd result (λ e. e ≡ fault) → ResultIs told steady value (and_then first next) result
 step_stopped {A} {B} {C} {D} {R} {E} {told} {steady} {later} {v} {value} {first} {r} next fault result answers was same is =
-    let p : (y : E) × (result ≡ Err y) × (y ≡ fault) = err_from_is_err_and result is in
-    let k : FaultFits steady (and_then first next) (told p.0) = rw (p.2, ← same) (stops later first next (told fault) (rw was at answers.err)) in
-    rw p.1 (record { ok = tt; err = k })
+    let error_is : (y : E) × (result ≡ Err y) × (y ≡ fault) = err_from_is_err_and result is in
+    let fault_fits : FaultFits steady (and_then first next) (told error_is.0)
+    = rw (error_is.2, ← same) (stops later first next (told fault) (rw was at answers.err)) in rw error_is.1 (record { ok = tt; err = fault_fits })
 
 module _ (bytes : ℕ → List ℕ) (level : LevelJobValue) (found : FilesValue) where
   -- the scene was not accepted
@@ -46,17 +46,17 @@ pub audited_by : (P : LoadedValue → Type 0) (bytes : ℕ → List ℕ) (level 
     ((scene : SceneValue) (weapons : Option (List Frame)) → scene_in bytes found.lumps found.things level.map_name level.settings.skill ≡ Ok scene → weapons_of bytes found.lumps found.weapons ≡ Ok weapons → P (record { files = found; scene = scene; weapons = weapons })) → P loaded
 unfolding audited_in
 audited_by P bytes level found loaded e each =
-    let a = and_then-ok (scene_in bytes found.lumps found.things level.map_name level.settings.skill) _ loaded e in
-    let b = and_then-ok (weapons_of bytes found.lumps found.weapons) _ loaded a.2 in
-    let made : ◌≡◌ {A = LoadedValue} (record { files = found; scene = a.0; weapons = b.0 }) loaded = cc (b.2) in
-    subst P made (each a.0 b.0 a.1 b.1)
+    let scene_ok = and_then-ok (scene_in bytes found.lumps found.things level.map_name level.settings.skill) _ loaded e in
+    let weapons_ok = and_then-ok (weapons_of bytes found.lumps found.weapons) _ loaded scene_ok.2 in
+    let loaded_is : ◌≡◌ {A = LoadedValue} (record { files = found; scene = scene_ok.0; weapons = weapons_ok.0 }) loaded = cc (weapons_ok.2) in
+    subst P loaded_is (each scene_ok.0 weapons_ok.0 scene_ok.1 weapons_ok.1)
 
 -- a read that failed later has made the count rise
 pub causes_after : {B D R : Type 0} {before between now : ℕ} (r : Result D (Fault R)) (fault : Fault R) (result : Result B (Fault R)) → before ≤ between → HasCauses itself between now r → r ≡ Err fault → IsErrAnd result (λ e. e ≡ fault) → HasCauses itself before now result
 causes_after {B} {D} {R} {before} {between} {now} r fault result later causes was is =
-    let s = err_from_is_err_and result is in
-    let k : HasCauseAt between now (itself fault) = subst (λ (y : Result D (Fault R)). IfErr y (λ f. HasCauseAt between now (itself f))) was causes.err in
-    record { err = subst (λ (y : Result B (Fault R)). IfErr y (λ f. HasCauseAt before now (itself f))) (sym (s.1 ∙ ap Err s.2)) (cause_later before between now (itself fault) later k) }
+    let error_is = err_from_is_err_and result is in
+    let cause : HasCauseAt between now (itself fault) = subst (λ (y : Result D (Fault R)). IfErr y (λ f. HasCauseAt between now (itself f))) was causes.err in
+    record { err = subst (λ (y : Result B (Fault R)). IfErr y (λ f. HasCauseAt before now (itself f))) (sym (error_is.1 ∙ ap Err error_is.2)) (cause_later before between now (itself fault) later cause) }
 
 -- a call that stopped gives no value of which anything has to hold
 pub none_given : {B E : Type 0} (P : B → Type 0) (fault : E) (result : Result B E) → IsErrAnd result (λ e. e ≡ fault) → IfOk result P

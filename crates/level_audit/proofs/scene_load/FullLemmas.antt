@@ -20,9 +20,9 @@ use Rattle.level_audit.proofs.scene_load.LoadLemmas.{audited_of}
 -- the same is said of the fault that is returned
 pub same_full : {B D : Type 0} (P : ℕ → ℕ → Type 0) (r : Result D (Fault AuditRefusal)) (fault : (Fault AuditRefusal)) (result : Result B (Fault AuditRefusal)) → IfErr r (λ f. IfFull (itself f) P) → r ≡ Err fault → IsErrAnd result (λ e. e ≡ fault) → IfErr result (λ f. IfFull (itself f) P)
 same_full {B} {D} P r fault result full was is =
-    let s = err_from_is_err_and result is in
-    let k : IfFull (itself fault) P = subst (λ (y : Result D (Fault AuditRefusal)). IfErr y (λ f. IfFull (itself f) P)) was full in
-    subst (λ (y : Result B (Fault AuditRefusal)). IfErr y (λ f. IfFull (itself f) P)) (sym (s.1 ∙ ap Err s.2)) k
+    let error_is = err_from_is_err_and result is in
+    let fault_full : IfFull (itself fault) P = subst (λ (y : Result D (Fault AuditRefusal)). IfErr y (λ f. IfFull (itself f) P)) was full in
+    subst (λ (y : Result B (Fault AuditRefusal)). IfErr y (λ f. IfFull (itself f) P)) (sym (error_is.1 ∙ ap Err error_is.2)) fault_full
 
 -- the value of a result that is one
 ok_value : {A E : Type 0} (r : Result A E) → IsOk r → (x : A) × (r ≡ Ok x)
@@ -68,7 +68,7 @@ module _ (contents : List (List ℕ)) (level : LevelJobValue) (files : SceneFile
   layers_full scene (Err ReadFault) accepted is rest size full = tt
   layers_full scene (Err OutOfMemory) accepted is rest size full = tt
   layers_full scene (Err (ZoneFull wanted widest')) accepted is rest size full =
-      let small : level.settings.zone < block_size (lump_at files.dir.lumps scene.base.colormap).size + wanted + MIN_FRAGMENT =
+      let zone_is_small : level.settings.zone < block_size (lump_at files.dir.lumps scene.base.colormap).size + wanted + MIN_FRAGMENT =
       subst (λ n. n < block_size (lump_at files.dir.lumps scene.base.colormap).size + wanted + MIN_FRAGMENT) size (full_room full scene.base.colormap (lump_at files.dir.lumps scene.base.colormap).size rest) in
       record {
         block = record {
@@ -78,7 +78,7 @@ module _ (contents : List (List ℕ)) (level : LevelJobValue) (files : SceneFile
           narrow = full.narrow;
           colormap = scene.base.colormap;
           colormap_is = is;
-          small = small;
+          small = zone_is_small;
           gap = inr (subst (λ n. IsGapBeside n (block_size (lump_at files.dir.lumps scene.base.colormap).size) widest') size (full.gap scene.base.colormap (lump_at files.dir.lumps scene.base.colormap).size rest));
         };
         enough = λ loaded e. audited_by (λ l. level.settings.zone < (loaded_sizes l).enough) (lump_bytes contents files.dir.lumps) level (value_of files) loaded e
@@ -86,7 +86,7 @@ module _ (contents : List (List ℕ)) (level : LevelJobValue) (files : SceneFile
             subst (λ (s : SceneValue). level.settings.zone < (loaded_sizes (record { files = value_of files; scene = s; weapons = weapons })).enough) (same_value scene other accepted known)
             (omega (
               arith,
-              small,
+              zone_is_small,
               full.wanted_is,
               enough_layers (lump_bytes contents files.dir.lumps) (record { files = value_of files; scene = scene; weapons = weapons }) full.lump layers (colormap_there files.dir.lumps scene.base.colormap is) full.asked,
             )));
@@ -96,9 +96,10 @@ module _ (contents : List (List ℕ)) (level : LevelJobValue) (files : SceneFile
 pub load_full : {B D : Type 0} (level : LevelJobValue) (wads : List (List ℕ)) (held : List File) (found : FilesValue) (r : Result D (Fault Refusal)) (fault : Fault Refusal) (result : Result B (Fault Refusal)) → files_in level.files wads level.settings held ≡ Ok found →
     IfErr r (λ f. IfFull (itself f) (IsFullOver (wad_bytes wads held found.lumps) level found)) → r ≡ Err fault → IsErrAnd result (λ e. e ≡ fault) → IfErr result (λ f. IfFull (itself f) (IsFullLoad level wads held))
 load_full {B} {D} level wads held found r fault result are full was is =
-    let s = err_from_is_err_and result is in
-    let k : IfFull (itself fault) (IsFullOver (wad_bytes wads held found.lumps) level found) = subst (λ (y : Result D (Fault Refusal)). IfErr y (λ f. IfFull (itself f) (IsFullOver (wad_bytes wads held found.lumps) level found))) was full in
-    subst (λ (y : Result B (Fault Refusal)). IfErr y (λ f. IfFull (itself f) (IsFullLoad level wads held))) (sym (s.1 ∙ ap Err s.2)) (go fault k) where
+    let error_is = err_from_is_err_and result is in
+    let fault_full : IfFull (itself fault) (IsFullOver (wad_bytes wads held found.lumps) level found) = subst (λ (y : Result D (Fault Refusal)). IfErr y (λ f. IfFull (itself f) (IsFullOver (wad_bytes wads held found.lumps) level found))) was full in
+    subst (λ (y : Result B (Fault Refusal)). IfErr y (λ f. IfFull (itself f) (IsFullLoad level wads held))) (sym (error_is.1 ∙ ap Err error_is.2))
+    (go fault fault_full) where
       go : (f : Fault Refusal) → IfFull (itself f) (IsFullOver (wad_bytes wads held found.lumps) level found) → IfFull (itself f) (IsFullLoad level wads held)
       go (Refused refusal) k = tt
       go ReadFault k = tt
@@ -119,6 +120,6 @@ never_full P OutOfMemory none = tt
 -- the reading of files puts nothing into a zone
 pub files_full : {B D : Type 0} (P : ℕ → ℕ → Type 0) (r : Result D (Fault Refusal)) (fault : Fault Refusal) (result : Result B (Fault Refusal)) → IsNeverFull r → r ≡ Err fault → IsErrAnd result (λ e. e ≡ fault) → IfErr result (λ f. IfFull (itself f) P)
 files_full {B} {D} P r fault result never was is =
-    let s = err_from_is_err_and result is in
-    let none : IfFull fault (λ wanted widest'. ⊥) = subst (λ (y : Result D (Fault Refusal)). IsNeverFull y) was never in
-    subst (λ (y : Result B (Fault Refusal)). IfErr y (λ f. IfFull (itself f) P)) (sym (s.1 ∙ ap Err s.2)) (never_full P fault none)
+    let error_is = err_from_is_err_and result is in
+    let nowhere_full : IfFull fault (λ wanted widest'. ⊥) = subst (λ (y : Result D (Fault Refusal)). IsNeverFull y) was never in
+    subst (λ (y : Result B (Fault Refusal)). IfErr y (λ f. IfFull (itself f) P)) (sym (error_is.1 ∙ ap Err error_is.2)) (never_full P fault nowhere_full)

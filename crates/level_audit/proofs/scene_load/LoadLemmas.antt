@@ -13,27 +13,27 @@ use Rattle.level_audit.specs.scene_load.Loads.{LoadedValue, audited_in, load_in,
 -- memory ran out, which no step decides
 pub memory_agrees : {A B : Type 0} {steady : Bool} {value : B → A} (expected : Result A (Stop Refusal)) (fault : (Fault Refusal)) (result : Result B (Fault Refusal)) → itself fault ≡ OutOfMemory → IsErrAnd result (λ e. e ≡ fault) → ResultIsOrAbsent itself steady value expected result
 memory_agrees {steady} expected fault result tells is =
-    let s = err_from_is_err_and result is in
-    let k : FaultFitsOrAbsent steady expected (itself s.0) = rw (s.2, tells) tt in
-    rw s.1 (record { ok = tt; err = k })
+    let error_is = err_from_is_err_and result is in
+    let fault_fits : FaultFitsOrAbsent steady expected (itself error_is.0) = rw (error_is.2, tells) tt in
+    rw error_is.1 (record { ok = tt; err = fault_fits })
 
 -- memory ran out, which says nothing of the zone
 pub memory_full : {B : Type 0} (P : ℕ → ℕ → Type 0) (fault : (Fault Refusal)) (result : Result B (Fault Refusal)) → itself fault ≡ OutOfMemory → IsErrAnd result (λ e. e ≡ fault) → IfErr result (λ f. IfFull (itself f) P)
 memory_full P fault result tells is =
-    let s = err_from_is_err_and result is in
-    let k : IfFull (itself s.0) P = rw (s.2, tells) tt in
-    rw s.1 k
+    let error_is = err_from_is_err_and result is in
+    let fault_full : IfFull (itself error_is.0) P = rw (error_is.2, tells) tt in
+    rw error_is.1 fault_full
 
 -- memory ran out, which is no read that failed
 pub memory_causes : {B : Type 0} {before now : ℕ} (fault : Fault Refusal) (result : Result B (Fault Refusal)) → itself fault ≡ OutOfMemory → IsErrAnd result (λ e. e ≡ fault) → HasCauses itself before now result
 memory_causes {before} {now} fault result tells is =
-    let s = err_from_is_err_and result is in
-    let k : HasCauseAt before now (itself s.0) = rw (s.2, tells) tt in
-    rw s.1 (record { err = k })
+    let error_is = err_from_is_err_and result is in
+    let has_cause : HasCauseAt before now (itself error_is.0) = rw (error_is.2, tells) tt in
+    rw error_is.1 (record { err = has_cause })
 
 -- what no refusal of the lumps has stopped is audited
 unstopped : {A : Type 0} (expected : Result A AuditRefusal) (value : A) → stops_of_audit expected ≡ Ok value → expected ≡ Ok value
-unstopped (Ok found) value e = let same : found ≡ value = cc in ap Ok same
+unstopped (Ok found) value e = let value_same : found ≡ value = cc in ap Ok value_same
 unstopped (Err refusal) value e = absurd (cc)
 
 module _ (level : LevelJobValue) (wads : List (List ℕ)) (held : List File) where
@@ -57,10 +57,11 @@ module _ (level : LevelJobValue) (wads : List (List ℕ)) (held : List File) whe
     pub audit_stopped : {B D : Type 0} {steady later : Bool} {value : B → LoadedValue} {v : D → LoadedValue} {r : Result D (Fault Refusal)} (fault : Fault Refusal) (result : Result B (Fault Refusal)) → files_in level.files wads level.settings held ≡ Ok found → later ≡ steady →
         ResultIs itself later v (from_below Level (audited_in (wad_bytes wads held found.lumps) level found)) r → r ≡ Err fault → IsErrAnd result (λ e. e ≡ fault) → ResultIsOrAbsent itself steady value (load_in level wads held) result
     audit_stopped {B} {D} {steady} {later} {value} {v} {r} fault result are same answers was is =
-        let s = err_from_is_err_and result is in
-        let h : FaultFits later (from_below Level (audited_in (wad_bytes wads held found.lumps) level found)) fault = rw was at answers.err in
-        let k : FaultFits steady (from_below Level (audited_in (wad_bytes wads held found.lumps) level found)) (itself s.0) = rw (s.2, ← same) h in
-        rw (files_passed are) (no_file_agrees (from_below Level (audited_in (wad_bytes wads held found.lumps) level found)) result (rw s.1 (record { ok = tt; err = k })))
+        let error_is = err_from_is_err_and result is in
+        let audit_fault_fits : FaultFits later (from_below Level (audited_in (wad_bytes wads held found.lumps) level found)) fault = rw was at answers.err in
+        let fault_fits : FaultFits steady (from_below Level (audited_in (wad_bytes wads held found.lumps) level found)) (itself error_is.0)
+        = rw (error_is.2, ← same) audit_fault_fits in
+        rw (files_passed are) (no_file_agrees (from_below Level (audited_in (wad_bytes wads held found.lumps) level found)) result (rw error_is.1 (record { ok = tt; err = fault_fits })))
 
     -- all is loaded
     pub all_loaded : {B : Type 0} {steady : Bool} {value : B → LoadedValue} (loaded : B) → files_in level.files wads level.settings held ≡ Ok found → from_below Level (audited_in (wad_bytes wads held found.lumps) level found) ≡ Ok (value loaded) →
@@ -71,6 +72,6 @@ module _ (level : LevelJobValue) (wads : List (List ℕ)) (held : List File) whe
     pub told_wads : {w : ShelfView} {dir : DirectoryView} {z : Heap} → files_in level.files wads level.settings held ≡ Ok found →
         ((contents : List (List ℕ)) → files_named wads held ≡ Some contents → NameFiles w dir.files contents × AllWithin contents dir.lumps) → ((contents : List (List ℕ)) → IsFaithful contents dir.lumps z) → HoldContents w dir z (wad_contents wads held)
     told_wads are stand faithful =
-        let listed = wads_accepted level.files wads level.settings held found are in
-        let both = stand listed.contents listed.named in
-        rw listed.named (record { stand = both.0; within = both.1; faithful = faithful listed.contents })
+        let files_listed = wads_accepted level.files wads level.settings held found are in
+        let both_stand = stand files_listed.contents files_listed.named in
+        rw files_listed.named (record { stand = both_stand.0; within = both_stand.1; faithful = faithful files_listed.contents })

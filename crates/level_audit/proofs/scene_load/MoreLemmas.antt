@@ -91,17 +91,17 @@ pub book_of_layers : (bytes : ℕ → List ℕ) (lumps : List Lump) (weapons : O
 unfolding weapons_of weapon_book
 book_of_layers bytes lumps weapons layers lump e asked =
     let rows = asked.0 in
-    let given = subst (λ w. weapons_of bytes lumps w ≡ Ok layers) asked.1 e in
-    let made = and_then-ok (from_below WeaponArt (weapon_book bytes lumps rows)) (λ book. Ok (Some book)) layers given in
-    let book = from_below-ok weapon_refusal (each_of (frame_of bytes lumps) (first_needs (weapon_needs rows))) made.0 (from_below-ok WeaponArt (weapon_book bytes lumps rows) made.0 made.1) in
-    let some : Some made.0 ≡ layers = cc (made.2) in
-    subst (λ found. list_any (λ n. n == lump) (weapon_lumps found) ≡ true) some (needed_picture bytes lumps (weapon_needs rows) made.0 lump book asked.2)
+    let weapons_ok = subst (λ w. weapons_of bytes lumps w ≡ Ok layers) asked.1 e in
+    let book_ok = and_then-ok (from_below WeaponArt (weapon_book bytes lumps rows)) (λ book. Ok (Some book)) layers weapons_ok in
+    let book = from_below-ok weapon_refusal (each_of (frame_of bytes lumps) (first_needs (weapon_needs rows))) book_ok.0 (from_below-ok WeaponArt (weapon_book bytes lumps rows) book_ok.0 book_ok.1) in
+    let some : Some book_ok.0 ≡ layers = cc (book_ok.2) in
+    subst (λ found. list_any (λ n. n == lump) (weapon_lumps found) ≡ true) some (needed_picture bytes lumps (weapon_needs rows) book_ok.0 lump book asked.2)
 
 -- a zone that is enough holds a picture of the layers beside COLORMAP
 pub enough_layers : (bytes : ℕ → List ℕ) (loaded : LoadedValue) (lump : ℕ) → weapons_of bytes loaded.files.lumps loaded.files.weapons ≡ Ok loaded.weapons → loaded.scene.base.colormap < length loaded.files.lumps → IsOfLayers loaded.files.lumps loaded.files.weapons lump →
     block_size (lump_at loaded.files.lumps loaded.scene.base.colormap).size + block_size (lump_at loaded.files.lumps lump).size + MIN_FRAGMENT ≤ (loaded_sizes loaded).enough
 unfolding loaded_sizes zone_sizes
 enough_layers bytes loaded lump e there asked =
-    let on = book_of_layers bytes loaded.files.lumps loaded.files.weapons loaded.weapons lump e asked in
+    let is_in_layers = book_of_layers bytes loaded.files.lumps loaded.files.weapons loaded.weapons lump e asked in
     picture_beside loaded.files.lumps loaded.scene (loaded_pictures loaded) there lump
-    (list_any-append (λ n. n == lump) (book_lumps loaded.scene.book) (weapon_lumps loaded.weapons) ∙ or_right (list_any (λ n. n == lump) (book_lumps loaded.scene.book)) (list_any (λ n. n == lump) (weapon_lumps loaded.weapons)) on)
+    (list_any-append (λ n. n == lump) (book_lumps loaded.scene.book) (weapon_lumps loaded.weapons) ∙ or_right (list_any (λ n. n == lump) (book_lumps loaded.scene.book)) (list_any (λ n. n == lump) (weapon_lumps loaded.weapons)) is_in_layers)

@@ -68,18 +68,18 @@ module _ (lumps : List Lump) where
   unfolding lump_block
   lump_blocks [] = refl
   lump_blocks (n ∷ numbers) =
-      let rest = lump_blocks numbers in
+      let rest_sum = lump_blocks numbers in
       let items = sum_by-cons item_block (lump_item lumps n) (map (lump_item lumps) numbers) in
       let blocks = sum_by-cons (lump_block lumps) n numbers in
-      omega (arith, rest, items, blocks)
+      omega (arith, rest_sum, items, blocks)
 
   lumps_read : (numbers : List ℕ) → sum_by lump_size (map (lump_item lumps) numbers) ≡ sum_by (λ lump. (lump_at lumps lump).size) numbers
   lumps_read [] = refl
   lumps_read (n ∷ numbers) =
-      let rest = lumps_read numbers in
+      let rest_sum = lumps_read numbers in
       let items = sum_by-cons lump_size (lump_item lumps n) (map (lump_item lumps) numbers) in
       let sizes = sum_by-cons (λ (lump : ℕ). (lump_at lumps lump).size) n numbers in
-      omega (arith, rest, items, sizes)
+      omega (arith, rest_sum, items, sizes)
 
 -- a composite's item, where it has bytes
 abbrev made_items : ℕ → ℕ → Bool → List Item
@@ -161,9 +161,9 @@ composites_sum : (f : Item → ℕ) (g : Option PreparedTexture → ℕ) → ((n
 unfolding composite_items
 composites_sum f g each [] number = refl
 composites_sum f g each (t ∷ ts) number =
-    let rest = composites_sum f g each ts (number + 1) in
-    let both = sum_by-append f (composite_item number t) (composite_items (number + 1) ts) in
-    omega (arith, rest, both, each number t, sum_by-cons g t ts)
+    let rest_sum = composites_sum f g each ts (number + 1) in
+    let joined_sum = sum_by-append f (composite_item number t) (composite_items (number + 1) ts) in
+    omega (arith, rest_sum, joined_sum, each number t, sum_by-cons g t ts)
 
 -- their blocks; none of their bytes is read
 composite_blocks : (ts : List (Option PreparedTexture)) (number : ℕ) → items_size (composite_items number ts) ≡ sum_by composite_block ts
@@ -181,10 +181,10 @@ composite_among : (ts : List (Option PreparedTexture)) (first k number : ℕ) (t
 unfolding composite_items
 composite_among [] first k number t e at some = cc
 composite_among (x ∷ ts) first zero number t e at some =
-    let here : first ≡ number = omega (arith, e) in
-    let own = subst (λ (n : ℕ). has_item (composite_item first x) (composite_owner n) (size_of t) ≡ true) here (one_itself first x t at some) in
+    let first_is_number : first ≡ number = omega (arith, e) in
+    let own_item = subst (λ (n : ℕ). has_item (composite_item first x) (composite_owner n) (size_of t) ≡ true) first_is_number (one_itself first x t at some) in
     list_any-append (is_item (composite_owner number) (size_of t)) (composite_item first x) (composite_items (first + 1) ts)
-    ∙ or_left (has_item (composite_item first x) (composite_owner number) (size_of t)) (has_item (composite_items (first + 1) ts) (composite_owner number) (size_of t)) own
+    ∙ or_left (has_item (composite_item first x) (composite_owner number) (size_of t)) (has_item (composite_items (first + 1) ts) (composite_owner number) (size_of t)) own_item
 composite_among (x ∷ ts) first (suc k) number t e at some =
     list_any-append (is_item (composite_owner number) (size_of t)) (composite_item first x) (composite_items (first + 1) ts)
     ∙ or_right (has_item (composite_item first x) (composite_owner number) (size_of t)) (has_item (composite_items (first + 1) ts) (composite_owner number) (size_of t))
@@ -219,12 +219,12 @@ items_roomy loaded zone fits =
     let prepared = loaded.scene.prepared in
     let needed = is_needed lumps (art_with loaded.scene (loaded_pictures loaded)) in
     let numbers = filter needed (range_with_len 0 (length lumps)) in
-    let both = sum_by-append item_block (map (lump_item lumps) numbers) (composite_items 0 prepared) in
-    let first = lump_blocks lumps numbers in
-    let second = composite_blocks prepared 0 in
+    let joined_sum = sum_by-append item_block (map (lump_item lumps) numbers) (composite_items 0 prepared) in
+    let lump_blocks_sum = lump_blocks lumps numbers in
+    let composite_blocks_sum = composite_blocks prepared 0 in
     record {
       distinct = lumps_distinct lumps needed 0 (length lumps) (composite_items 0 prepared) (λ k. composites_of_lump prepared 0 k) (composites_distinct prepared 0);
-      room = omega (arith, both, first, second, fits);
+      room = omega (arith, joined_sum, lump_blocks_sum, composite_blocks_sum, fits);
     }
 
 -- what is live of them has no more bytes that are read than the needed lumps
@@ -234,11 +234,11 @@ items_read loaded blocks =
     let lumps = loaded.files.lumps in
     let prepared = loaded.scene.prepared in
     let items = map (lump_item lumps) (loaded_lumps loaded) in
-    let most = live_most lump_size (items ++ composite_items 0 prepared) blocks in
-    let both = sum_by-append lump_size items (composite_items 0 prepared) in
-    let first = lumps_read lumps (loaded_lumps loaded) in
-    let second = composites_unread prepared 0 in
-    omega (arith, most, both, first, second)
+    let live_at_most = live_most lump_size (items ++ composite_items 0 prepared) blocks in
+    let joined_sum = sum_by-append lump_size items (composite_items 0 prepared) in
+    let lump_sizes_sum = lumps_read lumps (loaded_lumps loaded) in
+    let composites_read_none = composites_unread prepared 0 in
+    omega (arith, live_at_most, joined_sum, lump_sizes_sum, composites_read_none)
 
 -- a call that keeps a zone in order for them reads no more than the needed lumps
 pub lumps_taken : (loaded : LoadedValue) {old new : Heap} {before after : ℕ} → KeepsOrder (loaded_items loaded) old new before after → after ≤ before + lumps_size loaded

@@ -22,7 +22,7 @@ use Rattle.level_audit.proofs.scene_load.OrderLemmas.{items_lump}
 -- a value that was found, or else there is a refusal
 found_or : {X E : Type 0} (o : Option X) (e : E) (x : X) → ok_or o e ≡ Ok x → o ≡ Some x
 found_or None e x is = cc
-found_or (Some y) e x is = let same : y ≡ x = cc in ap Some same
+found_or (Some y) e x is = let value_same : y ≡ x = cc in ap Some value_same
 
 module _ (lumps : List Lump) where
   -- the last lump of a name
@@ -50,7 +50,7 @@ module _ (lumps : List Lump) where
   label_parts None label e = cc
   label_parts (Some n) label e = go (is_label lumps n) refl e where
     go : (b : Bool) → is_label lumps n ≡ b → cond b (Some n) None ≡ Some label → (Some n ≡ Some label) × (is_label lumps label ≡ true)
-    go true on is = (is, let same : n ≡ label = cc in ap (is_label lumps) (sym same) ∙ on)
+    go true on is = (is, let number_is_label : n ≡ label = cc in ap (is_label lumps) (sym number_is_label) ∙ on)
     go false on is = cc
 
   label_names : (label : ℕ) → is_label lumps label ≡ true → are_named lumps (lump_at lumps label).file (suc label) MAP_LUMPS ≡ true
@@ -66,10 +66,10 @@ module _ (lumps : List Lump) where
   unfolding label_of
   map_there name label lump is among =
       let parts = label_parts (last_of lumps name) label (found_or (map_of lumps name) _ label is) in
-      let first = last_there name label parts.0 in
-      let all = named_within lumps (lump_at lumps label).file (suc label) MAP_LUMPS (omega (arith, first)) (label_names label parts.1) in
-      let last = map_last label lump among in
-      omega (arith, all, last)
+      let label_below_count = last_there name label parts.0 in
+      let map_lumps_fit = named_within lumps (lump_at lumps label).file (suc label) MAP_LUMPS (omega (arith, label_below_count)) (label_names label parts.1) in
+      let lump_in_map = map_last label lump among in
+      omega (arith, map_lumps_fit, lump_in_map)
 
   -- all lumps of a base
   base_there : (name : List ℕ) (lump : ℕ) → IsOfBase lumps name lump → lump < length lumps
@@ -120,8 +120,8 @@ module _ (bytes : ℕ → List ℕ) (level : LevelJobValue) (found : FilesValue)
   read_item : IsReadBy bytes found.lumps found.things level.map_name level.settings.skill lump → has_item (loaded_items whole) (lump_owner lump) (lump_at found.lumps lump).size ≡ true
   read_item (inl colormap) =
       let parts = scene_parts bytes found.lumps found.things level.map_name level.settings.skill scene accepted in
-      let same : scene.base.colormap ≡ lump = same_value scene.base.colormap lump (base_parts bytes found.lumps level.map_name scene.base parts.base).colormap colormap in
-      scene_item whole lump (colormap_there found.lumps lump colormap) (colormap_needed found.lumps scene lump same)
+      let colormap_same : scene.base.colormap ≡ lump = same_value scene.base.colormap lump (base_parts bytes found.lumps level.map_name scene.base parts.base).colormap colormap in
+      scene_item whole lump (colormap_there found.lumps lump colormap) (colormap_needed found.lumps scene lump colormap_same)
   read_item (inr later) =
       let parts = scene_parts bytes found.lumps found.things level.map_name level.settings.skill scene accepted in
       scene_item whole lump (after_there found.lumps bytes found.things level.map_name level.settings.skill lump later)

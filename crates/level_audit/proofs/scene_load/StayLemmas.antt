@@ -15,8 +15,8 @@ module _ {B R : Type 0} (Q : B → Type 0) (P : Type 0) where
   -- the fault that is returned has it
   returned : (fault : Fault R) (result : Result B (Fault R)) → IsErrAnd result (λ e. e ≡ fault) → InOrderAt (itself fault) P → MatchResult result Q (λ f. InOrderAt (itself f) P)
   returned fault result is p =
-      let s = err_from_is_err_and result is in
-      subst (λ (y : Result B (Fault R)). MatchResult y Q (λ f. InOrderAt (itself f) P)) (sym (s.1 ∙ ap Err s.2)) p
+      let error_is = err_from_is_err_and result is in
+      subst (λ (y : Result B (Fault R)). MatchResult y Q (λ f. InOrderAt (itself f) P)) (sym (error_is.1 ∙ ap Err error_is.2)) p
 
   -- a call over the cache stopped
   pub call_order : {D : Type 0} (K : Type 0) (r : Result D (Fault R)) (fault : Fault R) (result : Result B (Fault R)) → MatchResult r (λ _. K) (λ f. InOrderAt (itself f) K) → r ≡ Err fault → IsErrAnd result (λ e. e ≡ fault) → (K → P) →

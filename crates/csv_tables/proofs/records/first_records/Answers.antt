@@ -8,38 +8,38 @@ use Rattle.csv_tables.proofs.records.first_records.Goals as goal
 pub loop-row-init : goal.loop-row-init
 unfolding Reached
 loop-row-init c =
-    let fr = c.from_reader-rdr.ensures in
-    let e = c.has_headers.ensures in
-    let g = c.flexible.ensures in
+    let reader_is = c.from_reader-rdr.ensures in
+    let headers_set = c.has_headers.ensures in
+    let flexible_set = c.flexible.ensures in
     let start = c.into_iter-row-iterator.ensures.into_iter_gives ∙ refl in
     let rdr = c.into_byte_records-row-items.ensures.rdr in
     let left = c.into_byte_records-row-items.ensures.left in
     rw (start, rdr, c.new-rows.ensures.items) (
-      rw (g, e) at fr.trim ∙ c.new.ensures.trim,
-      inr (inr (rw (g, e) at fr.has_headers, fr.headers)),
+      rw (flexible_set, headers_set) at reader_is.trim ∙ c.new.ensures.trim,
+      inr (inr (rw (flexible_set, headers_set) at reader_is.has_headers, reader_is.headers)),
       left,
-      rw (g, e) at fr.config ∙ c.new.ensures.config,
+      rw (flexible_set, headers_set) at reader_is.config ∙ c.new.ensures.config,
       strip_bom c.args.bytes.now,
-      fr.source,
-      (sym fr.state, refl),
+      reader_is.source,
+      (sym reader_is.state, refl),
       omega arith,
-      rw g at fr.flexible,
+      rw flexible_set at reader_is.flexible,
     )
 
 pub loop-row-preserved : goal.loop-row-preserved
 loop-row-preserved c =
     let inv = c.loop-row.invariant in
-    let s = rw (c.in-Some.is, c.in-Ok.is) at ((c.next.ensures.steps inv.2 inv.0).0 inv.1) in
-    let good : is_ok c.push.result ≡ true = search rules in
-    let items = rw good at c.push.ensures.items in
-    let m = rows-more (λ (s : Bor (List ℕ)). Some s.now) c.loop-row.row-iterator.rdr c.next.new.self.rdr (fields_of c.in-Ok.fields) default_config st.StartRecord (strip_bom c.args.bytes.now) inv.4 (map fields_of c.loop-row.rows.items) inv.3 inv.5 inv.6 s.0 in (
-      s.0.3 ∙ inv.0,
-      inl s.1,
-      s.2,
-      s.0.2 ∙ inv.3,
-      m.0,
-      m.1,
-      rw (items, map-append fields_of c.loop-row.rows.items (c.in-Ok.fields ∷ [])) m.2,
+    let next_record = rw (c.in-Some.is, c.in-Ok.is) at ((c.next.ensures.steps inv.2 inv.0).0 inv.1) in
+    let push_is_ok : is_ok c.push.result ≡ true = search rules in
+    let items = rw push_is_ok at c.push.ensures.items in
+    let rows_reached = rows-more (λ (s : Bor (List ℕ)). Some s.now) c.loop-row.row-iterator.rdr c.next.new.self.rdr (fields_of c.in-Ok.fields) default_config st.StartRecord (strip_bom c.args.bytes.now) inv.4 (map fields_of c.loop-row.rows.items) inv.3 inv.5 inv.6 next_record.0 in (
+      next_record.0.3 ∙ inv.0,
+      inl next_record.1,
+      next_record.2,
+      next_record.0.2 ∙ inv.3,
+      rows_reached.0,
+      rows_reached.1,
+      rw (items, map-append fields_of c.loop-row.rows.items (c.in-Ok.fields ∷ [])) rows_reached.2,
       search (rules, length-append),
       (rw (c.in-Some.is, c.in-Ok.is) at (c.next.ensures.steps inv.2 inv.0).3) ∙ inv.8,
     )
@@ -53,13 +53,13 @@ returns-then-len-limit c =
 pub returns : goal.returns
 returns c =
     let inv = c.loop-row.invariant in
-    let s = rw c.in-None.is at ((c.next.ensures.steps inv.2 inv.0).0 inv.1) in
-    let none = rows-end (λ (s : Bor (List ℕ)). Some s.now) c.loop-row.row-iterator.rdr c.next.new.self.rdr [] default_config inv.4 inv.3 inv.5 s in
+    let no_next_record = rw c.in-None.is at ((c.next.ensures.steps inv.2 inv.0).0 inv.1) in
+    let none = rows-end (λ (s : Bor (List ℕ)). Some s.now) c.loop-row.row-iterator.rdr c.next.new.self.rdr [] default_config inv.4 inv.3 inv.5 no_next_record in
     first_records-end c.args.limit c.args.bytes.now inv.4 c.loop-row.row-iterator.rdr.state (map fields_of c.loop-row.rows.items) inv.6 none (rw (length-map c.loop-row.rows.items fields_of) inv.7)
 
 pub prove-unreachable-requires : goal.prove-unreachable-requires
 prove-unreachable-requires c =
     let inv = c.loop-row.invariant in
-    let s = rw (c.in-Some.is, c.in-Err.is) at ((c.next.ensures.steps inv.2 inv.0).0 inv.1) in
-    let off = any-length (λ (s : Bor (List ℕ)). Some s.now) c.loop-row.row-iterator.rdr c.next.new.self.rdr c.in-Err.error.kind inv.8 s in
-    true-false (sym c.if-prove.true ∙ c.is_of_length-refused.ensures ∙ off)
+    let next_refused = rw (c.in-Some.is, c.in-Err.is) at ((c.next.ensures.steps inv.2 inv.0).0 inv.1) in
+    let not_of_length = any-length (λ (s : Bor (List ℕ)). Some s.now) c.loop-row.row-iterator.rdr c.next.new.self.rdr c.in-Err.error.kind inv.8 next_refused in
+    true-false (sym c.if-prove.true ∙ c.is_of_length-refused.ensures ∙ not_of_length)

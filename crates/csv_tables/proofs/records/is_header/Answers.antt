@@ -6,8 +6,8 @@ use Rattle.csv_tables.proofs.records.is_header.Goals as goal
 
 pub returns-then-len-names : goal.returns-then-len-names
 returns-then-len-names c =
-    let len : length (map (λ (n : Bor (List ℕ)). n.now) c.args.names.now) ≡ length c.args.names.now = length-map c.args.names.now (λ n. n.now) in
-    sym (is_header-length (map (λ (n : Bor (List ℕ)). n.now) c.args.names.now) (fields_of c.args.fields.now) (rw len (λ e. c.if-len-names.true (c.len.ensures ∙ e))))
+    let name_count : length (map (λ (n : Bor (List ℕ)). n.now) c.args.names.now) ≡ length c.args.names.now = length-map c.args.names.now (λ n. n.now) in
+    sym (is_header-length (map (λ (n : Bor (List ℕ)). n.now) c.args.names.now) (fields_of c.args.fields.now) (rw name_count (λ e. c.if-len-names.true (c.len.ensures ∙ e))))
 
 pub returns-then-not-has_field : goal.returns-then-not-has_field
 returns-then-not-has_field c =

@@ -18,13 +18,13 @@ pub loop-i-preserved : goal.loop-i-preserved
 loop-i-preserved c =
     let inv = c.loop-i.invariant in
     let line = c.in-Ok-read_line.line in
-    let good : is_ok c.push.result ≡ true = search rules in
-    let items = rw good at c.push.ensures.items in
-    let told = rw c.deref.ensures.value at c.in-Ok-read_line.ensures.value in
+    let push_is_ok : is_ok c.push.result ≡ true = search rules in
+    let items = rw push_is_ok at c.push.ensures.items in
+    let line_read = rw c.deref.ensures.value at c.in-Ok-read_line.ensures.value in
     let new = rw c.deref.ensures.value at c.in-Ok-read_line.ensures.new in
     let small : line.kind < TYPES = omega (arith, c.in-Ok-read_line.ensures.range) in
     rw items (record {
-      read = read_more _ _ _ _ _ _ _ line inv.read c.loop-i-test.true c.index-rows-i.is told c.in-Ok-read_line.ensures.range;
+      read = read_more _ _ _ _ _ _ _ line inv.read c.loop-i-test.true c.index-rows-i.is line_read c.in-Ok-read_line.ensures.range;
       numbers = numbers-step c.loop-i.lines.items line c.loop-i.numbers.items (c.loop-i.i + 1) inv.numbers small new (ap (λ n. n + 1) (sym inv.read.count));
     })
 

@@ -7,8 +7,8 @@ returns-in-Err-clause-refused c r e = read_refused _ _ _ _ _ _ _ _ r c.loop-i.in
 
 pub loop-i-preserved : goal.loop-i-preserved
 loop-i-preserved c =
-    let good : is_ok c.push.result ≡ true = search rules in
-    let items = rw good at c.push.ensures.items in
+    let push_is_ok : is_ok c.push.result ≡ true = search rules in
+    let items = rw push_is_ok at c.push.ensures.items in
     rw items (read_more _ _ _ _ _ _ _ c.in-Ok.weapon c.loop-i.invariant c.loop-i-test.true c.index-rows-i.is c.in-Ok.ensures.value c.in-Ok.ensures.range)
 
 pub returns-clause-ok : goal.returns-clause-ok

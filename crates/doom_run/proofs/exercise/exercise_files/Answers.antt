@@ -7,7 +7,7 @@ use Rattle.doom_run.proofs.MadeLemmas.{made_count, memory_holds, memory_steady, 
 use Rattle.doom_run.proofs.exercise.exercise_files.Goals as goal
 
 pub new-shelf-requires : goal.new-shelf-requires
-new-shelf-requires g c = let e = ap (λ files. length files) c.requires.files in let n = made_count c.args.n in omega (arith, e, n)
+new-shelf-requires g c = let count_same = ap (λ files. length files) c.requires.files in let is_four = made_count c.args.n in omega (arith, count_same, is_four)
 
 pub perform_level-requires : goal.perform_level-requires
 perform_level-requires g c = subst (λ (l : LevelJobValue). AreSettings l.settings) (sym c.made_level-level.ensures) (settings_made c.args.zone c.requires.zone)

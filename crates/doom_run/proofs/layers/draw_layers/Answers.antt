@@ -16,8 +16,8 @@ returns-in_default-weapons g c = record {
 pub returns : goal.returns
 returns g c =
     let old = c.args.loaded.now in
-    let same = to_z-of_z w16 c.layer_light-light.result (search rules) in
+    let light_same = to_z-of_z w16 c.layer_light-light.result (search rules) in
     record {
       paints = rows-drawn c.args.number c.args.eye old (record old { cache = c.draw_rows.new.cache }) c.rows.result.now c.in-Some.table c.in-Some-weapons.book c.new-view.result c.layer_light-light.result _ c.colormap.result.0
-          c.rows.ensures.value c.in-Some.is c.in-Some-weapons.is c.new-view.ensures same c.layer_light-light.ensures c.colormap.ensures (record { files = refl; scene = refl; weapons = refl }) c.draw_rows.ensures.paints;
+          c.rows.ensures.value c.in-Some.is c.in-Some-weapons.is c.new-view.ensures light_same c.layer_light-light.ensures c.colormap.ensures (record { files = refl; scene = refl; weapons = refl }) c.draw_rows.ensures.paints;
     }

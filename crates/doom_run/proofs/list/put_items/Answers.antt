@@ -10,17 +10,17 @@ returns-in_err-put_each g c =
     let view = c.args.view in
     let list = c.args.list.now in
     let behind = lines_from (plane_line view) 0 list.planes ++ (lines_from (sprite_line view) 0 list.sprites ++ sums_line view c.args.counts.now list) in
-    let first = same_bytes (ap (λ (xs : List ListedFragment). lines_from (fragment_line view) 0 xs) c.fragments.ensures) c.put_each.ensures in
-    writes_stop c.from_residual.result behind _ first _ c.in_err-put_each.was c.from_residual.ensures.0 (items_are view c.args.counts.now list)
+    let fragments_written = same_bytes (ap (λ (xs : List ListedFragment). lines_from (fragment_line view) 0 xs) c.fragments.ensures) c.put_each.ensures in
+    writes_stop c.from_residual.result behind _ fragments_written _ c.in_err-put_each.was c.from_residual.ensures.0 (items_are view c.args.counts.now list)
 
 pub returns-in_err-put_each-2 : goal.returns-in_err-put_each-2
 returns-in_err-put_each-2 g c =
     let view = c.args.view in
     let list = c.args.list.now in
     let behind = lines_from (sprite_line view) 0 list.sprites ++ sums_line view c.args.counts.now list in
-    let first = same_bytes (ap (λ (xs : List ListedFragment). lines_from (fragment_line view) 0 xs) c.fragments.ensures) c.put_each.ensures in
-    let second = same_bytes (ap (λ (xs : List ListedPlane). lines_from (plane_line view) 0 xs) c.planes.ensures) c.put_each-2.ensures in
-    writes_stopped c.from_residual-in_err-put_each-2.result behind _ first _ c.in_ok-put_each.was second _ c.in_err-put_each-2.was c.from_residual-in_err-put_each-2.ensures.0
+    let fragments_written = same_bytes (ap (λ (xs : List ListedFragment). lines_from (fragment_line view) 0 xs) c.fragments.ensures) c.put_each.ensures in
+    let planes_written = same_bytes (ap (λ (xs : List ListedPlane). lines_from (plane_line view) 0 xs) c.planes.ensures) c.put_each-2.ensures in
+    writes_stopped c.from_residual-in_err-put_each-2.result behind _ fragments_written _ c.in_ok-put_each.was planes_written _ c.in_err-put_each-2.was c.from_residual-in_err-put_each-2.ensures.0
     (items_are view c.args.counts.now list)
 
 pub returns-in_err-put_each-3 : goal.returns-in_err-put_each-3
@@ -31,10 +31,10 @@ returns-in_err-put_each-3 g c =
     let planes = lines_from (plane_line view) 0 list.planes in
     let sprites = lines_from (sprite_line view) 0 list.sprites in
     let sums = sums_line view c.args.counts.now list in
-    let first = same_bytes (ap (λ (xs : List ListedFragment). lines_from (fragment_line view) 0 xs) c.fragments.ensures) c.put_each.ensures in
-    let second = same_bytes (ap (λ (xs : List ListedPlane). lines_from (plane_line view) 0 xs) c.planes.ensures) c.put_each-2.ensures in
-    let third = same_bytes (ap (λ (xs : List ListedSprite). lines_from (sprite_line view) 0 xs) c.sprites.ensures) c.put_each-3.ensures in
-    writes_stopped c.from_residual-in_err-put_each-3.result sums _ (writes_then (fragments ++ planes) first _ c.in_ok-put_each.was second refl) _ c.in_ok-put_each-2.was third _
+    let fragments_written = same_bytes (ap (λ (xs : List ListedFragment). lines_from (fragment_line view) 0 xs) c.fragments.ensures) c.put_each.ensures in
+    let planes_written = same_bytes (ap (λ (xs : List ListedPlane). lines_from (plane_line view) 0 xs) c.planes.ensures) c.put_each-2.ensures in
+    let sprites_written = same_bytes (ap (λ (xs : List ListedSprite). lines_from (sprite_line view) 0 xs) c.sprites.ensures) c.put_each-3.ensures in
+    writes_stopped c.from_residual-in_err-put_each-3.result sums _ (writes_then (fragments ++ planes) fragments_written _ c.in_ok-put_each.was planes_written refl) _ c.in_ok-put_each-2.was sprites_written _
     c.in_err-put_each-3.was c.from_residual-in_err-put_each-3.ensures.0 (append_assoc fragments planes (sprites ++ sums) ∙ items_are view c.args.counts.now list)
 
 pub returns : goal.returns
@@ -44,9 +44,9 @@ returns g c =
     let sums = sums_line view c.args.counts.now list in
     let sprites = lines_from (sprite_line view) 0 list.sprites ++ sums in
     let planes = lines_from (plane_line view) 0 list.planes ++ sprites in
-    let first = same_bytes (ap (λ (xs : List ListedFragment). lines_from (fragment_line view) 0 xs) c.fragments.ensures) c.put_each.ensures in
-    let second = same_bytes (ap (λ (xs : List ListedPlane). lines_from (plane_line view) 0 xs) c.planes.ensures) c.put_each-2.ensures in
-    let third = same_bytes (ap (λ (xs : List ListedSprite). lines_from (sprite_line view) 0 xs) c.sprites.ensures) c.put_each-3.ensures in
-    writes_then _ first _ c.in_ok-put_each.was
-    (writes_then planes second _ c.in_ok-put_each-2.was (writes_then sprites third _ c.in_ok-put_each-3.was c.put_sums.ensures refl) refl)
+    let fragments_written = same_bytes (ap (λ (xs : List ListedFragment). lines_from (fragment_line view) 0 xs) c.fragments.ensures) c.put_each.ensures in
+    let planes_written = same_bytes (ap (λ (xs : List ListedPlane). lines_from (plane_line view) 0 xs) c.planes.ensures) c.put_each-2.ensures in
+    let sprites_written = same_bytes (ap (λ (xs : List ListedSprite). lines_from (sprite_line view) 0 xs) c.sprites.ensures) c.put_each-3.ensures in
+    writes_then _ fragments_written _ c.in_ok-put_each.was
+    (writes_then planes planes_written _ c.in_ok-put_each-2.was (writes_then sprites sprites_written _ c.in_ok-put_each-3.was c.put_sums.ensures refl) refl)
     (items_are view c.args.counts.now list)

@@ -21,8 +21,8 @@ render_view-requires-clause-drawable g c = drawable-later c.loop-number.invarian
 
 pub render_view-requires-clause-there : goal.render_view-requires-clause-there
 render_view-requires-clause-there g c =
-    let same : length c.loop-number.ready.loaded.files.path ≡ length c.args.ready.now.loaded.files.path = ap (λ (files : SceneFiles). length files.path) c.loop-number.invariant.renders.keeps.files in
-    omega (arith, same, c.loop-number-test.true, c.view_count-count.ensures)
+    let path_length_same : length c.loop-number.ready.loaded.files.path ≡ length c.args.ready.now.loaded.files.path = ap (λ (files : SceneFiles). length files.path) c.loop-number.invariant.renders.keeps.files in
+    omega (arith, path_length_same, c.loop-number-test.true, c.view_count-count.ensures)
 
 pub returns-in_default-clause-ends : goal.returns-in_default-clause-ends
 returns-in_default-clause-ends g c contents count holds =
@@ -56,11 +56,11 @@ loop-number-preserved g c =
           rendered-more {r = ready_views bytes c.args.ready.now} (g.S.Shelf.view c.args.shelf.now).steady c.render_view.result (so_far.rendered contents count holds) below
           (view_ends-later _ _ _ _ _ _ contents so_far.renders.keeps so_far.form (c.render_view.ensures.ends contents count (holds-later so_far.renders.keeps holds))) c.in-Done.is;
       fits = λ contents count holds k l.
-          let here = c.render_view.ensures.fits contents count (holds-later so_far.renders.keeps holds) c.in-Done.is in
+          let view_fits = c.render_view.ensures.fits contents count (holds-later so_far.renders.keeps holds) c.in-Done.is in
           elim (cases_lt k c.loop-number.number) [
             | inl below ↦ so_far.fits contents count holds k below
             | inr same ↦ subst (FitsAt (ready_bytes contents c.args.ready.now) count c.args.ready.now) (omega (arith, l, same))
-                (fits_at-later contents count c.loop-number.number so_far.renders.keeps here)
+                (fits_at-later contents count c.loop-number.number so_far.renders.keeps view_fits)
           ];
     }
 
@@ -73,10 +73,10 @@ pub returns-clause-fits : goal.returns-clause-fits
 returns-clause-fits g c contents count holds is =
     let so_far = c.loop-number.invariant in
     let bytes = ready_bytes contents c.args.ready.now in
-    let all : c.loop-number.number ≡ length (ready_views bytes c.args.ready.now).views = omega (arith, views_count bytes c.args.ready.now, c.view_count-count.ensures, c.loop-number-test.false, c.loop-number.auto.number-end) in
+    let number_is_count : c.loop-number.number ≡ length (ready_views bytes c.args.ready.now).views = omega (arith, views_count bytes c.args.ready.now, c.view_count-count.ensures, c.loop-number-test.false, c.loop-number.auto.number-end) in
     due_done (ready_views bytes c.args.ready.now) (FitsAt bytes count c.args.ready.now)
-    (λ k l. (so_far.rendered contents count holds).within k (omega (arith, all, l)))
-    (λ k l. so_far.fits contents count holds k (omega (arith, all, l)))
+    (λ k l. (so_far.rendered contents count holds).within k (omega (arith, number_is_count, l)))
+    (λ k l. so_far.fits contents count holds k (omega (arith, number_is_count, l)))
 
 pub returns-clause-renders : goal.returns-clause-renders
 returns-clause-renders g c = c.loop-number.invariant.renders

@@ -14,12 +14,12 @@ pub returns-in-Ok-new : goal.returns-in-Ok-new
 returns-in-Ok-new g c =
     let level = level_job_value c.args.level.now in
     let ready = c.in-Ok.ready in
-    let stands : IsReady level ready = record { loaded = subst (IsLoadedScene level) (sym c.in-Ok.ensures.loaded) c.requires.loaded; limits = c.in-Ok.ensures.limits } in
-    let e = c.deliver_render.ensures in
+    let ready_stands : IsReady level ready = record { loaded = subst (IsLoadedScene level) (sym c.in-Ok.ensures.loaded) c.requires.loaded; limits = c.in-Ok.ensures.limits } in
+    let render_delivers = c.deliver_render.ensures in
     let status = c.deliver_render.result in
     subst (λ (l : LoadedScene). Delivers level (drawing level (rendered c.args.form)) (g.S.Shelf.view c.args.shelf.now) (g.S.Shelf.view c.deliver_render.new.shelf) l (g.K.Sink.written c.args.out.now) (g.K.Sink.written c.deliver_render.new.out) (g.K.Sink.faults c.args.out.now) (g.K.Sink.faults c.deliver_render.new.out) status) c.in-Ok.ensures.loaded
-    (drawing_delivers level c.args.form ready c.deliver_render.new.ready _ _ _ _ _ _ status stands
-    (λ contents count holds. rw c.in-Ok-new.ensures at (e.ends contents count holds)) e.fits e.renders)
+    (drawing_delivers level c.args.form ready c.deliver_render.new.ready _ _ _ _ _ _ status ready_stands
+    (λ contents count holds. rw c.in-Ok-new.ensures at (render_delivers.ends contents count holds)) render_delivers.fits render_delivers.renders)
 
 pub returns-in-Ok : goal.returns-in-Ok
 returns-in-Ok g c = memory_delivers (level_job_value c.args.level.now) (drawing (level_job_value c.args.level.now) (rendered c.args.form)) _ c.args.loaded _ _

@@ -11,13 +11,13 @@ returns-in-Err-clause-ends g c contents count holds =
 
 pub returns-in-Ok-put-clause-ends : goal.returns-in-Ok-put-clause-ends
 returns-in-Ok-put-clause-ends g c contents count holds =
-    let w = view_written c.draw_at.ensures.draws holds (form_of c.args.canvas.now) _ c.put.result c.in-Ok.field-0 c.in-Ok.is c.draw_at.ensures.form c.palette.ensures.value c.put.ensures in
-    (w.0, rw c.in-Ok-put.is at w.1.ok)
+    let view_writes = view_written c.draw_at.ensures.draws holds (form_of c.args.canvas.now) _ c.put.result c.in-Ok.field-0 c.in-Ok.is c.draw_at.ensures.form c.palette.ensures.value c.put.ensures in
+    (view_writes.0, rw c.in-Ok-put.is at view_writes.1.ok)
 
 pub returns-in-Err-put-clause-ends : goal.returns-in-Err-put-clause-ends
 returns-in-Err-put-clause-ends g c contents count holds =
-    let w = view_written c.draw_at.ensures.draws holds (form_of c.args.canvas.now) _ c.put.result c.in-Ok.field-0 c.in-Ok.is c.draw_at.ensures.form c.palette.ensures.value c.put.ensures in
-    (w.0, rw c.in-Err-put.is at w.1.err)
+    let view_writes = view_written c.draw_at.ensures.draws holds (form_of c.args.canvas.now) _ c.put.result c.in-Ok.field-0 c.in-Ok.is c.draw_at.ensures.form c.palette.ensures.value c.put.ensures in
+    (view_writes.0, rw c.in-Err-put.is at view_writes.1.err)
 
 pub returns-in-Err-clause-fits : goal.returns-in-Err-clause-fits
 returns-in-Err-clause-fits g c contents count holds is = absurd (fault_not_done c.args.number c.in-Err.fault (sym c.status_of_view.ensures ∙ is))

@@ -16,10 +16,10 @@ returns-in-Err-clause-answers g c = λ contents told.
 pub returns-in-Err-fetch-clause-full : goal.returns-in-Err-fetch-clause-full
 returns-in-Err-fetch-clause-full g c =
     let dir = c.args.dir.now in
-    let v = g.S.Shelf.view c.args.shelf.now in
+    let shelf_view = g.S.Shelf.view c.args.shelf.now in
     let colormap = c.in-Ok.colormap.0 in
-    full_above (NoRoom (lump_at dir.lumps colormap).size c.args.cache.now) (IsFullAudit v dir c.args.cache.now c.args.things.now c.args.map.now c.args.skill) c.fetch.result c.in-Err-fetch.fault (Err c.above.result) c.in-Err-fetch.is c.above.ensures
-    (λ wanted widest' none. full_first v dir c.args.cache.now c.args.things.now c.args.map.now c.args.skill colormap wanted widest' c.in-Ok.ensures.lump none) (fetch_no_room c.fetch.ensures.fetches)
+    full_above (NoRoom (lump_at dir.lumps colormap).size c.args.cache.now) (IsFullAudit shelf_view dir c.args.cache.now c.args.things.now c.args.map.now c.args.skill) c.fetch.result c.in-Err-fetch.fault (Err c.above.result) c.in-Err-fetch.is c.above.ensures
+    (λ wanted widest' none. full_first shelf_view dir c.args.cache.now c.args.things.now c.args.map.now c.args.skill colormap wanted widest' c.in-Ok.ensures.lump none) (fetch_no_room c.fetch.ensures.fetches)
 
 pub returns-in-Err-fetch-clause-room : goal.returns-in-Err-fetch-clause-room
 returns-in-Err-fetch-clause-room g c = λ colormap is empty.
@@ -49,25 +49,25 @@ returns-in-Err-fetch-clause-enough g c = λ contents scene told accepted empty.
 
 pub returns-in-Ok-fetch-clause-answers : goal.returns-in-Ok-fetch-clause-answers
 returns-in-Ok-fetch-clause-answers g c = λ contents told.
-    let e = c.in-Ok-fetch.ensures in
-    answers_after (told_after e.fetches.follows e.faithful) (λ bytes. scene_in bytes c.args.dir.now.lumps c.args.things.now c.args.map.now c.args.skill) c.audit_rest.result e.fetches.follows.steady c.audit_rest.ensures.tells.answers contents told
+    let colormap_fetched = c.in-Ok-fetch.ensures in
+    answers_after (told_after colormap_fetched.fetches.follows colormap_fetched.faithful) (λ bytes. scene_in bytes c.args.dir.now.lumps c.args.things.now c.args.map.now c.args.skill) c.audit_rest.result colormap_fetched.fetches.follows.steady c.audit_rest.ensures.tells.answers contents told
 
 pub returns-in-Ok-fetch-clause-full : goal.returns-in-Ok-fetch-clause-full
 returns-in-Ok-fetch-clause-full g c =
-    let e = c.in-Ok-fetch.ensures in
-    full_after (told_after e.fetches.follows e.faithful) c.args.things.now c.args.map.now c.args.skill c.audit_rest.result c.audit_rest.ensures.tells.full
+    let colormap_fetched = c.in-Ok-fetch.ensures in full_after (told_after colormap_fetched.fetches.follows colormap_fetched.faithful)
+    c.args.things.now c.args.map.now c.args.skill c.audit_rest.result c.audit_rest.ensures.tells.full
 
 pub returns-in-Ok-fetch-clause-room : goal.returns-in-Ok-fetch-clause-room
 returns-in-Ok-fetch-clause-room g c = λ colormap is empty.
-    let e = c.in-Ok-fetch.ensures in
+    let colormap_fetched = c.in-Ok-fetch.ensures in
     room_after _ c.args.dir.now c.args.cache.now c.fetch.new.self c.in-Ok.colormap.0 colormap c.audit_rest.result (same_value c.in-Ok.colormap.0 colormap c.in-Ok.ensures.lump is)
-    (fetch_first e.fetches refl empty) e.counts.0 c.audit_rest.ensures.tells.full
+    (fetch_first colormap_fetched.fetches refl empty) colormap_fetched.counts.0 c.audit_rest.ensures.tells.full
 
 pub returns-in-Ok-fetch-clause-gap : goal.returns-in-Ok-fetch-clause-gap
 returns-in-Ok-fetch-clause-gap g c = λ colormap is empty.
-    let e = c.in-Ok-fetch.ensures in
+    let colormap_fetched = c.in-Ok-fetch.ensures in
     gap_after _ c.args.dir.now c.args.cache.now c.fetch.new.self c.in-Ok.colormap.0 colormap c.audit_rest.result (same_value c.in-Ok.colormap.0 colormap c.in-Ok.ensures.lump is)
-    (fetch_first e.fetches refl empty) e.counts.0 c.audit_rest.ensures.tells.full
+    (fetch_first colormap_fetched.fetches refl empty) colormap_fetched.counts.0 c.audit_rest.ensures.tells.full
 
 pub returns-in-Ok-fetch-clause-pinned : goal.returns-in-Ok-fetch-clause-pinned
 returns-in-Ok-fetch-clause-pinned g c =
@@ -75,9 +75,10 @@ returns-in-Ok-fetch-clause-pinned g c =
 
 pub returns-in-Ok-fetch-clause-enough : goal.returns-in-Ok-fetch-clause-enough
 returns-in-Ok-fetch-clause-enough g c = λ contents scene told accepted empty.
-    let e = c.in-Ok-fetch.ensures in
-    enough_after c.args.dir.now c.args.cache.now c.fetch.new.self contents c.args.things.now c.args.map.now c.args.skill scene c.in-Ok.colormap.0 c.audit_rest.result c.in-Ok.ensures.lump accepted
-    (told_after e.fetches.follows e.faithful contents told) (fetch_first e.fetches refl empty) e.counts.0 c.audit_rest.ensures.tells.full
+    let colormap_fetched = c.in-Ok-fetch.ensures in enough_after c.args.dir.now c.args.cache.now c.fetch.new.self contents
+    c.args.things.now c.args.map.now c.args.skill scene c.in-Ok.colormap.0 c.audit_rest.result c.in-Ok.ensures.lump accepted
+    (told_after colormap_fetched.fetches.follows colormap_fetched.faithful contents told)
+    (fetch_first colormap_fetched.fetches refl empty) colormap_fetched.counts.0 c.audit_rest.ensures.tells.full
 
 pub returns-in-Ok-fetch-clause-rest : goal.returns-in-Ok-fetch-clause-rest
 returns-in-Ok-fetch-clause-rest g c = λ empty.
@@ -85,25 +86,25 @@ returns-in-Ok-fetch-clause-rest g c = λ empty.
 
 pub returns-in-Ok-fetch-clause-fits : goal.returns-in-Ok-fetch-clause-fits
 returns-in-Ok-fetch-clause-fits g c = λ has.
-    let e = c.in-Ok-fetch.ensures in
+    let colormap_fetched = c.in-Ok-fetch.ensures in
     let dir = c.args.dir.now in
     let colormap = c.in-Ok.colormap.0 in
     fits_after dir c.args.cache.now c.fetch.new.self colormap c.audit_rest.result c.audit_rest.ensures.colormap c.fetch.result _ c.args.map.now c.in-Ok-fetch.is
     (fetch_has_static c.fetch.ensures.fetches refl c.in-Ok.ensures.there has) (fetch_sizes c.fetch.ensures.fetches c.in-Ok.ensures.there has)
-    e.counts.0 c.audit_rest.ensures.fits
+    colormap_fetched.counts.0 c.audit_rest.ensures.fits
 
 pub returns-in-Ok-fetch-clause-follows : goal.returns-in-Ok-fetch-clause-follows
 returns-in-Ok-fetch-clause-follows g c = follows_then c.in-Ok-fetch.ensures.fetches.follows c.audit_rest.ensures.tells.keeps.follows
 
 pub returns-in-Ok-fetch-clause-faithful : goal.returns-in-Ok-fetch-clause-faithful
 returns-in-Ok-fetch-clause-faithful g c = λ contents stand faithful.
-    let e = c.in-Ok-fetch.ensures in
-    c.audit_rest.ensures.tells.keeps.faithful contents (all_stand_later _ _ c.args.dir.now.files contents e.fetches.follows stand) (e.faithful contents stand faithful)
+    let colormap_fetched = c.in-Ok-fetch.ensures in
+    c.audit_rest.ensures.tells.keeps.faithful contents (all_stand_later _ _ c.args.dir.now.files contents colormap_fetched.fetches.follows stand) (colormap_fetched.faithful contents stand faithful)
 
 pub returns-in-Ok-fetch-clause-order : goal.returns-in-Ok-fetch-clause-order
 returns-in-Ok-fetch-clause-order g c = λ contents items told all k.
-    let e = c.in-Ok-fetch.ensures in
-    let later = told_after e.fetches.follows e.faithful contents told in
-    let one = e.order items (all c.in-Ok.colormap.0 (inl c.in-Ok.ensures.lump)) k in
-    order_after itself c.audit_rest.new.cache _ c.audit_rest.result one
-    (c.audit_rest.ensures.tells.order items (λ lump asked. all lump (inr (asked contents later))) one.order)
+    let colormap_fetched = c.in-Ok-fetch.ensures in
+    let holds_contents = told_after colormap_fetched.fetches.follows colormap_fetched.faithful contents told in
+    let fetch_keeps_order = colormap_fetched.order items (all c.in-Ok.colormap.0 (inl c.in-Ok.ensures.lump)) k in
+    order_after itself c.audit_rest.new.cache _ c.audit_rest.result fetch_keeps_order
+    (c.audit_rest.ensures.tells.order items (λ lump asked. all lump (inr (asked contents holds_contents))) fetch_keeps_order.order)

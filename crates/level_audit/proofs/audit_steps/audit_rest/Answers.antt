@@ -16,8 +16,8 @@ returns-in_err-scene-clause-tells g c =
 
 pub new-requires-clause-colormap : goal.new-requires-clause-colormap
 new-requires-clause-colormap g c =
-    let same = ap (λ (base : LevelBase). base.colormap) c.in_ok-scene.ensures.base in
-    subst (λ n. n < length c.args.dir.now.lumps) (sym same) (subst (λ lump. lump.0 < length c.args.dir.now.lumps) (sym c.in_ok-base.ensures.colormap) (colormap_there c.args.dir.now.lumps c.args.colormap.0 c.requires.colormap))
+    let colormap_same = ap (λ (base : LevelBase). base.colormap) c.in_ok-scene.ensures.base in
+    subst (λ n. n < length c.args.dir.now.lumps) (sym colormap_same) (subst (λ lump. lump.0 < length c.args.dir.now.lumps) (sym c.in_ok-base.ensures.colormap) (colormap_there c.args.dir.now.lumps c.args.colormap.0 c.requires.colormap))
 
 pub new-requires-clause-palette : goal.new-requires-clause-palette
 new-requires-clause-palette g c = ap (λ (base : LevelBase). length base.palette) c.in_ok-scene.ensures.base ∙ c.in_ok-base.ensures.palette

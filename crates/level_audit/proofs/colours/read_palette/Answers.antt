@@ -12,11 +12,11 @@ returns-clause-tells g c =
     let lent = c.live_lump.result.now in
     reads_told tt c.in_ok-first_palette.field-0 c.in_ok-fetch_live.ensures.tells (λ lump same. same)
     (λ contents hold.
-    let held = c.in_ok-fetch_live.ensures.bytes contents hold in
-    let value = c.live_lump.ensures.value in
-    let same : lent ≡ lump_bytes contents lumps number = cc in
-    let first = c.in_ok-first_palette.ensures.first (live_long contents lumps number PALETTE_SIZE lent c.requires.there hold.within same c.requires.long) in
-    ap Ok (sym (first ∙ ap (take PALETTE_SIZE) same)))
+    let live_bytes_are = c.in_ok-fetch_live.ensures.bytes contents hold in
+    let value = c.live_lump.ensures.value in let lent_is_lump : lent ≡ lump_bytes contents lumps number = cc in
+    let first_palette_is = c.in_ok-first_palette.ensures.first
+    (live_long contents lumps number PALETTE_SIZE lent c.requires.there hold.within lent_is_lump c.requires.long) in
+    ap Ok (sym (first_palette_is ∙ ap (take PALETTE_SIZE) lent_is_lump)))
 
 pub returns-clause-fits : goal.returns-clause-fits
 returns-clause-fits g c =

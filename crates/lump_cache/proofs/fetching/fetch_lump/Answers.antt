@@ -28,20 +28,20 @@ beside old new o chosen is = subst (KeptOrPurged (owned_block o old.blocks)) (sy
 -- no gap held the block
 pub returns-in_err-malloc-clause-fetches : goal.returns-in_err-malloc-clause-fetches
 returns-in_err-malloc-clause-fetches g c =
-    let e = c.in_err-malloc.ensures in
+    let malloc_ensures = c.in_err-malloc.ensures in
     let old = c.args.zone.now in
     let new = c.malloc.new.self in
     let view = g.S.Shelf.view c.args.shelf.now in
     let fault = c.in_err-malloc.field-0.0 in
-    let s = err_from_is_err_and c.from_residual.result c.from_residual.ensures.1 in
+    let error_is = err_from_is_err_and c.from_residual.result c.from_residual.ensures.1 in
     let size = c.size-size.ensures in
-    subst (FetchesLump c.args.dir.now c.args.lump.0 c.args.tag view view old new) (sym (s.1 ∙ ap Err s.2))
+    subst (FetchesLump c.args.dir.now c.args.lump.0 c.args.tag view view old new) (sym (error_is.1 ∙ ap Err error_is.2))
     (miss_full c.args.dir.now c.args.lump.0 c.args.tag view old c.requires.sound new (search rules)
-    (λ o apart. beside old new o _ (e.others o (ap (λ n. same_owner (owner_at 0 n) o) c.lump_slot-2.ensures ∙ apart)))
+    (λ o apart. beside old new o _ (malloc_ensures.others o (ap (λ n. same_owner (owner_at 0 n) o) c.lump_slot-2.ensures ∙ apart)))
     fault.wanted fault.widest
-    (record { wanted_is = e.report.0 ∙ ap block_size size; widest_is = e.report.1; none = subst (λ n. All (λ x. total x < block_size n) (gaps old.blocks)) size (e.full.0 refl) })
-    (e.err ∙ ap (λ n. without_room (block_size n) old) size)
-    (ap (λ n. owned_block (owner_at 0 n) new.blocks) (sym c.lump_slot-2.ensures) ∙ e.empty))
+    (record { wanted_is = malloc_ensures.report.0 ∙ ap block_size size; widest_is = malloc_ensures.report.1; none = subst (λ n. All (λ x. total x < block_size n) (gaps old.blocks)) size (malloc_ensures.full.0 refl) })
+    (malloc_ensures.err ∙ ap (λ n. without_room (block_size n) old) size)
+    (ap (λ n. owned_block (owner_at 0 n) new.blocks) (sym c.lump_slot-2.ensures) ∙ malloc_ensures.empty))
 
 -- a gap holds the block where one was taken
 room : (old : Heap) (size wanted : ℕ) → size ≡ wanted → (All (λ x. total x < block_size size) (gaps old.blocks) → false ≡ true) → All (λ x. total x < block_size wanted) (gaps old.blocks) → ⊥
@@ -56,14 +56,14 @@ pub returns-then-size-eq0-clause-fetches : goal.returns-then-size-eq0-clause-fet
 returns-then-size-eq0-clause-fetches g c =
     let old = c.args.zone.now in
     let new = c.malloc.new.self in
-    let o = lump_owner c.args.lump.0 in
+    let owner = lump_owner c.args.lump.0 in
     let view = g.S.Shelf.view c.args.shelf.now in
-    let t = taken_is c.lump_slot-2.ensures c.size-size.ensures c.in_ok-malloc.ensures.ok in
+    let takes_block = taken_is c.lump_slot-2.ensures c.size-size.ensures c.in_ok-malloc.ensures.ok in
     let zero = sym c.size-size.ensures ∙ c.if-size-eq0.true in
     miss_ok c.args.dir.now c.args.lump.0 c.args.tag view old c.requires.sound new (search rules)
     (λ p apart. beside old new p _ (c.in_ok-malloc.ensures.others p (ap (λ n. same_owner (owner_at 0 n) p) c.lump_slot-2.ensures ∙ apart)))
-    view (room old _ _ c.size-size.ensures c.in_ok-malloc.ensures.full.1) (follows_none view) t
-    (λ contents stand. some_bytes o new.blocks t.bytes _ (ap bytes_in t.block) (nothing_is_lump contents c.args.dir.now.lumps c.args.lump.0 t.bytes (t.len ∙ zero) zero))
+    view (room old _ _ c.size-size.ensures c.in_ok-malloc.ensures.full.1) (follows_none view) takes_block
+    (λ contents stand. some_bytes owner new.blocks takes_block.bytes _ (ap bytes_in takes_block.block) (nothing_is_lump contents c.args.dir.now.lumps c.args.lump.0 takes_block.bytes (takes_block.len ∙ zero) zero))
     (λ some. absurd (omega (arith, some, zero))) (λ z. refl)
 
 -- one that is read
@@ -80,9 +80,9 @@ filled g c = filled_takes (lump_owner c.args.lump.0) (lump_at c.args.dir.now.lum
 
 pub free-requires-clause-live : goal.free-requires-clause-live
 free-requires-clause-live g c =
-    let d = (goal.at.free-requires-clause-live g c).After-read_into in
-    let k = written_use (lump_owner c.args.lump.0) _ c.args.tag c.args.zone.now c.malloc.new.self c.read_into.new.zone _ (taken g d) c.read_into.ensures.filled in
-    rw c.lump_slot-in-Err.ensures (use_live c.args.tag _ (owned_block (lump_owner c.args.lump.0) c.read_into.new.zone.blocks) k)
+    let after_read = (goal.at.free-requires-clause-live g c).After-read_into in
+    let block_stands = written_use (lump_owner c.args.lump.0) _ c.args.tag c.args.zone.now c.malloc.new.self c.read_into.new.zone _ (taken g after_read) c.read_into.ensures.filled in
+    rw c.lump_slot-in-Err.ensures (use_live c.args.tag _ (owned_block (lump_owner c.args.lump.0) c.read_into.new.zone.blocks) block_stands)
 
 pub returns-in-Ok-clause-sound : goal.returns-in-Ok-clause-sound
 returns-in-Ok-clause-sound g c = filled_sound (lump_owner c.args.lump.0) c.malloc.new.self c.read_into.new.zone _ c.read_into.ensures.filled c.in_ok-malloc.ensures.sound
@@ -90,21 +90,21 @@ returns-in-Ok-clause-sound g c = filled_sound (lump_owner c.args.lump.0) c.mallo
 -- the block has the lump's bytes
 pub returns-in-Ok-clause-fetches : goal.returns-in-Ok-clause-fetches
 returns-in-Ok-clause-fetches g c =
-    let d = (goal.at.returns-in-Ok-clause-fetches g c).After-read_into in
+    let after_read = (goal.at.returns-in-Ok-clause-fetches g c).After-read_into in
     let old = c.args.zone.now in
-    let made = c.malloc.new.self in
+    let zone_made = c.malloc.new.self in
     let new = c.read_into.new.zone in
-    let o = lump_owner c.args.lump.0 in
+    let owner = lump_owner c.args.lump.0 in
     let lump = lump_at c.args.dir.now.lumps c.args.lump.0 in
     let view = g.S.Shelf.view c.args.shelf.now in
     let after = g.S.Shelf.view c.read_into.new.shelf in
-    let f = c.read_into.ensures.filled in
-    let t = taken g d in
-    let len = written_len o _ c.args.tag old made new _ t f in
-    miss_ok c.args.dir.now c.args.lump.0 c.args.tag view old c.requires.sound new (search rules) (others g d)
-    after (room old _ _ c.size-size.ensures c.in_ok-malloc.ensures.full.1) c.read_into.ensures.follows (filled g d)
-    (λ contents stand. some_bytes o new.blocks f.bytes _ (written_bytes o _ c.args.tag old made new _ t f) (filled_lump contents c.args.dir.now.lumps view c.args.dir.now.files c.args.lump.0 c.file.result c.place.result f.bytes stand c.file.ensures c.place.ensures len (rw c.in-Ok.is at f.says)))
-    (λ some. subst (λ (b : Option (List ℕ)). IfSome b (λ xs. after.taken ≡ counted view.taken (length xs))) (ap bytes_in t.block) c.in-Ok.ensures.taken ∙ ap (counted view.taken) t.len)
+    let block_filled = c.read_into.ensures.filled in
+    let takes_block = taken g after_read in
+    let bytes_length = written_len owner _ c.args.tag old zone_made new _ takes_block block_filled in
+    miss_ok c.args.dir.now c.args.lump.0 c.args.tag view old c.requires.sound new (search rules) (others g after_read)
+    after (room old _ _ c.size-size.ensures c.in_ok-malloc.ensures.full.1) c.read_into.ensures.follows (filled g after_read)
+    (λ contents stand. some_bytes owner new.blocks block_filled.bytes _ (written_bytes owner _ c.args.tag old zone_made new _ takes_block block_filled) (filled_lump contents c.args.dir.now.lumps view c.args.dir.now.files c.args.lump.0 c.file.result c.place.result block_filled.bytes stand c.file.ensures c.place.ensures bytes_length (rw c.in-Ok.is at block_filled.says)))
+    (λ some. subst (λ (b : Option (List ℕ)). IfSome b (λ xs. after.taken ≡ counted view.taken (length xs))) (ap bytes_in takes_block.block) c.in-Ok.ensures.taken ∙ ap (counted view.taken) takes_block.len)
     (λ zero. absurd (c.if-size-eq0.false (c.size-size.ensures ∙ zero)))
 
 -- over a steady shelf with the lump's file the read is answered
@@ -112,18 +112,18 @@ steady_read : (g : Over) (c : After-read_into g) (contents : List (List ℕ)) �
     IfSome ((g.S.Shelf.view c.args.shelf.now).file c.file.result.0) (λ bytes. IfSome (bytes_of (lump_owner c.args.lump.0) c.malloc.new.self.blocks) (λ xs. c.place.result + length xs ≤ length bytes → false ≡ true)) → ⊥
 steady_read g c contents stand within steady =
     let lump = lump_at c.args.dir.now.lumps c.args.lump.0 in
-    let t = taken g c in
+    let takes_block = taken g c in
     let view = g.S.Shelf.view c.args.shelf.now in
     let lies : LiesWithin contents lump = within c.args.lump.0 no_lump c.requires.listed in
     let size = c.size-size.ensures in
-    let some : 0 < lump.size = pos_size c.size-size.result lump.size size c.if-size-eq0.false in
-    let fits = lies.bytes some in
-    let at = c.place.ensures in
-    let len = t.len in
+    let lump_not_empty : 0 < lump.size = pos_size c.size-size.result lump.size size c.if-size-eq0.false in
+    let lump_fits_file = lies.bytes lump_not_empty in
+    let place_is = c.place.ensures in
+    let block_length = takes_block.len in
     let file = file_stands view c.args.dir.now.files contents lump.file c.file.result stand c.file.ensures in
-    let k = subst (λ (x : Option (List ℕ)). IfSome x (λ bytes. IfSome (bytes_of (lump_owner c.args.lump.0) c.malloc.new.self.blocks) (λ xs. c.place.result + length xs ≤ length bytes → false ≡ true))) file steady in
-    let m = subst (λ (x : Option (List ℕ)). IfSome x (λ xs. c.place.result + length xs ≤ length (file_bytes contents lump.file) → false ≡ true)) (ap bytes_in t.block) k in
-    false≢true (m (omega (arith, fits, at, len))) where
+    let fails_in_file = subst (λ (x : Option (List ℕ)). IfSome x (λ bytes. IfSome (bytes_of (lump_owner c.args.lump.0) c.malloc.new.self.blocks) (λ xs. c.place.result + length xs ≤ length bytes → false ≡ true))) file steady in
+    let fails_within = subst (λ (x : Option (List ℕ)). IfSome x (λ xs. c.place.result + length xs ≤ length (file_bytes contents lump.file) → false ≡ true)) (ap bytes_in takes_block.block) fails_in_file in
+    false≢true (fails_within (omega (arith, lump_fits_file, place_is, block_length))) where
       pos_size : (n m : ℕ) → n ≡ m → (n ≡ 0 → ⊥) → 0 < m
       pos_size n m e h = go (cases_lt 0 m) where
         go : (0 < m) ⊎ (m ≤ 0) → 0 < m
@@ -132,14 +132,14 @@ steady_read g c contents stand within steady =
 
 pub returns-in-Err-clause-fetches : goal.returns-in-Err-clause-fetches
 returns-in-Err-clause-fetches g c =
-    let d = (goal.at.returns-in-Err-clause-fetches g c).After-read_into in
+    let after_read = (goal.at.returns-in-Err-clause-fetches g c).After-read_into in
     let old = c.args.zone.now in
     let between = c.read_into.new.zone in
     let slot = c.lump_slot-in-Err.ensures in
     miss_read c.args.dir.now c.args.lump.0 c.args.tag (g.S.Shelf.view c.args.shelf.now) old c.requires.sound c.free.new.self (search rules)
-    (λ p apart. subst (KeptOrPurged (owned_block p old.blocks)) (sym (c.free.ensures.others p (ap (λ n. same_owner (owner_at 0 n) p) slot ∙ apart))) (others g d p apart))
+    (λ p apart. subst (KeptOrPurged (owned_block p old.blocks)) (sym (c.free.ensures.others p (ap (λ n. same_owner (owner_at 0 n) p) slot ∙ apart))) (others g after_read p apart))
     (g.S.Shelf.view c.read_into.new.shelf) (room old _ _ c.size-size.ensures c.in_ok-malloc.ensures.full.1) c.read_into.ensures.follows
-    (record { between = between; takes = filled g d; freed = c.free.ensures.freed ∙ ap (λ n. without_block (owner_at 0 n) between) slot })
+    (record { between = between; takes = filled g after_read; freed = c.free.ensures.freed ∙ ap (λ n. without_block (owner_at 0 n) between) slot })
     (ap (λ n. owned_block (owner_at 0 n) c.free.new.self.blocks) (sym slot) ∙ c.free.ensures.empty)
     (λ zero. c.if-size-eq0.false (c.size-size.ensures ∙ zero)) c.in-Err.ensures.failed
-    (λ contents stand within steady. steady_read g d contents stand within (c.in-Err.ensures.steady steady))
+    (λ contents stand within steady. steady_read g after_read contents stand within (c.in-Err.ensures.steady steady))

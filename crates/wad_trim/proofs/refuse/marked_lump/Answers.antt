@@ -10,8 +10,8 @@ pub loop-part-preserved : goal.loop-part-preserved
 loop-part-preserved c =
     let lumps = c.args.dir.now.lumps in
     let parts = c.args.parts.now in
-    let i = c.loop-part.part-index in
+    let part_no = c.loop-part.part-index in
     c.lesser-least.ensures
     ∙ ap (λ (o : Option ℕ). lesser o (option_map (λ (l : LumpNo). l.0) c.marked_part.result)) c.loop-part.invariant
-    ∙ ap (lesser (marked_lump lumps (take i parts))) (c.marked_part.ensures ∙ ap (λ (p : TrimPart). marked_lump lumps (p ∷ [])) c.part-item.is)
-    ∙ sym (marked-more lumps parts i c.part-item.result (omega arith))
+    ∙ ap (lesser (marked_lump lumps (take part_no parts))) (c.marked_part.ensures ∙ ap (λ (p : TrimPart). marked_lump lumps (p ∷ [])) c.part-item.is)
+    ∙ sym (marked-more lumps parts part_no c.part-item.result (omega arith))

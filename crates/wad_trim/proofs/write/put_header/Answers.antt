@@ -16,13 +16,13 @@ returns-in_err-put_word g c =
 
 pub overflow_cast-parts_size : goal.overflow_cast-parts_size
 overflow_cast-parts_size g c =
-    let all : HEADER_SIZE + parts_size c.args.dir.now.lumps c.args.parts.now ≤ MAX_FILE_BYTES = fits-size c.args.dir.now.lumps c.args.parts.now c.requires.fits in
-    omega (arith, all, c.parts_size.ensures.value)
+    let file_fits : HEADER_SIZE + parts_size c.args.dir.now.lumps c.args.parts.now ≤ MAX_FILE_BYTES = fits-size c.args.dir.now.lumps c.args.parts.now c.requires.fits in
+    omega (arith, file_fits, c.parts_size.ensures.value)
 
 pub overflow_add-parts_size : goal.overflow_add-parts_size
 overflow_add-parts_size g c =
-    let all : HEADER_SIZE + parts_size c.args.dir.now.lumps c.args.parts.now ≤ MAX_FILE_BYTES = fits-size c.args.dir.now.lumps c.args.parts.now c.requires.fits in
-    omega (arith, all, c.parts_size.ensures.value)
+    let file_fits : HEADER_SIZE + parts_size c.args.dir.now.lumps c.args.parts.now ≤ MAX_FILE_BYTES = fits-size c.args.dir.now.lumps c.args.parts.now c.requires.fits in
+    omega (arith, file_fits, c.parts_size.ensures.value)
 
 pub returns : goal.returns
 returns g c =

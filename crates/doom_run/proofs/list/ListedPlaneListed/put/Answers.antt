@@ -8,9 +8,9 @@ pub returns : goal.returns
 returns g c =
     let plane = c.args.self.now in
     let height : to_z w32 (of_z w32 plane.key.height) ≡ plane.key.height = to_z-of_z w32 plane.key.height (search rules) in
-    let short : to_z w16 (of_z w16 plane.key.light) ≡ plane.key.light = to_z-of_z w16 plane.key.light (search rules) in
+    let light_is : to_z w16 (of_z w16 plane.key.light) ≡ plane.key.light = to_z-of_z w16 plane.key.light (search rules) in
     let light : to_z w32 (of_z w32 (to_z w16 (of_z w16 plane.key.light))) ≡ plane.key.light =
-    ap (λ (z : ℤ). to_z w32 (of_z w32 z)) short ∙ to_z-of_z w32 plane.key.light (search rules) in
+    ap (λ (z : ℤ). to_z w32 (of_z w32 z)) light_is ∙ to_z-of_z w32 plane.key.light (search rules) in
     same_bytes
     (six_added (item_start (codes " plane ") c.args.view c.args.number) (labelled_signed (codes " height ") plane.key.height) (flat_part plane.key.flat)
     (labelled_signed (codes " light ") plane.key.light) (maker_part plane.maker) (labelled (codes " columns ") plane.columns) (codes "\n") _ _ _ _ _ _ _

@@ -23,102 +23,102 @@ audit_layers-requires-clause-colormap g c = colormap_there c.args.files.now.dir.
 
 pub returns-in_err-scene : goal.returns-in_err-scene
 returns-in_err-scene g c =
-    let e = c.audit.ensures in
+    let scene_tells = c.audit.ensures in
     let level = level_job_value c.args.level.now in
     let files = c.args.files.now in
     let found = value_of files in
     let result = c.from_residual.result in
-    let was = c.in_err-scene.was in
-    let is = c.from_residual.ensures.1 in
+    let was = c.in_err-scene.was in let is = c.from_residual.ensures.1 in
     record {
-      answers = λ contents told. scene_stopped _ level found _ result (e.answers contents told) was is;
+      answers = λ contents told. scene_stopped _ level found _ result (scene_tells.answers contents told) was is;
       full = λ contents told.
           same_full (IsFullOver (lump_bytes contents files.dir.lumps) level found) c.audit.result _ result
-          (audit_full contents level files c.audit.result told c.requires.empty c.requires.size e.full e.found e.room e.gap e.enough) was is;
+          (audit_full contents level files c.audit.result told c.requires.empty c.requires.size
+          scene_tells.full scene_tells.found scene_tells.room scene_tells.gap scene_tells.enough) was is;
       audited = none_given _ _ result is;
       fresh = none_given _ _ result is;
-      counts = e.counts;
-      faithful = e.faithful;
+      counts = scene_tells.counts;
+      faithful = scene_tells.faithful;
       order = λ contents expected told accepted order.
-          let all = items_all _ level found expected accepted in
-          let K = KeepsOrder (loaded_items expected) c.args.cache.now c.audit.new.cache (g.S.Shelf.view c.args.shelf.now).taken (g.S.Shelf.view c.audit.new.shelf).taken in
-          call_order (λ _. K) K K c.audit.result _ result (e.order contents (loaded_items expected) told (λ lump read. all lump (inl read)) order) was is (λ k. k);
-      follows = e.follows;
-      causes = causes_after c.audit.result _ result (omega arith) e.causes was is;
+          let has_items = items_all _ level found expected accepted in
+          let keeps_order = KeepsOrder (loaded_items expected) c.args.cache.now c.audit.new.cache (g.S.Shelf.view c.args.shelf.now).taken (g.S.Shelf.view c.audit.new.shelf).taken in
+          call_order (λ _. keeps_order) keeps_order keeps_order c.audit.result _ result (scene_tells.order contents (loaded_items expected) told (λ lump read. has_items lump (inl read)) order) was is (λ k. k);
+      follows = scene_tells.follows;
+      causes = causes_after c.audit.result _ result (omega arith) scene_tells.causes was is;
     }
 
 pub returns-in_err-weapons : goal.returns-in_err-weapons
 returns-in_err-weapons g c =
-    let e = c.in_ok-scene.ensures in
+    let scene_tells = c.in_ok-scene.ensures in
     let tells = c.audit_layers.ensures.tells in
     let level = level_job_value c.args.level.now in
     let files = c.args.files.now in
     let found = value_of files in
     let scene = c.in_ok-scene.scene.scene in
     let result = c.from_residual-in_err-weapons.result in
-    let was = c.in_err-weapons.was in
-    let is = c.from_residual-in_err-weapons.ensures.1 in
+    let was = c.in_err-weapons.was in let is = c.from_residual-in_err-weapons.ensures.1 in
     let counts = tells.keeps.counts in
     record {
       answers = λ contents told.
-          layers_stopped _ level found scene _ result (e.answers contents told).ok e.follows.steady (tells.answers contents (told_after e.follows e.faithful contents told)) was is;
+          layers_stopped _ level found scene _ result (scene_tells.answers contents told).ok scene_tells.follows.steady (tells.answers contents (told_after scene_tells.follows scene_tells.faithful contents told)) was is;
       full = λ contents told.
           same_full (IsFullOver (lump_bytes contents files.dir.lumps) level found) c.audit_layers.result _ result
-          (layers_full contents level files scene c.audit_layers.result (e.answers contents told).ok e.colormap (e.rest c.requires.empty) (e.counts.0 ∙ c.requires.size) tells.full) was is;
+          (layers_full contents level files scene c.audit_layers.result (scene_tells.answers contents told).ok scene_tells.colormap (scene_tells.rest c.requires.empty) (scene_tells.counts.0 ∙ c.requires.size) tells.full) was is;
       audited = none_given _ _ result is;
       fresh = none_given _ _ result is;
-      counts = (counts.0 ∙ e.counts.0, counts.1 ∙ e.counts.1, counts.2 ∙ e.counts.2);
-      faithful = λ contents stand faithful. tells.keeps.faithful contents (all_stand_later _ _ files.dir.files contents e.follows stand) (e.faithful contents stand faithful);
+      counts = (counts.0 ∙ scene_tells.counts.0, counts.1 ∙ scene_tells.counts.1, counts.2 ∙ scene_tells.counts.2);
+      faithful = λ contents stand faithful. tells.keeps.faithful contents (all_stand_later _ _ files.dir.files contents scene_tells.follows stand) (scene_tells.faithful contents stand faithful);
       order = λ contents expected told accepted order.
-          let all = items_all _ level found expected accepted in
-          let one = e.order contents (loaded_items expected) told (λ lump read. all lump (inl read)) order in
-          let two = tells.order (loaded_items expected) (λ lump asked. all lump (inr asked)) one.order in
-          let K = KeepsOrder (loaded_items expected) c.args.cache.now c.audit_layers.new.cache (g.S.Shelf.view c.args.shelf.now).taken (g.S.Shelf.view c.audit_layers.new.shelf).taken in
-          call_order (λ _. K) K K c.audit_layers.result _ result
-          (order_after itself c.audit_layers.new.cache (g.S.Shelf.view c.audit_layers.new.shelf).taken c.audit_layers.result one two) was is (λ k. k);
-      follows = follows_then e.follows tells.keeps.follows;
-      causes = causes_after c.audit_layers.result _ result e.follows.faults tells.causes was is;
+          let has_items = items_all _ level found expected accepted in
+          let scene_in_order = scene_tells.order contents (loaded_items expected) told (λ lump read. has_items lump (inl read)) order in
+          let layers_in_order = tells.order (loaded_items expected) (λ lump asked. has_items lump (inr asked)) scene_in_order.order in
+          let keeps_order = KeepsOrder (loaded_items expected) c.args.cache.now c.audit_layers.new.cache (g.S.Shelf.view c.args.shelf.now).taken (g.S.Shelf.view c.audit_layers.new.shelf).taken in
+          call_order (λ _. keeps_order) keeps_order keeps_order c.audit_layers.result _ result
+          (order_after itself c.audit_layers.new.cache (g.S.Shelf.view c.audit_layers.new.shelf).taken c.audit_layers.result
+          scene_in_order layers_in_order) was is (λ k. k);
+      follows = follows_then scene_tells.follows tells.keeps.follows;
+      causes = causes_after c.audit_layers.result _ result scene_tells.follows.faults tells.causes was is;
     }
 
 pub returns : goal.returns
 returns g c =
-    let e = c.in_ok-scene.ensures in
+    let scene_tells = c.in_ok-scene.ensures in
     let tells = c.in_ok-weapons.ensures.tells in
     let level = level_job_value c.args.level.now in
     let files = c.args.files.now in
-    let lumps = files.dir.lumps in
-    let found = value_of files in
-    let sound = c.in_ok-scene.scene in
-    let weapons = c.in_ok-weapons.weapons in
+    let lumps = files.dir.lumps in let found = value_of files in
+    let sound = c.in_ok-scene.scene in let weapons = c.in_ok-weapons.weapons in
     let with_all = c.in_ok-weapons.ensures.scene in
-    let same = ap (λ (s : SoundValue). s.scene) with_all ∙ scene_kept lumps weapons sound in
+    let scene_same = ap (λ (s : SoundValue). s.scene) with_all ∙ scene_kept lumps weapons sound in
     let colormap = sound.scene.base.colormap in
     let counts = tells.keeps.counts in
     record {
       answers = λ contents told. record {
-        ok = both_accepted _ level found sound.scene weapons (e.answers contents told).ok (tells.answers contents (told_after e.follows e.faithful contents told)).ok
-            ∙ ap (λ (s : SceneValue). Ok (record { files = found; scene = s; weapons = weapons })) (sym same);
+        ok = both_accepted _ level found sound.scene weapons (scene_tells.answers contents told).ok (tells.answers contents (told_after scene_tells.follows scene_tells.faithful contents told)).ok
+            ∙ ap (λ (s : SceneValue). Ok (record { files = found; scene = s; weapons = weapons })) (sym scene_same);
         err = tt;
       };
       full = λ contents told. tt;
       audited = record {
-        named = subst (λ (s : SoundValue). s.named ≡ loaded_lumps (audited_value found (s, weapons))) (sym with_all) (named_layers found weapons sound e.named);
-        sizes = subst (λ (s : SoundValue). s.sizes ≡ loaded_sizes (audited_value found (s, weapons))) (sym with_all) (sizes_layers found weapons sound e.sizes);
-        rest = subst (λ (s : SceneValue). IsAtRest s.base.colormap (lump_at lumps s.base.colormap).size c.audit_layers.new.cache) (sym same)
-            (tells.keeps.rest colormap (lump_at lumps colormap).size (e.rest c.requires.empty));
-        whole = subst (IsWholeScene lumps files.things level.map_name level.settings.skill) (sym same) e.whole;
-        fits = subst (λ (s : SceneValue). IsBaseWithin lumps level s.base.colormap) (sym same)
-            (λ lump asked other. rw (← c.requires.size) (e.fits (sizes_empty lumps c.args.cache.now c.requires.empty) lump asked other));
-        colormap = subst (λ (s : SceneValue). s.base.colormap < length lumps) (sym same) (colormap_there lumps colormap e.colormap);
+        named = subst (λ (s : SoundValue). s.named ≡ loaded_lumps (audited_value found (s, weapons)))
+            (sym with_all) (named_layers found weapons sound scene_tells.named);
+        sizes = subst (λ (s : SoundValue). s.sizes ≡ loaded_sizes (audited_value found (s, weapons)))
+            (sym with_all) (sizes_layers found weapons sound scene_tells.sizes);
+        rest = subst (λ (s : SceneValue). IsAtRest s.base.colormap (lump_at lumps s.base.colormap).size c.audit_layers.new.cache) (sym scene_same)
+            (tells.keeps.rest colormap (lump_at lumps colormap).size (scene_tells.rest c.requires.empty));
+        whole = subst (IsWholeScene lumps files.things level.map_name level.settings.skill) (sym scene_same) scene_tells.whole;
+        fits = subst (λ (s : SceneValue). IsBaseWithin lumps level s.base.colormap) (sym scene_same)
+            (λ lump asked other. rw (← c.requires.size) (scene_tells.fits (sizes_empty lumps c.args.cache.now c.requires.empty) lump asked other));
+        colormap = subst (λ (s : SceneValue). s.base.colormap < length lumps) (sym scene_same) (colormap_there lumps colormap scene_tells.colormap);
         layers = c.in_ok-weapons.ensures.there;
       };
-      fresh = no_composites_then tells.keeps (no_composites_first c.args.cache.now c.audit.new.cache c.requires.empty e.composites);
-      counts = (counts.0 ∙ e.counts.0, counts.1 ∙ e.counts.1, counts.2 ∙ e.counts.2);
-      faithful = λ contents stand faithful. tells.keeps.faithful contents (all_stand_later _ _ files.dir.files contents e.follows stand) (e.faithful contents stand faithful);
+      fresh = no_composites_then tells.keeps (no_composites_first c.args.cache.now c.audit.new.cache c.requires.empty scene_tells.composites);
+      counts = (counts.0 ∙ scene_tells.counts.0, counts.1 ∙ scene_tells.counts.1, counts.2 ∙ scene_tells.counts.2);
+      faithful = λ contents stand faithful. tells.keeps.faithful contents (all_stand_later _ _ files.dir.files contents scene_tells.follows stand) (scene_tells.faithful contents stand faithful);
       order = λ contents expected told accepted order.
-          let all = items_all _ level found expected accepted in
-          let one = e.order contents (loaded_items expected) told (λ lump read. all lump (inl read)) order in
-          order_then one (tells.order (loaded_items expected) (λ lump asked. all lump (inr asked)) one.order);
-      follows = follows_then e.follows tells.keeps.follows;
+          let has_items = items_all _ level found expected accepted in
+          let scene_in_order = scene_tells.order contents (loaded_items expected) told (λ lump read. has_items lump (inl read)) order in
+          order_then scene_in_order (tells.order (loaded_items expected) (λ lump asked. has_items lump (inr asked)) scene_in_order.order);
+      follows = follows_then scene_tells.follows tells.keeps.follows;
       causes = record { err = tt };
     }

@@ -5,7 +5,7 @@ use Rattle.lump_cache.proofs.WriteLemmas.{write_live, write_through}
 use Rattle.lump_cache.proofs.cache.LumpCache.composite_mut.Goals as goal
 
 pub invariant_of-self : goal.invariant_of-self
-invariant_of-self g c = let k = c.bytes_mut.ensures.called in called_sound (owner_at 1 c.composite_slot.result.number) k.w k.x c.self.inside.zone c.bytes_mut.new.self k.x_is k.len k.zone c.self.invariant
+invariant_of-self g c = let call = c.bytes_mut.ensures.called in called_sound (owner_at 1 c.composite_slot.result.number) call.w call.x c.self.inside.zone c.bytes_mut.new.self call.x_is call.len call.zone c.self.invariant
 
 pub returns-clause-live : goal.returns-clause-live
 returns-clause-live g c = write_live _ _ c.args.self.now (write_through _ _ _ _ _ _ c.bytes_mut.ensures.called.zone c.composite_slot.ensures c.self.view_is) (composite_owner c.args.number) c.requires.live

@@ -6,15 +6,15 @@ use Rattle.lump_cache.proofs.cache.LumpCache.fetch.Goals as goal
 
 pub returns : goal.returns
 returns g c =
-    let f = subst (λ (z : Heap). FetchesLump c.args.dir.now c.args.lump.0 c.args.tag (g.S.Shelf.view c.args.shelf.now) (g.S.Shelf.view c.fetch_lump.new.shelf) z c.fetch_lump.new.zone c.fetch_lump.result) c.self.view_is c.fetch_lump.ensures.fetches in
+    let fetches_lump = subst (λ (z : Heap). FetchesLump c.args.dir.now c.args.lump.0 c.args.tag (g.S.Shelf.view c.args.shelf.now) (g.S.Shelf.view c.fetch_lump.new.shelf) z c.fetch_lump.new.zone c.fetch_lump.result) c.self.view_is c.fetch_lump.ensures.fetches in
     record {
-      fetches = f;
+      fetches = fetches_lump;
       hit = subst (λ (z : Heap). IsLive z (lump_owner c.args.lump.0) → c.fetch_lump.new.shelf ≡ c.args.shelf.now) c.self.view_is c.fetch_lump.ensures.hit;
       untouched = c.fetch_lump.ensures.untouched;
-      live = fetch_live f;
-      pinned = fetch_pinned f;
-      counts = fetch_counts f;
-      faithful = fetch_faithful f;
-      rest = fetch_rest f;
-      order = fetch_order f;
+      live = fetch_live fetches_lump;
+      pinned = fetch_pinned fetches_lump;
+      counts = fetch_counts fetches_lump;
+      faithful = fetch_faithful fetches_lump;
+      rest = fetch_rest fetches_lump;
+      order = fetch_order fetches_lump;
     }

@@ -13,19 +13,19 @@ reported size z (Err e) full report = record { wanted_is = report.0; widest_is =
 
 requests : (c : After-malloc) → RequestsBlock (composite_owner c.args.number) c.args.size Level c.self.inside.zone c.malloc.new.self c.malloc.result
 requests c =
-    let e = c.malloc.ensures in
-    let z = c.self.inside.zone in
+    let malloc_ensures = c.malloc.ensures in
+    let old_zone = c.self.inside.zone in
     let new = c.malloc.new.self in
     let slot = c.composite_slot.ensures in
     record {
       sound = c.self.invariant;
       vacant = rw c.self.view_is c.requires.empty;
-      full = e.full;
-      ok = subst (λ n. OnOk c.malloc.result (TakesBlock z new (owner_at 1 n) c.args.size Level)) slot e.ok;
-      report = reported c.args.size z c.malloc.result e.full.0 e.report;
-      err = e.err;
-      empty = subst (λ n. OnErr c.malloc.result (owned_block (owner_at 1 n) new.blocks ≡ None)) slot e.empty;
-      others = λ o apart. e.others o (ap (λ n. same_owner (owner_at 1 n) o) slot ∙ apart);
+      full = malloc_ensures.full;
+      ok = subst (λ n. OnOk c.malloc.result (TakesBlock old_zone new (owner_at 1 n) c.args.size Level)) slot malloc_ensures.ok;
+      report = reported c.args.size old_zone c.malloc.result malloc_ensures.full.0 malloc_ensures.report;
+      err = malloc_ensures.err;
+      empty = subst (λ n. OnErr c.malloc.result (owned_block (owner_at 1 n) new.blocks ≡ None)) slot malloc_ensures.empty;
+      others = λ o apart. malloc_ensures.others o (ap (λ n. same_owner (owner_at 1 n) o) slot ∙ apart);
     }
 
 -- the same of the cache

@@ -5,9 +5,9 @@ use Rattle.wad_trim.proofs.plan.TrimPlan.new.Goals as goal
 
 pub returns-in-Some-clause-refused : goal.returns-in-Some-clause-refused
 returns-in-Some-clause-refused c = λ refusal e.
-    let same : c.in-Some.refusal ≡ refusal = cc in
+    let refusal_same : c.in-Some.refusal ≡ refusal = cc in
     plan-refused _ _ _ _ c.in_ok-parts.ensures.parts refusal
-    (ap (trim_refusal c.args.dir.now.lumps) (sym c.deref.ensures.value) ∙ sym c.trim_refusal.ensures ∙ c.in-Some.is ∙ ap Some same)
+    (ap (trim_refusal c.args.dir.now.lumps) (sym c.deref.ensures.value) ∙ sym c.trim_refusal.ensures ∙ c.in-Some.is ∙ ap Some refusal_same)
 
 pub returns-in-None-clause-ok : goal.returns-in-None-clause-ok
 returns-in-None-clause-ok c =

@@ -61,19 +61,19 @@ pub returns-in_err-put_entries : goal.returns-in_err-put_entries
 returns-in_err-put_entries g c =
     let lumps = c.args.dir.now.lumps in
     let parts = c.args.self.now in
-    let i = c.loop-part.part-index in
+    let part_no = c.loop-part.part-index in
     let same = c.deref-parts.ensures.value ∙ c.self.view_is in
     put-stopped c.from_residual-in_err-put_entries.result (λ bytes. []) (λ bytes. trimmed_file bytes lumps parts)
     c.loop-part.invariant.written c.put_entries.ensures c.in_err-put_entries.field-0.0 c.in_err-put_entries.was c.from_residual-in_err-put_entries.ensures.1
-    (λ contents hold. ap (λ (v : List ℕ). so_far lumps parts i (lump_bytes contents lumps) ++ v) (append-nil _ ∙ ap (entries_from lumps HEADER_SIZE) same)
-    ∙ file-ended contents lumps hold.within parts i (omega (arith, ap length same)) c.requires.there)
+    (λ contents hold. ap (λ (v : List ℕ). so_far lumps parts part_no (lump_bytes contents lumps) ++ v) (append-nil _ ∙ ap (entries_from lumps HEADER_SIZE) same)
+    ∙ file-ended contents lumps hold.within parts part_no (omega (arith, ap length same)) c.requires.there)
 
 pub returns : goal.returns
 returns g c =
     let lumps = c.args.dir.now.lumps in
     let parts = c.args.self.now in
-    let i = c.loop-part.part-index in
+    let part_no = c.loop-part.part-index in
     let same = c.deref-parts.ensures.value ∙ c.self.view_is in
     put-done (λ bytes. trimmed_file bytes lumps parts) c.loop-part.invariant.written c.put_entries.ensures c.in_ok-put_entries.field-0 c.in_ok-put_entries.was
-    (λ contents hold. ap (λ (ps : List TrimPart). so_far lumps parts i (lump_bytes contents lumps) ++ entries_from lumps HEADER_SIZE ps) same
-    ∙ file-ended contents lumps hold.within parts i (omega (arith, ap length same)) c.requires.there)
+    (λ contents hold. ap (λ (ps : List TrimPart). so_far lumps parts part_no (lump_bytes contents lumps) ++ entries_from lumps HEADER_SIZE ps) same
+    ∙ file-ended contents lumps hold.within parts part_no (omega (arith, ap length same)) c.requires.there)
