@@ -22,8 +22,7 @@ pub use Rattle.lump_rules.specs.Names.{name_of}
 unfoldable pub use Rattle.lump_rules.specs.Names.{filled}
 pub use Rattle.lump_rules.specs.Wads.{directory, directory_place, directory_size, entries_in, entry_at, entry_count, file_refusal, header, header_refusal, is_wad, lump_in, passes_end, unless_refused}
 unfoldable pub use Rattle.lump_rules.specs.Wads.{entry_refusal, file_lumps, listing_sizes, lumps_from, lumps_in, refusal_from, whole_header_refusal}
-pub use Rattle.lump_rules.specs.declared.names.Group.{Group}
-pub use Rattle.lump_rules.specs.declared.names.Group.TheVariants.{Flats, Sprites}
+pub use Rattle.lump_rules.specs.declared.{names.Group.Group, names.Group.TheVariants.Flats, names.Group.TheVariants.Sprites}
 pub use Rattle.lump_rules.specs.declared.names.TheConstants.{BEHAVIOR, BEHAVIOR_AFTER, F_END, F_START, LETTER_COUNT, MAP_LUMPS, S_END, S_START}
 pub use Rattle.lump_rules.specs.declared.wad.DirRefusal.{DirRefusal}
 pub use Rattle.lump_rules.specs.declared.wad.DirRefusal.TheVariants.{Entry, NotWad, Short, TooMany}

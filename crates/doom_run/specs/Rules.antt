@@ -11,8 +11,7 @@ pub use Rattle.job_files.specs.Statuses.{code_of}
 pub use Rattle.job_rules.specs.Commands.{CommandValue, IsCount, IsCountedMake, IsExercise, exercise, flat, level_job, make}
 pub use Rattle.job_rules.specs.LevelJobs.{FileNames, LevelJobValue, level_job_value}
 pub use Rattle.job_rules.specs.Ranges.{AreSettings}
-pub use Rattle.job_rules.specs.declared.command.Format.{Format}
-pub use Rattle.job_rules.specs.declared.command.Format.TheVariants.{Index, Ppm}
+pub use Rattle.job_rules.specs.declared.{command.Format.Format, command.Format.TheVariants.Index, command.Format.TheVariants.Ppm}
 pub use Rattle.job_rules.specs.declared.{command.LevelJob.LevelJob, command.LevelTask.LevelTask}
 pub use Rattle.job_rules.specs.declared.command.LevelTask.TheVariants.{Audit, Render, Trim}
 pub use Rattle.job_rules.specs.declared.command.MakeJob.TheVariants.{Path, Tables, Things, Wad}
@@ -20,13 +19,9 @@ pub use Rattle.job_rules.specs.declared.{command.Settings.Settings, trim.TrimRef
 pub use Rattle.picture_rules.specs.Words.{AreInView, Art, COMPOSITE, Dot, Eye, FRAME_CELLS, Full, IsWithinFrame, LUMP, LevelValue, MapBytes, MapLeaf, MapRefusal, Painter, SKY_FLAT, Scene, Sector, Spans, Surface, ThingLine, ViewListValue, ViewValue, WeaponLayer, no_surface, sky_flat, view_of}
 unfoldable pub use Rattle.picture_rules.specs.Words.{frame_dots, joined_leaves, joined_level, joined_lists, least, level_of, listed, map_refusal, no_leaf_refusal, overlaid_paints, overlaid_picture, overlaid_trace, records_of, records_refusal, shade, sizes_refusal, surface_at, unless, view_counts, view_list, view_over, view_paints, weapon_dots}
 pub use Rattle.picture_rules.specs.declared.{Counts.Counts, LimitKind.LimitKind, Limits.Limits}
-pub use Rattle.picture_rules.specs.declared.OverLimit.{OverLimit}
-pub use Rattle.picture_rules.specs.declared.list.ListedFragment.{ListedFragment}
-pub use Rattle.picture_rules.specs.declared.list.ListedPlane.{ListedPlane}
-pub use Rattle.picture_rules.specs.declared.list.ListedSprite.{ListedSprite}
-pub use Rattle.picture_rules.specs.declared.list.PlaneMaker.{PlaneMaker}
-pub use Rattle.picture_rules.specs.declared.list.PlaneMaker.TheVariants.{Fragment, Leaf}
-pub use Rattle.picture_rules.specs.declared.plane.Flat4.{Flat4}
+pub use Rattle.picture_rules.specs.declared.{OverLimit.OverLimit, list.ListedFragment.ListedFragment, list.ListedPlane.ListedPlane}
+pub use Rattle.picture_rules.specs.declared.{list.ListedSprite.ListedSprite, list.PlaneMaker.PlaneMaker}
+pub use Rattle.picture_rules.specs.declared.{list.PlaneMaker.TheVariants.Fragment, list.PlaneMaker.TheVariants.Leaf, plane.Flat4.Flat4}
 pub use Rattle.scene_rules.specs.Words.{Faces, Heap, IsInOrder, IsZoneSize, Item, KeepsOrder, LevelBase, MIN_FRAGMENT, Owner, SceneArt, SceneValue, block_size, has_item, live_sum, lump_size}
 unfoldable pub use Rattle.scene_rules.specs.Words.{book_in, composite_block, faces_in, flat_number, greatest_by, is_last, is_list, is_map_lump, is_needed, lump_block, map_bytes, need_of, scene_in, sector_at, sector_flats, side_textures, sky_texture, surface_of, surfaces_of, things_of, zone_sizes}
 pub use Rattle.scene_rules.specs.declared.{Flat.Flat, SectorFlats.SectorFlats, ZoneSizes.ZoneSizes}

@@ -11,11 +11,9 @@ unfoldable pub use Rattle.made_rules.specs.Texts.{made_path, made_things}
 unfoldable pub use Rattle.made_rules.specs.Wads.{made_wad}
 pub use Rattle.picture_rules.specs.Words.{Eye, FLAT_SIDE, FRAME_WIDTH, Length, MAX_SIZE, MIN_SIZE, TABLES_BYTES, TablesRefusal, TablesValue, ThingLine}
 unfoldable pub use Rattle.picture_rules.specs.Words.{angles_in, angles_refusal, listed, shape_of_size, tables_refusal}
-pub use Rattle.picture_rules.specs.declared.LimitKind.{LimitKind}
-pub use Rattle.picture_rules.specs.declared.LimitKind.TheVariants.{Openings, Planes}
+pub use Rattle.picture_rules.specs.declared.{LimitKind.LimitKind, LimitKind.TheVariants.Openings, LimitKind.TheVariants.Planes}
 pub use Rattle.scene_rules.specs.Words.{long_lump}
 unfoldable pub use Rattle.scene_rules.specs.Words.{colormap_of, playpal_of}
 pub use Rattle.scene_rules.specs.declared.TheConstants.{COLORMAP, COLORMAP_SIZE, PALETTE_SIZE, PLAYPAL}
-pub use Rattle.scene_rules.specs.declared.refusal.ArtRefusal.{ArtRefusal}
-pub use Rattle.scene_rules.specs.declared.refusal.ArtRefusal.TheVariants.{Colormap, Playpal}
+pub use Rattle.scene_rules.specs.declared.{refusal.ArtRefusal.ArtRefusal, refusal.ArtRefusal.TheVariants.Colormap, refusal.ArtRefusal.TheVariants.Playpal}
 pub use Rattle.scene_rules.specs.declared.refusal.SceneRefusal.TheVariants.{FlatName}

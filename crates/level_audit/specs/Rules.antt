@@ -4,8 +4,7 @@ unfoldable pub use Rattle.art_rules.specs.Words.{are_named, book_lumps, composit
 pub use Rattle.art_rules.specs.declared.{Mention.Mention, PlacedPatch.PlacedPatch}
 pub use Rattle.art_rules.specs.declared.TextureEntry.{TextureEntry}
 pub use Rattle.art_rules.specs.declared.TheConstants.{MAX_COMPOSITE, MAX_TEXTURES, PNAMES, ROTATIONS, TEXTURE1, TEXTURE2}
-pub use Rattle.art_rules.specs.declared.refusal.SpriteRefusal.{SpriteRefusal}
-pub use Rattle.art_rules.specs.declared.refusal.TexRefusal.{TexRefusal}
+pub use Rattle.art_rules.specs.declared.{refusal.SpriteRefusal.SpriteRefusal, refusal.TexRefusal.TexRefusal}
 pub use Rattle.art_rules.specs.declared.{refusal.TexRefusal.TheVariants.TooBig, shapes.Frame.Frame}
 pub use Rattle.art_rules.specs.declared.{shapes.Need.Need, shapes.Shape.Shape}
 pub use Rattle.job_rules.specs.LevelJobs.{LevelJobValue, level_job_value}
@@ -15,9 +14,7 @@ unfoldable pub use Rattle.scene_rules.specs.Words.{art_of, bad_middle, base_in, 
 pub use Rattle.scene_rules.specs.declared.Placed.{Placed}
 pub use Rattle.scene_rules.specs.declared.TheConstants.{PALETTE_SIZE, PLAYPAL}
 pub use Rattle.scene_rules.specs.declared.{ZoneSizes.ZoneSizes, refusal.ArtRefusal.ArtRefusal}
-pub use Rattle.scene_rules.specs.declared.refusal.ArtRefusal.TheVariants.{Playpal}
-pub use Rattle.scene_rules.specs.declared.refusal.AuditRefusal.{AuditRefusal}
+pub use Rattle.scene_rules.specs.declared.{refusal.ArtRefusal.TheVariants.Playpal, refusal.AuditRefusal.AuditRefusal}
 pub use Rattle.scene_rules.specs.declared.refusal.AuditRefusal.TheVariants.{Art, Map, Scene, Sprite, Texture, WeaponArt}
-pub use Rattle.scene_rules.specs.declared.refusal.SceneRefusal.{SceneRefusal}
-pub use Rattle.scene_rules.specs.declared.refusal.WeaponRefusal.{WeaponRefusal}
+pub use Rattle.scene_rules.specs.declared.{refusal.SceneRefusal.SceneRefusal, refusal.WeaponRefusal.WeaponRefusal}
 pub use Rattle.scene_rules.specs.declared.refusal.WeaponRefusal.TheVariants.{BadPatch, MissingRotation, NoFrame}

@@ -13,6 +13,5 @@ pub use Rattle.zone_rules.specs.Frees.{retag_block, set_tag, with_bytes, with_ta
 pub use Rattle.zone_rules.specs.Orders.{AreRoomy, IsInOrder, Item, KeepsOrder, has_item, is_live, lump_size}
 pub use Rattle.zone_rules.specs.Requests.{TakesBlock, block_left, gaps, in_front, is_among, opens, passed_blocks, stretches, total, widest, without_room}
 pub use Rattle.zone_rules.specs.Zones.{AllFit, Block, FitsHolding, Heap, Holding, IsLive, IsSound, IsZoneSize, Lacks, Owner, OwnsOnce, Tiles, Unique, block_size, bytes_of, free_block, fresh_heap, holding_of, holds_for, is_held_by, is_pinned, is_purgeable, is_purgeable_tag, may_purge, owned_block, owner_at, pins, same_owner, slot_count}
-pub use Rattle.zone_rules.specs.declared.Tag.{Tag}
-pub use Rattle.zone_rules.specs.declared.Tag.TheVariants.{Cache, Level, Static}
+pub use Rattle.zone_rules.specs.declared.{Tag.Tag, Tag.TheVariants.Cache, Tag.TheVariants.Level, Tag.TheVariants.Static}
 pub use Rattle.zone_rules.specs.declared.TheConstants.{MIN_FRAGMENT}

@@ -4,8 +4,7 @@ pub use Rattle.level_rules.specs.declared.{Child.Child, Leaf.Leaf, Seg.Seg}
 pub use Rattle.level_rules.specs.declared.maps.layout.TheConstants.{LEAF_SIZE, LINE_SIZE, NODE_SIZE, SECTOR_SIZE, SEG_SIZE, SIDE_SIZE, THING_SIZE, VERTEX_SIZE}
 pub use Rattle.level_rules.specs.declared.maps.lumps.MapLump.{MapLump}
 pub use Rattle.level_rules.specs.declared.maps.lumps.MapLump.TheVariants.{Linedefs, Nodes, Sectors, Segs, Sidedefs, Ssectors, Things, Vertexes}
-pub use Rattle.level_rules.specs.declared.maps.records.MapLine.{MapLine}
-pub use Rattle.level_rules.specs.declared.maps.refusal.MapRefusal.{MapRefusal}
+pub use Rattle.level_rules.specs.declared.{maps.records.MapLine.MapLine, maps.refusal.MapRefusal.MapRefusal}
 unfoldable pub use Rattle.level_rules.specs.maps.Fields.{angle_field, fixed_at, half_at, name_field, record_at, records_in, signed_half_at}
 unfoldable pub use Rattle.level_rules.specs.maps.Firsts.{first_refusal}
 pub use Rattle.level_rules.specs.maps.Levels.{LevelValue, MapBytes, MapRecords}

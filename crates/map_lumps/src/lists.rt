@@ -14,6 +14,7 @@ use std::alloc::{AllocError, Global};
 use std::marker::Model;
 
 // The records of each lump, as they are read; of none more than `MAX_RECORDS`.
+#[derive(Drop)]
 pub(crate) struct MapLists {
     pub(crate) things: Vec<Thing>,
     pub(crate) lines: Vec<MapLine>,
@@ -23,22 +24,6 @@ pub(crate) struct MapLists {
     pub(crate) leaves: Vec<MapLeaf>,
     pub(crate) nodes: Vec<Node>,
     pub(crate) sectors: Vec<Sector>,
-}
-
-// By hand, so that a drop of one is one call.
-impl Drop for MapLists {
-    fn drop(self) {
-        let MapLists {
-            things: _,
-            lines: _,
-            sides: _,
-            vertexes: _,
-            segs: _,
-            leaves: _,
-            nodes: _,
-            sectors: _,
-        } = self;
-    }
 }
 
 impl Model for MapLists {

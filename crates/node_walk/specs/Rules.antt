@@ -19,7 +19,6 @@ unfoldable pub use Rattle.level_rules.specs.walk.Walk.{at_columns, at_far, at_le
 unfoldable pub use Rattle.view_rules.specs.Sides.{side_by_product, side_by_slope, side_of}
 pub use Rattle.view_rules.specs.View.{ViewValue}
 pub use Rattle.view_rules.specs.declared.ColumnRange.{ColumnRange}
-pub use Rattle.view_rules.specs.declared.ColumnRange.TheVariants.{Behind, Columns, Outside}
-pub use Rattle.view_rules.specs.declared.Partition.{Partition}
+pub use Rattle.view_rules.specs.declared.{ColumnRange.TheVariants.Behind, ColumnRange.TheVariants.Columns, ColumnRange.TheVariants.Outside, Partition.Partition}
 pub use Rattle.word_rules.specs.Words.{differ, is_zero}
 unfoldable pub use Rattle.word_rules.specs.Words.{minus, signs_differ}

@@ -31,25 +31,13 @@ impl Model for MemoryFile {
 
 /// Files in memory. The calls of all three kinds are numbered from 1, and those whose number is
 /// listed fail. With no such number it is steady.
+#[derive(Drop)]
 pub struct MemoryShelf {
     files: Vec<MemoryFile>,
     failing: Vec<u64>,
     calls: u64,
     faults: u64,
     taken: u64,
-}
-
-// By hand, so that a drop of one is one call.
-impl Drop for MemoryShelf {
-    fn drop(self) {
-        let MemoryShelf {
-            files: _,
-            failing: _,
-            calls: _,
-            faults: _,
-            taken: _,
-        } = self;
-    }
 }
 
 impl Model for MemoryShelf {

@@ -1,15 +1,13 @@
 -- The words of this crate and of those below it that others cite, by the page that each comes from.
 unfoldable pub use Rattle.level_rules.specs.Levels.{child_on}
-pub use Rattle.level_rules.specs.declared.Child.{Child}
-pub use Rattle.level_rules.specs.declared.Child.TheVariants.{Leaf, Node}
+pub use Rattle.level_rules.specs.declared.{Child.Child, Child.TheVariants.Leaf, Child.TheVariants.Node}
 pub use Rattle.level_rules.specs.declared.{PlacedThing.PlacedThing, Sector.Sector, Seg.Seg}
 pub use Rattle.level_rules.specs.declared.SideTextures.{SideTextures}
 pub use Rattle.level_rules.specs.declared.TheConstants.{MAX_DEPTH, SKY_FLAT}
 pub use Rattle.level_rules.specs.declared.{Thing.Thing, ThingLine.ThingLine}
 pub use Rattle.level_rules.specs.declared.maps.lumps.MapLump.{MapLump}
 pub use Rattle.level_rules.specs.declared.maps.lumps.MapLump.TheVariants.{Linedefs, Nodes, Sectors, Segs, Sidedefs, Ssectors, Things, Vertexes}
-pub use Rattle.level_rules.specs.declared.maps.refusal.MapRefusal.{MapRefusal}
-pub use Rattle.level_rules.specs.declared.maps.refusal.MapRefusal.TheVariants.{NoMap}
+pub use Rattle.level_rules.specs.declared.{maps.refusal.MapRefusal.MapRefusal, maps.refusal.MapRefusal.TheVariants.NoMap}
 pub use Rattle.level_rules.specs.maps.Levels.{LevelValue}
 unfoldable pub use Rattle.level_rules.specs.maps.Levels.{level_from, level_of, map_refusal, records_of, sizes_refusal, unless}
 unfoldable pub use Rattle.level_rules.specs.maps.Lumps.{lump_no, size_refusal}

@@ -9,7 +9,6 @@ unfoldable pub use Rattle.scene_rules.specs.Words.{art_of, bad_middle, base_in, 
 pub use Rattle.scene_rules.specs.declared.{Placed.Placed, SectorFlats.SectorFlats}
 pub use Rattle.scene_rules.specs.declared.TheConstants.{COLORMAP, COLORMAP_SIZE, PALETTE_SIZE}
 pub use Rattle.scene_rules.specs.declared.{ZoneSizes.ZoneSizes, refusal.ArtRefusal.ArtRefusal}
-pub use Rattle.scene_rules.specs.declared.refusal.ArtRefusal.TheVariants.{Colormap}
-pub use Rattle.scene_rules.specs.declared.refusal.AuditRefusal.{AuditRefusal}
+pub use Rattle.scene_rules.specs.declared.{refusal.ArtRefusal.TheVariants.Colormap, refusal.AuditRefusal.AuditRefusal}
 pub use Rattle.scene_rules.specs.declared.refusal.AuditRefusal.TheVariants.{Art, Map, Scene, Sprite, Texture}
 pub use Rattle.zone_rules.specs.declared.TheConstants.{HEADER_SIZE}

@@ -22,8 +22,6 @@ pub use Rattle.scene_rules.specs.Words.{Faces, LevelBase, LevelValue, MapRefusal
 unfoldable pub use Rattle.scene_rules.specs.Words.{bad_middle, base_in, base_over, book_in, both_flats, checked, colormap_of, each_from, each_or, faces_in, flat_named, flat_number, flats_of, has_flat, is_all_single, is_bad_middle, is_bad_side, is_seen_through, is_sky_name, is_wanted_texture, label_of, level_in, level_of, lists_in, lump_flat, map_bytes, need_of, placed_things, playpal_of, scene_in, scene_on, scene_over, scene_with, sector_flats, side_textures, sky_texture}
 pub use Rattle.scene_rules.specs.declared.{Flat.Flat, Flat.TheVariants.Sky, SectorFlats.SectorFlats}
 pub use Rattle.scene_rules.specs.declared.TheConstants.{COLORMAP, COLORMAP_SIZE, PALETTE_SIZE, PLAYPAL}
-pub use Rattle.scene_rules.specs.declared.refusal.ArtRefusal.{ArtRefusal}
-pub use Rattle.scene_rules.specs.declared.refusal.ArtRefusal.TheVariants.{Colormap, Playpal}
+pub use Rattle.scene_rules.specs.declared.{refusal.ArtRefusal.ArtRefusal, refusal.ArtRefusal.TheVariants.Colormap, refusal.ArtRefusal.TheVariants.Playpal}
 pub use Rattle.scene_rules.specs.declared.refusal.AuditRefusal.TheVariants.{Art, Map, Scene, Sprite}
-pub use Rattle.scene_rules.specs.declared.refusal.SceneRefusal.{SceneRefusal}
-pub use Rattle.scene_rules.specs.declared.refusal.SceneRefusal.TheVariants.{SectorFlat}
+pub use Rattle.scene_rules.specs.declared.{refusal.SceneRefusal.SceneRefusal, refusal.SceneRefusal.TheVariants.SectorFlat}

@@ -4,8 +4,7 @@ pub use Rattle.lump_rules.specs.Lookups.{flat_of, has_name, is_end, is_lump, is_
 unfoldable pub use Rattle.lump_rules.specs.Lookups.{are_named, members}
 pub use Rattle.lump_rules.specs.Wads.{directory, entry_at, entry_count, file_refusal, header, header_in, header_refusal, is_wad, listing_size, lump_in, passes_end, unless_refused}
 unfoldable pub use Rattle.lump_rules.specs.Wads.{entry_refusal, file_lumps, listing_sizes, lumps_from, lumps_in, refusal_from, whole_header_refusal}
-pub use Rattle.lump_rules.specs.declared.names.Group.{Group}
-pub use Rattle.lump_rules.specs.declared.names.Group.TheVariants.{Flats, Sprites}
+pub use Rattle.lump_rules.specs.declared.{names.Group.Group, names.Group.TheVariants.Flats, names.Group.TheVariants.Sprites}
 pub use Rattle.lump_rules.specs.declared.{wad.DirRefusal.DirRefusal, wad.Header.Header}
 pub use Rattle.lump_rules.specs.declared.{wad.Lump.Lump, wad.LumpNo.LumpNo}
 pub use Rattle.lump_rules.specs.declared.wad.TheConstants.{ENTRY_SIZE, HEADER_SIZE, MAX_LUMPS}

@@ -26,23 +26,12 @@ use wall_edges::{Fragment, Stepper};
 
 /// What a fragment is drawn among: what is open of each column, the openings that are saved, and
 /// the planes of the leaf that is entered.
+#[derive(Drop)]
 pub struct ColumnState {
     pub windows: Windows,
     pub openings: Openings,
     pub floor: Option<PlaneNo>,
     pub ceiling: Option<PlaneNo>,
-}
-
-// By hand, so that a drop of one is one call.
-impl Drop for ColumnState {
-    fn drop(self) {
-        let ColumnState {
-            windows: _,
-            openings: _,
-            floor: _,
-            ceiling: _,
-        } = self;
-    }
 }
 
 impl ColumnState {
