@@ -78,7 +78,7 @@ def write_paths(folder, wad, name, repeat):
 def doomview_words(way, wad, name, path, ppm):
     executable, spans = way
     words = ['render', name, wad, '--path', path, '--format', 'ppm' if ppm else 'index', *spans]
-    return [executable, *program.completed(words)]
+    return [executable, *program.complete(words)]
 
 
 def still_words(wad, name, path, *more):

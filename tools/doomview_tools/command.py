@@ -79,7 +79,7 @@ def run_job(words: typing.List[str]) -> int:
 
 def warn(words: typing.List[str]) -> None:
     """Says what will be accepted, and may be a mistake."""
-    for sentence in notes.of_words(jobs.Words(program.completed(words))):
+    for sentence in notes.of_words(jobs.Words(program.complete(words))):
         print(f'doomview: warning: {sentence}', file=sys.stderr, flush=True)
 
 

@@ -36,7 +36,7 @@ def painter_row(key: bytes, names: traces.Names, place_of: PlaceOf) -> typing.Li
     kind, source_kind, number, source, _, _ = traces.RECORD.unpack(key + bytes(2))
     word, thing = traces.KINDS.get(kind, (f'kind {kind}', 'number'))
     painter = traces.Painter(kind, source_kind, source)
-    known = names.known(painter)
+    known = names.source_of(painter)
     return [word, known.name, f'{thing} {number}' if thing else '', known.more,
             place_of(painter, number) if place_of else '']
 

@@ -9,7 +9,7 @@ import typing
 
 from . import list_counts, paths, program, system
 from .doom import LIMITS
-from .explanations import explained
+from .explanations import explain
 from .files import write_whole
 from .jobs import LIMIT, USAGE
 from .list_counts import Counts
@@ -85,7 +85,7 @@ class Going:
         """How a run ended, which is waited for."""
         run.process.wait()
         self.processes.remove(run.process)
-        return program.ended(run.process.returncode, *(bytes_of(run.base + ending) for ending in (OUTPUT, SAID)))
+        return program.run_of(run.process.returncode, *(bytes_of(run.base + ending) for ending in (OUTPUT, SAID)))
 
     def stop(self) -> None:
         """Ends the runs that go on."""
@@ -106,7 +106,7 @@ class Runs:
     def over_map(cls, name: str, wads: typing.Sequence[str], options: typing.Sequence[str], going: Going) -> 'Runs':
         """The runs over a map of WADs, with options that each of them takes."""
         words = [name, *wads, *RAISED, *options]
-        return cls(words, program.completed(['limits', *words])[1:], going)
+        return cls(words, program.complete(['limits', *words])[1:], going)
 
     def over(self, wads: typing.Sequence[str], added: str) -> 'Runs':
         """The same with one WAD more behind its WADs."""
@@ -122,7 +122,7 @@ class Runs:
         done = self.going.end(run)
         if done.status not in (0, LIMIT):
             self.going.progress.clear()
-            trouble = explained([run.job, *self.words, '--path', run.base + ROWS], done)
+            trouble = explain([run.job, *self.words, '--path', run.base + ROWS], done)
             raise Ended(TROUBLE if trouble.status == USAGE else trouble.status)
         for ending in (ROWS, OUTPUT, SAID):
             os.remove(run.base + ending)

@@ -116,7 +116,7 @@ def remarks(words: Words, things: str) -> Sentences:
 
 def on_line(line: str, words: typing.List[str]) -> Sentences:
     """Sentences on the line that a call with these words ended with."""
-    given, is_kept = Words(program.completed(words)), not Words(words).output
+    given, is_kept = Words(program.complete(words)), not Words(words).output
     for form, told in LINES:
         found = re.fullmatch('doomview: ' + form, line)
         if found:
@@ -128,7 +128,7 @@ def on_line(line: str, words: typing.List[str]) -> Sentences:
 def explain(line: str, words: typing.List[str]) -> Sentences:
     """The same, and what else looks like a mistake."""
     yield from on_line(line, words)
-    given = Words(program.completed(words))
+    given = Words(program.complete(words))
     if given.job in LEVEL_JOBS and given.wads:
         yield from remarks(given, given.value('--things') or '')
 
@@ -140,7 +140,7 @@ def tell(line: str, words: typing.List[str],
         print(f'explain: {sentence}', file=sys.stderr)
 
 
-def explained(words: typing.List[str], done: program.Run) -> Ended:
+def explain(words: typing.List[str], done: program.Run) -> Ended:
     """Tells why a run of these words failed, as a Trouble that is told already."""
     sys.stderr.write(done.said)
     tell(done.line, words)

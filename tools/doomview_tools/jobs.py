@@ -210,7 +210,7 @@ def options_of(job: str) -> typing.List[Option]:
     return [option for option in options().values() if job in option.jobs]
 
 
-def needed() -> typing.List[str]:
+def needed_options() -> typing.List[str]:
     """The names of the options that a job over a level needs."""
     return [option.name for option in options().values() if option.is_needed]
 
@@ -265,7 +265,7 @@ class Words:
     @property
     def files(self) -> typing.List[str]:
         """The files that a call reads: those of its options, and its WADs."""
-        named = [self.value(name) for name in (*needed(), '--weapon')]
+        named = [self.value(name) for name in (*needed_options(), '--weapon')]
         return [name for name in named if name] + self.wads
 
     @property
@@ -350,8 +350,8 @@ def wrong_words(words: Words) -> typing.List[str]:
 def wrong_level(words: Words) -> typing.List[str]:
     """The same of a job over a level."""
     job, count = words.job, len(words.plain)
-    near = {guess(name, needed()) for name in words.given if name not in options()}
-    missing = [name for name in needed() if name not in words.given and f'; did you mean {name}?' not in near]
+    near = {guess(name, needed_options()) for name in words.given if name not in options()}
+    missing = [name for name in needed_options() if name not in words.given and f'; did you mean {name}?' not in near]
     tests = [(missing, f'{job} needs {" and ".join(missing)} too'),
              (count < 3, f'{job} needs a map and a WAD, as in {job} MAP01 game.wad'),
              (count - 2 > MOST_WADS, f'{job} takes at most {MOST_WADS} WADs'),

@@ -46,7 +46,7 @@ def names_in(trace: bytes, names: traces.Names) -> typing.Dict[str, list]:
     for record in set(memoryview(trace).cast('Q')):
         kind, source_kind, number, source, _, _ = traces.RECORD.unpack(record.to_bytes(8, sys.byteorder))
         if kind in COUNT_OF:
-            found[COUNT_OF[kind]][names.known(traces.Painter(kind, source_kind, source)).name].add(number)
+            found[COUNT_OF[kind]][names.source_of(traces.Painter(kind, source_kind, source)).name].add(number)
     return {count: [len(set().union(*of_names.values())), len(of_names), most_numbers(of_names)]
             for count, of_names in found.items()}
 

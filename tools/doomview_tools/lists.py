@@ -391,7 +391,7 @@ class Places:
         key, sides, sectors = self.group(view, plane)
         by = f'plane {number}, {self.maker_of(view, plane)[1]}'
         if plane.flat is None:
-            known = self.names.known(painter)
+            known = self.names.source_of(painter)
             return Position(f'sky of {sectors_in_words(sectors)}', f'{known.word} {known.name}', by, known.more)
         return Position(f'{sides} of {sectors_in_words(sectors)} at height {key.height:g}',
                         f'flat {key.flat}, light {key.light}', by, '')

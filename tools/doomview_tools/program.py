@@ -131,7 +131,7 @@ def things_file() -> str:
     return home.data('things.csv')
 
 
-def completed(words: typing.Iterable[str]) -> typing.List[str]:
+def complete(words: typing.Iterable[str]) -> typing.List[str]:
     """The words of a job as the program takes them: WADs found, and the tools' own tables where none are named."""
     given = Words(words)
     if given.job not in LEVEL_JOBS:
@@ -143,7 +143,7 @@ def completed(words: typing.Iterable[str]) -> typing.List[str]:
     return words[:at] + more + words[at:]
 
 
-def ended(status: int, output: typing.Optional[bytes], said: bytes) -> Run:
+def run_of(status: int, output: typing.Optional[bytes], said: bytes) -> Run:
     """How a run ended; one that a signal ended has 128 and its number, as in a shell."""
     text = said.decode(errors='replace')
     return Run(status if status >= 0 else 128 - status, output or b'', (text.splitlines() or [''])[-1], text)
@@ -152,10 +152,10 @@ def ended(status: int, output: typing.Optional[bytes], said: bytes) -> Run:
 def run(words: typing.Iterable[str], output: Output = None, unproved: bool = False) -> Run:
     """Runs the program to its end: its status, its output where `output` is no file for it, the last line of what it
     said, and all of it. `unproved` runs the sources without a proof, by `rt try`, where the program is not built."""
-    words = completed(words)
+    words = complete(words)
     if unproved and not is_built():
         return run_sources(words, output)
-    return ended(*call([ready(), *words], output))
+    return run_of(*call([ready(), *words], output))
 
 
 def guard_terminal(words: typing.Iterable[str]) -> None:
@@ -175,7 +175,7 @@ def run_whole(words: typing.List[str]) -> Run:
     standard output."""
     path = Words(words).output
     if not path:
-        guard_terminal(completed(words))
+        guard_terminal(complete(words))
         return run(words, 1)
     with contextlib.suppress(Ended), WholeFile(path, WRITE_FAULT) as part:
         done = run(words, part)
@@ -198,20 +198,20 @@ def call(command: typing.List[str], output: Output, folder: typing.Optional[str]
 def start(words: typing.Iterable[str], **more: typing.Any) -> subprocess.Popen:
     """Starts the program."""
     try:
-        return subprocess.Popen([ready(), *completed(words)], env=environment(), **more)
+        return subprocess.Popen([ready(), *complete(words)], env=environment(), **more)
     except OSError as error:
         raise Trouble(f'cannot run {path()}: {error.strerror}', NO_PROGRAM) from error
 
 
 def pass_on(words: typing.List[str]) -> Run:
     """Runs the program with its output on the standard output, as it comes; what it said on standard error is kept."""
-    words = completed(words)
+    words = complete(words)
     guard_terminal(words)
     try:
         done = subprocess.run([ready(), *words], env=environment(), stderr=subprocess.PIPE)
     except OSError as error:
         raise Trouble(f'cannot run {path()}: {error.strerror}', NO_PROGRAM) from error
-    return ended(done.returncode, None, done.stderr)
+    return run_of(done.returncode, None, done.stderr)
 
 
 def with_own_name(word: str, files: typing.Dict[str, str]) -> str:
@@ -238,6 +238,6 @@ def run_sources(words: typing.List[str], output: Output) -> Run:
     lines = said.decode(errors='replace').splitlines()
     line = ([text for text in lines if text.startswith('doomview: ')] or [''])[-1]
     if line or status == 0:
-        return ended(status, written, line.encode())
+        return run_of(status, written, line.encode())
     raise Trouble('\n'.join([*(text[:300] for text in lines[-SHOWN:]), 'rt try did not run the sources; its last lines '
                              'are above']), NO_PROGRAM)

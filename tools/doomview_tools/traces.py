@@ -113,7 +113,7 @@ class Names:
             return []
         return self.with_patch.get(self.source(painter), [])
 
-    def known(self, painter: Painter) -> Source:
+    def source_of(self, painter: Painter) -> Source:
         """What a painter read, for a user to know it by: of a patch that one texture alone has, the texture."""
         name, textures = self.source(painter), self.textures_of(painter)
         if painter.source_kind == COMPOSITE:
@@ -134,7 +134,7 @@ def in_words(record: Record, names: Names) -> str:
         return 'nothing, colour 0'
     parts = [f'{word} {number}' if thing == word else f'{word}, {thing} {number}']
     if source_kind:
-        known = names.known(Painter(kind, source_kind, source))
+        known = names.source_of(Painter(kind, source_kind, source))
         is_number = known.name == f'{known.word} {source}'
         parts.append(known.name if is_number else f'{known.word} {known.name}')
         if known.more:
@@ -194,7 +194,7 @@ def painters(records: bytes, places: typing.List[int], names: Names,
     number where in the map that is; then the lines under a painter have the pixels of each."""
     for painter, numbers in sorted(pixels_of(records, places).items(), key=lambda pair: -sum(pair[1].values())):
         word, thing = KINDS.get(painter.kind, (f'kind {painter.kind}', 'number'))
-        known = names.known(painter)
+        known = names.source_of(painter)
         more = f'patch {known.more}' if known.word == 'patch' else known.more
         cells = [f'  {word:8} {known.name:9} {sum(numbers.values()):6}',
                  f'{thing} {some_of(numbers)}' if thing else '', more]

@@ -290,7 +290,7 @@ class Taken(Tools):
 
     def status(self, job, name, value):
         """The status of a job with an option."""
-        files = [part for it in jobs.needed() if it != name for part in (it, self.files[it])]
+        files = [part for it in jobs.needed_options() if it != name for part in (it, self.files[it])]
         words = ['MAP01', 'made.wad', *files] if job in jobs.LEVEL_JOBS else self.PLAIN[job]
         return self.run_command(TESTED, job, *words, name, value, stdout=subprocess.DEVNULL)[0]
 

@@ -291,7 +291,7 @@ class Command(unittest.TestCase):
             self.assertIn(f'{{"{job.name}", {int(job.name in targets.jobs.LEVEL_JOBS)}, ', header)
         numbers = re.search(r'tables_bytes\[\] = \{([^}]*)\}', header)[1].split(',')
         self.assertEqual(bytes(map(int, numbers)), targets.tables.tables())
-        self.assertEqual(set(targets.BUILT_IN), {option for option in targets.jobs.needed() if option != '--path'})
+        self.assertEqual(set(targets.BUILT_IN), {option for option in targets.jobs.needed_options() if option != '--path'})
 
 
 if __name__ == '__main__':

@@ -102,7 +102,7 @@ class WhatIf(Tools):
         level = levels.read([self.write('made.wad', made.wad())], 'MAP01')
         self.write('walls.wad', walls.walls_alone(level))
         self.write('path.csv', paths.text(paths.turn(level, 1)).encode())
-        outputs = [self.run_command(TESTED, *program.completed(
+        outputs = [self.run_command(TESTED, *program.complete(
             ['list', 'MAP01', *map(self.at, names), *counting.RAISED, '--path', self.at('path.csv')]))[1]
             for names in (['made.wad'], ['made.wad', 'walls.wad'])]
         return next(list_counts.ranges_of(outputs[1])), next(list_counts.counts_of(outputs[0]))['fragments']
@@ -139,7 +139,7 @@ class WhatIf(Tools):
     def listed(self, names):
         """What `list` writes of the path over some WADs."""
         words = ['list', 'MAP01', *map(self.at, names), '--path', self.at('path.csv')]
-        return lists.ListFile(self.write('list.txt', self.run_command(TESTED, *program.completed(words))[1]))
+        return lists.ListFile(self.write('list.txt', self.run_command(TESTED, *program.complete(words))[1]))
 
 
 def put_bars(made):

@@ -166,7 +166,7 @@ class Summary:
         whole = len(self.numbers)
         found = [pair for pair in self.painters.items() if pair[1]['views'] == whole] if whole > 1 else []
         for painter, counts in sorted(found, key=lambda pair: -pair[1]['pixels'])[:MOST_PAINTERS]:
-            word, name = traces.KINDS.get(painter.kind, ('nothing',))[0], self.comparison.names.known(painter).name
+            word, name = traces.KINDS.get(painter.kind, ('nothing',))[0], self.comparison.names.source_of(painter).name
             yield f'in each of these {whole} views: {word} {name}, {counts["pixels"]} pixels'
 
     def lines(self) -> typing.Iterator[str]:

@@ -6,7 +6,7 @@ import tempfile
 import typing
 
 from .. import cli, program
-from ..explanations import explained
+from ..explanations import explain
 from ..files import WholeFile, check_source, check_target
 from ..trouble import Trouble
 
@@ -47,7 +47,7 @@ def count_views(words: typing.List[str]) -> int:
     """Ends with what is wrong where the views cannot be drawn; the limits tell it before ffmpeg is called."""
     done = program.run(words)
     if done.status:
-        raise explained(words, done)
+        raise explain(words, done)
     return len(done.output.splitlines())
 
 
@@ -72,7 +72,7 @@ def draw_into(words: typing.List[str], video: str) -> program.Run:
             drawing.kill()
             raise
         said.seek(0)
-        done = program.ended(status, b'', said.read())
+        done = program.run_of(status, b'', said.read())
     if made.returncode and not done.line.startswith('doomview: limit'):
         raise Trouble(f'{said_by_ffmpeg}\nffmpeg could not make the video')
     return done
@@ -87,4 +87,4 @@ def run(options: argparse.Namespace) -> None:
     with WholeFile(options.video) as part:
         done = draw_into(words, part.name)
         if done.status:
-            raise explained(words, done)
+            raise explain(words, done)
