@@ -62,8 +62,8 @@ first_below clip row l h r =
     let most : (clip +ℤ pos 1) ≤ℤ pos 1048577 = omega (arith, ints) in
     let from_clip : (clip +ℤ pos 1) ≤ℤ greater_word (clip +ℤ pos 1) row = greater_word-first (clip +ℤ pos 1) row in
     let to_most : greater_word (clip +ℤ pos 1) row ≤ℤ pos 1048577 = greater-most (clip +ℤ pos 1) row (pos 1048577) most (omega (arith, ints)) in
-    let P : ℤ → Type 0 = λ z. IsFirst (greater_word z row) in
-    subst P (sym next) (record { low = omega (arith, ints); high = to_most })
+    let GreaterIsFirst : ℤ → Type 0 = λ z. IsFirst (greater_word z row) in
+    subst GreaterIsFirst (sym next) (record { low = omega (arith, ints); high = to_most })
 
 last_above : (height : ℕ) (clip row : ℤ) → height ≤ FRAME_HEIGHT → negsuc 1048575 ≤ℤ clip → clip ≤ℤ pos height → negsuc 1048576 ≤ℤ row → IsLast height (above_clip clip row)
 unfolding above_clip
@@ -72,8 +72,8 @@ last_above height clip row s l h r =
     let least : negsuc 1048576 ≤ℤ (clip -ℤ pos 1) = omega (arith, ints) in
     let to_clip : lesser_word (clip -ℤ pos 1) row ≤ℤ (clip -ℤ pos 1) = lesser_word-first (clip -ℤ pos 1) row in
     let from_least : negsuc 1048576 ≤ℤ lesser_word (clip -ℤ pos 1) row = lesser-least (clip -ℤ pos 1) row (negsuc 1048576) least r in
-    let P : ℤ → Type 0 = λ z. IsLast height (lesser_word z row) in
-    subst P (sym before) (record { low = from_least; high = omega (arith, ints) })
+    let LesserIsLast : ℤ → Type 0 = λ z. IsLast height (lesser_word z row) in
+    subst LesserIsLast (sym before) (record { low = from_least; high = omega (arith, ints) })
 
 -- the ceiling clip is one of a column
 record IsCeiling (row : ℤ) : Type 0 where
@@ -88,15 +88,15 @@ row_before : (first : ℤ) → IsFirst first → IsCeiling (minus first (pos 1))
 row_before first f =
     let least = f.low in let most = f.high in
     let before = minus_near first (omega (arith, ints)) (omega (arith, ints)) in
-    let P : ℤ → Type 0 = IsCeiling in
-    subst P (sym before) (record { low = omega (arith, ints); high = omega (arith, ints) })
+    let ClipOfCeiling : ℤ → Type 0 = IsCeiling in
+    subst ClipOfCeiling (sym before) (record { low = omega (arith, ints); high = omega (arith, ints) })
 
 row_past : (height : ℕ) (last : ℤ) → height ≤ FRAME_HEIGHT → IsLast height last → IsFloor height (plus last (pos 1))
 row_past height last s f =
     let least = f.low in let most = f.high in
     let past = plus_near last (omega (arith, ints)) (omega (arith, ints)) in
-    let P : ℤ → Type 0 = IsFloor height in
-    subst P (sym past) (record { low = omega (arith, ints); high = omega (arith, ints) })
+    let ClipOfFloor : ℤ → Type 0 = IsFloor height in
+    subst ClipOfFloor (sym past) (record { low = omega (arith, ints); high = omega (arith, ints) })
 
 int_le-is : (a b : ℤ) (t : Bool) → int_le a b ≡ t → cond t (a ≤ℤ b) (b <ℤ a)
 int_le-is a b true e = grind (arith, ints)
@@ -214,10 +214,10 @@ ceiling_rows-in height clip e s i w =
     let least = known.ceiling.low in let most = known.ceiling.high in
     let above = (row_before (wall_first clip e) (first_is height clip e known)).low in
     let next = plus_near clip.ceiling_clip (omega (arith, ints)) (omega (arith, ints)) in
-    let last = last_above height clip.floor_clip (minus (wall_first clip e) (pos 1)) s known.floor.low known.floor.high (omega (arith, ints)) in
+    let above_is_last = last_above height clip.floor_clip (minus (wall_first clip e) (pos 1)) s known.floor.low known.floor.high (omega (arith, ints)) in
     let low : pos 0 ≤ℤ (clip.ceiling_clip +ℤ pos 1) = omega (arith, ints) in
-    let P : ℤ → Type 0 = λ z. pos 0 ≤ℤ z in
-    λ rows. (subst P (sym next) low, last.high)
+    let AtLeastZero : ℤ → Type 0 = λ z. pos 0 ≤ℤ z in
+    λ rows. (subst AtLeastZero (sym next) low, above_is_last.high)
 
 pub floor_rows-in : (height : ℕ) (clip : ColumnClip) (e : Edges) → height ≤ FRAME_HEIGHT → IsClipIn height clip → AreEdgeWords e → AreRowsIn height (floor_rows clip e)
 unfolding floor_rows
@@ -227,10 +227,10 @@ floor_rows-in height clip e s i w =
     let before = minus_near clip.floor_clip (omega (arith, ints)) (omega (arith, ints)) in
     let below = row_past height (wall_last clip e) s (last_is height clip e known) in
     let past = below.high in
-    let first = first_below clip.ceiling_clip (plus (wall_last clip e) (pos 1)) known.ceiling.low known.ceiling.high (omega (arith, ints)) in
+    let below_is_first = first_below clip.ceiling_clip (plus (wall_last clip e) (pos 1)) known.ceiling.low known.ceiling.high (omega (arith, ints)) in
     let high : (clip.floor_clip -ℤ pos 1) <ℤ pos height = omega (arith, ints) in
-    let P : ℤ → Type 0 = λ z. z <ℤ pos height in
-    λ rows. (first.low, subst P (sym before) high)
+    let BelowHeight : ℤ → Type 0 = λ z. z <ℤ pos height in
+    λ rows. (below_is_first.low, subst BelowHeight (sym before) high)
 
 pub middle_rows-in : (height : ℕ) (clip : ColumnClip) (e : Edges) → height ≤ FRAME_HEIGHT → IsClipIn height clip → AreEdgeWords e → AreRowsIn height (middle_rows clip e)
 unfolding middle_rows

@@ -25,10 +25,10 @@ returns-in_err-self-2-clause-limit c = λ s e.
 
 pub returns-clause-ok : goal.returns-clause-ok
 returns-clause-ok c = λ s e.
-    let one = enter-floor s c.args.planes.now c.find_plane.new.planes c.args.leaf.floor (plane_number c.args.self.now.floor) (plane_number c.args.self.now.ceiling)
+    let floor_entered = enter-floor s c.args.planes.now c.find_plane.new.planes c.args.leaf.floor (plane_number c.args.self.now.floor) (plane_number c.args.self.now.ceiling)
     (plane_number c.in_ok-self.field-0) e c.in_ok-self.ensures.ok c.in_ok-self.ensures.number in
     sym (enter-ceiling _ c.find_plane.new.planes c.find_plane-2.new.planes c.args.leaf.ceiling (plane_number c.in_ok-self.field-0) (plane_number c.args.self.now.ceiling)
-    (plane_number c.in_ok-self-2.field-0) one c.in_ok-self-2.ensures.ok c.in_ok-self-2.ensures.number)
+    (plane_number c.in_ok-self-2.field-0) floor_entered c.in_ok-self-2.ensures.ok c.in_ok-self-2.ensures.number)
 
 pub returns-clause-limit : goal.returns-clause-limit
 returns-clause-limit c = λ s e.
@@ -41,5 +41,5 @@ returns-clause-limit c = λ s e.
 pub returns-clause-leaf : goal.returns-clause-leaf
 returns-clause-leaf c =
     let longer = longer_found c.find_plane.new.planes.planes c.args.leaf.ceiling in
-    let e = ap (λ (ps : PlanesView). length ps.planes) c.in_ok-self-2.ensures.ok in
+    let length_is = ap (λ (ps : PlanesView). length ps.planes) c.in_ok-self-2.ensures.ok in
     (among-longer (plane_number c.in_ok-self.field-0) c.find_plane.new.planes.planes c.find_plane-2.new.planes.planes c.in_ok-self.ensures.among (omega arith), c.in_ok-self-2.ensures.among)
