@@ -18,7 +18,7 @@ use Rattle.texture_build.proofs.FillLemmas.{others_then}
 
 -- an error that goes on is the same
 pub same_error : {B E : Type 0} (result : Result B E) (fault : E) (P : Result B E → Type 0) → IsErrAnd result (λ e. e ≡ fault) → P (Err fault) → P result
-same_error result fault P is k = let s = err_from_is_err_and result is in subst P (sym (s.1 ∙ ap Err s.2)) k
+same_error result fault P is k = let error_is = err_from_is_err_and result is in subst P (sym (error_is.1 ∙ ap Err error_is.2)) k
 
 pub counts_then : (x y z : Heap) → KeepsCounts x y → KeepsCounts y z → KeepsCounts x z
 counts_then x y z first next = (next.0 ∙ first.0, next.1 ∙ first.1, next.2 ∙ first.2)

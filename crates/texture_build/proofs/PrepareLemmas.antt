@@ -54,20 +54,20 @@ module _ (last : List ℕ → Option ℕ) (bytes : ℕ → List ℕ) (names : Li
       after ≡ seen_lookups bytes patches (length after)
   unfolding patches_part
   texture_seen after same count placed =
-      let one = found_is number (patches_part bytes width) _ _ placed in
-      let ps : one.item ≡ patches = ap (λ (p : PatchesPart). p.patches) one.gives in
-      let cs : seen_lookups bytes one.item width ≡ columns = ap (λ (p : PatchesPart). p.columns) one.gives in
+      let patches_placed = found_is number (patches_part bytes width) _ _ placed in
+      let patches_are : patches_placed.item ≡ patches = ap (λ (p : PatchesPart). p.patches) patches_placed.gives in
+      let columns_are : seen_lookups bytes patches_placed.item width ≡ columns = ap (λ (p : PatchesPart). p.columns) patches_placed.gives in
       let wide : width ≡ length after = sym count ∙ ap length (sym same) in
-      same ∙ sym cs ∙ ap (λ xs. seen_lookups bytes xs width) ps ∙ ap (seen_lookups bytes patches) wide
+      same ∙ sym columns_are ∙ ap (λ xs. seen_lookups bytes xs width) patches_are ∙ ap (seen_lookups bytes patches) wide
 
   -- and what it comes to
   pub texture_is : (r : Result PreparedTexture TexRefusal) → or_missing number (option_map (patches_part bytes width) (placed_patches last bytes names t.patches)) ≡ Ok (record { patches = patches; columns = columns }) →
       unless_too_big bytes number t patches ≡ r → prepared last bytes names number t ≡ r
   unfolding prepared unless_missing patches_part
   texture_is r placed bound =
-      let one = found_is number (patches_part bytes width) _ _ placed in
-      let ps : one.item ≡ patches = ap (λ (p : PatchesPart). p.patches) one.gives in
-      ap (unless_missing bytes number t) one.is ∙ ap (unless_too_big bytes number t) ps ∙ bound
+      let patches_placed = found_is number (patches_part bytes width) _ _ placed in
+      let patches_are : patches_placed.item ≡ patches = ap (λ (p : PatchesPart). p.patches) patches_placed.gives in
+      ap (unless_missing bytes number t) patches_placed.is ∙ ap (unless_too_big bytes number t) patches_are ∙ bound
 
 -- a texture of which a patch is missing
 pub texture_missing : (last : List ℕ → Option ℕ) (bytes : ℕ → List ℕ) (names : List (List ℕ)) (number : ℕ) (t : Texture) (width : ℕ) (reason : TexRefusal) →
@@ -143,20 +143,20 @@ module _ (prepare : ℕ → Texture → Result PreparedTexture TexRefusal) (want
   -- one texture more
   pub from_push : (ts : List Texture) (k : ℕ) (ps : List (Option PreparedTexture)) (p : Option PreparedTexture) → k < length ts → prepared_from prepare wanted 0 (take k ts) ≡ Ok ps → prepared_if (wanted k) (prepare k (get_or ts k unlisted)) ≡ Ok p → prepared_from prepare wanted 0 (take (k + 1) ts) ≡ Ok (ps ++ p ∷ [])
   from_push ts k ps p l e step =
-      let t = get_or ts k unlisted in
+      let texture = get_or ts k unlisted in
       let count : 0 + length (take k ts) ≡ k = omega (arith, length-take-le k ts) in
-      ap (prepared_from prepare wanted 0) (take_more ts k unlisted l) ∙ prepared_from-append 0 k (take k ts) (t ∷ []) count
-      ∙ ap (λ r. and_then r (λ xs. and_then (prepared_from prepare wanted k (t ∷ [])) (λ ys. Ok (xs ++ ys)))) e
-      ∙ ap (λ r. and_then r (λ ys. Ok (ps ++ ys))) (first_of_rest k t [] p step ∙ ap (λ r. and_then r (λ others. Ok (p ∷ others))) (none_after (suc k)))
+      ap (prepared_from prepare wanted 0) (take_more ts k unlisted l) ∙ prepared_from-append 0 k (take k ts) (texture ∷ []) count
+      ∙ ap (λ r. and_then r (λ xs. and_then (prepared_from prepare wanted k (texture ∷ [])) (λ ys. Ok (xs ++ ys)))) e
+      ∙ ap (λ r. and_then r (λ ys. Ok (ps ++ ys))) (first_of_rest k texture [] p step ∙ ap (λ r. and_then r (λ others. Ok (p ∷ others))) (none_after (suc k)))
 
   -- a texture is refused, and none before it
   pub from_stop : (ts : List Texture) (k : ℕ) (ps : List (Option PreparedTexture)) (reason : TexRefusal) → k < length ts → prepared_from prepare wanted 0 (take k ts) ≡ Ok ps → prepared_if (wanted k) (prepare k (get_or ts k unlisted)) ≡ Err reason → prepared_from prepare wanted 0 ts ≡ Err reason
   from_stop ts k ps reason l e step =
-      let t = get_or ts k unlisted in
+      let texture = get_or ts k unlisted in
       let count : 0 + length (take k ts) ≡ k = omega (arith, length-take-le k ts) in
-      ap (prepared_from prepare wanted 0) (split_at ts k unlisted l) ∙ prepared_from-append 0 k (take k ts) (t ∷ drop (suc k) ts) count
-      ∙ ap (λ r. and_then r (λ xs. and_then (prepared_from prepare wanted k (t ∷ drop (suc k) ts)) (λ ys. Ok (xs ++ ys)))) e
-      ∙ ap (λ r. and_then r (λ ys. Ok (ps ++ ys))) (first_refused k t (drop (suc k) ts) reason step)
+      ap (prepared_from prepare wanted 0) (split_at ts k unlisted l) ∙ prepared_from-append 0 k (take k ts) (texture ∷ drop (suc k) ts) count
+      ∙ ap (λ r. and_then r (λ xs. and_then (prepared_from prepare wanted k (texture ∷ drop (suc k) ts)) (λ ys. Ok (xs ++ ys)))) e
+      ∙ ap (λ r. and_then r (λ ys. Ok (ps ++ ys))) (first_refused k texture (drop (suc k) ts) reason step)
 
 -- a patch that preparing one texture asks for is one of all that are wanted
 pub wanted_patch : {lumps : List Lump} {lists : TextureLists} {wanted : ℕ → Bool} {k : ℕ} → k < length lists.textures → (lump : ℕ) →
