@@ -33,8 +33,8 @@ unfolding row_so_far
 row_so_far-more bytes from first k byte v old column b l h =
     elim (cases_eq v (first + k)) [
       | inl e ↦
-          let d : v - first ≡ k = omega arith in
-          rw (within-row first k v e, d, e, get_or-set_same) b
+          let offset_is : v - first ≡ k = omega arith in
+          rw (within-row first k v e, offset_is, e, get_or-set_same) b
       | inr ne ↦ rw (get_or-set_other, ← other_row first k v ne) h
     ]
 
