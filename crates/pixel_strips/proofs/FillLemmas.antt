@@ -80,8 +80,8 @@ pub fill_cells-more : (place value : ℕ → ℕ) (k n : ℕ) (cells : List ℕ)
     set (fill_cells place value k cells) (place k) (value k) ≡ fill_cells place value n cells
 unfolding fill_cells
 fill_cells-more place value k n cells e =
-    let f : suc k ≡ n = omega arith in
-    ap (λ (m : ℕ). fill_cells place value m cells) f
+    let next_is : suc k ≡ n = omega arith in
+    ap (λ (m : ℕ). fill_cells place value m cells) next_is
 
 -- a cell that is set again to what it has
 fill_cells-again : (place value : ℕ → ℕ) (cells : List ℕ) → ((i j : ℕ) → i < j → place i < place j) → (k m n : ℕ) → k + 1 + m ≡ n →
@@ -92,7 +92,7 @@ fill_cells-again place value cells below k zero n e =
 fill_cells-again place value cells below k (suc m) n e =
     let last : ℕ = k + 1 + m in
     let more = fill_cells-more place value last n cells (omega (arith, e)) in
-    let apart : place last ≢ place k = let l = below k last (omega arith) in omega arith in
+    let apart : place last ≢ place k = let place_below = below k last (omega arith) in omega arith in
     ap (λ (cs : List ℕ). set cs (place k) (value k)) (sym more)
     ∙ set_comm (fill_cells place value last cells) (place last) (place k) (value last) (value k) apart
     ∙ ap (λ (cs : List ℕ). set cs (place last) (value last)) (fill_cells-again place value cells below k m last refl) ∙ more

@@ -51,7 +51,7 @@ row_bits n = omega arith
 row_of_bits : (z : ℤ) → FitsSigned w32 z → bits_of z / 2 ^ 16 % 2 ^ 7 ≡ texel_row z
 unfolding texel_row shr_word
 row_of_bits (pos n) f = refl
-row_of_bits (negsuc n) f = let h = f.sfits in omega arith
+row_of_bits (negsuc n) f = let word_fits = f.sfits in omega arith
 
 pub row_of_place : (a : ℤ) (place : ℕ) → IsTexelPlace a place → place / 2 ^ ROW_SHIFT ≡ texel_row a
 unfolding lifted
@@ -61,7 +61,7 @@ row_of_place a place p = ap (λ (n : ℕ). n / 2 ^ ROW_SHIFT) p.is ∙ row_bits 
 flat_of_bits : (z : ℤ) → FitsSigned w32 z → bits_of z / 2 ^ 16 % 2 ^ 6 ≡ bits_of (shr_word z FRACTION_BITS) % FLAT_SIDE
 unfolding shr_word
 flat_of_bits (pos n) f = refl
-flat_of_bits (negsuc n) f = let h = f.sfits in omega arith
+flat_of_bits (negsuc n) f = let word_fits = f.sfits in omega arith
 
 -- the carries leave the six highest bits alone
 row_above : (n carries low : ℕ) → carries < 2 ^ 10 → low < 2 ^ 32 →
@@ -152,8 +152,8 @@ flat_place-on x y a b most few place d e h p = record {
 -- so many steps, and so many more
 pub step_at-on : (first step : ℤ) (k m n : ℕ) → k + m ≡ n → step_at (step_at first step k) step m ≡ step_at first step n
 unfolding step_at
-step_at-on first step k zero n e =
-    sym (step_at-zero (step_at first step k) step (plus_fits first (times (pos k) step))) ∙ ap (step_at first step) (let f : k ≡ n = omega (arith, e) in f)
+step_at-on first step k zero n e = sym (step_at-zero (step_at first step k) step (plus_fits first (times (pos k) step)))
+    ∙ ap (step_at first step) (let count_is : k ≡ n = omega (arith, e) in count_is)
 step_at-on first step k (suc m) n e =
     sym (step_at-more (step_at first step k) step m (suc m) (omega arith))
     ∙ ap (λ (z : ℤ). plus z step) (step_at-on first step k m (k + m) refl) ∙ step_at-more first step (k + m) n (omega (arith, e))
