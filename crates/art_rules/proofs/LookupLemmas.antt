@@ -110,13 +110,13 @@ blank_column bytes height x =
 
 joined_same : (f : ℕ → List ℕ) (height : ℕ) (xs : List ℕ) → ((x : ℕ) → f x ≡ replicate height 0) → joined_lists f xs ≡ replicate (height * length xs) 0
 unfolding joined_lists
-joined_same f height [] each = let e : 0 ≡ height * 0 = omega arith in ap (λ (n : ℕ). replicate n 0) e
+joined_same f height [] each = let product_is_zero : 0 ≡ height * 0 = omega arith in ap (λ (n : ℕ). replicate n 0) product_is_zero
 joined_same f height (x ∷ xs) each =
-    let e : height + height * length xs ≡ height * suc (length xs) = omega arith in
+    let product_more : height + height * length xs ≡ height * suc (length xs) = omega arith in
     ap (λ ys. ys ++ joined_lists f xs) (each x)
     ∙ ap (λ ys. replicate height 0 ++ ys) (joined_same f height xs each)
     ∙ replicate-append-replicate height (height * length xs) 0
-    ∙ ap (λ (n : ℕ). replicate n 0) e
+    ∙ ap (λ (n : ℕ). replicate n 0) product_more
 
 -- while no patch is put each byte is 0
 pub composite_of_first-none : (bytes : ℕ → List ℕ) (patches : List PlacedPatch) (width height : ℕ) → composite_of_first bytes patches 0 width height ≡ replicate (composite_size patches width height) 0

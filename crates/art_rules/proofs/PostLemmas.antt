@@ -14,7 +14,7 @@ is_post-within bytes place h = within (length bytes) place (nat_le (length bytes
 
 past : (bytes : List ℕ) (place : ℕ) (b : Bool) → is_post bytes place ≡ b → length bytes ≤ place → is_post bytes place ≡ false
 past bytes place false e l = e
-past bytes place true e l = let w = is_post-within bytes place e in absurd (omega arith)
+past bytes place true e l = let place_within = is_post-within bytes place e in absurd (omega arith)
 
 -- the post after one begins later
 pub next_place-later : (bytes : List ℕ) (place : ℕ) → place + 1 ≤ next_place (post_in bytes place)
