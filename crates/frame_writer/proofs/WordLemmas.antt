@@ -44,18 +44,18 @@ pub words_more : (words palette : List ℕ) (n : ℕ) → 4 * n + 2 < length wor
     (i : ℕ) → i < n + 1 →
     word_colour (with_word words (4 * n) (slice_index palette (3 * n)) (slice_index palette (3 * n + 1)) (slice_index palette (3 * n + 2))) i ≡ colour palette i
 words_more words palette n h below i l =
-    let r : ℕ = slice_index palette (3 * n) in
-    let g : ℕ = slice_index palette (3 * n + 1) in
-    let b : ℕ = slice_index palette (3 * n + 2) in
+    let red : ℕ = slice_index palette (3 * n) in let green : ℕ = slice_index palette (3 * n + 1) in
+    let blue : ℕ = slice_index palette (3 * n + 2) in
     elim (cases_lt i n) [
       | inl s ↦ three _ _ _ _ _ _
-          (other_byte words (4 * n) r g b (4 * i) (omega (arith, s)) (omega (arith, s)) (omega (arith, s)))
-          (other_byte words (4 * n) r g b (4 * i + 1) (omega (arith, s)) (omega (arith, s)) (omega (arith, s)))
-          (other_byte words (4 * n) r g b (4 * i + 2) (omega (arith, s)) (omega (arith, s)) (omega (arith, s)))
+          (other_byte words (4 * n) red green blue (4 * i) (omega (arith, s)) (omega (arith, s)) (omega (arith, s)))
+          (other_byte words (4 * n) red green blue (4 * i + 1) (omega (arith, s)) (omega (arith, s)) (omega (arith, s)))
+          (other_byte words (4 * n) red green blue (4 * i + 2) (omega (arith, s)) (omega (arith, s)) (omega (arith, s)))
           ∙ below i s
       | inr s ↦ let same : n ≡ i = omega (arith, s, l) in
-          ap (word_colour (with_word words (4 * n) r g b)) (sym same)
-          ∙ three _ _ _ _ _ _ (first_byte words (4 * n) r g b (omega arith)) (second_byte words (4 * n) r g b (omega arith)) (third_byte words (4 * n) r g b h)
+          ap (word_colour (with_word words (4 * n) red green blue)) (sym same)
+          ∙ three _ _ _ _ _ _ (first_byte words (4 * n) red green blue (omega arith)) (second_byte words (4 * n) red green blue (omega arith))
+            (third_byte words (4 * n) red green blue h)
           ∙ ap (colour palette) same
     ]
 
@@ -80,10 +80,10 @@ words_frame words palette frame same =
 three_from : (words : List ℕ) (place : ℕ) → place + 2 < length words →
     take 3 (drop place words) ≡ slice_index words place ∷ slice_index words (place + 1) ∷ slice_index words (place + 2) ∷ []
 three_from words place h =
-    let two : place + 1 + 1 ≡ place + 2 = omega arith in
+    let place_is : place + 1 + 1 ≡ place + 2 = omega arith in
     ap (take 3) (drop_more words place 0 (omega arith)
     ∙ ap (λ (xs : List ℕ). get_or words place 0 ∷ xs) (drop_more words (place + 1) 0 (omega arith)
-    ∙ ap (λ (xs : List ℕ). get_or words (place + 1) 0 ∷ xs) (ap (λ (n : ℕ). drop n words) two ∙ drop_more words (place + 2) 0 h)))
+    ∙ ap (λ (xs : List ℕ). get_or words (place + 1) 0 ∷ xs) (ap (λ (n : ℕ). drop n words) place_is ∙ drop_more words (place + 2) 0 h)))
 
 -- what is put somewhere, up to a place within it
 put_below : (colours piece : List ℕ) (a k : ℕ) → a ≤ length colours → 3 ≤ length piece → take (a + 3) (put_mid a k colours piece) ≡ take a colours ++ take 3 piece
