@@ -8,10 +8,10 @@ use Rattle.view_rules.specs.Tables.{projection, seen_column, raw_column, within_
 
 -- products with a number that is not negative keep the order
 product_mono : (a b : ℤ) (m : ℕ) → a ≤ℤ b → (a *ℤ pos m) ≤ℤ (b *ℤ pos m)
-product_mono (pos a) (pos b) m h = let l : a * m ≤ b * m = mul-le-mul_right m (omega (arith, ints)) in omega (arith, ints)
+product_mono (pos a) (pos b) m h = let products_ordered : a * m ≤ b * m = mul-le-mul_right m (omega (arith, ints)) in omega (arith, ints)
 product_mono (pos a) (negsuc b) m h = absurd (omega (arith, ints))
 product_mono (negsuc a) (pos b) m h = omega (arith, ints)
-product_mono (negsuc a) (negsuc b) m h = let l : suc b * m ≤ suc a * m = mul-le-mul_right m (omega (arith, ints)) in omega (arith, ints)
+product_mono (negsuc a) (negsuc b) m h = let products_ordered : suc b * m ≤ suc a * m = mul-le-mul_right m (omega (arith, ints)) in omega (arith, ints)
 
 -- so do shifts to the right by 16 bits
 shift_mono : (a b : ℤ) → a ≤ℤ b → int_shr a 16 ≤ℤ int_shr b 16
@@ -27,10 +27,10 @@ fits_between (negsuc n) l h = record { sfits = omega (arith, ints) }
 
 -- the product of a tangent within reach and a focal length
 product_low : (f : ℤ) (m : ℕ) → negsuc 131071 ≤ℤ f → m ≤ 20971520 → negsuc 2748779069439 ≤ℤ (f *ℤ pos m)
-product_low f m l h = let k : (negsuc 131071 *ℤ pos m) ≤ℤ (f *ℤ pos m) = product_mono (negsuc 131071) f m l in omega (arith, ints)
+product_low f m l h = let product_at_least : (negsuc 131071 *ℤ pos m) ≤ℤ (f *ℤ pos m) = product_mono (negsuc 131071) f m l in omega (arith, ints)
 
 product_high : (f : ℤ) (m : ℕ) → f ≤ℤ pos 131072 → m ≤ 20971520 → (f *ℤ pos m) ≤ℤ pos 2748779069440
-product_high f m l h = let k : (f *ℤ pos m) ≤ℤ (pos 131072 *ℤ pos m) = product_mono f (pos 131072) m l in omega (arith, ints)
+product_high f m l h = let product_at_most : (f *ℤ pos m) ≤ℤ (pos 131072 *ℤ pos m) = product_mono f (pos 131072) m l in omega (arith, ints)
 
 shifted_low : (z : ℤ) → negsuc 2748779069439 ≤ℤ z → negsuc 41943039 ≤ℤ int_shr z 16
 shifted_low z h = shift_mono (negsuc 2748779069439) z h
@@ -99,12 +99,12 @@ raw_cases : (w : ℕ) (fl fr gl gr : Bool) (s r : ℤ) → minus_one ≤ℤ s �
     (fl ≡ true → gl ≡ true) → (gr ≡ true → fr ≡ true) → (gl ≡ false → fr ≡ false → r ≤ℤ s) →
     cond gl minus_one (cond gr (pos (w + 1)) r) ≤ℤ cond fl minus_one (cond fr (pos (w + 1)) s)
 raw_cases w true fr true gr s r a b c d p q k = omega (arith, ints)
-raw_cases w true fr false gr s r a b c d p q k = let e : false ≡ true = p refl in cc
+raw_cases w true fr false gr s r a b c d p q k = let false_is_true : false ≡ true = p refl in cc
 raw_cases w false true true gr s r a b c d p q k = omega (arith, ints)
 raw_cases w false false true gr s r a b c d p q k = a
 raw_cases w false true false true s r a b c d p q k = omega (arith, ints)
 raw_cases w false true false false s r a b c d p q k = d
-raw_cases w false false false true s r a b c d p q k = let e : false ≡ true = q refl in cc
+raw_cases w false false false true s r a b c d p q k = let false_is_true : false ≡ true = q refl in cc
 raw_cases w false false false false s r a b c d p q k = k refl refl
 
 lt_left : (a f g : ℤ) → f ≤ℤ g → int_lt a f ≡ true → int_lt a g ≡ true

@@ -16,7 +16,7 @@ reach angle = turn angle ang90
 end_cases : (twice past angle edge l : ℕ) (cut gone : Bool) → nat_lt twice past ≡ cut → cond cut (cond gone None (Some edge)) (Some angle) ≡ Some l → (l ≡ edge) ⊎ ((l ≡ angle) × (past ≤ twice))
 end_cases twice past angle edge l true true t e = cc
 end_cases twice past angle edge l true false t e = inl (cc)
-end_cases twice past angle edge l false gone t e = let h : past ≤ twice = grind (arith, nat_tests) in inr (cc, h)
+end_cases twice past angle edge l false gone t e = let past_is_within : past ≤ twice = grind (arith, nat_tests) in inr (cc, past_is_within)
 
 -- an end of a range is the edge, or its own angle where that is not past its edge
 end_is : (clip span past angle edge l : ℕ) → clipped_end clip span past angle edge ≡ Some l → (l ≡ edge) ⊎ ((l ≡ angle) × (past ≤ turn clip clip))
