@@ -18,9 +18,9 @@ pub file_answers : {B : Type 0} {value : B → List Lump} {result : Result B Dir
 unfolding file_lumps
 file_answers {value} {result} steady file before bytes head piece given e p q answers =
     let fine = unless_refused_ok (header_refusal file before bytes) (header_in (length bytes) (header bytes)) head e in
-    let r : head ≡ header_in (length bytes) (header bytes) = sym fine.1 in
-    let n : given ≡ take (16 * head.count) (drop head.place bytes) = cc in
-    rw fine.0 (rw (n, r) at (answers_whatever steady result answers))
+    let head_is : head ≡ header_in (length bytes) (header bytes) = sym fine.1 in
+    let given_is : given ≡ take (16 * head.count) (drop head.place bytes) = cc in
+    rw fine.0 (rw (given_is, head_is) at (answers_whatever steady result answers))
 
 -- Some files were read, without a refusal and with these lumps.
 pub record IsReadTo (contents : List (List ℕ)) (i : ℕ) (lumps : List Lump) : Type 0 where
@@ -53,10 +53,10 @@ pub file_stops : {B D : Type 0} {later : Bool} {v : D → List Lump} {part : Res
     ResultIs dir_fault later v (unless_refused (file_refusal i (length lumps) (get_or contents i [])) (file_lumps i (get_or contents i []))) part → part ≡ Err fault →
     IsErrAnd result (λ e. e ≡ fault) → ResultIs dir_fault steady value (directory contents) result
 file_stops {B} {D} {later} {v} {part} {value} steady contents i lumps fault result lt so_far s answers was is =
-    let p : (y : DirFault) × (result ≡ Err y) × (y ≡ fault) = err_from_is_err_and result is in
-    let h : FaultFits later (unless_refused (file_refusal i (length lumps) (get_or contents i [])) (file_lumps i (get_or contents i []))) (dir_fault fault) = rw was at answers.err in
-    let k : FaultFits later (directory contents) (dir_fault p.0) = rw p.2 (first_stop contents i lumps later (dir_fault fault) lt so_far h) in
-    rw (p.1, ← s) (record { ok = tt; err = k })
+    let error_is : (y : DirFault) × (result ≡ Err y) × (y ≡ fault) = err_from_is_err_and result is in
+    let fault_fits : FaultFits later (unless_refused (file_refusal i (length lumps) (get_or contents i [])) (file_lumps i (get_or contents i []))) (dir_fault fault) = rw was at answers.err in
+    let stop_fits : FaultFits later (directory contents) (dir_fault error_is.0) = rw error_is.2
+    (first_stop contents i lumps later (dir_fault fault) lt so_far fault_fits) in rw (error_is.1, ← s) (record { ok = tt; err = stop_fits })
 
 -- all files were read
 pub all_read : {B : Type 0} {value : B → List Lump} (steady : Bool) (contents : List (List ℕ)) (i : ℕ) (found : B) → length contents ≤ i →
@@ -90,5 +90,5 @@ pub header-read : (number before size : ℕ) (bytes head : List ℕ) (found : Re
     found ≡ unless_refused (whole_header_refusal number before size head) (header_in size head) → unless_refused (header_refusal number before bytes) (header_in (length bytes) (header bytes)) ≡ found
 header-read number before size bytes head found same long whole piece is =
     let off : nat_lt (length bytes) HEADER_SIZE ≡ false = grind (arith, nat_tests) in
-    let first : head ≡ header bytes = rw whole at piece.bytes in
-    rw (off, ← same, ← first) (sym is)
+    let head_is : head ≡ header bytes = rw whole at piece.bytes in
+    rw (off, ← same, ← head_is) (sym is)

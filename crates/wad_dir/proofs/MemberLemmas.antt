@@ -50,9 +50,9 @@ filter_last p n = ap (λ k. filter p (range_with_len 0 k)) (sym (add-one n)) ∙
 filter_agrees : (p q : ℕ → Bool) (n : ℕ) → ((k : ℕ) → k < n → p k ≡ q k) → filter p (range_with_len 0 n) ≡ filter q (range_with_len 0 n)
 filter_agrees p q zero agree = refl
 filter_agrees p q (suc n) agree =
-    let e : filter p (range_with_len 0 n) ++ cond (p n) (n ∷ []) [] ≡ filter q (range_with_len 0 n) ++ cond (q n) (n ∷ []) [] =
+    let filters_same : filter p (range_with_len 0 n) ++ cond (p n) (n ∷ []) [] ≡ filter q (range_with_len 0 n) ++ cond (q n) (n ∷ []) [] =
     rw (agree n (omega arith), filter_agrees p q n (λ k lt. agree k (omega arith))) refl in
-    filter_last p n ∙ e ∙ sym (filter_last q n)
+    filter_last p n ∙ filters_same ∙ sym (filter_last q n)
 
 -- where the members are marked, the marked numbers are theirs
 pub members_marked : (group : Group) (marked : List Bool) (lumps : List Lump) → length marked ≡ length lumps → marked ≡ listed (is_member group lumps) (length lumps) →
