@@ -108,8 +108,8 @@ past_new shape walls w x = clip_past-next shape walls w (length walls) x refl
 before_more : (shape : ViewShape) (walls : List Wall) (w : Wall) (x : ℕ) → clip_past shape (with_wall walls w) (length walls) x ≡ clip_before shape (with_wall walls w) (length (with_wall walls w)) x
 unfolding clip_past
 before_more shape walls w x =
-    let next : suc (length walls) ≡ length (with_wall walls w) = omega (arith, length-append walls (w ∷ [])) in
-    ap (λ (k : ℕ). clip_before shape (with_wall walls w) k x) next
+    let count_next : suc (length walls) ≡ length (with_wall walls w) = omega (arith, length-append walls (w ∷ [])) in
+    ap (λ (k : ℕ). clip_before shape (with_wall walls w) k x) count_next
 
 along_is : (v : ViewValue) (facts : WallFacts) (first last x height : ℕ) (before : ℕ → ColumnClip) (clip : ColumnClip) → first ≤ last → height ≡ v.shape.height → before x ≡ clip →
     clip_along height (fragment_of v facts first last) before (last + 1 - first) x ≡ past_wall v.shape x (wall_of v facts first last) clip
@@ -171,7 +171,7 @@ left_open : {v : ViewValue} {walls : List Wall} {s : PlanesNow} {facts : WallFac
     WallDrawn v walls s facts first last notes old checked new before between later places note → (x : ℕ) → first ≤ x → x ≤ last →
     window_at new.windows x ≡ clip_past v.shape (with_wall walls (wall_of v facts first last)) (length walls) x
 left_open {v} {walls} {s} {facts} {first} {last} {notes} {old} {checked} {new} d x from to =
-    let within = d.within in
+    let last_within = d.within in
     sym (clip_at-window notes new x) ∙ clips_after d notes x (omega arith) ∙ sym (before_more v.shape walls (wall_of v facts first last) x)
 
 -- equal entries make equal lists
@@ -267,7 +267,7 @@ now_after {v} {walls} {s} {facts} {first} {last} {notes} {old} {checked} {new} {
       ceiling = checked_now.ceiling;
     } in
     let ordered = d.ordered in
-    let within = d.within in
+    let last_within = d.within in
     let new_planes : now_of new later ≡ marked = ap (λ (ps : List Plane).
     let planes_now : PlanesNow = record { planes = ps; floor = plane_number new.floor; ceiling = plane_number new.ceiling } in planes_now)
     (ap (λ (p : PlanesView). p.planes) d.marked.planes)
@@ -316,18 +316,18 @@ built-range v facts first last n f notes old checked drawn new before between la
     taken marked openings saved noted pushed walls s h =
     let wall : Wall = wall_of v facts first last in
     let numbers : n ≡ fragment_numbers v facts first last = own ∙ ap (λ (f : FragmentValue). f.numbers) is in
-    let built = built-inside v walls s notes old before view h in
+    let built_before = built-inside v walls s notes old before view h in
     let ChecksBoth : FragmentNumbers → Type 0 = λ n. now_of checked between ≡ both_checks n first last s in
     let HasTakenBy : FragmentNumbers → Type 0 = λ n. HasTaken n (last + 1 - first) old.openings checked.openings places in
     let HasMarkedBy : FragmentValue → Type 0 = λ f. HasMarked f (columns_of f) checked new between later in
     let columns : List ℤ = listed_from (texture_column v facts) first last in
-    let all : WallDrawn v walls s facts first last notes old checked new before between later places note = record {
-      built = built;
+    let wall_drawn : WallDrawn v walls s facts first last notes old checked new before between later places note = record {
+      built = built_before;
       ordered = ordered;
       within = within;
       frame = frame;
       windows = windows;
-      planes = subst ChecksBoth numbers (planes s (built-now v walls s notes old before built));
+      planes = subst ChecksBoth numbers (planes s (built-now v walls s notes old before built_before));
       taken = subst HasTakenBy numbers taken;
       marked = subst HasMarkedBy is (marked-saved saved marked);
       saved = saved.saved facts is
@@ -336,7 +336,7 @@ built-range v facts first last n f notes old checked drawn new before between la
     } in
     let IsBuiltWith : List FragmentNote → Type 0 = λ items.
     IsBuilt v (with_wall walls wall) (after_event s (step_of_wall v walls wall).event) (walls_view items new) later.planes in
-    subst IsBuiltWith (sym pushed) (built_wall all)
+    subst IsBuiltWith (sym pushed) (built_wall wall_drawn)
 
 length_notes : (v : ViewValue) (walls : List Wall) (place : ℕ) → length (notes_from v place walls) ≡ length walls
 unfolding notes_from

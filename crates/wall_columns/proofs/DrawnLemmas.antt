@@ -88,8 +88,8 @@ by_numbers v art k x f facts before height n clip e plan p q r s =
 shown_at : (f : FragmentValue) (before : ℕ → ColumnClip) (x height : ℕ) (n : FragmentNumbers) (clip : ColumnClip) (e : Edges) (plan : ColumnPlan) → plan ≡ plan_of height n clip e → n ≡ f.numbers → clip ≡ before x → e ≡ column_edges f x →
     (number : ℕ) → IsPlanTexture n plan number → ShowsAt f before x number
 shown_at f before x height n clip e plan pl nu cl ed number h =
-    let own : IsPlanTexture n (plan_of height n clip e) number = subst (λ (plan : ColumnPlan). IsPlanTexture n plan number) pl h in
-    let found = plan-shown height n clip e number own in
+    let plan_has_texture : IsPlanTexture n (plan_of height n clip e) number = subst (λ (plan : ColumnPlan). IsPlanTexture n plan number) pl h in
+    let found = plan-shown height n clip e number plan_has_texture in
     record {
       strip = found.0;
       among = subst (λ (n : FragmentNumbers). Contains (wall_strips n (before x) (column_edges f x)) found.0) nu
@@ -219,8 +219,7 @@ shown_seen v facts first last f notes columns windows {state} view same is numbe
     let texture_shown : IsShownOf (fragment_of v facts first last) = subst IsShownOf is h in
     let IsSeenIn : WallsView → Type 0 = λ w. IsSeenOf v w facts first last number own in
     let HasStrip : WindowsView → Type 0 = λ w. Contains (wall_strips (fragment_numbers v facts first last) (window_at w texture_shown.x) (edges_at v.shape (fragment_numbers v facts first last) (texture_shown.x - first))) texture_shown.shows.strip in
-    let range : WallRange = record { facts = facts; first = first; last = last } in
-    subst IsSeenIn view (record {
+    let range : WallRange = record { facts = facts; first = first; last = last } in subst IsSeenIn view (record {
       x = texture_shown.x;
       from = texture_shown.from;
       to = texture_shown.to;
@@ -235,9 +234,9 @@ pub seen-texture : (v : ViewValue) (state : WallsView) (facts : WallFacts) (firs
 unfolding wall_of
 seen-texture v state facts first last number own h =
     let numbers = fragment_numbers v facts first last in
-    let there = wall_strips-there numbers (clip_at state h.x) (wall_edges v.shape (wall_of v facts first last) h.x) h.strip h.among in
-    let some = subst (λ (m : ℕ). m ≢ 0) (sym h.texture.1) there.0 in
-    (some, numbers-texture v facts first last number some (subst (IsPartTexture numbers) (sym h.texture.1) there.1))
+    let part_there = wall_strips-there numbers (clip_at state h.x) (wall_edges v.shape (wall_of v facts first last) h.x) h.strip h.among in
+    let some = subst (λ (m : ℕ). m ≢ 0) (sym h.texture.1) part_there.0 in
+    (some, numbers-texture v facts first last number some (subst (IsPartTexture numbers) (sym h.texture.1) part_there.1))
 
 -- what paints the columns of the fragment of a seg paints it behind those that are there
 pub paints-range : (v : ViewValue) (t : PaintTools) (mark : Painter → ℕ → ℕ) (facts : WallFacts) (first last number : ℕ) (f : FragmentValue) (notes : List FragmentNote) (columns : ColumnState) (windows : WindowsView)

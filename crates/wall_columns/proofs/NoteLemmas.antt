@@ -80,7 +80,7 @@ place_in false n total place h = tt
 
 ends_later : (b : Bool) (n place rest total : ℕ) → place + room_of b n + rest ≤ total → b ≡ true → place + n ≤ total
 ends_later true n place rest total h e = omega arith
-ends_later false n place rest total h e = absurd (let never : false ≡ true = e in cc)
+ends_later false n place rest total h e = absurd (let false_is_true : false ≡ true = e in cc)
 
 -- the lists lie before the end
 pub places_of-in : (n : FragmentNumbers) (place columns total : ℕ) → (places_of n place columns).end ≤ total → ArePlacesIn columns total (places_of n place columns)
@@ -88,7 +88,7 @@ unfolding places_of
 places_of-in n place columns total h =
     let masked_room : ℕ = room_of n.masked columns in let top_room : ℕ = room_of (saves_top n) columns in
     let bottom_room : ℕ = room_of (saves_bottom n) columns in
-    let all : place + masked_room + top_room + bottom_room ≤ total = h in
+    let all_within : place + masked_room + top_room + bottom_room ≤ total = h in
     record {
       masked = place_in n.masked columns total place (ends_later n.masked columns place (top_room + bottom_room) total (omega arith));
       top = place_in (saves_top n) columns total (place + masked_room) (ends_later (saves_top n) columns (place + masked_room) bottom_room total (omega arith));
@@ -108,5 +108,5 @@ places_of-end n place columns =
 pub places_of-within : (n : FragmentNumbers) (place columns total : ℕ) (places : SavePlaces) → places ≡ places_of n place columns → places.end ≤ total → ArePlacesIn columns total places
 places_of-within n place columns total places e h =
     let PlacesIn : SavePlaces → Type 0 = λ p. ArePlacesIn columns total p in
-    let end = ap (λ (p : SavePlaces). p.end) e in
+    let end_is = ap (λ (p : SavePlaces). p.end) e in
     subst PlacesIn (sym e) (places_of-in n place columns total (omega arith))

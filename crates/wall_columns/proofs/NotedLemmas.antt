@@ -34,7 +34,7 @@ unfolding clip_note
 is_noted true there masked row place h = tt
 is_noted false true masked row place h = tt
 is_noted false false true row place h = tt
-is_noted false false false row place h = absurd (let never : false ≡ true = h in cc)
+is_noted false false false row place h = absurd (let false_is_true : false ≡ true = h in cc)
 
 -- a silhouette has its bit
 top_bit : (bottom top masked : Bool) → bit_and (SIL_BOTTOM * from_bool bottom + SIL_TOP * from_bool top) SIL_TOP ≢ 0 → (top || masked) ≡ true
@@ -51,7 +51,7 @@ masked_too : (there masked : Bool) (place : ℕ) → IsSome (place_if masked pla
 unfolding place_if
 masked_too true masked place h = refl
 masked_too false true place h = refl
-masked_too false false place h = absurd (let never : false ≡ true = h in cc)
+masked_too false false place h = absurd (let false_is_true : false ≡ true = h in cc)
 
 -- the rows of the clips past a fragment
 past_in : (shape : ViewShape) (walls : List Wall) (k x : ℕ) → shape.height ≤ FRAME_HEIGHT → IsClipIn shape.height (clip_past shape walls k x)
@@ -81,7 +81,7 @@ bottom_clip-in shape walls k w x s = bottom_range shape w.numbers.bottom_is_cons
 room_true : (b : Bool) (w : Wall) → b ≡ true → room_if b w ≡ w.last + 1 - w.first
 unfolding room_if
 room_true true w e = refl
-room_true false w e = absurd (let never : false ≡ true = e in cc)
+room_true false w e = absurd (let false_is_true : false ≡ true = e in cc)
 
 -- the scales of a drawn fragment
 drawn_scale : (v : ViewValue) (w : Wall) (k : ℕ) → IsDrawn v w → k ≤ w.last - w.first → pos 0 <ℤ step_at w.numbers.scale1 w.numbers.step k
@@ -96,17 +96,16 @@ whole_note : (v : ViewValue) (walls : List Wall) (k : ℕ) (w : Wall) (before af
     IsWholeNote v.shape (before ++ (saved_by v walls k w ++ after)) (note_at v w place)
 unfolding note_at silhouette_of saves_top saves_bottom
 whole_note v walls k w before after place e s d =
-    let numbers : FragmentNumbers = w.numbers in
-    let openings : List ℤ = before ++ (saved_by v walls k w ++ after) in
+    let numbers : FragmentNumbers = w.numbers in let openings : List ℤ = before ++ (saved_by v walls k w ++ after) in
     let total : length openings ≡ length before + (length (saved_by v walls k w) + length after) = length-append before (saved_by v walls k w ++ after) ∙ ap (λ (m : ℕ). length before + m) (length-append (saved_by v walls k w) after) in
-    let saved = length-saved_by v walls k w in
+    let saved_length = length-saved_by v walls k w in
     let top_place : ℕ = place + room_if numbers.masked w in let bottom_place : ℕ = place + room_if numbers.masked w + room_if (saves_top numbers) w in
     record {
       ordered = d.ordered; within = d.within;
       scale = λ x l h. drawn_scale v w (x - w.first) d (omega arith);
-      columns = listed_at numbers.masked openings (note_at v w place) place 0 (λ t. let room = room_true numbers.masked w t in omega arith);
-      top_list = clip_among numbers.top_is_constant (saves_top numbers) (pos v.shape.height) openings (note_at v w place) top_place (λ t. let room = room_true (saves_top numbers) w t in omega arith);
-      bottom_list = clip_among numbers.bottom_is_constant (saves_bottom numbers) minus_one openings (note_at v w place) bottom_place (λ t. let room = room_true (saves_bottom numbers) w t in omega arith);
+      columns = listed_at numbers.masked openings (note_at v w place) place 0 (λ t. let room_is = room_true numbers.masked w t in omega arith);
+      top_list = clip_among numbers.top_is_constant (saves_top numbers) (pos v.shape.height) openings (note_at v w place) top_place (λ t. let room_is = room_true (saves_top numbers) w t in omega arith);
+      bottom_list = clip_among numbers.bottom_is_constant (saves_bottom numbers) minus_one openings (note_at v w place) bottom_place (λ t. let room_is = room_true (saves_bottom numbers) w t in omega arith);
       top = λ h. is_noted numbers.top_is_constant numbers.top.is_there numbers.masked (pos v.shape.height) top_place
           (top_bit numbers.bottom.is_there numbers.top.is_there numbers.masked h);
       bottom = λ h. is_noted numbers.bottom_is_constant numbers.bottom.is_there numbers.masked minus_one bottom_place
@@ -115,13 +114,13 @@ whole_note v walls k w before after place e s d =
           (masked_too numbers.top.is_there numbers.masked place h);
       masked_bottom = λ h. is_noted numbers.bottom_is_constant numbers.bottom.is_there numbers.masked minus_one bottom_place
           (masked_too numbers.bottom.is_there numbers.masked place h);
-      top_rows = λ x l m h. let row = note-top_clip v walls k w before after place x e l m
+      top_rows = λ x l m h. let clip_is = note-top_clip v walls k w before after place x e l m
           (noted_clip numbers.top_is_constant (saves_top numbers) (pos v.shape.height) top_place h) in
-          let IsTopClip : ℤ → Type 0 = λ z. (minus_one ≤ℤ z) × (z ≤ℤ greatest_clip) in subst IsTopClip (sym row) (top_clip-in v.shape walls k w x s);
-      bottom_rows = λ x l m h. let row = note-bottom_clip v walls k w before after place x e l m
+          let IsTopClip : ℤ → Type 0 = λ z. (minus_one ≤ℤ z) × (z ≤ℤ greatest_clip) in subst IsTopClip (sym clip_is) (top_clip-in v.shape walls k w x s);
+      bottom_rows = λ x l m h. let clip_is = note-bottom_clip v walls k w before after place x e l m
           (noted_clip numbers.bottom_is_constant (saves_bottom numbers) minus_one bottom_place h) in
           let IsBottomClip : ℤ → Type 0 = λ z. (least_clip ≤ℤ z) × (z ≤ℤ pos v.shape.height) in
-          subst IsBottomClip (sym row) (bottom_clip-in v.shape walls k w x s);
+          subst IsBottomClip (sym clip_is) (bottom_clip-in v.shape walls k w x s);
     }
 
 -- all notes from one on
@@ -132,10 +131,10 @@ whole_from v walls [] k before place e s d i = tt
 whole_from v walls (w ∷ ws) k before place e s d zero = whole_note v walls k w before (saved_from v walls (k + 1) ws) place e s d.0
 whole_from v walls (w ∷ ws) k before place e s d (suc i) =
     let next : ℕ = place + room_if w.numbers.masked w + room_if (saves_top w.numbers) w + room_if (saves_bottom w.numbers) w in
-    let long : length (before ++ saved_by v walls k w) ≡ next = omega (arith, length-append before (saved_by v walls k w), length-saved_by v walls k w) in
+    let length_is : length (before ++ saved_by v walls k w) ≡ next = omega (arith, length-append before (saved_by v walls k w), length-saved_by v walls k w) in
     let IsWholeAt : List ℤ → Type 0 = λ openings. IfSome (slice_get (notes_from v next ws) i) (IsWholeNote v.shape openings) in
     subst IsWholeAt (append_assoc before (saved_by v walls k w) (saved_from v walls (k + 1) ws))
-    (whole_from v walls ws (k + 1) (before ++ saved_by v walls k w) next long s d.1 i)
+    (whole_from v walls ws (k + 1) (before ++ saved_by v walls k w) next length_is s d.1 i)
 
 -- the lists of later notes begin later
 at_place : (masked : Bool) (place low : ℕ) → low ≤ place → IfSome (place_if masked place) (λ (p : ℕ). low ≤ p)

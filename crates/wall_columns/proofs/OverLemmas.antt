@@ -34,8 +34,7 @@ ends_at : (v : ViewValue) (walls : List Wall) (k : ℕ) (facts : WallFacts) (fir
 unfolding places_of room_if wall_of
 ends_at v walls k facts first last place =
     let saved_by_rooms = length-saved_by v walls k (wall_of v facts first last) in
-    let saved_by_openings = length-saved_openings v walls k (wall_of v facts first last) in
-    omega arith
+    let saved_by_openings = length-saved_openings v walls k (wall_of v facts first last) in omega arith
 
 wall_over : (v : ViewValue) (walls : List Wall) (facts : WallFacts) (first last : ℕ) (state : WallsView) (planes : PlanesView) (s : PlanesNow) (place : ℕ) →
     openings_over state.room (place + openings_of (wall_of v facts first last)) (checks_over planes.room (fragment_numbers v facts first last) first last s)

@@ -19,8 +19,8 @@ within first last own x left top width height from to is_first is_last ordered l
 pub returns-then-rows-clause-paints : goal.returns-then-rows-clause-paints
 returns-then-rows-clause-paints g c =
     let tools = c.args.tools.now in
-    let past : int_lt c.args.rows.last c.args.rows.first ≡ true = grind (arith, ints) in
-    paints-same _ (λ contents q is. strips-empty tools.view.now.shape (painted_art contents (wall_tools tools)) c.args.look.now c.args.part c.args.rows past)
+    let no_rows : int_lt c.args.rows.last c.args.rows.first ≡ true = grind (arith, ints) in
+    paints-same _ (λ contents q is. strips-empty tools.view.now.shape (painted_art contents (wall_tools tools)) c.args.look.now c.args.part c.args.rows no_rows)
     (paints-none (wall_state g.S.Shelf.view g.C.Canvas.view tools) tt)
 
 pub paint_texture-requires-clause-texture : goal.paint_texture-requires-clause-texture
@@ -35,10 +35,10 @@ paint_texture-requires-clause-within g c =
     let fields = c.texture_strip-strip.ensures in
     let canvas = g.C.Canvas.view c.args.tools.now.canvas.now in
     let shape = c.args.tools.now.view.now.shape in
-    let placed = c.requires.column in
+    let column_placed = c.requires.column in
     let ordered : c.args.rows.first ≤ℤ c.args.rows.last = grind (arith, ints) in
     within strip.first strip.last strip.x c.args.look.now.x canvas.left canvas.top shape.width shape.height c.args.rows.first c.args.rows.last
-    fields.first fields.last ordered (c.requires.rows ordered).1 fields.x placed.0 placed.1.columns placed.1.rows
+    fields.first fields.last ordered (c.requires.rows ordered).1 fields.x column_placed.0 column_placed.1.columns column_placed.1.rows
 
 pub returns-in_err-paint_texture-clause-paints : goal.returns-in_err-paint_texture-clause-paints
 returns-in_err-paint_texture-clause-paints g c =

@@ -23,8 +23,8 @@ returns-in_err-self-2-clause-limit c = λ s e.
     let floor = plane_number c.args.self.now.floor in
     let counts = checks_over-counts planes.room s planes numbers c.args.first c.args.last floor (plane_number c.args.self.now.ceiling) e
     c.check_plane.new.planes c.in_ok-self.ensures.ok in
-    let room = c.in_ok-self.ensures.room in
-    let past : c.check_plane.new.planes.room < length (planes_checked c.check_plane.new.planes.planes (checked_plane numbers.floor_mark c.check_plane.new.planes.planes floor c.args.first c.args.last)) =
+    let room_same = c.in_ok-self.ensures.room in
+    let room_below_length : c.check_plane.new.planes.room < length (planes_checked c.check_plane.new.planes.planes (checked_plane numbers.floor_mark c.check_plane.new.planes.planes floor c.args.first c.args.last)) =
     c.in_err-self-2.ensures.full.0 refl in
     limit-told c.from_residual-in_err-self-2.result _ c.from_residual-in_err-self-2.ensures.0 c.from_residual-in_err-self-2.ensures.1 c.in_err-self-2.ensures.fault
     (counts.second c.in_ok-self.ensures.full.1 (omega arith))
@@ -43,5 +43,5 @@ returns-clause-limit c = λ s e.
     let numbers = c.args.numbers.now in
     let counts = checks_over-counts planes.room s planes numbers c.args.first c.args.last (plane_number c.args.self.now.floor) (plane_number c.args.self.now.ceiling) e
     c.check_plane.new.planes c.in_ok-self.ensures.ok in
-    let room = c.in_ok-self.ensures.room in
+    let room_same = c.in_ok-self.ensures.room in
     sym (counts.none c.in_ok-self.ensures.full.1 (λ l. c.in_ok-self-2.ensures.full.1 (omega arith)))

@@ -11,8 +11,7 @@ use Rattle.wall_columns.proofs.column_state.ColumnState.take_openings.Goals as g
 pub extend-requires : goal.extend-requires
 extend-requires c =
     let end_is = ap (λ (p : SavePlaces). p.end) c.save_places-places.ensures in
-    let end_bounded = (places_of-end c.args.numbers.now c.count.result (c.args.last + 1 - c.args.first)).0 in
-    omega arith
+    let end_bounded = (places_of-end c.args.numbers.now c.count.result (c.args.last + 1 - c.args.first)).0 in omega arith
 
 pub returns-in_err-extend-clause-limit : goal.returns-in_err-extend-clause-limit
 returns-in_err-extend-clause-limit c =

@@ -32,8 +32,8 @@ pub returns-clause-built : goal.returns-clause-built
 returns-clause-built c = λ walls s h few.
     let view = c.args.view.now in
     let facts = c.args.facts.now in
-    let shape = ap (λ (s : ViewShape). s.width) c.shape-shape.ensures.value in
-    let wide = c.shape-shape.ensures.frame.width in
+    let width_is = ap (λ (s : ViewShape). s.width) c.shape-shape.ensures.value in
+    let width_in_frame = c.shape-shape.ensures.frame.width in
     let frame : view.shape.width ≤ FRAME_WIDTH = omega arith in
     built-range view facts c.args.first c.args.last c.numbers-numbers.result c.new-fragment.result c.self.inside.notes.items
     c.self.inside.columns c.begin.new.self c.count_columns.new.self c.save_columns.new.self c.args.planes.now c.begin.new.planes c.count_columns.new.planes
