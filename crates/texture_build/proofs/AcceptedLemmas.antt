@@ -18,10 +18,10 @@ module _ (P : Texture → Type 0) (each : (bytes : List ℕ) (i : ℕ) → wrong
   all_first : (bytes : List ℕ) → wrong_record bytes ≡ None → All P (textures_in bytes)
   unfolding textures_in
   all_first bytes none = All-from_get_or P (textures_in bytes) unlisted (λ i lt.
-      let read = λ (k : ℕ). texture_in bytes (texture_place bytes k) in
-      let listed_length = length-listed read (list_count bytes) in
-      let within : i < list_count bytes = omega arith in
-      subst P (sym (get_or-listed read (list_count bytes) i unlisted within)) (each bytes i none within))
+      let record_at = λ (k : ℕ). texture_in bytes (texture_place bytes k) in
+      let listed_length = length-listed record_at (list_count bytes) in
+      let index_within : i < list_count bytes = omega arith in
+      subst P (sym (get_or-listed record_at (list_count bytes) i unlisted index_within)) (each bytes i none index_within))
 
   all_later : (before : ℕ) (second : Option (List ℕ)) → later_wrong before second ≡ None → All P (later_textures second)
   unfolding later_wrong later_textures
@@ -49,8 +49,7 @@ module _ (P : Texture → Type 0) (each : (bytes : List ℕ) (i : ℕ) → wrong
   all_lists : (p t1 t2 : Option (List ℕ)) (lists : TextureLists) → texture_lists p t1 t2 ≡ Ok lists → All P lists.textures
   unfolding texture_lists
   all_lists p t1 t2 lists e =
-      let names_read = and_then-ok (patch_names p) _ lists e in
-      let both_lists_read = and_then-ok (both_lists t1 t2) _ lists names_read.2 in
+      let names_read = and_then-ok (patch_names p) _ lists e in let both_lists_read = and_then-ok (both_lists t1 t2) _ lists names_read.2 in
       let textures_are : both_lists_read.0 ≡ lists.textures = ap (λ (r : Result TextureLists TexRefusal). textures_of r) both_lists_read.2 in
       subst (All P) textures_are (all_both t1 t2 both_lists_read.0 both_lists_read.1)
     where

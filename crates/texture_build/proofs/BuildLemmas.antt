@@ -99,7 +99,7 @@ module _ {number : ℕ} {t : PreparedTexture} {i j k : ℕ} {u v w : ShelfView} 
     answers = λ contents stand within. subst (λ s. ResultIs cache_fault s (λ (done : Unit {0}). done) (Ok tt) result) first.keeps.follows.steady (next.answers contents (all_stand_later u v dir.files contents first.keeps.follows stand) within);
     causes = causes_earlier u.faults v.faults w.faults result first.keeps.follows.faults next.causes;
     full = full_earlier t first.keeps result next.full;
-    order = λ items all ord. let before = first.order items all ord in order_after items x y z u.taken v.taken w.taken result before (next.order items all before.order);
+    order = λ items all ord. let ordered_before = first.order items all ord in order_after items x y z u.taken v.taken w.taken result ordered_before (next.order items all ordered_before.order);
     put = λ contents told has. next.put contents (told_build first.keeps told) (first.put contents told has);
   }
 

@@ -35,8 +35,8 @@ module _ (lumps : List Lump) where
 
 below_width : (width mask : ℕ) → 0 < width → IsMask width mask → mask < width
 below_width width mask some m =
-    let within = m.within in
-    let is = m.is in
+    let column_within = m.within in
+    let column_is = m.is in
     omega arith
 
 -- the mask of a texture's columns is one of them

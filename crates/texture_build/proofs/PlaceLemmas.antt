@@ -28,10 +28,10 @@ pub step_made : (bytes : ℕ → List ℕ) (number : ℕ) (entry : TextureEntry)
 unfolding or_missing step_of
 step_made bytes number entry lump live columns new result patch known value told is =
     let of : patch.lump ≡ lump = lump_placed entry lump live result patch value is in
-    let made : IfSome live (λ xs. new ≡ columns_with xs patch columns) = subst (λ r. IfSome r (λ p. IfSome live (λ xs. new ≡ columns_with xs p columns))) is told in
-    let same : new ≡ columns_with (bytes lump) patch columns = subst (λ o. IfSome o (λ xs. new ≡ columns_with xs patch columns)) known made in
+    let columns_made : IfSome live (λ xs. new ≡ columns_with xs patch columns) = subst (λ r. IfSome r (λ p. IfSome live (λ xs. new ≡ columns_with xs p columns))) is told in
+    let columns_same : new ≡ columns_with (bytes lump) patch columns = subst (λ o. IfSome o (λ xs. new ≡ columns_with xs patch columns)) known columns_made in
     ap (λ o. or_missing number (option_map (step_of bytes columns) o)) (placed_live bytes entry lump live result known value ∙ is)
-    ∙ ap (λ xs. Ok (record { patch = patch; columns = xs })) (ap (λ (n : ℕ). columns_with (bytes n) patch columns) of ∙ sym same)
+    ∙ ap (λ xs. Ok (record { patch = patch; columns = xs })) (ap (λ (n : ℕ). columns_with (bytes n) patch columns) of ∙ sym columns_same)
 
 pub step_missing : (bytes : ℕ → List ℕ) (number : ℕ) (entry : TextureEntry) (lump : ℕ) (live : Option (List ℕ)) (columns : List ColumnLookup) (result : Option PlacedPatch) → live ≡ Some (bytes lump) →
     result ≡ option_and_then (λ bytes. option_map (place_patch entry lump) (patch_of bytes)) live → result ≡ None →
@@ -117,8 +117,8 @@ module _ (last : List ℕ → Option ℕ) (bytes : ℕ → List ℕ) (names : Li
       let columns_are : seen_lookups bytes patches_placed.item width ≡ columns = ap (λ (p : PatchesPart). p.columns) patches_placed.gives in
       let patch_is : patch_placed.item ≡ patch = ap (λ (s : PatchStep). s.patch) patch_placed.gives in
       let new_columns_is : columns_with (bytes patch_placed.item.lump) patch_placed.item columns ≡ new = ap (λ (s : PatchStep). s.columns) patch_placed.gives in
-      let more = ap (placed_patches last bytes names) (take_more entries k d l) ∙ placed_push (take k entries) (get_or entries k d) patches_placed.item patch_placed.item patches_placed.is patch_placed.is in
-      ap (λ o. or_missing number (option_map (patches_part bytes width) o)) more
+      let patches_more = ap (placed_patches last bytes names) (take_more entries k d l) ∙ placed_push (take k entries) (get_or entries k d) patches_placed.item patch_placed.item patches_placed.is patch_placed.is in
+      ap (λ o. or_missing number (option_map (patches_part bytes width) o)) patches_more
       ∙ ap Ok (
       ap (λ xs. record { patches = patches_placed.item ++ patch_placed.item ∷ []; columns = xs }) (sym (columns_with-seen bytes patches_placed.item patch_placed.item width) ∙ ap (columns_with (bytes patch_placed.item.lump) patch_placed.item) columns_are ∙ new_columns_is)
       ∙ ap (λ xs. record { patches = xs ++ patch_placed.item ∷ []; columns = new }) patches_are

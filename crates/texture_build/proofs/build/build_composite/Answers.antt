@@ -69,9 +69,9 @@ returns g c = λ place.
           (patches_put.keeps.faithful contents stand (has_begun.faithful contents c.args.dir.now.lumps k));
       composites = λ contents textures is told k.
           let bytes = lump_bytes contents c.args.dir.now.lumps in
-          let later : HoldContents (g.S.Shelf.view c.args.shelf.now) c.args.dir.now begun contents = record { stand = told.stand; within = told.within; faithful = has_begun.faithful contents c.args.dir.now.lumps told.faithful } in
+          let contents_hold : HoldContents (g.S.Shelf.view c.args.shelf.now) c.args.dir.now begun contents = record { stand = told.stand; within = told.within; faithful = has_begun.faithful contents c.args.dir.now.lumps told.faithful } in
           let whole = ends_built c.args.number put new built bytes texture
-          (patches_put.put contents later (built_none bytes c.args.number texture begun has_begun.zeros)) has_ended.released in
+          (patches_put.put contents contents_hold (built_none bytes c.args.number texture begun has_begun.zeros)) has_ended.released in
           composites_built bytes textures old new c.args.number texture is others (built_here built (owned_block owner new.blocks) (composite_of bytes texture) whole has_ended.empty) k;
       empty = on_err built (λ none composed. none) has_ended.empty;
       full = ends_full c.args.dir.now.lumps c.args.number texture place old begun built has_begun patches_put.full;
