@@ -7,8 +7,8 @@ pub length-joined_lists : {X Y : Type 0} (f : X → List Y) (n : ℕ) (xs : List
 unfolding joined_lists
 length-joined_lists f n [] h = omega arith
 length-joined_lists f n (x ∷ xs) h =
-    let rest = length-joined_lists f n xs h in
-    length-append (f x) (joined_lists f xs) ∙ (omega (arith, h x, rest))
+    let rest_length = length-joined_lists f n xs h in
+    length-append (f x) (joined_lists f xs) ∙ (omega (arith, h x, rest_length))
 
 -- the numbers below n, and from n to the last, that pass
 abbrev pub below : (ℕ → Bool) → ℕ → List ℕ

@@ -63,7 +63,7 @@ before_step : (bytes : ℕ → List ℕ) (patches : List PlacedPatch) (height n 
 unfolding seen_lookups
 before_step bytes patches height n x next e l h =
     let seen_at : ℕ → ColumnLookup = seen_lookup bytes patches in
-    let long : length (listed seen_at n) ≡ n = length-listed seen_at n in
+    let length_is : length (listed seen_at n) ≡ n = length-listed seen_at n in
     ap (composed_before height (listed seen_at n)) (sym e)
     ∙ composed_before-more height (listed seen_at n) x (omega arith)
     ∙ ap (λ k. k + composed_bytes height (get_or (listed seen_at n) x Empty)) h

@@ -73,6 +73,6 @@ put_one bytes place next y row post column new h n r e =
 -- the lump ends in the last post that is put
 pub put_last : (bytes : List ℕ) (place : ℕ) (y row : ℤ) (post : Post) (column new : List ℕ) → post_at bytes place ≡ Some post → length bytes ≤ post.first → row ≡ y +ℤ pos post.topdelta → new ≡ with_posts column (placed_post row post bytes ∷ []) → new ≡ with_posts column (posts_at bytes place y)
 put_last bytes place y row post column new h l r e =
-    let lies = post_at-lies bytes place post h in
+    let post_lies = post_at-lies bytes place post h in
     put_all bytes (next_place post) y new (post_at-past bytes (next_place post) (omega arith))
     ∙ put_one bytes place (next_place post) y row post column new h refl r e

@@ -22,7 +22,7 @@ row_so_far bytes from first k old v =
 pub row_so_far-none : (bytes : List ℕ) (from first v : ℕ) (old : List ℕ) → get_or old v 0 ≡ row_so_far bytes from first 0 old v
 unfolding row_so_far
 row_so_far-none bytes from first v old =
-    let off : (nat_le first v && nat_lt v (first + 0)) ≡ false = grind (arith, nat_tests) in rw off
+    let row_outside : (nat_le first v && nat_lt v (first + 0)) ≡ false = grind (arith, nat_tests) in rw row_outside
 
 other_row : (first k v : ℕ) → v ≢ first + k → (nat_le first v && nat_lt v (first + k)) ≡ (nat_le first v && nat_lt v (first + (k + 1)))
 other_row first k v ne = grind (arith, nat_tests)

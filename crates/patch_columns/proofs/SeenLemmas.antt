@@ -17,8 +17,7 @@ own_column-last x patch h = grind (arith, ints)
 word_at-fits : (bytes : List ℕ) (place : ℕ) → ((k : ℕ) → Fits w8 (get_or bytes k 0)) → word_at bytes place < 2 ^ 32
 unfolding word_at half_at byte_at
 word_at-fits bytes place each =
-    let first_byte_fits = each place in
-    let second_byte_fits = each (place + 1) in
+    let first_byte_fits = each place in let second_byte_fits = each (place + 1) in
     let third_byte_fits = each (place + 2) in
     let fourth_byte_fits = each (place + 2 + 1) in
     omega arith
