@@ -32,11 +32,11 @@ pub record ColumnSoFar (mark : Painter → ℕ → ℕ) (x : ℕ) (colour : ℤ 
 
 pub column_begun : (mark : Painter → ℕ → ℕ) (x : ℕ) (colour : ℤ → ℕ) (fraction step : ℤ) (first : ℕ) (canvas : CanvasView) → FitsSigned w32 fraction → FitsSigned w32 step →
     ColumnSoFar mark x colour fraction step first first (to_z w32 (of_z w32 fraction)) canvas canvas
-column_begun mark x colour fraction step first canvas f g = let none : 0 ≡ first - first = omega arith in record {
+column_begun mark x colour fraction step first canvas f g = let count_is_zero : 0 ≡ first - first = omega arith in record {
   from = omega arith;
   step_fits = g;
-  at = first_fraction fraction step (first - first) f none;
-  painted = dots_renamed mark canvas canvas [] _ (dots_none mark canvas) (sym (rows_none _ _ _ _ _ (sym none)));
+  at = first_fraction fraction step (first - first) f count_is_zero;
+  painted = dots_renamed mark canvas canvas [] _ (dots_none mark canvas) (sym (rows_none _ _ _ _ _ (sym count_is_zero)));
 }
 
 pub column_dotted : {mark : Painter → ℕ → ℕ} {x : ℕ} {colour : ℤ → ℕ} {fraction step : ℤ} {first y v : ℕ} {now sum : ℤ} {canvas view after : CanvasView} →
@@ -73,11 +73,11 @@ pub record SpanSoFar (mark : Painter → ℕ → ℕ) (y : ℕ) (colour : ℕ �
 pub span_begun : (mark : Painter → ℕ → ℕ) (y : ℕ) (colour : ℕ → ℕ) (spans : Spans) (x_fraction y_fraction x_step y_step : ℤ) (first place : ℕ) (canvas : CanvasView) →
     IsSpanPlace spans x_fraction y_fraction x_step y_step 0 place →
     SpanSoFar mark y colour spans x_fraction y_fraction x_step y_step first first place canvas canvas
-span_begun mark y colour spans x_fraction y_fraction x_step y_step first place canvas at = let none : 0 ≡ first - first = omega arith in record {
+span_begun mark y colour spans x_fraction y_fraction x_step y_step first place canvas at = let count_is_zero : 0 ≡ first - first = omega arith in record {
   from = omega arith;
-  at = span_place-to spans x_fraction y_fraction x_step y_step 0 (first - first) place none at;
+  at = span_place-to spans x_fraction y_fraction x_step y_step 0 (first - first) place count_is_zero at;
   painted = dots_renamed mark canvas canvas [] _ (dots_none mark canvas) (sym (columns_none canvas.painter y
-      (λ k. colour (span_place spans x_fraction y_fraction x_step y_step (k - first))) first (first - first) (sym none)));
+      (λ k. colour (span_place spans x_fraction y_fraction x_step y_step (k - first))) first (first - first) (sym count_is_zero)));
 }
 
 pub span_dotted : {mark : Painter → ℕ → ℕ} {y : ℕ} {colour : ℕ → ℕ} {spans : Spans} {x_fraction y_fraction x_step y_step : ℤ} {first x v place texel next : ℕ}
