@@ -88,8 +88,8 @@ length-joined : (f : ℕ → List ℕ) (height : ℕ) (xs : List ℕ) → ((x : 
 unfolding joined_lists
 length-joined f height [] each = omega arith
 length-joined f height (x ∷ xs) each =
-    let more = length-joined f height xs each in
-    length-append (f x) (joined_lists f xs) ∙ omega (arith, each x, more)
+    let rest_length = length-joined f height xs each in
+    length-append (f x) (joined_lists f xs) ∙ omega (arith, each x, rest_length)
 
 -- the composite has the bytes of its composed columns
 pub composite_size-length : (bytes : ℕ → List ℕ) (patches : List PlacedPatch) (width height : ℕ) → length (composite bytes patches width height) ≡ composite_size patches width height
