@@ -52,11 +52,11 @@ words_more words palette n h below i l =
           (other_byte words (4 * n) red green blue (4 * i + 1) (omega (arith, s)) (omega (arith, s)) (omega (arith, s)))
           (other_byte words (4 * n) red green blue (4 * i + 2) (omega (arith, s)) (omega (arith, s)) (omega (arith, s)))
           ∙ below i s
-      | inr s ↦ let same : n ≡ i = omega (arith, s, l) in
-          ap (word_colour (with_word words (4 * n) red green blue)) (sym same)
+      | inr s ↦ let index_same : n ≡ i = omega (arith, s, l) in
+          ap (word_colour (with_word words (4 * n) red green blue)) (sym index_same)
           ∙ three _ _ _ _ _ _ (first_byte words (4 * n) red green blue (omega arith)) (second_byte words (4 * n) red green blue (omega arith))
             (third_byte words (4 * n) red green blue h)
-          ∙ ap (colour palette) same
+          ∙ ap (colour palette) index_same
     ]
 
 -- past the last word, and past the last colour, all is 0
@@ -89,10 +89,10 @@ three_from words place h =
 put_below : (colours piece : List ℕ) (a k : ℕ) → a ≤ length colours → 3 ≤ length piece → take (a + 3) (put_mid a k colours piece) ≡ take a colours ++ take 3 piece
 put_below colours piece a k room size =
     let rest : List ℕ = piece ++ post_of a k colours in
-    let there = length-take-le a colours room in
+    let front_length = length-take-le a colours room in
     take-add a 3 (take a colours ++ rest)
-    ∙ ap (λ (xs : List ℕ). xs ++ take 3 (drop a (take a colours ++ rest))) (take_at (take a colours) rest a there)
-    ∙ ap (λ (xs : List ℕ). take a colours ++ take 3 xs) (drop_at (take a colours) rest a there)
+    ∙ ap (λ (xs : List ℕ). xs ++ take 3 (drop a (take a colours ++ rest))) (take_at (take a colours) rest a front_length)
+    ∙ ap (λ (xs : List ℕ). take a colours ++ take 3 xs) (drop_at (take a colours) rest a front_length)
     ∙ ap (λ (xs : List ℕ). take a colours ++ xs) (take-append-le 3 piece (post_of a k colours) size)
 
 -- the bytes of the first indices, with the word of one more put behind them
@@ -102,10 +102,10 @@ pub filled-more : (words colours band piece : List ℕ) (i k n : ℕ) → i < le
     take (3 * (i + 1)) (put_mid (3 * i) k colours piece) ≡ flat_map (word_colour words) (take (i + 1) band)
 filled-more words colours band piece i k n there room within four size same before =
     let index : ℕ = get_or band i 0 in
-    let end : 3 * (i + 1) ≡ 3 * i + 3 = omega arith in
+    let end_is : 3 * (i + 1) ≡ 3 * i + 3 = omega arith in
     let own : take 3 piece ≡ word_colour words index =
     ap (take 3) same ∙ take-take 3 n (drop (4 * index) words) (omega (arith, four)) ∙ three_from words (4 * index) (omega (arith, within)) in
-    ap (λ (m : ℕ). take m (put_mid (3 * i) k colours piece)) end
+    ap (λ (m : ℕ). take m (put_mid (3 * i) k colours piece)) end_is
     ∙ put_below colours piece (3 * i) k room (omega (arith, size))
     ∙ ap (λ (xs : List ℕ). xs ++ take 3 piece) before
     ∙ ap (λ (xs : List ℕ). flat_map (word_colour words) (take i band) ++ xs) (own ∙ sym (append-nil (word_colour words index)))
