@@ -41,8 +41,8 @@ shifted_high z h = shift_mono z (pos 2748779069440) h
 mul_within : (f : ℤ) (m : ℕ) → negsuc 131071 ≤ℤ f → f ≤ℤ pos 131072 → m ≤ 20971520 → mul f (pos m) ≡ int_shr (f *ℤ pos m) 16
 unfolding mul
 mul_within f m l h b =
-    let low = shifted_low (f *ℤ pos m) (product_low f m l b) in
-    let high = shifted_high (f *ℤ pos m) (product_high f m h b) in
+    let shift_at_least = shifted_low (f *ℤ pos m) (product_low f m l b) in
+    let shift_at_most = shifted_high (f *ℤ pos m) (product_high f m h b) in
     int_wrap_fits w32 (int_shr (f *ℤ pos m) 16) (fits_between _ (omega (arith, ints)) (omega (arith, ints)))
 
 -- the place of a shifted product, before it is held within the view's reach
@@ -67,12 +67,12 @@ seen_is : (shape : ViewShape) (m : ℕ) (f : ℤ) → shape.centre_x ≤ 160 →
     seen_column shape (pos m) f ≡ clamp_word minus_one (pos (shape.width + 1)) (place_of shape.centre_x (int_shr (f *ℤ pos m) 16))
 unfolding seen_column shr_word
 seen_is shape m f c b l h =
-    let low = shifted_low (f *ℤ pos m) (product_low f m l b) in
-    let high = shifted_high (f *ℤ pos m) (product_high f m h b) in
+    let shift_at_least = shifted_low (f *ℤ pos m) (product_low f m l b) in
+    let shift_at_most = shifted_high (f *ℤ pos m) (product_high f m h b) in
     let clamped = λ (y : ℤ). clamp_word minus_one (pos (shape.width + 1)) (int_shr y 16) in
     ap (λ (y : ℤ). clamped (plus (minus y (mul f (pos m))) (pos 65535))) (projection_is shape c)
     ∙ ap (λ (y : ℤ). clamped (plus (minus (pos (shape.centre_x * 65536)) y) (pos 65535))) (mul_within f m l h b)
-    ∙ ap clamped (sum_within shape.centre_x (int_shr (f *ℤ pos m) 16) c low high)
+    ∙ ap clamped (sum_within shape.centre_x (int_shr (f *ℤ pos m) 16) c shift_at_least shift_at_most)
 
 clamp_mono : (lo hi y z : ℤ) → y ≤ℤ z → clamp_word lo hi y ≤ℤ clamp_word lo hi z
 unfolding clamp_word
@@ -81,9 +81,9 @@ clamp_mono lo hi y z h = omega (arith, ints, clamps)
 seen_falls : (shape : ViewShape) (m : ℕ) (f g : ℤ) → shape.centre_x ≤ 160 → m ≤ 20971520 → negsuc 131071 ≤ℤ f → f ≤ℤ g → g ≤ℤ pos 131072 → seen_column shape (pos m) g ≤ℤ seen_column shape (pos m) f
 seen_falls shape m f g c b l h r =
     let up : f ≤ℤ pos 131072 = omega (arith, ints) in
-    let low : negsuc 131071 ≤ℤ g = omega (arith, ints) in
+    let g_at_least : negsuc 131071 ≤ℤ g = omega (arith, ints) in
     let shifted = shift_mono (f *ℤ pos m) (g *ℤ pos m) (product_mono f g m h) in
-    rw (seen_is shape m f c b l up, seen_is shape m g c b low r)
+    rw (seen_is shape m f c b l up, seen_is shape m g c b g_at_least r)
     (clamp_mono minus_one (pos (shape.width + 1)) _ _ (place_falls shape.centre_x (int_shr (f *ℤ pos m) 16) (int_shr (g *ℤ pos m) 16) shifted))
 
 seen_low : (shape : ViewShape) (focal f : ℤ) → minus_one ≤ℤ seen_column shape focal f

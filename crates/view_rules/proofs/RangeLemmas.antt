@@ -60,8 +60,8 @@ fine_order l r h b = (omega arith, omega arith)
 columns_in_order : (v : ViewValue) (l r : ℕ) → IsSound v.tables v.shape → reach r ≤ reach l → reach l < 2 ^ 31 → column_at_angle v l ≤ column_at_angle v r
 unfolding column_at_angle
 columns_in_order v l r s h b =
-    let fine = fine_order (reach l) (reach r) h b in
-    s.falling (fine_angle (reach r)) (fine_angle (reach l)) fine.0 fine.1
+    let fine_ordered = fine_order (reach l) (reach r) h b in
+    s.falling (fine_angle (reach r)) (fine_angle (reach l)) fine_ordered.0 fine_ordered.1
 
 column_within : (v : ViewValue) (r : ℕ) → column_at_angle v r ≤ v.shape.width
 unfolding column_at_angle column_of_angle

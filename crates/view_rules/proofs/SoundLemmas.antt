@@ -36,8 +36,8 @@ not_lt a b e = grind (arith, ints)
 rise : (t : Angles) → tangent_refusal t.tangent ≡ None → (n : ℕ) → 0 < n → n < TANGENTS → tangent_at t (n - 1) ≤ℤ tangent_at t n
 unfolding tangent_refusal is_wrong_tangent tangent_at
 rise t e n p h =
-    let none = refused_at-none Tangent (least (is_wrong_tangent t.tangent) TANGENTS) e in
-    let right = none-below (is_wrong_tangent t.tangent) TANGENTS none n h in
+    let none_wrong = refused_at-none Tangent (least (is_wrong_tangent t.tangent) TANGENTS) e in
+    let right = none-below (is_wrong_tangent t.tangent) TANGENTS none_wrong n h in
     not_lt (slice_index_or t.tangent n (pos 0)) (slice_index_or t.tangent (n - 1) (pos 0)) (and-second_false (nat_lt 0 n) _ (positive n p) right)
 
 rising : (t : Angles) → ((n : ℕ) → 0 < n → n < TANGENTS → tangent_at t (n - 1) ≤ℤ tangent_at t n) → (i k : ℕ) → i ≤ k → k < TANGENTS → tangent_at t i ≤ℤ tangent_at t k
@@ -54,7 +54,7 @@ rising t step i (suc k) h l =
 
 div_is : (p n : ℕ) → p / 2 ^ 14 < n → div (pos p) (pos n) ≡ pos (p * 65536 / n)
 unfolding div
-div_is p n h = let fits : nat_le n (p / 2 ^ 14) ≡ false = grind (arith, nat_tests) in rw fits
+div_is p n h = let quotient_small : nat_le n (p / 2 ^ 14) ≡ false = grind (arith, nat_tests) in rw quotient_small
 
 -- the focal length of a tangent that is no less than a half
 quotient_is : (p : ℕ) (edge : ℤ) → p ≤ 10485760 → pos 32768 ≤ℤ edge → (m : ℕ) × (m ≤ 20971520) × (div (pos p) edge ≡ pos m)
@@ -92,9 +92,9 @@ edge_angle i l h = omega arith
 clipped : (t : Angles) (shape : ViewShape) → is_wrong_left (first_seen_by t shape 0) ≡ false → clip_angle t shape < ang90
 unfolding clip_angle angle_of_column fine_of_column first_seen_by
 clipped t shape e =
-    let left = left_is (first_seen_by t shape 0) e in
-    let found = least-is (is_seen_by t shape (focal_length t shape) 0) TANGENTS left.0 left.1 in
-    rw (left.1) (edge_angle left.0 left.2 found.0)
+    let left_seen = left_is (first_seen_by t shape 0) e in
+    let found = least-is (is_seen_by t shape (focal_length t shape) 0) TANGENTS left_seen.0 left_seen.1 in
+    rw (left_seen.1) (edge_angle left_seen.0 left_seen.2 found.0)
 
 -- tables that nothing refuses are sound
 pub sound_by_refusal : (t : Angles) (shape : ViewShape) → IsShape shape → angles_refusal t shape ≡ None → IsSound t shape
@@ -103,10 +103,10 @@ sound_by_refusal t shape s e =
     let after_sines = (or_else-none _ _ e).1 in
     let tangents = or_else-none _ _ after_sines in
     let view = cond-none _ _ (or_else-none _ _ tangents.1).1 in
-    let parts = or-false _ _ view in
-    let focal = focal_is t shape s parts.0 in
+    let both_false = or-false _ _ view in
+    let focal = focal_is t shape s both_false.0 in
     record {
       shaped = s;
       falling = λ i k h l. falling t shape focal.0 (centre_bound shape s) focal.1 focal.2 i k (rising t (rise t tangents.0) i k h l);
-      clip = clipped t shape parts.1;
+      clip = clipped t shape both_false.1;
     }
