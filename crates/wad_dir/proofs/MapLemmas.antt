@@ -35,6 +35,6 @@ unfolding are_named
 named_within lumps file number [] le are = omega arith
 named_within lumps file number (name ∷ names) le are =
     let both_named = and_parts (is_named_in lumps file name number) (are_named lumps file (suc number) names) are in
-    let lt : number < length lumps = there _ lumps number both_named.0 in
-    let more : suc number + length names ≤ length lumps = named_within lumps file (suc number) names (omega arith) both_named.1 in
+    let number_within : number < length lumps = there _ lumps number both_named.0 in
+    let rest_within : suc number + length names ≤ length lumps = named_within lumps file (suc number) names (omega arith) both_named.1 in
     omega arith

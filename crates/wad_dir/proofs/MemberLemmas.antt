@@ -29,8 +29,8 @@ pub member_step : (group : Group) (lumps : List Lump) (i : ℕ) (lump : Lump) (b
     inside ≡ (not (is_end group lump.name) && is_grouped before lump.file) → is_grouped before lump.file ≡ starts_in group lumps lump.file (mark_before group lumps i) →
     new ≡ old ++ inside ∷ [] → old ≡ listed (is_member group lumps) i → new ≡ listed (is_member group lumps) (i + 1)
 member_step group lumps i lump before old new inside at test grouped pushed so_far =
-    let is : inside ≡ is_member group lumps i = test ∙ ap (λ b. not (is_end group lump.name) && b) grouped ∙ sym (rw at refl) in
-    rw (pushed, so_far, is) (sym (listed-more (is_member group lumps) i))
+    let member_is : inside ≡ is_member group lumps i = test ∙ ap (λ b. not (is_end group lump.name) && b) grouped ∙ sym (rw at refl) in
+    rw (pushed, so_far, member_is) (sym (listed-more (is_member group lumps) i))
 
 -- where the members are marked, the last flat of a name is found
 pub flats_marked : (marked : List Bool) (lumps : List Lump) (name : List ℕ) → marked ≡ listed (is_member Flats lumps) (length lumps) →

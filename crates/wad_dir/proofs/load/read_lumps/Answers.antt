@@ -6,7 +6,7 @@ use Rattle.wad_dir.proofs.load.read_lumps.Goals as goal
 
 pub returns-in_err-found-clause-answers : goal.returns-in_err-found-clause-answers
 returns-in_err-found-clause-answers g c contents stand =
-    let many : length c.args.files.now ≡ length contents = as_many (g.S.Shelf.view c.args.shelf.now) _ _ stand in
+    let as_many_files : length c.args.files.now ≡ length contents = as_many (g.S.Shelf.view c.args.shelf.now) _ _ stand in
     let count_is : c.len.result ≡ length c.loop-i.lumps.items = c.len.ensures ∙ c.loop-i.lumps.ok.0 in
     file_stops (g.S.Shelf.view c.args.shelf.now).steady contents c.loop-i.i c.loop-i.lumps.items _ c.from_residual.result
     (omega arith) (c.loop-i.invariant.read contents stand) c.loop-i.invariant.follows.steady
@@ -31,7 +31,7 @@ loop-i-preserved g c =
       owned = all_joined c.loop-i.i (length c.args.files.now) c.loop-i.lumps.items c.in_ok-found.found.items _ grown (omega arith) c.loop-i.invariant.owned c.in_ok-found.ensures.owned;
       follows = follows_then c.loop-i.invariant.follows c.read_file.ensures.follows;
       read = λ contents stand.
-          let many : length c.args.files.now ≡ length contents = as_many (g.S.Shelf.view c.args.shelf.now) _ _ stand in
+          let as_many_files : length c.args.files.now ≡ length contents = as_many (g.S.Shelf.view c.args.shelf.now) _ _ stand in
           file_more contents c.loop-i.i c.loop-i.lumps.items c.extend_from_slice.new.self.items c.in_ok-found.found.items (omega arith) grown longer
           (rw count_is at (c.in_ok-found.ensures.answers _ (c.loop-i.invariant.follows.file _ _ (stands_at (g.S.Shelf.view c.args.shelf.now) _ contents c.loop-i.i _ stand (omega arith)))).ok)
           (c.loop-i.invariant.read contents stand);
@@ -41,5 +41,5 @@ loop-i-preserved g c =
 
 pub returns-clause-answers : goal.returns-clause-answers
 returns-clause-answers g c contents stand =
-    let many : length c.args.files.now ≡ length contents = as_many (g.S.Shelf.view c.args.shelf.now) _ _ stand in
+    let as_many_files : length c.args.files.now ≡ length contents = as_many (g.S.Shelf.view c.args.shelf.now) _ _ stand in
     all_read (g.S.Shelf.view c.args.shelf.now).steady contents c.loop-i.i c.loop-i.lumps (omega arith) (c.loop-i.invariant.read contents stand)
