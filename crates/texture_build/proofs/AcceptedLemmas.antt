@@ -77,7 +77,7 @@ module _ (prepare : ℕ → Texture → Result PreparedTexture TexRefusal) (want
   prepared_in : (n k : ℕ) (ts : List Texture) (out : List (Option PreparedTexture)) (t : PreparedTexture) → prepared_from prepare wanted n ts ≡ Ok out → prepared_at out k ≡ Some t → IsPreparedOf prepare ts t
   unfolding prepared_from
   prepared_in n k [] out t e is = let out_is_empty : [] ≡ out = cc in
-      absurd (nothing k (ap (λ (xs : List (Option PreparedTexture)). prepared_at xs k) out_is_empty ∙ is)) where
+    absurd (nothing k (ap (λ (xs : List (Option PreparedTexture)). prepared_at xs k) out_is_empty ∙ is)) where
     nothing : (k : ℕ) → ◌≡◌ {A = Option PreparedTexture} None (Some t) → ⊥
     nothing k e = cc
   prepared_in n k (x ∷ ts) out t e is =
