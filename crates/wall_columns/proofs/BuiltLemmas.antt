@@ -261,18 +261,18 @@ now_after {v} {walls} {s} {facts} {first} {last} {notes} {old} {checked} {new} {
     let fragment : FragmentValue = fragment_of v facts first last in
     let open_at : ℕ → ColumnClip = window_at checked.windows in
     let checked_now : PlanesNow = now_of checked between in
-    let marked : PlanesNow = record {
+    let marked_now : PlanesNow = record {
       planes = columns_marked (marks_along fragment open_at) checked_now.ceiling checked_now.floor (last + 1 - first) checked_now.planes;
       floor = checked_now.floor;
       ceiling = checked_now.ceiling;
     } in
     let ordered = d.ordered in
     let last_within = d.within in
-    let new_planes : now_of new later ≡ marked = ap (λ (ps : List Plane).
+    let new_planes : now_of new later ≡ marked_now = ap (λ (ps : List Plane).
     let planes_now : PlanesNow = record { planes = ps; floor = plane_number new.floor; ceiling = plane_number new.ceiling } in planes_now)
     (ap (λ (p : PlanesView). p.planes) d.marked.planes)
-    ∙ ap (λ (o : Option _). let planes_now : PlanesNow = record { planes = marked.planes; floor = plane_number o; ceiling = plane_number new.ceiling } in planes_now) d.marked.floor
-    ∙ ap (λ (o : Option _). let planes_now : PlanesNow = record { planes = marked.planes; floor = plane_number checked.floor; ceiling = plane_number o } in planes_now) d.marked.ceiling in
+    ∙ ap (λ (o : Option _). let planes_now : PlanesNow = record { planes = marked_now.planes; floor = plane_number o; ceiling = plane_number new.ceiling } in planes_now) d.marked.floor
+    ∙ ap (λ (o : Option _). let planes_now : PlanesNow = record { planes = marked_now.planes; floor = plane_number checked.floor; ceiling = plane_number o } in planes_now) d.marked.ceiling in
     let alike : MarkAlike (marks_along fragment open_at) (plane_wall v (with_wall walls wall) (length walls) wall) =
     rows_same v (with_wall walls wall) (length walls) facts first last open_at
     (λ x l h. window_before d x (omega arith) ∙ sym (clip_before-front v.shape walls (wall ∷ []) (length walls) x (omega arith))) in

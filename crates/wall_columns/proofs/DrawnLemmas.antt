@@ -89,13 +89,13 @@ shown_at : (f : FragmentValue) (before : ℕ → ColumnClip) (x height : ℕ) (n
     (number : ℕ) → IsPlanTexture n plan number → ShowsAt f before x number
 shown_at f before x height n clip e plan pl nu cl ed number h =
     let plan_has_texture : IsPlanTexture n (plan_of height n clip e) number = subst (λ (plan : ColumnPlan). IsPlanTexture n plan number) pl h in
-    let found = plan-shown height n clip e number plan_has_texture in
+    let strip_shown = plan-shown height n clip e number plan_has_texture in
     record {
-      strip = found.0;
-      among = subst (λ (n : FragmentNumbers). Contains (wall_strips n (before x) (column_edges f x)) found.0) nu
-          (subst (λ (c : ColumnClip). Contains (wall_strips n c (column_edges f x)) found.0) cl
-          (subst (λ (e : Edges). Contains (wall_strips n clip e) found.0) ed found.1.0));
-      texture = found.1.1;
+      strip = strip_shown.0;
+      among = subst (λ (n : FragmentNumbers). Contains (wall_strips n (before x) (column_edges f x)) strip_shown.0) nu
+          (subst (λ (c : ColumnClip). Contains (wall_strips n c (column_edges f x)) strip_shown.0) cl
+          (subst (λ (e : Edges). Contains (wall_strips n clip e) strip_shown.0) ed strip_shown.1.0));
+      texture = strip_shown.1.1;
     }
 
 -- so what paints the strips of a column's plan paints the column

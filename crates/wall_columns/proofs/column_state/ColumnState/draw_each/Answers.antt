@@ -105,7 +105,7 @@ loop-edges-preserved g c =
     let state : ColumnState = c.loop-edges.self in
     let next : ColumnState = c.pass_column-plan.new.self in
     let plan = c.pass_column-plan.result in
-    let painted = c.in_ok-paint_plan.ensures in
+    let plan_painted = c.in_ok-paint_plan.ensures in
     let step = c.in-Some.ensures.column fragment count invariant.at in
     let next_column_is = step.1.x in
     let columns_left = step.1.left in
@@ -125,29 +125,29 @@ loop-edges-preserved g c =
     let column = paints-column tools.view.now (wall_tools tools) g.C.Canvas.mark c.args.number fragment window column_no state.windows.height c.args.numbers.now
     (window_at state.windows column_no) c.in-Some.edges plan (omega arith) (omega arith) marks.plan c.requires.numbers
     (window_is fragment count column_no c.args.self.now state before between invariant.marked column_is column_in_frame)
-    (step.0 ∙ edges_are fragment count column_no column_is) painted.paints in
+    (step.0 ∙ edges_are fragment count column_no column_is) plan_painted.paints in
     let MarkedSoFar : PlanesView → Type 0 = λ planes. HasMarked fragment (passed_columns fragment c.next.new.self) c.args.self.now next before planes in
     record {
       at = columns_passed.at;
-      marked = subst MarkedSoFar (sym painted.planes) columns_passed.marked;
+      marked = subst MarkedSoFar (sym plan_painted.planes) columns_passed.marked;
       openings = marks.openings ∙ invariant.openings;
       paints = paints-same _ (λ contents (w : WallRange) asked.
           let dots = column_painted start.view.now (painted_art contents (wall_tools start)) c.args.number fragment w.facts window in
           along-more dots fragment.first count column_no column_is ∙ ap (dots_along dots fragment.first) one_more_passed)
           (paints-then invariant.paints (before-same start tools (λ v t. PaintsColumn v t g.C.Canvas.mark c.args.number fragment window column_no old new (Ok tt)) invariant.same column));
       same = (
-        painted.same.0 ∙ invariant.same.0,
+        plan_painted.same.0 ∙ invariant.same.0,
         (
-          painted.same.1.0 ∙ invariant.same.1.0,
+          plan_painted.same.1.0 ∙ invariant.same.1.0,
           (
-            painted.same.1.1.0 ∙ invariant.same.1.1.0,
+            plan_painted.same.1.1.0 ∙ invariant.same.1.1.0,
             (
-              painted.same.1.1.1.0 ∙ invariant.same.1.1.1.0,
+              plan_painted.same.1.1.1.0 ∙ invariant.same.1.1.1.0,
               (
-                painted.same.1.1.1.1.0 ∙ invariant.same.1.1.1.1.0,
+                plan_painted.same.1.1.1.1.0 ∙ invariant.same.1.1.1.1.0,
                 (
-                  painted.same.1.1.1.1.1.0 ∙ invariant.same.1.1.1.1.1.0,
-                  (painted.same.1.1.1.1.1.1.0 ∙ invariant.same.1.1.1.1.1.1.0, painted.same.1.1.1.1.1.1.1 ∙ invariant.same.1.1.1.1.1.1.1),
+                  plan_painted.same.1.1.1.1.1.0 ∙ invariant.same.1.1.1.1.1.0,
+                  (plan_painted.same.1.1.1.1.1.1.0 ∙ invariant.same.1.1.1.1.1.1.0, plan_painted.same.1.1.1.1.1.1.1 ∙ invariant.same.1.1.1.1.1.1.1),
                 ),
               ),
             ),
