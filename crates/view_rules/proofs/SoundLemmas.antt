@@ -93,8 +93,8 @@ clipped : (t : Angles) (shape : ViewShape) → is_wrong_left (first_seen_by t sh
 unfolding clip_angle angle_of_column fine_of_column first_seen_by
 clipped t shape e =
     let left_seen = left_is (first_seen_by t shape 0) e in
-    let found = least-is (is_seen_by t shape (focal_length t shape) 0) TANGENTS left_seen.0 left_seen.1 in
-    rw (left_seen.1) (edge_angle left_seen.0 left_seen.2 found.0)
+    let least_seen = least-is (is_seen_by t shape (focal_length t shape) 0) TANGENTS left_seen.0 left_seen.1 in
+    rw (left_seen.1) (edge_angle left_seen.0 left_seen.2 least_seen.0)
 
 -- tables that nothing refuses are sound
 pub sound_by_refusal : (t : Angles) (shape : ViewShape) → IsShape shape → angles_refusal t shape ≡ None → IsSound t shape
