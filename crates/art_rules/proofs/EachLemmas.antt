@@ -14,17 +14,17 @@ range_split : (a k n : ℕ) → k < n → (rest : List ℕ) × (range_with_len a
 range_split a k zero h = absurd (omega arith)
 range_split a zero (suc n) h = (range_with_len (a + 1) n, ap (λ m. m ∷ range_with_len (a + 1) n) (sym (add-zero a)))
 range_split a (suc k) (suc n) h =
-    let r = range_split (a + 1) k n (omega arith) in
-    let e : (a + 1) + k ≡ a + suc k = omega arith in
-    (r.0, ap (λ v. a ∷ v) (r.1 ∙ ap (λ m. range_with_len (a + 1) k ++ m ∷ r.0) e))
+    let range_is = range_split (a + 1) k n (omega arith) in
+    let place_is : (a + 1) + k ≡ a + suc k = omega arith in
+    (range_is.0, ap (λ v. a ∷ v) (range_is.1 ∙ ap (λ m. range_with_len (a + 1) k ++ m ∷ range_is.0) place_is))
 
 -- a range of one number more
 pub range_more : (a n : ℕ) → range_with_len a (n + 1) ≡ range_with_len a n ++ (a + n) ∷ []
 range_more a zero = ap (λ m. m ∷ []) (sym (add-zero a))
 range_more a (suc n) =
-    let e : (a + 1) + n ≡ a + suc n = omega arith in
-    let s : suc n + 1 ≡ suc (n + 1) = omega arith in
-    rw s (ap (λ v. a ∷ v) (range_more (a + 1) n ∙ ap (λ m. range_with_len (a + 1) n ++ m ∷ []) e))
+    let place_is : (a + 1) + n ≡ a + suc n = omega arith in
+    let count_is : suc n + 1 ≡ suc (n + 1) = omega arith in
+    rw count_is (ap (λ v. a ∷ v) (range_more (a + 1) n ∙ ap (λ m. range_with_len (a + 1) n ++ m ∷ []) place_is))
 
 module _ {X Y R : Type 0} (f : X → Result Y R) where
   pub each_of-nil : each_of f [] ≡ Ok []
@@ -57,5 +57,5 @@ module _ {Y R : Type 0} (f : ℕ → Result Y R) where
 
   pub numbers-stop : (k n : ℕ) (vs : List Y) (r : R) → k < n → each_of f (range_with_len 0 k) ≡ Ok vs → f k ≡ Err r → each_of f (range_with_len 0 n) ≡ Err r
   numbers-stop k n vs r h e g =
-      let s = range_split 0 k n h in
-      ap (each_of f) (s.1 ∙ ap (λ m. range_with_len 0 k ++ m ∷ s.0) (zero-add k)) ∙ each_of-stop f (range_with_len 0 k) s.0 vs k r e g
+      let range_is = range_split 0 k n h in
+      ap (each_of f) (range_is.1 ∙ ap (λ m. range_with_len 0 k ++ m ∷ range_is.0) (zero-add k)) ∙ each_of-stop f (range_with_len 0 k) range_is.0 vs k r e g

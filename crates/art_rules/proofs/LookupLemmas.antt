@@ -87,8 +87,8 @@ length-joined : (f : ℕ → List ℕ) (height : ℕ) (xs : List ℕ) → ((x : 
 unfolding joined_lists
 length-joined f height [] each = omega arith
 length-joined f height (x ∷ xs) each =
-    let more = length-joined f height xs each in
-    length-append (f x) (joined_lists f xs) ∙ omega (arith, each x, more)
+    let rest_length = length-joined f height xs each in
+    length-append (f x) (joined_lists f xs) ∙ omega (arith, each x, rest_length)
 
 -- the composite has the bytes of its composed columns
 pub composite_size-length : (bytes : ℕ → List ℕ) (patches : List PlacedPatch) (width height : ℕ) → length (composite bytes patches width height) ≡ composite_size patches width height
@@ -109,13 +109,13 @@ blank_column bytes height x =
 
 joined_same : (f : ℕ → List ℕ) (height : ℕ) (xs : List ℕ) → ((x : ℕ) → f x ≡ replicate height 0) → joined_lists f xs ≡ replicate (height * length xs) 0
 unfolding joined_lists
-joined_same f height [] each = let e : 0 ≡ height * 0 = omega arith in ap (λ (n : ℕ). replicate n 0) e
+joined_same f height [] each = let product_is_zero : 0 ≡ height * 0 = omega arith in ap (λ (n : ℕ). replicate n 0) product_is_zero
 joined_same f height (x ∷ xs) each =
-    let e : height + height * length xs ≡ height * suc (length xs) = omega arith in
+    let product_more : height + height * length xs ≡ height * suc (length xs) = omega arith in
     ap (λ ys. ys ++ joined_lists f xs) (each x)
     ∙ ap (λ ys. replicate height 0 ++ ys) (joined_same f height xs each)
     ∙ replicate-append-replicate height (height * length xs) 0
-    ∙ ap (λ (n : ℕ). replicate n 0) e
+    ∙ ap (λ (n : ℕ). replicate n 0) product_more
 
 -- while no patch is put each byte is 0
 pub composite_of_first-none : (bytes : ℕ → List ℕ) (patches : List PlacedPatch) (width height : ℕ) → composite_of_first bytes patches 0 width height ≡ replicate (composite_size patches width height) 0

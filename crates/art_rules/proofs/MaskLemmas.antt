@@ -16,8 +16,8 @@ from_mask : (n width : ℕ) → 0 < width → width < 2 ^ n → IsMask width (ma
 unfolding mask_from
 from_mask zero width some l = absurd (omega arith)
 from_mask (suc n) width some l =
-    let g : width < 2 ^ (n + 1) = rw add-one l in
-    mask_step n width (nat_lt width (2 ^ n)) refl g (from_mask n width some)
+    let width_below_power : width < 2 ^ (n + 1) = rw add-one l in
+    mask_step n width (nat_lt width (2 ^ n)) refl width_below_power (from_mask n width some)
 
 pub mask_of-greatest : (width : ℕ) → 0 < width → width < 2 ^ 16 → IsMask width (mask_of width)
 unfolding mask_of

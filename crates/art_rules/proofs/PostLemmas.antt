@@ -14,7 +14,7 @@ is_post-within bytes place h = within (length bytes) place (nat_le (length bytes
 
 past : (bytes : List ℕ) (place : ℕ) (b : Bool) → is_post bytes place ≡ b → length bytes ≤ place → is_post bytes place ≡ false
 past bytes place false e l = e
-past bytes place true e l = let w = is_post-within bytes place e in absurd (omega arith)
+past bytes place true e l = let place_within = is_post-within bytes place e in absurd (omega arith)
 
 -- the post after one begins later
 pub next_place-later : (bytes : List ℕ) (place : ℕ) → place + 1 ≤ next_place (post_in bytes place)
@@ -29,10 +29,10 @@ posts_step true x xs ys h = ap (λ zs. x ∷ zs) (h refl)
 same_posts : (n m : ℕ) (bytes : List ℕ) (place : ℕ) → length bytes ≤ n + place → length bytes ≤ m + place → posts_from n bytes place ≡ posts_from m bytes place
 unfolding posts_from
 same_posts zero zero bytes place l k = refl
-same_posts zero (suc m) bytes place l k = let off : is_post bytes place ≡ false = past bytes place (is_post bytes place) refl (omega arith) in rw off
-same_posts (suc n) zero bytes place l k = let off : is_post bytes place ≡ false = past bytes place (is_post bytes place) refl (omega arith) in rw off
+same_posts zero (suc m) bytes place l k = let no_post : is_post bytes place ≡ false = past bytes place (is_post bytes place) refl (omega arith) in rw no_post
+same_posts (suc n) zero bytes place l k = let no_post : is_post bytes place ≡ false = past bytes place (is_post bytes place) refl (omega arith) in rw no_post
 same_posts (suc n) (suc m) bytes place l k =
-    let later = next_place-later bytes place in
+    let next_is_later = next_place-later bytes place in
     posts_step (is_post bytes place) (post_in bytes place) _ _ (λ on. same_posts n m bytes (next_place (post_in bytes place)) (omega arith) (omega arith))
 
 -- no post begins there

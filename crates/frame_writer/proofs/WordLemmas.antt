@@ -37,19 +37,19 @@ pub words_more : (words palette : List ℕ) (n : ℕ) → 4 * n + 2 < length wor
     (i : ℕ) → i < n + 1 →
     word_colour (with_word words (4 * n) (slice_index palette (3 * n)) (slice_index palette (3 * n + 1)) (slice_index palette (3 * n + 2))) i ≡ colour palette i
 words_more words palette n h below i l =
-    let r : ℕ = slice_index palette (3 * n) in
-    let g : ℕ = slice_index palette (3 * n + 1) in
-    let b : ℕ = slice_index palette (3 * n + 2) in
+    let red : ℕ = slice_index palette (3 * n) in let green : ℕ = slice_index palette (3 * n + 1) in
+    let blue : ℕ = slice_index palette (3 * n + 2) in
     elim (cases_lt i n) [
       | inl s ↦ three _ _ _ _ _ _
-          (other_byte words (4 * n) r g b (4 * i) (omega (arith, s)) (omega (arith, s)) (omega (arith, s)))
-          (other_byte words (4 * n) r g b (4 * i + 1) (omega (arith, s)) (omega (arith, s)) (omega (arith, s)))
-          (other_byte words (4 * n) r g b (4 * i + 2) (omega (arith, s)) (omega (arith, s)) (omega (arith, s)))
+          (other_byte words (4 * n) red green blue (4 * i) (omega (arith, s)) (omega (arith, s)) (omega (arith, s)))
+          (other_byte words (4 * n) red green blue (4 * i + 1) (omega (arith, s)) (omega (arith, s)) (omega (arith, s)))
+          (other_byte words (4 * n) red green blue (4 * i + 2) (omega (arith, s)) (omega (arith, s)) (omega (arith, s)))
           ∙ below i s
-      | inr s ↦ let same : n ≡ i = omega (arith, s, l) in
-          ap (word_colour (with_word words (4 * n) r g b)) (sym same)
-          ∙ three _ _ _ _ _ _ (first_byte words (4 * n) r g b (omega arith)) (second_byte words (4 * n) r g b (omega arith)) (third_byte words (4 * n) r g b h)
-          ∙ ap (colour palette) same
+      | inr s ↦ let index_same : n ≡ i = omega (arith, s, l) in
+          ap (word_colour (with_word words (4 * n) red green blue)) (sym index_same)
+          ∙ three _ _ _ _ _ _ (first_byte words (4 * n) red green blue (omega arith)) (second_byte words (4 * n) red green blue (omega arith))
+            (third_byte words (4 * n) red green blue h)
+          ∙ ap (colour palette) index_same
     ]
 
 -- past the last word, and past the last colour, all is 0
@@ -73,19 +73,19 @@ words_frame words palette frame same =
 three_from : (words : List ℕ) (place : ℕ) → place + 2 < length words →
     take 3 (drop place words) ≡ slice_index words place ∷ slice_index words (place + 1) ∷ slice_index words (place + 2) ∷ []
 three_from words place h =
-    let two : place + 1 + 1 ≡ place + 2 = omega arith in
+    let place_is : place + 1 + 1 ≡ place + 2 = omega arith in
     ap (take 3) (drop_more words place 0 (omega arith)
     ∙ ap (λ (xs : List ℕ). get_or words place 0 ∷ xs) (drop_more words (place + 1) 0 (omega arith)
-    ∙ ap (λ (xs : List ℕ). get_or words (place + 1) 0 ∷ xs) (ap (λ (n : ℕ). drop n words) two ∙ drop_more words (place + 2) 0 h)))
+    ∙ ap (λ (xs : List ℕ). get_or words (place + 1) 0 ∷ xs) (ap (λ (n : ℕ). drop n words) place_is ∙ drop_more words (place + 2) 0 h)))
 
 -- what is put somewhere, up to a place within it
 put_below : (colours piece : List ℕ) (a k : ℕ) → a ≤ length colours → 3 ≤ length piece → take (a + 3) (put_mid a k colours piece) ≡ take a colours ++ take 3 piece
 put_below colours piece a k room size =
     let rest : List ℕ = piece ++ post_of a k colours in
-    let there = length-take-le a colours room in
+    let front_length = length-take-le a colours room in
     take-add a 3 (take a colours ++ rest)
-    ∙ ap (λ (xs : List ℕ). xs ++ take 3 (drop a (take a colours ++ rest))) (take_at (take a colours) rest a there)
-    ∙ ap (λ (xs : List ℕ). take a colours ++ take 3 xs) (drop_at (take a colours) rest a there)
+    ∙ ap (λ (xs : List ℕ). xs ++ take 3 (drop a (take a colours ++ rest))) (take_at (take a colours) rest a front_length)
+    ∙ ap (λ (xs : List ℕ). take a colours ++ take 3 xs) (drop_at (take a colours) rest a front_length)
     ∙ ap (λ (xs : List ℕ). take a colours ++ xs) (take-append-le 3 piece (post_of a k colours) size)
 
 -- the bytes of the first indices, with the word of one more put behind them
@@ -95,10 +95,10 @@ pub filled-more : (words colours band piece : List ℕ) (i k n : ℕ) → i < le
     take (3 * (i + 1)) (put_mid (3 * i) k colours piece) ≡ flat_map (word_colour words) (take (i + 1) band)
 filled-more words colours band piece i k n there room within four size same before =
     let index : ℕ = get_or band i 0 in
-    let end : 3 * (i + 1) ≡ 3 * i + 3 = omega arith in
+    let end_is : 3 * (i + 1) ≡ 3 * i + 3 = omega arith in
     let own : take 3 piece ≡ word_colour words index =
     ap (take 3) same ∙ take-take 3 n (drop (4 * index) words) (omega (arith, four)) ∙ three_from words (4 * index) (omega (arith, within)) in
-    ap (λ (m : ℕ). take m (put_mid (3 * i) k colours piece)) end
+    ap (λ (m : ℕ). take m (put_mid (3 * i) k colours piece)) end_is
     ∙ put_below colours piece (3 * i) k room (omega (arith, size))
     ∙ ap (λ (xs : List ℕ). xs ++ take 3 piece) before
     ∙ ap (λ (xs : List ℕ). flat_map (word_colour words) (take i band) ++ xs) (own ∙ sym (append-nil (word_colour words index)))

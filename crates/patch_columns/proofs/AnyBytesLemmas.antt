@@ -50,18 +50,18 @@ columns_with-any lump patches patch columns are =
     let count : length (listed change (length columns)) ≡ length columns = length-listed change (length columns) in
     record {
       at = λ x l.
-          let within : x < length columns = omega (arith, l, count) in
-          subst (IsSeen (patches ++ patch ∷ []) x) (sym (get_or-listed change (length columns) x Empty within)) (added_any lump patches patch x (get_or columns x Empty) (patches_in patches x) refl (are.at x within));
+          let column_within : x < length columns = omega (arith, l, count) in
+          subst (IsSeen (patches ++ patch ∷ []) x) (sym (get_or-listed change (length columns) x Empty column_within)) (added_any lump patches patch x (get_or columns x Empty) (patches_in patches x) refl (are.at x column_within));
     }
 
 before_step : (patches : List PlacedPatch) (height : ℕ) (old : List ColumnLookup) (x next : ℕ) → x + 1 ≡ next → next ≤ length old → AreSeen patches old → composed_before height old x ≡ composite_place patches height x → composed_before height old next ≡ composite_place patches height next
 before_step patches height old x next e l are h =
-    let seen = are.at x (omega arith) in
+    let column_seen = are.at x (omega arith) in
     ap (composed_before height old) (sym e)
     ∙ composed_before-more height old x (omega arith)
     ∙ ap (λ k. k + composed_bytes height (get_or old x Empty)) h
-    ∙ ap (λ c. composite_place patches height x + composed_bytes height c) seen.is
-    ∙ sym (place-more seen.bytes patches height x)
+    ∙ ap (λ c. composite_place patches height x + composed_bytes height c) column_seen.is
+    ∙ sym (place-more column_seen.bytes patches height x)
     ∙ ap (composite_place patches height) e
 
 before_any : (patches : List PlacedPatch) (height : ℕ) (old : List ColumnLookup) (x : ℕ) → x ≤ length old → AreSeen patches old → composed_before height old x ≡ composite_place patches height x
@@ -74,13 +74,13 @@ pub columns_any : (patches : List PlacedPatch) (height : ℕ) (old now : List Co
 unfolding column_lookup seen_lookup placed_in
 columns_any patches height old now i count all h are = record {
   at = λ x l.
-      let seen = are.at x (omega arith) in
+      let column_seen = are.at x (omega arith) in
       record {
-        bytes = seen.bytes;
+        bytes = column_seen.bytes;
         is = h.below x (omega arith)
             ∙ ap (λ p. placed_lookup p (get_or old x Empty)) (before_any patches height old x (omega arith) are)
-            ∙ ap (placed_lookup (composite_place patches height x)) seen.is
-            ∙ placed seen.bytes (composite_place patches height x) x (patches_in patches x);
+            ∙ ap (placed_lookup (composite_place patches height x)) column_seen.is
+            ∙ placed column_seen.bytes (composite_place patches height x) x (patches_in patches x);
       };
 }
 

@@ -78,17 +78,17 @@ pub record Puts (lookup : ColumnLookup) (height : ℕ) (placed : List PlacedPost
 composed_step : (bytes : ℕ → List ℕ) (patches : List PlacedPatch) (n height x width : ℕ) (lump : List ℕ) (patch : PlacedPatch) (lookup : ColumnLookup) (old new : List ℕ) → IsNext bytes patches n lump patch → x < width → is_composed patches x ≡ true → lookup ≡ Composed (composite_place patches height x) → old ≡ composite_up_to bytes patches n height x width → Puts lookup height (posts_in lump patch x) old new → new ≡ composite_up_to bytes patches n height (x + 1) width
 unfolding composite_up_to composite_place composed_count composed_columns
 composed_step bytes patches n height x width lump patch lookup old new is l on at before puts =
-    let g = composed_column bytes (take (n + 1) patches) height in
-    let f = composed_column bytes (take n patches) height in
-    let p = is_composed patches in
-    let front = joined_lists g (below p x) in
-    let back = joined_lists f (onward p (x + 1) width) in
-    puts.put (composite_place patches height x) front (f x) back at
-    (before ∙ joined_up_to-here g f p x width l on)
-    (length-joined_lists g height (below p x) (length-composed_column bytes (take (n + 1) patches) height))
+    let column_after = composed_column bytes (take (n + 1) patches) height in
+    let column_before = composed_column bytes (take n patches) height in
+    let composed_at = is_composed patches in
+    let front = joined_lists column_after (below composed_at x) in
+    let back = joined_lists column_before (onward composed_at (x + 1) width) in
+    puts.put (composite_place patches height x) front (column_before x) back at
+    (before ∙ joined_up_to-here column_after column_before composed_at x width l on)
+    (length-joined_lists column_after height (below composed_at x) (length-composed_column bytes (take (n + 1) patches) height))
     (length-composed_column bytes (take n patches) height x)
     ∙ ap (λ (column : List ℕ). front ++ (column ++ back)) (sym (composed_column-more bytes patches n height x lump patch is))
-    ∙ sym (joined_up_to-next g f p x width on)
+    ∙ sym (joined_up_to-next column_after column_before composed_at x width on)
 
 other_step : (bytes : ℕ → List ℕ) (patches : List PlacedPatch) (n height x width : ℕ) (placed : List PlacedPost) (lookup : ColumnLookup) (old new : List ℕ) → x < width → is_composed patches x ≡ false → ((place : ℕ) → lookup ≡ Composed place → ⊥) → old ≡ composite_up_to bytes patches n height x width → Puts lookup height placed old new → new ≡ composite_up_to bytes patches n height (x + 1) width
 unfolding composite_up_to

@@ -48,7 +48,7 @@ unfolding composed_bytes lookup_of
 bytes_of bytes height start x [] = omega arith
 bytes_of bytes height start x (first ∷ []) = omega arith
 bytes_of bytes height start x (first ∷ second ∷ rest) =
-    let e : nat_lt 1 (suc (suc (length rest))) ≡ true = grind (arith, nat_tests) in rw e (omega arith)
+    let more_than_one : nat_lt 1 (suc (suc (length rest))) ≡ true = grind (arith, nat_tests) in rw more_than_one (omega arith)
 
 times_more : (height a b c n : ℕ) → n ≡ a + b → c ≡ height * b → height * n ≡ height * a + c
 times_more height a b c n e f = ap (λ k. height * k) e ∙ (omega arith)
@@ -62,12 +62,12 @@ place-more bytes patches height x =
 before_step : (bytes : ℕ → List ℕ) (patches : List PlacedPatch) (height n x next : ℕ) → x + 1 ≡ next → next ≤ n → composed_before height (seen_lookups bytes patches n) x ≡ composite_place patches height x → composed_before height (seen_lookups bytes patches n) next ≡ composite_place patches height next
 unfolding seen_lookups
 before_step bytes patches height n x next e l h =
-    let f : ℕ → ColumnLookup = seen_lookup bytes patches in
-    let long : length (listed f n) ≡ n = length-listed f n in
-    ap (composed_before height (listed f n)) (sym e)
-    ∙ composed_before-more height (listed f n) x (omega arith)
-    ∙ ap (λ k. k + composed_bytes height (get_or (listed f n) x Empty)) h
-    ∙ ap (λ c. composite_place patches height x + composed_bytes height c) (get_or-listed f n x Empty (omega arith))
+    let seen_at : ℕ → ColumnLookup = seen_lookup bytes patches in
+    let length_is : length (listed seen_at n) ≡ n = length-listed seen_at n in
+    ap (composed_before height (listed seen_at n)) (sym e)
+    ∙ composed_before-more height (listed seen_at n) x (omega arith)
+    ∙ ap (λ k. k + composed_bytes height (get_or (listed seen_at n) x Empty)) h
+    ∙ ap (λ c. composite_place patches height x + composed_bytes height c) (get_or-listed seen_at n x Empty (omega arith))
     ∙ sym (place-more bytes patches height x)
     ∙ ap (composite_place patches height) e
 

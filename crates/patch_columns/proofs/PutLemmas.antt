@@ -21,7 +21,7 @@ begins bytes place post h = found bytes place post (is_post bytes place) refl h
 -- no post begins at a place past the lump's end
 past : (bytes : List ℕ) (place : ℕ) (b : Bool) → is_post bytes place ≡ b → length bytes ≤ place → is_post bytes place ≡ false
 past bytes place false e l = e
-past bytes place true e l = let w = is_post-within bytes place e in absurd (omega arith)
+past bytes place true e l = let place_within = is_post-within bytes place e in absurd (omega arith)
 
 pub post_at-past : (bytes : List ℕ) (place : ℕ) → length bytes ≤ place → post_at bytes place ≡ None
 unfolding post_at
@@ -37,9 +37,9 @@ pub record Lies (bytes : List ℕ) (place : ℕ) (post : Post) : Type 0 where
 pub post_at-lies : (bytes : List ℕ) (place : ℕ) (post : Post) → post_at bytes place ≡ Some post → Lies bytes place post
 unfolding post_in next_place
 post_at-lies bytes place post h =
-    let b = begins bytes place post h in
-    let first : post.first ≡ place + 3 = ap (λ (p : Post). p.first) (sym b.read) in
-    record { within = is_post-within bytes place b.is; first = first; later = omega arith; next = omega arith }
+    let begins_there = begins bytes place post h in
+    let first_is : post.first ≡ place + 3 = ap (λ (p : Post). p.first) (sym begins_there.read) in
+    record { within = is_post-within bytes place begins_there.is; first = first_is; later = omega arith; next = omega arith }
 
 not_there : (bytes : List ℕ) (place : ℕ) (b : Bool) → is_post bytes place ≡ b → (if b then Some (post_in bytes place) else None) ≡ None → is_post bytes place ≡ false
 not_there bytes place false e h = e
@@ -52,9 +52,9 @@ posts_at-none bytes place y h = rw (posts-none bytes place (not_there bytes plac
 posts_at-some : (bytes : List ℕ) (place : ℕ) (y : ℤ) (post : Post) → post_at bytes place ≡ Some post → posts_at bytes place y ≡ placed_post (y +ℤ pos post.topdelta) post bytes ∷ posts_at bytes (next_place post) y
 unfolding posts_at
 posts_at-some bytes place y post h =
-    let b = begins bytes place post h in
+    let begins_there = begins bytes place post h in
     let all : posts bytes place ≡ post ∷ posts bytes (next_place post) =
-    posts-some bytes place b.is ∙ ap (λ (p : Post). p ∷ posts bytes (next_place p)) b.read in
+    posts-some bytes place begins_there.is ∙ ap (λ (p : Post). p ∷ posts bytes (next_place p)) begins_there.read in
     ap (map (λ (p : Post). placed_post (y +ℤ pos p.topdelta) p bytes)) all
 
 -- no post is left
@@ -73,6 +73,6 @@ put_one bytes place next y row post column new h n r e =
 -- the lump ends in the last post that is put
 pub put_last : (bytes : List ℕ) (place : ℕ) (y row : ℤ) (post : Post) (column new : List ℕ) → post_at bytes place ≡ Some post → length bytes ≤ post.first → row ≡ y +ℤ pos post.topdelta → new ≡ with_posts column (placed_post row post bytes ∷ []) → new ≡ with_posts column (posts_at bytes place y)
 put_last bytes place y row post column new h l r e =
-    let lies = post_at-lies bytes place post h in
+    let post_lies = post_at-lies bytes place post h in
     put_all bytes (next_place post) y new (post_at-past bytes (next_place post) (omega arith))
     ∙ put_one bytes place (next_place post) y row post column new h refl r e

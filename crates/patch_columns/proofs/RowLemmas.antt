@@ -21,7 +21,7 @@ row_so_far bytes from first k old v =
 pub row_so_far-none : (bytes : List ℕ) (from first v : ℕ) (old : List ℕ) → get_or old v 0 ≡ row_so_far bytes from first 0 old v
 unfolding row_so_far
 row_so_far-none bytes from first v old =
-    let off : (nat_le first v && nat_lt v (first + 0)) ≡ false = grind (arith, nat_tests) in rw off
+    let row_outside : (nat_le first v && nat_lt v (first + 0)) ≡ false = grind (arith, nat_tests) in rw row_outside
 
 other_row : (first k v : ℕ) → v ≢ first + k → (nat_le first v && nat_lt v (first + k)) ≡ (nat_le first v && nat_lt v (first + (k + 1)))
 other_row first k v ne = grind (arith, nat_tests)
@@ -32,8 +32,8 @@ unfolding row_so_far
 row_so_far-more bytes from first k byte v old column b l h =
     elim (cases_eq v (first + k)) [
       | inl e ↦
-          let d : v - first ≡ k = omega arith in
-          rw (within-row first k v e, d, e, get_or-set_same) b
+          let offset_is : v - first ≡ k = omega arith in
+          rw (within-row first k v e, offset_is, e, get_or-set_same) b
       | inr ne ↦ rw (get_or-set_other, ← other_row first k v ne) h
     ]
 

@@ -16,10 +16,9 @@ own_column-last x patch h = grind (arith, ints)
 word_at-fits : (bytes : List ℕ) (place : ℕ) → ((k : ℕ) → Fits w8 (get_or bytes k 0)) → word_at bytes place < 2 ^ 32
 unfolding word_at half_at byte_at
 word_at-fits bytes place each =
-    let first = each place in
-    let second = each (place + 1) in
-    let third = each (place + 2) in
-    let fourth = each (place + 2 + 1) in
+    let first_byte_fits = each place in let second_byte_fits = each (place + 1) in
+    let third_byte_fits = each (place + 2) in
+    let fourth_byte_fits = each (place + 2 + 1) in
     omega arith
 
 -- where a column of a patch begins is told by four bytes
@@ -39,12 +38,12 @@ pub changed_more : (change : ℕ → ColumnLookup → ColumnLookup) (old now : L
 changed_more change old now i y l h e =
     record {
       below = λ k b. elim (cases_lt k i) [
-        | inl s ↦ let n : k ≢ i = omega arith in rw get_or-set_other (h.below k s)
+        | inl s ↦ let index_differs : k ≢ i = omega arith in rw get_or-set_other (h.below k s)
         | inr s ↦
-            let d : k ≡ i = omega arith in
-            rw d (get_or-set_same now i y Empty l ∙ e ∙ ap (change i) (h.above i (omega arith)))
+            let index_is : k ≡ i = omega arith in
+            rw index_is (get_or-set_same now i y Empty l ∙ e ∙ ap (change i) (h.above i (omega arith)))
       ];
-      above = λ k b. let n : k ≢ i = omega arith in rw get_or-set_other (h.above k (omega arith));
+      above = λ k b. let index_differs : k ≢ i = omega arith in rw get_or-set_other (h.above k (omega arith));
     }
 
 -- once all are changed, they are the values of g where each is changed into its value
@@ -83,11 +82,12 @@ columns_with-changed lump patch old now i count all h = listed-all _ now (length
 pub columns_with-seen : (bytes : ℕ → List ℕ) (patches : List PlacedPatch) (patch : PlacedPatch) (n : ℕ) → columns_with (bytes patch.lump) patch (seen_lookups bytes patches n) ≡ seen_lookups bytes (patches ++ patch ∷ []) n
 unfolding columns_with seen_lookups
 columns_with-seen bytes patches patch n =
-    let f : ℕ → ColumnLookup = seen_lookup bytes patches in
-    let change : ℕ → ColumnLookup = λ x. lookup_with (bytes patch.lump) patch x (get_or (listed f n) x Empty) in
-    let count : length (listed f n) ≡ n = length-listed f n in
-    listed-all (seen_lookup bytes (patches ++ patch ∷ [])) (listed change (length (listed f n))) n Empty (length-listed change (length (listed f n)) ∙ count)
-    (λ k l. get_or-listed change (length (listed f n)) k Empty (omega arith) ∙ ap (lookup_with (bytes patch.lump) patch k) (get_or-listed f n k Empty l) ∙ seen_lookup-added bytes patches patch k)
+    let seen_at : ℕ → ColumnLookup = seen_lookup bytes patches in
+    let change : ℕ → ColumnLookup = λ x. lookup_with (bytes patch.lump) patch x (get_or (listed seen_at n) x Empty) in
+    let count : length (listed seen_at n) ≡ n = length-listed seen_at n in
+    listed-all (seen_lookup bytes (patches ++ patch ∷ [])) (listed change (length (listed seen_at n))) n Empty
+    (length-listed change (length (listed seen_at n)) ∙ count)
+    (λ k l. get_or-listed change (length (listed seen_at n)) k Empty (omega arith) ∙ ap (lookup_with (bytes patch.lump) patch k) (get_or-listed seen_at n k Empty l) ∙ seen_lookup-added bytes patches patch k)
 
 pub columns_with-added : (bytes : ℕ → List ℕ) (lump : List ℕ) (patches : List PlacedPatch) (patch : PlacedPatch) (old : List ColumnLookup) → bytes patch.lump ≡ lump → old ≡ seen_lookups bytes patches (length old) → columns_with lump patch old ≡ seen_lookups bytes (patches ++ patch ∷ []) (length old)
 columns_with-added bytes lump patches patch old of are =

@@ -60,7 +60,7 @@ unfolding joined_lists listed_from
 last_dot-no_column f x y first last a (inl l) = past_columns f x y first (last + 1 - first) a l
 last_dot-no_column f x y first last a (inr l) =
     elim (cases_lt last first) [
-      | inl h ↦ (let e : last + 1 - first ≡ 0 = omega arith in rw e (last_dot-none x y))
+      | inl h ↦ (let count_is_zero : last + 1 - first ≡ 0 = omega arith in rw count_is_zero (last_dot-none x y))
       | inr h ↦ after_columns f x y first (last + 1 - first) a (omega arith)
     ]
 

@@ -76,9 +76,9 @@ cell_after mark left top x y d cells before c k l m n e =
       | inl a ↦ elim (cases_eq d.y y) [
         | inr b ↦ rw (ne_eqb d.y y b, eq-eqb d.x x a) (get_or-set_other cells (cell_of left top d.x d.y) (cell_of left top x y) (mark d.painter d.colour) k (λ q. b (sym (same_cell left top x y d.x d.y l m q).1)) ∙ e)
         | inl b ↦
-            let f : cell_of left top d.x d.y ≡ cell_of left top x y = ap (λ (i : ℕ). cell_of left top i d.y) a ∙ ap (cell_of left top x) b in
+            let cell_is : cell_of left top d.x d.y ≡ cell_of left top x y = ap (λ (i : ℕ). cell_of left top i d.y) a ∙ ap (cell_of left top x) b in
             rw (eq-eqb d.x x a, eq-eqb d.y y b)
-            (ap (λ (i : ℕ). get_or (set cells i (mark d.painter d.colour)) (cell_of left top x y) k) f ∙ get_or-set_same cells (cell_of left top x y) (mark d.painter d.colour) k n)
+            (ap (λ (i : ℕ). get_or (set cells i (mark d.painter d.colour)) (cell_of left top x y) k) cell_is ∙ get_or-set_same cells (cell_of left top x y) (mark d.painter d.colour) k n)
       ]
     ]
 
@@ -88,8 +88,8 @@ cells_after : (mark : Painter → ℕ → ℕ) (left top x y : ℕ) (ds : List D
 unfolding put_dots last_dot_from
 cells_after mark left top x y [] cells before c k a l n e = e
 cells_after mark left top x y (d ∷ ds) cells before c k a l n e =
-    let m : cell_of left top x y < length (set cells (cell_of left top d.x d.y) (mark d.painter d.colour)) = rw length-set n in
-    cells_after mark left top x y ds (set cells (cell_of left top d.x d.y) (mark d.painter d.colour)) (cond (is_at x y d) (Some d) before) c k a.1 l m
+    let cell_within : cell_of left top x y < length (set cells (cell_of left top d.x d.y) (mark d.painter d.colour)) = rw length-set n in
+    cells_after mark left top x y ds (set cells (cell_of left top d.x d.y) (mark d.painter d.colour)) (cond (is_at x y d) (Some d) before) c k a.1 l cell_within
     (cell_after mark left top x y d cells before c k l a.0.0 n e)
 
 -- the cell of a pixel has the mark of the last dot there, or what it had before
@@ -128,10 +128,10 @@ pub cell_any-put_dots : (mark : Painter → ℕ → ℕ) (left top cell : ℕ) (
     AreInFrame left top ds → left ≤ cell % FRAME_WIDTH → top ≤ cell / FRAME_WIDTH → cell < length cells →
     get_or (put_dots mark left top ds cells) cell k ≡ mark_or mark (get_or cells cell k) (last_dot (cell % FRAME_WIDTH - left) (cell / FRAME_WIDTH - top) ds)
 cell_any-put_dots mark left top cell ds cells k a l m n =
-    let e = pixel_of left top cell l m in
-    let f : cell % FRAME_WIDTH - left + left < FRAME_WIDTH = omega arith in
-    subst (λ (i : ℕ). get_or (put_dots mark left top ds cells) i k ≡ mark_or mark (get_or cells i k) (last_dot (cell % FRAME_WIDTH - left) (cell / FRAME_WIDTH - top) ds)) e
-    (cell-put_dots mark left top (cell % FRAME_WIDTH - left) (cell / FRAME_WIDTH - top) ds cells k a f (subst (λ (i : ℕ). i < length cells) (sym e) n))
+    let cell_is = pixel_of left top cell l m in let column_in_frame : cell % FRAME_WIDTH - left + left < FRAME_WIDTH = omega arith in
+    subst (λ (i : ℕ). get_or (put_dots mark left top ds cells) i k ≡ mark_or mark (get_or cells i k) (last_dot (cell % FRAME_WIDTH - left) (cell / FRAME_WIDTH - top) ds)) cell_is
+    (cell-put_dots mark left top (cell % FRAME_WIDTH - left) (cell / FRAME_WIDTH - top) ds cells k a column_in_frame
+    (subst (λ (i : ℕ). i < length cells) (sym cell_is) n))
 
 same_at : (mark : Painter → ℕ → ℕ) (left top : ℕ) (ds es : List Dot) (cells : List ℕ) → AreInFrame left top ds → AreInFrame left top es →
     ((x y : ℕ) → last_dot x y ds ≡ last_dot x y es) → (cell k : ℕ) → cell < length cells →

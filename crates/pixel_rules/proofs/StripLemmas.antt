@@ -67,7 +67,7 @@ pub in_frame-column_dots : (painter : Painter) (left top x : ℕ) (colour : ℕ 
 unfolding listed_from column_dots
 in_frame-column_dots painter left top x colour first last l m =
     elim (cases_lt last first) [
-      | inl h ↦ (let e : last + 1 - first ≡ 0 = omega arith in rw e tt)
+      | inl h ↦ (let count_is_zero : last + 1 - first ≡ 0 = omega arith in rw count_is_zero tt)
       | inr h ↦ in_frame-range painter left top x colour first (last + 1 - first) l (omega arith)
     ]
 
@@ -81,7 +81,7 @@ pub in_frame-span_dots : (painter : Painter) (left top y : ℕ) (colour : ℕ �
 unfolding span_dots listed_from
 in_frame-span_dots painter left top y colour first last l m =
     elim (cases_lt last first) [
-      | inl h ↦ (let e : last + 1 - first ≡ 0 = omega arith in rw e tt)
+      | inl h ↦ (let count_is_zero : last + 1 - first ≡ 0 = omega arith in rw count_is_zero tt)
       | inr h ↦ in_frame-row_range painter left top y colour first (last + 1 - first) (omega arith) m
     ]
 
@@ -92,25 +92,25 @@ turned a b c = +ℤ_assoc a b c ∙ ap (λ (z : ℤ). a +ℤ z) (+ℤ_comm b c) 
 -- rows from the centre, times the step, and one row more
 row_more : (c step : ℤ) (y n : ℕ) → y + 1 ≡ n → step +ℤ (pos y -ℤ c) *ℤ step ≡ (pos n -ℤ c) *ℤ step
 row_more c step y n e =
-    let f : suc y ≡ n = omega arith in
+    let next_is : suc y ≡ n = omega arith in
     +ℤ_comm step ((pos y -ℤ c) *ℤ step) ∙ sym (suc_ℤ-*ℤ (pos y -ℤ c) step)
-    ∙ ap (λ (z : ℤ). z *ℤ step) (sym (suc_ℤ-+ℤ (pos y) (neg_ℤ c))) ∙ ap (λ (m : ℕ). (pos m -ℤ c) *ℤ step) f
+    ∙ ap (λ (z : ℤ). z *ℤ step) (sym (suc_ℤ-+ℤ (pos y) (neg_ℤ c))) ∙ ap (λ (m : ℕ). (pos m -ℤ c) *ℤ step) next_is
 
 -- the fraction one row further is one step more
 pub row_fraction-more : (centre_y : ℕ) (mid iscale : ℤ) (y n : ℕ) → y + 1 ≡ n → plus (row_fraction centre_y mid iscale y) iscale ≡ row_fraction centre_y mid iscale n
 unfolding row_fraction plus minus times
 row_fraction-more centre_y mid iscale y n e =
-    let d : ℤ = pos y -ℤ pos centre_y in
-    let b : ℤ = pos n -ℤ pos centre_y in
-    int_wrap-add_left w32 (mid +ℤ int_wrap w32 (int_wrap w32 d *ℤ iscale)) iscale
-    ∙ ap (int_wrap w32) (turned mid (int_wrap w32 (int_wrap w32 d *ℤ iscale)) iscale)
-    ∙ int_wrap-add_right w32 (mid +ℤ iscale) (int_wrap w32 d *ℤ iscale)
-    ∙ sym (int_wrap-add_right w32 (mid +ℤ iscale) (int_wrap w32 d *ℤ iscale))
-    ∙ ap (λ (z : ℤ). int_wrap w32 ((mid +ℤ iscale) +ℤ z)) (int_wrap-mul_left w32 d iscale)
-    ∙ int_wrap-add_right w32 (mid +ℤ iscale) (d *ℤ iscale)
-    ∙ ap (int_wrap w32) (+ℤ_assoc mid iscale (d *ℤ iscale) ∙ ap (λ (z : ℤ). mid +ℤ z) (row_more (pos centre_y) iscale y n e))
-    ∙ sym (int_wrap-add_right w32 mid (b *ℤ iscale))
-    ∙ sym (ap (λ (z : ℤ). int_wrap w32 (mid +ℤ z)) (int_wrap-mul_left w32 b iscale))
+    let row_offset : ℤ = pos y -ℤ pos centre_y in
+    let next_offset : ℤ = pos n -ℤ pos centre_y in
+    int_wrap-add_left w32 (mid +ℤ int_wrap w32 (int_wrap w32 row_offset *ℤ iscale)) iscale
+    ∙ ap (int_wrap w32) (turned mid (int_wrap w32 (int_wrap w32 row_offset *ℤ iscale)) iscale)
+    ∙ int_wrap-add_right w32 (mid +ℤ iscale) (int_wrap w32 row_offset *ℤ iscale)
+    ∙ sym (int_wrap-add_right w32 (mid +ℤ iscale) (int_wrap w32 row_offset *ℤ iscale))
+    ∙ ap (λ (z : ℤ). int_wrap w32 ((mid +ℤ iscale) +ℤ z)) (int_wrap-mul_left w32 row_offset iscale)
+    ∙ int_wrap-add_right w32 (mid +ℤ iscale) (row_offset *ℤ iscale)
+    ∙ ap (int_wrap w32) (+ℤ_assoc mid iscale (row_offset *ℤ iscale) ∙ ap (λ (z : ℤ). mid +ℤ z) (row_more (pos centre_y) iscale y n e))
+    ∙ sym (int_wrap-add_right w32 mid (next_offset *ℤ iscale))
+    ∙ sym (ap (λ (z : ℤ). int_wrap w32 (mid +ℤ z)) (int_wrap-mul_left w32 next_offset iscale))
 
 row_fits : (centre_y : ℕ) (mid iscale : ℤ) (y : ℕ) → FitsSigned w32 (row_fraction centre_y mid iscale y)
 unfolding row_fraction plus
@@ -119,8 +119,8 @@ row_fits centre_y mid iscale y = SFits-int_wrap w32 (mid +ℤ times (minus (pos 
 -- so the fraction k rows after the first is the first row's, stepped k times
 pub row_fraction-steps : (centre_y : ℕ) (mid iscale : ℤ) (first k : ℕ) → row_fraction centre_y mid iscale (first + k) ≡ step_at (row_fraction centre_y mid iscale first) iscale k
 row_fraction-steps centre_y mid iscale first zero =
-    let e : first + 0 ≡ first = omega arith in
-    ap (row_fraction centre_y mid iscale) e ∙ step_at-zero (row_fraction centre_y mid iscale first) iscale (row_fits centre_y mid iscale first)
+    let row_is : first + 0 ≡ first = omega arith in
+    ap (row_fraction centre_y mid iscale) row_is ∙ step_at-zero (row_fraction centre_y mid iscale first) iscale (row_fits centre_y mid iscale first)
 row_fraction-steps centre_y mid iscale first (suc k) =
     sym (row_fraction-more centre_y mid iscale (first + k) (first + suc k) (omega arith))
     ∙ ap (λ (z : ℤ). plus z iscale) (row_fraction-steps centre_y mid iscale first k)

@@ -28,24 +28,24 @@ pub cut_span : (flat colormap texels shades : List ℕ) (map place : ℕ) → pl
     cut_span_colour texels shades place ≡ span_colour flat colormap map place
 unfolding cut_span_colour span_colour shade
 cut_span flat colormap texels shades map place within t s l =
-    s.same (slice_index texels place) l
-    ∙ ap (λ (n : ℕ). slice_index colormap (MAP_COLOURS * map + n)) (t.same place within ∙ ap (slice_index flat) (let e : 0 + place ≡ place = omega arith in e))
+    s.same (slice_index texels place) l ∙ ap (λ (n : ℕ). slice_index colormap (MAP_COLOURS * map + n))
+    (t.same place within ∙ ap (slice_index flat) (let place_is : 0 + place ≡ place = omega arith in place_is))
 
 -- the colour k rows after the first, and k columns after it
 pub cut_strip_from : (texels shades : List ℕ) (fraction step : ℤ) (first k : ℕ) →
     cut_colour texels shades (step_at fraction step k) ≡ cut_strip_colour texels shades fraction step first (first + k)
 unfolding cut_strip_colour
 cut_strip_from texels shades fraction step first k =
-    let e : k ≡ first + k - first = omega arith in
-    ap (λ (m : ℕ). cut_colour texels shades (step_at fraction step m)) e
+    let offset_is : k ≡ first + k - first = omega arith in
+    ap (λ (m : ℕ). cut_colour texels shades (step_at fraction step m)) offset_is
 
 pub cut_row_from : (spans : Spans) (texels shades : List ℕ) (x_fraction y_fraction x_step y_step : ℤ) (first k : ℕ) →
     cut_span_colour texels shades (span_place spans x_fraction y_fraction x_step y_step k)
     ≡ cut_row_colour spans texels shades x_fraction y_fraction x_step y_step first (first + k)
 unfolding cut_row_colour
 cut_row_from spans texels shades x_fraction y_fraction x_step y_step first k =
-    let e : k ≡ first + k - first = omega arith in
-    ap (λ (m : ℕ). cut_span_colour texels shades (span_place spans x_fraction y_fraction x_step y_step m)) e
+    let offset_is : k ≡ first + k - first = omega arith in
+    ap (λ (m : ℕ). cut_span_colour texels shades (span_place spans x_fraction y_fraction x_step y_step m)) offset_is
 
 -- a strip of what is cut out has the colours of the strip of the whole
 pub cut_strip : (source colormap texels shades : List ℕ) (base map : ℕ) (fraction step : ℤ) (first : ℕ) →

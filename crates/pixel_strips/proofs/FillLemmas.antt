@@ -78,31 +78,31 @@ pub fill_cells-more : (place value : ℕ → ℕ) (k n : ℕ) (cells : List ℕ)
     set (fill_cells place value k cells) (place k) (value k) ≡ fill_cells place value n cells
 unfolding fill_cells
 fill_cells-more place value k n cells e =
-    let f : suc k ≡ n = omega arith in
-    ap (λ (m : ℕ). fill_cells place value m cells) f
+    let next_is : suc k ≡ n = omega arith in
+    ap (λ (m : ℕ). fill_cells place value m cells) next_is
 
 -- a cell that is set again to what it has
 fill_cells-again : (place value : ℕ → ℕ) (cells : List ℕ) → ((i j : ℕ) → i < j → place i < place j) → (k m n : ℕ) → k + 1 + m ≡ n →
     set (fill_cells place value n cells) (place k) (value k) ≡ fill_cells place value n cells
 fill_cells-again place value cells below k zero n e =
-    let more = fill_cells-more place value k n cells (omega (arith, e)) in
-    ap (λ (cs : List ℕ). set cs (place k) (value k)) (sym more) ∙ set-set (fill_cells place value k cells) (place k) (value k) (value k) ∙ more
+    let more_filled = fill_cells-more place value k n cells (omega (arith, e)) in
+    ap (λ (cs : List ℕ). set cs (place k) (value k)) (sym more_filled) ∙ set-set (fill_cells place value k cells) (place k) (value k) (value k) ∙ more_filled
 fill_cells-again place value cells below k (suc m) n e =
     let last : ℕ = k + 1 + m in
-    let more = fill_cells-more place value last n cells (omega (arith, e)) in
-    let apart : place last ≢ place k = let l = below k last (omega arith) in omega arith in
-    ap (λ (cs : List ℕ). set cs (place k) (value k)) (sym more)
+    let more_filled = fill_cells-more place value last n cells (omega (arith, e)) in
+    let apart : place last ≢ place k = let place_below = below k last (omega arith) in omega arith in
+    ap (λ (cs : List ℕ). set cs (place k) (value k)) (sym more_filled)
     ∙ set_comm (fill_cells place value last cells) (place last) (place k) (value last) (value k) apart
-    ∙ ap (λ (cs : List ℕ). set cs (place last) (value last)) (fill_cells-again place value cells below k m last refl) ∙ more
+    ∙ ap (λ (cs : List ℕ). set cs (place last) (value last)) (fill_cells-again place value cells below k m last refl) ∙ more_filled
 
 -- the next cell, or one that is set already
 pub fill_cells-on : (place value : ℕ → ℕ) (cells : List ℕ) → ((i j : ℕ) → i < j → place i < place j) → (k n : ℕ) → k ≤ n →
     set (fill_cells place value n cells) (place k) (value k) ≡ fill_cells place value (max n (k + 1)) cells
 fill_cells-on place value cells below k n h = elim (cases_lt k n) [
-  | inl l ↦ let same : n ≡ max n (k + 1) = omega (arith, l) in
-      fill_cells-again place value cells below k (n - (k + 1)) n (omega (arith, l)) ∙ ap (λ (m : ℕ). fill_cells place value m cells) same
-  | inr l ↦ let same : k ≡ n = omega (arith, l, h) in
-      ap (λ (m : ℕ). set (fill_cells place value m cells) (place k) (value k)) (sym same) ∙ fill_cells-more place value k (max n (k + 1)) cells (omega (arith, same))
+  | inl l ↦ let count_is : n ≡ max n (k + 1) = omega (arith, l) in
+      fill_cells-again place value cells below k (n - (k + 1)) n (omega (arith, l)) ∙ ap (λ (m : ℕ). fill_cells place value m cells) count_is
+  | inr l ↦ let count_is : k ≡ n = omega (arith, l, h) in
+      ap (λ (m : ℕ). set (fill_cells place value m cells) (place k) (value k)) (sym count_is) ∙ fill_cells-more place value k (max n (k + 1)) cells (omega (arith, count_is))
 ]
 
 -- dots that come one by one set the cells one by one

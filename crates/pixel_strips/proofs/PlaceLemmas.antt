@@ -48,7 +48,7 @@ row_bits n = omega arith
 row_of_bits : (z : ℤ) → FitsSigned w32 z → bits_of z / 2 ^ 16 % 2 ^ 7 ≡ texel_row z
 unfolding texel_row shr_word
 row_of_bits (pos n) f = refl
-row_of_bits (negsuc n) f = let h = f.sfits in omega arith
+row_of_bits (negsuc n) f = let word_fits = f.sfits in omega arith
 
 pub row_of_place : (a : ℤ) (place : ℕ) → IsTexelPlace a place → place / 2 ^ ROW_SHIFT ≡ texel_row a
 unfolding lifted
@@ -58,7 +58,7 @@ row_of_place a place p = ap (λ (n : ℕ). n / 2 ^ ROW_SHIFT) p.is ∙ row_bits 
 flat_of_bits : (z : ℤ) → FitsSigned w32 z → bits_of z / 2 ^ 16 % 2 ^ 6 ≡ bits_of (shr_word z FRACTION_BITS) % FLAT_SIDE
 unfolding shr_word
 flat_of_bits (pos n) f = refl
-flat_of_bits (negsuc n) f = let h = f.sfits in omega arith
+flat_of_bits (negsuc n) f = let word_fits = f.sfits in omega arith
 
 -- the carries leave the six highest bits alone
 row_above : (n carries low : ℕ) → carries < 2 ^ 10 → low < 2 ^ 32 →
@@ -81,11 +81,11 @@ pub flat_of_place : (x y : ℤ) (most place : ℕ) → most < CARRIES → IsFlat
     (place / 2 ^ 58 * 2 ^ 58 % 2 ^ 64 + place / 2 ^ 26 % 64 * 2 ^ 26 % 2 ^ 64) * 67109889 % 2 ^ 64 / 2 ^ 52 ≡ flat_place x y
 unfolding lifted flat_place
 flat_of_place x y most place h p =
-    let few = p.few in
-    let row = row_above (bits_of y) p.carries (lifted FLAT_LIFT x) (omega arith) (lifted_below FLAT_LIFT x) ∙ flat_of_bits y p.y_fits in
-    let column = column_below (bits_of x) (lifted FLAT_LIFT y + p.carries) ∙ flat_of_bits x p.x_fits in
+    let carries_at_most = p.few in
+    let row_is = row_above (bits_of y) p.carries (lifted FLAT_LIFT x) (omega arith) (lifted_below FLAT_LIFT x) ∙ flat_of_bits y p.y_fits in
+    let column_is = column_below (bits_of x) (lifted FLAT_LIFT y + p.carries) ∙ flat_of_bits x p.x_fits in
     ap (λ (n : ℕ). (n / 2 ^ 58 * 2 ^ 58 % 2 ^ 64 + n / 2 ^ 26 % 64 * 2 ^ 26 % 2 ^ 64) * 67109889 % 2 ^ 64 / 2 ^ 52) p.is
-    ∙ ap₂ (λ (row column : ℕ). (row * 2 ^ 58 % 2 ^ 64 + column * 2 ^ 26 % 2 ^ 64) * 67109889 % 2 ^ 64 / 2 ^ 52) row column
+    ∙ ap₂ (λ (row column : ℕ). (row * 2 ^ 58 % 2 ^ 64 + column * 2 ^ 26 % 2 ^ 64) * 67109889 % 2 ^ 64 / 2 ^ 52) row_is column_is
     ∙ gathered _ _ (omega arith) (omega arith)
 
 -- the shift up of one half
@@ -123,8 +123,8 @@ flat_place_more x y a b most few place step h p s =
     let low : ℕ = lifted FLAT_LIFT x in
     let added : ℕ = lifted FLAT_LIFT a in
     let carries : ℕ = p.carries + s.carries + (low + added) / 2 ^ 32 in
-    let held = p.few in
-    let holds = s.few in
+    let carries_at_most = p.few in
+    let added_at_most = s.few in
     record {
       x_fits = plus_fits x a;
       y_fits = plus_fits y b;
@@ -142,15 +142,15 @@ flat_place-on x y a b most few place d e h p = record {
   x_fits = subst (FitsSigned w32) d p.x_fits;
   y_fits = subst (FitsSigned w32) e p.y_fits;
   carries = p.carries;
-  few = let held = p.few in omega (arith, held, h);
+  few = let carries_at_most = p.few in omega (arith, carries_at_most, h);
   is = p.is ∙ ap₂ (λ (u v : ℤ). 2 ^ 32 * (lifted FLAT_LIFT v + p.carries) + lifted FLAT_LIFT u) d e;
 }
 
 -- so many steps, and so many more
 pub step_at-on : (first step : ℤ) (k m n : ℕ) → k + m ≡ n → step_at (step_at first step k) step m ≡ step_at first step n
 unfolding step_at
-step_at-on first step k zero n e =
-    sym (step_at-zero (step_at first step k) step (plus_fits first (times (pos k) step))) ∙ ap (step_at first step) (let f : k ≡ n = omega (arith, e) in f)
+step_at-on first step k zero n e = sym (step_at-zero (step_at first step k) step (plus_fits first (times (pos k) step)))
+    ∙ ap (step_at first step) (let count_is : k ≡ n = omega (arith, e) in count_is)
 step_at-on first step k (suc m) n e =
     sym (step_at-more (step_at first step k) step m (suc m) (omega arith))
     ∙ ap (λ (z : ℤ). plus z step) (step_at-on first step k m (k + m) refl) ∙ step_at-more first step (k + m) n (omega (arith, e))
@@ -166,10 +166,10 @@ packed_more place step m n e = omega arith
 pub texel_place_steps : (a b : ℤ) (place step k : ℕ) → IsTexelPlace a place → IsTexelPlace b step →
     IsTexelPlace (step_at a b k) ((place + step * k % 2 ^ 32) % 2 ^ 32)
 texel_place_steps a b place step zero p s =
-    let below = lifted_below ROW_LIFT a in
-    let is = p.is in
-    let same : place ≡ (place + step * 0 % 2 ^ 32) % 2 ^ 32 = omega arith in
-    subst₂ IsTexelPlace (step_at-zero a b p.fits) same p
+    let lifted_small = lifted_below ROW_LIFT a in
+    let place_is = p.is in
+    let place_stays : place ≡ (place + step * 0 % 2 ^ 32) % 2 ^ 32 = omega arith in
+    subst₂ IsTexelPlace (step_at-zero a b p.fits) place_stays p
 texel_place_steps a b place step (suc k) p s =
     subst₂ IsTexelPlace (step_at-more a b k (suc k) (omega arith)) (word_more place step (step * k) (step * suc k) (mul-suc step k))
     (texel_place_more (step_at a b k) b ((place + step * k % 2 ^ 32) % 2 ^ 32) step (texel_place_steps a b place step k p s) s)
@@ -181,11 +181,11 @@ pub flat_place_steps : (x y a b : ℤ) (most place step k : ℕ) → most + k < 
     IsFlatPlace (step_at x a k) (step_at y b k) (most + k) ((place + step * k % 2 ^ 64) % 2 ^ 64)
 unfolding lifted
 flat_place_steps x y a b most place step zero h p s =
-    let few = p.few in
-    let below = flat_place_below (lifted FLAT_LIFT x) (bits_of y) p.carries (omega arith) (lifted_below FLAT_LIFT x) in
-    let is = p.is in
-    let same : place ≡ (place + step * 0 % 2 ^ 64) % 2 ^ 64 = omega arith in
-    subst (IsFlatPlace (step_at x a 0) (step_at y b 0) (most + 0)) same
+    let carries_at_most = p.few in
+    let place_below = flat_place_below (lifted FLAT_LIFT x) (bits_of y) p.carries (omega arith) (lifted_below FLAT_LIFT x) in
+    let place_is = p.is in
+    let place_stays : place ≡ (place + step * 0 % 2 ^ 64) % 2 ^ 64 = omega arith in
+    subst (IsFlatPlace (step_at x a 0) (step_at y b 0) (most + 0)) place_stays
     (flat_place-on x y _ _ most (most + 0) place (step_at-zero x a p.x_fits) (step_at-zero y b p.y_fits) (omega arith) p)
 flat_place_steps x y a b most place step (suc k) h p s =
     let before : ℕ = (place + step * k % 2 ^ 64) % 2 ^ 64 in
@@ -232,8 +232,8 @@ packed_sum w s carries more l m h = omega arith
 packed_place_more : (w s most place step : ℕ) → most + 1 < CARRIES → IsPackedPlace w most place → IsPackedPlace s 0 step →
     IsPackedPlace ((w + s) % 2 ^ 32) (most + 1) ((place + step) % 2 ^ 64)
 packed_place_more w s most place step h p q =
-    let held = p.few in
-    let holds = q.few in
+    let carries_at_most = p.few in
+    let added_at_most = q.few in
     record {
       fits = mod-lt (w + s) (pow_pos 32);
       carries = p.carries + q.carries + (w + s) / 2 ^ 32;
@@ -263,17 +263,17 @@ packed_place_below w carries h l = omega arith
 packed_place_steps : (w s most place step k : ℕ) → most + k < CARRIES → IsPackedPlace w most place → IsPackedPlace s 0 step →
     IsPackedPlace (packed_at w s k) (most + k) ((place + step * k % 2 ^ 64) % 2 ^ 64)
 packed_place_steps w s most place step zero h p q =
-    let few = p.few in
-    let below = packed_place_below w p.carries (omega arith) p.fits in
-    let is = p.is in
-    let same : place ≡ (place + step * 0 % 2 ^ 64) % 2 ^ 64 = omega arith in
-    let there : most ≡ most + 0 = omega arith in
-    subst (λ (n : ℕ). IsPackedPlace (packed_at w s 0) n ((place + step * 0 % 2 ^ 64) % 2 ^ 64)) there
-    (subst₂ (λ (n m : ℕ). IsPackedPlace n most m) (packed_at-zero w s p.fits) same p)
+    let carries_at_most = p.few in
+    let place_below = packed_place_below w p.carries (omega arith) p.fits in
+    let place_is = p.is in
+    let place_stays : place ≡ (place + step * 0 % 2 ^ 64) % 2 ^ 64 = omega arith in
+    let most_same : most ≡ most + 0 = omega arith in
+    subst (λ (n : ℕ). IsPackedPlace (packed_at w s 0) n ((place + step * 0 % 2 ^ 64) % 2 ^ 64)) most_same
+    (subst₂ (λ (n m : ℕ). IsPackedPlace n most m) (packed_at-zero w s p.fits) place_stays p)
 packed_place_steps w s most place step (suc k) h p q =
     let before : ℕ = (place + step * k % 2 ^ 64) % 2 ^ 64 in
-    let there : most + k + 1 ≡ most + suc k = omega arith in
-    subst (λ (n : ℕ). IsPackedPlace (packed_at w s (suc k)) n ((place + step * suc k % 2 ^ 64) % 2 ^ 64)) there
+    let most_more : most + k + 1 ≡ most + suc k = omega arith in
+    subst (λ (n : ℕ). IsPackedPlace (packed_at w s (suc k)) n ((place + step * suc k % 2 ^ 64) % 2 ^ 64)) most_more
     (subst₂ (λ (n m : ℕ). IsPackedPlace n (most + k + 1) m) (packed_at-suc w s k) (packed_more place step (step * k) (step * suc k) (mul-suc step k))
     (packed_place_more (packed_at w s k) s (most + k) before step (omega arith) (packed_place_steps w s most place step k (omega arith) p q) q))
 
@@ -288,8 +288,8 @@ packed_of_place : (w most place : ℕ) → most < CARRIES → IsPackedPlace w mo
     (place / 2 ^ 58 * 2 ^ 58 % 2 ^ 64 + place / 2 ^ 26 % 64 * 2 ^ 26 % 2 ^ 64) * 67109889 % 2 ^ 64 / 2 ^ 52 ≡ packed_place w
 unfolding packed_place
 packed_of_place w most place h p =
-    let few = p.few in
-    let fits = p.fits in
+    let carries_at_most = p.few in
+    let word_fits = p.fits in
     ap (λ (n : ℕ). (n / 2 ^ 58 * 2 ^ 58 % 2 ^ 64 + n / 2 ^ 26 % 64 * 2 ^ 26 % 2 ^ 64) * 67109889 % 2 ^ 64 / 2 ^ 52) p.is
     ∙ ap₂ (λ (row column : ℕ). (row * 2 ^ 58 % 2 ^ 64 + column * 2 ^ 26 % 2 ^ 64) * 67109889 % 2 ^ 64 / 2 ^ 52)
     (packed_above w p.carries (omega arith) p.fits) (packed_below w p.carries p.fits)

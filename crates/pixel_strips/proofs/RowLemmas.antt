@@ -12,15 +12,15 @@ rows-same : (painter : Painter) (x : ℕ) (f g : ℕ → ℕ) (first n : ℕ) �
 unfolding column_dots
 rows-same painter x f g first zero same = refl
 rows-same painter x f g first (suc n) same =
-    let none : first + 0 ≡ first = omega arith in
-    let here : f first ≡ g first = sym (ap f none) ∙ same 0 ∙ ap g none in
-    let one : (k : ℕ) → first + 1 + k ≡ first + (k + 1) = λ k. omega arith in
-    let rest : (k : ℕ) → f (first + 1 + k) ≡ g (first + 1 + k) =
-    λ k. ap f (one k) ∙ same (k + 1) ∙ sym (ap g (one k)) in
+    let first_row_is : first + 0 ≡ first = omega arith in
+    let first_alike : f first ≡ g first = sym (ap f first_row_is) ∙ same 0 ∙ ap g first_row_is in
+    let row_is : (k : ℕ) → first + 1 + k ≡ first + (k + 1) = λ k. omega arith in
+    let rest_alike : (k : ℕ) → f (first + 1 + k) ≡ g (first + 1 + k) =
+    λ k. ap f (row_is k) ∙ same (k + 1) ∙ sym (ap g (row_is k)) in
     ap (λ (colour : ℕ). record { x = x; y = first; colour = colour; painter = painter }
-    ∷ column_dots painter x f (map (λ y. y) (range_with_len (first + 1) n))) here
+    ∷ column_dots painter x f (map (λ y. y) (range_with_len (first + 1) n))) first_alike
     ∙ ap (λ (ds : List Dot). record { x = x; y = first; colour = g first; painter = painter } ∷ ds)
-    (rows-same painter x f g (first + 1) n rest)
+    (rows-same painter x f g (first + 1) n rest_alike)
 
 -- the colour of a texel row of these bytes
 abbrev pub row_shade : List ℕ → ℕ → List ℕ → ℕ → ℕ → ℤ → ℤ → ℕ → ℕ

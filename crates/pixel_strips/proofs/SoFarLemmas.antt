@@ -30,11 +30,11 @@ pub record ColumnSoFar (mark : Painter → ℕ → ℕ) (x : ℕ) (colour : ℤ 
 
 pub column_begun : (mark : Painter → ℕ → ℕ) (x : ℕ) (colour : ℤ → ℕ) (fraction step : ℤ) (first : ℕ) (canvas : CanvasView) → FitsSigned w32 fraction → FitsSigned w32 step →
     ColumnSoFar mark x colour fraction step first first (to_z w32 (of_z w32 fraction)) canvas canvas
-column_begun mark x colour fraction step first canvas f g = let none : 0 ≡ first - first = omega arith in record {
+column_begun mark x colour fraction step first canvas f g = let count_is_zero : 0 ≡ first - first = omega arith in record {
   from = omega arith;
   step_fits = g;
-  at = first_fraction fraction step (first - first) f none;
-  painted = dots_renamed mark canvas canvas [] _ (dots_none mark canvas) (sym (rows_none _ _ _ _ _ (sym none)));
+  at = first_fraction fraction step (first - first) f count_is_zero;
+  painted = dots_renamed mark canvas canvas [] _ (dots_none mark canvas) (sym (rows_none _ _ _ _ _ (sym count_is_zero)));
 }
 
 pub column_dotted : {mark : Painter → ℕ → ℕ} {x : ℕ} {colour : ℤ → ℕ} {fraction step : ℤ} {first y v : ℕ} {now sum : ℤ} {canvas view after : CanvasView} →
@@ -42,16 +42,16 @@ pub column_dotted : {mark : Painter → ℕ → ℕ} {x : ℕ} {colour : ℤ →
     ColumnSoFar mark x colour fraction step first (y + 1) (to_z w32 (of_z w32 sum)) canvas after
 column_dotted {mark} {x} {colour} {fraction} {step} {first} {y} {v} {now} {sum} {canvas} {view} {after} old is more dot =
     let from = old.from in
-    let e : y - first + 1 ≡ y + 1 - first = omega arith in
+    let offset_more : y - first + 1 ≡ y + 1 - first = omega arith in
     let of_row : ℕ → ℕ = λ k. colour (step_at fraction step (k - first)) in
     record {
       from = omega arith;
       step_fits = old.step_fits;
-      at = next_fraction fraction step now sum (y - first) (y + 1 - first) e old.step_fits old.at more;
+      at = next_fraction fraction step now sum (y - first) (y + 1 - first) offset_more old.step_fits old.at more;
       painted = dots_renamed mark canvas after _ _
           (dots_more mark (rows_dots canvas.painter x of_row first (y - first)) (record { x = x; y = y; colour = of_row y; painter = canvas.painter })
           canvas view after old.painted refl (dot ∙ ap (λ (c : ℕ). with_dot mark x y c view) (is ∙ ap colour old.at)))
-          (rows_more canvas.painter x of_row first (y - first) (y + 1 - first) y e (omega arith));
+          (rows_more canvas.painter x of_row first (y - first) (y + 1 - first) y offset_more (omega arith));
     }
 
 pub column_ended : {mark : Painter → ℕ → ℕ} {x : ℕ} {colour : ℤ → ℕ} {fraction step : ℤ} {first y : ℕ} {now : ℤ} {canvas view : CanvasView} (last : ℕ) →
@@ -71,11 +71,11 @@ pub record SpanSoFar (mark : Painter → ℕ → ℕ) (y : ℕ) (colour : ℕ �
 pub span_begun : (mark : Painter → ℕ → ℕ) (y : ℕ) (colour : ℕ → ℕ) (spans : Spans) (x_fraction y_fraction x_step y_step : ℤ) (first place : ℕ) (canvas : CanvasView) →
     IsSpanPlace spans x_fraction y_fraction x_step y_step 0 place →
     SpanSoFar mark y colour spans x_fraction y_fraction x_step y_step first first place canvas canvas
-span_begun mark y colour spans x_fraction y_fraction x_step y_step first place canvas at = let none : 0 ≡ first - first = omega arith in record {
+span_begun mark y colour spans x_fraction y_fraction x_step y_step first place canvas at = let count_is_zero : 0 ≡ first - first = omega arith in record {
   from = omega arith;
-  at = span_place-to spans x_fraction y_fraction x_step y_step 0 (first - first) place none at;
+  at = span_place-to spans x_fraction y_fraction x_step y_step 0 (first - first) place count_is_zero at;
   painted = dots_renamed mark canvas canvas [] _ (dots_none mark canvas) (sym (columns_none canvas.painter y
-      (λ k. colour (span_place spans x_fraction y_fraction x_step y_step (k - first))) first (first - first) (sym none)));
+      (λ k. colour (span_place spans x_fraction y_fraction x_step y_step (k - first))) first (first - first) (sym count_is_zero)));
 }
 
 pub span_dotted : {mark : Painter → ℕ → ℕ} {y : ℕ} {colour : ℕ → ℕ} {spans : Spans} {x_fraction y_fraction x_step y_step : ℤ} {first x v place texel next : ℕ}
@@ -85,15 +85,15 @@ pub span_dotted : {mark : Painter → ℕ → ℕ} {y : ℕ} {colour : ℕ → �
     SpanSoFar mark y colour spans x_fraction y_fraction x_step y_step first (x + 1) next canvas after
 span_dotted {mark} {y} {colour} {spans} {x_fraction} {y_fraction} {x_step} {y_step} {first} {x} {v} {place} {texel} {next} {canvas} {view} {after} old is there more dot =
     let from = old.from in
-    let e : x - first + 1 ≡ x + 1 - first = omega arith in
+    let offset_more : x - first + 1 ≡ x + 1 - first = omega arith in
     let of_column : ℕ → ℕ = λ k. colour (span_place spans x_fraction y_fraction x_step y_step (k - first)) in
     record {
       from = omega arith;
-      at = span_place-to spans x_fraction y_fraction x_step y_step (x - first + 1) (x + 1 - first) next e more;
+      at = span_place-to spans x_fraction y_fraction x_step y_step (x - first + 1) (x + 1 - first) next offset_more more;
       painted = dots_renamed mark canvas after _ _
           (dots_more mark (columns_dots canvas.painter y of_column first (x - first)) (span_dot canvas.painter y of_column x)
           canvas view after old.painted refl (dot ∙ ap (λ (c : ℕ). with_dot mark x y c view) (is ∙ ap colour there)))
-          (columns_more canvas.painter y of_column first (x - first) (x + 1 - first) x e (omega arith));
+          (columns_more canvas.painter y of_column first (x - first) (x + 1 - first) x offset_more (omega arith));
     }
 
 pub span_ended : {mark : Painter → ℕ → ℕ} {y : ℕ} {colour : ℕ → ℕ} {spans : Spans} {x_fraction y_fraction x_step y_step : ℤ} {first x place : ℕ}

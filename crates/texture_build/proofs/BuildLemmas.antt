@@ -17,7 +17,7 @@ use Rattle.texture_build.proofs.FillLemmas.{others_then}
 
 -- an error that goes on is the same
 pub same_error : {B E : Type 0} (result : Result B E) (fault : E) (P : Result B E → Type 0) → IsErrAnd result (λ e. e ≡ fault) → P (Err fault) → P result
-same_error result fault P is k = let s = err_from_is_err_and result is in subst P (sym (s.1 ∙ ap Err s.2)) k
+same_error result fault P is k = let error_is = err_from_is_err_and result is in subst P (sym (error_is.1 ∙ ap Err error_is.2)) k
 
 pub counts_then : (x y z : Heap) → KeepsCounts x y → KeepsCounts y z → KeepsCounts x z
 counts_then x y z first next = (next.0 ∙ first.0, next.1 ∙ first.1, next.2 ∙ first.2)
@@ -98,7 +98,7 @@ module _ {number : ℕ} {t : PreparedTexture} {i j k : ℕ} {u v w : ShelfView} 
     answers = λ contents stand within. subst (λ s. ResultIs cache_fault s (λ (done : Unit {0}). done) (Ok tt) result) first.keeps.follows.steady (next.answers contents (all_stand_later u v dir.files contents first.keeps.follows stand) within);
     causes = causes_earlier u.faults v.faults w.faults result first.keeps.follows.faults next.causes;
     full = full_earlier t first.keeps result next.full;
-    order = λ items all ord. let before = first.order items all ord in order_after items x y z u.taken v.taken w.taken result before (next.order items all before.order);
+    order = λ items all ord. let ordered_before = first.order items all ord in order_after items x y z u.taken v.taken w.taken result ordered_before (next.order items all ordered_before.order);
     put = λ contents told has. next.put contents (told_build first.keeps told) (first.put contents told has);
   }
 

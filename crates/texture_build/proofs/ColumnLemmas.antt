@@ -23,7 +23,7 @@ module _ (lumps : List Lump) where
   pub column_there : (patches : List PlacedPatch) (height : ℕ) (columns : List ColumnLookup) (x : ℕ) → AreColumnsOf patches height columns → All there patches → IsColumnThere lumps (slice_index_or columns x Empty)
   column_there patches height columns x are a = go (cases_lt x (length columns)) where
     go : (x < length columns) ⊎ (length columns ≤ x) → IsColumnThere lumps (slice_index_or columns x Empty)
-    go (inl l) = let c = are.at x l in subst (IsColumnThere lumps) (sym c.is) (lookup_there c.bytes patches height x a)
+    go (inl l) = let column_at_x = are.at x l in subst (IsColumnThere lumps) (sym column_at_x.is) (lookup_there column_at_x.bytes patches height x a)
     go (inr l) = subst (IsColumnThere lumps) (sym (get_or_past columns x Empty l)) tt
 
   -- and it has a slot in a cache of the directory
@@ -35,8 +35,8 @@ module _ (lumps : List Lump) where
 
 below_width : (width mask : ℕ) → 0 < width → IsMask width mask → mask < width
 below_width width mask some m =
-    let within = m.within in
-    let is = m.is in
+    let column_within = m.within in
+    let column_is = m.is in
     omega arith
 
 -- the mask of a texture's columns is one of them

@@ -157,14 +157,14 @@ module _ {A E R : Type 0} {fault_of : E → Fault R} {among : ℕ → ℤ → Ty
       DrawsWith fault_of among pictures v w dir textures x y part →
       DrawsWith fault_of among pictures v w dir textures x y whole
   draws-stop {B} {v} {w} {dir} {textures} {x} {y} {part} {fault} {whole} was is part_draws =
-      let one = subst (DrawsWith {A = B} fault_of among pictures v w dir textures x y) was part_draws in
-      let s = err_from_is_err_and whole is in
-      draws-as (sym (s.1 ∙ ap Err s.2)) (record {
-        keeps = one.keeps;
-        causes = record { err = one.causes.err };
-        steady = λ contents stand within steady. one.steady contents stand within steady;
-        full = one.full;
-        order = one.order;
+      let fault_draws = subst (DrawsWith {A = B} fault_of among pictures v w dir textures x y) was part_draws in
+      let error_is = err_from_is_err_and whole is in
+      draws-as (sym (error_is.1 ∙ ap Err error_is.2)) (record {
+        keeps = fault_draws.keeps;
+        causes = record { err = fault_draws.causes.err };
+        steady = λ contents stand within steady. fault_draws.steady contents stand within steady;
+        full = fault_draws.full;
+        order = fault_draws.order;
       })
 
   -- after a call that was Ok, another, whatever it answers
@@ -179,8 +179,8 @@ module _ {A E R : Type 0} {fault_of : E → Fault R} {among : ℕ → ℤ → Ty
     steady = λ contents stand within steady. tt;
     full = tt;
     order = λ items asked all k.
-        let k1 = one.order items asked all k in
-        order_then k1 (two.order items asked all k1.order);
+        let order_kept = one.order items asked all k in
+        order_then order_kept (two.order items asked all order_kept.order);
   }
   draws-then {v = v} {w} {u} {dir} {z = z} {result = Err fault} one two = record {
     keeps = keeps_art-then one.keeps two.keeps;
@@ -194,8 +194,8 @@ module _ {A E R : Type 0} {fault_of : E → Fault R} {among : ℕ → ℤ → Ty
     full = full_at (fault_of fault)
         (full-earlier one.keeps (λ number column k. k) (λ lump k. k)) two.full;
     order = λ items asked all k.
-        let k1 = one.order items asked all k in
-        order-then z u.taken (fault_of fault) k1 (two.order items asked all k1.order);
+        let order_kept = one.order items asked all k in
+        order-then z u.taken (fault_of fault) order_kept (two.order items asked all order_kept.order);
   }
 
 -- with more columns and more lumps
@@ -295,7 +295,7 @@ mapped-ok {G = G} above lower value was = subst (λ r. IsMapped {G = G} above r 
 mapped-is : {A E G : Type 0} (above : E → G) (lower : Result A E) (result : Result A G) →
     IsMapped above lower result → result ≡ result_above above lower
 mapped-is above (Ok x) result is = is
-mapped-is above (Err e) result is = let s = err_from_is_err_and result is in s.1 ∙ ap Err s.2
+mapped-is above (Err e) result is = let error_is = err_from_is_err_and result is in error_is.1 ∙ ap Err error_is.2
 
 -- the same call, its faults told by `map_err`
 pub draws-mapped : {A E R Q G : Type 0} {fault_of : E → Fault R} {high : G → Fault Q}
@@ -313,5 +313,5 @@ pub on_ok-mapped : {A E G : Type 0} (P : Type 0) (above : E → G) (lower : Resu
     (result : Result A G) → IsMapped above lower result → OnOk lower P → OnOk result P
 on_ok-mapped {A} {G = G} P above (Ok x) result is p = subst (λ (r : Result A G). OnOk r P) (sym is) p
 on_ok-mapped {A} {G = G} P above (Err e) result is p =
-    let s = err_from_is_err_and result is in
-    subst (λ (r : Result A G). OnOk r P) (sym s.1) tt
+    let error_is = err_from_is_err_and result is in
+    subst (λ (r : Result A G). OnOk r P) (sym error_is.1) tt

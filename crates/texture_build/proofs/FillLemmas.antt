@@ -47,7 +47,7 @@ taken_length size None xs k e = absurd k
 taken_length size (Some b) xs k e = go b.holding k e where
   go : (h : Option Holding) → HasUse Level size h → option_map (λ (x : Holding). x.bytes) h ≡ Some xs → length xs ≡ size
   go None k e = absurd k
-  go (Some h) k e = let s : h.bytes ≡ xs = cc in ap length (sym s) ∙ k.2
+  go (Some h) k e = let bytes_are : h.bytes ≡ xs = cc in ap length (sym bytes_are) ∙ k.2
 
 -- the composite's block is the same
 pub building_same : {number : ℕ} (size : ℕ) {old new : Heap} → owned_block (composite_owner number) new.blocks ≡ owned_block (composite_owner number) old.blocks → IsBuilding number size old → IsBuilding number size new
@@ -83,7 +83,7 @@ module _ (o : Owner) (w : List ℕ) where
   owned_held b [] e = cc
   owned_held b (c ∷ bs) e = go (is_held_by o c) refl e (λ k. owned_held b bs k) where
     go : (t : Bool) → is_held_by o c ≡ t → cond t (Some c) (owned_block o bs) ≡ Some b → (owned_block o bs ≡ Some b → is_held_by o b ≡ true) → is_held_by o b ≡ true
-    go true h k rest = let x : c ≡ b = cc in ap (is_held_by o) (sym x) ∙ h
+    go true h k rest = let block_is : c ≡ b = cc in ap (is_held_by o) (sym block_is) ∙ h
     go false h k rest = rest k
 
   written_bytes : (before : List ℕ) (bs : List Block) → bytes_of o bs ≡ Some before → bytes_of o (map (write_block o w) bs) ≡ Some w

@@ -63,19 +63,19 @@ module _ {view : ShelfView} {dir : DirectoryView} {textures : TexturesView}
       bytes_of (composite_owner number) z.blocks ≡ Some bytes →
       length bytes ≡ size_of (prepared_texture textures number)
   composite_size number bytes prepared is =
-      let t = prepared_texture textures number in
+      let texture = prepared_texture textures number in
       let at : IfSome (bytes_of (composite_owner number) z.blocks)
-      (λ xs. xs ≡ composite_of (lump_bytes contents dir.lumps) t) =
+      (λ xs. xs ≡ composite_of (lump_bytes contents dir.lumps) texture) =
       subst (λ (p : Option PreparedTexture). IfSome p (λ u.
       IfSome (bytes_of (composite_owner number) z.blocks)
       (λ xs. xs ≡ composite_of (lump_bytes contents dir.lumps) u)))
       (prepared_is (prepared_at textures.prepared number) prepared)
       (hold.composites.at number) in
-      let same : bytes ≡ composite_of (lump_bytes contents dir.lumps) t =
+      let same : bytes ≡ composite_of (lump_bytes contents dir.lumps) texture =
       subst (λ (x : Option (List ℕ)). IfSome x
-      (λ xs. xs ≡ composite_of (lump_bytes contents dir.lumps) t)) is at in
-      ap length same ∙ composite_size-length (lump_bytes contents dir.lumps) t.patches
-      (length t.columns) t.height
+      (λ xs. xs ≡ composite_of (lump_bytes contents dir.lumps) texture)) is at in
+      ap length same ∙ composite_size-length (lump_bytes contents dir.lumps) texture.patches
+      (length texture.columns) texture.height
 
   -- a lump that is lent, as a painter's source
   pub fits-lump : (kind number lump : ℕ) (bytes : List ℕ) → lump < length dir.lumps →

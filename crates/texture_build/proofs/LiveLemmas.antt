@@ -74,18 +74,18 @@ module _ {view after : ShelfView} {dir : DirectoryView} {textures : TexturesView
       FetchesLump dir lump Cache view after old new result →
       DrawsWith cache_fault among (λ number. number ≡ lump) view after dir textures old new result
   draws-fetch {among} lump there fetched =
-      let reads = fetch_reads fetched there in record {
+      let lump_read = fetch_reads fetched there in record {
         keeps = record {
-          follows = reads.keeps.follows;
-          counts = reads.keeps.counts;
-          rest = reads.keeps.rest;
-          faithful = reads.keeps.faithful;
+          follows = lump_read.keeps.follows;
+          counts = lump_read.keeps.counts;
+          rest = lump_read.keeps.rest;
+          faithful = lump_read.keeps.faithful;
           composites = λ contents hold k. composites_kept (lump_bytes contents dir.lumps) textures old
               new (λ number. fetched.others (composite_owner number) refl) k;
         };
-        causes = reads.causes;
+        causes = lump_read.causes;
         steady = λ contents stand within steady. no_read-answers view.steady (Ok tt)
             (λ (done : Unit {0}). done) result steady (fetched.answers contents stand within);
-        full = full-lump dir.lumps textures among dir old lump result reads.full;
-        order = λ items asked all k. reads.order items all k;
+        full = full-lump dir.lumps textures among dir old lump result lump_read.full;
+        order = λ items asked all k. lump_read.order items all k;
       }

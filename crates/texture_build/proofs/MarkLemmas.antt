@@ -39,4 +39,4 @@ passed_off passes n e =
 
 -- a list behind which others stand
 pub same_front : {X : Type 0} (n : ℕ) (xs ys : List X) → length xs ≡ n → take n (xs ++ ys) ≡ xs
-same_front n xs ys e = let l : n ≤ length xs = omega arith in rw take-append-le (ap (λ (m : ℕ). take m xs) (sym e) ∙ take-length xs)
+same_front n xs ys e = let count_within_length : n ≤ length xs = omega arith in rw take-append-le (ap (λ (m : ℕ). take m xs) (sym e) ∙ take-length xs)

@@ -69,11 +69,11 @@ module _ {R E Q : Type 0} {fault_of : E → Fault R} {mark : Painter → ℕ →
       part ≡ Err fault → IsErrAnd whole (λ e. e ≡ fault) → Paints fault_of mark t among pictures asked f a b (Ok first) →
       Paints fault_of mark t among pictures asked g b c part → Paints fault_of mark t among pictures asked h a c whole
   paints-then_stop {h = h} {a} {c = c} {fault = fault} {whole} was is one two =
-      let all = paints-then one (paints-stop {g = h} was is two) in record {
+      let both_paint = paints-then one (paints-stop {g = h} was is two) in record {
         painted = λ contents count q hold sees. on_ok_err (HasDots mark (h contents q) a.canvas c.canvas) fault whole is;
         fits = λ contents count q hold sees. on_ok_err (FitIn t count a.cache.size (h contents q)) fault whole is;
-        draws = all.draws;
-        place = all.place;
+        draws = both_paint.draws;
+        place = both_paint.place;
       }
 
   -- the same dots by other words

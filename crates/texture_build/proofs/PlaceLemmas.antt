@@ -10,7 +10,7 @@ placed_lump : (entry : TextureEntry) (lump : ℕ) (patch : Option Patch) (placed
 unfolding place_patch
 placed_lump entry lump None placed e = cc
 placed_lump entry lump (Some patch) placed e =
-    let s : place_patch entry lump patch ≡ placed = cc in ap (λ (p : PlacedPatch). p.lump) (sym s)
+    let patch_is : place_patch entry lump patch ≡ placed = cc in ap (λ (p : PlacedPatch). p.lump) (sym patch_is)
 
 -- where a patch was placed, it is of that lump
 pub lump_placed : (entry : TextureEntry) (lump : ℕ) (live : Option (List ℕ)) (result : Option PlacedPatch) (placed : PlacedPatch) → result ≡ option_and_then (λ bytes. option_map (place_patch entry lump) (patch_of bytes)) live → result ≡ Some placed → placed.lump ≡ lump
@@ -28,10 +28,10 @@ pub step_made : (bytes : ℕ → List ℕ) (number : ℕ) (entry : TextureEntry)
 unfolding or_missing step_of
 step_made bytes number entry lump live columns new result patch known value told is =
     let of : patch.lump ≡ lump = lump_placed entry lump live result patch value is in
-    let made : IfSome live (λ xs. new ≡ columns_with xs patch columns) = subst (λ r. IfSome r (λ p. IfSome live (λ xs. new ≡ columns_with xs p columns))) is told in
-    let same : new ≡ columns_with (bytes lump) patch columns = subst (λ o. IfSome o (λ xs. new ≡ columns_with xs patch columns)) known made in
+    let columns_made : IfSome live (λ xs. new ≡ columns_with xs patch columns) = subst (λ r. IfSome r (λ p. IfSome live (λ xs. new ≡ columns_with xs p columns))) is told in
+    let columns_same : new ≡ columns_with (bytes lump) patch columns = subst (λ o. IfSome o (λ xs. new ≡ columns_with xs patch columns)) known columns_made in
     ap (λ o. or_missing number (option_map (step_of bytes columns) o)) (placed_live bytes entry lump live result known value ∙ is)
-    ∙ ap (λ xs. Ok (record { patch = patch; columns = xs })) (ap (λ (n : ℕ). columns_with (bytes n) patch columns) of ∙ sym same)
+    ∙ ap (λ xs. Ok (record { patch = patch; columns = xs })) (ap (λ (n : ℕ). columns_with (bytes n) patch columns) of ∙ sym columns_same)
 
 pub step_missing : (bytes : ℕ → List ℕ) (number : ℕ) (entry : TextureEntry) (lump : ℕ) (live : Option (List ℕ)) (columns : List ColumnLookup) (result : Option PlacedPatch) → live ≡ Some (bytes lump) →
     result ≡ option_and_then (λ bytes. option_map (place_patch entry lump) (patch_of bytes)) live → result ≡ None →
@@ -111,18 +111,18 @@ module _ (last : List ℕ → Option ℕ) (bytes : ℕ → List ℕ) (names : Li
       or_missing number (option_map (patches_part bytes width) (placed_patches last bytes names (take (k + 1) entries))) ≡ Ok (record { patches = patches ++ patch ∷ []; columns = new })
   unfolding or_missing patches_part step_of
   part_push number width entries k d patches columns new patch l so_far step =
-      let one = found_is number (patches_part bytes width) _ _ so_far in
-      let two = found_is number (step_of bytes columns) _ _ step in
-      let ps : one.item ≡ patches = ap (λ (p : PatchesPart). p.patches) one.gives in
-      let cs : seen_lookups bytes one.item width ≡ columns = ap (λ (p : PatchesPart). p.columns) one.gives in
-      let p : two.item ≡ patch = ap (λ (s : PatchStep). s.patch) two.gives in
-      let ns : columns_with (bytes two.item.lump) two.item columns ≡ new = ap (λ (s : PatchStep). s.columns) two.gives in
-      let more = ap (placed_patches last bytes names) (take_more entries k d l) ∙ placed_push (take k entries) (get_or entries k d) one.item two.item one.is two.is in
-      ap (λ o. or_missing number (option_map (patches_part bytes width) o)) more
+      let patches_placed = found_is number (patches_part bytes width) _ _ so_far in
+      let patch_placed = found_is number (step_of bytes columns) _ _ step in
+      let patches_are : patches_placed.item ≡ patches = ap (λ (p : PatchesPart). p.patches) patches_placed.gives in
+      let columns_are : seen_lookups bytes patches_placed.item width ≡ columns = ap (λ (p : PatchesPart). p.columns) patches_placed.gives in
+      let patch_is : patch_placed.item ≡ patch = ap (λ (s : PatchStep). s.patch) patch_placed.gives in
+      let new_columns_is : columns_with (bytes patch_placed.item.lump) patch_placed.item columns ≡ new = ap (λ (s : PatchStep). s.columns) patch_placed.gives in
+      let patches_more = ap (placed_patches last bytes names) (take_more entries k d l) ∙ placed_push (take k entries) (get_or entries k d) patches_placed.item patch_placed.item patches_placed.is patch_placed.is in
+      ap (λ o. or_missing number (option_map (patches_part bytes width) o)) patches_more
       ∙ ap Ok (
-      ap (λ xs. record { patches = one.item ++ two.item ∷ []; columns = xs }) (sym (columns_with-seen bytes one.item two.item width) ∙ ap (columns_with (bytes two.item.lump) two.item) cs ∙ ns)
-      ∙ ap (λ xs. record { patches = xs ++ two.item ∷ []; columns = new }) ps
-      ∙ ap (λ x. record { patches = patches ++ x ∷ []; columns = new }) p)
+      ap (λ xs. record { patches = patches_placed.item ++ patch_placed.item ∷ []; columns = xs }) (sym (columns_with-seen bytes patches_placed.item patch_placed.item width) ∙ ap (columns_with (bytes patch_placed.item.lump) patch_placed.item) columns_are ∙ new_columns_is)
+      ∙ ap (λ xs. record { patches = xs ++ patch_placed.item ∷ []; columns = new }) patches_are
+      ∙ ap (λ x. record { patches = patches ++ x ∷ []; columns = new }) patch_is)
 
   -- a patch is missing, and none before it
   pub part_stop : (number width : ℕ) (entries : List TextureEntry) (k : ℕ) (d : TextureEntry) (part : PatchesPart) (columns : List ColumnLookup) (reason : TexRefusal) → k < length entries →
@@ -131,7 +131,7 @@ module _ (last : List ℕ → Option ℕ) (bytes : ℕ → List ℕ) (names : Li
       or_missing number (option_map (patches_part bytes width) (placed_patches last bytes names entries)) ≡ Err reason
   unfolding or_missing
   part_stop number width entries k d part columns reason l so_far step =
-      let one = found_is number (patches_part bytes width) _ _ so_far in
-      let two = missing_is number (step_of bytes columns) _ _ step in
-      ap (λ o. or_missing number (option_map (patches_part bytes width) o)) (ap (placed_patches last bytes names) (split_at entries k d l) ∙ placed_stop (take k entries) (drop (suc k) entries) (get_or entries k d) one.item one.is two.0)
-      ∙ ap Err (sym two.1)
+      let patches_placed = found_is number (patches_part bytes width) _ _ so_far in
+      let patch_missing = missing_is number (step_of bytes columns) _ _ step in
+      ap (λ o. or_missing number (option_map (patches_part bytes width) o)) (ap (placed_patches last bytes names) (split_at entries k d l) ∙ placed_stop (take k entries) (drop (suc k) entries) (get_or entries k d) patches_placed.item patches_placed.is patch_missing.0)
+      ∙ ap Err (sym patch_missing.1)

@@ -25,14 +25,14 @@ pub bound_ok : (bytes : ℕ → List ℕ) (number : ℕ) (t : Texture) (patches 
     unless_too_big bytes number t patches ≡ Ok texture
 unfolding unless_too_big texture_of
 bound_ok bytes number t patches width height result texture w h big is e =
-    let same : composite_size patches width height ≡ composite_size patches t.width t.height = ap (λ (n : ℕ). composite_size patches n height) w ∙ ap (composite_size patches t.width) h in
-    let never : MAX_COMPOSITE < composite_size patches width height → ⊥ = λ l. absurd (false≢true (sym (subst IsNone e (big.1 l)))) in
-    let test : nat_lt MAX_COMPOSITE (composite_size patches t.width t.height) ≡ false = ap (nat_lt MAX_COMPOSITE) (sym same) ∙ small_enough (composite_size patches width height) never in
-    let made : texture ≡ record { patches = patches; height = height; columns = column_lookups bytes patches width height } = subst (λ o. IfSome o (λ p. p ≡ record { patches = patches; height = height; columns = column_lookups bytes patches width height })) e is in
-    ap (λ b. cond b (Err (TooBig number)) (Ok (texture_of bytes t patches))) test
+    let size_same : composite_size patches width height ≡ composite_size patches t.width t.height = ap (λ (n : ℕ). composite_size patches n height) w ∙ ap (composite_size patches t.width) h in
+    let not_too_big : MAX_COMPOSITE < composite_size patches width height → ⊥ = λ l. absurd (false≢true (sym (subst IsNone e (big.1 l)))) in
+    let size_fits : nat_lt MAX_COMPOSITE (composite_size patches t.width t.height) ≡ false = ap (nat_lt MAX_COMPOSITE) (sym size_same) ∙ small_enough (composite_size patches width height) not_too_big in
+    let texture_made : texture ≡ record { patches = patches; height = height; columns = column_lookups bytes patches width height } = subst (λ o. IfSome o (λ p. p ≡ record { patches = patches; height = height; columns = column_lookups bytes patches width height })) e is in
+    ap (λ b. cond b (Err (TooBig number)) (Ok (texture_of bytes t patches))) size_fits
     ∙ ap (λ (n : ℕ). Ok (record { patches = patches; height = t.height; columns = column_lookups bytes patches n t.height })) (sym w)
     ∙ ap (λ (n : ℕ). Ok (record { patches = patches; height = n; columns = column_lookups bytes patches width n })) (sym h)
-    ∙ ap Ok (sym made)
+    ∙ ap Ok (sym texture_made)
 
 too_big : (size : ℕ) → MAX_COMPOSITE < size → nat_lt MAX_COMPOSITE size ≡ true
 too_big size h = grind (arith, nat_tests)
@@ -41,9 +41,9 @@ pub bound_big : (bytes : ℕ → List ℕ) (number : ℕ) (t : Texture) (patches
     IsNone result ↔ (MAX_COMPOSITE < composite_size patches width height) → result ≡ None → unless_too_big bytes number t patches ≡ Err (TooBig number)
 unfolding unless_too_big
 bound_big bytes number t patches width height result w h big e =
-    let same : composite_size patches width height ≡ composite_size patches t.width t.height = ap (λ (n : ℕ). composite_size patches n height) w ∙ ap (composite_size patches t.width) h in
-    let test : nat_lt MAX_COMPOSITE (composite_size patches t.width t.height) ≡ true = ap (nat_lt MAX_COMPOSITE) (sym same) ∙ too_big (composite_size patches width height) (big.0 (subst IsNone (sym e) refl)) in
-    ap (λ b. cond b (Err (TooBig number)) (Ok (texture_of bytes t patches))) test
+    let size_same : composite_size patches width height ≡ composite_size patches t.width t.height = ap (λ (n : ℕ). composite_size patches n height) w ∙ ap (composite_size patches t.width) h in
+    let size_too_big : nat_lt MAX_COMPOSITE (composite_size patches t.width t.height) ≡ true = ap (nat_lt MAX_COMPOSITE) (sym size_same) ∙ too_big (composite_size patches width height) (big.0 (subst IsNone (sym e) refl)) in
+    ap (λ b. cond b (Err (TooBig number)) (Ok (texture_of bytes t patches))) size_too_big
 
 module _ (last : List ℕ → Option ℕ) (bytes : ℕ → List ℕ) (names : List (List ℕ)) (number : ℕ) (t : Texture) (patches : List PlacedPatch) (columns : List ColumnLookup) (width : ℕ) where
   -- what the columns of a texture are whose patches are all placed
@@ -51,20 +51,20 @@ module _ (last : List ℕ → Option ℕ) (bytes : ℕ → List ℕ) (names : Li
       after ≡ seen_lookups bytes patches (length after)
   unfolding patches_part
   texture_seen after same count placed =
-      let one = found_is number (patches_part bytes width) _ _ placed in
-      let ps : one.item ≡ patches = ap (λ (p : PatchesPart). p.patches) one.gives in
-      let cs : seen_lookups bytes one.item width ≡ columns = ap (λ (p : PatchesPart). p.columns) one.gives in
-      let wide : width ≡ length after = sym count ∙ ap length (sym same) in
-      same ∙ sym cs ∙ ap (λ xs. seen_lookups bytes xs width) ps ∙ ap (seen_lookups bytes patches) wide
+      let patches_placed = found_is number (patches_part bytes width) _ _ placed in
+      let patches_are : patches_placed.item ≡ patches = ap (λ (p : PatchesPart). p.patches) patches_placed.gives in
+      let columns_are : seen_lookups bytes patches_placed.item width ≡ columns = ap (λ (p : PatchesPart). p.columns) patches_placed.gives in
+      let width_is : width ≡ length after = sym count ∙ ap length (sym same) in
+      same ∙ sym columns_are ∙ ap (λ xs. seen_lookups bytes xs width) patches_are ∙ ap (seen_lookups bytes patches) width_is
 
   -- and what it comes to
   pub texture_is : (r : Result PreparedTexture TexRefusal) → or_missing number (option_map (patches_part bytes width) (placed_patches last bytes names t.patches)) ≡ Ok (record { patches = patches; columns = columns }) →
       unless_too_big bytes number t patches ≡ r → prepared last bytes names number t ≡ r
   unfolding prepared unless_missing patches_part
   texture_is r placed bound =
-      let one = found_is number (patches_part bytes width) _ _ placed in
-      let ps : one.item ≡ patches = ap (λ (p : PatchesPart). p.patches) one.gives in
-      ap (unless_missing bytes number t) one.is ∙ ap (unless_too_big bytes number t) ps ∙ bound
+      let patches_placed = found_is number (patches_part bytes width) _ _ placed in
+      let patches_are : patches_placed.item ≡ patches = ap (λ (p : PatchesPart). p.patches) patches_placed.gives in
+      ap (unless_missing bytes number t) patches_placed.is ∙ ap (unless_too_big bytes number t) patches_are ∙ bound
 
 -- a texture of which a patch is missing
 pub texture_missing : (last : List ℕ → Option ℕ) (bytes : ℕ → List ℕ) (names : List (List ℕ)) (number : ℕ) (t : Texture) (width : ℕ) (reason : TexRefusal) →
@@ -114,8 +114,8 @@ module _ (prepare : ℕ → Texture → Result PreparedTexture TexRefusal) (want
   prepared_from-append : (n m : ℕ) (xs ys : List Texture) → n + length xs ≡ m → prepared_from prepare wanted n (xs ++ ys) ≡ and_then (prepared_from prepare wanted n xs) (λ ps. and_then (prepared_from prepare wanted m ys) (λ qs. Ok (ps ++ qs)))
   unfolding prepared_from
   prepared_from-append n m [] ys e =
-      let same : n ≡ m = omega arith in
-      ap (λ (k : ℕ). prepared_from prepare wanted k ys) same ∙ whole (prepared_from prepare wanted m ys)
+      let numbers_same : n ≡ m = omega arith in
+      ap (λ (k : ℕ). prepared_from prepare wanted k ys) numbers_same ∙ whole (prepared_from prepare wanted m ys)
   prepared_from-append n m (t ∷ xs) ys e =
       ap (λ r. and_then (prepared_if (wanted n) (prepare n t)) (λ first. and_then r (λ others. Ok (first ∷ others)))) (prepared_from-append (suc n) m xs ys (omega arith))
       ∙ joined (prepared_if (wanted n) (prepare n t)) (prepared_from prepare wanted (suc n) xs) (prepared_from prepare wanted m ys)
@@ -140,20 +140,20 @@ module _ (prepare : ℕ → Texture → Result PreparedTexture TexRefusal) (want
   -- one texture more
   pub from_push : (ts : List Texture) (k : ℕ) (ps : List (Option PreparedTexture)) (p : Option PreparedTexture) → k < length ts → prepared_from prepare wanted 0 (take k ts) ≡ Ok ps → prepared_if (wanted k) (prepare k (get_or ts k unlisted)) ≡ Ok p → prepared_from prepare wanted 0 (take (k + 1) ts) ≡ Ok (ps ++ p ∷ [])
   from_push ts k ps p l e step =
-      let t = get_or ts k unlisted in
+      let texture = get_or ts k unlisted in
       let count : 0 + length (take k ts) ≡ k = omega (arith, length-take-le k ts) in
-      ap (prepared_from prepare wanted 0) (take_more ts k unlisted l) ∙ prepared_from-append 0 k (take k ts) (t ∷ []) count
-      ∙ ap (λ r. and_then r (λ xs. and_then (prepared_from prepare wanted k (t ∷ [])) (λ ys. Ok (xs ++ ys)))) e
-      ∙ ap (λ r. and_then r (λ ys. Ok (ps ++ ys))) (first_of_rest k t [] p step ∙ ap (λ r. and_then r (λ others. Ok (p ∷ others))) (none_after (suc k)))
+      ap (prepared_from prepare wanted 0) (take_more ts k unlisted l) ∙ prepared_from-append 0 k (take k ts) (texture ∷ []) count
+      ∙ ap (λ r. and_then r (λ xs. and_then (prepared_from prepare wanted k (texture ∷ [])) (λ ys. Ok (xs ++ ys)))) e
+      ∙ ap (λ r. and_then r (λ ys. Ok (ps ++ ys))) (first_of_rest k texture [] p step ∙ ap (λ r. and_then r (λ others. Ok (p ∷ others))) (none_after (suc k)))
 
   -- a texture is refused, and none before it
   pub from_stop : (ts : List Texture) (k : ℕ) (ps : List (Option PreparedTexture)) (reason : TexRefusal) → k < length ts → prepared_from prepare wanted 0 (take k ts) ≡ Ok ps → prepared_if (wanted k) (prepare k (get_or ts k unlisted)) ≡ Err reason → prepared_from prepare wanted 0 ts ≡ Err reason
   from_stop ts k ps reason l e step =
-      let t = get_or ts k unlisted in
+      let texture = get_or ts k unlisted in
       let count : 0 + length (take k ts) ≡ k = omega (arith, length-take-le k ts) in
-      ap (prepared_from prepare wanted 0) (split_at ts k unlisted l) ∙ prepared_from-append 0 k (take k ts) (t ∷ drop (suc k) ts) count
-      ∙ ap (λ r. and_then r (λ xs. and_then (prepared_from prepare wanted k (t ∷ drop (suc k) ts)) (λ ys. Ok (xs ++ ys)))) e
-      ∙ ap (λ r. and_then r (λ ys. Ok (ps ++ ys))) (first_refused k t (drop (suc k) ts) reason step)
+      ap (prepared_from prepare wanted 0) (split_at ts k unlisted l) ∙ prepared_from-append 0 k (take k ts) (texture ∷ drop (suc k) ts) count
+      ∙ ap (λ r. and_then r (λ xs. and_then (prepared_from prepare wanted k (texture ∷ drop (suc k) ts)) (λ ys. Ok (xs ++ ys)))) e
+      ∙ ap (λ r. and_then r (λ ys. Ok (ps ++ ys))) (first_refused k texture (drop (suc k) ts) reason step)
 
 -- a patch that preparing one texture asks for is one of all that are wanted
 pub wanted_patch : {lumps : List Lump} {lists : TextureLists} {wanted : ℕ → Bool} {k : ℕ} → k < length lists.textures → (lump : ℕ) →
@@ -175,8 +175,8 @@ pub tells_wanted : {B : Type 0} {v w : ShelfView} {dir : DirectoryView} {a b : H
     ReadsLumps itself v w dir a b (IsWantedPatch dir.lumps lists f) value (λ bytes. prepared_textures (last_of dir.lumps) bytes lists f) result →
     ReadsLumps itself v w dir a b (IsWantedPatch dir.lumps lists g) value (λ bytes. prepared_textures (last_of dir.lumps) bytes lists g) result
 tells_wanted {v} {w} {dir} {a} {b} {value} lists f g result same one =
-    let all : f ≡ g = λ i number. same number i in
-    subst (λ (h : ℕ → Bool). ReadsLumps itself v w dir a b (IsWantedPatch dir.lumps lists h) value (λ bytes. prepared_textures (last_of dir.lumps) bytes lists h) result) all one
+    let functions_same : f ≡ g = λ i number. same number i in
+    subst (λ (h : ℕ → Bool). ReadsLumps itself v w dir a b (IsWantedPatch dir.lumps lists h) value (λ bytes. prepared_textures (last_of dir.lumps) bytes lists h) result) functions_same one
 
 -- the same lists
 pub tells_lists : {B : Type 0} {v w : ShelfView} {dir : DirectoryView} {a b : Heap} {value : B → List (Option PreparedTexture)} (before now : TextureLists) (wanted : ℕ → Bool) (result : Result B (Fault TexRefusal)) → before ≡ now →
@@ -189,18 +189,18 @@ tells_lists {v} {w} {dir} {a} {b} {value} before now wanted result same one =
 pub listed_push : (listed : List Texture) (textures : List (Option PreparedTexture)) (texture : Option PreparedTexture) (k : ℕ) → length textures ≡ k → ((number : ℕ) → IfSome (prepared_at textures number) (IsListedAs (texture_at listed number))) → IfSome texture (IsListedAs (texture_at listed k)) →
     (number : ℕ) → IfSome (prepared_at (textures ++ texture ∷ []) number) (IsListedAs (texture_at listed number))
 listed_push listed textures texture k count before now number = elim (cases_lt number k) [
-  | inl l ↦ let within : number < length textures = omega arith in subst (λ t. IfSome t (IsListedAs (texture_at listed number))) (sym (get_or-append textures (texture ∷ []) None number within)) (before number)
+  | inl l ↦ let number_within : number < length textures = omega arith in subst (λ t. IfSome t (IsListedAs (texture_at listed number))) (sym (get_or-append textures (texture ∷ []) None number number_within)) (before number)
   | inr l ↦ listed_last number (number - k) (omega arith)
 ] where
   listed_last : (number more : ℕ) → number ≡ k + more → IfSome (prepared_at (textures ++ texture ∷ []) number) (IsListedAs (texture_at listed number))
   listed_last number zero e =
-      let at : number ≡ k = omega arith in
-      let front : number ≡ length textures = omega arith in
-      let is : prepared_at (textures ++ texture ∷ []) number ≡ texture = ap (λ (n : ℕ). prepared_at (textures ++ texture ∷ []) n) front ∙ get_or-append_seam textures texture [] None in
-      subst (λ t. IfSome t (IsListedAs (texture_at listed number))) (sym is) (subst (λ (n : ℕ). IfSome texture (IsListedAs (texture_at listed n))) (sym at) now)
+      let number_is : number ≡ k = omega arith in let number_is_length : number ≡ length textures = omega arith in
+      let last_is : prepared_at (textures ++ texture ∷ []) number ≡ texture = ap (λ (n : ℕ). prepared_at (textures ++ texture ∷ []) n) number_is_length ∙ get_or-append_seam textures texture [] None in
+      subst (λ t. IfSome t (IsListedAs (texture_at listed number))) (sym last_is)
+      (subst (λ (n : ℕ). IfSome texture (IsListedAs (texture_at listed n))) (sym number_is) now)
   listed_last number (suc more) e =
-      let long : length (textures ++ texture ∷ []) ≤ number = omega (arith, length-append textures (texture ∷ [])) in
-      subst (λ t. IfSome t (IsListedAs (texture_at listed number))) (sym (get_or-eq_default (textures ++ texture ∷ []) None long)) tt
+      let number_past_end : length (textures ++ texture ∷ []) ≤ number = omega (arith, length-append textures (texture ∷ [])) in
+      subst (λ t. IfSome t (IsListedAs (texture_at listed number))) (sym (get_or-eq_default (textures ++ texture ∷ []) None number_past_end)) tt
 
 pub listed_none : (listed : List Texture) (textures : List (Option PreparedTexture)) → textures ≡ [] → (number : ℕ) → IfSome (prepared_at textures number) (IsListedAs (texture_at listed number))
 listed_none listed textures e number = subst (λ ts. IfSome (prepared_at ts number) (IsListedAs (texture_at listed number))) (sym e) tt
@@ -224,12 +224,12 @@ marks_tell marks wanted count number e below h = elim (cases_lt number count) [
 prepared_some : (textures : List (Option PreparedTexture)) (marks : List Bool) (number : ℕ) → number < length marks → map is_some textures ≡ marks → get_or marks number false ≡ true → IsSome (prepared_at textures number)
 prepared_some textures marks number l are on =
     let count : length textures ≡ length marks = sym (length-map textures is_some) ∙ ap length are in
-    let within : number < length textures = omega arith in
-    sym (get_or-map is_some textures number None false within) ∙ ap (λ xs. get_or xs number false) are ∙ on
+    let number_within : number < length textures = omega arith in
+    sym (get_or-map is_some textures number None false number_within) ∙ ap (λ xs. get_or xs number false) are ∙ on
 
 -- each wanted texture is prepared
 pub wanted_prepared : (textures : List (Option PreparedTexture)) (marks : List Bool) (wanted : List TexNo) (count : ℕ) → length marks ≡ count → All (λ (tex : TexNo). tex.0 < count) wanted → map is_some textures ≡ marks → ((number : ℕ) → is_marked marks number ≡ is_wanted wanted number) → All (λ (tex : TexNo). IsSome (prepared_at textures tex.0)) wanted
 wanted_prepared textures marks wanted count e below are tell = λ k d l.
     let tex = get_or wanted k d in
-    let within : tex.0 < length marks = omega (arith, below k d l) in
-    prepared_some textures marks tex.0 within are (tell tex.0 ∙ list_any_at (λ (t : TexNo). t.0 == tex.0) wanted k d l (eq-eqb tex.0 tex.0 refl))
+    let tex_within : tex.0 < length marks = omega (arith, below k d l) in
+    prepared_some textures marks tex.0 tex_within are (tell tex.0 ∙ list_any_at (λ (t : TexNo). t.0 == tex.0) wanted k d l (eq-eqb tex.0 tex.0 refl))

@@ -58,18 +58,18 @@ module _ (bytes : ℕ → List ℕ) (textures : TexturesView) (old new : Heap) w
 pub readies_single : {dir : DirectoryView} {view after : ShelfView} {old new : Heap} {result : Result (Unit {0}) CacheFault} (number : ℕ) (t : PreparedTexture) (lump place : ℕ) → lump < length dir.lumps →
     FetchesLump dir lump Cache view after old new result → OnOk result (IsLive new (lump_owner lump)) → MakesColumnLive number t (Single lump place) view after dir old new result
 readies_single {dir} {view} {after} {old} {new} {result} number t lump place there f live =
-    let reads = fetch_reads f there in record {
+    let lump_read = fetch_reads f there in record {
       answers = f.answers;
       live = live;
       follows = f.follows;
       causes = f.causes;
-      counts = reads.keeps.counts;
-      rest = reads.keeps.rest;
-      faithful = reads.keeps.faithful;
+      counts = lump_read.keeps.counts;
+      rest = lump_read.keeps.rest;
+      faithful = lump_read.keeps.faithful;
       composites = λ contents textures is hold k. composites_kept (lump_bytes contents dir.lumps) textures old new (λ n. f.others (composite_owner n) refl) k;
       empty = not_composed result (owned_block (composite_owner number) new.blocks ≡ None);
       full = single_full dir.lumps number t lump place old result (fetch_no_room f) (fetch_gap f);
-      order = λ items all k. reads.order items (λ n is. subst (λ m. has_item items (lump_owner m) (lump_at dir.lumps m).size ≡ true) (sym is) (all (lump_owner lump) (lump_at dir.lumps lump).size (refl, refl))) k;
+      order = λ items all k. lump_read.order items (λ n is. subst (λ m. has_item items (lump_owner m) (lump_at dir.lumps m).size ≡ true) (sym is) (all (lump_owner lump) (lump_at dir.lumps lump).size (refl, refl))) k;
     } where
       not_composed : (r : Result (Unit {0}) CacheFault) (P : Type 0) → OnErr r (⊥ → P)
       not_composed (Ok done) P = tt

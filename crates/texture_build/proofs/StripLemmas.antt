@@ -25,12 +25,12 @@ texture-painted bytes textures colormap s {b = b} source shades base fraction st
     let its : ColumnLookup → Painter = λ l. painter_of s.kind s.number (lookup_source s.tex.0 l) in
     let painter : b.painter ≡ its (column_in (prepared_texture textures s.tex.0) s.column) =
     ap (λ (canvas : CanvasView). canvas.painter) began ∙ is_painter ∙ ap its is_lookup in
-    let first : fraction ≡ row_fraction s.centre s.mid step s.first = is_fraction ∙ sym (ap (λ (z : ℤ). row_fraction s.centre s.mid z s.first) is_step) in
+    let start_is : fraction ≡ row_fraction s.centre s.mid step s.first = is_fraction ∙ sym (ap (λ (z : ℤ). row_fraction s.centre s.mid z s.first) is_step) in
     let dots : column_dots b.painter s.x (row_shade source base shades s.map s.centre s.mid step) (listed_from (λ y. y) s.first s.last)
     ≡ texture_dots (view_art bytes textures colormap) s =
     λ i. column_dots (painter i) s.x (λ y. shade (is_shades i) s.map (texels (texel_row (row_fraction s.centre s.mid (is_step i) y)) i))
     (listed_from (λ y. y) s.first s.last) in
-    has_dots-as (strip-rows b.painter s.x source base shades s.map s.centre s.mid step fraction s.first s.last first ∙ dots) (has_dots-painted began painted)
+    has_dots-as (strip-rows b.painter s.x source base shades s.map s.centre s.mid step fraction s.first s.last start_is ∙ dots) (has_dots-painted began painted)
 
 -- and what its painter reads fits beside the colormap
 pub texture-fits : (t : PaintTools) (count zone : ℕ) (bytes : ℕ → List ℕ) (s : TextureStrip) (lookup : ColumnLookup) →

@@ -21,7 +21,7 @@ mask_within (suc n) width some = go (nat_lt width (2 ^ n)) refl (mask_within n w
 
 own_within : (width : ℕ) (column : ℤ) → 0 < width → masked_column (mask_of width) column < width
 unfolding masked_column mask_of
-own_within width column some = let k = mask_within 16 width some in let l = and_le_r (bits_of column) (mask_from 16 width) in omega arith
+own_within width column some = let mask_below = mask_within 16 width some in let and_within_mask = and_le_r (bits_of column) (mask_from 16 width) in omega arith
 
 -- texels by a lookup
 module _ (contents : List (List ℕ)) (lumps : List Lump) (number : ℕ) (t : PreparedTexture) (z : Heap) where
@@ -41,13 +41,13 @@ module _ (contents : List (List ℕ)) (lumps : List Lump) (number : ℕ) (t : Pr
   lent_texels : (col : ℤ) → HasColumns its t → ArePatchesThere lumps t → IsFaithful contents lumps z → IfSome (bytes_of (composite_owner number) z.blocks) (λ xs. xs ≡ composite_of its t) →
       IfSome (column_view number z (column_in t col)) (λ column. (r : ℕ) → byte_at column.bytes (column.first + r) ≡ texel its t.patches (length t.columns) t.height (column_index t col) r)
   lent_texels col has there faithful built =
-      let x = column_index t col in
-      let within = own_within (length t.columns) col has.some in
-      let is : column_in t col ≡ column_lookup its t.patches t.height x = ap (λ (xs : List ColumnLookup). slice_index_or xs x Empty) has.are ∙ column_lookups-read its t.patches (length t.columns) t.height x Empty within in
-      let by = lent_by (column_lookup its t.patches t.height x) (lookup_there lumps its t.patches t.height x there) faithful built in
-      weaker (column_view number z (column_in t col)) (λ r. texel_by its (composite_of its t) (column_lookup its t.patches t.height x) r) (λ r. texel its t.patches (length t.columns) t.height x r)
-      (λ r. sym (texel_by-texel its t.patches (length t.columns) t.height x r))
-      (subst (λ (lookup : ColumnLookup). IfSome (column_view number z lookup) (λ column. (r : ℕ) → byte_at column.bytes (column.first + r) ≡ texel_by its (composite_of its t) (column_lookup its t.patches t.height x) r)) (sym is) by)
+      let index = column_index t col in
+      let index_within = own_within (length t.columns) col has.some in
+      let lookup_is : column_in t col ≡ column_lookup its t.patches t.height index = ap (λ (xs : List ColumnLookup). slice_index_or xs index Empty) has.are ∙ column_lookups-read its t.patches (length t.columns) t.height index Empty index_within in
+      let lent_texels_are = lent_by (column_lookup its t.patches t.height index) (lookup_there lumps its t.patches t.height index there) faithful built in
+      weaker (column_view number z (column_in t col)) (λ r. texel_by its (composite_of its t) (column_lookup its t.patches t.height index) r) (λ r. texel its t.patches (length t.columns) t.height index r)
+      (λ r. sym (texel_by-texel its t.patches (length t.columns) t.height index r))
+      (subst (λ (lookup : ColumnLookup). IfSome (column_view number z lookup) (λ column. (r : ℕ) → byte_at column.bytes (column.first + r) ≡ texel_by its (composite_of its t) (column_lookup its t.patches t.height index) r)) (sym lookup_is) lent_texels_are)
     where
       weaker : (c : Option ColumnView) (f g : ℕ → ℕ) → ((r : ℕ) → f r ≡ g r) → IfSome c (λ column. (r : ℕ) → byte_at column.bytes (column.first + r) ≡ f r) → IfSome c (λ column. (r : ℕ) → byte_at column.bytes (column.first + r) ≡ g r)
       weaker None f g same k = tt

@@ -23,8 +23,8 @@ pub record HasColumns (bytes : ℕ → List ℕ) (t : PreparedTexture) : Type 0 
 made_columns : (bytes : ℕ → List ℕ) (texture : Texture) → is_wide texture → (patches : List PlacedPatch) → HasColumns bytes (texture_of bytes texture patches)
 unfolding texture_of
 made_columns bytes texture wide patches =
-    let l = length-column_lookups bytes patches texture.width texture.height in
-    record { are = ap (λ n. column_lookups bytes patches n texture.height) (sym l); some = omega arith }
+    let lookups_length = length-column_lookups bytes patches texture.width texture.height in
+    record { are = ap (λ n. column_lookups bytes patches n texture.height) (sym lookups_length); some = omega arith }
 
 pub textures_columns : (contents : List (List ℕ)) (lumps : List Lump) (textures : TexturesView) (number : ℕ) (t : PreparedTexture) → AreTexturesOf contents lumps textures → prepared_at textures.prepared number ≡ Some t → HasColumns (lump_bytes contents lumps) t
 textures_columns contents lumps textures number t =

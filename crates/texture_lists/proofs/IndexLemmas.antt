@@ -14,7 +14,7 @@ stays (Some n) = refl
 
 kept : (i : ℕ) (found : Option ℕ) (b : Bool) → (b ≡ true → is_some found ≡ true) → or_else found (cond b (Some i) None) ≡ found
 kept i (Some n) b h = refl
-kept i None true h = let e : false ≡ true = h refl in cc
+kept i None true h = let false_is_true : false ≡ true = h refl in cc
 kept i None false h = refl
 
 -- what an index has for a name, once texture i has come with another

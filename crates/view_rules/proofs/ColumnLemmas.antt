@@ -7,10 +7,10 @@ use Rattle.view_rules.specs.Tables.{projection, seen_column, raw_column, within_
 
 -- products with a number that is not negative keep the order
 product_mono : (a b : ℤ) (m : ℕ) → a ≤ℤ b → (a *ℤ pos m) ≤ℤ (b *ℤ pos m)
-product_mono (pos a) (pos b) m h = let l : a * m ≤ b * m = mul-le-mul_right m (omega (arith, ints)) in omega (arith, ints)
+product_mono (pos a) (pos b) m h = let products_ordered : a * m ≤ b * m = mul-le-mul_right m (omega (arith, ints)) in omega (arith, ints)
 product_mono (pos a) (negsuc b) m h = absurd (omega (arith, ints))
 product_mono (negsuc a) (pos b) m h = omega (arith, ints)
-product_mono (negsuc a) (negsuc b) m h = let l : suc b * m ≤ suc a * m = mul-le-mul_right m (omega (arith, ints)) in omega (arith, ints)
+product_mono (negsuc a) (negsuc b) m h = let products_ordered : suc b * m ≤ suc a * m = mul-le-mul_right m (omega (arith, ints)) in omega (arith, ints)
 
 -- so do shifts to the right by 16 bits
 shift_mono : (a b : ℤ) → a ≤ℤ b → int_shr a 16 ≤ℤ int_shr b 16
@@ -26,10 +26,10 @@ fits_between (negsuc n) l h = record { sfits = omega (arith, ints) }
 
 -- the product of a tangent within reach and a focal length
 product_low : (f : ℤ) (m : ℕ) → negsuc 131071 ≤ℤ f → m ≤ 20971520 → negsuc 2748779069439 ≤ℤ (f *ℤ pos m)
-product_low f m l h = let k : (negsuc 131071 *ℤ pos m) ≤ℤ (f *ℤ pos m) = product_mono (negsuc 131071) f m l in omega (arith, ints)
+product_low f m l h = let product_at_least : (negsuc 131071 *ℤ pos m) ≤ℤ (f *ℤ pos m) = product_mono (negsuc 131071) f m l in omega (arith, ints)
 
 product_high : (f : ℤ) (m : ℕ) → f ≤ℤ pos 131072 → m ≤ 20971520 → (f *ℤ pos m) ≤ℤ pos 2748779069440
-product_high f m l h = let k : (f *ℤ pos m) ≤ℤ (pos 131072 *ℤ pos m) = product_mono f (pos 131072) m l in omega (arith, ints)
+product_high f m l h = let product_at_most : (f *ℤ pos m) ≤ℤ (pos 131072 *ℤ pos m) = product_mono f (pos 131072) m l in omega (arith, ints)
 
 shifted_low : (z : ℤ) → negsuc 2748779069439 ≤ℤ z → negsuc 41943039 ≤ℤ int_shr z 16
 shifted_low z h = shift_mono (negsuc 2748779069439) z h
@@ -40,8 +40,8 @@ shifted_high z h = shift_mono z (pos 2748779069440) h
 mul_within : (f : ℤ) (m : ℕ) → negsuc 131071 ≤ℤ f → f ≤ℤ pos 131072 → m ≤ 20971520 → mul f (pos m) ≡ int_shr (f *ℤ pos m) 16
 unfolding mul
 mul_within f m l h b =
-    let low = shifted_low (f *ℤ pos m) (product_low f m l b) in
-    let high = shifted_high (f *ℤ pos m) (product_high f m h b) in
+    let shift_at_least = shifted_low (f *ℤ pos m) (product_low f m l b) in
+    let shift_at_most = shifted_high (f *ℤ pos m) (product_high f m h b) in
     int_wrap_fits w32 (int_shr (f *ℤ pos m) 16) (fits_between _ (omega (arith, ints)) (omega (arith, ints)))
 
 -- the place of a shifted product, before it is held within the view's reach
@@ -66,12 +66,12 @@ seen_is : (shape : ViewShape) (m : ℕ) (f : ℤ) → shape.centre_x ≤ 160 →
     seen_column shape (pos m) f ≡ clamp_word minus_one (pos (shape.width + 1)) (place_of shape.centre_x (int_shr (f *ℤ pos m) 16))
 unfolding seen_column shr_word
 seen_is shape m f c b l h =
-    let low = shifted_low (f *ℤ pos m) (product_low f m l b) in
-    let high = shifted_high (f *ℤ pos m) (product_high f m h b) in
+    let shift_at_least = shifted_low (f *ℤ pos m) (product_low f m l b) in
+    let shift_at_most = shifted_high (f *ℤ pos m) (product_high f m h b) in
     let clamped = λ (y : ℤ). clamp_word minus_one (pos (shape.width + 1)) (int_shr y 16) in
     ap (λ (y : ℤ). clamped (plus (minus y (mul f (pos m))) (pos 65535))) (projection_is shape c)
     ∙ ap (λ (y : ℤ). clamped (plus (minus (pos (shape.centre_x * 65536)) y) (pos 65535))) (mul_within f m l h b)
-    ∙ ap clamped (sum_within shape.centre_x (int_shr (f *ℤ pos m) 16) c low high)
+    ∙ ap clamped (sum_within shape.centre_x (int_shr (f *ℤ pos m) 16) c shift_at_least shift_at_most)
 
 clamp_mono : (lo hi y z : ℤ) → y ≤ℤ z → clamp_word lo hi y ≤ℤ clamp_word lo hi z
 unfolding clamp_word
@@ -80,9 +80,9 @@ clamp_mono lo hi y z h = omega (arith, ints, clamps)
 seen_falls : (shape : ViewShape) (m : ℕ) (f g : ℤ) → shape.centre_x ≤ 160 → m ≤ 20971520 → negsuc 131071 ≤ℤ f → f ≤ℤ g → g ≤ℤ pos 131072 → seen_column shape (pos m) g ≤ℤ seen_column shape (pos m) f
 seen_falls shape m f g c b l h r =
     let up : f ≤ℤ pos 131072 = omega (arith, ints) in
-    let low : negsuc 131071 ≤ℤ g = omega (arith, ints) in
+    let g_at_least : negsuc 131071 ≤ℤ g = omega (arith, ints) in
     let shifted = shift_mono (f *ℤ pos m) (g *ℤ pos m) (product_mono f g m h) in
-    rw (seen_is shape m f c b l up, seen_is shape m g c b low r)
+    rw (seen_is shape m f c b l up, seen_is shape m g c b g_at_least r)
     (clamp_mono minus_one (pos (shape.width + 1)) _ _ (place_falls shape.centre_x (int_shr (f *ℤ pos m) 16) (int_shr (g *ℤ pos m) 16) shifted))
 
 seen_low : (shape : ViewShape) (focal f : ℤ) → minus_one ≤ℤ seen_column shape focal f
@@ -98,12 +98,12 @@ raw_cases : (w : ℕ) (fl fr gl gr : Bool) (s r : ℤ) → minus_one ≤ℤ s �
     (fl ≡ true → gl ≡ true) → (gr ≡ true → fr ≡ true) → (gl ≡ false → fr ≡ false → r ≤ℤ s) →
     cond gl minus_one (cond gr (pos (w + 1)) r) ≤ℤ cond fl minus_one (cond fr (pos (w + 1)) s)
 raw_cases w true fr true gr s r a b c d p q k = omega (arith, ints)
-raw_cases w true fr false gr s r a b c d p q k = let e : false ≡ true = p refl in cc
+raw_cases w true fr false gr s r a b c d p q k = let false_is_true : false ≡ true = p refl in cc
 raw_cases w false true true gr s r a b c d p q k = omega (arith, ints)
 raw_cases w false false true gr s r a b c d p q k = a
 raw_cases w false true false true s r a b c d p q k = omega (arith, ints)
 raw_cases w false true false false s r a b c d p q k = d
-raw_cases w false false false true s r a b c d p q k = let e : false ≡ true = q refl in cc
+raw_cases w false false false true s r a b c d p q k = let false_is_true : false ≡ true = q refl in cc
 raw_cases w false false false false s r a b c d p q k = k refl refl
 
 lt_left : (a f g : ℤ) → f ≤ℤ g → int_lt a f ≡ true → int_lt a g ≡ true

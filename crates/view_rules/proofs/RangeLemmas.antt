@@ -14,7 +14,7 @@ reach angle = turn angle ang90
 end_cases : (twice past angle edge l : ℕ) (cut gone : Bool) → nat_lt twice past ≡ cut → cond cut (cond gone None (Some edge)) (Some angle) ≡ Some l → (l ≡ edge) ⊎ ((l ≡ angle) × (past ≤ twice))
 end_cases twice past angle edge l true true t e = cc
 end_cases twice past angle edge l true false t e = inl (cc)
-end_cases twice past angle edge l false gone t e = let h : past ≤ twice = grind (arith, nat_tests) in inr (cc, h)
+end_cases twice past angle edge l false gone t e = let past_is_within : past ≤ twice = grind (arith, nat_tests) in inr (cc, past_is_within)
 
 -- an end of a range is the edge, or its own angle where that is not past its edge
 end_is : (clip span past angle edge l : ℕ) → clipped_end clip span past angle edge ≡ Some l → (l ≡ edge) ⊎ ((l ≡ angle) × (past ≤ turn clip clip))
@@ -58,8 +58,8 @@ fine_order l r h b = (omega arith, omega arith)
 columns_in_order : (v : ViewValue) (l r : ℕ) → IsSound v.tables v.shape → reach r ≤ reach l → reach l < 2 ^ 31 → column_at_angle v l ≤ column_at_angle v r
 unfolding column_at_angle
 columns_in_order v l r s h b =
-    let fine = fine_order (reach l) (reach r) h b in
-    s.falling (fine_angle (reach r)) (fine_angle (reach l)) fine.0 fine.1
+    let fine_ordered = fine_order (reach l) (reach r) h b in
+    s.falling (fine_angle (reach r)) (fine_angle (reach l)) fine_ordered.0 fine_ordered.1
 
 column_within : (v : ViewValue) (r : ℕ) → column_at_angle v r ≤ v.shape.width
 unfolding column_at_angle column_of_angle

@@ -17,14 +17,14 @@ height_cases size false l g e = (omega arith, grind (arith, nat_tests), omega ar
 size_within : (size : ℕ) → MIN_SIZE ≤ size → size ≤ MAX_SIZE → IsWithinFrame (shape_of_size size)
 unfolding shape_of_size width_of_size height_of_size left_of_size top_of_size
 size_within size l g =
-    let h = height_cases size (size == MAX_SIZE) l g refl in
+    let height_bounds = height_cases size (size == MAX_SIZE) l g refl in
     record {
       width = omega arith;
-      height = h.1;
+      height = height_bounds.1;
       columns = omega arith;
-      rows = h.0;
+      rows = height_bounds.0;
       centre_x = omega arith;
-      centre_y = h.2;
+      centre_y = height_bounds.2;
     }
 
 -- a view of one of the nine shapes lies within the frame, and its centre is in its middle

@@ -33,25 +33,25 @@ not_lt a b e = grind (arith, ints)
 rise : (t : Angles) → tangent_refusal t.tangent ≡ None → (n : ℕ) → 0 < n → n < TANGENTS → tangent_at t (n - 1) ≤ℤ tangent_at t n
 unfolding tangent_refusal is_wrong_tangent tangent_at
 rise t e n p h =
-    let none = refused_at-none Tangent (least (is_wrong_tangent t.tangent) TANGENTS) e in
-    let right = none-below (is_wrong_tangent t.tangent) TANGENTS none n h in
+    let none_wrong = refused_at-none Tangent (least (is_wrong_tangent t.tangent) TANGENTS) e in
+    let right = none-below (is_wrong_tangent t.tangent) TANGENTS none_wrong n h in
     not_lt (slice_index_or t.tangent n (pos 0)) (slice_index_or t.tangent (n - 1) (pos 0)) (and-second_false (nat_lt 0 n) _ (positive n p) right)
 
 rising : (t : Angles) → ((n : ℕ) → 0 < n → n < TANGENTS → tangent_at t (n - 1) ≤ℤ tangent_at t n) → (i k : ℕ) → i ≤ k → k < TANGENTS → tangent_at t i ≤ℤ tangent_at t k
-rising t step i zero h l = let e : i ≡ 0 = omega arith in rw e (≤ℤ_refl (tangent_at t 0))
+rising t step i zero h l = let index_is_zero : i ≡ 0 = omega arith in rw index_is_zero (≤ℤ_refl (tangent_at t 0))
 rising t step i (suc k) h l =
     elim (cases_lt i (suc k)) [
       | inl b ↦
-          let one_back : suc k - 1 ≡ k = omega arith in
-          let last : tangent_at t k ≤ℤ tangent_at t (suc k) = rw one_back at (step (suc k) (omega arith) l) in
-          let before = rising t step i k (omega arith) (omega arith) in
+          let index_back_is : suc k - 1 ≡ k = omega arith in
+          let last_step_rises : tangent_at t k ≤ℤ tangent_at t (suc k) = rw index_back_is at (step (suc k) (omega arith) l) in
+          let rises_before = rising t step i k (omega arith) (omega arith) in
           omega (arith, ints)
-      | inr a ↦ let e : i ≡ suc k = omega arith in rw e (≤ℤ_refl (tangent_at t (suc k)))
+      | inr a ↦ let index_is : i ≡ suc k = omega arith in rw index_is (≤ℤ_refl (tangent_at t (suc k)))
     ]
 
 div_is : (p n : ℕ) → p / 2 ^ 14 < n → div (pos p) (pos n) ≡ pos (p * 65536 / n)
 unfolding div
-div_is p n h = let fits : nat_le n (p / 2 ^ 14) ≡ false = grind (arith, nat_tests) in rw fits
+div_is p n h = let quotient_small : nat_le n (p / 2 ^ 14) ≡ false = grind (arith, nat_tests) in rw quotient_small
 
 -- the focal length of a tangent that is no less than a half
 quotient_is : (p : ℕ) (edge : ℤ) → p ≤ 10485760 → pos 32768 ≤ℤ edge → (m : ℕ) × (m ≤ 20971520) × (div (pos p) edge ≡ pos m)
@@ -64,15 +64,15 @@ quotient_is p (negsuc n) b l = absurd (omega (arith, ints))
 centre_bound : (shape : ViewShape) → IsShape shape → shape.centre_x ≤ 160
 unfolding shape_of_size width_of_size
 centre_bound shape s =
-    let e : shape.centre_x ≡ width_of_size s.size / 2 = ap (λ (r : ViewShape). r.centre_x) s.is in omega arith
+    let centre_is : shape.centre_x ≡ width_of_size s.size / 2 = ap (λ (r : ViewShape). r.centre_x) s.is in omega arith
 
 focal_is : (t : Angles) (shape : ViewShape) → IsShape shape → is_wrong_edge t ≡ false → (m : ℕ) × (m ≤ 20971520) × (focal_length t shape ≡ pos m)
 unfolding focal_length is_wrong_edge
 focal_is t shape s e =
-    let c = centre_bound shape s in
-    let low = not_lt (tangent_at t EDGE_TANGENT) MIN_EDGE_TANGENT (or-false _ _ e).0 in
-    let q = quotient_is (shape.centre_x * 65536) (tangent_at t EDGE_TANGENT) (omega arith) low in
-    (q.0, q.1, ap (λ (p : ℤ). div p (tangent_at t EDGE_TANGENT)) (projection_is shape c) ∙ q.2)
+    let centre_within = centre_bound shape s in
+    let edge_at_least = not_lt (tangent_at t EDGE_TANGENT) MIN_EDGE_TANGENT (or-false _ _ e).0 in
+    let focal_quotient = quotient_is (shape.centre_x * 65536) (tangent_at t EDGE_TANGENT) (omega arith) edge_at_least in
+    (focal_quotient.0, focal_quotient.1, ap (λ (p : ℤ). div p (tangent_at t EDGE_TANGENT)) (projection_is shape centre_within) ∙ focal_quotient.2)
 
 falling : (t : Angles) (shape : ViewShape) (m : ℕ) → shape.centre_x ≤ 160 → m ≤ 20971520 → focal_length t shape ≡ pos m → (i k : ℕ) → tangent_at t i ≤ℤ tangent_at t k → column_of_angle t shape k ≤ column_of_angle t shape i
 unfolding column_of_angle
@@ -89,9 +89,9 @@ edge_angle i l h = omega arith
 clipped : (t : Angles) (shape : ViewShape) → is_wrong_left (first_seen_by t shape 0) ≡ false → clip_angle t shape < ang90
 unfolding clip_angle angle_of_column fine_of_column first_seen_by
 clipped t shape e =
-    let left = left_is (first_seen_by t shape 0) e in
-    let found = least-is (is_seen_by t shape (focal_length t shape) 0) TANGENTS left.0 left.1 in
-    rw (left.1) (edge_angle left.0 left.2 found.0)
+    let left_seen = left_is (first_seen_by t shape 0) e in
+    let least_seen = least-is (is_seen_by t shape (focal_length t shape) 0) TANGENTS left_seen.0 left_seen.1 in
+    rw (left_seen.1) (edge_angle left_seen.0 left_seen.2 least_seen.0)
 
 -- tables that nothing refuses are sound
 pub sound_by_refusal : (t : Angles) (shape : ViewShape) → IsShape shape → angles_refusal t shape ≡ None → IsSound t shape
@@ -100,10 +100,10 @@ sound_by_refusal t shape s e =
     let after_sines = (or_else-none _ _ e).1 in
     let tangents = or_else-none _ _ after_sines in
     let view = cond-none _ _ (or_else-none _ _ tangents.1).1 in
-    let parts = or-false _ _ view in
-    let focal = focal_is t shape s parts.0 in
+    let both_false = or-false _ _ view in
+    let focal = focal_is t shape s both_false.0 in
     record {
       shaped = s;
       falling = λ i k h l. falling t shape focal.0 (centre_bound shape s) focal.1 focal.2 i k (rising t (rise t tangents.0) i k h l);
-      clip = clipped t shape parts.1;
+      clip = clipped t shape both_false.1;
     }

@@ -14,9 +14,9 @@ unrefused steady later found expected OutOfMemory e h = tt
 pub part_failed : {A B C D E R : Type 0} {tells : E → Fault R} {steady later : Bool} {v : D → C} {found : C} {part : Result D E} {value : B → A} {expected : Result A R} {fault : E} {result : Result B E} →
     ResultIs tells later v (Ok found) part → part ≡ Err fault → later ≡ steady → IsErrAnd result (λ e. e ≡ fault) → ResultIs tells steady value expected result
 part_failed {E} {tells} {steady} {later} {found} {expected} {fault} {result} answers was e is =
-    let p : (y : E) × (result ≡ Err y) × (y ≡ fault) = err_from_is_err_and result is in
-    let h : FaultFits later (Ok found) (tells fault) = rw was at answers.err in
-    rw (p.1, p.2) (record { ok = tt; err = unrefused steady later found expected (tells fault) e h })
+    let error_is : (y : E) × (result ≡ Err y) × (y ≡ fault) = err_from_is_err_and result is in
+    let fault_fits : FaultFits later (Ok found) (tells fault) = rw was at answers.err in
+    rw (error_is.1, error_is.2) (record { ok = tt; err = unrefused steady later found expected (tells fault) e fault_fits })
 
 weaker : {A R : Type 0} (steady : Bool) (expected : Result A R) (told : Fault R) → FaultFits true expected told → FaultFits steady expected told
 weaker steady expected (Refused reason) h = h
@@ -34,7 +34,7 @@ answers_whatever {tells} {expected} steady (Err fault) answers = record { ok = t
 pub first_stands : {A B : Type 0} (first next : Option DirRefusal) (value : A) (last : B) (steady : Bool) (told : Fault DirRefusal) →
     FaultFits steady (unless_refused first value) told → FaultFits steady (unless_refused (or_else first next) last) told
 first_stands None next value last steady (Refused reason) h = absurd (cc)
-first_stands (Some other) next value last steady (Refused reason) h = let e : other ≡ reason = cc in ap Err e
+first_stands (Some other) next value last steady (Refused reason) h = let reason_is : other ≡ reason = cc in ap Err reason_is
 first_stands first next value last steady ReadFault h = h
 first_stands first next value last steady (ZoneFull wanted widest) h = tt
 first_stands first next value last steady OutOfMemory h = tt

@@ -30,8 +30,8 @@ all_none P lumps e = subst (All P) (sym e) (All-nil P)
 pub all_joined : (number n : ℕ) (old found new : List Lump) → new ≡ old ++ found → number < n →
     All (λ (lump : Lump). lump.file < n) old → All (λ (lump : Lump). lump.file ≡ number) found → All (λ (lump : Lump). lump.file < n) new
 all_joined number n old found new e lt before all =
-    let P : Lump → Type 0 = λ lump. lump.file < n in
-    subst (All P) (sym e) (All-append P old found before (λ k d h. let is : (get_or found k d).file ≡ number = all k d h in omega arith))
+    let OwnedBelow : Lump → Type 0 = λ lump. lump.file < n in
+    subst (All OwnedBelow) (sym e) (All-append OwnedBelow old found before (λ k d h. let file_is : (get_or found k d).file ≡ number = all k d h in omega arith))
 
 -- the lumps that were given are those that were found
 pub grown_by : (old given found new : List Lump) → new ≡ old ++ given → given ≡ found → new ≡ old ++ found

@@ -14,10 +14,10 @@ pub file_answers : {B : Type 0} {value : B → List Lump} {result : Result B Dir
     ResultIs dir_fault steady value (unless_refused (file_refusal file before bytes) (file_lumps file bytes)) result
 unfolding file_lumps
 file_answers {value} {result} steady file before bytes head piece given e p q answers =
-    let fine = unless_refused_ok (header_refusal file before bytes) (header_in (length bytes) (header bytes)) head e in
-    let r : head ≡ header_in (length bytes) (header bytes) = sym fine.1 in
-    let n : given ≡ take (16 * head.count) (drop head.place bytes) = cc in
-    rw fine.0 (rw (n, r) at (answers_whatever steady result answers))
+    let nothing_refused = unless_refused_ok (header_refusal file before bytes) (header_in (length bytes) (header bytes)) head e in
+    let head_is : head ≡ header_in (length bytes) (header bytes) = sym nothing_refused.1 in
+    let given_is : given ≡ take (16 * head.count) (drop head.place bytes) = cc in
+    rw nothing_refused.0 (rw (given_is, head_is) at (answers_whatever steady result answers))
 
 -- Some files were read, without a refusal and with these lumps.
 pub record IsReadTo (contents : List (List ℕ)) (i : ℕ) (lumps : List Lump) : Type 0 where
@@ -30,12 +30,12 @@ pub file_more : (contents : List (List ℕ)) (i : ℕ) (old new found : List Lum
     IsReadTo contents i old → IsReadTo contents (i + 1) new
 unfolding refusal_from lumps_from
 file_more contents i old new found lt e n ok so_far =
-    let bytes : List ℕ = get_or contents i [] in
-    let fine = unless_refused_ok (file_refusal i (length old) bytes) (file_lumps i bytes) found ok in
-    let many : length old + entry_count (header bytes) ≡ length new = omega (arith, file_lumps-length i bytes, ap length fine.1) in
+    let bytes : List ℕ = get_or contents i [] in let nothing_refused = unless_refused_ok (file_refusal i (length old) bytes) (file_lumps i bytes) found ok in
+    let count_is : length old + entry_count (header bytes) ≡ length new = omega (arith, file_lumps-length i bytes, ap length nothing_refused.1) in
     record {
-      refusals = so_far.refusals ∙ rw (drop-cons contents i [] lt, fine.0, many, add-one) refl;
-      listed = so_far.listed ∙ rw (drop-cons contents i [] lt, fine.1, e, add-one) (sym (append_assoc old found (lumps_from (suc i) (drop (suc i) contents))));
+      refusals = so_far.refusals ∙ rw (drop-cons contents i [] lt, nothing_refused.0, count_is, add-one) refl;
+      listed = so_far.listed ∙ rw (drop-cons contents i [] lt, nothing_refused.1, e, add-one)
+          (sym (append_assoc old found (lumps_from (suc i) (drop (suc i) contents))));
     }
 
 first_stop : (contents : List (List ℕ)) (i : ℕ) (lumps : List Lump) (steady : Bool) (told : Fault DirRefusal) → i < length contents → IsReadTo contents i lumps →
@@ -50,10 +50,10 @@ pub file_stops : {B D : Type 0} {later : Bool} {v : D → List Lump} {part : Res
     ResultIs dir_fault later v (unless_refused (file_refusal i (length lumps) (get_or contents i [])) (file_lumps i (get_or contents i []))) part → part ≡ Err fault →
     IsErrAnd result (λ e. e ≡ fault) → ResultIs dir_fault steady value (directory contents) result
 file_stops {B} {D} {later} {v} {part} {value} steady contents i lumps fault result lt so_far s answers was is =
-    let p : (y : DirFault) × (result ≡ Err y) × (y ≡ fault) = err_from_is_err_and result is in
-    let h : FaultFits later (unless_refused (file_refusal i (length lumps) (get_or contents i [])) (file_lumps i (get_or contents i []))) (dir_fault fault) = rw was at answers.err in
-    let k : FaultFits later (directory contents) (dir_fault p.0) = rw p.2 (first_stop contents i lumps later (dir_fault fault) lt so_far h) in
-    rw (p.1, ← s) (record { ok = tt; err = k })
+    let error_is : (y : DirFault) × (result ≡ Err y) × (y ≡ fault) = err_from_is_err_and result is in
+    let fault_fits : FaultFits later (unless_refused (file_refusal i (length lumps) (get_or contents i [])) (file_lumps i (get_or contents i []))) (dir_fault fault) = rw was at answers.err in
+    let stop_fits : FaultFits later (directory contents) (dir_fault error_is.0) = rw error_is.2
+    (first_stop contents i lumps later (dir_fault fault) lt so_far fault_fits) in rw (error_is.1, ← s) (record { ok = tt; err = stop_fits })
 
 -- all files were read
 pub all_read : {B : Type 0} {value : B → List Lump} (steady : Bool) (contents : List (List ℕ)) (i : ℕ) (found : B) → length contents ≤ i →
@@ -79,13 +79,13 @@ pub file_taken : (first now later : ShelfView) (files : List FileNo) (contents :
     ((bytes : List ℕ) → Stands now (get_or files i d).0 bytes → later.taken ≤ now.taken + listing_size bytes) →
     later.taken + listing_sizes (drop (i + 1) contents) ≤ first.taken + listing_sizes contents
 file_taken first now later files contents i d stand lt follows taken more =
-    let many = as_many first files contents stand in
-    omega (arith, taken, listing_left contents i (omega (arith, many)), more _ (follows.file _ _ (stands_at first files contents i d stand lt)))
+    let as_many_files = as_many first files contents stand in
+    omega (arith, taken, listing_left contents i (omega (arith, as_many_files)), more _ (follows.file _ _ (stands_at first files contents i d stand lt)))
 
 -- what a whole header gives that was read is what the bytes of its file give
 pub header-read : (number before size : ℕ) (bytes head : List ℕ) (found : Result Header DirRefusal) → size ≡ length bytes → HEADER_SIZE ≤ size → length head ≡ HEADER_SIZE → IsPieceAt bytes 0 head →
     found ≡ unless_refused (whole_header_refusal number before size head) (header_in size head) → unless_refused (header_refusal number before bytes) (header_in (length bytes) (header bytes)) ≡ found
 header-read number before size bytes head found same long whole piece is =
-    let off : nat_lt (length bytes) HEADER_SIZE ≡ false = grind (arith, nat_tests) in
-    let first : head ≡ header bytes = rw whole at piece.bytes in
-    rw (off, ← same, ← first) (sym is)
+    let not_too_short : nat_lt (length bytes) HEADER_SIZE ≡ false = grind (arith, nat_tests) in
+    let head_is : head ≡ header bytes = rw whole at piece.bytes in
+    rw (not_too_short, ← same, ← head_is) (sym is)

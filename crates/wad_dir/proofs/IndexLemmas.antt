@@ -23,8 +23,8 @@ pub name_indexed : (marked : List Bool) (lumps : List Lump) (i : ℕ) (lump : Lu
     indexed new name ≡ greatest (λ number. get_or marked number false && has_name lumps name number) (i + 1)
 unfolding greatest
 name_indexed marked lumps i lump key name old new at is_marked is_key updates so_far =
-    let same : is_eq (slice_cmp nat_cmp key name) ≡ bytes_eq lump.name name = sym (texts_ties key name) ∙ ap (λ k. bytes_eq k name) is_key in
-    updates.0 name ∙ rw (add-one, same, so_far, at, is_marked) refl
+    let names_same : is_eq (slice_cmp nat_cmp key name) ≡ bytes_eq lump.name name = sym (texts_ties key name) ∙ ap (λ k. bytes_eq k name) is_key in
+    updates.0 name ∙ rw (add-one, names_same, so_far, at, is_marked) refl
 
 -- where each lump is marked, the last of a name is found
 pub all_marked : (marked : List Bool) (lumps : List Lump) (name : List ℕ) → marked ≡ replicate (length lumps) true →

@@ -26,7 +26,7 @@ named_all lumps file first i names found le so_far =
 
 there : (passes : Lump → Bool) (lumps : List Lump) (number : ℕ) → is_lump passes lumps number ≡ true → number < length lumps
 there passes lumps number is =
-    ⊎_elim (λ h. h.1) (λ h. absurd (let e : false ≡ true = sym (rw h.1 refl) ∙ is in cc)) (slice_get_cases lumps number).1
+    ⊎_elim (λ h. h.1) (λ h. absurd (let false_is_true : false ≡ true = sym (rw h.1 refl) ∙ is in cc)) (slice_get_cases lumps number).1
 
 -- lumps that have names are there
 pub named_within : (lumps : List Lump) (file number : ℕ) (names : List (List ℕ)) → number ≤ length lumps → are_named lumps file number names ≡ true →
@@ -34,7 +34,7 @@ pub named_within : (lumps : List Lump) (file number : ℕ) (names : List (List �
 unfolding are_named
 named_within lumps file number [] le are = omega arith
 named_within lumps file number (name ∷ names) le are =
-    let h = and_parts (is_named_in lumps file name number) (are_named lumps file (suc number) names) are in
-    let lt : number < length lumps = there _ lumps number h.0 in
-    let more : suc number + length names ≤ length lumps = named_within lumps file (suc number) names (omega arith) h.1 in
+    let both_named = and_parts (is_named_in lumps file name number) (are_named lumps file (suc number) names) are in
+    let number_within : number < length lumps = there _ lumps number both_named.0 in
+    let rest_within : suc number + length names ≤ length lumps = named_within lumps file (suc number) names (omega arith) both_named.1 in
     omega arith

@@ -29,8 +29,8 @@ pub member_step : (group : Group) (lumps : List Lump) (i : ℕ) (lump : Lump) (b
     inside ≡ (not (is_end group lump.name) && is_grouped before lump.file) → is_grouped before lump.file ≡ starts_in group lumps lump.file (mark_before group lumps i) →
     new ≡ old ++ inside ∷ [] → old ≡ listed (is_member group lumps) i → new ≡ listed (is_member group lumps) (i + 1)
 member_step group lumps i lump before old new inside at test grouped pushed so_far =
-    let is : inside ≡ is_member group lumps i = test ∙ ap (λ b. not (is_end group lump.name) && b) grouped ∙ sym (rw at refl) in
-    rw (pushed, so_far, is) (sym (listed-more (is_member group lumps) i))
+    let member_is : inside ≡ is_member group lumps i = test ∙ ap (λ b. not (is_end group lump.name) && b) grouped ∙ sym (rw at refl) in
+    rw (pushed, so_far, member_is) (sym (listed-more (is_member group lumps) i))
 
 -- where the members are marked, the last flat of a name is found
 pub flats_marked : (marked : List Bool) (lumps : List Lump) (name : List ℕ) → marked ≡ listed (is_member Flats lumps) (length lumps) →
@@ -50,9 +50,9 @@ filter_last p n = ap (λ k. filter p (range_with_len 0 k)) (sym (add-one n)) ∙
 filter_agrees : (p q : ℕ → Bool) (n : ℕ) → ((k : ℕ) → k < n → p k ≡ q k) → filter p (range_with_len 0 n) ≡ filter q (range_with_len 0 n)
 filter_agrees p q zero agree = refl
 filter_agrees p q (suc n) agree =
-    let e : filter p (range_with_len 0 n) ++ cond (p n) (n ∷ []) [] ≡ filter q (range_with_len 0 n) ++ cond (q n) (n ∷ []) [] =
+    let filters_same : filter p (range_with_len 0 n) ++ cond (p n) (n ∷ []) [] ≡ filter q (range_with_len 0 n) ++ cond (q n) (n ∷ []) [] =
     rw (agree n (omega arith), filter_agrees p q n (λ k lt. agree k (omega arith))) refl in
-    filter_last p n ∙ e ∙ sym (filter_last q n)
+    filter_last p n ∙ filters_same ∙ sym (filter_last q n)
 
 -- where the members are marked, the marked numbers are theirs
 pub members_marked : (group : Group) (marked : List Bool) (lumps : List Lump) → length marked ≡ length lumps → marked ≡ listed (is_member group lumps) (length lumps) →

@@ -57,10 +57,10 @@ clips_same notes old new x e = clip_at-window notes new x ∙ ap (λ (w : Window
 
 now_is : (v : ViewValue) (walls : List Wall) (s : PlanesNow) (notes : List FragmentNote) (state : ColumnState) (planes : PlanesView) →
     IsBuilt v walls s (walls_view notes state) planes.planes → s ≡ now_of state planes
-now_is v walls s notes state planes h =
-    ap (λ (ps : List Plane). let t : PlanesNow = record { planes = ps; floor = s.floor; ceiling = s.ceiling } in t) (sym h.planes)
-    ∙ ap (λ (o : Option ℕ). let t : PlanesNow = record { planes = planes.planes; floor = o; ceiling = s.ceiling } in t) (sym h.floor)
-    ∙ ap (λ (o : Option ℕ). let t : PlanesNow = record { planes = planes.planes; floor = plane_number state.floor; ceiling = o } in t) (sym h.ceiling)
+now_is v walls s notes state planes h = ap (λ (ps : List Plane).
+    let planes_now : PlanesNow = record { planes = ps; floor = s.floor; ceiling = s.ceiling } in planes_now) (sym h.planes) ∙ ap (λ (o : Option ℕ).
+    let planes_now : PlanesNow = record { planes = planes.planes; floor = o; ceiling = s.ceiling } in planes_now) (sym h.floor) ∙ ap (λ (o : Option ℕ).
+    let planes_now : PlanesNow = record { planes = planes.planes; floor = plane_number state.floor; ceiling = o } in planes_now) (sym h.ceiling)
 
 -- the planes and the current ones are those of a state that is built
 pub built-now : (v : ViewValue) (walls : List Wall) (s : PlanesNow) (notes : List FragmentNote) (state : ColumnState) (planes : PlanesView) →
@@ -70,8 +70,8 @@ built-now v walls s notes state planes h = now_is v walls s notes state planes h
 pub built-inside : (v : ViewValue) (walls : List Wall) (s : PlanesNow) (notes : List FragmentNote) (columns : ColumnState) {state : WallsView} (planes : PlanesView) → walls_view notes columns ≡ state →
     IsBuilt v walls s state planes.planes → IsBuilt v walls s (walls_view notes columns) planes.planes
 built-inside v walls s notes columns planes view h =
-    let P : WallsView → Type 0 = λ w. IsBuilt v walls s w planes.planes in
-    subst P (sym view) h
+    let IsBuiltAs : WallsView → Type 0 = λ w. IsBuilt v walls s w planes.planes in
+    subst IsBuiltAs (sym view) h
 
 leaf_after : (s : PlanesNow) (floor ceiling : Option PlaneKey) → ceiling_found ceiling (floor_found floor s) ≡ after_event s (Finds floor ceiling)
 unfolding after_event
@@ -106,8 +106,8 @@ past_new shape walls w x = clip_past-next shape walls w (length walls) x refl
 before_more : (shape : ViewShape) (walls : List Wall) (w : Wall) (x : ℕ) → clip_past shape (with_wall walls w) (length walls) x ≡ clip_before shape (with_wall walls w) (length (with_wall walls w)) x
 unfolding clip_past
 before_more shape walls w x =
-    let next : suc (length walls) ≡ length (with_wall walls w) = omega (arith, length-append walls (w ∷ [])) in
-    ap (λ (k : ℕ). clip_before shape (with_wall walls w) k x) next
+    let count_next : suc (length walls) ≡ length (with_wall walls w) = omega (arith, length-append walls (w ∷ [])) in
+    ap (λ (k : ℕ). clip_before shape (with_wall walls w) k x) count_next
 
 along_is : (v : ViewValue) (facts : WallFacts) (first last x height : ℕ) (before : ℕ → ColumnClip) (clip : ColumnClip) → first ≤ last → height ≡ v.shape.height → before x ≡ clip →
     clip_along height (fragment_of v facts first last) before (last + 1 - first) x ≡ past_wall v.shape x (wall_of v facts first last) clip
@@ -155,13 +155,13 @@ clips_after : {v : ViewValue} {walls : List Wall} {s : PlanesNow} {facts : WallF
     WallDrawn v walls s facts first last notes old checked new before between later places note → (more : List FragmentNote) (x : ℕ) → x < v.shape.width →
     clip_at (walls_view more new) x ≡ clip_before v.shape (with_wall walls (wall_of v facts first last)) (length (with_wall walls (wall_of v facts first last))) x
 clips_after {v} {walls} {s} {facts} {first} {last} {notes} {old} {checked} {new} d more x l =
-    let w : Wall = wall_of v facts first last in
+    let wall : Wall = wall_of v facts first last in
     let frame = d.frame in
     clip_at-window more new x
     ∙ d.marked.windows x (omega arith)
     ∙ along_is v facts first last x checked.windows.height (window_at checked.windows) (clip_before v.shape walls (length walls) x) d.ordered (height_before d) (window_before d x l)
-    ∙ sym (past_new v.shape walls w x)
-    ∙ before_more v.shape walls w x
+    ∙ sym (past_new v.shape walls wall x)
+    ∙ before_more v.shape walls wall x
 
 -- what the fragment leaves open of one of its columns
 left_open : {v : ViewValue} {walls : List Wall} {s : PlanesNow} {facts : WallFacts} {first last : ℕ} {notes : List FragmentNote}
@@ -169,7 +169,7 @@ left_open : {v : ViewValue} {walls : List Wall} {s : PlanesNow} {facts : WallFac
     WallDrawn v walls s facts first last notes old checked new before between later places note → (x : ℕ) → first ≤ x → x ≤ last →
     window_at new.windows x ≡ clip_past v.shape (with_wall walls (wall_of v facts first last)) (length walls) x
 left_open {v} {walls} {s} {facts} {first} {last} {notes} {old} {checked} {new} d x from to =
-    let within = d.within in
+    let last_within = d.within in
     sym (clip_at-window notes new x) ∙ clips_after d notes x (omega arith) ∙ sym (before_more v.shape walls (wall_of v facts first last) x)
 
 -- equal entries make equal lists
@@ -201,23 +201,23 @@ openings_after : {v : ViewValue} {walls : List Wall} {s : PlanesNow} {facts : Wa
     WallDrawn v walls s facts first last notes old checked new before between later places note →
     new.openings.saved ≡ openings_list v (with_wall walls (wall_of v facts first last))
 openings_after {v} {walls} {s} {facts} {first} {last} {notes} {old} {checked} {new} {places = places} d =
-    let w : Wall = wall_of v facts first last in
+    let wall : Wall = wall_of v facts first last in
     d.saved
-    ∙ saved_lists v (with_wall walls w) (length walls) facts first last old.openings.saved checked.openings.saved new.windows places
+    ∙ saved_lists v (with_wall walls wall) (length walls) facts first last old.openings.saved checked.openings.saved new.windows places
     d.taken.are d.taken.front d.taken.count (λ x from to. left_open d x from to)
-    ∙ ap (λ (xs : List ℤ). xs ++ saved_by v (with_wall walls w) (length walls) w) d.built.openings
-    ∙ sym (openings_list-more v walls w)
+    ∙ ap (λ (xs : List ℤ). xs ++ saved_by v (with_wall walls wall) (length walls) wall) d.built.openings
+    ∙ sym (openings_list-more v walls wall)
 
 notes_after : {v : ViewValue} {walls : List Wall} {s : PlanesNow} {facts : WallFacts} {first last : ℕ} {notes : List FragmentNote}
     {old checked new : ColumnState} {before between later : PlanesView} {places : SavePlaces} {note : FragmentNote} →
     WallDrawn v walls s facts first last notes old checked new before between later places note →
     notes ++ note ∷ [] ≡ view_notes v (with_wall walls (wall_of v facts first last))
 notes_after {v} {walls} {s} {facts} {first} {last} {notes} {old} {note = note} d =
-    let w : Wall = wall_of v facts first last in
+    let wall : Wall = wall_of v facts first last in
     ap (λ (xs : List FragmentNote). xs ++ note ∷ []) d.built.notes
     ∙ ap (λ (d : FragmentNote). view_notes v walls ++ d ∷ []) d.note
-    ∙ ap (λ (xs : List ℤ). view_notes v walls ++ note_at v w (length xs) ∷ []) d.built.openings
-    ∙ sym (view_notes-more v walls w)
+    ∙ ap (λ (xs : List ℤ). view_notes v walls ++ note_at v wall (length xs) ∷ []) d.built.openings
+    ∙ sym (view_notes-more v walls wall)
 
 -- the fragment's marks by the windows are those of the rules
 rows_same : (v : ViewValue) (ws : List Wall) (n : ℕ) (facts : WallFacts) (first last : ℕ) (before : ℕ → ColumnClip) →
@@ -255,30 +255,30 @@ now_after : {v : ViewValue} {walls : List Wall} {s : PlanesNow} {facts : WallFac
     now_of new later ≡ after_event s (step_of_wall v walls (wall_of v facts first last)).event
 unfolding wall_step marks_along
 now_after {v} {walls} {s} {facts} {first} {last} {notes} {old} {checked} {new} {before} {between} {later} d =
-    let w : Wall = wall_of v facts first last in
-    let f : FragmentValue = fragment_of v facts first last in
+    let wall : Wall = wall_of v facts first last in
+    let fragment : FragmentValue = fragment_of v facts first last in
     let open_at : ℕ → ColumnClip = window_at checked.windows in
-    let t : PlanesNow = now_of checked between in
-    let marked : PlanesNow = record {
-      planes = columns_marked (marks_along f open_at) t.ceiling t.floor (last + 1 - first) t.planes;
-      floor = t.floor;
-      ceiling = t.ceiling;
+    let checked_now : PlanesNow = now_of checked between in
+    let marked_now : PlanesNow = record {
+      planes = columns_marked (marks_along fragment open_at) checked_now.ceiling checked_now.floor (last + 1 - first) checked_now.planes;
+      floor = checked_now.floor;
+      ceiling = checked_now.ceiling;
     } in
     let ordered = d.ordered in
-    let within = d.within in
-    let new_planes : now_of new later ≡ marked =
-    ap (λ (ps : List Plane). let u : PlanesNow = record { planes = ps; floor = plane_number new.floor; ceiling = plane_number new.ceiling } in u)
+    let last_within = d.within in
+    let new_planes : now_of new later ≡ marked_now = ap (λ (ps : List Plane).
+    let planes_now : PlanesNow = record { planes = ps; floor = plane_number new.floor; ceiling = plane_number new.ceiling } in planes_now)
     (ap (λ (p : PlanesView). p.planes) d.marked.planes)
-    ∙ ap (λ (o : Option _). let u : PlanesNow = record { planes = marked.planes; floor = plane_number o; ceiling = plane_number new.ceiling } in u) d.marked.floor
-    ∙ ap (λ (o : Option _). let u : PlanesNow = record { planes = marked.planes; floor = plane_number checked.floor; ceiling = plane_number o } in u) d.marked.ceiling in
-    let alike : MarkAlike (marks_along f open_at) (plane_wall v (with_wall walls w) (length walls) w) =
-    rows_same v (with_wall walls w) (length walls) facts first last open_at
-    (λ x l h. window_before d x (omega arith) ∙ sym (clip_before-front v.shape walls (w ∷ []) (length walls) x (omega arith))) in
+    ∙ ap (λ (o : Option _). let planes_now : PlanesNow = record { planes = marked_now.planes; floor = plane_number o; ceiling = plane_number new.ceiling } in planes_now) d.marked.floor
+    ∙ ap (λ (o : Option _). let planes_now : PlanesNow = record { planes = marked_now.planes; floor = plane_number checked.floor; ceiling = plane_number o } in planes_now) d.marked.ceiling in
+    let alike : MarkAlike (marks_along fragment open_at) (plane_wall v (with_wall walls wall) (length walls) wall) =
+    rows_same v (with_wall walls wall) (length walls) facts first last open_at
+    (λ x l h. window_before d x (omega arith) ∙ sym (clip_before-front v.shape walls (wall ∷ []) (length walls) x (omega arith))) in
     new_planes
-    ∙ sym (marked_event f open_at t)
-    ∙ ap (wall_marked (marks_along f open_at)) d.planes
-    ∙ sym (drawn_event f open_at s)
-    ∙ event_alike s (marks_along f open_at) (plane_wall v (with_wall walls w) (length walls) w) alike first last refl refl ordered
+    ∙ sym (marked_event fragment open_at checked_now)
+    ∙ ap (wall_marked (marks_along fragment open_at)) d.planes
+    ∙ sym (drawn_event fragment open_at s)
+    ∙ event_alike s (marks_along fragment open_at) (plane_wall v (with_wall walls wall) (length walls) wall) alike first last refl refl ordered
 
 -- a fragment is drawn
 built_wall : {v : ViewValue} {walls : List Wall} {s : PlanesNow} {facts : WallFacts} {first last : ℕ} {notes : List FragmentNote}
@@ -286,10 +286,10 @@ built_wall : {v : ViewValue} {walls : List Wall} {s : PlanesNow} {facts : WallFa
     WallDrawn v walls s facts first last notes old checked new before between later places note →
     IsBuilt v (with_wall walls (wall_of v facts first last)) (after_event s (step_of_wall v walls (wall_of v facts first last)).event) (walls_view (notes ++ note ∷ []) new) later.planes
 built_wall {v} {walls} {s} {facts} {first} {last} {notes} {note = note} d =
-    let w : Wall = wall_of v facts first last in
+    let wall : Wall = wall_of v facts first last in
     let now = now_after d in
     record {
-      drawn = All-push (IsDrawn v) walls w d.built.drawn (drawn_wall v facts first last d.ordered d.within);
+      drawn = All-push (IsDrawn v) walls wall d.built.drawn (drawn_wall v facts first last d.ordered d.within);
       notes = notes_after d;
       openings = openings_after d;
       clips = λ x l. clips_after d (notes ++ note ∷ []) x l;
@@ -297,7 +297,7 @@ built_wall {v} {walls} {s} {facts} {first} {last} {notes} {note = note} d =
       floor = ap (λ (t : PlanesNow). t.floor) now;
       ceiling = ap (λ (t : PlanesNow). t.ceiling) now;
       planes = ap (λ (t : PlanesNow). t.planes) now;
-      sound = sound-after_event s (step_of_wall v walls w).event d.built.sound;
+      sound = sound-after_event s (step_of_wall v walls wall).event d.built.sound;
     }
 
 -- what is built where the columns of the fragment of a seg were drawn and its lists saved, by its value and its numbers
@@ -312,29 +312,29 @@ pub built-range : (v : ViewValue) (facts : WallFacts) (first last : ℕ) (n : Fr
     IsBuilt v (with_wall walls (wall_of v facts first last)) (after_event s (step_of_wall v walls (wall_of v facts first last)).event) (walls_view items new) later.planes
 built-range v facts first last n f notes old checked drawn new before between later places note is own ordered within frame view windows planes
     taken marked openings saved noted pushed walls s h =
-    let w : Wall = wall_of v facts first last in
+    let wall : Wall = wall_of v facts first last in
     let numbers : n ≡ fragment_numbers v facts first last = own ∙ ap (λ (f : FragmentValue). f.numbers) is in
-    let built = built-inside v walls s notes old before view h in
-    let P : FragmentNumbers → Type 0 = λ n. now_of checked between ≡ both_checks n first last s in
-    let Q : FragmentNumbers → Type 0 = λ n. HasTaken n (last + 1 - first) old.openings checked.openings places in
-    let R : FragmentValue → Type 0 = λ f. HasMarked f (columns_of f) checked new between later in
+    let built_before = built-inside v walls s notes old before view h in
+    let ChecksBoth : FragmentNumbers → Type 0 = λ n. now_of checked between ≡ both_checks n first last s in
+    let HasTakenBy : FragmentNumbers → Type 0 = λ n. HasTaken n (last + 1 - first) old.openings checked.openings places in
+    let HasMarkedBy : FragmentValue → Type 0 = λ f. HasMarked f (columns_of f) checked new between later in
     let columns : List ℤ = listed_from (texture_column v facts) first last in
-    let all : WallDrawn v walls s facts first last notes old checked new before between later places note = record {
-      built = built;
+    let wall_drawn : WallDrawn v walls s facts first last notes old checked new before between later places note = record {
+      built = built_before;
       ordered = ordered;
       within = within;
       frame = frame;
       windows = windows;
-      planes = subst P numbers (planes s (built-now v walls s notes old before built));
-      taken = subst Q numbers taken;
-      marked = subst R is (marked-saved saved marked);
+      planes = subst ChecksBoth numbers (planes s (built-now v walls s notes old before built_before));
+      taken = subst HasTakenBy numbers taken;
+      marked = subst HasMarkedBy is (marked-saved saved marked);
       saved = saved.saved facts is
           ∙ ap (λ (o : OpeningsView). lists_saved places columns (ceilings_in new.windows first last) (floors_in new.windows first last) o.saved) openings;
       note = noted (length old.openings.saved) (taken.are ∙ ap (λ (m : FragmentNumbers). places_of m (length old.openings.saved) (last + 1 - first)) own);
     } in
-    let T : List FragmentNote → Type 0 = λ items.
-    IsBuilt v (with_wall walls w) (after_event s (step_of_wall v walls w).event) (walls_view items new) later.planes in
-    subst T (sym pushed) (built_wall all)
+    let IsBuiltWith : List FragmentNote → Type 0 = λ items.
+    IsBuilt v (with_wall walls wall) (after_event s (step_of_wall v walls wall).event) (walls_view items new) later.planes in
+    subst IsBuiltWith (sym pushed) (built_wall wall_drawn)
 
 length_notes : (v : ViewValue) (walls : List Wall) (place : ℕ) → length (notes_from v place walls) ≡ length walls
 unfolding notes_from

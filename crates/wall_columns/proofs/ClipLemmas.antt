@@ -21,10 +21,10 @@ minus_near z l h = int_wrap_fits w32 (z -ℤ pos 1) (fits_between _ (omega (arit
 -- a word without its last twelve bits
 shifted_low : (z : ℤ) → FitsSigned w32 z → negsuc 524287 ≤ℤ int_shr z 12
 shifted_low (pos n) f = omega (arith, ints)
-shifted_low (negsuc n) f = let fits = f.sfits in omega (arith, ints)
+shifted_low (negsuc n) f = let word_fits = f.sfits in omega (arith, ints)
 
 shifted_high : (z : ℤ) → FitsSigned w32 z → int_shr z 12 ≤ℤ pos 524287
-shifted_high (pos n) f = let fits = f.sfits in omega (arith, ints)
+shifted_high (pos n) f = let word_fits = f.sfits in omega (arith, ints)
 shifted_high (negsuc n) f = omega (arith, ints)
 
 row_from-high : (edge : ℤ) → row_from edge ≤ℤ pos 524287
@@ -56,23 +56,23 @@ record IsLast (height : ℕ) (row : ℤ) : Type 0 where
 first_below : (clip row : ℤ) → minus_one ≤ℤ clip → clip ≤ℤ pos 1048576 → row ≤ℤ pos 524287 → IsFirst (below_clip clip row)
 unfolding below_clip
 first_below clip row l h r =
-    let next = plus_near clip (omega (arith, ints)) (omega (arith, ints)) in
-    let least : pos 0 ≤ℤ (clip +ℤ pos 1) = omega (arith, ints) in
-    let most : (clip +ℤ pos 1) ≤ℤ pos 1048577 = omega (arith, ints) in
+    let next_is = plus_near clip (omega (arith, ints)) (omega (arith, ints)) in
+    let next_from_zero : pos 0 ≤ℤ (clip +ℤ pos 1) = omega (arith, ints) in
+    let next_at_most : (clip +ℤ pos 1) ≤ℤ pos 1048577 = omega (arith, ints) in
     let from_clip : (clip +ℤ pos 1) ≤ℤ greater_word (clip +ℤ pos 1) row = greater_word-first (clip +ℤ pos 1) row in
-    let to_most : greater_word (clip +ℤ pos 1) row ≤ℤ pos 1048577 = greater-most (clip +ℤ pos 1) row (pos 1048577) most (omega (arith, ints)) in
-    let P : ℤ → Type 0 = λ z. IsFirst (greater_word z row) in
-    subst P (sym next) (record { low = omega (arith, ints); high = to_most })
+    let to_most : greater_word (clip +ℤ pos 1) row ≤ℤ pos 1048577 = greater-most (clip +ℤ pos 1) row (pos 1048577) next_at_most (omega (arith, ints)) in
+    let GreaterIsFirst : ℤ → Type 0 = λ z. IsFirst (greater_word z row) in
+    subst GreaterIsFirst (sym next_is) (record { low = omega (arith, ints); high = to_most })
 
 last_above : (height : ℕ) (clip row : ℤ) → height ≤ FRAME_HEIGHT → negsuc 1048575 ≤ℤ clip → clip ≤ℤ pos height → negsuc 1048576 ≤ℤ row → IsLast height (above_clip clip row)
 unfolding above_clip
 last_above height clip row s l h r =
-    let before = minus_near clip (omega (arith, ints)) (omega (arith, ints)) in
-    let least : negsuc 1048576 ≤ℤ (clip -ℤ pos 1) = omega (arith, ints) in
+    let before_is = minus_near clip (omega (arith, ints)) (omega (arith, ints)) in
+    let before_at_least : negsuc 1048576 ≤ℤ (clip -ℤ pos 1) = omega (arith, ints) in
     let to_clip : lesser_word (clip -ℤ pos 1) row ≤ℤ (clip -ℤ pos 1) = lesser_word-first (clip -ℤ pos 1) row in
-    let from_least : negsuc 1048576 ≤ℤ lesser_word (clip -ℤ pos 1) row = lesser-least (clip -ℤ pos 1) row (negsuc 1048576) least r in
-    let P : ℤ → Type 0 = λ z. IsLast height (lesser_word z row) in
-    subst P (sym before) (record { low = from_least; high = omega (arith, ints) })
+    let from_least : negsuc 1048576 ≤ℤ lesser_word (clip -ℤ pos 1) row = lesser-least (clip -ℤ pos 1) row (negsuc 1048576) before_at_least r in
+    let LesserIsLast : ℤ → Type 0 = λ z. IsLast height (lesser_word z row) in
+    subst LesserIsLast (sym before_is) (record { low = from_least; high = omega (arith, ints) })
 
 -- the ceiling clip is one of a column
 record IsCeiling (row : ℤ) : Type 0 where
@@ -85,17 +85,17 @@ record IsFloor (height : ℕ) (row : ℤ) : Type 0 where
 
 row_before : (first : ℤ) → IsFirst first → IsCeiling (minus first (pos 1))
 row_before first f =
-    let least = f.low in let most = f.high in
-    let before = minus_near first (omega (arith, ints)) (omega (arith, ints)) in
-    let P : ℤ → Type 0 = IsCeiling in
-    subst P (sym before) (record { low = omega (arith, ints); high = omega (arith, ints) })
+    let first_at_least = f.low in let first_at_most = f.high in
+    let before_is = minus_near first (omega (arith, ints)) (omega (arith, ints)) in
+    let ClipOfCeiling : ℤ → Type 0 = IsCeiling in
+    subst ClipOfCeiling (sym before_is) (record { low = omega (arith, ints); high = omega (arith, ints) })
 
 row_past : (height : ℕ) (last : ℤ) → height ≤ FRAME_HEIGHT → IsLast height last → IsFloor height (plus last (pos 1))
 row_past height last s f =
-    let least = f.low in let most = f.high in
-    let past = plus_near last (omega (arith, ints)) (omega (arith, ints)) in
-    let P : ℤ → Type 0 = IsFloor height in
-    subst P (sym past) (record { low = omega (arith, ints); high = omega (arith, ints) })
+    let last_at_least = f.low in let last_at_most = f.high in
+    let past_is = plus_near last (omega (arith, ints)) (omega (arith, ints)) in
+    let ClipOfFloor : ℤ → Type 0 = IsFloor height in
+    subst ClipOfFloor (sym past_is) (record { low = omega (arith, ints); high = omega (arith, ints) })
 
 int_le-is : (a b : ℤ) (t : Bool) → int_le a b ≡ t → cond t (a ≤ℤ b) (b <ℤ a)
 int_le-is a b true e = grind (arith, ints)
@@ -104,13 +104,13 @@ int_le-is a b false e = grind (arith, ints)
 past_top : (height : ℕ) (first last : ℤ) (t : Bool) → int_le first last ≡ t → height ≤ FRAME_HEIGHT → IsFirst first → IsLast height last → IsCeiling (cond t last (minus first (pos 1)))
 past_top height first last true e s f g =
     let ordered = int_le-is first last true e in
-    let least = f.low in let most = g.high in record { low = omega (arith, ints); high = omega (arith, ints) }
+    let first_at_least = f.low in let last_at_most = g.high in record { low = omega (arith, ints); high = omega (arith, ints) }
 past_top height first last false e s f g = row_before first f
 
 past_bottom : (height : ℕ) (first last : ℤ) (t : Bool) → int_le first last ≡ t → height ≤ FRAME_HEIGHT → IsFirst first → IsLast height last → IsFloor height (cond t first (plus last (pos 1)))
 past_bottom height first last true e s f g =
     let ordered = int_le-is first last true e in
-    let least = f.low in let most = g.high in record { low = omega (arith, ints); high = omega (arith, ints) }
+    let first_at_least = f.low in let last_at_most = g.high in record { low = omega (arith, ints); high = omega (arith, ints) }
 past_bottom height first last false e s f g = row_past height last s g
 
 -- what is known of a column before the fragment
@@ -140,13 +140,13 @@ first_is height clip e o = first_below clip.ceiling_clip (row_from e.top) o.ceil
 last_is : (height : ℕ) (clip : ColumnClip) (e : Edges) → IsOpen height clip e → IsLast height (wall_last clip e)
 unfolding wall_last
 last_is height clip e o =
-    let least = row_to-low e.bottom o.edges.bottom in
+    let row_at_least = row_to-low e.bottom o.edges.bottom in
     last_above height clip.floor_clip (row_to e.bottom) o.rows o.floor.low o.floor.high (omega (arith, ints))
 
 top_last_is : (height : ℕ) (clip : ColumnClip) (e : Edges) → IsOpen height clip e → IsLast height (top_last clip e)
 unfolding top_last
 top_last_is height clip e o =
-    let least = row_to-low e.high o.edges.high in
+    let row_at_least = row_to-low e.high o.edges.high in
     last_above height clip.floor_clip (row_to e.high) o.rows o.floor.low o.floor.high (omega (arith, ints))
 
 none_top : (height : ℕ) (clip : ColumnClip) (e : Edges) (mark : Bool) → IsOpen height clip e → IsCeiling (cond mark (minus (wall_first clip e) (pos 1)) clip.ceiling_clip)
@@ -209,27 +209,27 @@ rows_in height first last f g = λ h. (f.low, g.high)
 pub ceiling_rows-in : (height : ℕ) (clip : ColumnClip) (e : Edges) → height ≤ FRAME_HEIGHT → IsClipIn height clip → AreEdgeWords e → AreRowsIn height (ceiling_rows clip e)
 unfolding ceiling_rows
 ceiling_rows-in height clip e s i w =
-    let known = opened height clip e s i w in
-    let least = known.ceiling.low in let most = known.ceiling.high in
-    let above = (row_before (wall_first clip e) (first_is height clip e known)).low in
-    let next = plus_near clip.ceiling_clip (omega (arith, ints)) (omega (arith, ints)) in
-    let last = last_above height clip.floor_clip (minus (wall_first clip e) (pos 1)) s known.floor.low known.floor.high (omega (arith, ints)) in
-    let low : pos 0 ≤ℤ (clip.ceiling_clip +ℤ pos 1) = omega (arith, ints) in
-    let P : ℤ → Type 0 = λ z. pos 0 ≤ℤ z in
-    λ rows. (subst P (sym next) low, last.high)
+    let is_open = opened height clip e s i w in
+    let ceiling_at_least = is_open.ceiling.low in let ceiling_at_most = is_open.ceiling.high in
+    let above = (row_before (wall_first clip e) (first_is height clip e is_open)).low in
+    let next_is = plus_near clip.ceiling_clip (omega (arith, ints)) (omega (arith, ints)) in
+    let above_is_last = last_above height clip.floor_clip (minus (wall_first clip e) (pos 1)) s is_open.floor.low is_open.floor.high (omega (arith, ints)) in
+    let next_from_zero : pos 0 ≤ℤ (clip.ceiling_clip +ℤ pos 1) = omega (arith, ints) in
+    let AtLeastZero : ℤ → Type 0 = λ z. pos 0 ≤ℤ z in
+    λ rows. (subst AtLeastZero (sym next_is) next_from_zero, above_is_last.high)
 
 pub floor_rows-in : (height : ℕ) (clip : ColumnClip) (e : Edges) → height ≤ FRAME_HEIGHT → IsClipIn height clip → AreEdgeWords e → AreRowsIn height (floor_rows clip e)
 unfolding floor_rows
 floor_rows-in height clip e s i w =
-    let known = opened height clip e s i w in
-    let least = known.floor.low in let most = known.floor.high in
-    let before = minus_near clip.floor_clip (omega (arith, ints)) (omega (arith, ints)) in
-    let below = row_past height (wall_last clip e) s (last_is height clip e known) in
-    let past = below.high in
-    let first = first_below clip.ceiling_clip (plus (wall_last clip e) (pos 1)) known.ceiling.low known.ceiling.high (omega (arith, ints)) in
-    let high : (clip.floor_clip -ℤ pos 1) <ℤ pos height = omega (arith, ints) in
-    let P : ℤ → Type 0 = λ z. z <ℤ pos height in
-    λ rows. (first.low, subst P (sym before) high)
+    let is_open = opened height clip e s i w in
+    let floor_at_least = is_open.floor.low in let floor_at_most = is_open.floor.high in
+    let before_is = minus_near clip.floor_clip (omega (arith, ints)) (omega (arith, ints)) in
+    let past_is_floor = row_past height (wall_last clip e) s (last_is height clip e is_open) in
+    let past_at_most = past_is_floor.high in
+    let below_is_first = first_below clip.ceiling_clip (plus (wall_last clip e) (pos 1)) is_open.ceiling.low is_open.ceiling.high (omega (arith, ints)) in
+    let before_below_height : (clip.floor_clip -ℤ pos 1) <ℤ pos height = omega (arith, ints) in
+    let BelowHeight : ℤ → Type 0 = λ z. z <ℤ pos height in
+    λ rows. (below_is_first.low, subst BelowHeight (sym before_is) before_below_height)
 
 pub middle_rows-in : (height : ℕ) (clip : ColumnClip) (e : Edges) → height ≤ FRAME_HEIGHT → IsClipIn height clip → AreEdgeWords e → AreRowsIn height (middle_rows clip e)
 unfolding middle_rows

@@ -67,8 +67,8 @@ along-bare v art k f facts before n h = bare_along (column_painted v art k f fac
 pub along-more : (column : ℕ → List Dot) (first n x : ℕ) → x ≡ first + n → dots_along column first n ++ column x ≡ dots_along column first (n + 1)
 unfolding dots_along
 along-more column first n x e =
-    let m : suc n ≡ n + 1 = omega arith in
-    ap (λ (y : ℕ). dots_along column first n ++ column y) e ∙ ap (dots_along column first) m
+    let next_is : suc n ≡ n + 1 = omega arith in
+    ap (λ (y : ℕ). dots_along column first n ++ column y) e ∙ ap (dots_along column first) next_is
 
 -- the dots of a column, by the clauses of the call
 by_numbers : (v : ViewValue) (art : Art) (k x : ℕ) (f : FragmentValue) (facts : WallFacts) (before : ℕ → ColumnClip) (height : ℕ) (n : FragmentNumbers) (clip : ColumnClip) (e : Edges) (plan : ColumnPlan) →
@@ -86,14 +86,14 @@ by_numbers v art k x f facts before height n clip e plan p q r s =
 shown_at : (f : FragmentValue) (before : ℕ → ColumnClip) (x height : ℕ) (n : FragmentNumbers) (clip : ColumnClip) (e : Edges) (plan : ColumnPlan) → plan ≡ plan_of height n clip e → n ≡ f.numbers → clip ≡ before x → e ≡ column_edges f x →
     (number : ℕ) → IsPlanTexture n plan number → ShowsAt f before x number
 shown_at f before x height n clip e plan pl nu cl ed number h =
-    let own : IsPlanTexture n (plan_of height n clip e) number = subst (λ (plan : ColumnPlan). IsPlanTexture n plan number) pl h in
-    let found = plan-shown height n clip e number own in
+    let plan_has_texture : IsPlanTexture n (plan_of height n clip e) number = subst (λ (plan : ColumnPlan). IsPlanTexture n plan number) pl h in
+    let strip_shown = plan-shown height n clip e number plan_has_texture in
     record {
-      strip = found.0;
-      among = subst (λ (n : FragmentNumbers). Contains (wall_strips n (before x) (column_edges f x)) found.0) nu
-          (subst (λ (c : ColumnClip). Contains (wall_strips n c (column_edges f x)) found.0) cl
-          (subst (λ (e : Edges). Contains (wall_strips n clip e) found.0) ed found.1.0));
-      texture = found.1.1;
+      strip = strip_shown.0;
+      among = subst (λ (n : FragmentNumbers). Contains (wall_strips n (before x) (column_edges f x)) strip_shown.0) nu
+          (subst (λ (c : ColumnClip). Contains (wall_strips n c (column_edges f x)) strip_shown.0) cl
+          (subst (λ (e : Edges). Contains (wall_strips n clip e) strip_shown.0) ed strip_shown.1.0));
+      texture = strip_shown.1.1;
     }
 
 -- so what paints the strips of a column's plan paints the column
@@ -109,17 +109,18 @@ paints-column v t mark k f before x height n clip e plan from to pl nu cl ed one
 pub strips-in : (v : ViewValue) (height : ℕ) (n : FragmentNumbers) (clip : ColumnClip) (e : Edges) (plan : ColumnPlan) → plan ≡ plan_of height n clip e → height ≡ v.shape.height → height ≤ FRAME_HEIGHT →
     IsClipIn height clip → AreEdgeWords e → All (IsInRows v.shape.height) (strips_by n plan)
 strips-in v height n clip e plan p h s i w =
-    let P : ColumnPlan → Type 0 = λ plan. All (IsInRows v.shape.height) (strips_by n plan) in
-    let Q : ℕ → Type 0 = λ rows. All (IsInRows rows) (strips_by n (plan_of height n clip e)) in
-    subst P (sym p) (subst Q h (plan_strips-in height n clip e s i w))
+    let StripsInRows : ColumnPlan → Type 0 = λ plan. All (IsInRows v.shape.height) (strips_by n plan) in
+    let StripsInHeight : ℕ → Type 0 = λ rows. All (IsInRows rows) (strips_by n (plan_of height n clip e)) in
+    subst StripsInRows (sym p) (subst StripsInHeight h (plan_strips-in height n clip e s i w))
 
 pub strips-drawn : (v : ViewValue) (t : PaintTools) (old : PaintState) (f : FragmentValue) (height : ℕ) (n : FragmentNumbers) (clip : ColumnClip) (e : Edges) (plan : ColumnPlan) →
     plan ≡ plan_of height n clip e → n ≡ f.numbers → CanPaint v t old f →
     All (λ (s : WallStrip). HasRows s → CanDraw t.dir.lumps t.textures old.cache s.part.number) (strips_by n plan)
-strips-drawn v t old f height n clip e plan p q can =
-    let P : ColumnPlan → Type 0 = λ plan. All (λ (s : WallStrip). HasRows s → CanDraw t.dir.lumps t.textures old.cache s.part.number) (strips_by n plan) in
-    let N : FragmentNumbers → Type 0 = λ n. (number : ℕ) → number ≢ 0 → IsPartTexture n number → CanDraw t.dir.lumps t.textures old.cache number in
-    subst P (sym p) (plan_strips-there (λ (number : ℕ). CanDraw t.dir.lumps t.textures old.cache number) height n clip e (subst N (sym q) can.textures))
+strips-drawn v t old f height n clip e plan p q can = let PlanCanDraw : ColumnPlan → Type 0 =
+    λ plan. All (λ (s : WallStrip). HasRows s → CanDraw t.dir.lumps t.textures old.cache s.part.number) (strips_by n plan) in
+    let PartsCanDraw : FragmentNumbers → Type 0 = λ n. (number : ℕ) → number ≢ 0 → IsPartTexture n number → CanDraw t.dir.lumps t.textures old.cache number in
+    subst PlanCanDraw (sym p) (plan_strips-there (λ (number : ℕ). CanDraw t.dir.lumps t.textures old.cache number)
+    height n clip e (subst PartsCanDraw (sym q) can.textures))
 
 -- in the end the dots are joined from column to column
 one_list : (g : ℕ → List Dot) (x : ℕ) → joined_lists g (x ∷ []) ≡ g x
@@ -134,12 +135,12 @@ along_range : (f g : ℕ → List Dot) (first n : ℕ) → ((k : ℕ) → k < n 
 unfolding dots_along
 along_range f g first zero h = no_list g
 along_range f g first (suc n) h =
-    let m : n + 1 ≡ suc n = omega arith in
+    let next_is : n + 1 ≡ suc n = omega arith in
     ap (λ (ds : List Dot). ds ++ f (first + n)) (along_range f g first n (λ k l. h k (omega arith)))
     ∙ ap (λ (ds : List Dot). joined_lists g (map (λ (x : ℕ). x) (range_with_len first n)) ++ ds) (h n (omega arith) ∙ sym (one_list g (first + n)))
     ∙ sym (joined_lists-append g (map (λ (x : ℕ). x) (range_with_len first n)) ((first + n) ∷ []))
     ∙ ap (joined_lists g) (sym (map-range_with_len_more (λ (x : ℕ). x) first n (first + n) refl))
-    ∙ ap (λ (k : ℕ). joined_lists g (map (λ (x : ℕ). x) (range_with_len first k))) m
+    ∙ ap (λ (k : ℕ). joined_lists g (map (λ (x : ℕ). x) (range_with_len first k))) next_is
 
 pub along-joined : (f g : ℕ → List Dot) (first last : ℕ) → ((x : ℕ) → first ≤ x → x ≤ last → f x ≡ g x) →
     dots_along f first (last + 1 - first) ≡ joined_lists g (listed_from (λ (x : ℕ). x) first last)
@@ -151,10 +152,10 @@ column_wall : (v : ViewValue) (art : Art) (ws : List Wall) (k number : ℕ) (fac
     column_painted v art number (fragment_of v facts first last) facts before x ≡ wall_column v art ws k (wall_of v facts first last) x
 unfolding column_painted wall_column wall_column_by wall_edges column_edges wall_of
 column_wall v art ws k number facts first last before x e h =
-    let n : FragmentNumbers = fragment_numbers v facts first last in
-    let edges : Edges = edges_at v.shape n (x - first) in
-    ap (λ (m : ℕ). joined_lists (strip_dots v art m x n.light (texture_column v facts x) edges.scale) (wall_strips n (before x) edges)) e
-    ∙ ap (λ (c : ColumnClip). joined_lists (strip_dots v art k x n.light (texture_column v facts x) edges.scale) (wall_strips n c edges)) h
+    let numbers : FragmentNumbers = fragment_numbers v facts first last in
+    let edges : Edges = edges_at v.shape numbers (x - first) in
+    ap (λ (m : ℕ). joined_lists (strip_dots v art m x numbers.light (texture_column v facts x) edges.scale) (wall_strips numbers (before x) edges)) e
+    ∙ ap (λ (c : ColumnClip). joined_lists (strip_dots v art k x numbers.light (texture_column v facts x) edges.scale) (wall_strips numbers c edges)) h
 
 wall_is : (v : ViewValue) (art : Art) (ws : List Wall) (k number : ℕ) (facts : WallFacts) (first last : ℕ) (before : ℕ → ColumnClip) → number ≡ k →
     ((x : ℕ) → first ≤ x → x ≤ last → before x ≡ clip_before v.shape ws k x) →
@@ -178,11 +179,11 @@ along_built : (v : ViewValue) (art : Art) (walls : List Wall) (s : PlanesNow) (s
     dots_along (column_painted v art number f facts (window_at windows)) f.first (columns_of f)
     ≡ wall_dots v art (with_wall walls (wall_of v facts first last)) (length walls) (wall_of v facts first last)
 along_built v art walls s state notes columns windows planes facts first last number f view built same is count within =
-    let P : WallsView → Type 0 = λ w. IsBuilt v walls s w planes in
-    let b : IsBuilt v walls s (walls_view notes columns) planes = subst P (sym view) built in
-    let w : Wall = wall_of v facts first last in
-    along-wall v art (with_wall walls w) (length walls) number facts first last f (window_at windows) is (count ∙ built-count v walls s (walls_view notes columns) planes b)
-    (λ x l m. built-window v walls s notes columns windows planes w x b same (omega arith))
+    let IsBuiltAs : WallsView → Type 0 = λ w. IsBuilt v walls s w planes in
+    let built_inside : IsBuilt v walls s (walls_view notes columns) planes = subst IsBuiltAs (sym view) built in
+    let wall : Wall = wall_of v facts first last in
+    along-wall v art (with_wall walls wall) (length walls) number facts first last f (window_at windows) is (count ∙ built-count v walls s (walls_view notes columns) planes built_inside)
+    (λ x l m. built-window v walls s notes columns windows planes wall x built_inside same (omega arith))
 
 scale_least : (z : ℤ) → pos 0 <ℤ z → pos 0 ≤ℤ z
 scale_least z h = omega (arith, ints)
@@ -196,8 +197,8 @@ pub can_paint-of : (v : ViewValue) (facts : WallFacts) (first last : ℕ) (t : P
     last < v.shape.width → StandsInFrame v.shape old.canvas → length t.dir.lumps ≤ old.cache.lumps → t.colormap < length t.dir.lumps →
     ((number : ℕ) → IsWallTexture facts number → CanDraw t.dir.lumps t.textures old.cache number) → CanPaint v t old f
 can_paint-of v facts first last t old f is within placed slots shades textures =
-    let P : FragmentValue → Type 0 = λ f. CanPaint v t old f in
-    subst P (sym is) (record {
+    let CanPaintFragment : FragmentValue → Type 0 = λ f. CanPaint v t old f in
+    subst CanPaintFragment (sym is) (record {
       within = within;
       placed = placed;
       slots = slots;
@@ -212,29 +213,28 @@ shown_seen : (v : ViewValue) (facts : WallFacts) (first last : ℕ) (f : Fragmen
     f ≡ fragment_of v facts first last → (number : ℕ) (own : ℤ) → IsShown v f (window_at windows) number own → IsSeenOf v state facts first last number own
 unfolding clip_at window_at wall_of wall_edges column_edges
 shown_seen v facts first last f notes columns windows {state} view same is number own h =
-    let P : FragmentValue → Type 0 = λ f. IsShown v f (window_at windows) number own in
-    let s : P (fragment_of v facts first last) = subst P is h in
-    let S : WallsView → Type 0 = λ w. IsSeenOf v w facts first last number own in
-    let W : WindowsView → Type 0 = λ w. Contains (wall_strips (fragment_numbers v facts first last) (window_at w s.x) (edges_at v.shape (fragment_numbers v facts first last) (s.x - first))) s.shows.strip in
-    let range : WallRange = record { facts = facts; first = first; last = last } in
-    subst S view (record {
-      x = s.x;
-      from = s.from;
-      to = s.to;
-      strip = s.shows.strip;
-      among = subst W same s.shows.among;
-      texture = s.shows.texture;
-      is = s.is range refl;
+    let IsShownOf : FragmentValue → Type 0 = λ f. IsShown v f (window_at windows) number own in
+    let texture_shown : IsShownOf (fragment_of v facts first last) = subst IsShownOf is h in
+    let IsSeenIn : WallsView → Type 0 = λ w. IsSeenOf v w facts first last number own in
+    let HasStrip : WindowsView → Type 0 = λ w. Contains (wall_strips (fragment_numbers v facts first last) (window_at w texture_shown.x) (edges_at v.shape (fragment_numbers v facts first last) (texture_shown.x - first))) texture_shown.shows.strip in
+    let range : WallRange = record { facts = facts; first = first; last = last } in subst IsSeenIn view (record {
+      x = texture_shown.x;
+      from = texture_shown.from;
+      to = texture_shown.to;
+      strip = texture_shown.shows.strip;
+      among = subst HasStrip same texture_shown.shows.among;
+      texture = texture_shown.shows.texture;
+      is = texture_shown.is range refl;
     })
 
 -- and its texture is one of the seg's
 pub seen-texture : (v : ViewValue) (state : WallsView) (facts : WallFacts) (first last number : ℕ) (own : ℤ) → IsSeenOf v state facts first last number own → IsWallTexture facts number
 unfolding wall_of
 seen-texture v state facts first last number own h =
-    let n = fragment_numbers v facts first last in
-    let there = wall_strips-there n (clip_at state h.x) (wall_edges v.shape (wall_of v facts first last) h.x) h.strip h.among in
-    let some = subst (λ (m : ℕ). m ≢ 0) (sym h.texture.1) there.0 in
-    (some, numbers-texture v facts first last number some (subst (IsPartTexture n) (sym h.texture.1) there.1))
+    let numbers = fragment_numbers v facts first last in
+    let part_there = wall_strips-there numbers (clip_at state h.x) (wall_edges v.shape (wall_of v facts first last) h.x) h.strip h.among in
+    let some = subst (λ (m : ℕ). m ≢ 0) (sym h.texture.1) part_there.0 in
+    (some, numbers-texture v facts first last number some (subst (IsPartTexture numbers) (sym h.texture.1) part_there.1))
 
 -- what paints the columns of the fragment of a seg paints it behind those that are there
 pub paints-range : (v : ViewValue) (t : PaintTools) (mark : Painter → ℕ → ℕ) (facts : WallFacts) (first last number : ℕ) (f : FragmentValue) (notes : List FragmentNote) (columns : ColumnState) (windows : WindowsView)

@@ -48,8 +48,8 @@ first-in P n plan all = go (has_texture n.middle_part) (has_texture n.top_part) 
 pub first-texture : (n : FragmentNumbers) (plan : ColumnPlan) (s : WallStrip) → s ≡ first_strip n plan →
     (number : ℕ) → IsStripTexture s number → IsPlanTexture n plan number
 first-texture n plan s is number =
-    let P : WallStrip → Type 0 = λ s. IsStripTexture s number → IsPlanTexture n plan number in
-    subst P (sym is) (first-in P n plan (λ h. inl h, (λ h. inr (inl h), (λ h. inr (inr h), tt))))
+    let StripTextureOfPlan : WallStrip → Type 0 = λ s. IsStripTexture s number → IsPlanTexture n plan number in
+    subst StripTextureOfPlan (sym is) (first-in StripTextureOfPlan n plan (λ h. inl h, (λ h. inr (inl h), (λ h. inr (inr h), tt))))
 
 module _ (shape : ViewShape) (art : Art) (look : ColumnLook) where
   -- a strip without rows in front of others, and the same strip in front of the same dots

@@ -9,7 +9,7 @@ use Rattle.wall_columns.specs.Faults.{limit_of_fault, limit_of_result}
 use Rattle.wall_columns.specs.Leaves.{planes_found, number_found, planes_checked, number_checked, ceiling_check, floor_check, over_room, planes_over, leaf_over, checks_over}
 
 within_test : (room count : ℕ) (t : Bool) → nat_lt room count ≡ t → (room < count → false ≡ true) → t ≡ false
-within_test room count true e h = let l : room < count = grind (arith, nat_tests) in sym (h l)
+within_test room count true e h = let room_below_count : room < count = grind (arith, nat_tests) in sym (h room_below_count)
 within_test room count false e h = refl
 
 within : (room count : ℕ) → (room < count → false ≡ true) → nat_lt room count ≡ false
@@ -17,7 +17,7 @@ within room count h = within_test room count (nat_lt room count) refl h
 
 -- an answer that passes on a fault tells its limit
 pub limit-passed_on : {A : Type 0} (r : Result A DrawFault) (fault : DrawFault) → IsErr r → IsErrAnd r (λ e. e ≡ fault) → limit_of_result r ≡ limit_of_fault fault
-limit-passed_on (Ok value) fault h g = absurd (let t : false ≡ true = h in cc)
+limit-passed_on (Ok value) fault h g = absurd (let false_is_true : false ≡ true = h in cc)
 limit-passed_on (Err other) fault h g = ap limit_of_fault g
 
 -- and so the limit of its call, where that is what the fault is
@@ -96,9 +96,9 @@ leaf_counts : (room : ℕ) (s : PlanesNow) (floor ceiling : Option PlaneKey) →
     leaf_over room s floor ceiling ≡ planes_over room (length (planes_found s.planes floor)) (planes_over room (length (planes_found (floor_found floor s).planes ceiling)) None)
 unfolding leaf_over
 leaf_counts room s floor ceiling =
-    let t : PlanesNow = floor_found floor s in
-    ap (λ (u : PlanesNow). planes_over room (length u.planes) (planes_over room (length (ceiling_found ceiling t).planes) None)) (floor_found-is floor s.planes s.floor s.ceiling)
-    ∙ ap (λ (u : PlanesNow). planes_over room (length (planes_found s.planes floor)) (planes_over room (length u.planes) None)) (ceiling_found-is ceiling t.planes t.floor t.ceiling)
+    let after_floor : PlanesNow = floor_found floor s in
+    ap (λ (u : PlanesNow). planes_over room (length u.planes) (planes_over room (length (ceiling_found ceiling after_floor).planes) None)) (floor_found-is floor s.planes s.floor s.ceiling)
+    ∙ ap (λ (u : PlanesNow). planes_over room (length (planes_found s.planes floor)) (planes_over room (length u.planes) None)) (ceiling_found-is ceiling after_floor.planes after_floor.floor after_floor.ceiling)
 
 check_counts : (room : ℕ) (n : FragmentNumbers) (first last : ℕ) (s : PlanesNow) →
     checks_over room n first last s
@@ -107,11 +107,11 @@ check_counts : (room : ℕ) (n : FragmentNumbers) (first last : ℕ) (s : Planes
     (checked_plane n.floor_mark (ceiling_check n first last s).planes (ceiling_check n first last s).floor first last))) None)
 unfolding checks_over ceiling_check floor_check
 check_counts room n first last s =
-    let t : PlanesNow = with_ceiling (checked_plane n.ceiling_mark s.planes s.ceiling first last) s in
-    ap (λ (u : PlanesNow). planes_over room (length u.planes) (planes_over room (length (with_floor (checked_plane n.floor_mark t.planes t.floor first last) t).planes) None))
+    let past_ceiling : PlanesNow = with_ceiling (checked_plane n.ceiling_mark s.planes s.ceiling first last) s in
+    ap (λ (u : PlanesNow). planes_over room (length u.planes) (planes_over room (length (with_floor (checked_plane n.floor_mark past_ceiling.planes past_ceiling.floor first last) past_ceiling).planes) None))
     (with_ceiling-is (checked_plane n.ceiling_mark s.planes s.ceiling first last) s.planes s.floor s.ceiling)
     ∙ ap (λ (u : PlanesNow). planes_over room (length (planes_checked s.planes (checked_plane n.ceiling_mark s.planes s.ceiling first last))) (planes_over room (length u.planes) None))
-    (with_floor-is (checked_plane n.floor_mark t.planes t.floor first last) t.planes t.floor t.ceiling)
+    (with_floor-is (checked_plane n.floor_mark past_ceiling.planes past_ceiling.floor first last) past_ceiling.planes past_ceiling.floor past_ceiling.ceiling)
 
 -- two counts: the first passes the room, or the second, or neither
 pub record Counts (over : Option OverLimit) (room m n : ℕ) : Type 0 where
@@ -131,11 +131,11 @@ pub leaf_over-counts : (room : ℕ) (s : PlanesNow) (a : PlanesView) (floor ceil
     (b : PlanesView) → b ≡ with_planes (planes_found a.planes floor) a →
     Counts (leaf_over room s floor ceiling) room (length (planes_found a.planes floor)) (length (planes_found b.planes ceiling))
 leaf_over-counts room s a floor ceiling f c e b g =
-    let h : (floor_found floor s).planes ≡ b.planes = ap (λ (t : PlanesNow). t.planes) (enter-floor s a b floor f c (number_found a.planes floor) e g refl) in
-    two_counts _ _ _ _
+    let planes_are : (floor_found floor s).planes ≡ b.planes = ap (λ (t : PlanesNow). t.planes)
+    (enter-floor s a b floor f c (number_found a.planes floor) e g refl) in two_counts _ _ _ _
     (leaf_counts room s floor ceiling
     ∙ ap (λ (t : PlanesNow). planes_over room (length (planes_found t.planes floor)) (planes_over room (length (planes_found (floor_found floor s).planes ceiling)) None)) e
-    ∙ ap (λ (ps : List Plane). planes_over room (length (planes_found a.planes floor)) (planes_over room (length (planes_found ps ceiling)) None)) h)
+    ∙ ap (λ (ps : List Plane). planes_over room (length (planes_found a.planes floor)) (planes_over room (length (planes_found ps ceiling)) None)) planes_are)
 
 -- a fragment's counts, where the ceiling's check left the planes b
 pub checks_over-counts : (room : ℕ) (s : PlanesNow) (a : PlanesView) (n : FragmentNumbers) (first last : ℕ) (f c : Option ℕ) → s ≡ now a.planes f c →
@@ -143,13 +143,13 @@ pub checks_over-counts : (room : ℕ) (s : PlanesNow) (a : PlanesView) (n : Frag
     Counts (checks_over room n first last s) room (length (planes_checked a.planes (checked_plane n.ceiling_mark a.planes c first last)))
     (length (planes_checked b.planes (checked_plane n.floor_mark b.planes f first last)))
 checks_over-counts room s a n first last f c e b g =
-    let h = check-ceiling s a b n first last f c (number_checked c (checked_plane n.ceiling_mark a.planes c first last)) e g refl in
+    let ceiling_checked = check-ceiling s a b n first last f c (number_checked c (checked_plane n.ceiling_mark a.planes c first last)) e g refl in
     two_counts _ _ _ _
     (check_counts room n first last s
     ∙ ap (λ (t : PlanesNow). planes_over room (length (planes_checked t.planes (checked_plane n.ceiling_mark t.planes t.ceiling first last)))
     (planes_over room (length (planes_checked (ceiling_check n first last s).planes (checked_plane n.floor_mark (ceiling_check n first last s).planes (ceiling_check n first last s).floor first last))) None)) e
     ∙ ap (λ (t : PlanesNow). planes_over room (length (planes_checked a.planes (checked_plane n.ceiling_mark a.planes c first last)))
-    (planes_over room (length (planes_checked t.planes (checked_plane n.floor_mark t.planes t.floor first last))) None)) h)
+    (planes_over room (length (planes_checked t.planes (checked_plane n.floor_mark t.planes t.floor first last))) None)) ceiling_checked)
 
 -- what is among the planes stays so where there are more
 pub among-longer : (o : Option ℕ) (xs ys : List Plane) → IsAmongPlanes xs o → length xs ≤ length ys → IsAmongPlanes ys o

@@ -146,10 +146,10 @@ by_test : (f : FragmentValue) (k x y : ℕ) (start now next : ColumnState) (befo
     x ≡ f.first + k → x < FRAME_WIDTH → y < FRAME_WIDTH → PassesColumn f.numbers x (edges_at f.shape f.numbers k) now next between later after →
     window_at next.windows y ≡ clip_along start.windows.height f (window_at start.windows) (k + 1) y
 by_test f k x y start now next before between later after true t h e l m p =
-    let same : y ≡ x = grind (arith, nat_tests) in
-    ap (λ (z : ℕ). window_at next.windows z) same ∙ p.own ∙ column-after f k x start now next before between later after h e l p
+    let column_same : y ≡ x = grind (arith, nat_tests) in
+    ap (λ (z : ℕ). window_at next.windows z) column_same ∙ p.own ∙ column-after f k x start now next before between later after h e l p
     ∙ sym (clip_along-last start.windows.height f (window_at start.windows) k x e)
-    ∙ ap (clip_along start.windows.height f (window_at start.windows) (k + 1)) (sym same)
+    ∙ ap (clip_along start.windows.height f (window_at start.windows) (k + 1)) (sym column_same)
 by_test f k x y start now next before between later after false t h e l m p =
     let other : y ≢ x = grind (arith, nat_tests) in
     p.other y other ∙ h.windows y m ∙ clip_along-other start.windows.height f (window_at start.windows) k x y e other
@@ -169,19 +169,19 @@ has_marked-more : (f : FragmentValue) (k x : ℕ) (start now next : ColumnState)
     HasMarked f (k + 1) start next before later
 unfolding marks_along
 has_marked-more f k x start now next before between later after h e l p =
-    let w = marks_along f (window_at start.windows) in
+    let wall_marks = marks_along f (window_at start.windows) in
     let ceiling : Option ℕ = plane_number start.ceiling in
     let floor : Option ℕ = plane_number start.floor in
-    let so_far : List Plane = columns_marked w ceiling floor k before.planes in
+    let so_far : List Plane = columns_marked wall_marks ceiling floor k before.planes in
     let marks : ColumnClip → Option ℕ → Option ℕ → List Plane → List Plane = λ o c d planes. set_run (set_run planes c x (marked_rows f.numbers.ceiling_mark (ceiling_rows o (edges_at f.shape f.numbers k)))) d x (marked_rows f.numbers.floor_mark (floor_rows o (edges_at f.shape f.numbers k))) in
-    let planes : later ≡ with_planes (columns_marked w ceiling floor (k + 1) before.planes) before =
+    let planes : later ≡ with_planes (columns_marked wall_marks ceiling floor (k + 1) before.planes) before =
     p.planes
     ∙ ap (λ (o : Option _). with_planes (marks (window_at now.windows x) (plane_number o) (plane_number now.floor) between.planes) between) h.ceiling
     ∙ ap (λ (o : Option _). with_planes (marks (window_at now.windows x) ceiling (plane_number o) between.planes) between) h.floor
     ∙ ap (λ (b : PlanesView). with_planes (marks (window_at now.windows x) ceiling floor b.planes) b) h.planes
     ∙ ap (λ (ps : List Plane). with_planes ps before)
     (marked_column f k x start (window_at now.windows x) (edges_at f.shape f.numbers k) ceiling floor so_far e (window_is f k x start now before between h e l) (edges_are f k x e)
-    ∙ columns_marked-more w ceiling floor k (k + 1) before.planes refl) in
+    ∙ columns_marked-more wall_marks ceiling floor k (k + 1) before.planes refl) in
     record {
       windows = λ y m. by_test f k x y start now next before between later after (y == x) refl h e l m p;
       height = p.height ∙ h.height;
@@ -195,9 +195,9 @@ has_marked-more f k x start now next before between later after h e l p =
 passes-as : (n m : FragmentNumbers) (x : ℕ) (e g : Edges) (now next : ColumnState) (before later : PlanesView) (after : ColumnClip) → n ≡ m → e ≡ g →
     PassesColumn n x e now next before later after → PassesColumn m x g now next before later after
 passes-as n m x e g now next before later after p q h =
-    let P : FragmentNumbers → Type 0 = λ n. PassesColumn n x e now next before later after in
-    let Q : Edges → Type 0 = λ e. PassesColumn m x e now next before later after in
-    subst Q q (subst P p h)
+    let PassesNumbers : FragmentNumbers → Type 0 = λ n. PassesColumn n x e now next before later after in
+    let PassesEdges : Edges → Type 0 = λ e. PassesColumn m x e now next before later after in
+    subst PassesEdges q (subst PassesNumbers p h)
 
 -- how many columns of a fragment a stepper has passed
 abbrev pub passed_columns : FragmentValue → Stepper → ℕ
@@ -210,11 +210,11 @@ pub record HasPassed (f : FragmentValue) (s : Stepper) (start now : ColumnState)
 
 pub passed-none : (f : FragmentValue) (s : Stepper) (start : ColumnState) (planes : PlanesView) → IsAt f 0 s → HasPassed f s start start planes planes
 passed-none f s start planes at =
-    let first = at.x in
-    let none : 0 ≡ passed_columns f s = omega arith in
+    let column_is = at.x in
+    let none_passed : 0 ≡ passed_columns f s = omega arith in
     record {
-      at = subst (λ (k : ℕ). IsAt f k s) none at;
-      marked = subst (λ (k : ℕ). HasMarked f k start start planes planes) none (has_marked-none f start planes);
+      at = subst (λ (k : ℕ). IsAt f k s) none_passed at;
+      marked = subst (λ (k : ℕ). HasMarked f k start start planes planes) none_passed (has_marked-none f start planes);
     }
 
 -- one column more, by the clauses of the calls
@@ -223,27 +223,27 @@ pub passed-more : (f : FragmentValue) (n : FragmentNumbers) (s t : Stepper) (e :
     HasPassed f s start now before between → n ≡ f.numbers → (e ≡ edges_at f.shape f.numbers (passed_columns f s)) × IsAt f (passed_columns f s + 1) t →
     PassesColumn n (t.x - 1) e now next between later after → HasPassed f t start next before later
 passed-more f n s t e start now next before between later after passed numbers step column =
-    let k : ℕ = passed_columns f s in
-    let first = passed.at.x in
-    let there = step.1.x in
-    let left = step.1.left in
-    let within = step.1.within in
-    let is : t.x - 1 ≡ f.first + k = omega arith in
-    let inside : t.x - 1 < FRAME_WIDTH = omega arith in
-    let more : k + 1 ≡ passed_columns f t = omega arith in
+    let passed_count : ℕ = passed_columns f s in
+    let column_is = passed.at.x in
+    let next_column_is = step.1.x in
+    let columns_left = step.1.left in
+    let last_in_frame = step.1.within in
+    let passed_column_is : t.x - 1 ≡ f.first + passed_count = omega arith in
+    let column_in_frame : t.x - 1 < FRAME_WIDTH = omega arith in
+    let one_more_passed : passed_count + 1 ≡ passed_columns f t = omega arith in
     record {
-      at = subst (λ (m : ℕ). IsAt f m t) more step.1;
-      marked = subst (λ (m : ℕ). HasMarked f m start next before later) more
-          (has_marked-more f k (t.x - 1) start now next before between later after passed.marked is inside
-          (passes-as n f.numbers (t.x - 1) e (edges_at f.shape f.numbers k) now next between later after numbers step.0 column));
+      at = subst (λ (m : ℕ). IsAt f m t) one_more_passed step.1;
+      marked = subst (λ (m : ℕ). HasMarked f m start next before later) one_more_passed
+          (has_marked-more f passed_count (t.x - 1) start now next before between later after passed.marked passed_column_is column_in_frame
+          (passes-as n f.numbers (t.x - 1) e (edges_at f.shape f.numbers passed_count) now next between later after numbers step.0 column));
     }
 
 -- and all of them
 pub passed-all : {f : FragmentValue} (s : Stepper) {start now : ColumnState} {before later : PlanesView} → f.first + passed_columns f s ≡ f.last + 1 →
     HasMarked f (passed_columns f s) start now before later → HasMarked f (columns_of f) start now before later
 passed-all {f} s {start} {now} {before} {later} end marked =
-    let all : passed_columns f s ≡ columns_of f = omega arith in
-    subst (λ (k : ℕ). HasMarked f k start now before later) all marked
+    let all_passed : passed_columns f s ≡ columns_of f = omega arith in
+    subst (λ (k : ℕ). HasMarked f k start now before later) all_passed marked
 
 -- they are still marked when their lists are saved
 pub marked-saved : {v : ViewValue} {f g : FragmentValue} {k first last : ℕ} {places : SavePlaces} {start passed now : ColumnState} {before later : PlanesView} →

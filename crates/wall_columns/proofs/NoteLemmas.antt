@@ -80,20 +80,20 @@ place_in false n total place h = tt
 
 ends_later : (b : Bool) (n place rest total : ℕ) → place + room_of b n + rest ≤ total → b ≡ true → place + n ≤ total
 ends_later true n place rest total h e = omega arith
-ends_later false n place rest total h e = absurd (let never : false ≡ true = e in cc)
+ends_later false n place rest total h e = absurd (let false_is_true : false ≡ true = e in cc)
 
 -- the lists lie before the end
 pub places_of-in : (n : FragmentNumbers) (place columns total : ℕ) → (places_of n place columns).end ≤ total → ArePlacesIn columns total (places_of n place columns)
 unfolding places_of
 places_of-in n place columns total h =
-    let m : ℕ = room_of n.masked columns in
-    let t : ℕ = room_of (saves_top n) columns in
-    let b : ℕ = room_of (saves_bottom n) columns in
-    let all : place + m + t + b ≤ total = h in
+    let masked_room : ℕ = room_of n.masked columns in let top_room : ℕ = room_of (saves_top n) columns in
+    let bottom_room : ℕ = room_of (saves_bottom n) columns in
+    let all_within : place + masked_room + top_room + bottom_room ≤ total = h in
     record {
-      masked = place_in n.masked columns total place (ends_later n.masked columns place (t + b) total (omega arith));
-      top = place_in (saves_top n) columns total (place + m) (ends_later (saves_top n) columns (place + m) b total (omega arith));
-      bottom = place_in (saves_bottom n) columns total (place + m + t) (ends_later (saves_bottom n) columns (place + m + t) 0 total (omega arith));
+      masked = place_in n.masked columns total place (ends_later n.masked columns place (top_room + bottom_room) total (omega arith));
+      top = place_in (saves_top n) columns total (place + masked_room) (ends_later (saves_top n) columns (place + masked_room) bottom_room total (omega arith));
+      bottom = place_in (saves_bottom n) columns total (place + masked_room + top_room)
+          (ends_later (saves_bottom n) columns (place + masked_room + top_room) 0 total (omega arith));
     }
 
 at_most : (b : Bool) (n : ℕ) → room_of b n ≤ n
@@ -107,6 +107,6 @@ places_of-end n place columns =
 
 pub places_of-within : (n : FragmentNumbers) (place columns total : ℕ) (places : SavePlaces) → places ≡ places_of n place columns → places.end ≤ total → ArePlacesIn columns total places
 places_of-within n place columns total places e h =
-    let P : SavePlaces → Type 0 = λ p. ArePlacesIn columns total p in
-    let end = ap (λ (p : SavePlaces). p.end) e in
-    subst P (sym e) (places_of-in n place columns total (omega arith))
+    let PlacesIn : SavePlaces → Type 0 = λ p. ArePlacesIn columns total p in
+    let end_is = ap (λ (p : SavePlaces). p.end) e in
+    subst PlacesIn (sym e) (places_of-in n place columns total (omega arith))

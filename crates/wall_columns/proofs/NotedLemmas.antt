@@ -31,7 +31,7 @@ unfolding clip_note
 is_noted true there masked row place h = tt
 is_noted false true masked row place h = tt
 is_noted false false true row place h = tt
-is_noted false false false row place h = absurd (let never : false ≡ true = h in cc)
+is_noted false false false row place h = absurd (let false_is_true : false ≡ true = h in cc)
 
 -- a silhouette has its bit
 top_bit : (bottom top masked : Bool) → bit_and (SIL_BOTTOM * from_bool bottom + SIL_TOP * from_bool top) SIL_TOP ≢ 0 → (top || masked) ≡ true
@@ -48,7 +48,7 @@ masked_too : (there masked : Bool) (place : ℕ) → IsSome (place_if masked pla
 unfolding place_if
 masked_too true masked place h = refl
 masked_too false true place h = refl
-masked_too false false place h = absurd (let never : false ≡ true = h in cc)
+masked_too false false place h = absurd (let false_is_true : false ≡ true = h in cc)
 
 -- the rows of the clips past a fragment
 past_in : (shape : ViewShape) (walls : List Wall) (k x : ℕ) → shape.height ≤ FRAME_HEIGHT → IsClipIn shape.height (clip_past shape walls k x)
@@ -78,46 +78,46 @@ bottom_clip-in shape walls k w x s = bottom_range shape w.numbers.bottom_is_cons
 room_true : (b : Bool) (w : Wall) → b ≡ true → room_if b w ≡ w.last + 1 - w.first
 unfolding room_if
 room_true true w e = refl
-room_true false w e = absurd (let never : false ≡ true = e in cc)
+room_true false w e = absurd (let false_is_true : false ≡ true = e in cc)
 
 -- the scales of a drawn fragment
 drawn_scale : (v : ViewValue) (w : Wall) (k : ℕ) → IsDrawn v w → k ≤ w.last - w.first → pos 0 <ℤ step_at w.numbers.scale1 w.numbers.step k
 unfolding wall_of
 drawn_scale v w k d l =
     let numbers : w.numbers ≡ fragment_numbers v w.facts w.first w.last = ap (λ (u : Wall). u.numbers) d.is in
-    let P : FragmentNumbers → Type 0 = λ n. pos 0 <ℤ step_at n.scale1 n.step k in
-    subst P (sym numbers) (numbers-scale v w.facts w.first w.last k l)
+    let ScaleAboveZero : FragmentNumbers → Type 0 = λ n. pos 0 <ℤ step_at n.scale1 n.step k in
+    subst ScaleAboveZero (sym numbers) (numbers-scale v w.facts w.first w.last k l)
 
 -- a note is whole where its openings lie at its place
 whole_note : (v : ViewValue) (walls : List Wall) (k : ℕ) (w : Wall) (before after : List ℤ) (place : ℕ) → length before ≡ place → v.shape.height ≤ FRAME_HEIGHT → IsDrawn v w →
     IsWholeNote v.shape (before ++ (saved_by v walls k w ++ after)) (note_at v w place)
 unfolding note_at silhouette_of saves_top saves_bottom
 whole_note v walls k w before after place e s d =
-    let n : FragmentNumbers = w.numbers in
-    let openings : List ℤ = before ++ (saved_by v walls k w ++ after) in
+    let numbers : FragmentNumbers = w.numbers in let openings : List ℤ = before ++ (saved_by v walls k w ++ after) in
     let total : length openings ≡ length before + (length (saved_by v walls k w) + length after) = length-append before (saved_by v walls k w ++ after) ∙ ap (λ (m : ℕ). length before + m) (length-append (saved_by v walls k w) after) in
-    let saved = length-saved_by v walls k w in
-    let top_place : ℕ = place + room_if n.masked w in
-    let bottom_place : ℕ = place + room_if n.masked w + room_if (saves_top n) w in
+    let saved_length = length-saved_by v walls k w in
+    let top_place : ℕ = place + room_if numbers.masked w in let bottom_place : ℕ = place + room_if numbers.masked w + room_if (saves_top numbers) w in
     record {
-      ordered = d.ordered;
-      within = d.within;
+      ordered = d.ordered; within = d.within;
       scale = λ x l h. drawn_scale v w (x - w.first) d (omega arith);
-      columns = listed_at n.masked openings (note_at v w place) place 0 (λ t. let room = room_true n.masked w t in omega arith);
-      top_list = clip_among n.top_is_constant (saves_top n) (pos v.shape.height) openings (note_at v w place) top_place (λ t. let room = room_true (saves_top n) w t in omega arith);
-      bottom_list = clip_among n.bottom_is_constant (saves_bottom n) minus_one openings (note_at v w place) bottom_place (λ t. let room = room_true (saves_bottom n) w t in omega arith);
-      top = λ h. is_noted n.top_is_constant n.top.is_there n.masked (pos v.shape.height) top_place (top_bit n.bottom.is_there n.top.is_there n.masked h);
-      bottom = λ h. is_noted n.bottom_is_constant n.bottom.is_there n.masked minus_one bottom_place (bottom_bit n.bottom.is_there n.top.is_there n.masked h);
-      masked_top = λ h. is_noted n.top_is_constant n.top.is_there n.masked (pos v.shape.height) top_place (masked_too n.top.is_there n.masked place h);
-      masked_bottom = λ h. is_noted n.bottom_is_constant n.bottom.is_there n.masked minus_one bottom_place (masked_too n.bottom.is_there n.masked place h);
-      top_rows = λ x l m h.
-          let row = note-top_clip v walls k w before after place x e l m (noted_clip n.top_is_constant (saves_top n) (pos v.shape.height) top_place h) in
-          let P : ℤ → Type 0 = λ z. (minus_one ≤ℤ z) × (z ≤ℤ greatest_clip) in
-          subst P (sym row) (top_clip-in v.shape walls k w x s);
-      bottom_rows = λ x l m h.
-          let row = note-bottom_clip v walls k w before after place x e l m (noted_clip n.bottom_is_constant (saves_bottom n) minus_one bottom_place h) in
-          let P : ℤ → Type 0 = λ z. (least_clip ≤ℤ z) × (z ≤ℤ pos v.shape.height) in
-          subst P (sym row) (bottom_clip-in v.shape walls k w x s);
+      columns = listed_at numbers.masked openings (note_at v w place) place 0 (λ t. let room_is = room_true numbers.masked w t in omega arith);
+      top_list = clip_among numbers.top_is_constant (saves_top numbers) (pos v.shape.height) openings (note_at v w place) top_place (λ t. let room_is = room_true (saves_top numbers) w t in omega arith);
+      bottom_list = clip_among numbers.bottom_is_constant (saves_bottom numbers) minus_one openings (note_at v w place) bottom_place (λ t. let room_is = room_true (saves_bottom numbers) w t in omega arith);
+      top = λ h. is_noted numbers.top_is_constant numbers.top.is_there numbers.masked (pos v.shape.height) top_place
+          (top_bit numbers.bottom.is_there numbers.top.is_there numbers.masked h);
+      bottom = λ h. is_noted numbers.bottom_is_constant numbers.bottom.is_there numbers.masked minus_one bottom_place
+          (bottom_bit numbers.bottom.is_there numbers.top.is_there numbers.masked h);
+      masked_top = λ h. is_noted numbers.top_is_constant numbers.top.is_there numbers.masked (pos v.shape.height) top_place
+          (masked_too numbers.top.is_there numbers.masked place h);
+      masked_bottom = λ h. is_noted numbers.bottom_is_constant numbers.bottom.is_there numbers.masked minus_one bottom_place
+          (masked_too numbers.bottom.is_there numbers.masked place h);
+      top_rows = λ x l m h. let clip_is = note-top_clip v walls k w before after place x e l m
+          (noted_clip numbers.top_is_constant (saves_top numbers) (pos v.shape.height) top_place h) in
+          let IsTopClip : ℤ → Type 0 = λ z. (minus_one ≤ℤ z) × (z ≤ℤ greatest_clip) in subst IsTopClip (sym clip_is) (top_clip-in v.shape walls k w x s);
+      bottom_rows = λ x l m h. let clip_is = note-bottom_clip v walls k w before after place x e l m
+          (noted_clip numbers.bottom_is_constant (saves_bottom numbers) minus_one bottom_place h) in
+          let IsBottomClip : ℤ → Type 0 = λ z. (least_clip ≤ℤ z) × (z ≤ℤ pos v.shape.height) in
+          subst IsBottomClip (sym clip_is) (bottom_clip-in v.shape walls k w x s);
     }
 
 -- all notes from one on
@@ -128,10 +128,10 @@ whole_from v walls [] k before place e s d i = tt
 whole_from v walls (w ∷ ws) k before place e s d zero = whole_note v walls k w before (saved_from v walls (k + 1) ws) place e s d.0
 whole_from v walls (w ∷ ws) k before place e s d (suc i) =
     let next : ℕ = place + room_if w.numbers.masked w + room_if (saves_top w.numbers) w + room_if (saves_bottom w.numbers) w in
-    let long : length (before ++ saved_by v walls k w) ≡ next = omega (arith, length-append before (saved_by v walls k w), length-saved_by v walls k w) in
-    let P : List ℤ → Type 0 = λ openings. IfSome (slice_get (notes_from v next ws) i) (IsWholeNote v.shape openings) in
-    subst P (append_assoc before (saved_by v walls k w) (saved_from v walls (k + 1) ws))
-    (whole_from v walls ws (k + 1) (before ++ saved_by v walls k w) next long s d.1 i)
+    let length_is : length (before ++ saved_by v walls k w) ≡ next = omega (arith, length-append before (saved_by v walls k w), length-saved_by v walls k w) in
+    let IsWholeAt : List ℤ → Type 0 = λ openings. IfSome (slice_get (notes_from v next ws) i) (IsWholeNote v.shape openings) in
+    subst IsWholeAt (append_assoc before (saved_by v walls k w) (saved_from v walls (k + 1) ws))
+    (whole_from v walls ws (k + 1) (before ++ saved_by v walls k w) next length_is s d.1 i)
 
 -- the lists of later notes begin later
 at_place : (masked : Bool) (place low : ℕ) → low ≤ place → IfSome (place_if masked place) (λ (p : ℕ). low ≤ p)
@@ -190,13 +190,13 @@ apart_view v walls i k l = apart_from v walls 0 i k l
 pub noted-view : (v : ViewValue) (walls : List Wall) (notes : List FragmentNote) (openings : List ℤ) → notes ≡ view_notes v walls → openings ≡ openings_list v walls → length notes ≤ MAX_DRAWSEGS →
     v.shape.height ≤ FRAME_HEIGHT → All (IsDrawn v) walls → AreNoted v.shape notes openings
 noted-view v walls notes openings e f few s d =
-    let P : List FragmentNote → List ℤ → Type 0 = λ ds os. (i : ℕ) → IfSome (slice_get ds i) (IsWholeNote v.shape os) in
-    let Q : List FragmentNote → Type 0 = λ ds. (i k : ℕ) → i < k → IfSome (slice_get ds i) (λ (d : FragmentNote). IfSome (slice_get ds k) (λ (e : FragmentNote). ListsApart d d.masked e.masked)) in
-    let whole : P (view_notes v walls) (openings_list v walls) = whole_view v walls s d in
+    let AreWhole : List FragmentNote → List ℤ → Type 0 = λ ds os. (i : ℕ) → IfSome (slice_get ds i) (IsWholeNote v.shape os) in
+    let AreApart : List FragmentNote → Type 0 = λ ds. (i k : ℕ) → i < k → IfSome (slice_get ds i) (λ (d : FragmentNote). IfSome (slice_get ds k) (λ (e : FragmentNote). ListsApart d d.masked e.masked)) in
+    let whole : AreWhole (view_notes v walls) (openings_list v walls) = whole_view v walls s d in
     record {
       few = few;
-      whole = subst (λ (ds : List FragmentNote). P ds openings) (sym e) (subst (P (view_notes v walls)) (sym f) whole);
-      apart = subst Q (sym e) (apart_view v walls);
+      whole = subst (λ (ds : List FragmentNote). AreWhole ds openings) (sym e) (subst (AreWhole (view_notes v walls)) (sym f) whole);
+      apart = subst AreApart (sym e) (apart_view v walls);
     }
 
 -- behind the seg of a masked fragment there is a sector
@@ -214,8 +214,8 @@ backs_from : (v : ViewValue) (ws : List Wall) (place : ℕ) → AllByRecursion (
 unfolding notes_from note_at
 backs_from v [] place d k = tt
 backs_from v (w ∷ ws) place d zero = λ h.
-    let P : Bool → Type 0 = λ b. IsSome (place_if b place) in
-    back_there w.facts w.facts.back place (subst P (drawn_masked v w d.0) h)
+    let HasPlace : Bool → Type 0 = λ b. IsSome (place_if b place) in
+    back_there w.facts w.facts.back place (subst HasPlace (drawn_masked v w d.0) h)
 backs_from v (w ∷ ws) place d (suc k) =
     backs_from v ws (place + room_if w.numbers.masked w + room_if (saves_top w.numbers) w + room_if (saves_bottom w.numbers) w) d.1 k
 
@@ -226,5 +226,5 @@ backs_of v walls d k = backs_from v walls 0 (recursion_from_All (IsDrawn v) wall
 
 pub backs-view : (v : ViewValue) (walls : List Wall) (notes : List FragmentNote) → notes ≡ view_notes v walls → All (IsDrawn v) walls → HaveBacks walls notes
 backs-view v walls notes e d =
-    let P : List FragmentNote → Type 0 = λ ds. (k : ℕ) → IfSome (slice_get walls k) (λ (w : Wall). IfSome (slice_get ds k) (λ (d : FragmentNote). IsSome d.masked → IsSome w.facts.back)) in
-    record { at = subst P (sym e) (backs_of v walls d) }
+    let HaveTheirBacks : List FragmentNote → Type 0 = λ ds. (k : ℕ) → IfSome (slice_get walls k) (λ (w : Wall). IfSome (slice_get ds k) (λ (d : FragmentNote). IsSome d.masked → IsSome w.facts.back)) in
+    record { at = subst HaveTheirBacks (sym e) (backs_of v walls d) }

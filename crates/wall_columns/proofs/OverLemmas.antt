@@ -29,9 +29,8 @@ ends_at : (v : ViewValue) (walls : List Wall) (k : ℕ) (facts : WallFacts) (fir
     (places_of (fragment_numbers v facts first last) place (last + 1 - first)).end ≡ place + openings_of (wall_of v facts first last)
 unfolding places_of room_if wall_of
 ends_at v walls k facts first last place =
-    let a = length-saved_by v walls k (wall_of v facts first last) in
-    let b = length-saved_openings v walls k (wall_of v facts first last) in
-    omega arith
+    let saved_by_rooms = length-saved_by v walls k (wall_of v facts first last) in
+    let saved_by_openings = length-saved_openings v walls k (wall_of v facts first last) in omega arith
 
 wall_over : (v : ViewValue) (walls : List Wall) (facts : WallFacts) (first last : ℕ) (state : WallsView) (planes : PlanesView) (s : PlanesNow) (place : ℕ) →
     openings_over state.room (place + openings_of (wall_of v facts first last)) (checks_over planes.room (fragment_numbers v facts first last) first last s)
@@ -69,9 +68,10 @@ openings_over-next room count next e = none_over (nat_lt room count) count next 
 
 -- a state with the same current planes
 pub same_now : (old new : ColumnState) (planes : PlanesView) → new.floor ≡ old.floor → new.ceiling ≡ old.ceiling → now_of old planes ≡ now_of new planes
-same_now old new planes e f =
-    ap (λ (o : Option PlaneNo). let t : PlanesNow = record { planes = planes.planes; floor = plane_number o; ceiling = plane_number old.ceiling } in t) (sym e)
-    ∙ ap (λ (o : Option PlaneNo). let t : PlanesNow = record { planes = planes.planes; floor = plane_number new.floor; ceiling = plane_number o } in t) (sym f)
+same_now old new planes e f = ap (λ (o : Option PlaneNo).
+    let planes_now : PlanesNow = record { planes = planes.planes; floor = plane_number o; ceiling = plane_number old.ceiling } in planes_now) (sym e)
+    ∙ ap (λ (o : Option PlaneNo).
+    let planes_now : PlanesNow = record { planes = planes.planes; floor = plane_number new.floor; ceiling = plane_number o } in planes_now) (sym f)
 
 -- what is told of a fragment, by its value, its numbers and the parts of a state
 pub limit-range : (v : ViewValue) (facts : WallFacts) (first last : ℕ) (n : FragmentNumbers) (f : FragmentValue) (notes : List FragmentNote) (columns : ColumnState) {state : WallsView} (planes : PlanesView) {told : Option OverLimit} →

@@ -43,7 +43,7 @@ IsThere part rows = rows.first ≤ℤ rows.last → part.number ≢ 0
 
 number_there : (part : Part) → has_texture part ≡ true → part.number ≢ 0
 unfolding has_texture
-number_there part h = λ e. let t : not (part.number == 0) ≡ false = grind (arith, nat_tests) in cc
+number_there part h = λ e. let number_is_zero : not (part.number == 0) ≡ false = grind (arith, nat_tests) in cc
 
 there_if : (part : Part) (rows : RowRange) (b : Bool) → has_texture part ≡ b → IsThere part (rows_if b rows)
 there_if part rows true e = λ h. number_there part e
@@ -100,17 +100,17 @@ pub plan_strips-dots : (v : ViewValue) (art : Art) (k x light : ℕ) (column sca
     ≡ joined_lists (strip_dots v art k x light column scale) (wall_strips n clip e)
 unfolding plan_of wall_strips strip_of
 plan_strips-dots v art k x light column scale height n clip e =
-    let f : WallStrip → List Dot = strip_dots v art k x light column scale in
-    three_lists f
+    let dots_of_strip : WallStrip → List Dot = strip_dots v art k x light column scale in
+    three_lists dots_of_strip
     (strip n.middle_part (rows_if (has_texture n.middle_part) (middle_rows clip e)))
     (strip n.top_part (cond (has_texture n.middle_part) no_rows (rows_if (has_texture n.top_part) (top_rows clip e))))
     (strip n.bottom_part (cond (has_texture n.middle_part) no_rows (rows_if (has_texture n.bottom_part) (bottom_rows n clip e))))
-    ∙ by_middle f n.middle_part n.top_part n.bottom_part (middle_rows clip e) (top_rows clip e) (bottom_rows n clip e)
+    ∙ by_middle dots_of_strip n.middle_part n.top_part n.bottom_part (middle_rows clip e) (top_rows clip e) (bottom_rows n clip e)
     (has_texture n.middle_part) (has_texture n.top_part) (has_texture n.bottom_part) (none_dots v art k x light column scale)
 
 -- rows of a view are rows of a frame
 wider : (height : ℕ) (rows : RowRange) → height ≤ FRAME_HEIGHT → AreRowsIn height rows → AreRowsIn FRAME_HEIGHT rows
-wider height rows s h = λ r. ((h r).0, (let l : rows.last <ℤ pos height = (h r).1 in omega (arith, ints)))
+wider height rows s h = λ r. ((h r).0, (let last_below_height : rows.last <ℤ pos height = (h r).1 in omega (arith, ints)))
 
 -- what a plan marks lies in a frame, and what it leaves open in the view
 abbrev pub IsPlanIn : ℕ → ColumnPlan → Type 0

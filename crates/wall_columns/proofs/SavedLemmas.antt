@@ -18,7 +18,7 @@ put_mid-list xs ys list place k same long =
 -- no column is written yet
 pub columns-none : (xs list : List ℤ) (place first : ℕ) → xs ≡ paste xs place list (first - first)
 columns-none xs list place first =
-    let none : 0 ≡ first - first = omega arith in paste_none xs place list ∙ ap (paste xs place list) none
+    let count_is_zero : 0 ≡ first - first = omega arith in paste_none xs place list ∙ ap (paste xs place list) count_is_zero
 
 -- one more
 pub columns-more : (column : ℕ → ℤ) (xs now : List ℤ) (place first last x : ℕ) (value written : ℤ) →
@@ -30,11 +30,11 @@ columns-more column xs now place first last x value written from to room same is
     let column_at : first + (x - first) ≡ x = omega arith in
     let own : written ≡ get_or list (x - first) (pos 0) =
     same ∙ is ∙ ap column (sym column_at) ∙ sym (get_or-listed_from column first last (x - first) (pos 0) (omega arith)) in
-    let next : x - first + 1 ≡ x + 1 - first = omega arith in
+    let offset_next : x - first + 1 ≡ x + 1 - first = omega arith in
     ap (λ (zs : List ℤ). set zs (place + (x - first)) written) before
     ∙ ap (λ (z : ℤ). set (paste xs place list (x - first)) (place + (x - first)) z) own
     ∙ paste_more xs place list (x - first) (pos 0) (omega arith) (omega (arith, length-listed_from column first last))
-    ∙ ap (paste xs place list) next
+    ∙ ap (paste xs place list) offset_next
 
 -- and all of them
 pub columns-all : (column : ℕ → ℤ) (xs : List ℤ) (place first last x : ℕ) → x ≡ last + 1 →
@@ -81,7 +81,7 @@ lists_saved-behind n count before xs columns ceilings floors middle_count top_co
     let middle_room = ap (room_of n.masked) middle_count in
     let top_room = ap (room_of (saves_top n)) top_count in
     let bottom_room = ap (room_of (saves_bottom n)) bottom_count in
-    let split : xs ≡ before ++ rest = sym (take-append-drop (length before) xs) ∙ ap (λ (ys : List ℤ). ys ++ rest) front in
+    let split_is : xs ≡ before ++ rest = sym (take-append-drop (length before) xs) ∙ ap (λ (ys : List ℤ). ys ++ rest) front in
     let to_middles : length (before ++ middles) ≡ top_place = omega (arith, length-append before middles, length_saved n.masked columns count middle_count) in
     let to_tops : length ((before ++ middles) ++ tops) ≡ bottom_place =
     omega (arith, to_middles, length-append (before ++ middles) tops, length_saved (saves_top n) ceilings count top_count) in
@@ -93,7 +93,7 @@ lists_saved-behind n count before xs columns ceilings floors middle_count top_co
       length-drop (room_of (saves_top n) (length ceilings)) behind_middles,
     )) in
     ap (λ (ys : List ℤ). with_saved (with_saved (with_saved ys (place_if n.masked (length before)) columns) (place_if (saves_top n) top_place) ceilings)
-    (place_if (saves_bottom n) bottom_place) floors) split
+    (place_if (saves_bottom n) bottom_place) floors) split_is
     ∙ ap (λ (ys : List ℤ). with_saved (with_saved ys (place_if (saves_top n) top_place) ceilings) (place_if (saves_bottom n) bottom_place) floors)
     (saved_behind n.masked before rest columns (length before) refl)
     ∙ ap (λ (ys : List ℤ). with_saved ys (place_if (saves_bottom n) bottom_place) floors)

@@ -25,7 +25,7 @@ fits_between (negsuc n) l h = record { sfits = omega (arith, ints) }
 
 -- so many steps are no more than the whole
 steps_within : (d n k : ℕ) → 0 < n → k ≤ n → k * (d / n) ≤ d
-steps_within d n k p l = let h : k * (d / n) ≤ n * (d / n) = mul-le-mul_right (d / n) l in omega arith
+steps_within d n k p l = let steps_bounded : k * (d / n) ≤ n * (d / n) = mul-le-mul_right (d / n) l in omega arith
 
 -- a value near 0 with what is added, near 0 too
 summed : (a s : ℤ) → negsuc 16777215 ≤ℤ s → s ≤ℤ pos 16777216 → pos 0 ≤ℤ a → a ≤ℤ pos 4194304 → plus a (int_wrap w32 s) ≡ a +ℤ s
@@ -42,17 +42,17 @@ back_steps k (suc q) = omega (arith, ints)
 -- rising: a, and k steps of q
 rises : (a k q top : ℕ) → 256 ≤ a → a + k * q ≤ top → top ≤ 4194304 → pos 0 <ℤ plus (pos a) (int_wrap w32 (pos k *ℤ pos q))
 rises a k q top l h t =
-    let e : pos k *ℤ pos q ≡ pos (k * q) = omega (arith, ints) in
-    let s : plus (pos a) (int_wrap w32 (pos (k * q))) ≡ pos a +ℤ pos (k * q) = summed (pos a) (pos (k * q)) (omega (arith, ints)) (omega (arith, ints)) (omega (arith, ints)) (omega (arith, ints)) in
-    let P : ℤ → Type 0 = λ z. pos 0 <ℤ z in
-    subst P (sym (ap (λ (z : ℤ). plus (pos a) (int_wrap w32 z)) e ∙ s)) (omega (arith, ints))
+    let product_is : pos k *ℤ pos q ≡ pos (k * q) = omega (arith, ints) in
+    let sum_is : plus (pos a) (int_wrap w32 (pos (k * q))) ≡ pos a +ℤ pos (k * q) = summed (pos a) (pos (k * q)) (omega (arith, ints)) (omega (arith, ints)) (omega (arith, ints)) (omega (arith, ints)) in
+    let IsAboveZero : ℤ → Type 0 = λ z. pos 0 <ℤ z in
+    subst IsAboveZero (sym (ap (λ (z : ℤ). plus (pos a) (int_wrap w32 z)) product_is ∙ sum_is)) (omega (arith, ints))
 
 -- falling: a, and k steps of q back
 falls : (a k q low : ℕ) → 256 ≤ low → low + k * q ≤ a → a ≤ 4194304 → pos 0 <ℤ plus (pos a) (int_wrap w32 (pos k *ℤ neg_ℤ (pos q)))
 falls a k q low l h t =
-    let s : plus (pos a) (int_wrap w32 (neg_ℤ (pos (k * q)))) ≡ pos a +ℤ neg_ℤ (pos (k * q)) = summed (pos a) (neg_ℤ (pos (k * q))) (omega (arith, ints)) (omega (arith, ints)) (omega (arith, ints)) (omega (arith, ints)) in
-    let P : ℤ → Type 0 = λ z. pos 0 <ℤ z in
-    subst P (sym (ap (λ (z : ℤ). plus (pos a) (int_wrap w32 z)) (back_steps k q) ∙ s)) (omega (arith, ints))
+    let sum_is : plus (pos a) (int_wrap w32 (neg_ℤ (pos (k * q)))) ≡ pos a +ℤ neg_ℤ (pos (k * q)) = summed (pos a) (neg_ℤ (pos (k * q))) (omega (arith, ints)) (omega (arith, ints)) (omega (arith, ints)) (omega (arith, ints)) in
+    let IsAboveZero : ℤ → Type 0 = λ z. pos 0 <ℤ z in
+    subst IsAboveZero (sym (ap (λ (z : ℤ). plus (pos a) (int_wrap w32 z)) (back_steps k q) ∙ sum_is)) (omega (arith, ints))
 
 difference : (a b : ℕ) → a ≤ 4194304 → b ≤ 4194304 → minus (pos b) (pos a) ≡ pos b -ℤ pos a
 unfolding minus
@@ -62,31 +62,31 @@ difference a b l h = int_wrap_fits w32 (pos b -ℤ pos a) (fits_between _ (omega
 by_difference : (a b k n : ℕ) (d : ℤ) → 256 ≤ a → a ≤ 4194304 → 256 ≤ b → b ≤ 4194304 → 0 < n → k ≤ n → d ≡ pos b -ℤ pos a →
     pos 0 <ℤ plus (pos a) (int_wrap w32 (pos k *ℤ int_div d (pos n)))
 by_difference a b k n (pos d) al ah bl bh p l e =
-    let w = steps_within d n k p l in
-    let s : d + a ≡ b = omega (arith, ints) in rises a k (d / n) b al (omega arith) bh
+    let steps_bounded = steps_within d n k p l in
+    let difference_is : d + a ≡ b = omega (arith, ints) in rises a k (d / n) b al (omega arith) bh
 by_difference a b k n (negsuc d) al ah bl bh p l e =
-    let w = steps_within (suc d) n k p l in
-    let s : suc d + b ≡ a = omega (arith, ints) in falls a k (suc d / n) b bl (omega arith) ah
+    let steps_bounded = steps_within (suc d) n k p l in
+    let difference_is : suc d + b ≡ a = omega (arith, ints) in falls a k (suc d / n) b bl (omega arith) ah
 
 stepped : (a b k n : ℕ) → 256 ≤ a → a ≤ 4194304 → 256 ≤ b → b ≤ 4194304 → 0 < n → k ≤ n →
     pos 0 <ℤ plus (pos a) (int_wrap w32 (pos k *ℤ int_div (minus (pos b) (pos a)) (pos n)))
 stepped a b k n al ah bl bh p l = by_difference a b k n (minus (pos b) (pos a)) al ah bl bh p l (difference a b ah bh)
 
 still : (a k : ℕ) → 256 ≤ a → a ≤ 4194304 → k ≤ 0 → pos 0 <ℤ plus (pos a) (int_wrap w32 (pos k *ℤ pos 0))
-still a k l h z = rises a k 0 a l (let e : k * 0 ≡ 0 = omega arith in omega arith) h
+still a k l h z = rises a k 0 a l (let product_is_zero : k * 0 ≡ 0 = omega arith in omega arith) h
 
 some_or_none : (a b k n : ℕ) (t : Bool) → (n == 0) ≡ t → 256 ≤ a → a ≤ 4194304 → 256 ≤ b → b ≤ 4194304 → k ≤ n →
     pos 0 <ℤ plus (pos a) (int_wrap w32 (pos k *ℤ cond t (pos 0) (int_div (minus (pos b) (pos a)) (pos n))))
-some_or_none a b k n true e al ah bl bh l = let z : n ≡ 0 = grind (arith, nat_tests) in still a k al ah (omega arith)
-some_or_none a b k n false e al ah bl bh l = let z : 0 < n = grind (arith, nat_tests) in stepped a b k n al ah bl bh z l
+some_or_none a b k n true e al ah bl bh l = let count_is_zero : n ≡ 0 = grind (arith, nat_tests) in still a k al ah (omega arith)
+some_or_none a b k n false e al ah bl bh l = let count_above_zero : 0 < n = grind (arith, nat_tests) in stepped a b k n al ah bl bh count_above_zero l
 
 scale_steps : (s1 s2 : ℤ) (k n : ℕ) → IsScale s1 → IsScale s2 → k ≤ n → pos 0 <ℤ step_at s1 (scale_step s1 s2 n) k
 unfolding step_at times scale_step
 scale_steps (pos a) (pos b) k n f g l =
     let al = f.low in let ah = f.high in let bl = g.low in let bh = g.high in
     some_or_none a b k n (n == 0) refl (omega (arith, ints)) (omega (arith, ints)) (omega (arith, ints)) (omega (arith, ints)) l
-scale_steps (pos a) (negsuc b) k n f g l = absurd (let h = g.low in omega (arith, ints))
-scale_steps (negsuc a) s2 k n f g l = absurd (let h = f.low in omega (arith, ints))
+scale_steps (pos a) (negsuc b) k n f g l = absurd (let least_scale = g.low in omega (arith, ints))
+scale_steps (negsuc a) s2 k n f g l = absurd (let least_scale = f.low in omega (arith, ints))
 
 -- the scale of a fragment at each of its columns is above 0
 pub numbers-scale : (v : ViewValue) (facts : WallFacts) (first last k : ℕ) → k ≤ last - first →

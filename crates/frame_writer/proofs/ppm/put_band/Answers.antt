@@ -5,8 +5,8 @@ use Rattle.frame_writer.proofs.ppm.put_band.Goals as goal
 
 pub slice_bounds-put-end : goal.slice_bounds-put-end
 slice_bounds-put-end g c =
-    let room : 38400 ≤ length c.fill.new.colours = omega (arith, c.fill.auto.colours, length-replicate {A = ℕ} 38401 0) in
-    sym (length-take-le 38400 c.fill.new.colours room)
+    let colours_enough : 38400 ≤ length c.fill.new.colours = omega (arith, c.fill.auto.colours, length-replicate {A = ℕ} 38401 0) in
+    sym (length-take-le 38400 c.fill.new.colours colours_enough)
 
 pub returns : goal.returns
 returns g c =

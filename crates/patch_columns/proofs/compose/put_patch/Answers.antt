@@ -19,7 +19,7 @@ loop-x-preserved c = record {
 
 pub returns-clause-put : goal.returns-clause-put
 returns-clause-put c = λ bytes patches n within is its lookups before.
-    let end : c.loop-x.x ≡ length c.args.columns.now = omega arith in
+    let end_is : c.loop-x.x ≡ length c.args.columns.now = omega arith in
     c.loop-x.invariant.put bytes patches n (record { next = record { is = is; its = its }; lookups = lookups; before = before })
-    ∙ ap (λ (x : ℕ). composite_up_to bytes patches n c.args.height x (length c.args.columns.now)) end
+    ∙ ap (λ (x : ℕ). composite_up_to bytes patches n c.args.height x (length c.args.columns.now)) end_is
     ∙ composite_up_to-all bytes patches n c.args.height (length c.args.columns.now)

@@ -5,9 +5,9 @@ use Rattle.pixel_strips.proofs.frame.fill_four.Goals as goal
 
 pub returns : goal.returns
 returns c = λ fraction start n e step place.
-    let s = c.args.cut.now.step in
-    let second = texel_place_later fraction s n 1 (n + 1) _ refl (c.places_after.ensures (step_at fraction s n) s place step) in
-    let third = texel_place_later fraction s n 2 (n + 2) _ refl (c.places_after-2.ensures (step_at fraction s n) s place step) in
-    let fourth = texel_place_later fraction s n 3 (n + 3) _ refl (c.places_after-3.ensures (step_at fraction s n) s place step) in
-    fills_four (c.fill_row.ensures fraction start n e place) (c.fill_row-2.ensures fraction start (n + 1) (omega (arith, e)) second)
-    (c.fill_row-3.ensures fraction start (n + 2) (omega (arith, e)) third) (c.fill_row-4.ensures fraction start (n + 3) (omega (arith, e)) fourth)
+    let cut_step = c.args.cut.now.step in
+    let second_place = texel_place_later fraction cut_step n 1 (n + 1) _ refl (c.places_after.ensures (step_at fraction cut_step n) cut_step place step) in
+    let third_place = texel_place_later fraction cut_step n 2 (n + 2) _ refl (c.places_after-2.ensures (step_at fraction cut_step n) cut_step place step) in
+    let fourth_place = texel_place_later fraction cut_step n 3 (n + 3) _ refl (c.places_after-3.ensures (step_at fraction cut_step n) cut_step place step) in
+    fills_four (c.fill_row.ensures fraction start n e place) (c.fill_row-2.ensures fraction start (n + 1) (omega (arith, e)) second_place)
+    (c.fill_row-3.ensures fraction start (n + 2) (omega (arith, e)) third_place) (c.fill_row-4.ensures fraction start (n + 3) (omega (arith, e)) fourth_place)

@@ -16,7 +16,7 @@ pub returns : goal.returns
 returns c =
     let cut = c.args.cut.now in
     let done : ℕ = c.args.count - 4 in
-    let first = texel_place_word cut.fraction _ (search rules) c.texel_place-first.ensures in
+    let first_is = texel_place_word cut.fraction _ (search rules) c.texel_place-first.ensures in
     let step = texel_place_word cut.step _ (search rules) c.texel_place-step.ensures in
     fills_to (omega arith) (omega arith) (c.fill_four-2.ensures cut.fraction c.args.start done (omega arith) step
-    (c.places_after-last.ensures cut.fraction cut.step first step)) c.loop-k.invariant.filled
+    (c.places_after-last.ensures cut.fraction cut.step first_is step)) c.loop-k.invariant.filled

@@ -6,18 +6,18 @@ use Rattle.pixel_strips.proofs.span.paint_any_span.Goals as goal
 
 pub loop-x-init : goal.loop-x-init
 loop-x-init g c =
-    let s = c.args.strip.now in
-    span_begun _ _ _ c.args.spans s.x_fraction s.y_fraction s.x_step s.y_step s.first _ _
-    (span_place_begun c.args.spans s.x_fraction s.y_fraction s.x_step s.y_step _ (search rules) (search rules) c.first_place-place.ensures)
+    let strip = c.args.strip.now in
+    span_begun _ _ _ c.args.spans strip.x_fraction strip.y_fraction strip.x_step strip.y_step strip.first _ _
+    (span_place_begun c.args.spans strip.x_fraction strip.y_fraction strip.x_step strip.y_step _ (search rules) (search rules) c.first_place-place.ensures)
 
 pub loop-x-preserved : goal.loop-x-preserved
 loop-x-preserved g c =
-    let s = c.args.strip.now in
-    let i = c.loop-x.invariant in
-    let n : ℕ = c.loop-x.x - s.first in
-    let step = first_place_words c.args.spans s.x_step s.y_step _ (search rules) (search rules) c.first_place-step.ensures in
-    span_dotted i c.span_colour-colour.ensures (c.flat_place_at-texel.ensures.place c.args.spans s.x_fraction s.y_fraction s.x_step s.y_step n (omega arith) i.at)
-    (c.place_after-place.ensures c.args.spans s.x_fraction s.y_fraction s.x_step s.y_step n (omega arith) i.at step) c.dot.ensures
+    let strip = c.args.strip.now in
+    let so_far = c.loop-x.invariant in
+    let offset : ℕ = c.loop-x.x - strip.first in
+    let step = first_place_words c.args.spans strip.x_step strip.y_step _ (search rules) (search rules) c.first_place-step.ensures in
+    span_dotted so_far c.span_colour-colour.ensures (c.flat_place_at-texel.ensures.place c.args.spans strip.x_fraction strip.y_fraction strip.x_step strip.y_step offset (omega arith) so_far.at)
+    (c.place_after-place.ensures c.args.spans strip.x_fraction strip.y_fraction strip.x_step strip.y_step offset (omega arith) so_far.at step) c.dot.ensures
 
 pub returns : goal.returns
 unfolding row_colour

@@ -20,23 +20,24 @@ begins g c = subst (λ n. StartsComposite c.args.number n c.args.cache.now c.beg
 
 pub returns-in_err-begin_composite : goal.returns-in_err-begin_composite
 returns-in_err-begin_composite g c = λ place.
-    let s = err_from_is_err_and c.from_residual.result c.from_residual.ensures.1 in
+    let error_is = err_from_is_err_and c.from_residual.result c.from_residual.ensures.1 in
     let fails : FailsToBegin c.args.number (size_of c.args.texture.now) c.args.cache.now c.begin_composite.new.cache c.in_err-begin_composite.field-0.0.wanted c.in_err-begin_composite.field-0.0.widest =
     subst (λ n. FailsToBegin c.args.number n c.args.cache.now c.begin_composite.new.cache c.in_err-begin_composite.field-0.0.wanted c.in_err-begin_composite.field-0.0.widest) c.size.ensures.value c.in_err-begin_composite.ensures in
-    let e : c.from_residual.result ≡ Err (ZoneFull c.in_err-begin_composite.field-0.0.wanted c.in_err-begin_composite.field-0.0.widest) = s.1 ∙ ap Err s.2 in
+    let result_is : c.from_residual.result ≡ Err (ZoneFull c.in_err-begin_composite.field-0.0.wanted c.in_err-begin_composite.field-0.0.widest) =
+    error_is.1 ∙ ap Err error_is.2 in
     record {
-      answers = λ contents stand within. rw e (record { ok = tt; err = tt });
-      live = rw e tt;
+      answers = λ contents stand within. rw result_is (record { ok = tt; err = tt });
+      live = rw result_is tt;
       follows = follows_none (g.S.Shelf.view c.args.shelf.now);
-      causes = rw e (record { err = tt });
+      causes = rw result_is (record { err = tt });
       counts = fails.counts;
       rest = fails.rest;
       faithful = λ contents stand k. fails.faithful contents c.args.dir.now.lumps k;
       composites = λ contents textures is told k.
           let bytes = lump_bytes contents c.args.dir.now.lumps in
           composites_built bytes textures c.args.cache.now c.begin_composite.new.cache c.args.number c.args.texture.now is fails.others (built_here {A = ℕ} {E = ℕ} (Err 0) (owned_block (composite_owner c.args.number) c.begin_composite.new.cache.blocks) (composite_of bytes c.args.texture.now) tt fails.empty) k;
-      empty = rw e (λ composed. fails.empty);
-      full = rw e (composite_full c.args.dir.now.lumps c.args.number c.args.texture.now place c.args.cache.now c.begin_composite.new.cache _ _ fails);
+      empty = rw result_is (λ composed. fails.empty);
+      full = rw result_is (composite_full c.args.dir.now.lumps c.args.number c.args.texture.now place c.args.cache.now c.begin_composite.new.cache _ _ fails);
       order = λ items all k. absurd (fails.order items (all (composite_owner c.args.number) (size_of c.args.texture.now) (inl (refl, refl))) k);
     }
 
@@ -45,35 +46,34 @@ end_composite-requires-clause-live g c = building_live (c.put_patches-built.ensu
 
 pub returns : goal.returns
 returns g c = λ place.
-    let o = composite_owner c.args.number in
-    let t = c.args.texture.now in
-    let old = c.args.cache.now in
-    let begun = c.begin_composite.new.cache in
-    let put = c.put_patches-built.new.cache in
-    let new = c.end_composite.new.cache in
+    let owner = composite_owner c.args.number in let texture = c.args.texture.now in
+    let old = c.args.cache.now in let begun = c.begin_composite.new.cache in
+    let put = c.put_patches-built.new.cache in let new = c.end_composite.new.cache in
     let built = c.put_patches-built.result in
-    let before = (g.S.Shelf.view c.args.shelf.now).taken in
-    let after = (g.S.Shelf.view c.put_patches-built.new.shelf).taken in
-    let b = begins g (goal.at.returns g c).In_ok-begin_composite in
-    let p = c.put_patches-built.ensures in
-    let e = c.end_composite.ensures in
-    let others : OthersKeep c.args.number old new = others_then b.others (others_then p.keeps.others (others_kept c.args.number put new (λ n apart. inl (e.others (composite_owner n) apart)))) in
+    let before = (g.S.Shelf.view c.args.shelf.now).taken in let after = (g.S.Shelf.view c.put_patches-built.new.shelf).taken in
+    let has_begun = begins g (goal.at.returns g c).In_ok-begin_composite in
+    let patches_put = c.put_patches-built.ensures in let has_ended = c.end_composite.ensures in
+    let others : OthersKeep c.args.number old new = others_then has_begun.others (others_then patches_put.keeps.others (others_kept c.args.number put new (λ n apart. inl (has_ended.others (composite_owner n) apart)))) in
     record {
-      answers = p.answers;
-      live = ends_live c.args.number put new built (building_live (p.keeps.building (size_of t) b.building)) e.released;
-      follows = p.keeps.follows;
-      causes = p.causes;
-      counts = counts_then old begun new b.counts (counts_then begun put new p.keeps.counts e.counts);
-      rest = λ colormap count k. rest_of_none colormap count new (e.rest colormap count [] (p.keeps.rest colormap count (b.rest colormap count k)));
-      faithful = λ contents stand k. e.faithful contents c.args.dir.now.lumps (p.keeps.faithful contents stand (b.faithful contents c.args.dir.now.lumps k));
+      answers = patches_put.answers;
+      live = ends_live c.args.number put new built (building_live (patches_put.keeps.building (size_of texture) has_begun.building)) has_ended.released;
+      follows = patches_put.keeps.follows;
+      causes = patches_put.causes;
+      counts = counts_then old begun new has_begun.counts (counts_then begun put new patches_put.keeps.counts has_ended.counts);
+      rest = λ colormap count k. rest_of_none colormap count new
+          (has_ended.rest colormap count [] (patches_put.keeps.rest colormap count (has_begun.rest colormap count k)));
+      faithful = λ contents stand k. has_ended.faithful contents c.args.dir.now.lumps
+          (patches_put.keeps.faithful contents stand (has_begun.faithful contents c.args.dir.now.lumps k));
       composites = λ contents textures is told k.
           let bytes = lump_bytes contents c.args.dir.now.lumps in
-          let later : HoldContents (g.S.Shelf.view c.args.shelf.now) c.args.dir.now begun contents = record { stand = told.stand; within = told.within; faithful = b.faithful contents c.args.dir.now.lumps told.faithful } in
-          let whole = ends_built c.args.number put new built bytes t (p.put contents later (built_none bytes c.args.number t begun b.zeros)) e.released in
-          composites_built bytes textures old new c.args.number t is others (built_here built (owned_block o new.blocks) (composite_of bytes t) whole e.empty) k;
-      empty = on_err built (λ none composed. none) e.empty;
-      full = ends_full c.args.dir.now.lumps c.args.number t place old begun built b p.full;
+          let contents_hold : HoldContents (g.S.Shelf.view c.args.shelf.now) c.args.dir.now begun contents = record { stand = told.stand; within = told.within; faithful = has_begun.faithful contents c.args.dir.now.lumps told.faithful } in
+          let whole = ends_built c.args.number put new built bytes texture
+          (patches_put.put contents contents_hold (built_none bytes c.args.number texture begun has_begun.zeros)) has_ended.released in
+          composites_built bytes textures old new c.args.number texture is others (built_here built (owned_block owner new.blocks) (composite_of bytes texture) whole has_ended.empty) k;
+      empty = on_err built (λ none composed. none) has_ended.empty;
+      full = ends_full c.args.dir.now.lumps c.args.number texture place old begun built has_begun patches_put.full;
       order = λ items all k.
-          let k1 = b.order items before (all o (size_of t) (inl (refl, refl))) k in
-          ends_order items old begun put new before after built k1 (p.order items (λ owner size is. all owner size (inr is)) k1.order) e.order;
+          let order_kept = has_begun.order items before (all owner (size_of texture) (inl (refl, refl))) k in
+          ends_order items old begun put new before after built order_kept
+          (patches_put.order items (λ owner size is. all owner size (inr is)) order_kept.order) has_ended.order;
     }

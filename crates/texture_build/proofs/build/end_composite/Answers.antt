@@ -8,29 +8,29 @@ use Rattle.texture_build.proofs.build.end_composite.Goals as goal
 -- what was built is released
 pub returns-in-Ok : goal.returns-in-Ok
 returns-in-Ok c =
-    let o = composite_owner c.args.number in let old = c.args.cache.now in
-    let r = c.release_composite.ensures in
+    let owner = composite_owner c.args.number in let old = c.args.cache.now in
+    let composite_released = c.release_composite.ensures in
     subst (EndsComposite c.args.number old c.release_composite.new.self) (sym c.in-Ok.is) (record {
-      released = r.cache;
+      released = composite_released.cache;
       empty = tt;
-      others = release_others o old r.cache;
-      counts = r.counts;
-      faithful = release_faithful o old r.cache;
-      rest = release_rest_except o old r.cache;
-      order = release_order o old r.cache;
+      others = release_others owner old composite_released.cache;
+      counts = composite_released.counts;
+      faithful = release_faithful owner old composite_released.cache;
+      rest = release_rest_except owner old composite_released.cache;
+      order = release_order owner old composite_released.cache;
     })
 
 -- and after a fault its block is freed
 pub returns-in-Err : goal.returns-in-Err
 returns-in-Err c =
-    let o = composite_owner c.args.number in let old = c.args.cache.now in
-    let d = c.drop_composite.ensures in
+    let owner = composite_owner c.args.number in let old = c.args.cache.now in
+    let composite_dropped = c.drop_composite.ensures in
     subst (EndsComposite c.args.number old c.drop_composite.new.self) (sym c.in-Err.is) (record {
       released = tt;
-      empty = d.empty;
-      others = drop_others o old d.freed;
-      counts = d.counts;
-      faithful = drop_faithful o old d.freed (λ n. refl);
-      rest = drop_rest_except o old d.freed (λ n. refl);
+      empty = composite_dropped.empty;
+      others = drop_others owner old composite_dropped.freed;
+      counts = composite_dropped.counts;
+      faithful = drop_faithful owner old composite_dropped.freed (λ n. refl);
+      rest = drop_rest_except owner old composite_dropped.freed (λ n. refl);
       order = tt;
     })

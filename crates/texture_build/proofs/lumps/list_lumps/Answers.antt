@@ -8,10 +8,10 @@ returns c =
     let before = c.deref_mut.result.now in
     let marks = c.mark_textures.new.marks in
     let textures = c.args.textures.now in
-    let same : c.deref.result.now ≡ marks = c.deref.ensures.value ∙ same_front c.in_ok-marks.marks.len marks _ (omega (arith, c.mark_textures.ensures.count, c.deref_mut.ensures.len)) in
-    let is : before ≡ c.in_ok-marks.marks.items = c.deref_mut.ensures.value in
+    let marks_same : c.deref.result.now ≡ marks = c.deref.ensures.value ∙ same_front c.in_ok-marks.marks.len marks _ (omega (arith, c.mark_textures.ensures.count, c.deref_mut.ensures.len)) in
+    let before_is : before ≡ c.in_ok-marks.marks.items = c.deref_mut.ensures.value in
     IfOk-weaker c.marked_lumps.result _ _
-    (λ found e. e ∙ lumps_marked c.deref.result.now textures _ (omega (arith, ap length same, c.mark_textures.ensures.count, ap length is, c.in_ok-marks.ensures.count))
-    (λ k l. ap (λ m. get_or m k false) same ∙ c.mark_textures.ensures.marked k (omega (arith, ap length is, c.in_ok-marks.ensures.count))
-    ∙ ap (λ b. b || is_patch_of_any textures k) (ap (λ m. get_or m k false) is ∙ c.in_ok-marks.ensures.none k)))
+    (λ found e. e ∙ lumps_marked c.deref.result.now textures _ (omega (arith, ap length marks_same, c.mark_textures.ensures.count, ap length before_is, c.in_ok-marks.ensures.count))
+    (λ k l. ap (λ m. get_or m k false) marks_same ∙ c.mark_textures.ensures.marked k (omega (arith, ap length before_is, c.in_ok-marks.ensures.count))
+    ∙ ap (λ b. b || is_patch_of_any textures k) (ap (λ m. get_or m k false) before_is ∙ c.in_ok-marks.ensures.none k)))
     c.marked_lumps.ensures

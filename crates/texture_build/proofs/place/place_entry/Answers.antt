@@ -9,9 +9,9 @@ pub returns-in-Some-clause-tells : goal.returns-in-Some-clause-tells
 returns-in-Some-clause-tells g c =
     let lumps = c.args.dir.now.lumps in
     let names = c.args.lists.now.names in
-    let is : patch_lump lumps names c.args.entry.now ≡ Some c.in-Some.lump.0 = entry_lump lumps names c.args.entry.now c.patch_lump.result c.in-Some.lump c.patch_lump.ensures.found c.in-Some.is in
-    reads_wider c.place_lump.result (λ lump s. is ∙ ap Some (sym s))
-    (λ bytes. ap (λ o. or_missing c.args.tex.0 (option_map (step_of bytes c.args.columns.now) o)) (entry_placed bytes lumps names c.args.entry.now c.in-Some.lump.0 is))
+    let lump_is : patch_lump lumps names c.args.entry.now ≡ Some c.in-Some.lump.0 = entry_lump lumps names c.args.entry.now c.patch_lump.result c.in-Some.lump c.patch_lump.ensures.found c.in-Some.is in
+    reads_wider c.place_lump.result (λ lump s. lump_is ∙ ap Some (sym s))
+    (λ bytes. ap (λ o. or_missing c.args.tex.0 (option_map (step_of bytes c.args.columns.now) o)) (entry_placed bytes lumps names c.args.entry.now c.in-Some.lump.0 lump_is))
     c.place_lump.ensures.tells
 
 pub returns-in-None-clause-tells : goal.returns-in-None-clause-tells

@@ -24,43 +24,43 @@ loop-entry-init g c = record {
 pub loop-entry-preserved : goal.loop-entry-preserved
 loop-entry-preserved g c =
     let entries = c.args.entries.now in
-    let k = c.loop-entry.entry-index in
-    let l : k < length entries = omega arith in
+    let entry_index = c.loop-entry.entry-index in
+    let index_in_entries : entry_index < length entries = omega arith in
     let inv = c.loop-entry.invariant in
     let patches = c.loop-entry.patches.items in
-    let placed = c.in_ok-patch.patch in
+    let new_patch = c.in_ok-patch.patch in
     record {
-      tells = reads_more (λ bytes. or_missing c.args.tex.0 (option_map (patches_part bytes (length c.args.columns.now)) (placed_patches (last_of c.args.dir.now.lumps) bytes c.args.lists.now.names (take (k + 1) entries)))) placed tt
+      tells = reads_more (λ bytes. or_missing c.args.tex.0 (option_map (patches_part bytes (length c.args.columns.now)) (placed_patches (last_of c.args.dir.now.lumps) bytes c.args.lists.now.names (take (entry_index + 1) entries)))) new_patch tt
           inv.tells c.place_entry.result c.place_entry.ensures.tells c.in_ok-patch.was
-          (λ lump is. record { entry = get_or entries k no_entry; among = Contains-get_or entries k no_entry l; is = is })
-          (λ bytes one two. part_push (last_of c.args.dir.now.lumps) bytes c.args.lists.now.names c.args.tex.0 (length c.args.columns.now) entries k no_entry patches c.loop-entry.columns c.place_entry.new.columns placed l one two
+          (λ lump is. record { entry = get_or entries entry_index no_entry; among = Contains-get_or entries entry_index no_entry index_in_entries; is = is })
+          (λ bytes one two. part_push (last_of c.args.dir.now.lumps) bytes c.args.lists.now.names c.args.tex.0 (length c.args.columns.now) entries entry_index no_entry patches c.loop-entry.columns c.place_entry.new.columns new_patch index_in_entries one two
           ∙ ap (λ xs. Ok (part xs c.place_entry.new.columns)) (sym c.in_ok-push.ensures.items));
       seen = subst (λ xs. AreSeen xs c.place_entry.new.columns) (sym c.in_ok-push.ensures.items) (c.in_ok-patch.ensures.seen patches inv.seen);
-      there = subst (All (λ (patch : PlacedPatch). patch.lump < length c.args.dir.now.lumps)) (sym c.in_ok-push.ensures.items) (All-push (λ (patch : PlacedPatch). patch.lump < length c.args.dir.now.lumps) patches placed inv.there c.in_ok-patch.ensures.there);
+      there = subst (All (λ (patch : PlacedPatch). patch.lump < length c.args.dir.now.lumps)) (sym c.in_ok-push.ensures.items) (All-push (λ (patch : PlacedPatch). patch.lump < length c.args.dir.now.lumps) patches new_patch inv.there c.in_ok-patch.ensures.there);
     }
 
 pub returns-in_err-patch-clause-tells : goal.returns-in_err-patch-clause-tells
 returns-in_err-patch-clause-tells g c =
     let entries = c.args.entries.now in
-    let k = c.loop-entry.entry-index in
-    let l : k < length entries = omega arith in
+    let entry_index = c.loop-entry.entry-index in
+    let index_in_entries : entry_index < length entries = omega arith in
     let expected = λ (bytes : ℕ → List ℕ). or_missing c.args.tex.0 (option_map (patches_part bytes (length c.args.columns.now)) (placed_patches (last_of c.args.dir.now.lumps) bytes c.args.lists.now.names entries)) in
     reads_same c.from_residual.result c.in_err-patch.field-0.0 expected c.from_residual.ensures.1
     (reads_stop expected c.in_err-patch.field-0.0 c.loop-entry.invariant.tells c.place_entry.result c.place_entry.ensures.tells c.in_err-patch.was
-    (λ lump is. record { entry = get_or entries k no_entry; among = Contains-get_or entries k no_entry l; is = is })
-    (λ bytes e one two. part_stop (last_of c.args.dir.now.lumps) bytes c.args.lists.now.names c.args.tex.0 (length c.args.columns.now) entries k no_entry _ c.loop-entry.columns e l one two))
+    (λ lump is. record { entry = get_or entries entry_index no_entry; among = Contains-get_or entries entry_index no_entry index_in_entries; is = is })
+    (λ bytes e one two. part_stop (last_of c.args.dir.now.lumps) bytes c.args.lists.now.names c.args.tex.0 (length c.args.columns.now) entries entry_index no_entry _ c.loop-entry.columns e index_in_entries one two))
 
 pub returns-in_err-push-clause-tells : goal.returns-in_err-push-clause-tells
 returns-in_err-push-clause-tells g c =
-    let entries = c.args.entries.now in
-    let k = c.loop-entry.entry-index in
-    let l : k < length entries = omega arith in
-    let placed = c.in_ok-patch.patch in
+    let entries = c.args.entries.now in let entry_index = c.loop-entry.entry-index in
+    let index_in_entries : entry_index < length entries = omega arith in
+    let new_patch = c.in_ok-patch.patch in
     let expected = λ (bytes : ℕ → List ℕ). or_missing c.args.tex.0 (option_map (patches_part bytes (length c.args.columns.now)) (placed_patches (last_of c.args.dir.now.lumps) bytes c.args.lists.now.names entries)) in
-    let value : Unit {0} → PatchesPart = λ done. part (c.loop-entry.patches.items ++ placed ∷ []) c.place_entry.new.columns in
-    let one = reads_more {wants = IsEntryPatch c.args.dir.now.lumps c.args.lists.now.names entries} {value = value}
-    (λ bytes. or_missing c.args.tex.0 (option_map (patches_part bytes (length c.args.columns.now)) (placed_patches (last_of c.args.dir.now.lumps) bytes c.args.lists.now.names (take (k + 1) entries)))) placed tt
+    let value : Unit {0} → PatchesPart = λ done. part (c.loop-entry.patches.items ++ new_patch ∷ []) c.place_entry.new.columns in
+    let patch_added = reads_more {wants = IsEntryPatch c.args.dir.now.lumps c.args.lists.now.names entries} {value = value}
+    (λ bytes. or_missing c.args.tex.0 (option_map (patches_part bytes (length c.args.columns.now)) (placed_patches (last_of c.args.dir.now.lumps) bytes c.args.lists.now.names (take (entry_index + 1) entries)))) new_patch tt
     c.loop-entry.invariant.tells c.place_entry.result c.place_entry.ensures.tells c.in_ok-patch.was
-    (λ lump is. record { entry = get_or entries k no_entry; among = Contains-get_or entries k no_entry l; is = is })
-    (λ bytes one two. part_push (last_of c.args.dir.now.lumps) bytes c.args.lists.now.names c.args.tex.0 (length c.args.columns.now) entries k no_entry c.loop-entry.patches.items c.loop-entry.columns c.place_entry.new.columns placed l one two) in
-    reads_same c.from_residual-in_err-push.result OutOfMemory expected c.from_residual-in_err-push.ensures.1 (reads_short OutOfMemory refl (λ lump w. w) one)
+    (λ lump is. record { entry = get_or entries entry_index no_entry; among = Contains-get_or entries entry_index no_entry index_in_entries; is = is })
+    (λ bytes one two. part_push (last_of c.args.dir.now.lumps) bytes c.args.lists.now.names c.args.tex.0 (length c.args.columns.now) entries entry_index no_entry c.loop-entry.patches.items c.loop-entry.columns c.place_entry.new.columns new_patch index_in_entries one two) in
+    reads_same c.from_residual-in_err-push.result OutOfMemory expected c.from_residual-in_err-push.ensures.1
+    (reads_short OutOfMemory refl (λ lump w. w) patch_added)

@@ -19,53 +19,53 @@ pub loop-number-preserved : goal.loop-number-preserved
 loop-number-preserved g c =
     let lists = c.args.lists.now in
     let marks = c.args.marks.now in
-    let k = c.loop-number.number in
-    let l : k < length lists.textures = omega (arith, c.requires.count, c.loop-number-test.true) in
+    let number = c.loop-number.number in
+    let number_within : number < length lists.textures = omega (arith, c.requires.count, c.loop-number-test.true) in
     let inv = c.loop-number.invariant in
     let before = c.loop-number.textures.items in
     let texture = c.in_ok-texture.texture in
     record {
-      tells = reads_more (λ bytes. prepared_from (prepared (last_of c.args.dir.now.lumps) bytes lists.names) (is_marked marks) 0 (take (k + 1) lists.textures)) texture tt
+      tells = reads_more (λ bytes. prepared_from (prepared (last_of c.args.dir.now.lumps) bytes lists.names) (is_marked marks) 0 (take (number + 1) lists.textures)) texture tt
           inv.tells c.prepare_if.result c.prepare_if.ensures.tells c.in_ok-texture.was
-          (wanted_patch l)
-          (λ bytes one two. from_push (prepared (last_of c.args.dir.now.lumps) bytes lists.names) (is_marked marks) lists.textures k before texture l one two ∙ ap Ok (sym c.in_ok-push.ensures.items));
+          (wanted_patch number_within)
+          (λ bytes one two. from_push (prepared (last_of c.args.dir.now.lumps) bytes lists.names) (is_marked marks) lists.textures number before texture number_within one two ∙ ap Ok (sym c.in_ok-push.ensures.items));
       there = subst (All (λ (t : Option PreparedTexture). IfSome t (ArePatchesThere c.args.dir.now.lumps))) (sym c.in_ok-push.ensures.items)
           (All-push (λ (t : Option PreparedTexture). IfSome t (ArePatchesThere c.args.dir.now.lumps)) before texture inv.there c.in_ok-texture.ensures.there);
       listed = subst (λ textures. (number : ℕ) → IfSome (prepared_at textures number) (IsListedAs (texture_at lists.textures number))) (sym c.in_ok-push.ensures.items)
-          (listed_push lists.textures before texture k (count_marked before marks k (omega (arith, c.loop-number-test.true)) inv.marks) inv.listed c.in_ok-texture.ensures.listed);
+          (listed_push lists.textures before texture number (count_marked before marks number (omega (arith, c.loop-number-test.true)) inv.marks) inv.listed c.in_ok-texture.ensures.listed);
       marks = ap (map is_some) c.in_ok-push.ensures.items ∙ map-append is_some before (texture ∷ []) ∙ ap (λ xs. xs ++ is_some texture ∷ []) inv.marks
-          ∙ ap (λ b. take k marks ++ b ∷ []) c.in_ok-texture.ensures.wanted ∙ sym (take_more marks k false (omega (arith, c.loop-number-test.true)));
+          ∙ ap (λ b. take number marks ++ b ∷ []) c.in_ok-texture.ensures.wanted ∙ sym (take_more marks number false (omega (arith, c.loop-number-test.true)));
     }
 
 pub returns-in_err-texture-clause-tells : goal.returns-in_err-texture-clause-tells
 returns-in_err-texture-clause-tells g c =
     let lists = c.args.lists.now in
-    let k = c.loop-number.number in
-    let l : k < length lists.textures = omega (arith, c.requires.count, c.loop-number-test.true) in
+    let number = c.loop-number.number in
+    let number_within : number < length lists.textures = omega (arith, c.requires.count, c.loop-number-test.true) in
     reads_same c.from_residual.result c.in_err-texture.field-0.0 _ c.from_residual.ensures.1
-    (reads_stop _ c.in_err-texture.field-0.0 c.loop-number.invariant.tells c.prepare_if.result c.prepare_if.ensures.tells c.in_err-texture.was (wanted_patch l)
-    (λ bytes e one two. from_textures _ bytes lists _ ∙ from_stop _ _ lists.textures k _ e l one two))
+    (reads_stop _ c.in_err-texture.field-0.0 c.loop-number.invariant.tells c.prepare_if.result c.prepare_if.ensures.tells c.in_err-texture.was
+    (wanted_patch number_within) (λ bytes e one two. from_textures _ bytes lists _ ∙ from_stop _ _ lists.textures number _ e number_within one two))
 
 pub returns-in_err-push-clause-tells : goal.returns-in_err-push-clause-tells
 returns-in_err-push-clause-tells g c =
     let lists = c.args.lists.now in
     let marks = c.args.marks.now in
-    let k = c.loop-number.number in
-    let l : k < length lists.textures = omega (arith, c.requires.count, c.loop-number-test.true) in
+    let number = c.loop-number.number in
+    let number_within : number < length lists.textures = omega (arith, c.requires.count, c.loop-number-test.true) in
     let before = c.loop-number.textures.items in
     let texture = c.in_ok-texture.texture in
     let value : Unit {0} → List (Option PreparedTexture) = λ done. before ++ texture ∷ [] in
-    let one = reads_more {wants = IsWantedPatch c.args.dir.now.lumps lists (is_marked marks)} {value = value}
-    (λ bytes. prepared_from (prepared (last_of c.args.dir.now.lumps) bytes lists.names) (is_marked marks) 0 (take (k + 1) lists.textures)) texture tt
+    let texture_added = reads_more {wants = IsWantedPatch c.args.dir.now.lumps lists (is_marked marks)} {value = value}
+    (λ bytes. prepared_from (prepared (last_of c.args.dir.now.lumps) bytes lists.names) (is_marked marks) 0 (take (number + 1) lists.textures)) texture tt
     c.loop-number.invariant.tells c.prepare_if.result c.prepare_if.ensures.tells c.in_ok-texture.was
-    (wanted_patch l)
-    (λ bytes one two. from_push (prepared (last_of c.args.dir.now.lumps) bytes lists.names) (is_marked marks) lists.textures k before texture l one two) in
-    reads_same c.from_residual-in_err-push.result OutOfMemory _ c.from_residual-in_err-push.ensures.1 (reads_short OutOfMemory refl (λ lump w. w) one)
+    (wanted_patch number_within) (λ bytes one two. from_push (prepared (last_of c.args.dir.now.lumps) bytes lists.names)
+    (is_marked marks) lists.textures number before texture number_within one two) in
+    reads_same c.from_residual-in_err-push.result OutOfMemory _ c.from_residual-in_err-push.ensures.1 (reads_short OutOfMemory refl (λ lump w. w) texture_added)
 
 pub returns-clause-tells : goal.returns-clause-tells
 returns-clause-tells g c =
     let lists = c.args.lists.now in
     let marks = c.args.marks.now in
-    let k = c.loop-number.number in
+    let number = c.loop-number.number in
     reads_as tt c.loop-number.textures c.loop-number.invariant.tells (λ lump w. w)
-    (λ bytes is. from_all (last_of c.args.dir.now.lumps) bytes lists (is_marked marks) k (omega (arith, c.requires.count, c.loop-number-test.false)) ∙ is)
+    (λ bytes is. from_all (last_of c.args.dir.now.lumps) bytes lists (is_marked marks) number (omega (arith, c.requires.count, c.loop-number-test.false)) ∙ is)

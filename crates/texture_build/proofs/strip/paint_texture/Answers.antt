@@ -10,11 +10,11 @@ paint_live-requires-clause-texture g c = can_draw-counts c.in_ok-ready_at.ensure
 
 pub returns-clause-paints : goal.returns-clause-paints
 returns-clause-paints g c =
-    let s = c.args.strip.now in
-    let r = c.in_ok-ready_at.ensures in
-    let e = c.paint_live.ensures in
-    let own = column_in (prepared_texture c.args.art.now.textures.now s.tex.0) in
+    let strip = c.args.strip.now in let texture_ready = c.in_ok-ready_at.ensures in
+    let live_paints = c.paint_live.ensures in
+    let own = column_in (prepared_texture c.args.art.now.textures.now strip.tex.0) in
     paints-live tt
-    (draws-ready s.tex.0 s.column c.lookup-lookup.result (c.lookup-lookup.ensures.value ∙ ap own (to_z-of_z w32 s.column (search rules))) r.keeps r.readies)
-    (λ view contents count q hold is. e.painted view contents count hold) (λ view contents count q hold is. e.fits view contents count hold)
-    e.place (ap g.S.Shelf.view e.shelf) e.cache
+    (draws-ready strip.tex.0 strip.column c.lookup-lookup.result
+    (c.lookup-lookup.ensures.value ∙ ap own (to_z-of_z w32 strip.column (search rules))) texture_ready.keeps texture_ready.readies)
+    (λ view contents count q hold is. live_paints.painted view contents count hold) (λ view contents count q hold is. live_paints.fits view contents count hold)
+    live_paints.place (ap g.S.Shelf.view live_paints.shelf) live_paints.cache

@@ -5,7 +5,7 @@ use Rattle.texture_lists.proofs.lists.read_textures.Goals as goal
 
 pub read_texture-requires-clause-head : goal.read_texture-requires-clause-head
 read_texture-requires-clause-head c =
-    let within = head_within c.args.bytes.now c.loop-i.i c.requires.right (omega arith) in omega arith
+    let head_in_bytes = head_within c.args.bytes.now c.loop-i.i c.requires.right (omega arith) in omega arith
 
 pub read_texture-requires-clause-wide : goal.read_texture-requires-clause-wide
 read_texture-requires-clause-wide c =

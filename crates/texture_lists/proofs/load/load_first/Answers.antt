@@ -8,5 +8,5 @@ returns-in_err-lump-clause-tells g c = fetch_stopped first_part (c.from_bytes.en
 
 pub returns : goal.returns
 returns g c =
-    let both = fetch_judged first_part (c.from_bytes.ensures ∙ texture1_name) c.in_ok-lump.lump _ c.first_part.result c.in_ok-lump.ensures.tells c.in_ok-lump.ensures.last c.in_ok-lump.ensures.there c.in_ok-lump.ensures.live c.in_ok-lump.ensures.bytes c.live_bytes.ensures.value c.live_bytes.ensures.fits c.first_part.ensures.answers c.first_part.ensures.of_bytes in
-    record { tells = both.0; fits = both.1; few = c.first_part.ensures.few; count = c.first_part.ensures.count }
+    let lump_judged = fetch_judged first_part (c.from_bytes.ensures ∙ texture1_name) c.in_ok-lump.lump _ c.first_part.result c.in_ok-lump.ensures.tells c.in_ok-lump.ensures.last c.in_ok-lump.ensures.there c.in_ok-lump.ensures.live c.in_ok-lump.ensures.bytes c.live_bytes.ensures.value c.live_bytes.ensures.fits c.first_part.ensures.answers c.first_part.ensures.of_bytes in
+    record { tells = lump_judged.0; fits = lump_judged.1; few = c.first_part.ensures.few; count = c.first_part.ensures.count }

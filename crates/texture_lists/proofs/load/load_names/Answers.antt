@@ -8,5 +8,5 @@ returns-in_err-lump-clause-tells g c = fetch_stopped patch_names (c.from_bytes.e
 
 pub returns : goal.returns
 returns g c =
-    let both = fetch_judged patch_names (c.from_bytes.ensures ∙ pnames_name) c.in_ok-lump.lump _ c.patch_names.result c.in_ok-lump.ensures.tells c.in_ok-lump.ensures.last c.in_ok-lump.ensures.there c.in_ok-lump.ensures.live c.in_ok-lump.ensures.bytes c.live_bytes.ensures.value c.live_bytes.ensures.fits c.patch_names.ensures.answers c.patch_names.ensures.of_bytes in
-    record { tells = both.0; fits = both.1 }
+    let lump_judged = fetch_judged patch_names (c.from_bytes.ensures ∙ pnames_name) c.in_ok-lump.lump _ c.patch_names.result c.in_ok-lump.ensures.tells c.in_ok-lump.ensures.last c.in_ok-lump.ensures.there c.in_ok-lump.ensures.live c.in_ok-lump.ensures.bytes c.live_bytes.ensures.value c.live_bytes.ensures.fits c.patch_names.ensures.answers c.patch_names.ensures.of_bytes in
+    record { tells = lump_judged.0; fits = lump_judged.1 }

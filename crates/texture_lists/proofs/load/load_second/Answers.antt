@@ -8,5 +8,5 @@ returns-in_err-lump-clause-tells g c = fetch_stopped (second_part c.args.before)
 
 pub returns : goal.returns
 returns g c =
-    let both = fetch_judged (second_part c.args.before) (c.from_bytes.ensures ∙ texture2_name) c.in_ok-lump.lump _ c.second_part.result c.in_ok-lump.ensures.tells c.in_ok-lump.ensures.last c.in_ok-lump.ensures.there c.in_ok-lump.ensures.live c.in_ok-lump.ensures.bytes c.live_bytes.ensures.value c.live_bytes.ensures.fits c.second_part.ensures.answers c.second_part.ensures.of_bytes in
-    record { tells = both.0; fits = both.1; few = c.second_part.ensures.few; count = c.second_part.ensures.count }
+    let lump_judged = fetch_judged (second_part c.args.before) (c.from_bytes.ensures ∙ texture2_name) c.in_ok-lump.lump _ c.second_part.result c.in_ok-lump.ensures.tells c.in_ok-lump.ensures.last c.in_ok-lump.ensures.there c.in_ok-lump.ensures.live c.in_ok-lump.ensures.bytes c.live_bytes.ensures.value c.live_bytes.ensures.fits c.second_part.ensures.answers c.second_part.ensures.of_bytes in
+    record { tells = lump_judged.0; fits = lump_judged.1; few = c.second_part.ensures.few; count = c.second_part.ensures.count }

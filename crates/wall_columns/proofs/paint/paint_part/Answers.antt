@@ -17,39 +17,39 @@ within first last own x left top width height from to is_first is_last ordered l
 pub returns-then-rows-clause-paints : goal.returns-then-rows-clause-paints
 returns-then-rows-clause-paints g c =
     let tools = c.args.tools.now in
-    let past : int_lt c.args.rows.last c.args.rows.first ≡ true = grind (arith, ints) in
-    paints-same _ (λ contents q is. strips-empty tools.view.now.shape (painted_art contents (wall_tools tools)) c.args.look.now c.args.part c.args.rows past)
+    let no_rows : int_lt c.args.rows.last c.args.rows.first ≡ true = grind (arith, ints) in
+    paints-same _ (λ contents q is. strips-empty tools.view.now.shape (painted_art contents (wall_tools tools)) c.args.look.now c.args.part c.args.rows no_rows)
     (paints-none (wall_state g.S.Shelf.view g.C.Canvas.view tools) tt)
 
 pub paint_texture-requires-clause-texture : goal.paint_texture-requires-clause-texture
 paint_texture-requires-clause-texture g c =
-    let t = c.args.tools.now in
+    let tools = c.args.tools.now in
     let ordered : c.args.rows.first ≤ℤ c.args.rows.last = grind (arith, ints) in
-    subst (CanDraw t.dir.now.lumps t.textures.now t.cache.now) (sym c.texture_strip-strip.ensures.texture) (c.requires.texture ordered)
+    subst (CanDraw tools.dir.now.lumps tools.textures.now tools.cache.now) (sym c.texture_strip-strip.ensures.texture) (c.requires.texture ordered)
 
 pub paint_texture-requires-clause-within : goal.paint_texture-requires-clause-within
 paint_texture-requires-clause-within g c =
-    let r = c.texture_strip-strip.result in
-    let s = c.texture_strip-strip.ensures in
+    let strip = c.texture_strip-strip.result in
+    let fields = c.texture_strip-strip.ensures in
     let canvas = g.C.Canvas.view c.args.tools.now.canvas.now in
     let shape = c.args.tools.now.view.now.shape in
-    let placed = c.requires.column in
+    let column_placed = c.requires.column in
     let ordered : c.args.rows.first ≤ℤ c.args.rows.last = grind (arith, ints) in
-    within r.first r.last r.x c.args.look.now.x canvas.left canvas.top shape.width shape.height c.args.rows.first c.args.rows.last
-    s.first s.last ordered (c.requires.rows ordered).1 s.x placed.0 placed.1.columns placed.1.rows
+    within strip.first strip.last strip.x c.args.look.now.x canvas.left canvas.top shape.width shape.height c.args.rows.first c.args.rows.last
+    fields.first fields.last ordered (c.requires.rows ordered).1 fields.x column_placed.0 column_placed.1.columns column_placed.1.rows
 
 pub returns-in_err-paint_texture-clause-paints : goal.returns-in_err-paint_texture-clause-paints
 returns-in_err-paint_texture-clause-paints g c =
-    let s = c.texture_strip-strip.ensures in
+    let fields = c.texture_strip-strip.ensures in
     let ordered : c.args.rows.first ≤ℤ c.args.rows.last = grind (arith, ints) in
-    part-painted c.args.tools.now.view.now.shape c.args.look.now c.args.part c.args.rows c.texture_strip-strip.result
-    s.kind s.number s.texture s.column s.x s.first s.last s.centre s.mid s.step s.map ordered c.paint_texture.result _
+    part-painted c.args.tools.now.view.now.shape c.args.look.now c.args.part c.args.rows c.texture_strip-strip.result fields.kind fields.number
+    fields.texture fields.column fields.x fields.first fields.last fields.centre fields.mid fields.step fields.map ordered c.paint_texture.result _
     (mapped-err from_cache_fault _ c.in_err-paint_texture.field-0.0 _ c.in_err-paint_texture.was c.from_residual.ensures.1) c.paint_texture.ensures.paints
 
 pub returns-clause-paints : goal.returns-clause-paints
 returns-clause-paints g c =
-    let s = c.texture_strip-strip.ensures in
+    let fields = c.texture_strip-strip.ensures in
     let ordered : c.args.rows.first ≤ℤ c.args.rows.last = grind (arith, ints) in
-    part-painted c.args.tools.now.view.now.shape c.args.look.now c.args.part c.args.rows c.texture_strip-strip.result
-    s.kind s.number s.texture s.column s.x s.first s.last s.centre s.mid s.step s.map ordered c.paint_texture.result _
+    part-painted c.args.tools.now.view.now.shape c.args.look.now c.args.part c.args.rows c.texture_strip-strip.result fields.kind fields.number
+    fields.texture fields.column fields.x fields.first fields.last fields.centre fields.mid fields.step fields.map ordered c.paint_texture.result _
     (mapped-ok from_cache_fault _ c.in_ok-paint_texture.field-0 c.in_ok-paint_texture.was) c.paint_texture.ensures.paints

@@ -30,10 +30,10 @@ paint_part-requires-clause-rows g c =
 
 pub paint_part-requires-clause-texture : goal.paint_part-requires-clause-texture
 paint_part-requires-clause-texture g c =
-    let t = c.args.tools.now in
-    let P : WallStrip → Type 0 = λ s. HasRows s → CanDraw t.dir.now.lumps t.textures.now t.cache.now s.part.number in
-    subst P (sym c.first_strip.ensures) (first-in P c.args.numbers.now c.args.plan.now
-    (plan-textures t.dir.now.lumps t.textures.now t.cache.now c.args.numbers.now c.args.plan.now c.requires.strips.1))
+    let tools = c.args.tools.now in
+    let CanDrawStrip : WallStrip → Type 0 = λ s. HasRows s → CanDraw tools.dir.now.lumps tools.textures.now tools.cache.now s.part.number in
+    subst CanDrawStrip (sym c.first_strip.ensures) (first-in CanDrawStrip c.args.numbers.now c.args.plan.now
+    (plan-textures tools.dir.now.lumps tools.textures.now tools.cache.now c.args.numbers.now c.args.plan.now c.requires.strips.1))
 
 pub paint_second-requires-clause-colormap : goal.paint_second-requires-clause-colormap
 paint_second-requires-clause-colormap g c =
@@ -64,8 +64,8 @@ returns-in_err-paint_part-clause-paints g c =
 pub returns-then-not-has_second-clause-paints : goal.returns-then-not-has_second-clause-paints
 returns-then-not-has_second-clause-paints g c =
     let tools = c.args.tools.now in
-    paints-plan tools.view.now c.args.number c.args.x c.scale_map.result c.args.fragment.now c.args.numbers.now c.args.edges.now c.args.plan.now _ c.column_at.result c.inverse_word.result
-    (search rules) (search rules) (search rules) c.inverse_word.ensures c.scale_map.ensures c.column_at.ensures
+    paints-plan tools.view.now c.args.number c.args.x c.scale_map.result c.args.fragment.now c.args.numbers.now c.args.edges.now c.args.plan.now _ c.column_at.result
+    c.inverse_word.result (search rules) (search rules) (search rules) c.inverse_word.ensures c.scale_map.ensures c.column_at.ensures
     (λ contents. first-painted tools.view.now.shape (painted_art contents (wall_tools tools)) _ c.args.numbers.now c.args.plan.now _ false c.first_strip.ensures
     c.requires.rows (sym c.has_second.ensures ∙ c.if-not-has_second.true))
     (paints-wider (λ (number : ℕ) (own : ℤ) h. (first-texture c.args.numbers.now c.args.plan.now _ c.first_strip.ensures number h.0, h.1)) (λ (lump : ℕ) h. h) c.in_ok-paint_part.ensures.paints)
@@ -73,17 +73,17 @@ returns-then-not-has_second-clause-paints g c =
 pub returns-clause-paints : goal.returns-clause-paints
 returns-clause-paints g c =
     let tools = c.args.tools.now in
-    let n : FragmentNumbers = c.args.numbers.now in
+    let numbers : FragmentNumbers = c.args.numbers.now in
     let plan : ColumnPlan = c.args.plan.now in
     let look = look_with c.args.number c.args.x c.column_at.result c.inverse_word.result c.scale_map.result in
-    paints-plan tools.view.now c.args.number c.args.x c.scale_map.result c.args.fragment.now n c.args.edges.now plan _ c.column_at.result c.inverse_word.result
-    (search rules) (search rules) (search rules) c.inverse_word.ensures c.scale_map.ensures c.column_at.ensures
-    (λ contents. first-painted tools.view.now.shape (painted_art contents (wall_tools tools)) look n plan _ true c.first_strip.ensures
+    paints-plan tools.view.now c.args.number c.args.x c.scale_map.result c.args.fragment.now numbers c.args.edges.now plan _ c.column_at.result
+    c.inverse_word.result (search rules) (search rules) (search rules) c.inverse_word.ensures c.scale_map.ensures c.column_at.ensures
+    (λ contents. first-painted tools.view.now.shape (painted_art contents (wall_tools tools)) look numbers plan _ true c.first_strip.ensures
     c.requires.rows (sym c.has_second.ensures ∙ c.if-not-has_second.false))
-    (paints-same _ (λ contents q is. strips-append tools.view.now.shape (painted_art contents (wall_tools tools)) look (_ ∷ []) (bottom_strip n plan ∷ []))
-    (paints-then
-    (paints-wider (λ (number : ℕ) (own : ℤ) h. (first-texture n plan _ c.first_strip.ensures number h.0, h.1)) (λ (lump : ℕ) h. h) c.in_ok-paint_part.ensures.paints)
-    (before-same c.args.tools.now c.paint_part.new.tools (λ v t. PaintsStrips v.shape t g.C.Canvas.mark look (λ number own. IsPlanTexture n plan number × (own ≡ look.column)) (bottom_strip n plan ∷ [])
+    (paints-same _ (λ contents q is. strips-append tools.view.now.shape (painted_art contents (wall_tools tools)) look (_ ∷ [])
+    (bottom_strip numbers plan ∷ [])) (paints-then
+    (paints-wider (λ (number : ℕ) (own : ℤ) h. (first-texture numbers plan _ c.first_strip.ensures number h.0, h.1)) (λ (lump : ℕ) h. h) c.in_ok-paint_part.ensures.paints)
+    (before-same c.args.tools.now c.paint_part.new.tools (λ v t. PaintsStrips v.shape t g.C.Canvas.mark look (λ number own. IsPlanTexture numbers plan number × (own ≡ look.column)) (bottom_strip numbers plan ∷ [])
     (wall_state g.S.Shelf.view g.C.Canvas.view c.paint_part.new.tools) (wall_state g.S.Shelf.view g.C.Canvas.view c.paint_second.new.tools) c.paint_second.result)
     c.in_ok-paint_part.ensures.same
     (paints-wider (λ (number : ℕ) (own : ℤ) h. (inr (inr h.0), h.1)) (λ (lump : ℕ) h. h) c.paint_second.ensures.paints))))

@@ -5,6 +5,6 @@ use Rattle.texture_build.proofs.prepared.PreparedTexture.mask.Goals as goal
 
 pub returns-clause-within : goal.returns-clause-within
 returns-clause-within c =
-    let t = c.self.inside in
-    subst (λ (v : PreparedTexture). t.mask < length v.columns) c.self.view_is
-    (subst (λ (m : ℕ). m < length t.columns.items) (sym c.self.invariant.1) (mask_within (length t.columns.items) c.self.invariant.4 c.self.invariant.5))
+    let inside = c.self.inside in subst (λ (v : PreparedTexture). inside.mask < length v.columns) c.self.view_is
+    (subst (λ (m : ℕ). m < length inside.columns.items)
+    (sym c.self.invariant.1) (mask_within (length inside.columns.items) c.self.invariant.4 c.self.invariant.5))

@@ -6,6 +6,6 @@ use Rattle.texture_build.proofs.textures.Textures.column_at.Goals as goal
 pub returns-clause-texel : goal.returns-clause-texel
 returns-clause-texel c = λ col contents lumps is there faithful composites are.
     let textures = c.args.self.now in
-    let t = prepared_texture textures c.args.tex.0 in
+    let texture = prepared_texture textures c.args.tex.0 in
     rw (c.lend_lookup.ensures.column ∙ ap (λ n. column_view n c.args.cache.now c.args.lookup) c.from.ensures ∙ ap (column_view c.args.tex.0 c.args.cache.now) is)
-    (texels_lent contents lumps textures c.args.tex.0 t c.args.cache.now col (prepared_is (prepared_at textures.prepared c.args.tex.0) c.requires.prepared) there faithful composites are)
+    (texels_lent contents lumps textures c.args.tex.0 texture c.args.cache.now col (prepared_is (prepared_at textures.prepared c.args.tex.0) c.requires.prepared) there faithful composites are)

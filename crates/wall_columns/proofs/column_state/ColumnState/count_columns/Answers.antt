@@ -6,28 +6,28 @@ use Rattle.wall_columns.proofs.column_state.ColumnState.count_columns.Goals as g
 
 pub loop-edges-init : goal.loop-edges-init
 loop-edges-init c =
-    let passed = passed-none c.args.fragment.now c.new-stepper.result c.args.self.now c.args.planes.now c.new-stepper.ensures in
-    record { at = passed.at; marked = passed.marked; openings = refl }
+    let columns_passed = passed-none c.args.fragment.now c.new-stepper.result c.args.self.now c.args.planes.now c.new-stepper.ensures in
+    record { at = columns_passed.at; marked = columns_passed.marked; openings = refl }
 
 pub loop-edges-preserved : goal.loop-edges-preserved
 loop-edges-preserved c =
-    let kept = c.loop-edges.invariant in
-    let f : FragmentValue = c.args.fragment.now in
+    let invariant = c.loop-edges.invariant in let fragment : FragmentValue = c.args.fragment.now in
     let before : Stepper = c.loop-edges.stepper in
     let after : Stepper = c.next.new.self in
     let now = c.loop-edges.self in
     let next = c.pass_column.new.self in
     let plan = c.pass_column.result in
     let marks = c.pass_column.ensures in
-    let so_far : HasPassed f before c.args.self.now now c.args.planes.now c.loop-edges.planes = record { at = kept.at; marked = kept.marked } in
-    let passed = passed-more f c.args.numbers.now before after c.in-Some.edges c.args.self.now now next c.args.planes.now c.loop-edges.planes
-    c.pass_column.new.planes plan.after so_far c.requires.numbers (c.in-Some.ensures.column f (passed_columns f before) kept.at)
+    let so_far : HasPassed fragment before c.args.self.now now c.args.planes.now c.loop-edges.planes =
+    record { at = invariant.at; marked = invariant.marked } in
+    let columns_passed = passed-more fragment c.args.numbers.now before after c.in-Some.edges c.args.self.now now next c.args.planes.now c.loop-edges.planes
+    c.pass_column.new.planes plan.after so_far c.requires.numbers (c.in-Some.ensures.column fragment (passed_columns fragment before) invariant.at)
     (passes-column c.args.numbers.now (after.x - 1) c.in-Some.edges now next c.loop-edges.planes c.pass_column.new.planes plan
     marks.plan marks.windows marks.own marks.other marks.planes marks.count marks.same_floor marks.same_ceiling) in
-    record { at = passed.at; marked = passed.marked; openings = marks.openings ∙ kept.openings }
+    record { at = columns_passed.at; marked = columns_passed.marked; openings = marks.openings ∙ invariant.openings }
 
 pub returns-clause-marked : goal.returns-clause-marked
 returns-clause-marked c =
-    let f : FragmentValue = c.args.fragment.now in
-    let kept = c.loop-edges.invariant in
-    passed-all c.loop-edges.stepper (c.in_default.ensures.end f (passed_columns f c.loop-edges.stepper) kept.at) kept.marked
+    let fragment : FragmentValue = c.args.fragment.now in
+    let invariant = c.loop-edges.invariant in
+    passed-all c.loop-edges.stepper (c.in_default.ensures.end fragment (passed_columns fragment c.loop-edges.stepper) invariant.at) invariant.marked

@@ -10,8 +10,8 @@ use Rattle.wall_columns.proofs.column_state.ColumnState.draw_columns.Goals as go
 -- a fragment without a texture paints nothing
 pub returns-then-not-has_part-clause-paints : goal.returns-then-not-has_part-clause-paints
 returns-then-not-has_part-clause-paints g c =
-    let P : FragmentNumbers → Type 0 = λ n. has_part n ≡ false in
+    let IsBare : FragmentNumbers → Type 0 = λ n. has_part n ≡ false in
     let start = c.args.tools.now in
     paints-same _ (λ contents (q : WallRange) is. along-bare start.view.now (painted_art contents (wall_tools start)) c.args.number c.args.fragment.now q.facts (window_at c.args.self.now.windows) (columns_of c.args.fragment.now)
-    (subst P c.requires.numbers (sym c.has_part.ensures ∙ c.if-not-has_part.true)))
+    (subst IsBare c.requires.numbers (sym c.has_part.ensures ∙ c.if-not-has_part.true)))
     (paints-none (wall_state g.S.Shelf.view g.C.Canvas.view start) tt)

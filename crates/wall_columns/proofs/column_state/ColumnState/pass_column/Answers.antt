@@ -17,9 +17,9 @@ narrow-requires-clause-rows c = (plan-in c.args.numbers.now c.clip-clip.result c
 pub returns-clause-planes : goal.returns-clause-planes
 unfolding plan_of
 returns-clause-planes c =
-    let is = c.column_plan-plan.ensures in
+    let plan_is = c.column_plan-plan.ensures in
     let window = c.clip-clip.ensures.value in
     marked-planes c.args.numbers.now c.args.self.now.ceiling c.args.self.now.floor c.args.marked c.args.x _ _ _ _ _ _ _ c.requires.marked
-    (ap (λ (plan : ColumnPlan). plan.ceiling) is ∙ ap (λ (clip : ColumnClip). ceiling_rows clip c.args.edges.now) window)
-    (ap (λ (plan : ColumnPlan). plan.floor) is ∙ ap (λ (clip : ColumnClip). floor_rows clip c.args.edges.now) window)
+    (ap (λ (plan : ColumnPlan). plan.ceiling) plan_is ∙ ap (λ (clip : ColumnClip). ceiling_rows clip c.args.edges.now) window)
+    (ap (λ (plan : ColumnPlan). plan.floor) plan_is ∙ ap (λ (clip : ColumnClip). floor_rows clip c.args.edges.now) window)
     c.mark_rows.ensures.run c.mark_rows-2.ensures.run

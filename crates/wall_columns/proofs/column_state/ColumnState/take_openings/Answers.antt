@@ -9,25 +9,25 @@ use Rattle.wall_columns.proofs.column_state.ColumnState.take_openings.Goals as g
 
 pub extend-requires : goal.extend-requires
 extend-requires c =
-    let e = ap (λ (p : SavePlaces). p.end) c.save_places-places.ensures in
-    let l = (places_of-end c.args.numbers.now c.count.result (c.args.last + 1 - c.args.first)).0 in
-    omega arith
+    let end_is = ap (λ (p : SavePlaces). p.end) c.save_places-places.ensures in
+    let end_bounded = (places_of-end c.args.numbers.now c.count.result (c.args.last + 1 - c.args.first)).0 in omega arith
 
 pub returns-in_err-extend-clause-limit : goal.returns-in_err-extend-clause-limit
 returns-in_err-extend-clause-limit c =
     let room : ℕ = c.args.self.now.openings.room in
-    let e : c.save_places-places.result.end ≡ (places_of c.args.numbers.now (length c.args.self.now.openings.saved) (c.args.last + 1 - c.args.first)).end =
+    let end_is : c.save_places-places.result.end ≡ (places_of c.args.numbers.now (length c.args.self.now.openings.saved) (c.args.last + 1 - c.args.first)).end =
     ap (λ (p : SavePlaces). p.end) c.save_places-places.ensures ∙ ap (λ (n : ℕ). (places_of c.args.numbers.now n (c.args.last + 1 - c.args.first)).end) c.count.ensures.value in
     limit-passed_on c.from_residual.result c.in_err-extend.field-0.0 c.from_residual.ensures.0 c.from_residual.ensures.1
     ∙ ap limit_of_fault c.in_err-extend.ensures.fault
-    ∙ ap (λ (n : ℕ). Some (openings_count n)) e
-    ∙ sym (over_room-passed openings_count room _ None (let l : room < c.save_places-places.result.end = c.in_err-extend.ensures.full.0 refl in omega arith))
+    ∙ ap (λ (n : ℕ). Some (openings_count n)) end_is ∙ sym (over_room-passed openings_count room _ None
+      (let end_past_room : room < c.save_places-places.result.end = c.in_err-extend.ensures.full.0 refl in omega arith))
 
 pub returns-clause-taken : goal.returns-clause-taken
 returns-clause-taken c = record {
   are = c.save_places-places.ensures ∙ ap (λ (used : ℕ). places_of c.args.numbers.now used (c.args.last + 1 - c.args.first)) c.count.ensures.value;
   within = places_of-within c.args.numbers.now c.count.result (c.args.last + 1 - c.args.first) (length c.extend.new.self.saved) c.save_places-places.result
-      c.save_places-places.ensures (let l : length c.extend.new.self.saved ≡ c.save_places-places.result.end = c.in_ok-extend.ensures.length in omega arith);
+      c.save_places-places.ensures (let saved_length : length c.extend.new.self.saved ≡ c.save_places-places.result.end =
+      c.in_ok-extend.ensures.length in omega arith);
   count = c.in_ok-extend.ensures.length;
   front = c.in_ok-extend.ensures.front;
 }
@@ -35,6 +35,6 @@ returns-clause-taken c = record {
 pub returns-clause-limit : goal.returns-clause-limit
 returns-clause-limit c =
     let room : ℕ = c.args.self.now.openings.room in
-    let e : c.save_places-places.result.end ≡ (places_of c.args.numbers.now (length c.args.self.now.openings.saved) (c.args.last + 1 - c.args.first)).end =
+    let end_is : c.save_places-places.result.end ≡ (places_of c.args.numbers.now (length c.args.self.now.openings.saved) (c.args.last + 1 - c.args.first)).end =
     ap (λ (p : SavePlaces). p.end) c.save_places-places.ensures ∙ ap (λ (n : ℕ). (places_of c.args.numbers.now n (c.args.last + 1 - c.args.first)).end) c.count.ensures.value in
     sym (over_room-within openings_count room _ None (λ l. c.in_ok-extend.ensures.full.1 (omega arith)))

@@ -29,15 +29,15 @@ returns-clause-limit c = λ walls s h few.
 
 pub returns-clause-built : goal.returns-clause-built
 returns-clause-built c = λ walls s h few.
-    let v = c.args.view.now in
+    let view = c.args.view.now in
     let facts = c.args.facts.now in
-    let shape = ap (λ (s : ViewShape). s.width) c.shape-shape.ensures.value in
-    let wide = c.shape-shape.ensures.frame.width in
-    let frame : v.shape.width ≤ FRAME_WIDTH = omega arith in
-    built-range v facts c.args.first c.args.last c.numbers-numbers.result c.new-fragment.result c.self.inside.notes.items
+    let width_is = ap (λ (s : ViewShape). s.width) c.shape-shape.ensures.value in
+    let width_in_frame = c.shape-shape.ensures.frame.width in
+    let frame : view.shape.width ≤ FRAME_WIDTH = omega arith in
+    built-range view facts c.args.first c.args.last c.numbers-numbers.result c.new-fragment.result c.self.inside.notes.items
     c.self.inside.columns c.begin.new.self c.count_columns.new.self c.save_columns.new.self c.args.planes.now c.begin.new.planes c.count_columns.new.planes
     c.in_ok-places.places c.note_of-note.result c.new-fragment.ensures c.numbers-numbers.ensures c.requires.ordered c.requires.within frame
     c.self.view_is c.in_ok-places.ensures.windows c.in_ok-places.ensures.ok c.in_ok-places.ensures.taken
     c.count_columns.ensures.marked c.count_columns.ensures.openings c.save_columns.ensures.saved
-    (λ place are. c.note_of-note.ensures v facts place c.new-fragment.ensures refl (ap (λ (s : ViewShape). s.height) c.shape-shape.ensures.value) are)
+    (λ place are. c.note_of-note.ensures view facts place c.new-fragment.ensures refl (ap (λ (s : ViewShape). s.height) c.shape-shape.ensures.value) are)
     c.push_reserved.ensures.items walls s h

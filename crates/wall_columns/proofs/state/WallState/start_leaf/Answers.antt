@@ -7,15 +7,15 @@ use Rattle.wall_columns.proofs.state.WallState.start_leaf.Goals as goal
 
 pub returns-clause-built : goal.returns-clause-built
 returns-clause-built c = λ v walls s h.
-    let P : WallsView → Type 0 = λ w. IsBuilt v walls s w c.args.planes.now.planes in
-    let b : IsBuilt v walls s (walls_view c.self.inside.notes.items c.self.inside.columns) c.args.planes.now.planes = subst P (sym c.self.view_is) h in
-    on_ok c.enter.result (λ e. built-leaf v walls s c.self.inside.notes.items c.self.inside.columns c.enter.new.self c.args.planes.now c.enter.new.planes c.args.leaf.floor c.args.leaf.ceiling b e
+    let IsBuiltAs : WallsView → Type 0 = λ w. IsBuilt v walls s w c.args.planes.now.planes in let built_inside :
+    IsBuilt v walls s (walls_view c.self.inside.notes.items c.self.inside.columns) c.args.planes.now.planes = subst IsBuiltAs (sym c.self.view_is) h in
+    on_ok c.enter.result (λ e. built-leaf v walls s c.self.inside.notes.items c.self.inside.columns c.enter.new.self c.args.planes.now c.enter.new.planes c.args.leaf.floor c.args.leaf.ceiling built_inside e
     c.enter.ensures.windows c.enter.ensures.openings)
-    (c.enter.ensures.ok s (built-now v walls s c.self.inside.notes.items c.self.inside.columns c.args.planes.now b))
+    (c.enter.ensures.ok s (built-now v walls s c.self.inside.notes.items c.self.inside.columns c.args.planes.now built_inside))
 
 pub returns-clause-limit : goal.returns-clause-limit
 returns-clause-limit c = λ v walls s h.
-    let P : WallsView → Type 0 = λ w. IsBuilt v walls s w c.args.planes.now.planes in
-    let b : IsBuilt v walls s (walls_view c.self.inside.notes.items c.self.inside.columns) c.args.planes.now.planes = subst P (sym c.self.view_is) h in
-    c.enter.ensures.limit s (built-now v walls s c.self.inside.notes.items c.self.inside.columns c.args.planes.now b)
+    let IsBuiltAs : WallsView → Type 0 = λ w. IsBuilt v walls s w c.args.planes.now.planes in let built_inside :
+    IsBuilt v walls s (walls_view c.self.inside.notes.items c.self.inside.columns) c.args.planes.now.planes = subst IsBuiltAs (sym c.self.view_is) h in
+    c.enter.ensures.limit s (built-now v walls s c.self.inside.notes.items c.self.inside.columns c.args.planes.now built_inside)
     ∙ step_over-leaf c.args.self.now c.args.planes.now s (length c.args.self.now.openings) c.args.leaf.floor c.args.leaf.ceiling

@@ -65,19 +65,19 @@ returns-clause-paints g c =
 
 pub returns-clause-built : goal.returns-clause-built
 returns-clause-built g c = λ walls s h few.
-    let v = c.args.tools.now.view.now in
+    let view = c.args.tools.now.view.now in
     let facts = c.args.facts.now in
-    let shape = ap (λ (s : ViewShape). s.width) c.shape-shape.ensures.value in
-    let wide = c.shape-shape.ensures.frame.width in
-    let frame : v.shape.width ≤ FRAME_WIDTH = omega arith in
-    let S : ViewValue → Type 0 = λ v.
+    let width_is = ap (λ (s : ViewShape). s.width) c.shape-shape.ensures.value in
+    let width_in_frame = c.shape-shape.ensures.frame.width in
+    let frame : view.shape.width ≤ FRAME_WIDTH = omega arith in
+    let HasSavedIn : ViewValue → Type 0 = λ v.
     HasSaved v c.new-fragment.result c.args.first c.args.last c.in_ok-places.places c.draw_columns.new.self c.save_columns.new.self in
-    let saved : S v = subst S (ap (λ r. r.now) c.in_ok-draw_columns.ensures.same.0) c.save_columns.ensures.saved in
-    built-range v facts c.args.first c.args.last c.numbers-numbers.result c.new-fragment.result c.self.inside.notes.items
+    let columns_saved : HasSavedIn view = subst HasSavedIn (ap (λ r. r.now) c.in_ok-draw_columns.ensures.same.0) c.save_columns.ensures.saved in
+    built-range view facts c.args.first c.args.last c.numbers-numbers.result c.new-fragment.result c.self.inside.notes.items
     c.self.inside.columns c.begin.new.self c.draw_columns.new.self c.save_columns.new.self
     c.args.tools.now.planes.now c.begin.new.planes c.draw_columns.new.tools.planes.now
     c.in_ok-places.places c.note_of-note.result c.new-fragment.ensures c.numbers-numbers.ensures c.requires.ordered c.requires.within frame
     c.self.view_is c.in_ok-places.ensures.windows c.in_ok-places.ensures.ok c.in_ok-places.ensures.taken
-    c.in_ok-draw_columns.ensures.marked c.in_ok-draw_columns.ensures.openings saved
-    (λ place are. c.note_of-note.ensures v facts place c.new-fragment.ensures refl (ap (λ (s : ViewShape). s.height) c.shape-shape.ensures.value) are)
+    c.in_ok-draw_columns.ensures.marked c.in_ok-draw_columns.ensures.openings columns_saved
+    (λ place are. c.note_of-note.ensures view facts place c.new-fragment.ensures refl (ap (λ (s : ViewShape). s.height) c.shape-shape.ensures.value) are)
     c.push_reserved.ensures.items walls s h

@@ -5,5 +5,5 @@ use Rattle.wall_columns.proofs.windows.Windows.ceilings.Goals as goal
 
 pub returns-clause-value : goal.returns-clause-value
 returns-clause-value c =
-    let all = c.self.invariant.ceiling_columns in
+    let all_ceilings = c.self.invariant.ceiling_columns in
     ceilings-lent c.args.self.now c.self.inside.ceiling_clips c.self.inside.floor_clips c.self.inside.height c.args.first c.args.last c.self.view_is (omega arith)
