@@ -3,7 +3,7 @@ use Rattle.word_rules.proofs.Common.{ap, ap₂, arith, cast_unsigned, FitsSigned
 use lib.IntN.{◌+ℤ◌}
 use Rattle.pixel_strips.specs.Rules.{FLAT_SIDE, FRACTION_BITS, Full, Packed, Spans, bits_of, flat_place, pack, packed_at, packed_place, plus, shr_word, span_place, step_at, texel_row, times}
 use Rattle.word_rules.proofs.StepLemmas.{step_at-zero, step_at-more}
-use Rattle.pixel_strips.specs.declared.places.TheConstants.{ROW_LIFT, ROW_SHIFT, FLAT_LIFT, CARRIES}
+use Rattle.pixel_strips.specs.declared.places.TheConstants.{ROW_LIFT, ROW_SHIFT, FLAT_LIFT, CARRIES, GATHER, GATHER_SHIFT}
 use Rattle.pixel_strips.specs.Places.{lifted, IsTexelPlace, IsFlatPlace, IsPackedPlace, IsFirstPlace, IsSpanPlace}
 
 -- a sum is a word
@@ -72,20 +72,25 @@ lifted_below : (by : ℕ) (z : ℤ) → lifted by z < 2 ^ 32
 unfolding lifted
 lifted_below by z = mod-lt (bits_of z * 2 ^ by) (pow_pos 32)
 
+-- the highest bits of the product of two texels' places
+abbrev gather : ℕ → ℕ → ℕ
+gather row column = (row * 2 ^ 58 % 2 ^ 64 + column * 2 ^ 26 % 2 ^ 64) * GATHER % 2 ^ 64 / 2 ^ GATHER_SHIFT
+
+-- the texel that is gathered from a place
+abbrev texel_in : ℕ → ℕ
+texel_in place = gather (place / 2 ^ 58) (place / 2 ^ 26 % 64)
+
 -- the product brings the two together
-gathered : (row column : ℕ) → row < 64 → column < 64 →
-    (row * 2 ^ 58 % 2 ^ 64 + column * 2 ^ 26 % 2 ^ 64) * 67109889 % 2 ^ 64 / 2 ^ 52 ≡ 64 * row + column
+gathered : (row column : ℕ) → row < 64 → column < 64 → gather row column ≡ 64 * row + column
 gathered row column l m = omega arith
 
-pub flat_of_place : (x y : ℤ) (most place : ℕ) → most < CARRIES → IsFlatPlace x y most place →
-    (place / 2 ^ 58 * 2 ^ 58 % 2 ^ 64 + place / 2 ^ 26 % 64 * 2 ^ 26 % 2 ^ 64) * 67109889 % 2 ^ 64 / 2 ^ 52 ≡ flat_place x y
+pub flat_of_place : (x y : ℤ) (most place : ℕ) → most < CARRIES → IsFlatPlace x y most place → texel_in place ≡ flat_place x y
 unfolding lifted flat_place
 flat_of_place x y most place h p =
     let carries_at_most = p.few in
     let row_is = row_above (bits_of y) p.carries (lifted FLAT_LIFT x) (omega arith) (lifted_below FLAT_LIFT x) ∙ flat_of_bits y p.y_fits in
     let column_is = column_below (bits_of x) (lifted FLAT_LIFT y + p.carries) ∙ flat_of_bits x p.x_fits in
-    ap (λ (n : ℕ). (n / 2 ^ 58 * 2 ^ 58 % 2 ^ 64 + n / 2 ^ 26 % 64 * 2 ^ 26 % 2 ^ 64) * 67109889 % 2 ^ 64 / 2 ^ 52) p.is
-    ∙ ap₂ (λ (row column : ℕ). (row * 2 ^ 58 % 2 ^ 64 + column * 2 ^ 26 % 2 ^ 64) * 67109889 % 2 ^ 64 / 2 ^ 52) row_is column_is
+    ap texel_in p.is ∙ ap₂ gather row_is column_is
     ∙ gathered _ _ (omega arith) (omega arith)
 
 -- the shift up of one half
@@ -284,14 +289,12 @@ packed_above w carries h l = omega arith
 packed_below : (w carries : ℕ) → w < 2 ^ 32 → (2 ^ 32 * (2 ^ 16 * (w % 2 ^ 16) + carries) + w) / 2 ^ 26 % 64 ≡ w / 2 ^ 26
 packed_below w carries l = omega arith
 
-packed_of_place : (w most place : ℕ) → most < CARRIES → IsPackedPlace w most place →
-    (place / 2 ^ 58 * 2 ^ 58 % 2 ^ 64 + place / 2 ^ 26 % 64 * 2 ^ 26 % 2 ^ 64) * 67109889 % 2 ^ 64 / 2 ^ 52 ≡ packed_place w
+packed_of_place : (w most place : ℕ) → most < CARRIES → IsPackedPlace w most place → texel_in place ≡ packed_place w
 unfolding packed_place
 packed_of_place w most place h p =
     let carries_at_most = p.few in
     let word_fits = p.fits in
-    ap (λ (n : ℕ). (n / 2 ^ 58 * 2 ^ 58 % 2 ^ 64 + n / 2 ^ 26 % 64 * 2 ^ 26 % 2 ^ 64) * 67109889 % 2 ^ 64 / 2 ^ 52) p.is
-    ∙ ap₂ (λ (row column : ℕ). (row * 2 ^ 58 % 2 ^ 64 + column * 2 ^ 26 % 2 ^ 64) * 67109889 % 2 ^ 64 / 2 ^ 52)
+    ap texel_in p.is ∙ ap₂ gather
     (packed_above w p.carries (omega arith) p.fits) (packed_below w p.carries p.fits)
     ∙ gathered _ _ (omega arith) (omega arith)
 
@@ -317,8 +320,7 @@ span_place_steps Packed x y a b n place step k h p s =
     subst (λ (w : ℕ). IsPackedPlace w (n + k) ((place + step * k % 2 ^ 64) % 2 ^ 64)) (packed_at-on (pack x y) (pack a b) n k)
     (packed_place_steps (packed_at (pack x y) (pack a b) n) (pack a b) n place step k h p s)
 
-pub flat_of_span : (spans : Spans) (x y a b : ℤ) (n place : ℕ) → n < CARRIES → IsSpanPlace spans x y a b n place →
-    (place / 2 ^ 58 * 2 ^ 58 % 2 ^ 64 + place / 2 ^ 26 % 64 * 2 ^ 26 % 2 ^ 64) * 67109889 % 2 ^ 64 / 2 ^ 52 ≡ span_place spans x y a b n
+pub flat_of_span : (spans : Spans) (x y a b : ℤ) (n place : ℕ) → n < CARRIES → IsSpanPlace spans x y a b n place → texel_in place ≡ span_place spans x y a b n
 unfolding span_place
 flat_of_span Full x y a b n place h p = flat_of_place (step_at x a n) (step_at y b n) n place h p
 flat_of_span Packed x y a b n place h p = packed_of_place (packed_at (pack x y) (pack a b) n) n place h p
