@@ -9,7 +9,7 @@ import typing
 
 from . import list_counts, paths, program, system
 from .doom import LIMITS
-from .explanations import explain
+from .explanations import end_of
 from .files import write_whole
 from .jobs import LIMIT, USAGE
 from .list_counts import Counts
@@ -122,7 +122,7 @@ class Runs:
         done = self.going.end(run)
         if done.status not in (0, LIMIT):
             self.going.progress.clear()
-            trouble = explain([run.job, *self.words, '--path', run.base + ROWS], done)
+            trouble = end_of([run.job, *self.words, '--path', run.base + ROWS], done)
             raise Ended(TROUBLE if trouble.status == USAGE else trouble.status)
         for ending in (ROWS, OUTPUT, SAID):
             os.remove(run.base + ending)

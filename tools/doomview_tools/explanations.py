@@ -140,8 +140,8 @@ def tell(line: str, words: typing.List[str],
         print(f'explain: {sentence}', file=sys.stderr)
 
 
-def explain(words: typing.List[str], done: program.Run) -> Ended:
-    """Tells why a run of these words failed, as a Trouble that is told already."""
+def end_of(words: typing.List[str], done: program.Run) -> Ended:
+    """Says why a run of these words failed: the end of a tool that needed it."""
     sys.stderr.write(done.said)
     tell(done.line, words)
     return Ended(done.status)

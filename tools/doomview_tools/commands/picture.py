@@ -5,7 +5,7 @@ import sys
 import tempfile
 
 from .. import cli, frames, levels, paths, program, room, wads
-from ..explanations import explain
+from ..explanations import end_of
 from ..files import check_target, write_whole
 from ..png import write_png
 from ..trouble import Trouble
@@ -71,5 +71,5 @@ def draw(options: argparse.Namespace, folder: str) -> None:
         print(NOT_BUILT, file=sys.stderr, flush=True)
     done = program.run(words, unproved=True)
     if done.status:
-        raise explain(words, done)
+        raise end_of(words, done)
     write_png(options.picture, frames.WIDTH, frames.HEIGHT, frames.pixels_of_ppm(done.output))

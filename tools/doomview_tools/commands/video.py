@@ -6,7 +6,7 @@ import tempfile
 import typing
 
 from .. import cli, program
-from ..explanations import explain
+from ..explanations import end_of
 from ..files import WholeFile, check_source, check_target
 from ..trouble import Trouble
 
@@ -47,7 +47,7 @@ def count_views(words: typing.List[str]) -> int:
     """Ends with what is wrong where the views cannot be drawn; the limits tell it before ffmpeg is called."""
     done = program.run(words)
     if done.status:
-        raise explain(words, done)
+        raise end_of(words, done)
     return len(done.output.splitlines())
 
 
@@ -87,4 +87,4 @@ def run(options: argparse.Namespace) -> None:
     with WholeFile(options.video) as part:
         done = draw_into(words, part.name)
         if done.status:
-            raise explain(words, done)
+            raise end_of(words, done)

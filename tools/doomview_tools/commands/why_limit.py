@@ -6,7 +6,7 @@ import typing
 
 from .. import cli, cli_limits, ground, levels, lists, paths, program, reasons, traces, wads, walls, what_if
 from ..counting import RAISED
-from ..explanations import explain
+from ..explanations import end_of
 from ..files import write_whole
 from ..jobs import USAGE
 from ..levels import UNIT, Level
@@ -82,7 +82,7 @@ def list_of(options: argparse.Namespace, files: typing.List[str], rows: typing.L
     with open(output, 'wb') as out:
         done = program.run(words, out)
     if done.status:
-        trouble = explain(words, done)
+        trouble = end_of(words, done)
         raise Ended(TROUBLE if trouble.status == USAGE else trouble.status)
     return lists.ListFile(output)
 
