@@ -116,8 +116,8 @@ module _ (lumps : List Lump) (P : TrimPart → Type 0) (copy : (n : ℕ) → n <
   level name called None is one = tt
   level name called (Some label) is one =
       let label_is = label-is lumps name label is in
-      let is_inside = (greatest-is (has_name lumps name) (length lumps) label label_is.0).0 in
-      (labelled called label is_inside (one label is_inside), copied (range_with_len (suc label) (length MAP_LUMPS)) (behind-there lumps label label_is.1))
+      let label_there = (greatest-is (has_name lumps name) (length lumps) label label_is.0).0 in
+      (labelled called label label_there (one label label_there), copied (range_with_len (suc label) (length MAP_LUMPS)) (behind-there lumps label label_is.1))
 
   pub parts-all : (art : SceneArt) (name : List ℕ) → P (Mark F_START) → P (Mark F_END) → P (Mark S_START) → P (Mark S_END)
       → ((n : ℕ) → n < length lumps → P (label_part n)) → AllByRecursion P (trim_parts lumps art name)
