@@ -46,14 +46,13 @@ rows_after-err read rows (fields ∷ rest) refusal e =
 pub rows_after-length : {A : Type 0} (read : List A → ℕ → List (List ℕ) → Result A CsvRefusal) (rows all : List A) (records : List (List (List ℕ)))
     → rows_after read rows records ≡ Ok all → length all ≡ length rows + length records
 unfolding rows_after
-rows_after-length read rows all [] e = let same : rows ≡ all = cc in let lengths_same : length rows ≡ length all = ap length same in omega arith
+rows_after-length read rows all [] e = let rows_same : rows ≡ all = cc in let lengths_same : length rows ≡ length all = ap length rows_same in omega arith
 rows_after-length read rows all (fields ∷ rest) e =
     elim (parted (read rows (length rows + 1) fields)) [
       | inl taken ↦
           let rest_accepted : rows_after read (rows ++ taken.0 ∷ []) rest ≡ Ok all = rw taken.1 at e in
           let all_length = rows_after-length read (rows ++ taken.0 ∷ []) all rest rest_accepted in
-          let longer_by_row : length (rows ++ taken.0 ∷ []) ≡ length rows + 1 = length-append rows (taken.0 ∷ []) in
-          omega (arith, all_length, longer_by_row)
+          let longer_by_row : length (rows ++ taken.0 ∷ []) ≡ length rows + 1 = length-append rows (taken.0 ∷ []) in omega (arith, all_length, longer_by_row)
       | inr refused ↦ absurd (ok-err all refused.0 (sym e ∙ rw refused.1 refl))
     ]
 
@@ -62,7 +61,8 @@ pub rows_after-within : {A : Type 0} (read : List A → ℕ → List (List ℕ) 
     → ((rows : List A) (row : ℕ) (fields : List (List ℕ)) → limit < row → read rows row fields ≡ Err TooMany)
     → length rows ≤ limit → rows_after read rows records ≡ Ok all → length all ≤ limit
 unfolding rows_after
-rows_after-within read limit rows all [] past l e = let same : rows ≡ all = cc in let lengths_same : length rows ≡ length all = ap length same in omega arith
+rows_after-within read limit rows all [] past l e =
+    let rows_same : rows ≡ all = cc in let lengths_same : length rows ≡ length all = ap length rows_same in omega arith
 rows_after-within read limit rows all (fields ∷ rest) past l e =
     elim (parted (read rows (length rows + 1) fields)) [
       | inl taken ↦

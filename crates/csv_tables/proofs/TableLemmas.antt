@@ -18,7 +18,7 @@ use Rattle.csv_tables.proofs.RowSentences.{ok-err, rows_after-within}
 -- a row past the limit is one too many
 row_shape-past : (limit width row : ℕ) (fields : List (List ℕ)) → limit < row → checked_shape limit width row fields ≡ Err TooMany
 unfolding checked_shape
-row_shape-past limit width row fields past = let over : nat_lt limit row ≡ true = grind (arith, nat_tests) in rw over refl
+row_shape-past limit width row fields past = let past_limit : nat_lt limit row ≡ true = grind (arith, nat_tests) in rw past_limit refl
 
 path_row-past : (width row : ℕ) (fields : List (List ℕ)) → MAX_VIEWS < row → path_row width row fields ≡ Err TooMany
 unfolding path_row

@@ -17,12 +17,12 @@ both_passed (Ok found) next value e = (found, refl, e)
 both_passed (Err stop) next value e = absurd (cc)
 
 no_refusal : (listing : Result (List Lump) DirRefusal) (lumps : List Lump) → no_file {R = Refusal} (from_below Wad listing) ≡ Ok lumps → listing ≡ Ok lumps
-no_refusal (Ok found) lumps e = let same : found ≡ lumps = cc in ap Ok same
+no_refusal (Ok found) lumps e = let lists_same : found ≡ lumps = cc in ap Ok lists_same
 no_refusal (Err refusal) lumps e = absurd (cc)
 
 is_held : (file : Option (List (List ℕ))) (contents : List (List ℕ)) → else_absent {R = Refusal} file ≡ Ok contents → file ≡ Some contents
 is_held None contents e = absurd (cc)
-is_held (Some found) contents e = let same : found ≡ contents = cc in ap Some same
+is_held (Some found) contents e = let contents_same : found ≡ contents = cc in ap Some contents_same
 
 -- all files were accepted: the WADs are held, and their bytes list the lumps
 pub wads_accepted : (names : FileNames) (wads : List (List ℕ)) (settings : Settings) (files : List File) (value : FilesValue) →
@@ -33,9 +33,9 @@ wads_accepted names wads settings files value e =
     let texts = both_passed (texts_in names files) _ value tables.2 in
     let lumps = both_passed (lumps_in wads files) _ value texts.2 in
     let wad = both_passed (else_absent (files_named wads files)) _ lumps.0 lumps.1 in
-    let same : lumps.0 ≡ value.lumps = cc (lumps.2) in
+    let lumps_same : lumps.0 ≡ value.lumps = cc (lumps.2) in
     record {
       contents = wad.0;
       named = is_held (files_named wads files) wad.0 wad.1;
-      listed = no_refusal (directory wad.0) lumps.0 wad.2 ∙ ap Ok same;
+      listed = no_refusal (directory wad.0) lumps.0 wad.2 ∙ ap Ok lumps_same;
     }

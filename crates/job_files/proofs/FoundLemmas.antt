@@ -16,13 +16,13 @@ both_parts : (first : Option (List ℕ)) (others : Option (List (List ℕ))) (co
     option_and_then (λ bytes. option_map (λ rest. bytes ∷ rest) others) first ≡ Some contents → AreBoth first others contents
 both_parts None others contents e = absurd (cc)
 both_parts (Some bytes) None contents e = absurd (cc)
-both_parts (Some bytes) (Some rest) contents e = record { bytes = bytes; rest = rest; first_is = refl; others_are = refl; both = let same : bytes ∷ rest ≡ contents = cc in sym same }
+both_parts (Some bytes) (Some rest) contents e = record { bytes = bytes; rest = rest; first_is = refl; others_are = refl; both = let contents_are : bytes ∷ rest ≡ contents = cc in sym contents_are }
 
 -- a name more
 named_more : (names : List (List ℕ)) (name : List ℕ) (files : List File) (contents : List (List ℕ)) (bytes : List ℕ) →
     files_named names files ≡ Some contents → file_named name files ≡ Some bytes → files_named (names ++ name ∷ []) files ≡ Some (contents ++ bytes ∷ [])
 unfolding files_named
-named_more [] name files contents bytes e f = let same : [] ≡ contents = cc in rw (f, ← same) refl
+named_more [] name files contents bytes e f = let contents_empty : [] ≡ contents = cc in rw (f, ← contents_empty) refl
 named_more (first ∷ names) name files contents bytes e f =
     let both_files = both_parts (file_named first files) (files_named names files) contents e in
     rw (both_files.first_is, named_more names name files both_files.rest bytes both_files.others_are f) (ap (λ v. Some (v ++ bytes ∷ [])) (sym both_files.both))

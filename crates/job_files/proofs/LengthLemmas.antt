@@ -7,11 +7,11 @@ use Rattle.job_files.specs.Lengths.{length_refusal, bytes_in}
 -- a value was refused, and so is another
 refused_too : {A B R : Type 0} (refusal : Option R) (value : A) (other : B) (reason : R) → value_unless refusal value ≡ Err reason → value_unless refusal other ≡ Err reason
 refused_too None value other reason e = absurd (cc)
-refused_too (Some first) value other reason e = let same : first ≡ reason = cc in ap Err same
+refused_too (Some first) value other reason e = let reasons_same : first ≡ reason = cc in ap Err reasons_same
 
 -- a value was not refused
 pub not_refused : {A R : Type 0} (refusal : Option R) (value found : A) → value_unless refusal value ≡ Ok found → (refusal ≡ None) × (found ≡ value)
-not_refused None value found e = let same : value ≡ found = cc in (refl, sym same)
+not_refused None value found e = let values_same : value ≡ found = cc in (refl, sym values_same)
 not_refused (Some first) value found e = absurd (cc)
 
 -- a file whose length is refused

@@ -26,5 +26,5 @@ flat_taken name file files before after there fits = sized (flat_sizes name) (fi
 
 -- of a directory that was accepted
 pub art_known : (name : List ℕ) (found : Result (List Lump) DirRefusal) (lumps : List Lump) → from_below Wad found ≡ Ok lumps → art_size name found ≡ PALETTE_BYTES + flat_size lumps name
-art_known name (Ok own) lumps e = let same : own ≡ lumps = cc in ap (λ (xs : List Lump). PALETTE_BYTES + flat_size xs name) same
+art_known name (Ok own) lumps e = let lumps_same : own ≡ lumps = cc in ap (λ (xs : List Lump). PALETTE_BYTES + flat_size xs name) lumps_same
 art_known name (Err refusal) lumps e = cc

@@ -119,11 +119,11 @@ module _ {dir : DirectoryView} {lump : ℕ} {tag : Tag} {view after : ShelfView}
     go : (t : Bool) → same_owner owner o ≡ t → owned_block o new.blocks ≡ owned_block o old.blocks
     go false apart = fetch_pinned o apart (held_pinned (owned_block o old.blocks) static)
     go true same =
-        let is : owner ≡ o = owner_eq owner o same in
-        let here : holds_static (holding_of owner old.blocks) ≡ true = subst (λ (p : Owner). holds_static (holding_of p old.blocks) ≡ true) (sym is) static in
+        let owner_is : owner ≡ o = owner_eq owner o same in let owner_static : holds_static (holding_of owner old.blocks) ≡ true =
+        subst (λ (p : Owner). holds_static (holding_of p old.blocks) ≡ true) (sym owner_is) static in
         by_slot
-        (λ live. at_hit (λ (z : Heap). owned_block o z.blocks ≡ owned_block o old.blocks) live (ap (λ (z : Heap). owned_block o z.blocks) (cond-true _ _ _ here)))
-        (λ none. absurd (false≢true (sym (ap holds_static (none_is (holding_of owner old.blocks) none)) ∙ here)))
+        (λ live. at_hit (λ (z : Heap). owned_block o z.blocks ≡ owned_block o old.blocks) live (ap (λ (z : Heap). owned_block o z.blocks) (cond-true _ _ _ owner_static)))
+        (λ none. absurd (false≢true (sym (ap holds_static (none_is (holding_of owner old.blocks) none)) ∙ owner_static)))
 
   -- each live lump keeps the bytes that its files have
   pub fetch_faithful : (contents : List (List ℕ)) → NameFiles view dir.files contents → IsFaithful contents dir.lumps old → IsFaithful contents dir.lumps new

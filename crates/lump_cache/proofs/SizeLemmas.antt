@@ -79,7 +79,7 @@ beside_named lumps name z (Some l) lent found there live is fits number last =
     let number_same : l.0 ≡ number = cc in
     subst (StandsBeside lumps z) number_same (go (holding_of (lump_owner l.0) z.blocks) refl live) where
       go : (h : Option Holding) → holding_of (lump_owner l.0) z.blocks ≡ h → IsSome h → StandsBeside lumps z l.0
-      go None e k = let none : ⊥ = cc in absurd none
+      go None e k = let impossible : ⊥ = cc in absurd impossible
       go (Some h) e k =
           let bytes : bytes_of (lump_owner l.0) z.blocks ≡ Some h.bytes = rw e refl in
           beside_lent lumps z l.0 h.bytes there bytes (λ colormap count static apart. subst (λ x. IfSome x (λ b. block_size count + block_size (length b) ≤ z.size)) (is ∙ bytes) (fits colormap count static apart))

@@ -35,8 +35,8 @@ rest_static {count} rest = subst (HasStatic count) (sym rest.is) rest.pinned
 pub stays_then : (x y z : Heap) → ((o : Owner) → holds_static (holding_of o x.blocks) ≡ true → owned_block o y.blocks ≡ owned_block o x.blocks) → ((o : Owner) → holds_static (holding_of o y.blocks) ≡ true → owned_block o z.blocks ≡ owned_block o y.blocks) →
     (o : Owner) → holds_static (holding_of o x.blocks) ≡ true → owned_block o z.blocks ≡ owned_block o x.blocks
 stays_then x y z first next o held =
-    let same = first o held in
-    next o (ap (λ b. holds_static (held_in b)) same ∙ held) ∙ same
+    let first_keeps_block = first o held in
+    next o (ap (λ b. holds_static (held_in b)) first_keeps_block ∙ held) ∙ first_keeps_block
 
 -- a new block with that tag
 pub static_taken : (size : ℕ) (b : Option Block) → HasBlock Static size b → HasStatic size b

@@ -52,8 +52,8 @@ front-is_part part piece p e f =
 
 pub back-is_part : (part piece : Part) → IsPart part → is_one_cell part ≡ false → piece ≡ back_part part → IsPart piece
 back-is_part part piece p e f =
-    let back : IsPiece part (back_part part) = back-piece part (divisible part p.columns p.rows e) in
-    let back_within : IsPart (back_part part) = record { columns = back.columns; rows = back.rows; east = omega arith; north = omega arith } in
+    let back_piece : IsPiece part (back_part part) = back-piece part (divisible part p.columns p.rows e) in
+    let back_within : IsPart (back_part part) = record { columns = back_piece.columns; rows = back_piece.rows; east = omega arith; north = omega arith } in
     subst IsPart (sym f) back_within
 
 pub front-smaller :
@@ -126,11 +126,11 @@ enough (suc a) (suc b) side first part p q m n =
     second_list (is_one_cell part) _ _ (λ (e : is_one_cell part ≡ false).
     let part_divisible : IsDivisible part = divisible part p q e in
     let front : IsPiece part (front_part part) = front-piece part part_divisible in
-    let back : IsPiece part (back_part part) = back-piece part part_divisible in
+    let back_piece : IsPiece part (back_part part) = back-piece part part_divisible in
     let front_nodes_same : nodes_within a side first (front_part part) ≡ nodes_within b side first (front_part part)
     = enough a b side first (front_part part) front.columns front.rows (omega arith) (omega arith) in
     let back_nodes_same : nodes_within a side (first + node_count (front_part part)) (back_part part) ≡ nodes_within b side (first + node_count (front_part part)) (back_part part)
-    = enough a b side (first + node_count (front_part part)) (back_part part) back.columns back.rows (omega arith) (omega arith) in
+    = enough a b side (first + node_count (front_part part)) (back_part part) back_piece.columns back_piece.rows (omega arith) (omega arith) in
     (cc))
 
 no_list : (b : Bool) (xs : List ℕ) → b ≡ true → cond b [] xs ≡ []
@@ -167,12 +167,12 @@ part_nodes-parts bytes side first part within e =
     let rows_ordered = within.rows in
     let part_divisible : IsDivisible part = divisible part columns_ordered rows_ordered e in
     let front : IsPiece part (front_part part) = front-piece part part_divisible in
-    let back : IsPiece part (back_part part) = back-piece part part_divisible in
+    let back_piece : IsPiece part (back_part part) = back-piece part part_divisible in
     let depth = width part + height part in
     let front_nodes_are : nodes_within depth side first (front_part part) ≡ part_nodes side first (front_part part)
     = enough depth (width (front_part part) + height (front_part part)) side first (front_part part) front.columns front.rows (omega arith) (omega arith) in
     let back_nodes_are : nodes_within depth side (first + node_count (front_part part)) (back_part part) ≡ part_nodes side (first + node_count (front_part part)) (back_part part)
-    = enough depth (width (back_part part) + height (back_part part)) side (first + node_count (front_part part)) (back_part part) back.columns back.rows (omega arith) (omega arith) in
+    = enough depth (width (back_part part) + height (back_part part)) side (first + node_count (front_part part)) (back_part part) back_piece.columns back_piece.rows (omega arith) (omega arith) in
     let deeper : part_nodes side first part ≡ nodes_within (suc depth) side first part
     = enough depth (suc depth) side first part columns_ordered rows_ordered (omega arith) (omega arith) in
     let nodes_are_joined :
@@ -218,11 +218,11 @@ length_within zero side first part p m = absurd (omega arith)
 length_within (suc depth) side first part p m =
     length_of_choice (is_one_cell part) _ _ (one_cell_count part) (λ (e : is_one_cell part ≡ false).
     let front : IsPart (front_part part) = front-is_part part (front_part part) p e refl in
-    let back : IsPart (back_part part) = back-is_part part (back_part part) p e refl in
+    let back_is_part : IsPart (back_part part) = back-is_part part (back_part part) p e refl in
     let front_is_smaller : width (front_part part) + height (front_part part) < width part + height part = front-smaller part (front_part part) p e refl in
     let back_is_smaller : width (back_part part) + height (back_part part) < width part + height part = back-smaller part (back_part part) p e refl in
     simp length-append
-    (omega (arith, node_count-parts part p e, length_within depth side first (front_part part) front (omega arith), length_within depth side (first + node_count (front_part part)) (back_part part) back (omega arith), node_length side first part)))
+    (omega (arith, node_count-parts part p e, length_within depth side first (front_part part) front (omega arith), length_within depth side (first + node_count (front_part part)) (back_part part) back_is_part (omega arith), node_length side first part)))
 
 -- for `grind`: the walk that puts the nodes
 pub ruleset node_parts = (part_nodes-leaf, part_nodes-parts, node_count-parts, node_count-some, node_count-most)

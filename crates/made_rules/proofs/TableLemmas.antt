@@ -29,9 +29,9 @@ product_above_sum_of a b = omega (arith, add-mul a 1 (b + 1), mul-add a b 1)
 
 product_above_sum : (a b : ℕ) → 1 ≤ a → 1 ≤ b → a + b ≤ a * b + 1
 product_above_sum a b p q =
-    let left : (a - 1) + 1 ≡ a = omega arith in
-    let right : (b - 1) + 1 ≡ b = omega arith in
-    subst (λ (n : ℕ). a + n ≤ a * n + 1) right (subst (λ (n : ℕ). n + ((b - 1) + 1) ≤ n * ((b - 1) + 1) + 1) left (product_above_sum_of (a - 1) (b - 1)))
+    let a_same : (a - 1) + 1 ≡ a = omega arith in
+    let b_same : (b - 1) + 1 ≡ b = omega arith in
+    subst (λ (n : ℕ). a + n ≤ a * n + 1) b_same (subst (λ (n : ℕ). n + ((b - 1) + 1) ≤ n * ((b - 1) + 1) + 1) a_same (product_above_sum_of (a - 1) (b - 1)))
 
 pub sine_product-least : (i : ℕ) → i < HALF_TURN → 8191 ≤ sine_product i
 unfolding sine_product

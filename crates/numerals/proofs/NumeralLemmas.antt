@@ -39,8 +39,8 @@ and-parts false b e = cc
 -- the end of the digits
 pub digits_after-done : (v : ℕ) (xs : List ℕ) (i : ℕ) → length xs ≤ i → digits_after v (drop i xs) ≡ digits_after 0 xs → v ≡ digits_after 0 xs
 digits_after-done v xs i l e =
-    let none : drop i xs ≡ [] = drop_of_length-le xs l in
-    sym (digits_after-end v) ∙ rw none at e
+    let no_digits_left : drop i xs ≡ [] = drop_of_length-le xs l in
+    sym (digits_after-end v) ∙ rw no_digits_left at e
 
 -- for `grind`
 pub ruleset digit_steps = (digits_after-step, digits_after-end, all_digits-step, digit-room, digits-room)

@@ -9,9 +9,9 @@ ok_of a b e = cc
 -- where an option or else an error is a value, the option has it
 pub some_value : {X E : Type 0} (o : Option X) (e : E) (x : X) → ok_or o e ≡ Ok x → o ≡ Some x
 some_value None e x is = cc
-some_value (Some y) e x is = let same : y ≡ x = cc in ap Some same
+some_value (Some y) e x is = let values_same : y ≡ x = cc in ap Some values_same
 
 -- a value that comes through a layer came from the layer below
 pub below : {A R Q : Type 0} (f : R → Q) (r : Result A R) (x : A) → from_below f r ≡ Ok x → r ≡ Ok x
-below f (Ok y) x e = let same : y ≡ x = cc in ap Ok same
+below f (Ok y) x e = let values_same : y ≡ x = cc in ap Ok values_same
 below f (Err reason) x e = cc

@@ -40,12 +40,12 @@ module _ (bytes : ℕ → List ℕ) (lumps : List Lump) (name : List ℕ) (base 
   made_step c p l palette (Err r) lists a b d e = absurd (cc)
   made_step c p l palette (Ok v) (Err r) a b d e = absurd (cc)
   made_step c p l palette (Ok v) (Ok ls) a b d e =
-      let this : LevelBase = record { colormap = c; playpal = p; palette = palette; label = l; level = v; lists = ls } in
-      let same : record { colormap = c; playpal = p; palette = palette; label = l; level = v; lists = ls } ≡ base = ok_of _ base e in
+      let new_base : LevelBase = record { colormap = c; playpal = p; palette = palette; label = l; level = v; lists = ls } in
+      let base_is : record { colormap = c; playpal = p; palette = palette; label = l; level = v; lists = ls } ≡ base = ok_of _ base e in
       record {
-        palette = ap (λ (b' : LevelBase). take PALETTE_SIZE (bytes b'.playpal)) (sym same) ∙ d ∙ ap (λ (b' : LevelBase). b'.palette) same;
-        level = ap (λ (b' : LevelBase). level_of (map_bytes bytes b'.label)) (sym same) ∙ a ∙ ap (λ (b' : LevelBase). Ok b'.level) same;
-        lists = b ∙ ap (λ (b' : LevelBase). Ok b'.lists) same;
+        palette = ap (λ (b' : LevelBase). take PALETTE_SIZE (bytes b'.playpal)) (sym base_is) ∙ d ∙ ap (λ (b' : LevelBase). b'.palette) base_is;
+        level = ap (λ (b' : LevelBase). level_of (map_bytes bytes b'.label)) (sym base_is) ∙ a ∙ ap (λ (b' : LevelBase). Ok b'.level) base_is;
+        lists = b ∙ ap (λ (b' : LevelBase). Ok b'.lists) base_is;
       }
 
   label_step : (c p : ℕ) (label : Result ℕ MapRefusal) → label_of lumps name ≡ label → base_over bytes lumps name c p (take PALETTE_SIZE (bytes p)) ≡ Ok base → IsMadeOf bytes lumps base
@@ -72,8 +72,8 @@ pub base-served : (bytes bytes' : ℕ → List ℕ) (lumps lumps' : List Lump) (
     → base_in bytes' lumps' name ≡ Ok (record { colormap = c; playpal = p; palette = base.palette; label = l; level = base.level; lists = base.lists })
 unfolding base_in base_over level_in
 base-served bytes bytes' lumps lumps' name base c p l serves =
-    let made = base-made bytes lumps name base serves.is in
-    let level : level_of (map_bytes bytes' l) ≡ Ok base.level = ap level_of serves.level ∙ made.level in
-    let lists : lists_in bytes' lumps' ≡ Ok base.lists = lists-served bytes bytes' lumps lumps' serves.pnames serves.texture1 serves.texture2 ∙ made.lists in
-    let palette : take PALETTE_SIZE (bytes' p) ≡ base.palette = ap (take PALETTE_SIZE) serves.palette ∙ made.palette in
+    let base_is = base-made bytes lumps name base serves.is in
+    let level : level_of (map_bytes bytes' l) ≡ Ok base.level = ap level_of serves.level ∙ base_is.level in
+    let lists : lists_in bytes' lumps' ≡ Ok base.lists = lists-served bytes bytes' lumps lumps' serves.pnames serves.texture1 serves.texture2 ∙ base_is.lists in
+    let palette : take PALETTE_SIZE (bytes' p) ≡ base.palette = ap (take PALETTE_SIZE) serves.palette ∙ base_is.palette in
     rw (serves.colormap, serves.playpal, serves.label, level, lists, palette) refl

@@ -47,8 +47,8 @@ module _ (σ : ℕ → ℕ) (bytes : ℕ → List ℕ) where
   unfolding shape_of patch_or_bad shape_in
   shape-moved m s e t =
       let patch = and_then-ok (patch_or_bad bytes (σ m.lump)) _ s e in
-      let there : patch_of (bytes (σ m.lump)) ≡ Some patch.0 = some_value (patch_of (bytes (σ m.lump))) (BadPatch (σ m.lump)) patch.0 patch.1 in
-      (shape_in m patch.0, shape_made (λ n. bytes (σ n)) m patch.0 there, ok_of (shape_in (renumber σ m) patch.0) s patch.2)
+      let patch_there : patch_of (bytes (σ m.lump)) ≡ Some patch.0 = some_value (patch_of (bytes (σ m.lump))) (BadPatch (σ m.lump)) patch.0 patch.1 in
+      (shape_in m patch.0, shape_made (λ n. bytes (σ n)) m patch.0 patch_there, ok_of (shape_in (renumber σ m) patch.0) s patch.2)
 
   shapes-moved : (ms : List Mention) (ss : List Shape) → each_of (shape_of bytes) (map (renumber σ) ms) ≡ Ok ss
       → (zs : List Shape) × (each_of (shape_of (λ n. bytes (σ n))) ms ≡ Ok zs) × (map (move_shape σ) zs ≡ ss)
@@ -92,9 +92,10 @@ last_listed : (lumps : List Lump) (need : Need) (pictures : List ℕ) (ms : List
     → each_of (picture_or_missing (mentions lumps need.sprite) need) (range_with_len 0 ROTATIONS) ≡ Ok ms → AllByRecursion (IsPictureMention pictures) ms
     → last_that (is_of_frame need.frame) (mentions lumps need.sprite) ≡ Some last → IsPictureMention pictures last
 last_listed lumps need pictures ms last are listed e =
-    let at = last-pictured lumps need.sprite need.frame last e in
-    let here = picture_by_number (mentions lumps need.sprite) need pictures ms are listed at.0 at.1 in
-    subst (IsPictureMention pictures) (some-injective here.0 last (sym (found_picture (mentions lumps need.sprite) need at.0 here.0 here.1) ∙ at.2)) here.2
+    let rotation_of_last = last-pictured lumps need.sprite need.frame last e in
+    let picture_found = picture_by_number (mentions lumps need.sprite) need pictures ms are listed rotation_of_last.0 rotation_of_last.1 in
+    subst (IsPictureMention pictures) (some-injective picture_found.0 last
+    (sym (found_picture (mentions lumps need.sprite) need rotation_of_last.0 picture_found.0 picture_found.1) ∙ rotation_of_last.2)) picture_found.2
 
 module _ (trimmed lumps : List Lump) (σ : ℕ → ℕ) (a : ℕ) (pictures : List ℕ) (held : HoldsPictures trimmed lumps σ a pictures) where
   picture-moved : (need : Need) (last : Mention) → last_that (is_of_frame need.frame) (mentions lumps need.sprite) ≡ Some last → IsPictureMention pictures last
@@ -110,15 +111,15 @@ module _ (trimmed lumps : List Lump) (σ : ℕ → ℕ) (a : ℕ) (pictures : Li
       → (ns : List Mention) × (pictures_of (mentions trimmed need.sprite) need ≡ Ok ns) × (map (renumber σ) ns ≡ ms)
   unfolding pictures_of last_mention
   pictures-moved need ms e listed =
-      let all = mentions lumps need.sprite in
-      let last_found = and_then-ok (last_mention all need) _ ms e in
-      let is : last_that (is_of_frame need.frame) all ≡ Some last_found.0 =
-      some_value (last_that (is_of_frame need.frame) all) (NoFrame need.thing) last_found.0 last_found.1 in
-      let kept = last_listed lumps need pictures ms last_found.0 last_found.2 listed is in
-      let ns = each-moved (picture_or_missing all need) (picture_or_missing (mentions trimmed need.sprite) need) (renumber σ) (IsPictureMention pictures)
-      (λ k m f holds. picture-moved need last_found.0 is kept k m f holds) (range_with_len 0 ROTATIONS) ms last_found.2 listed in
-      let front_picture = picture_by_number all need pictures ms last_found.2 listed 0 (omega arith) in
-      let moved = picture-moved need last_found.0 is kept 0 front_picture.0 front_picture.1 front_picture.2 in
+      let of_sprite = mentions lumps need.sprite in
+      let last_found = and_then-ok (last_mention of_sprite need) _ ms e in
+      let last_is : last_that (is_of_frame need.frame) of_sprite ≡ Some last_found.0 =
+      some_value (last_that (is_of_frame need.frame) of_sprite) (NoFrame need.thing) last_found.0 last_found.1 in
+      let last_is_listed = last_listed lumps need pictures ms last_found.0 last_found.2 listed last_is in
+      let ns = each-moved (picture_or_missing of_sprite need) (picture_or_missing (mentions trimmed need.sprite) need) (renumber σ) (IsPictureMention pictures)
+      (λ k m f holds. picture-moved need last_found.0 last_is last_is_listed k m f holds) (range_with_len 0 ROTATIONS) ms last_found.2 listed in
+      let front_picture = picture_by_number of_sprite need pictures ms last_found.2 listed 0 (omega arith) in
+      let moved = picture-moved need last_found.0 last_is last_is_listed 0 front_picture.0 front_picture.1 front_picture.2 in
       let last = last_there (mentions trimmed need.sprite) need.frame 0 moved.0 (found_picture (mentions trimmed need.sprite) need 0 moved.0 moved.1) in
       (ns.0, rw last.1 ns.1, ns.2)
 
@@ -128,12 +129,11 @@ module _ (trimmed lumps : List Lump) (σ : ℕ → ℕ) (a : ℕ) (pictures : Li
   frame-moved bytes need frame e listed =
       let ms = and_then-ok (pictures_of (mentions lumps need.sprite) need) _ frame e in
       let ss = and_then-ok (each_of (shape_of bytes) ms.0) _ frame ms.2 in
-      let same : frame_in need ss.0 ≡ frame = ok_of (frame_in need ss.0) frame ss.2 in
-      let shapes : AllByRecursion (IsPictureShape pictures) ss.0 = subst (IsPictureFrame pictures) (sym same) listed in
+      let frame_is : frame_in need ss.0 ≡ frame = ok_of (frame_in need ss.0) frame ss.2 in
+      let shapes : AllByRecursion (IsPictureShape pictures) ss.0 = subst (IsPictureFrame pictures) (sym frame_is) listed in
       let mentioned = each-back (shape_of bytes) (IsPictureMention pictures) (IsPictureShape pictures) (λ m s f holds. subst (IsPicture pictures) (sym (shape_lump bytes m s f)) holds) ms.0 ss.0 ss.1 shapes in
-      let ns = pictures-moved need ms.0 ms.1 mentioned in
-      let zs = shapes-moved σ bytes ns.0 ss.0 (ap (each_of (shape_of bytes)) ns.2 ∙ ss.1) in
-      (frame_in need zs.0, rw (ns.1, zs.1) refl, ap (frame_in need) zs.2 ∙ same)
+      let ns = pictures-moved need ms.0 ms.1 mentioned in let zs = shapes-moved σ bytes ns.0 ss.0 (ap (each_of (shape_of bytes)) ns.2 ∙ ss.1) in
+      (frame_in need zs.0, rw (ns.1, zs.1) refl, ap (frame_in need) zs.2 ∙ frame_is)
 
 -- the shapes of a book are of its lumps
 shapes_of_book : (pictures : List ℕ) (ss : List Shape) → ((n : ℕ) → list_any (λ m. m == n) (map (λ (s : Shape). s.lump.0) ss) ≡ true → IsPicture pictures n)

@@ -24,9 +24,9 @@ module _ (bytes : ℕ → List ℕ) (lumps : List Lump) where
   only_step name n m is last (Some v) (inr e) b d = inr e
   only_step name n m is last None h false d = inl refl
   only_step name n m is last None h true d =
-      let same : (lump_at lumps m).name ≡ name = (bytes_eq-Decides (lump_at lumps m).name name).0 d in
-      let this : m ≡ n = some-injective m n (sym last ∙ ap (last_of lumps) same ∙ is) in
-      inr (ap (λ k. Some (bytes k)) this)
+      let name_is : (lump_at lumps m).name ≡ name = (bytes_eq-Decides (lump_at lumps m).name name).0 d in
+      let numbers_same : m ≡ n = some-injective m n (sym last ∙ ap (last_of lumps) name_is ∙ is) in
+      inr (ap (λ k. Some (bytes k)) numbers_same)
 
   pub last_bytes-only : (name : List ℕ) (n : ℕ) → last_of lumps name ≡ Some n → (ns : List ℕ) → AllByRecursion (IsLastOfName lumps) ns
       → (last_bytes (copies bytes lumps ns) name ≡ None) ⊎ (last_bytes (copies bytes lumps ns) name ≡ Some (bytes n))
@@ -42,8 +42,8 @@ module _ (bytes : ℕ → List ℕ) (lumps : List Lump) where
   found_step n m (Some v) (inl e) b is c later any d same = absurd (cc)
   found_step n m (Some v) (inr e) b is c later any d same = e
   found_step n m None h true is c later any d same =
-      let this : m ≡ n = (Decides-eqb m n).0 is in
-      rw (same this) (ap (λ k. Some (bytes k)) this)
+      let numbers_same : m ≡ n = (Decides-eqb m n).0 is in
+      rw (same numbers_same) (ap (λ k. Some (bytes k)) numbers_same)
   found_step n m None h false is true later any d same = let impossible : None ≡ Some (bytes n) = later refl in absurd (cc)
   found_step n m None h false is false later any d same = absurd (cc)
 
@@ -73,7 +73,7 @@ module _ (bytes : ℕ → List ℕ) (lumps : List Lump) where
       let called = filter (λ m. not (has_name lumps name m)) (called_lumps lumps art.prepared) in
       let wanted = (lump_at lumps n).name in
       let lump = part_lump bytes lumps in
-      let here : last_bytes (map lump (map copy_part called)) wanted ≡ Some (bytes n) = last_bytes-found n called last all any in
+      let bytes_among_called : last_bytes (map lump (map copy_part called)) wanted ≡ Some (bytes n) = last_bytes-found n called last all any in
       ap (λ ls. last_bytes ls wanted)
       (map-append lump flats (pictures ++ (level ++ map copy_part called))
       ∙ ap (λ ls. map lump flats ++ ls)
@@ -84,4 +84,4 @@ module _ (bytes : ℕ → List ℕ) (lumps : List Lump) where
       (last_bytes-append (map lump pictures) (map lump level ++ map lump (map copy_part called)) wanted
       ∙ ap (λ o. or_else o (last_bytes (map lump pictures) wanted))
       (last_bytes-append (map lump level) (map lump (map copy_part called)) wanted
-      ∙ ap (λ o. or_else o (last_bytes (map lump level) wanted)) here))
+      ∙ ap (λ o. or_else o (last_bytes (map lump level) wanted)) bytes_among_called))

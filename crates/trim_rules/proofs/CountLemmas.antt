@@ -24,10 +24,10 @@ from_few : (file before : ℕ) (contents : List (List ℕ)) → before ≤ MAX_L
 unfolding refusal_from lumps_from
 from_few file before [] le e = omega arith
 from_few file before (bytes ∷ rest) le e =
-    let both = or_else-none (file_refusal file before bytes) (refusal_from (suc file) (before + entry_count (header bytes)) rest) e in
-    let more = from_few (suc file) (before + entry_count (header bytes)) rest (file_few file before bytes both.0) both.1 in
+    let none_refused = or_else-none (file_refusal file before bytes) (refusal_from (suc file) (before + entry_count (header bytes)) rest) e in
+    let rest_few = from_few (suc file) (before + entry_count (header bytes)) rest (file_few file before bytes none_refused.0) none_refused.1 in
     let count : length (file_lumps file bytes) ≡ entry_count (header bytes) = file_lumps-length file bytes in
-    let all : length (file_lumps file bytes ++ lumps_from (suc file) rest) ≡ length (file_lumps file bytes) + length (lumps_from (suc file) rest) =
+    let lengths_add_up : length (file_lumps file bytes ++ lumps_from (suc file) rest) ≡ length (file_lumps file bytes) + length (lumps_from (suc file) rest) =
     length-append (file_lumps file bytes) (lumps_from (suc file) rest) in
     omega arith
 
@@ -38,7 +38,7 @@ directory_step (Some refusal) found lumps e = absurd (cc)
 -- at most 65535
 pub directory-few : (contents : List (List ℕ)) (lumps : List Lump) → directory contents ≡ Ok lumps → length lumps ≤ MAX_LUMPS
 directory-few contents lumps e =
-    let both = directory_step (refusal_from 0 0 contents) (lumps_from 0 contents) lumps e in
-    let few : 0 + length (lumps_from 0 contents) ≤ MAX_LUMPS = from_few 0 0 contents (omega arith) both.0 in
-    let same : length (lumps_from 0 contents) ≡ length lumps = ap length both.1 in
+    let unrefused_and_listed = directory_step (refusal_from 0 0 contents) (lumps_from 0 contents) lumps e in
+    let few : 0 + length (lumps_from 0 contents) ≤ MAX_LUMPS = from_few 0 0 contents (omega arith) unrefused_and_listed.0 in
+    let lengths_same : length (lumps_from 0 contents) ≡ length lumps = ap length unrefused_and_listed.1 in
     omega arith

@@ -34,11 +34,11 @@ trimmed-faces bytes lumps art name level lists faces few e same unmarked =
     let sides_found = and_then-ok (side_textures lists.textures level.sides) _ faces e in
     let sky_found = and_then-ok (sky_texture lists.textures name level.sectors) _ faces sides_found.2 in
     let flats_found = and_then-ok (sector_flats lumps level.sectors) _ faces sky_found.2 in
-    let made : ◌≡◌ {A = Faces} (record { sides = sides_found.0; sky = sky_found.0; flats = flats_found.0 }) faces = cc in
-    let flats : sector_flats lumps level.sectors ≡ Ok art.flats = flats_found.1 ∙ ap (λ (f : Faces). Ok f.flats) made ∙ ap Ok same in
+    let faces_are : ◌≡◌ {A = Faces} (record { sides = sides_found.0; sky = sky_found.0; flats = flats_found.0 }) faces = cc in
+    let flats : sector_flats lumps level.sectors ≡ Ok art.flats = flats_found.1 ∙ ap (λ (f : Faces). Ok f.flats) faces_are ∙ ap Ok same in
     let moved = trimmed-sectors bytes lumps art name level.sectors few flats unmarked in (
       moved.0,
       faces-made (trimmed_lumps bytes lumps (trim_parts lumps art name)) name level lists sides_found.0 sky_found.0 moved.0 sides_found.1 sky_found.1 moved.1
-          ∙ ap (λ (f : Faces). Ok (record { sides = f.sides; sky = f.sky; flats = moved.0 })) made,
+          ∙ ap (λ (f : Faces). Ok (record { sides = f.sides; sky = f.sky; flats = moved.0 })) faces_are,
       moved.2 ∙ sym same,
     )

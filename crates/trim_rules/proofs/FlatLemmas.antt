@@ -24,9 +24,9 @@ apart trimmed lumps flats has j k lt inside =
     (λ same.
     let names : (lump_at lumps (get_or flats k 0)).name ≡ (lump_at lumps (get_or flats j 0)).name =
     (bytes_eq-Decides (lump_at lumps (get_or flats k 0)).name (lump_at lumps (get_or flats j 0)).name).0 same in
-    let there : j < length flats = omega arith in
-    let equal : get_or flats k 0 ≡ get_or flats j 0 =
-    some-injective _ _ (sym (has.last k inside) ∙ ap (flat_of lumps) names ∙ has.last j there) in
+    let earlier_inside : j < length flats = omega arith in
+    let lumps_same : get_or flats k 0 ≡ get_or flats j 0 =
+    some-injective _ _ (sym (has.last k inside) ∙ ap (flat_of lumps) names ∙ has.last j earlier_inside) in
     let less : get_or flats j 0 < get_or flats k 0 = has.ascending j k lt inside in
     absurd (omega arith))
     (λ differ. differ)
@@ -38,26 +38,26 @@ trimmed_flat trimmed lumps flats has k inside =
     let name = (lump_at lumps (get_or flats k 0)).name in
     let passes = λ (n : ℕ). is_member Flats trimmed n && has_name trimmed name n in
     let end : 0 + suc (length flats) < length trimmed = has.group.inside in
-    let there : suc k < length trimmed = omega arith in
+    let flat_inside : suc k < length trimmed = omega arith in
     let is_behind : 0 < suc k = omega arith in
-    let below : suc k < 0 + suc (length flats) = omega arith in
-    greatest-some passes (length trimmed) (suc k) there
-    (rw (between-member Flats trimmed 0 (length flats) has.group (suc k) is_behind below)
-    (is_lump-at (λ lump. bytes_eq lump.name name) trimmed (suc k) there
+    let before_end : suc k < 0 + suc (length flats) = omega arith in
+    greatest-some passes (length trimmed) (suc k) flat_inside
+    (rw (between-member Flats trimmed 0 (length flats) has.group (suc k) is_behind before_end)
+    (is_lump-at (λ lump. bytes_eq lump.name name) trimmed (suc k) flat_inside
     ∙ (bytes_eq-Decides (lump_at trimmed (suc k)).name name).1 (has.names k inside)))
     (λ n above within. elim (cases_lt n (suc (length flats))) [
       | inl among ↦ later n above within among
       | inr past ↦
-          let from : 0 + suc (length flats) ≤ n = omega arith in
-          and-false_left (is_member Flats trimmed n) _ (behind-member Flats trimmed 0 (length flats) has.group n within from)
+          let past_end : 0 + suc (length flats) ≤ n = omega arith in
+          and-false_left (is_member Flats trimmed n) _ (behind-member Flats trimmed 0 (length flats) has.group n within past_end)
     ]) where
       later : (n : ℕ) → suc k < n → n < length trimmed → n < suc (length flats)
           → (is_member Flats trimmed n && has_name trimmed (lump_at lumps (get_or flats k 0)).name n) ≡ false
       later zero above within among = absurd (omega arith)
       later (suc m) above within among =
           let inside' : m < length flats = omega arith in
-          let lt : k < m = omega arith in
+          let place_is_later : k < m = omega arith in
           and-false_right (is_member Flats trimmed (suc m)) _
           (is_lump-at (λ lump. bytes_eq lump.name (lump_at lumps (get_or flats k 0)).name) trimmed (suc m) within
           ∙ ap (λ name. bytes_eq name (lump_at lumps (get_or flats k 0)).name) (has.names m inside')
-          ∙ apart trimmed lumps flats has k m lt inside')
+          ∙ apart trimmed lumps flats has k m place_is_later inside')

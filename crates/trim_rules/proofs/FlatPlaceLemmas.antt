@@ -38,9 +38,9 @@ module _ (σ : ℕ → ℕ) (flats : List ℕ) (keeps : σ SKY_FLAT ≡ SKY_FLAT
     (below : (k : ℕ) → k < length flats → get_or flats k 0 < SKY_FLAT) (ascending : AreAscending flats) where
   place_of : (j k : ℕ) → j < length flats → k < length flats → get_or flats j 0 ≡ get_or flats k 0 → j ≡ k
   place_of j k lj lk e = elim (cases_lt j k) [
-    | inl lt ↦ let more : get_or flats j 0 < get_or flats k 0 = ascending j k lt lk in absurd (omega arith)
+    | inl lt ↦ let flats_ascend : get_or flats j 0 < get_or flats k 0 = ascending j k lt lk in absurd (omega arith)
     | inr le ↦ elim (cases_lt k j) [
-      | inl lt ↦ let more : get_or flats k 0 < get_or flats j 0 = ascending k j lt lj in absurd (omega arith)
+      | inl lt ↦ let flats_ascend : get_or flats k 0 < get_or flats j 0 = ascending k j lt lj in absurd (omega arith)
       | inr ge ↦ omega arith
     ]
   ]
@@ -50,16 +50,16 @@ module _ (σ : ℕ → ℕ) (flats : List ℕ) (keeps : σ SKY_FLAT ≡ SKY_FLAT
   injective a b (inl is) (inr (k, js, lt)) e =
       let sky : σ a ≡ SKY_FLAT = ap σ is ∙ keeps in
       let lump : σ b ≡ get_or flats k 0 = ap σ js ∙ sources k lt in
-      let small : get_or flats k 0 < SKY_FLAT = below k lt in
+      let below_sky : get_or flats k 0 < SKY_FLAT = below k lt in
       absurd (omega arith)
   injective a b (inr (k, is, lt)) (inl js) e =
       let sky : σ b ≡ SKY_FLAT = ap σ js ∙ keeps in
       let lump : σ a ≡ get_or flats k 0 = ap σ is ∙ sources k lt in
-      let small : get_or flats k 0 < SKY_FLAT = below k lt in
+      let below_sky : get_or flats k 0 < SKY_FLAT = below k lt in
       absurd (omega arith)
   injective a b (inr (j, is, lj)) (inr (k, js, lk)) e =
-      let same : j ≡ k = place_of j k lj lk (sym (sources j lj) ∙ ap σ (sym is) ∙ e ∙ ap σ js ∙ sources k lk) in
-      is ∙ ap suc same ∙ sym js
+      let places_same : j ≡ k = place_of j k lj lk (sym (sources j lj) ∙ ap σ (sym is) ∙ e ∙ ap σ js ∙ sources k lk) in
+      is ∙ ap suc places_same ∙ sym js
 
   pub one-to-one : (a b : ℕ) → IsFlatPlace (length flats) a → IsFlatPlace (length flats) b → (σ a == σ b) ≡ (a == b)
   one-to-one a b p q = eq_step (σ a) (σ b) a b (σ a == σ b) (a == b) refl refl (injective a b p q) (ap σ)
@@ -68,9 +68,9 @@ range_place : (a c n : ℕ) → list_any (λ m. m == n) (range_with_len a c) ≡
 range_place a zero n any = absurd (cc)
 range_place a (suc c) n any =
     or-cases (a == n) (list_any (λ m. m == n) (range_with_len (a + 1) c)) ((k : ℕ) × (n ≡ a + k) × (k < suc c))
-    (λ is. let same : a ≡ n = (Decides-eqb a n).0 is in (0, omega arith, omega arith))
-    (λ later. let more = range_place (a + 1) c n later in
-    let at : n ≡ (a + 1) + more.0 = more.1 in let lt : more.0 < c = more.2 in (suc more.0, omega arith, omega arith)) any
+    (λ is. let number_is_first : a ≡ n = (Decides-eqb a n).0 is in (0, omega arith, omega arith))
+    (λ later. let in_rest = range_place (a + 1) c n later in
+    let place_is : n ≡ (a + 1) + in_rest.0 = in_rest.1 in let place_inside : in_rest.0 < c = in_rest.2 in (suc in_rest.0, omega arith, omega arith)) any
 
 -- both flats of a sector are such numbers
 pub record AreFlatPlaces (count : ℕ) (both : SectorFlats) : Type 0 where
@@ -81,19 +81,18 @@ module _ (trimmed : List Lump) (count : ℕ) (has : HasGroup Flats trimmed 0 cou
   member_place : (n : ℕ) → n < length trimmed → is_member Flats trimmed n ≡ true → (k : ℕ) × (n ≡ suc k) × (k < count)
   unfolding members
   member_place n lt is =
-      let at = range_place 1 count n (ap (list_any (λ m. m == n)) (sym (group-members Flats trimmed 0 count has))
+      let place_in_range = range_place 1 count n (ap (list_any (λ m. m == n)) (sym (group-members Flats trimmed 0 count has))
       ∙ any_kept (is_member Flats trimmed) n (range_with_len 0 (length trimmed)) is (range-any 0 (length trimmed) n (omega arith) (omega arith))) in
-      let is_place : n ≡ 1 + at.0 = at.1 in
-      (at.0, omega arith, at.2)
+      let is_place : n ≡ 1 + place_in_range.0 = place_in_range.1 in (place_in_range.0, omega arith, place_in_range.2)
 
   named_step : (name : List ℕ) (f : Flat) (b : Bool) (o : Option ℕ) → flat_of trimmed name ≡ o → cond b (Some Sky) (option_map lump_flat o) ≡ Some f → IsFlatPlace count (flat_number f)
   unfolding flat_number lump_flat
   named_step name f true o is e = inl (ap flat_number (sym (some-injective Sky f e)))
   named_step name f false None is e = absurd (cc)
   named_step name f false (Some n) is e =
-      let found = greatest-is (λ number. is_member Flats trimmed number && has_name trimmed name number) (length trimmed) n is in
-      let at = member_place n found.0 (and_parts (is_member Flats trimmed n) (has_name trimmed name n) found.1).0 in
-      inr (at.0, ap flat_number (sym (some-injective (LumpFlat (record { 0 = n })) f e)) ∙ at.1, at.2)
+      let found_flat = greatest-is (λ number. is_member Flats trimmed number && has_name trimmed name number) (length trimmed) n is in
+      let place_in_group = member_place n found_flat.0 (and_parts (is_member Flats trimmed n) (has_name trimmed name n) found_flat.1).0 in
+      inr (place_in_group.0, ap flat_number (sym (some-injective (LumpFlat (record { 0 = n })) f e)) ∙ place_in_group.1, place_in_group.2)
 
   named_place : (name : List ℕ) (f : Flat) → flat_named trimmed name ≡ Some f → IsFlatPlace count (flat_number f)
   unfolding flat_named
@@ -105,8 +104,8 @@ module _ (trimmed : List Lump) (count : ℕ) (has : HasGroup Flats trimmed 0 cou
   both_step sector both None c is js e = absurd (cc)
   both_step sector both (Some f) None is js e = absurd (cc)
   both_step sector both (Some f) (Some c) is js e =
-      let same : record { floor = f; ceiling = c } ≡ both = some-injective _ both e in
-      subst (AreFlatPlaces count) same (record { floor = named_place sector.floor_name f is; ceiling = named_place sector.ceiling_name c js })
+      let flats_are : record { floor = f; ceiling = c } ≡ both = some-injective _ both e in
+      subst (AreFlatPlaces count) flats_are (record { floor = named_place sector.floor_name f is; ceiling = named_place sector.ceiling_name c js })
 
   sector_places : (sector : Sector) (both : SectorFlats) → flats_of trimmed sector ≡ Some both → AreFlatPlaces count both
   unfolding flats_of
@@ -116,10 +115,11 @@ module _ (trimmed : List Lump) (count : ℕ) (has : HasGroup Flats trimmed 0 cou
   unfolding each_from
   each_places number [] all e = subst (AllByRecursion (AreFlatPlaces count)) (ok_of [] all e) tt
   each_places number (sector ∷ sectors) all e =
-      let made = and_then-ok (ok_or (flats_of trimmed sector) (SectorFlat number)) _ all e in
-      let rest = and_then-ok (each_from (flats_of trimmed) SectorFlat (suc number) sectors) _ all made.2 in
-      subst (AllByRecursion (AreFlatPlaces count)) (ok_of (made.0 ∷ rest.0) all rest.2)
-      (sector_places sector made.0 (some_value (flats_of trimmed sector) (SectorFlat number) made.0 made.1), each_places (suc number) sectors rest.0 rest.1)
+      let first_flats = and_then-ok (ok_or (flats_of trimmed sector) (SectorFlat number)) _ all e in
+      let rest = and_then-ok (each_from (flats_of trimmed) SectorFlat (suc number) sectors) _ all first_flats.2 in
+      subst (AllByRecursion (AreFlatPlaces count)) (ok_of (first_flats.0 ∷ rest.0) all rest.2)
+      (sector_places sector first_flats.0 (some_value (flats_of trimmed sector) (SectorFlat number) first_flats.0 first_flats.1),
+      each_places (suc number) sectors rest.0 rest.1)
 
   -- the flats of all sectors
   pub places-flats : (sectors : List Sector) (all : List SectorFlats) → sector_flats trimmed sectors ≡ Ok all → AllByRecursion (AreFlatPlaces count) all

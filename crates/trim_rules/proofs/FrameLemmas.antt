@@ -11,13 +11,13 @@ pub each-moved : {X Y Z R : Type 0} (f : X → Result Y R) (g : X → Result Z R
 unfolding each_of
 each-moved f g move P one [] ys e all = ([], refl, ok_of [] ys e)
 each-moved f g move P one (x ∷ xs) ys e all =
-    let made = and_then-ok (f x) _ ys e in
-    let more = and_then-ok (each_of f xs) _ ys made.2 in
-    let same : made.0 ∷ more.0 ≡ ys = ok_of (made.0 ∷ more.0) ys more.2 in
-    let both : AllByRecursion P (made.0 ∷ more.0) = subst (AllByRecursion P) (sym same) all in
-    let here = one x made.0 made.1 both.0 in
-    let others = each-moved f g move P one xs more.0 more.1 both.1 in
-    (here.0 ∷ others.0, rw (here.1, others.1) refl, ap (λ y. y ∷ map move others.0) here.2 ∙ ap (λ zs. made.0 ∷ zs) others.2 ∙ same)
+    let first_made = and_then-ok (f x) _ ys e in let rest_made = and_then-ok (each_of f xs) _ ys first_made.2 in
+    let list_is : first_made.0 ∷ rest_made.0 ≡ ys = ok_of (first_made.0 ∷ rest_made.0) ys rest_made.2 in
+    let head_and_rest_hold : AllByRecursion P (first_made.0 ∷ rest_made.0) = subst (AllByRecursion P) (sym list_is) all in
+    let first_moved = one x first_made.0 first_made.1 head_and_rest_hold.0 in
+    let rest_moved = each-moved f g move P one xs rest_made.0 rest_made.1 head_and_rest_hold.1 in
+    (first_moved.0 ∷ rest_moved.0, rw (first_moved.1, rest_moved.1) refl,
+    ap (λ y. y ∷ map move rest_moved.0) first_moved.2 ∙ ap (λ zs. first_made.0 ∷ zs) rest_moved.2 ∙ list_is)
 
 -- What holds of what f gives tells of the items.
 pub each-back : {X Y R : Type 0} (f : X → Result Y R) (P : X → Type 0) (Q : Y → Type 0) → ((x : X) (y : Y) → f x ≡ Ok y → Q y → P x)
@@ -25,11 +25,11 @@ pub each-back : {X Y R : Type 0} (f : X → Result Y R) (P : X → Type 0) (Q : 
 unfolding each_of
 each-back f P Q one [] ys e all = tt
 each-back f P Q one (x ∷ xs) ys e all =
-    let made = and_then-ok (f x) _ ys e in
-    let more = and_then-ok (each_of f xs) _ ys made.2 in
-    let same : made.0 ∷ more.0 ≡ ys = ok_of (made.0 ∷ more.0) ys more.2 in
-    let both : AllByRecursion Q (made.0 ∷ more.0) = subst (AllByRecursion Q) (sym same) all in
-    (one x made.0 made.1 both.0, each-back f P Q one xs more.0 more.1 both.1)
+    let first_made = and_then-ok (f x) _ ys e in
+    let rest_made = and_then-ok (each_of f xs) _ ys first_made.2 in
+    let list_is : first_made.0 ∷ rest_made.0 ≡ ys = ok_of (first_made.0 ∷ rest_made.0) ys rest_made.2 in
+    let head_and_rest_hold : AllByRecursion Q (first_made.0 ∷ rest_made.0) = subst (AllByRecursion Q) (sym list_is) all in
+    (one x first_made.0 first_made.1 head_and_rest_hold.0, each-back f P Q one xs rest_made.0 rest_made.1 head_and_rest_hold.1)
 
 -- of each number of a range
 pub range-all : (P : ℕ → Type 0) (a c n : ℕ) → AllByRecursion P (range_with_len a c) → a ≤ n → n < a + c → P n
@@ -107,8 +107,8 @@ module _ (passes narrow : Mention → Bool) (within : (m : Mention) → narrow m
       → or_else r (cond b (Some x) None) ≡ Some m → or_else s (cond (narrow x) (Some x) None) ≡ Some m
   some_step x m (Some v) s b none more is e = rw (more e) refl
   some_step x m None s true none more is e =
-      let same : x ≡ m = some-injective x m e in
-      ap (λ o. or_else o (cond (narrow x) (Some x) None)) (none refl) ∙ ap (λ b. cond b (Some x) None) (ap narrow same ∙ is) ∙ ap Some same
+      let mentions_same : x ≡ m = some-injective x m e in
+      ap (λ o. or_else o (cond (narrow x) (Some x) None)) (none refl) ∙ ap (λ b. cond b (Some x) None) (ap narrow mentions_same ∙ is) ∙ ap Some mentions_same
   some_step x m None s false none more is e = absurd (cc)
 
   last-within : (all : List Mention) (m : Mention) → last_that passes all ≡ Some m → narrow m ≡ true → last_that narrow all ≡ Some m
@@ -132,7 +132,7 @@ unfolding is_of_rotation
 own_rotation frame rotation m is e = and-true_true (is_of_frame frame m) (m.rotation == rotation) is ((Decides-eqb m.rotation rotation).1 e)
 
 not_zero : (r k : ℕ) → r ≡ suc k → (b : Bool) → (r == 0) ≡ b → b ≡ false
-not_zero r k is true e = let none : r ≡ 0 = (Decides-eqb r 0).0 e in absurd (omega arith)
+not_zero r k is true e = let rotation_is_zero : r ≡ 0 = (Decides-eqb r 0).0 e in absurd (omega arith)
 not_zero r k is false e = refl
 
 -- The last mention of a frame is one of its pictures.
@@ -142,10 +142,10 @@ unfolding frame_picture picture_if picture_by
 picture_at all frame last e le zero is =
     (0, omega arith, ap (λ o. picture_if all frame o 0) e ∙ ap (λ b. cond b (Some last) (last_that (is_of_rotation frame 1) all)) ((Decides-eqb last.rotation 0).1 is))
 picture_at all frame last e le (suc k) is =
-    let other : (last.rotation == 0) ≡ false = not_zero last.rotation k is (last.rotation == 0) refl in (
+    let rotation_not_zero : (last.rotation == 0) ≡ false = not_zero last.rotation k is (last.rotation == 0) refl in (
       k,
       omega arith,
-      ap (λ o. picture_if all frame o k) e ∙ ap (λ b. cond b (Some last) (last_that (is_of_rotation frame (suc k)) all)) other
+      ap (λ o. picture_if all frame o k) e ∙ ap (λ b. cond b (Some last) (last_that (is_of_rotation frame (suc k)) all)) rotation_not_zero
           ∙ last-within (is_of_frame frame) (is_of_rotation frame (suc k)) (λ m js. rotation_within frame (suc k) m js) all last e
           (own_rotation frame (suc k) last (last_passes (is_of_frame frame) all last e) is),
     )

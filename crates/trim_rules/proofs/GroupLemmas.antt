@@ -21,11 +21,11 @@ unfolding stored_from
 free-stored group place [] all =
     record { files = λ k lt. absurd (omega arith); no_start = λ k lt. absurd (omega arith); no_end = λ k lt. absurd (omega arith) }
 free-stored group place (lump ∷ rest) all =
-    let more = free-stored group (place + length lump.bytes) rest all.1 in
+    let rest_free = free-stored group (place + length lump.bytes) rest all.1 in
     record {
-      files = λ k lt. files_at k lt (λ j less. more.files j less);
-      no_start = λ k lt. start_at k lt (λ j less. more.no_start j less) all.0.start;
-      no_end = λ k lt. end_at k lt (λ j less. more.no_end j less) all.0.end;
+      files = λ k lt. files_at k lt (λ j less. rest_free.files j less);
+      no_start = λ k lt. start_at k lt (λ j less. rest_free.no_start j less) all.0.start;
+      no_end = λ k lt. end_at k lt (λ j less. rest_free.no_end j less) all.0.end;
     } where
       tail : List Lump
       tail = stored_from (place + length lump.bytes) rest
@@ -98,12 +98,12 @@ end-later group x lumps count file not_start not_end has =
 group-first : (group : Group) (x : Lump) (lumps : List Lump) (count : ℕ) → x.file ≡ 0 → is_start group x.name ≡ true → HasEnd group lumps count → HasGroup group (x ∷ lumps) 0 count
 group-first group x lumps count file is has =
     let less : count < length lumps = has.inside in
-    let at : 0 + suc count ≡ suc count = omega arith in
+    let end_place : 0 + suc count ≡ suc count = omega arith in
     record {
       inside = omega arith;
       files = before_all (λ l. l.file ≡ 0) x lumps file has.files;
       starts = is;
-      ends = ap (λ n. is_end group (lump_at (x ∷ lumps) n).name) at ∙ has.ends;
+      ends = ap (λ n. is_end group (lump_at (x ∷ lumps) n).name) end_place ∙ has.ends;
       no_start = λ k lt after. start_later k lt after;
       no_end = λ k lt after within. end_later k after (let is_before_end : k < suc count = omega arith in is_before_end);
       before = λ k lt. absurd (omega arith);
@@ -121,12 +121,12 @@ group-later : (group : Group) (x : Lump) (lumps : List Lump) (start count : ℕ)
     → HasGroup group lumps start count → HasGroup group (x ∷ lumps) (suc start) count
 group-later group x lumps start count file not_start not_end has =
     let less : start + suc count < length lumps = has.inside in
-    let at : suc start + suc count ≡ suc (start + suc count) = omega arith in
+    let end_place : suc start + suc count ≡ suc (start + suc count) = omega arith in
     record {
       inside = omega arith;
       files = before_all (λ l. l.file ≡ 0) x lumps file has.files;
       starts = has.starts;
-      ends = ap (λ n. is_end group (lump_at (x ∷ lumps) n).name) at ∙ has.ends;
+      ends = ap (λ n. is_end group (lump_at (x ∷ lumps) n).name) end_place ∙ has.ends;
       no_start = λ k lt after. start_later k lt after;
       no_end = λ k lt after within. end_later k lt after (let is_before_end : k < suc (start + suc count) = omega arith in is_before_end);
       before = before_some (λ l. (is_start group l.name || is_end group l.name) ≡ false) x lumps start (or-false_false _ _ not_start not_end) has.before;

@@ -19,18 +19,18 @@ IsOwnFlat lumps n = flat_of lumps (lump_at lumps n).name ≡ Some n
 
 flat_of-own : (lumps : List Lump) (name : List ℕ) (n : ℕ) → flat_of lumps name ≡ Some n → IsOwnFlat lumps n
 flat_of-own lumps name n e =
-    let is = greatest-is (λ number. is_member Flats lumps number && has_name lumps name number) (length lumps) n e in
-    let has : has_name lumps name n ≡ true = (and_parts (is_member Flats lumps n) (has_name lumps name n) is.1).1 in
-    let same : (lump_at lumps n).name ≡ name = (bytes_eq-Decides (lump_at lumps n).name name).0 (sym (is_lump-at (λ lump. bytes_eq lump.name name) lumps n is.0) ∙ has) in
-    ap (flat_of lumps) same ∙ e
+    let found_flat = greatest-is (λ number. is_member Flats lumps number && has_name lumps name number) (length lumps) n e in
+    let has : has_name lumps name n ≡ true = (and_parts (is_member Flats lumps n) (has_name lumps name n) found_flat.1).1 in
+    let name_is : (lump_at lumps n).name ≡ name = (bytes_eq-Decides (lump_at lumps n).name name).0 (sym (is_lump-at (λ lump. bytes_eq lump.name name) lumps n found_flat.0) ∙ has) in
+    ap (flat_of lumps) name_is ∙ e
 
 named_step : (f : Flat) (n : ℕ) (b : Bool) (o : Option ℕ) → n < SKY_FLAT → cond b (Some Sky) (option_map lump_flat o) ≡ Some f → flat_number f ≡ n → o ≡ Some n
 unfolding lump_flat flat_number
 named_step f n true o lt e is =
-    let this : Sky ≡ f = cc in let same : SKY_FLAT ≡ n = ap flat_number this ∙ is in absurd (omega arith)
+    let flat_is_sky : Sky ≡ f = cc in let number_is_sky : SKY_FLAT ≡ n = ap flat_number flat_is_sky ∙ is in absurd (omega arith)
 named_step f n false None lt e is = absurd (cc)
 named_step f n false (Some m) lt e is =
-    let this : LumpFlat (record { 0 = m }) ≡ f = cc in let same : m ≡ n = ap flat_number this ∙ is in ap Some same
+    let flat_is_lump : LumpFlat (record { 0 = m }) ≡ f = cc in let numbers_same : m ≡ n = ap flat_number flat_is_lump ∙ is in ap Some numbers_same
 
 named_own : (lumps : List Lump) (name : List ℕ) (f : Flat) (n : ℕ) → n < SKY_FLAT → flat_named lumps name ≡ Some f → flat_number f ≡ n → IsOwnFlat lumps n
 unfolding flat_named
@@ -46,10 +46,10 @@ unfolding both_flats has_flat
 both_step lumps floor ceiling None c both is js e = absurd (cc)
 both_step lumps floor ceiling (Some f) None both is js e = absurd (cc)
 both_step lumps floor ceiling (Some f) (Some c) both is js e = λ n lt any.
-    let same : record { floor = f; ceiling = c } ≡ both = some-injective _ both e in
+    let flats_are : record { floor = f; ceiling = c } ≡ both = some-injective _ both e in
     or-cases (flat_number both.floor == n) (flat_number both.ceiling == n) (IsOwnFlat lumps n)
-    (λ t. named_own lumps floor f n lt is (ap (λ (b : SectorFlats). flat_number b.floor) same ∙ (Decides-eqb (flat_number both.floor) n).0 t))
-    (λ t. named_own lumps ceiling c n lt js (ap (λ (b : SectorFlats). flat_number b.ceiling) same ∙ (Decides-eqb (flat_number both.ceiling) n).0 t)) any
+    (λ t. named_own lumps floor f n lt is (ap (λ (b : SectorFlats). flat_number b.floor) flats_are ∙ (Decides-eqb (flat_number both.floor) n).0 t))
+    (λ t. named_own lumps ceiling c n lt js (ap (λ (b : SectorFlats). flat_number b.ceiling) flats_are ∙ (Decides-eqb (flat_number both.ceiling) n).0 t)) any
 
 sector_own : (lumps : List Lump) (sector : Sector) (both : SectorFlats) → flats_of lumps sector ≡ Some both → AreOwn lumps both
 unfolding flats_of

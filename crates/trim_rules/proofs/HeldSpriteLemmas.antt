@@ -25,9 +25,9 @@ module _ (bytes : ℕ → List ℕ) (lumps : List Lump) (parts : List TrimPart) 
   unfolding trimmed_lumps stored_lumps part_name
   copied-stand a [] at = tt
   copied-stand a (n ∷ ns) at =
-      let here : part_at parts a ≡ copy_part n = (let same_start : a ≡ a + 0 = omega arith in ap (part_at parts) same_start) ∙ at 0 (omega arith) in (
-        ap part_source here,
-        stored-name bytes lumps HEAD_SIZE parts a ∙ ap (part_name lumps) here,
+      let part_is_copy : part_at parts a ≡ copy_part n = (let same_start : a ≡ a + 0 = omega arith in ap (part_at parts) same_start) ∙ at 0 (omega arith) in (
+        ap part_source part_is_copy,
+        stored-name bytes lumps HEAD_SIZE parts a ∙ ap (part_name lumps) part_is_copy,
         copied-stand (a + 1) ns (λ k lt. (let same_place : (a + 1) + k ≡ a + suc k = omega arith in ap (part_at parts) same_place) ∙ at (suc k) (omega arith)),
       )
 
@@ -84,11 +84,11 @@ pub pictures-held : (bytes : ℕ → List ℕ) (lumps : List Lump) (art : SceneA
     → AllByRecursion (IsSprite lumps) art.pictures → AllByRecursion (IsUnmarked lumps) (trim_parts lumps art name)
     → HoldsPictures (trimmed_lumps bytes lumps (trim_parts lumps art name)) lumps (source_of (trim_parts lumps art name)) (first_picture lumps art) art.pictures
 pictures-held bytes lumps art name sprites unmarked =
-    let parts = trim_parts lumps art name in
-    let trimmed = trimmed_lumps bytes lumps parts in
+    let all_parts = trim_parts lumps art name in
+    let trimmed = trimmed_lumps bytes lumps all_parts in
     let flat_parts = group_parts F_START (flat_lumps lumps art.flats) F_END in
     let pictures = picture_lumps lumps art.pictures in
-    let same = pictures-kept lumps art.pictures sprites in
+    let pictures_kept = pictures-kept lumps art.pictures sprites in
     let start : length (map (part_lump bytes lumps) flat_parts) ≡ length flat_parts = length-map flat_parts (part_lump bytes lumps) in
     let count : length (map (part_lump bytes lumps) (map copy_part pictures)) ≡ length pictures =
     length-map (map copy_part pictures) (part_lump bytes lumps) ∙ length-map pictures copy_part in
@@ -96,9 +96,9 @@ pictures-held bytes lumps art name sprites unmarked =
       are =
           group-members Sprites trimmed (length (map (part_lump bytes lumps) flat_parts)) (length (map (part_lump bytes lumps) (map copy_part pictures))) (trimmed-pictures bytes lumps art name unmarked)
           ∙ ap (λ a. range_with_len (suc a) (length (map (part_lump bytes lumps) (map copy_part pictures)))) start
-          ∙ ap (range_with_len (suc (length flat_parts))) (count ∙ count-is pictures ∙ ap count_of same);
-      stand = subst (StandFor trimmed lumps (source_of parts) (suc (length flat_parts))) same
-          (copied-stand bytes lumps parts (suc (length flat_parts)) pictures (λ k lt. picture_part lumps art name k lt));
+          ∙ ap (range_with_len (suc (length flat_parts))) (count ∙ count-is pictures ∙ ap count_of pictures_kept);
+      stand = subst (StandFor trimmed lumps (source_of all_parts) (suc (length flat_parts))) pictures_kept
+          (copied-stand bytes lumps all_parts (suc (length flat_parts)) pictures (λ k lt. picture_part lumps art name k lt));
     }
 
 -- Each picture of a book comes of a mention, and each mention of a sprite lump.

@@ -65,10 +65,10 @@ later_entry : (place : ℕ) (lump : made.Lump) (rest : List made.Lump) (k : ℕ)
     → entry_at (entries place (lump ∷ rest)) (suc k) ≡ entry_at (entries (place + length lump.bytes) rest) k
 later_entry place lump rest k spelled =
     let past : 16 * suc k ≡ 16 + 16 * k = omega arith in
-    let all = entries place (lump ∷ rest) in
+    let all_entries = entries place (lump ∷ rest) in
     ap (λ es. take 16 es)
-    (ap (λ n. drop n all) past
-    ∙ sym (drop-drop (16 * k) 16 all)
+    (ap (λ n. drop n all_entries) past
+    ∙ sym (drop-drop (16 * k) 16 all_entries)
     ∙ ap (drop (16 * k))
     (ap (drop 16) (entries-first place lump rest)
     ∙ ap (λ n. drop n (entry place lump ++ entries (place + length lump.bytes) rest)) (sym (entry-length place lump spelled))
@@ -115,13 +115,13 @@ stored-within place size (lump ∷ rest) fits (suc k) d lt =
 no_entry-refused : (place size : ℕ) (lumps : List made.Lump) → place + length (contents lumps) ≤ size → entry_refusal 0 size (stored_from place lumps) ≡ None
 unfolding entry_refusal
 no_entry-refused place size lumps fits =
-    let all = stored_from place lumps in
-    let end : position_or_len (passes_end size) all ≡ length all =
-    position_or_len_is (passes_end size) all (length all) no_lump (omega arith)
+    let all_lumps = stored_from place lumps in
+    let end : position_or_len (passes_end size) all_lumps ≡ length all_lumps =
+    position_or_len_is (passes_end size) all_lumps (length all_lumps) no_lump (omega arith)
     (λ k lt. stored-within place size lumps fits k no_lump (omega (arith, stored-length place lumps)))
     (λ lt. absurd (omega arith)) in
-    ap (λ n. option_map (λ index. Entry 0 index) (cond (nat_lt n (length all)) (Some n) None)) end
-    ∙ rw (lt-false (length all) (length all) (omega arith)) refl
+    ap (λ n. option_map (λ index. Entry 0 index) (cond (nat_lt n (length all_lumps)) (Some n) None)) end
+    ∙ rw (lt-false (length all_lumps) (length all_lumps) (omega arith)) refl
 
 -- the first twelve bytes of the file of so many lumps whose directory begins there
 pub front : ℕ → ℕ → List ℕ
@@ -181,10 +181,10 @@ file-entries lumps spelled few fits =
     let behind = contents lumps ++ es in
     let place : directory_place (header (wad_file lumps)) ≡ directory_at lumps = ap (λ h. directory_place h) (file-header lumps) ∙ front-place (length lumps) (directory_at lumps) fits in
     let count : entry_count (header (wad_file lumps)) ≡ length lumps = ap (λ h. entry_count h) (file-header lumps) ∙ front-count (length lumps) (directory_at lumps) few in
-    let at : directory_at lumps ≡ length head + length (contents lumps) = directory_at-is lumps ∙ ap (λ n. n + length (contents lumps)) (sym (front-length (length lumps) (directory_at lumps))) in
+    let place_by_lengths : directory_at lumps ≡ length head + length (contents lumps) = directory_at-is lumps ∙ ap (λ n. n + length (contents lumps)) (sym (front-length (length lumps) (directory_at lumps))) in
     let dropped : drop (directory_at lumps) (wad_file lumps) ≡ es =
     ap (drop (directory_at lumps)) (file-parts lumps)
-    ∙ ap (λ n. drop n (head ++ behind)) at
+    ∙ ap (λ n. drop n (head ++ behind)) place_by_lengths
     ∙ drop-append-add head behind (length (contents lumps))
     ∙ drop-append_seam (contents lumps) es in
     ap (λ n. take (ENTRY_SIZE * n) (drop (directory_place (header (wad_file lumps))) (wad_file lumps))) count
@@ -227,7 +227,7 @@ directory-of_file lumps spelled few fits =
     let few' : length lumps < 2 ^ 32 = omega arith in
     let directory_is : directory_at lumps ≡ 12 + length (contents lumps) = directory_at-is lumps in
     let size : length (wad_file lumps) ≡ directory_at lumps + 16 * length lumps = wad_file-length lumps spelled in
-    let all : file_lumps 0 (wad_file lumps) ≡ stored_from HEAD_SIZE lumps = file-lumps lumps spelled few' fits in
-    let none : entry_refusal 0 (length (wad_file lumps)) (file_lumps 0 (wad_file lumps)) ≡ None =
-    ap (entry_refusal 0 (length (wad_file lumps))) all ∙ no_entry-refused HEAD_SIZE (length (wad_file lumps)) lumps (omega arith) in
-    rw (header-unrefused lumps spelled few fits, none) (ap Ok (append-nil (file_lumps 0 (wad_file lumps)) ∙ all))
+    let lumps_are : file_lumps 0 (wad_file lumps) ≡ stored_from HEAD_SIZE lumps = file-lumps lumps spelled few' fits in
+    let none_refused : entry_refusal 0 (length (wad_file lumps)) (file_lumps 0 (wad_file lumps)) ≡ None =
+    ap (entry_refusal 0 (length (wad_file lumps))) lumps_are ∙ no_entry-refused HEAD_SIZE (length (wad_file lumps)) lumps (omega arith) in
+    rw (header-unrefused lumps spelled few fits, none_refused) (ap Ok (append-nil (file_lumps 0 (wad_file lumps)) ∙ lumps_are))

@@ -51,14 +51,14 @@ module _ (bytes : ℕ → List ℕ) (lumps : List Lump) (name : List ℕ) (front
   last-part is others =
       let ls = stored_from HEAD_SIZE (map (part_lump bytes lumps) (front ++ p ∷ behind)) in
       let count : length ls ≡ length (front ++ p ∷ behind) = stored-length bytes lumps HEAD_SIZE (front ++ p ∷ behind) in
-      let all : length (front ++ p ∷ behind) ≡ length front + suc (length behind) = length-front front (p ∷ behind) in
+      let parts_length : length (front ++ p ∷ behind) ≡ length front + suc (length behind) = length-front front (p ∷ behind) in
       greatest-some (has_name ls name) (length ls) (length front) (omega arith)
       (named-at (length front) (omega arith) ∙ ap (λ q. bytes_eq (part_name lumps q) name) part_here ∙ (bytes_eq-Decides (part_name lumps p) name).1 is)
       (λ k above below. later k above (omega arith) others) where
         later : (k : ℕ) → length front < k → k < length (front ++ p ∷ behind) → AllByRecursion (IsOther lumps name) behind
             → has_name (stored_from HEAD_SIZE (map (part_lump bytes lumps) (front ++ p ∷ behind))) name k ≡ false
         later k above below others = let distance = gap (length front) k above in
-            let all : length (front ++ p ∷ behind) ≡ length front + suc (length behind) = length-front front (p ∷ behind) in
+            let parts_length : length (front ++ p ∷ behind) ≡ length front + suc (length behind) = length-front front (p ∷ behind) in
             let is_behind : k ≡ length front + suc distance.0 = distance.1 in
             let inside : distance.0 < length behind = omega arith in
             named-at k below ∙ ap (λ n. bytes_eq (part_name lumps (part_at (front ++ p ∷ behind) n)) name) is_behind
@@ -74,7 +74,7 @@ module _ (bytes : ℕ → List ℕ) (lumps : List Lump) (name : List ℕ) (front
 copied-inside : (parts : List TrimPart) (k n : ℕ) → part_at parts k ≡ copy_part n → k < length parts
 copied-inside [] k n e = absurd (cc)
 copied-inside (p ∷ parts) zero n e = omega arith
-copied-inside (p ∷ parts) (suc k) n e = let lt : k < length parts = copied-inside parts k n e in omega arith
+copied-inside (p ∷ parts) (suc k) n e = let rest_inside : k < length parts = copied-inside parts k n e in omega arith
 
 -- a copied part in a new file is found by the name of its lump
 module _ (bytes : ℕ → List ℕ) (lumps : List Lump) (parts : List TrimPart) where
@@ -84,27 +84,27 @@ module _ (bytes : ℕ → List ℕ) (lumps : List Lump) (parts : List TrimPart) 
   copied-named k n name e =
       let ls = stored_from HEAD_SIZE (map (part_lump bytes lumps) parts) in
       let count : length ls ≡ length parts = stored-length bytes lumps HEAD_SIZE parts in
-      let lt : k < length parts = copied-inside parts k n e in
+      let part_inside : k < length parts = copied-inside parts k n e in
       let file : (lump_at ls k).file ≡ 0 = stored-file bytes lumps HEAD_SIZE parts k in
-      let same : (lump_at ls k).name ≡ (lump_at lumps n).name = stored-name bytes lumps HEAD_SIZE parts k ∙ ap (part_name lumps) e in
+      let names_same : (lump_at ls k).name ≡ (lump_at lumps n).name = stored-name bytes lumps HEAD_SIZE parts k ∙ ap (part_name lumps) e in
       is_lump-at (λ lump. lump.file == 0 && bytes_eq lump.name name) ls k (omega arith)
-      ∙ rw (file, same) refl
+      ∙ rw (file, names_same) refl
 
   copied-row : (file a n : ℕ) (names : List (List ℕ)) → are_named lumps file n names ≡ true → ((k : ℕ) → k < length names → part_at parts (a + k) ≡ copy_part (n + k))
       → are_named (stored_from HEAD_SIZE (map (part_lump bytes lumps) parts)) 0 a names ≡ true
   unfolding are_named
   copied-row file a n [] e at = refl
   copied-row file a n (name ∷ names) e at =
-      let both = and_parts (is_named_in lumps file name n) (are_named lumps file (suc n) names) e in
-      let here : part_at parts a ≡ copy_part n = (let same_place : a ≡ a + 0 = omega arith in ap (part_at parts) same_place) ∙ at 0 (omega arith) ∙ (let same_number : n + 0 ≡ n = omega arith in ap copy_part same_number) in
-      let there : n < length lumps = passing-there _ lumps n both.0 in
+      let first_and_rest_named = and_parts (is_named_in lumps file name n) (are_named lumps file (suc n) names) e in
+      let part_is_copy : part_at parts a ≡ copy_part n = (let same_place : a ≡ a + 0 = omega arith in ap (part_at parts) same_place) ∙ at 0 (omega arith) ∙ (let same_number : n + 0 ≡ n = omega arith in ap copy_part same_number) in
+      let lump_there : n < length lumps = passing-there _ lumps n first_and_rest_named.0 in
       let has : bytes_eq (lump_at lumps n).name name ≡ true =
-      (and_parts ((lump_at lumps n).file == file) (bytes_eq (lump_at lumps n).name name) (sym (is_lump-at (λ lump. lump.file == file && bytes_eq lump.name name) lumps n there) ∙ both.0)).1 in
-      let is_named : is_named_in (stored_from HEAD_SIZE (map (part_lump bytes lumps) parts)) 0 name a ≡ true = copied-named a n name here ∙ has in
+      (and_parts ((lump_at lumps n).file == file) (bytes_eq (lump_at lumps n).name name) (sym (is_lump-at (λ lump. lump.file == file && bytes_eq lump.name name) lumps n lump_there) ∙ first_and_rest_named.0)).1 in
+      let is_named : is_named_in (stored_from HEAD_SIZE (map (part_lump bytes lumps) parts)) 0 name a ≡ true = copied-named a n name part_is_copy ∙ has in
       let next : (k : ℕ) → k < length names → part_at parts (suc a + k) ≡ copy_part (suc n + k) = λ k lt.
       (let same_place : suc a + k ≡ a + suc k = omega arith in ap (part_at parts) same_place) ∙ at (suc k) (omega arith) ∙ (let same_number : n + suc k ≡ suc n + k = omega arith in ap copy_part same_number) in
-      let more : are_named (stored_from HEAD_SIZE (map (part_lump bytes lumps) parts)) 0 (suc a) names ≡ true = copied-row file (suc a) (suc n) names both.1 next in
-      rw is_named more
+      let rest_named : are_named (stored_from HEAD_SIZE (map (part_lump bytes lumps) parts)) 0 (suc a) names ≡ true = copied-row file (suc a) (suc n) names first_and_rest_named.1 next in
+      rw is_named rest_named
 
 -- what is found by its name in a level that is accepted
 pub record HasFixed (lumps : List Lump) (p c n t : ℕ) : Type 0 where
@@ -121,8 +121,8 @@ called-first : (lumps : List Lump) (prepared : List (Option PreparedTexture)) (p
     → (more : List ℕ) × (called_lumps lumps prepared ≡ p ∷ c ∷ n ∷ t ∷ more)
 unfolding called_lumps
 called-first lumps prepared p c n t has =
-    let others = filter (λ k. not (list_any (λ m. m == k) (fixed_lumps lumps))) (patch_lumps prepared (length lumps)) in
-    (listed_last lumps TEXTURE2 ++ others, ap (λ fs. fs ++ others) (fixed-first lumps p c n t has))
+    let other_lumps = filter (λ k. not (list_any (λ m. m == k) (fixed_lumps lumps))) (patch_lumps prepared (length lumps)) in
+    (listed_last lumps TEXTURE2 ++ other_lumps, ap (λ fs. fs ++ other_lumps) (fixed-first lumps p c n t has))
 
 -- of four numbers of which one fails at most, the third that passes is the third or the fourth
 third_step : (q : ℕ → Bool) (p c n t : ℕ) (more : List ℕ) (b1 b2 b3 b4 : Bool) → q p ≡ b1 → q c ≡ b2 → q n ≡ b3 → q t ≡ b4
@@ -151,15 +151,15 @@ not_true false e = refl
 -- two lumps of two names do not both have the map's
 named-of : (lumps : List Lump) (name a : List ℕ) (x : ℕ) → last_of lumps a ≡ Some x → not (has_name lumps name x) ≡ false → a ≡ name
 named-of lumps name a x is e =
-    let found = greatest-is (has_name lumps a) (length lumps) x is in
+    let found_lump = greatest-is (has_name lumps a) (length lumps) x is in
     sym (last_of-name lumps a x is)
-    ∙ (bytes_eq-Decides (lump_at lumps x).name name).0 (sym (is_lump-at (λ lump. bytes_eq lump.name name) lumps x found.0) ∙ not_false (has_name lumps name x) e)
+    ∙ (bytes_eq-Decides (lump_at lumps x).name name).0 (sym (is_lump-at (λ lump. bytes_eq lump.name name) lumps x found_lump.0) ∙ not_false (has_name lumps name x) e)
 
 two_names : (lumps : List Lump) (name a b : List ℕ) (x y : ℕ) → last_of lumps a ≡ Some x → last_of lumps b ≡ Some y → bytes_eq a b ≡ false
     → not (has_name lumps name x) ≡ false → not (has_name lumps name y) ≡ false → ⊥
 two_names lumps name a b x y is js differ e f =
-    let same : a ≡ b = named-of lumps name a x is e ∙ sym (named-of lumps name b y js f) in
-    let same_bytes : bytes_eq a b ≡ true = (bytes_eq-Decides a b).1 same in
+    let names_same : a ≡ b = named-of lumps name a x is e ∙ sym (named-of lumps name b y js f) in
+    let same_bytes : bytes_eq a b ≡ true = (bytes_eq-Decides a b).1 names_same in
     let impossible : false ≡ true = sym differ ∙ same_bytes in absurd (cc)
 
 -- what is behind a map's label in the file
@@ -189,8 +189,8 @@ numbers_other : (lumps : List Lump) (name : List ℕ) (label a n : ℕ) → last
 unfolding part_name
 numbers_other lumps name label a zero is above all = tt
 numbers_other lumps name label a (suc n) is above all =
-    let found = greatest-is (has_name lumps name) (length lumps) label is in (
-      sym (is_lump-at (λ lump. bytes_eq lump.name name) lumps a all.0) ∙ found.2 a above all.0,
+    let label_is_found = greatest-is (has_name lumps name) (length lumps) label is in (
+      sym (is_lump-at (λ lump. bytes_eq lump.name name) lumps a all.0) ∙ label_is_found.2 a above all.0,
       numbers_other lumps name label (a + 1) n is (omega arith) all.1,
     )
 
@@ -204,10 +204,10 @@ called_other lumps name (n ∷ ns) all keep =
 pub behind-other : (lumps : List Lump) (prepared : List (Option PreparedTexture)) (name : List ℕ) (label : ℕ) → map_of lumps name ≡ Some label
     → AllByRecursion (IsOther lumps name) (behind_map lumps prepared name label)
 behind-other lumps prepared name label is =
-    let found = label-is lumps name label is in
+    let label_is_found = label-is lumps name label is in
     let keep = λ (n : ℕ). not (has_name lumps name n) in
     all-append (IsOther lumps name) (map copy_part (range_with_len (suc label) (length MAP_LUMPS))) (map copy_part (filter keep (called_lumps lumps prepared)))
-    (numbers_other lumps name label (suc label) (length MAP_LUMPS) found.0 (omega arith) (behind-there lumps label found.1))
+    (numbers_other lumps name label (suc label) (length MAP_LUMPS) label_is_found.0 (omega arith) (behind-there lumps label label_is_found.1))
     (called_other lumps name (filter keep (called_lumps lumps prepared))
     (all-filter (IsNumber lumps) keep (called_lumps lumps prepared) (called-there lumps prepared)) (kept-passing keep (called_lumps lumps prepared)))
 
@@ -284,9 +284,9 @@ module _ (bytes : ℕ → List ℕ) (lumps : List Lump) (front : List TrimPart) 
       let ls = stored_from HEAD_SIZE (map (part_lump bytes lumps) ps) in
       let in_file : (lump_at ls (length front)).file ≡ 0 = stored-file bytes lumps HEAD_SIZE ps (length front) in
       let row : are_named ls 0 (suc (length front)) MAP_LUMPS ≡ true = copied-row bytes lumps ps file (suc (length front)) (suc label) MAP_LUMPS named (λ k lt. row-at k lt) in
-      let none : is_named_in ls 0 BEHAVIOR (length front + BEHAVIOR_AFTER) ≡ false =
+      let no_behavior : is_named_in ls 0 BEHAVIOR (length front + BEHAVIOR_AFTER) ≡ false =
       copied-named bytes lumps ps (length front + BEHAVIOR_AFTER) m BEHAVIOR (third-at ∙ is) ∙ differ in
-      rw (in_file, row, none) refl
+      rw (in_file, row, no_behavior) refl
 
 if_whole : (ls : List Lump) (n : ℕ) → is_label ls n ≡ true → if_label ls n ≡ Some n
 if_whole ls n e = rw e refl
@@ -301,8 +301,8 @@ trimmed-map bytes lumps art name label p c n t is has =
     let keep = λ (k : ℕ). not (has_name lumps name k) in
     let called = map copy_part (filter keep (called_lumps lumps art.prepared)) in
     let behind = behind_map lumps art.prepared name label in
-    let found = label-is lumps name label is in
-    let named : are_named lumps (lump_at lumps label).file (suc label) MAP_LUMPS ≡ true = (and_parts _ _ found.1).0 in
+    let label_is_found = label-is lumps name label is in
+    let lumps_named : are_named lumps (lump_at lumps label).file (suc label) MAP_LUMPS ≡ true = (and_parts _ _ label_is_found.1).0 in
     let four_called = called-first lumps art.prepared p c n t has in
     let third_called = third_step keep p c n t four_called.0 (keep p) (keep c) (keep n) (keep t) refl refl refl refl
     (two_names lumps name PLAYPAL COLORMAP p c has.playpal has.colormap refl)
@@ -312,10 +312,10 @@ trimmed-map bytes lumps art name label p c n t is has =
     (two_names lumps name COLORMAP TEXTURE1 c t has.colormap has.texture1 refl)
     (two_names lumps name PNAMES TEXTURE1 n t has.pnames has.texture1 refl) in
     let whole : is_label (stored_from HEAD_SIZE (map (part_lump bytes lumps) (front ++ part ∷ behind))) (length front) ≡ true = elim third_called [
-      | inl e ↦ label-whole bytes lumps front label part called (lump_at lumps label).file n named
+      | inl e ↦ label-whole bytes lumps front label part called (lump_at lumps label).file n lumps_named
           (ap (λ ks. part_at (map copy_part (filter keep ks)) 2) four_called.1 ∙ e)
           (ap (λ k. bytes_eq k BEHAVIOR) (last_of-name lumps PNAMES n has.pnames))
-      | inr e ↦ label-whole bytes lumps front label part called (lump_at lumps label).file t named
+      | inr e ↦ label-whole bytes lumps front label part called (lump_at lumps label).file t lumps_named
           (ap (λ ks. part_at (map copy_part (filter keep ks)) 2) four_called.1 ∙ e)
           (ap (λ k. bytes_eq k BEHAVIOR) (last_of-name lumps TEXTURE1 t has.texture1))
     ] in

@@ -25,36 +25,36 @@ module _ (group : Group) (lumps : List Lump) (start count : ℕ) (has : HasGroup
   pub between-mark : (n : ℕ) → start < n → n ≤ start + suc count → mark_before group lumps n ≡ Some start
   between-mark n after upto =
       greatest-some (is_lump (λ lump. is_start group lump.name || is_end group lump.name) lumps) n start after
-      (let lt : start < length lumps = omega (arith, has.inside) in
-      is_lump-at (λ lump. is_start group lump.name || is_end group lump.name) lumps start lt ∙ rw has.starts refl)
+      (let start_inside : start < length lumps = omega (arith, has.inside) in
+      is_lump-at (λ lump. is_start group lump.name || is_end group lump.name) lumps start start_inside ∙ rw has.starts refl)
       (λ k above below.
-      let lt : k < length lumps = omega (arith, has.inside) in
-      let within : k < start + suc count = omega arith in
-      is_lump-at (λ lump. is_start group lump.name || is_end group lump.name) lumps k lt
-      ∙ or-false_false _ _ (has.no_start k lt above) (has.no_end k lt above within))
+      let lump_inside : k < length lumps = omega (arith, has.inside) in
+      let before_end : k < start + suc count = omega arith in
+      is_lump-at (λ lump. is_start group lump.name || is_end group lump.name) lumps k lump_inside
+      ∙ or-false_false _ _ (has.no_start k lump_inside above) (has.no_end k lump_inside above before_end))
 
   -- those between them are of the group
   pub between-member : (n : ℕ) → start < n → n < start + suc count → is_member group lumps n ≡ true
   between-member n after below =
-      let lt : n < length lumps = omega (arith, has.inside) in
+      let lump_inside : n < length lumps = omega (arith, has.inside) in
       let start_inside : start < length lumps = omega (arith, has.inside) in
-      let file : (lump_at lumps n).file ≡ 0 = has.files n lt in
+      let file : (lump_at lumps n).file ≡ 0 = has.files n lump_inside in
       let file' : (lump_at lumps start).file ≡ 0 = has.files start start_inside in
       let upto : n ≤ start + suc count = omega arith in
-      is_lump-at (λ lump. not (is_end group lump.name) && starts_in group lumps lump.file (mark_before group lumps n)) lumps n lt
-      ∙ rw (has.no_end n lt after below, between-mark n after upto, file)
+      is_lump-at (λ lump. not (is_end group lump.name) && starts_in group lumps lump.file (mark_before group lumps n)) lumps n lump_inside
+      ∙ rw (has.no_end n lump_inside after below, between-mark n after upto, file)
       (is_lump-at (λ lump. is_start group lump.name && lump.file == 0) lumps start start_inside ∙ rw (has.starts, file') refl)
 
   -- those up to the start are not
   pub front-member : (n : ℕ) → n ≤ start → is_member group lumps n ≡ false
   front-member n upto =
-      let lt : n < length lumps = omega (arith, has.inside) in
-      let none : mark_before group lumps n ≡ None =
+      let lump_inside : n < length lumps = omega (arith, has.inside) in
+      let no_mark : mark_before group lumps n ≡ None =
       greatest-none (is_lump (λ lump. is_start group lump.name || is_end group lump.name) lumps) n
-      (λ k below. let there : k < length lumps = omega arith in let early : k < start = omega arith in
-      is_lump-at (λ lump. is_start group lump.name || is_end group lump.name) lumps k there ∙ has.before k early) in
-      is_lump-at (λ lump. not (is_end group lump.name) && starts_in group lumps lump.file (mark_before group lumps n)) lumps n lt
-      ∙ rw none (none_and (is_end group (lump_at lumps n).name)) where
+      (λ k below. let earlier_inside : k < length lumps = omega arith in let early : k < start = omega arith in
+      is_lump-at (λ lump. is_start group lump.name || is_end group lump.name) lumps k earlier_inside ∙ has.before k early) in
+      is_lump-at (λ lump. not (is_end group lump.name) && starts_in group lumps lump.file (mark_before group lumps n)) lumps n lump_inside
+      ∙ rw no_mark (none_and (is_end group (lump_at lumps n).name)) where
         none_and : (b : Bool) → (not b && false) ≡ false
         none_and true = refl
         none_and false = refl
@@ -66,17 +66,17 @@ module _ (group : Group) (lumps : List Lump) (start count : ℕ) (has : HasGroup
       ∙ elim (cases_lt (start + suc count) n) [
         | inl later ↦
             let end : ℕ = start + suc count in
-            let there : start + suc count < length lumps = has.inside in
+            let end_inside : start + suc count < length lumps = has.inside in
             let above : start < start + suc count = omega arith in
             let mark : mark_before group lumps n ≡ Some (start + suc count) =
             greatest-some (is_lump (λ lump. is_start group lump.name || is_end group lump.name) lumps) n (start + suc count) later
-            (is_lump-at (λ lump. is_start group lump.name || is_end group lump.name) lumps (start + suc count) there
+            (is_lump-at (λ lump. is_start group lump.name || is_end group lump.name) lumps (start + suc count) end_inside
             ∙ or-true_right (is_start group (lump_at lumps (start + suc count)).name) _ has.ends)
             (λ k past below. let inside : k < length lumps = omega arith in
             is_lump-at (λ lump. is_start group lump.name || is_end group lump.name) lumps k inside ∙ has.behind k inside past) in
             rw mark (and_false (not (is_end group (lump_at lumps n).name)) _
-            (is_lump-at (λ lump. is_start group lump.name && lump.file == (lump_at lumps n).file) lumps (start + suc count) there
-            ∙ rw (has.no_start (start + suc count) there above) refl))
+            (is_lump-at (λ lump. is_start group lump.name && lump.file == (lump_at lumps n).file) lumps (start + suc count) end_inside
+            ∙ rw (has.no_start (start + suc count) end_inside above) refl))
         | inr same ↦
             let is_end_place : n ≡ start + suc count = omega arith in
             let ends : is_end group (lump_at lumps n).name ≡ true = ap (λ k. is_end group (lump_at lumps k).name) is_end_place ∙ has.ends in

@@ -31,7 +31,7 @@ unfolding last_that
 fewer_some passes keep x m rest h k true g (Some v) b f q e = rw (h (f ∙ e)) refl
 fewer_some passes keep x m rest h k false g (Some v) b f q e = h (f ∙ e)
 fewer_some passes keep x m rest h k true g None true f q e = rw (last_that-fewer_none passes keep rest f, q) e
-fewer_some passes keep x m rest h k false g None true f q e = let same : x ≡ m = cc in absurd (cc)
+fewer_some passes keep x m rest h k false g None true f q e = let mentions_same : x ≡ m = cc in absurd (cc)
 fewer_some passes keep x m rest h k kept g None false f q e = cc
 
 pub last_that-fewer : (passes keep : Mention → Bool) (all : List Mention) (m : Mention)
@@ -55,7 +55,7 @@ pub frame_picture-fewer : (keep : Mention → Bool) (all : List Mention) (frame 
     → frame_picture (filter keep all) frame k ≡ Some m
 unfolding frame_picture picture_if picture_by
 frame_picture-fewer keep all frame k last m l kl e km =
-    let here : cond (last.rotation == 0) (Some last) (last_that (is_of_rotation frame (suc k)) all) ≡ Some m =
+    let picture_is : cond (last.rotation == 0) (Some last) (last_that (is_of_rotation frame (suc k)) all) ≡ Some m =
     ap (λ o. picture_if all frame o k) (sym l) ∙ e in
     ap (λ o. picture_if (filter keep all) frame o k) (last_that-fewer (is_of_frame frame) keep all last l kl)
-    ∙ picture_fewer keep all frame k last m km (last.rotation == 0) refl here
+    ∙ picture_fewer keep all frame k last m km (last.rotation == 0) refl picture_is

@@ -21,7 +21,7 @@ abbrev pub IsListed : List ℕ → ℕ → Type 0
 IsListed ns n = (k : ℕ) × (k < length ns) × (get_or ns k 0 ≡ n)
 
 later_place : (m : ℕ) (ns : List ℕ) (n : ℕ) → IsListed ns n → IsListed (m ∷ ns) n
-later_place m ns n at = let lt : at.0 < length ns = at.1 in (suc at.0, omega arith, at.2)
+later_place m ns n at = let place_inside : at.0 < length ns = at.1 in (suc at.0, omega arith, at.2)
 
 first_place : (m : ℕ) (ns : List ℕ) (n : ℕ) → m ≡ n → IsListed (m ∷ ns) n
 first_place m ns n e = (0, omega arith, e)
@@ -55,10 +55,10 @@ module _ (trimmed lumps : List Lump) (σ : ℕ → ℕ) (flats : List ℕ) (has 
   -- a flat that is found by a name
   found : (name : List ℕ) (n : ℕ) → flat_of lumps name ≡ Some n → (k : ℕ) → k < length flats → get_or flats k 0 ≡ n → flat_of trimmed name ≡ Some (suc k)
   found name n e k lt same =
-      let is = greatest-is (λ number. is_member Flats lumps number && has_name lumps name number) (length lumps) n e in
-      let own : (lump_at lumps n).name ≡ name = (bytes_eq-Decides (lump_at lumps n).name name).0
-      (sym (is_lump-at (λ lump. bytes_eq lump.name name) lumps n is.0) ∙ (and_parts (is_member Flats lumps n) (has_name lumps name n) is.1).1) in
-      ap (flat_of trimmed) (sym own ∙ ap (λ m. (lump_at lumps m).name) (sym same)) ∙ trimmed_flat trimmed lumps flats has k lt
+      let last_flat = greatest-is (λ number. is_member Flats lumps number && has_name lumps name number) (length lumps) n e in
+      let name_is : (lump_at lumps n).name ≡ name = (bytes_eq-Decides (lump_at lumps n).name name).0
+      (sym (is_lump-at (λ lump. bytes_eq lump.name name) lumps n last_flat.0) ∙ (and_parts (is_member Flats lumps n) (has_name lumps name n) last_flat.1).1) in
+      ap (flat_of trimmed) (sym name_is ∙ ap (λ m. (lump_at lumps m).name) (sym same)) ∙ trimmed_flat trimmed lumps flats has k lt
 
   named_step : (name : List ℕ) (f : Flat) (b : Bool) (o : Option ℕ) → is_sky_name name ≡ b → flat_of lumps name ≡ o
       → cond b (Some Sky) (option_map lump_flat o) ≡ Some f → ((n : ℕ) → n < length lumps → flat_number f ≡ n → IsListed flats n)
@@ -67,12 +67,12 @@ module _ (trimmed lumps : List Lump) (σ : ℕ → ℕ) (flats : List ℕ) (has 
   named_step name f true o sky is e listed = (Sky, refl, some-injective Sky f e)
   named_step name f false None sky is e listed = absurd (cc)
   named_step name f false (Some n) sky is e listed =
-      let this : LumpFlat (record { 0 = n }) ≡ f = some-injective (LumpFlat (record { 0 = n })) f e in
+      let flat_is_lump : LumpFlat (record { 0 = n }) ≡ f = some-injective (LumpFlat (record { 0 = n })) f e in
       let inside = (greatest-is (λ number. is_member Flats lumps number && has_name lumps name number) (length lumps) n is).0 in
-      let at = listed n inside (ap flat_number (sym this)) in (
-        LumpFlat (record { 0 = suc at.0 }),
-        ap (option_map lump_flat) (found name n is at.0 at.1 at.2),
-        ap (λ m. LumpFlat (record { 0 = m })) (sources at.0 at.1 ∙ at.2) ∙ this,
+      let place_listed = listed n inside (ap flat_number (sym flat_is_lump)) in (
+        LumpFlat (record { 0 = suc place_listed.0 }),
+        ap (option_map lump_flat) (found name n is place_listed.0 place_listed.1 place_listed.2),
+        ap (λ m. LumpFlat (record { 0 = m })) (sources place_listed.0 place_listed.1 ∙ place_listed.2) ∙ flat_is_lump,
       )
 
   flat-moved : (name : List ℕ) (f : Flat) → flat_named lumps name ≡ Some f → ((n : ℕ) → n < length lumps → flat_number f ≡ n → IsListed flats n)
@@ -87,14 +87,14 @@ module _ (trimmed lumps : List Lump) (σ : ℕ → ℕ) (flats : List ℕ) (has 
   both_step sector both None c is js e listed = absurd (cc)
   both_step sector both (Some f) None is js e listed = absurd (cc)
   both_step sector both (Some f) (Some c) is js e listed =
-      let same : record { floor = f; ceiling = c } ≡ both = some-injective _ both e in
+      let flats_are : record { floor = f; ceiling = c } ≡ both = some-injective _ both e in
       let floor = flat-moved sector.floor_name f is (λ n lt number. listed n lt
-      (or-true_left (flat_number both.floor == n) _ ((Decides-eqb (flat_number both.floor) n).1 (ap (λ (b : SectorFlats). flat_number b.floor) (sym same) ∙ number)))) in
+      (or-true_left (flat_number both.floor == n) _ ((Decides-eqb (flat_number both.floor) n).1 (ap (λ (b : SectorFlats). flat_number b.floor) (sym flats_are) ∙ number)))) in
       let ceiling = flat-moved sector.ceiling_name c js (λ n lt number. listed n lt
-      (or-true_right (flat_number both.floor == n) _ ((Decides-eqb (flat_number both.ceiling) n).1 (ap (λ (b : SectorFlats). flat_number b.ceiling) (sym same) ∙ number)))) in (
+      (or-true_right (flat_number both.floor == n) _ ((Decides-eqb (flat_number both.ceiling) n).1 (ap (λ (b : SectorFlats). flat_number b.ceiling) (sym flats_are) ∙ number)))) in (
         record { floor = floor.0; ceiling = ceiling.0 },
         rw (floor.1, ceiling.1) refl,
-        ap (λ (g : Flat). record { floor = g; ceiling = move_flat σ ceiling.0 }) floor.2 ∙ ap (λ (g : Flat). record { floor = f; ceiling = g }) ceiling.2 ∙ same,
+        ap (λ (g : Flat). record { floor = g; ceiling = move_flat σ ceiling.0 }) floor.2 ∙ ap (λ (g : Flat). record { floor = f; ceiling = g }) ceiling.2 ∙ flats_are,
       )
 
   sector-moved : (sector : Sector) (both : SectorFlats) → flats_of lumps sector ≡ Some both → ((n : ℕ) → n < length lumps → has_flat n both ≡ true → IsListed flats n)
@@ -106,15 +106,15 @@ module _ (trimmed lumps : List Lump) (σ : ℕ → ℕ) (flats : List ℕ) (has 
       → ((n : ℕ) → n < length lumps → list_any (has_flat n) all ≡ true → IsListed flats n)
       → (moved : List SectorFlats) × (each_from (flats_of trimmed) SectorFlat number sectors ≡ Ok moved) × (map (move_both σ) moved ≡ all)
   unfolding each_from
-  each-moved number [] all e listed = let same : [] ≡ all = cc in ([], refl, same)
+  each-moved number [] all e listed = let list_is : [] ≡ all = cc in ([], refl, list_is)
   each-moved number (sector ∷ sectors) all e listed =
-      let made = and_then-ok (ok_or (flats_of lumps sector) (SectorFlat number)) _ all e in
-      let rest = and_then-ok (each_from (flats_of lumps) SectorFlat (suc number) sectors) _ all made.2 in
-      let same : made.0 ∷ rest.0 ≡ all = ok_of (made.0 ∷ rest.0) all rest.2 in
-      let moved_flats = sector-moved sector made.0 (some_value (flats_of lumps sector) (SectorFlat number) made.0 made.1)
-      (λ n lt is. listed n lt (ap (list_any (has_flat n)) (sym same) ∙ or-true_left (has_flat n made.0) _ is)) in
-      let more = each-moved (suc number) sectors rest.0 rest.1 (λ n lt any. listed n lt (ap (list_any (has_flat n)) (sym same) ∙ or-true_right (has_flat n made.0) _ any)) in
-      (moved_flats.0 ∷ more.0, each-made trimmed number sector sectors moved_flats.0 more.0 moved_flats.1 more.1, ap (λ (b : SectorFlats). b ∷ map (move_both σ) more.0) moved_flats.2 ∙ ap (λ bs. made.0 ∷ bs) more.2 ∙ same)
+      let first_flats = and_then-ok (ok_or (flats_of lumps sector) (SectorFlat number)) _ all e in
+      let rest = and_then-ok (each_from (flats_of lumps) SectorFlat (suc number) sectors) _ all first_flats.2 in
+      let list_is : first_flats.0 ∷ rest.0 ≡ all = ok_of (first_flats.0 ∷ rest.0) all rest.2 in
+      let moved_flats = sector-moved sector first_flats.0 (some_value (flats_of lumps sector) (SectorFlat number) first_flats.0 first_flats.1)
+      (λ n lt is. listed n lt (ap (list_any (has_flat n)) (sym list_is) ∙ or-true_left (has_flat n first_flats.0) _ is)) in
+      let rest_moved = each-moved (suc number) sectors rest.0 rest.1 (λ n lt any. listed n lt (ap (list_any (has_flat n)) (sym list_is) ∙ or-true_right (has_flat n first_flats.0) _ any)) in
+      (moved_flats.0 ∷ rest_moved.0, each-made trimmed number sector sectors moved_flats.0 rest_moved.0 moved_flats.1 rest_moved.1, ap (λ (b : SectorFlats). b ∷ map (move_both σ) rest_moved.0) moved_flats.2 ∙ ap (λ bs. first_flats.0 ∷ bs) rest_moved.2 ∙ list_is)
 
 -- The flats of an accepted level's sectors, by a directory that has its flats.
 pub sectors-moved : (trimmed lumps : List Lump) (σ : ℕ → ℕ) (sectors : List Sector) (all : List SectorFlats) → HasFlats trimmed lumps (flat_lumps lumps all)

@@ -88,12 +88,12 @@ module _ (bytes : ℕ → List ℕ) (lumps : List Lump) (art : SceneArt) (name :
   called_step : (wanted : List ℕ) (n : ℕ) (b : Bool) → has_name lumps name n ≡ b → last_of lumps wanted ≡ Some n → list_any (λ m. m == n) (called_lumps lumps art.prepared) ≡ true
       → last_bytes (map (part_lump bytes lumps) (trim_parts lumps art name)) wanted ≡ Some (bytes n)
   called_step wanted n true has e any =
-      let found = greatest-is (has_name lumps wanted) (length lumps) n e in
+      let found_lump = greatest-is (has_name lumps wanted) (length lumps) n e in
       let map_name : (lump_at lumps n).name ≡ name =
-      (bytes_eq-Decides (lump_at lumps n).name name).0 (sym (is_lump-at (λ lump. bytes_eq lump.name name) lumps n found.0) ∙ has) in
-      let same : wanted ≡ name = sym (last_of-name lumps wanted n e) ∙ map_name in
-      let number : label ≡ n = some-injective label n (sym (label-is lumps name label is).0 ∙ sym (ap (last_of lumps) same) ∙ e) in
-      ap (last_bytes (map (part_lump bytes lumps) (trim_parts lumps art name))) same
+      (bytes_eq-Decides (lump_at lumps n).name name).0 (sym (is_lump-at (λ lump. bytes_eq lump.name name) lumps n found_lump.0) ∙ has) in
+      let wanted_is_map_name : wanted ≡ name = sym (last_of-name lumps wanted n e) ∙ map_name in
+      let number : label ≡ n = some-injective label n (sym (label-is lumps name label is).0 ∙ sym (ap (last_of lumps) wanted_is_map_name) ∙ e) in
+      ap (last_bytes (map (part_lump bytes lumps) (trim_parts lumps art name))) wanted_is_map_name
       ∙ map_name-bytes bytes lumps art name label is (any_that (has_name lumps name) n (called_lumps lumps art.prepared) any has)
       ∙ ap (λ k. Some (bytes k)) number
   called_step wanted n false has e any =
@@ -129,11 +129,11 @@ pub record IsNoMark (wanted : List ℕ) : Type 0 where
 pub none-bytes : (bytes : ℕ → List ℕ) (lumps : List Lump) (art : SceneArt) (name wanted : List ℕ) → IsNoMark wanted → last_of lumps wanted ≡ None
     → last_bytes (map (part_lump bytes lumps) (trim_parts lumps art name)) wanted ≡ None
 none-bytes bytes lumps art name wanted marks e =
-    let other = λ (n : ℕ) (lt : n < length lumps). sym (is_lump-at (λ lump. bytes_eq lump.name wanted) lumps n lt) ∙ none-below_greatest (has_name lumps wanted) (length lumps) e n lt in
+    let name_differs = λ (n : ℕ) (lt : n < length lumps). sym (is_lump-at (λ lump. bytes_eq lump.name wanted) lumps n lt) ∙ none-below_greatest (has_name lumps wanted) (length lumps) e n lt in
     none_called bytes lumps wanted (trim_parts lumps art name)
-    (parts-all lumps (IsOther lumps wanted) (λ n lt. copy_other lumps wanted n (other n lt)) art name
+    (parts-all lumps (IsOther lumps wanted) (λ n lt. copy_other lumps wanted n (name_differs n lt)) art name
     (mark_other lumps wanted F_START marks.f_start) (mark_other lumps wanted F_END marks.f_end) (mark_other lumps wanted S_START marks.s_start) (mark_other lumps wanted S_END marks.s_end)
-    (λ n lt. label_other lumps wanted n (other n lt)))
+    (λ n lt. label_other lumps wanted n (name_differs n lt)))
 
 -- by the directory the last lump of a name has what the last part of that name has
 pub named-put : (bytes : ℕ → List ℕ) (lumps : List Lump) (parts : List TrimPart) (wanted : List ℕ)

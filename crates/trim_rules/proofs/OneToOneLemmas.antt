@@ -19,9 +19,9 @@ each-length : {X Y R : Type 0} (f : X → Option Y) (refuse : ℕ → R) (number
 unfolding each_from
 each-length f refuse number [] ys e = ap length (sym (ok_of [] ys e))
 each-length f refuse number (x ∷ xs) ys e =
-    let made = and_then-ok (ok_or (f x) (refuse number)) _ ys e in
-    let more = and_then-ok (each_from f refuse (suc number) xs) _ ys made.2 in
-    ap length (sym (ok_of (made.0 ∷ more.0) ys more.2)) ∙ ap suc (each-length f refuse (suc number) xs more.0 more.1)
+    let first_made = and_then-ok (ok_or (f x) (refuse number)) _ ys e in
+    let rest_made = and_then-ok (each_from f refuse (suc number) xs) _ ys first_made.2 in
+    ap length (sym (ok_of (first_made.0 ∷ rest_made.0) ys rest_made.2)) ∙ ap suc (each-length f refuse (suc number) xs rest_made.0 rest_made.1)
 
 -- there are as many flats as sectors
 pub flats-count : (lumps : List Lump) (sectors : List Sector) (flats : List SectorFlats) → sector_flats lumps sectors ≡ Ok flats → length flats ≡ length sectors
@@ -44,19 +44,19 @@ module _ (lumps : List Lump) (art : SceneArt) (name : List ℕ) (parts : List Tr
     pub flats-placed : (moved : List SectorFlats) → sector_flats (trimmed_lumps bytes lumps (trim_parts lumps art name)) sectors ≡ Ok moved
         → AllByRecursion (AreFlatPlaces (length (flat_lumps lumps art.flats))) moved
     flats-placed moved e =
-        let held = flats-held bytes lumps art name sectors few flats (plan-unmarked lumps art name parts plan) in
-        places-flats (trimmed_lumps bytes lumps (trim_parts lumps art name)) (length (flat_lumps lumps art.flats)) held.group sectors moved e
+        let flats_held = flats-held bytes lumps art name sectors few flats (plan-unmarked lumps art name parts plan) in
+        places-flats (trimmed_lumps bytes lumps (trim_parts lumps art name)) (length (flat_lumps lumps art.flats)) flats_held.group sectors moved e
 
     -- one to one
     pub flats-one-to-one : (a b : ℕ) → IsFlatPlace (length (flat_lumps lumps art.flats)) a → IsFlatPlace (length (flat_lumps lumps art.flats)) b
         → (source_of (trim_parts lumps art name) a == source_of (trim_parts lumps art name) b) ≡ (a == b)
     flats-one-to-one =
-        let all = trim_parts lumps art name in
+        let all_parts = trim_parts lumps art name in
         let ns = flat_lumps lumps art.flats in
-        let held = flats-held bytes lumps art name sectors few flats (plan-unmarked lumps art name parts plan) in
-        let inside : 0 + suc (length ns) < length (trimmed_lumps bytes lumps all) = held.group.inside in
-        let count : length (trimmed_lumps bytes lumps all) ≡ length all = trimmed-length bytes lumps all in
-        let most : length all ≤ MAX_LUMPS = (plan-accepted lumps art name parts plan).1.count in
-        one-to-one (source_of all) ns sky-kept (omega arith) (λ k lt. ap part_source (flat_part lumps art name k lt))
-        (λ k lt. let below : get_or ns k 0 < length lumps = all-at (λ n. n < length lumps) ns k 0 (flats-there lumps art) lt in omega arith)
-        held.ascending
+        let flats_held = flats-held bytes lumps art name sectors few flats (plan-unmarked lumps art name parts plan) in
+        let inside : 0 + suc (length ns) < length (trimmed_lumps bytes lumps all_parts) = flats_held.group.inside in
+        let count : length (trimmed_lumps bytes lumps all_parts) ≡ length all_parts = trimmed-length bytes lumps all_parts in
+        let most : length all_parts ≤ MAX_LUMPS = (plan-accepted lumps art name parts plan).1.count in
+        one-to-one (source_of all_parts) ns sky-kept (omega arith) (λ k lt. ap part_source (flat_part lumps art name k lt))
+        (λ k lt. let flat_is_lump : get_or ns k 0 < length lumps = all-at (λ n. n < length lumps) ns k 0 (flats-there lumps art) lt in omega arith)
+        flats_held.ascending

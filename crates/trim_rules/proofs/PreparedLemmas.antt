@@ -63,9 +63,9 @@ module _ (σ : ℕ → ℕ) (bytes : ℕ → List ℕ) (last other : List ℕ �
   unfolding place_lump
   found_step entry name None p is e holds = absurd (cc)
   found_step entry name (Some n) p is e holds =
-      let at = finds name n is (subst Q (sym (number_step entry n (patch_of (bytes n)) p e)) holds) in
-      let placed = place_step entry at.0 n (patch_of (bytes n)) p at.2 e in
-      (placed.0, ap (option_and_then (place_lump (λ m. bytes (σ m)) entry)) at.1 ∙ ap (λ m. option_map (place_patch entry at.0) (patch_of (bytes m))) at.2 ∙ placed.1, placed.2)
+      let lump_found = finds name n is (subst Q (sym (number_step entry n (patch_of (bytes n)) p e)) holds) in
+      let placed = place_step entry lump_found.0 n (patch_of (bytes n)) p lump_found.2 e in
+      (placed.0, ap (option_and_then (place_lump (λ m. bytes (σ m)) entry)) lump_found.1 ∙ ap (λ m. option_map (place_patch entry lump_found.0) (patch_of (bytes m))) lump_found.2 ∙ placed.1, placed.2)
 
   named_step : (entry : TextureEntry) (o : Option (List ℕ)) (p : PlacedPatch) → option_and_then (place_lump bytes entry) (option_and_then last o) ≡ Some p
       → Q p.lump → (q : PlacedPatch) × (option_and_then (place_lump (λ n. bytes (σ n)) entry) (option_and_then other o) ≡ Some q) × (moved σ q ≡ p)
@@ -81,11 +81,11 @@ module _ (σ : ℕ → ℕ) (bytes : ℕ → List ℕ) (last other : List ℕ �
   more_step None a' b b' ps one more e all = absurd (cc)
   more_step (Some p) a' None b' ps one more e all = absurd (cc)
   more_step (Some p) a' (Some rest) b' ps one more e all =
-      let same : p ∷ rest ≡ ps = some-injective (p ∷ rest) ps e in
-      let both : AllByRecursion (PatchIs Q) (p ∷ rest) = subst (AllByRecursion (PatchIs Q)) (sym same) all in
-      let moved_patch = one p refl both.0 in
-      let others = more rest refl both.1 in
-      (moved_patch.0 ∷ others.0, rw (moved_patch.1, others.1) refl, ap (λ q. q ∷ map (moved σ) others.0) moved_patch.2 ∙ ap (λ qs. p ∷ qs) others.2 ∙ same)
+      let list_is : p ∷ rest ≡ ps = some-injective (p ∷ rest) ps e in
+      let head_and_rest_hold : AllByRecursion (PatchIs Q) (p ∷ rest) = subst (AllByRecursion (PatchIs Q)) (sym list_is) all in
+      let moved_patch = one p refl head_and_rest_hold.0 in let rest_moved = more rest refl head_and_rest_hold.1 in
+      (moved_patch.0 ∷ rest_moved.0, rw (moved_patch.1, rest_moved.1) refl,
+      ap (λ q. q ∷ map (moved σ) rest_moved.0) moved_patch.2 ∙ ap (λ qs. p ∷ qs) rest_moved.2 ∙ list_is)
 
   placed-moved : (names : List (List ℕ)) (entries : List TextureEntry) (ps : List PlacedPatch) → placed_patches last bytes names entries ≡ Some ps
       → AllByRecursion (PatchIs Q) ps → (qs : List PlacedPatch) × (placed_patches other (λ n. bytes (σ n)) names entries ≡ Some qs) × (map (moved σ) qs ≡ ps)
@@ -107,10 +107,10 @@ module _ (σ : ℕ → ℕ) (bytes : ℕ → List ℕ) (last other : List ℕ �
   missing_step number t (Some ps) o' p more e all =
       let big = big_step bytes number t ps (nat_lt MAX_COMPOSITE (composite_size ps t.width t.height)) p e in
       let patches = more ps refl (subst (AllByRecursion (PatchIs Q)) (sym (ap (λ (u : PreparedTexture). u.patches) big.1)) all) in
-      let small : nat_lt MAX_COMPOSITE (composite_size patches.0 t.width t.height) ≡ false =
+      let not_too_big : nat_lt MAX_COMPOSITE (composite_size patches.0 t.width t.height) ≡ false =
       ap (nat_lt MAX_COMPOSITE) (sym (size-moved σ patches.0 t.width t.height) ∙ ap (λ qs. composite_size qs t.width t.height) patches.2) ∙ big.0 in (
         texture_of (λ n. bytes (σ n)) t patches.0,
-        ap (unless_missing (λ n. bytes (σ n)) number t) patches.1 ∙ ap (λ b. cond b (Err (TooBig number)) (Ok (texture_of (λ n. bytes (σ n)) t patches.0))) small,
+        ap (unless_missing (λ n. bytes (σ n)) number t) patches.1 ∙ ap (λ b. cond b (Err (TooBig number)) (Ok (texture_of (λ n. bytes (σ n)) t patches.0))) not_too_big,
         sym (texture-moved bytes σ t patches.0) ∙ ap (texture_of bytes t) patches.2 ∙ big.1,
       )
 
@@ -129,9 +129,9 @@ module _ (σ : ℕ → ℕ) (bytes : ℕ → List ℕ) (last other : List ℕ �
   if_step false r r' o one e all = (None, refl, ok_of None o e)
   if_step true (Err reason) r' o one e all = absurd (cc)
   if_step true (Ok p) r' o one e all =
-      let same : Some p ≡ o = ok_of (Some p) o e in
-      let found = one p refl (subst (PatchesAre Q) (sym same) all) in
-      (Some found.0, rw found.1 refl, ap Some found.2 ∙ same)
+      let option_is : Some p ≡ o = ok_of (Some p) o e in
+      let texture_moved = one p refl (subst (PatchesAre Q) (sym option_is) all) in
+      (Some texture_moved.0, rw texture_moved.1 refl, ap Some texture_moved.2 ∙ option_is)
 
   -- all textures
   from-moved : (names : List (List ℕ)) (wanted : ℕ → Bool) (number : ℕ) (textures : List Texture) (ts : List (Option PreparedTexture))
@@ -140,16 +140,16 @@ module _ (σ : ℕ → ℕ) (bytes : ℕ → List ℕ) (last other : List ℕ �
   unfolding prepared_from
   from-moved names wanted number [] ts e all = ([], refl, ok_of [] ts e)
   from-moved names wanted number (t ∷ rest) ts e all =
-      let made = and_then-ok (prepared_if (wanted number) (prepared last bytes names number t)) _ ts e in
-      let more = and_then-ok (prepared_from (prepared last bytes names) wanted (suc number) rest) _ ts made.2 in
-      let same : made.0 ∷ more.0 ≡ ts = ok_of (made.0 ∷ more.0) ts more.2 in
-      let both : AllByRecursion (PatchesAre Q) (made.0 ∷ more.0) = subst (AllByRecursion (PatchesAre Q)) (sym same) all in
-      let moved_texture = if_step (wanted number) (prepared last bytes names number t) (prepared other (λ n. bytes (σ n)) names number t) made.0
-      (λ p is holds. one-moved names number t p is holds) made.1 both.0 in
-      let others = from-moved names wanted (suc number) rest more.0 more.1 both.1 in (
-        moved_texture.0 ∷ others.0,
-        rw (moved_texture.1, others.1) refl,
-        ap (λ o. o ∷ map (option_map (move_texture σ)) others.0) moved_texture.2 ∙ ap (λ os. made.0 ∷ os) others.2 ∙ same,
+      let first_made = and_then-ok (prepared_if (wanted number) (prepared last bytes names number t)) _ ts e in
+      let rest_made = and_then-ok (prepared_from (prepared last bytes names) wanted (suc number) rest) _ ts first_made.2 in
+      let list_is : first_made.0 ∷ rest_made.0 ≡ ts = ok_of (first_made.0 ∷ rest_made.0) ts rest_made.2 in
+      let head_and_rest_hold : AllByRecursion (PatchesAre Q) (first_made.0 ∷ rest_made.0) = subst (AllByRecursion (PatchesAre Q)) (sym list_is) all in
+      let moved_texture = if_step (wanted number) (prepared last bytes names number t) (prepared other (λ n. bytes (σ n)) names number t) first_made.0
+      (λ p is holds. one-moved names number t p is holds) first_made.1 head_and_rest_hold.0 in
+      let rest_moved = from-moved names wanted (suc number) rest rest_made.0 rest_made.1 head_and_rest_hold.1 in (
+        moved_texture.0 ∷ rest_moved.0,
+        rw (moved_texture.1, rest_moved.1) refl,
+        ap (λ o. o ∷ map (option_map (move_texture σ)) rest_moved.0) moved_texture.2 ∙ ap (λ os. first_made.0 ∷ os) rest_moved.2 ∙ list_is,
       )
 
   -- The prepared textures, by a directory that finds their patches.

@@ -33,8 +33,8 @@ module _ (bytes : ℕ → List ℕ) (lumps : List Lump) (lines : List ThingLine)
       let placed = placed_things base.0.level lines skill in
       let book = and_then-ok (from_below Sprite (book_in bytes lumps placed)) _ scene prepared.2 in
       let last = and_then-ok (from_below Scene (checked placed (bad_middle (texture_by prepared.0) base.0.level.segs faces.0.sides))) _ scene book.2 in
-      let made : ◌≡◌ {A = SceneValue} (record { base = base.0; faces = faces.0; prepared = prepared.0; placed = placed; book = book.0 }) scene = ok_of _ scene last.2 in
-      subst (IsSceneOf bytes lumps lines name skill) made (record {
+      let scene_is : ◌≡◌ {A = SceneValue} (record { base = base.0; faces = faces.0; prepared = prepared.0; placed = placed; book = book.0 }) scene = ok_of _ scene last.2 in
+      subst (IsSceneOf bytes lumps lines name skill) scene_is (record {
         base = base.1;
         faces = below Scene (faces_in lumps name base.0.level base.0.lists) faces.0 faces.1;
         prepared = below Texture (prepared_textures (last_of lumps) bytes base.0.lists (is_wanted_texture faces.0.sides faces.0.sky)) prepared.0 prepared.1;
@@ -74,18 +74,18 @@ module _ (contents : List (List ℕ)) (lumps : List Lump) (listed : directory co
   trimmed-scene =
       let bytes = lump_bytes contents lumps in
       let art = art_with scene pictures in
-      let all = trim_parts lumps art name in
-      let σ = source_of all in
-      let trimmed = trimmed_lumps bytes lumps all in
-      let steps = scene-steps bytes lumps lines name skill scene is in
-      let unmarked = plan-unmarked lumps art name parts plan in
+      let all_parts = trim_parts lumps art name in
+      let σ = source_of all_parts in
+      let trimmed = trimmed_lumps bytes lumps all_parts in
+      let steps = scene-steps bytes lumps lines name skill scene is in let unmarked = plan-unmarked lumps art name parts plan in
       let wanted = is_wanted_texture scene.faces.sides scene.faces.sky in
-      let same : lump_bytes (trimmed_file bytes lumps all ∷ []) trimmed ≡ (λ k. bytes (σ k)) = bytes-moved contents lumps all few in
+      let bytes_same : lump_bytes (trimmed_file bytes lumps all_parts ∷ []) trimmed ≡ (λ k. bytes (σ k)) = bytes-moved contents lumps all_parts few in
       let serves = trimmed-serves contents lumps art name scene.base wanted listed steps.base steps.prepared in
       let faces = trimmed-faces bytes lumps art name scene.base.level scene.base.lists scene.faces few steps.faces refl unmarked in
       let prepared = trimmed-prepared contents lumps art name scene.base wanted few steps.base steps.prepared in
-      let held = pictures-held bytes lumps art name sprites unmarked in
-      let book = book-moved trimmed lumps σ (first_picture lumps art) pictures held bytes (first_needs (map need_of scene.placed)) scene.book steps.book kept in
+      let pictures_held = pictures-held bytes lumps art name sprites unmarked in
+      let book = book-moved trimmed lumps σ (first_picture lumps art) pictures pictures_held bytes
+      (first_needs (map need_of scene.placed)) scene.book steps.book kept in
       let base : LevelBase = record {
         colormap = serves.0;
         playpal = serves.1;
@@ -103,8 +103,8 @@ module _ (contents : List (List ℕ)) (lumps : List Lump) (listed : directory co
       } in (
         moved,
         scene-made (λ k. bytes (σ k)) trimmed lines name skill moved (record {
-          base = subst (λ b. base_in b trimmed name ≡ Ok base) same
-              (base-served bytes (lump_bytes (trimmed_file bytes lumps all ∷ []) trimmed) lumps trimmed name scene.base serves.0 serves.1 (map_place lumps art) serves.3);
+          base = subst (λ b. base_in b trimmed name ≡ Ok base) bytes_same
+              (base-served bytes (lump_bytes (trimmed_file bytes lumps all_parts ∷ []) trimmed) lumps trimmed name scene.base serves.0 serves.1 (map_place lumps art) serves.3);
           faces = faces.1;
           prepared = prepared.1;
           placed = steps.placed;
@@ -116,7 +116,7 @@ module _ (contents : List (List ℕ)) (lumps : List Lump) (listed : directory co
           level = refl;
           lists = refl;
           palette = refl;
-          colormap = sym serves.2 ∙ ap (λ b. b serves.0) same;
+          colormap = sym serves.2 ∙ ap (λ b. b serves.0) bytes_same;
           sides = refl;
           sky = refl;
           flats = faces.2;

@@ -26,23 +26,23 @@ base-found bytes lumps name base e =
     let playpal_found = and_then-ok (from_below Art (playpal_of lumps)) _ base colormap_found.2 in
     let map_found = and_then-ok (from_below Map (level_in bytes lumps name)) _ base playpal_found.2 in
     let lists_found = and_then-ok (from_below Texture (lists_in bytes lumps)) _ base map_found.2 in
-    let found = and_then-ok (label_of lumps name) _ map_found.0 (below Map (level_in bytes lumps name) map_found.0 map_found.1) in
-    let level = and_then-ok (level_of _) _ map_found.0 found.2 in
-    let made : ◌≡◌ {A = LevelBase} (record { colormap = colormap_found.0; playpal = playpal_found.0; palette = take PALETTE_SIZE (bytes playpal_found.0); label = map_found.0.0; level = map_found.0.1; lists = lists_found.0 }) base = cc in
-    let pair : (found.0, level.0) ≡ map_found.0 = cc in
-    subst (IsFoundBy lumps name) made (record { colormap = below Art (colormap_of lumps) colormap_found.0 colormap_found.1; playpal = below Art (playpal_of lumps) playpal_found.0 playpal_found.1; label = found.1 ∙ ap (λ (x : ℕ × _). Ok x.0) pair })
+    let label_found = and_then-ok (label_of lumps name) _ map_found.0 (below Map (level_in bytes lumps name) map_found.0 map_found.1) in
+    let level = and_then-ok (level_of _) _ map_found.0 label_found.2 in
+    let base_is : ◌≡◌ {A = LevelBase} (record { colormap = colormap_found.0; playpal = playpal_found.0; palette = take PALETTE_SIZE (bytes playpal_found.0); label = map_found.0.0; level = map_found.0.1; lists = lists_found.0 }) base = cc in
+    let pair : (label_found.0, level.0) ≡ map_found.0 = cc in
+    subst (IsFoundBy lumps name) base_is (record { colormap = below Art (colormap_of lumps) colormap_found.0 colormap_found.1; playpal = below Art (playpal_of lumps) playpal_found.0 playpal_found.1; label = label_found.1 ∙ ap (λ (x : ℕ × _). Ok x.0) pair })
 
 -- a lump that is long enough
 long_step : (lumps : List Lump) (size n number : ℕ) (b : Bool) → nat_le size (lump_at lumps n).size ≡ b → cond b (Some n) None ≡ Some number → (n ≡ number) × (nat_le size (lump_at lumps number).size ≡ true)
-long_step lumps size n number true is e = let same : n ≡ number = cc in (same, ap (λ k. nat_le size (lump_at lumps k).size) (sym same) ∙ is)
+long_step lumps size n number true is e = let number_is : n ≡ number = cc in (number_is, ap (λ k. nat_le size (lump_at lumps k).size) (sym number_is) ∙ is)
 long_step lumps size n number false is e = absurd (cc)
 
 long_found : (lumps : List Lump) (name : List ℕ) (size number : ℕ) (o : Option ℕ) → last_of lumps name ≡ o
     → option_and_then (if_long lumps size) o ≡ Some number → (last_of lumps name ≡ Some number) × (nat_le size (lump_at lumps number).size ≡ true)
 long_found lumps name size number None is e = absurd (cc)
 long_found lumps name size number (Some n) is e =
-    let both = long_step lumps size n number (nat_le size (lump_at lumps n).size) refl e in
-    (is ∙ ap Some both.0, both.1)
+    let number_and_length = long_step lumps size n number (nat_le size (lump_at lumps n).size) refl e in
+    (is ∙ ap Some number_and_length.0, number_and_length.1)
 
 long-is : (lumps : List Lump) (name : List ℕ) (size number : ℕ) → long_lump lumps name size ≡ Some number → (last_of lumps name ≡ Some number) × (nat_le size (lump_at lumps number).size ≡ true)
 long-is lumps name size number e = long_found lumps name size number (last_of lumps name) refl e
@@ -77,14 +77,14 @@ module _ (contents : List (List ℕ)) (lumps : List Lump) (parts : List TrimPart
       let bytes = lump_bytes contents lumps in
       let trimmed = trimmed_lumps bytes lumps parts in
       let bytes' = lump_bytes (trimmed_file bytes lumps parts ∷ []) trimmed in
-      let found = long-is lumps wanted size n e in
-      let inside = (greatest-is (has_name lumps wanted) (length lumps) n found.0).0 in
-      let have : option_map bytes' (last_of trimmed wanted) ≡ Some (bytes n) = same ∙ ap (option_map bytes) found.0 in
-      let at = named_step bytes' (last_of trimmed wanted) (bytes n) have in
-      let within : LiesWithin contents (lump_at lumps n) = directory_within contents lumps listed n no_lump inside in
-      let sizes : (lump_at trimmed at.0).size ≡ (lump_at lumps n).size =
-      trimmed-size bytes lumps parts at.0 ∙ ap length at.2 ∙ lump_bytes-length contents lumps n within in
-      (at.0, long-made trimmed wanted size at.0 at.1 (ap (nat_le size) sizes ∙ found.1), at.2)
+      let long_lump_found = long-is lumps wanted size n e in
+      let inside = (greatest-is (has_name lumps wanted) (length lumps) n long_lump_found.0).0 in
+      let have : option_map bytes' (last_of trimmed wanted) ≡ Some (bytes n) = same ∙ ap (option_map bytes) long_lump_found.0 in
+      let trimmed_lump = named_step bytes' (last_of trimmed wanted) (bytes n) have in
+      let lies_in_file : LiesWithin contents (lump_at lumps n) = directory_within contents lumps listed n no_lump inside in
+      let sizes : (lump_at trimmed trimmed_lump.0).size ≡ (lump_at lumps n).size =
+      trimmed-size bytes lumps parts trimmed_lump.0 ∙ ap length trimmed_lump.2 ∙ lump_bytes-length contents lumps n lies_in_file in
+      (trimmed_lump.0, long-made trimmed wanted size trimmed_lump.0 trimmed_lump.1 (ap (nat_le size) sizes ∙ long_lump_found.1), trimmed_lump.2)
 
 -- lists of textures are of lumps that are there
 names_there : (o : Option (List ℕ)) (names : List (List ℕ)) → patch_names o ≡ Ok names → (v : List ℕ) × (o ≡ Some v)
@@ -112,9 +112,9 @@ list-lumps : (bytes : ℕ → List ℕ) (lumps : List Lump) (lists : TextureList
     → ((n : ℕ) × (last_of lumps PNAMES ≡ Some n)) × ((t : ℕ) × (last_of lumps TEXTURE1 ≡ Some t))
 unfolding lists_in
 list-lumps bytes lumps lists e =
-    let both = lists_there (named_bytes bytes lumps PNAMES) (named_bytes bytes lumps TEXTURE1) (named_bytes bytes lumps TEXTURE2) lists e in
-    let pnames_found = named_step bytes (last_of lumps PNAMES) both.0.0 both.0.1 in
-    let texture_found = named_step bytes (last_of lumps TEXTURE1) both.1.0 both.1.1 in
+    let lists_found = lists_there (named_bytes bytes lumps PNAMES) (named_bytes bytes lumps TEXTURE1) (named_bytes bytes lumps TEXTURE2) lists e in
+    let pnames_found = named_step bytes (last_of lumps PNAMES) lists_found.0.0 lists_found.0.1 in
+    let texture_found = named_step bytes (last_of lumps TEXTURE1) lists_found.1.0 lists_found.1.1 in
     ((pnames_found.0, pnames_found.1), (texture_found.0, texture_found.1))
 
 -- the eight lumps of the map
@@ -125,15 +125,15 @@ copy_bytes bytes n = refl
 module _ (bytes : ℕ → List ℕ) (lumps : List Lump) (art : SceneArt) (name : List ℕ) (label : ℕ) (is : map_of lumps name ≡ Some label) where
   behind-label : (k : ℕ) → k < 8 → lump_bytes (trimmed_file bytes lumps (trim_parts lumps art name) ∷ []) (trimmed_lumps bytes lumps (trim_parts lumps art name)) (map_place lumps art + suc k) ≡ bytes (label + suc k)
   behind-label k lt =
-      let parts = trim_parts lumps art name in
+      let all_parts = trim_parts lumps art name in
       let copied = map copy_part (filter (λ n. not (has_name lumps name n)) (called_lumps lumps art.prepared)) in
-      let at : part_at parts (map_place lumps art + suc k) ≡ copy_part (label + suc k) =
+      let part_is_copy : part_at all_parts (map_place lumps art + suc k) ≡ copy_part (label + suc k) =
       ap (λ ps. part_at ps (map_place lumps art + suc k)) (parts-by-map lumps art name label is)
       ∙ (let same_place : map_place lumps art + suc k ≡ suc (map_place lumps art) + k = omega arith in
       ap (part_at (front_parts lumps art ++ label_or_copy (is_called lumps art name) label ∷ behind_map lumps art.prepared name label)) same_place)
       ∙ row-at bytes lumps (front_parts lumps art) label (label_or_copy (is_called lumps art name) label) copied k lt
       ∙ (let same_number : suc label + k ≡ label + suc k = omega arith in ap copy_part same_number) in
-      part-bytes bytes lumps parts (map_place lumps art + suc k) ∙ ap (part_bytes bytes) at ∙ copy_bytes bytes (label + suc k)
+      part-bytes bytes lumps all_parts (map_place lumps art + suc k) ∙ ap (part_bytes bytes) part_is_copy ∙ copy_bytes bytes (label + suc k)
 
   map-kept : map_bytes (lump_bytes (trimmed_file bytes lumps (trim_parts lumps art name) ∷ []) (trimmed_lumps bytes lumps (trim_parts lumps art name))) (map_place lumps art) ≡ map_bytes bytes label
   unfolding map_bytes
@@ -169,19 +169,19 @@ pub trimmed-serves : (contents : List (List ℕ)) (lumps : List Lump) (art : Sce
 unfolding colormap_of playpal_of
 trimmed-serves contents lumps art name base wanted listed is prepared =
     let bytes = lump_bytes contents lumps in
-    let parts = trim_parts lumps art name in
-    let trimmed = trimmed_lumps bytes lumps parts in
-    let found = base-found bytes lumps name base is in
-    let made = base-made bytes lumps name base is in
-    let lists = list-lumps bytes lumps base.lists made.lists in
-    let label = label_map lumps name base.label found.label in
-    let all = called-last lumps bytes base.lists wanted art.prepared name prepared in
-    let colormap = named-same bytes lumps art name base.label label all COLORMAP (colormap-fixed lumps) (record { f_start = refl; f_end = refl; s_start = refl; s_end = refl }) in
-    let playpal = named-same bytes lumps art name base.label label all PLAYPAL (playpal-fixed lumps) (record { f_start = refl; f_end = refl; s_start = refl; s_end = refl }) in
-    let colours = some_value (long_lump lumps COLORMAP COLORMAP_SIZE) Colormap base.colormap found.colormap in
-    let palette = some_value (long_lump lumps PLAYPAL PALETTE_SIZE) Playpal base.playpal found.playpal in
-    let colormap_kept = long-kept contents lumps parts listed COLORMAP COLORMAP_SIZE base.colormap colours colormap in
-    let playpal_kept = long-kept contents lumps parts listed PLAYPAL PALETTE_SIZE base.playpal palette playpal in
+    let all_parts = trim_parts lumps art name in
+    let trimmed = trimmed_lumps bytes lumps all_parts in
+    let base_found_by = base-found bytes lumps name base is in
+    let made_of_lumps = base-made bytes lumps name base is in
+    let lists = list-lumps bytes lumps base.lists made_of_lumps.lists in
+    let label = label_map lumps name base.label base_found_by.label in
+    let called_are_last = called-last lumps bytes base.lists wanted art.prepared name prepared in
+    let colormap = named-same bytes lumps art name base.label label called_are_last COLORMAP (colormap-fixed lumps) (record { f_start = refl; f_end = refl; s_start = refl; s_end = refl }) in
+    let playpal = named-same bytes lumps art name base.label label called_are_last PLAYPAL (playpal-fixed lumps) (record { f_start = refl; f_end = refl; s_start = refl; s_end = refl }) in
+    let colours = some_value (long_lump lumps COLORMAP COLORMAP_SIZE) Colormap base.colormap base_found_by.colormap in
+    let palette = some_value (long_lump lumps PLAYPAL PALETTE_SIZE) Playpal base.playpal base_found_by.playpal in
+    let colormap_kept = long-kept contents lumps all_parts listed COLORMAP COLORMAP_SIZE base.colormap colours colormap in
+    let playpal_kept = long-kept contents lumps all_parts listed PLAYPAL PALETTE_SIZE base.playpal palette playpal in
     let fixed : HasFixed lumps base.playpal base.colormap lists.0.0 lists.1.0 = record {
       playpal = (long-is lumps PLAYPAL PALETTE_SIZE base.playpal palette).0;
       colormap = (long-is lumps COLORMAP COLORMAP_SIZE base.colormap colours).0;
@@ -198,8 +198,8 @@ trimmed-serves contents lumps art name base wanted listed is prepared =
         palette = playpal_kept.2;
         label = map_label trimmed name (map_place lumps art) (trimmed-map bytes lumps art name base.label base.playpal base.colormap lists.0.0 lists.1.0 label fixed);
         level = map-kept bytes lumps art name base.label label;
-        pnames = named-same bytes lumps art name base.label label all PNAMES (pnames-fixed lumps) (record { f_start = refl; f_end = refl; s_start = refl; s_end = refl });
-        texture1 = named-same bytes lumps art name base.label label all TEXTURE1 (texture1-fixed lumps) (record { f_start = refl; f_end = refl; s_start = refl; s_end = refl });
-        texture2 = named-same bytes lumps art name base.label label all TEXTURE2 (texture2-fixed lumps) (record { f_start = refl; f_end = refl; s_start = refl; s_end = refl });
+        pnames = named-same bytes lumps art name base.label label called_are_last PNAMES (pnames-fixed lumps) (record { f_start = refl; f_end = refl; s_start = refl; s_end = refl });
+        texture1 = named-same bytes lumps art name base.label label called_are_last TEXTURE1 (texture1-fixed lumps) (record { f_start = refl; f_end = refl; s_start = refl; s_end = refl });
+        texture2 = named-same bytes lumps art name base.label label called_are_last TEXTURE2 (texture2-fixed lumps) (record { f_start = refl; f_end = refl; s_start = refl; s_end = refl });
       },
     )

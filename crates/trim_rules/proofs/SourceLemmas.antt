@@ -52,13 +52,13 @@ module _ (bytes : ℕ → List ℕ) (lumps : List Lump) (art : SceneArt) (name :
       → (k : ℕ) × (last_of (trimmed_lumps bytes lumps (trim_parts lumps art name)) wanted ≡ Some k) × (source_of (trim_parts lumps art name) k ≡ n)
   unfolding trimmed_lumps stored_lumps
   called-source wanted n e any =
-      let parts = trim_parts lumps art name in
-      let put = last_of-stored (λ k. part_bytes own_number (part_at parts k)) HEAD_SIZE (map (part_lump own_number lumps) parts) wanted
-      (λ d k lt. let inside : k < length parts = omega (arith, length-map parts (part_lump own_number lumps)) in
-      sym (put_part own_number lumps parts d k inside)) in
-      let at = named_step (λ k. part_bytes own_number (part_at parts k)) (last_of (stored_from HEAD_SIZE (map (part_lump own_number lumps) parts)) wanted) (n ∷ [])
+      let all_parts = trim_parts lumps art name in
+      let put = last_of-stored (λ k. part_bytes own_number (part_at all_parts k)) HEAD_SIZE (map (part_lump own_number lumps) all_parts) wanted
+      (λ d k lt. let inside : k < length all_parts = omega (arith, length-map all_parts (part_lump own_number lumps)) in
+      sym (put_part own_number lumps all_parts d k inside)) in
+      let found_at = named_step (λ k. part_bytes own_number (part_at all_parts k)) (last_of (stored_from HEAD_SIZE (map (part_lump own_number lumps) all_parts)) wanted) (n ∷ [])
       (put ∙ called-bytes own_number lumps art name label is all wanted n e any) in
-      (at.0, last-same bytes own_number lumps HEAD_SIZE HEAD_SIZE parts wanted ∙ at.1, source_step (part_at parts at.0) n at.2)
+      (found_at.0, last-same bytes own_number lumps HEAD_SIZE HEAD_SIZE all_parts wanted ∙ found_at.1, source_step (part_at all_parts found_at.0) n found_at.2)
 
 -- a patch of a prepared texture is called
 called_step : (lumps : List Lump) (prepared : List (Option PreparedTexture)) (n : ℕ) (b : Bool) → list_any (λ m. m == n) (fixed_lumps lumps) ≡ b

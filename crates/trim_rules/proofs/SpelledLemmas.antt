@@ -54,8 +54,8 @@ upper_zero c e = upper_step c (nat_lt c 97) (nat_lt c 123) refl refl e
 letter_step : (c : ℕ) (b : Bool) → (to_ascii_uppercase c == 0) ≡ b → IsLetter c → b ≡ false
 letter_step c false e is = refl
 letter_step c true e is =
-    let none : c ≡ 0 = upper_zero c ((Decides-eqb (to_ascii_uppercase c) 0).0 e) in
-    let impossible : true ≡ false = sym ((Decides-eqb c 0).1 none) ∙ is in absurd (cc)
+    let letter_is_zero : c ≡ 0 = upper_zero c ((Decides-eqb (to_ascii_uppercase c) 0).0 e) in
+    let impossible : true ≡ false = sym ((Decides-eqb c 0).1 letter_is_zero) ∙ is in absurd (cc)
 
 capitals : (xs : List ℕ) → AllByRecursion IsLetter xs → AllByRecursion IsLetter (map to_ascii_uppercase xs)
 capitals [] all = tt
@@ -122,8 +122,8 @@ from_named file (bytes ∷ rest) = All-append IsNamed (file_lumps file bytes) (l
 pub directory-named : (contents : List (List ℕ)) (lumps : List Lump) → directory contents ≡ Ok lumps → (n : ℕ) → n < length lumps →
     IsName (lump_at lumps n).name
 directory-named contents lumps e n lt =
-    let same = (unless_refused_ok (refusal_from 0 0 contents) (lumps_from 0 contents) lumps e).1 in
-    subst (All IsNamed) same (from_named 0 contents) n no_lump lt
+    let lumps_are = (unless_refused_ok (refusal_from 0 0 contents) (lumps_from 0 contents) lumps e).1 in
+    subst (All IsNamed) lumps_are (from_named 0 contents) n no_lump lt
 
 -- the names of parts
 abbrev IsNamedPart : List Lump → TrimPart → Type 0

@@ -180,11 +180,11 @@ pub trimmed_picture : (trimmed lumps : List Lump) (σ : ℕ → ℕ) (keep : ℕ
     → (n : Mention) × (frame_picture (mentions trimmed sprite) frame k ≡ Some n) × (renumber σ n ≡ m)
 unfolding mentions
 trimmed_picture trimmed lumps σ keep sprite a frame k last m are stand is kl e km =
-    let same : map (renumber σ) (mentions trimmed sprite) ≡ filter (is_kept keep) (mentions lumps sprite) =
+    let mentions_same : map (renumber σ) (mentions trimmed sprite) ≡ filter (is_kept keep) (mentions lumps sprite) =
     ap (λ ks. map (renumber σ) (joined_lists (lump_mentions trimmed sprite) ks)) are
     ∙ joined-renumbered trimmed lumps σ sprite a (filter keep (members Sprites lumps)) stand
     ∙ sym (joined-kept lumps sprite keep (members Sprites lumps)) in
     some_of σ (frame_picture (mentions trimmed sprite) frame k) m
     (sym (frame_picture-renumbered σ (mentions trimmed sprite) frame k)
-    ∙ ap (λ ms. frame_picture ms frame k) same
+    ∙ ap (λ ms. frame_picture ms frame k) mentions_same
     ∙ frame_picture-fewer (is_kept keep) (mentions lumps sprite) frame k last m is kl e km)

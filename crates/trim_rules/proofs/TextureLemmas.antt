@@ -49,11 +49,11 @@ pub trimmed-prepared : (contents : List (List ℕ)) (lumps : List Lump) (art : S
     × (map (option_map (move_texture (source_of (trim_parts lumps art name)))) textures ≡ art.prepared)
 trimmed-prepared contents lumps art name base wanted few is prepared =
     let bytes = lump_bytes contents lumps in
-    let parts = trim_parts lumps art name in
-    let trimmed = trimmed_lumps bytes lumps parts in
+    let all_parts = trim_parts lumps art name in
+    let trimmed = trimmed_lumps bytes lumps all_parts in
     let label = label_map lumps name base.label (base-found bytes lumps name base is).label in
-    let all = called-last lumps bytes base.lists wanted art.prepared name prepared in
-    prepared-moved (source_of parts) bytes (last_of lumps) (last_of trimmed) (IsOwn art.prepared)
-    (λ wanted n e own. called-source bytes lumps art name base.label label all wanted n e
+    let called_are_last = called-last lumps bytes base.lists wanted art.prepared name prepared in
+    prepared-moved (source_of all_parts) bytes (last_of lumps) (last_of trimmed) (IsOwn art.prepared)
+    (λ wanted n e own. called-source bytes lumps art name base.label label called_are_last wanted n e
     (patch-called lumps art.prepared n (greatest-is (has_name lumps wanted) (length lumps) n e).0 own))
     base.lists wanted art.prepared prepared (patches-own art.prepared)

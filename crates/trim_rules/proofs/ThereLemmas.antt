@@ -11,7 +11,7 @@ use Rattle.trim_rules.proofs.TrimmedLemmas.{IsThere}
 pub passing-there : (passes : Lump → Bool) (lumps : List Lump) (n : ℕ) → is_lump passes lumps n ≡ true → n < length lumps
 passing-there passes [] n e = absurd (cc)
 passing-there passes (l ∷ ls) zero e = omega arith
-passing-there passes (l ∷ ls) (suc n) e = let lt : n < length ls = passing-there passes ls n e in omega arith
+passing-there passes (l ∷ ls) (suc n) e = let rest_inside : n < length ls = passing-there passes ls n e in omega arith
 
 abbrev pub IsNumber : List Lump → ℕ → Type 0
 IsNumber lumps n = n < length lumps
@@ -68,15 +68,15 @@ called-there lumps prepared =
 -- what a map's label is: the last lump of its name, with the map's lumps behind it
 label_step : (lumps : List Lump) (n label : ℕ) (b : Bool) → is_label lumps n ≡ b → cond b (Some n) None ≡ Some label →
     (n ≡ label) × (is_label lumps label ≡ true)
-label_step lumps n label true is e = let same : n ≡ label = cc in (same, ap (is_label lumps) (sym same) ∙ is)
+label_step lumps n label true is e = let numbers_same : n ≡ label = cc in (numbers_same, ap (is_label lumps) (sym numbers_same) ∙ is)
 label_step lumps n label false is e = absurd (cc)
 
 label_found : (lumps : List Lump) (name : List ℕ) (label : ℕ) (o : Option ℕ) → last_of lumps name ≡ o → option_and_then (if_label lumps) o ≡ Some label
     → (last_of lumps name ≡ Some label) × (is_label lumps label ≡ true)
 label_found lumps name label None is e = absurd (cc)
 label_found lumps name label (Some n) is e =
-    let both = label_step lumps n label (is_label lumps n) refl e in
-    (is ∙ ap Some both.0, both.1)
+    let number_and_label = label_step lumps n label (is_label lumps n) refl e in
+    (is ∙ ap Some number_and_label.0, number_and_label.1)
 
 pub label-is : (lumps : List Lump) (name : List ℕ) (label : ℕ) → map_of lumps name ≡ Some label →
     (last_of lumps name ≡ Some label) × (is_label lumps label ≡ true)
@@ -87,9 +87,9 @@ named-there : (lumps : List Lump) (file number : ℕ) (names : List (List ℕ)) 
 unfolding are_named
 named-there lumps file number [] e = tt
 named-there lumps file number (name ∷ names) e =
-    let both = and_parts (is_named_in lumps file name number) (are_named lumps file (suc number) names) e in
+    let first_and_rest_named = and_parts (is_named_in lumps file name number) (are_named lumps file (suc number) names) e in
     let next : suc number ≡ number + 1 = omega arith in
-    (passing-there _ lumps number both.0, subst (λ k. AllByRecursion (IsNumber lumps) (range_with_len k (length names))) next (named-there lumps file (suc number) names both.1))
+    (passing-there _ lumps number first_and_rest_named.0, subst (λ k. AllByRecursion (IsNumber lumps) (range_with_len k (length names))) next (named-there lumps file (suc number) names first_and_rest_named.1))
 
 -- the eight lumps behind a label are there
 pub behind-there : (lumps : List Lump) (label : ℕ) → is_label lumps label ≡ true → AllByRecursion (IsNumber lumps) (range_with_len (suc label) (length MAP_LUMPS))
@@ -115,9 +115,9 @@ module _ (lumps : List Lump) (P : TrimPart → Type 0) (copy : (n : ℕ) → n <
   unfolding map_parts
   level name called None is one = tt
   level name called (Some label) is one =
-      let found = label-is lumps name label is in
-      let lt = (greatest-is (has_name lumps name) (length lumps) label found.0).0 in
-      (labelled called label lt (one label lt), copied (range_with_len (suc label) (length MAP_LUMPS)) (behind-there lumps label found.1))
+      let label_is = label-is lumps name label is in
+      let label_there = (greatest-is (has_name lumps name) (length lumps) label label_is.0).0 in
+      (labelled called label label_there (one label label_there), copied (range_with_len (suc label) (length MAP_LUMPS)) (behind-there lumps label label_is.1))
 
   pub parts-all : (art : SceneArt) (name : List ℕ) → P (Mark F_START) → P (Mark F_END) → P (Mark S_START) → P (Mark S_END)
       → ((n : ℕ) → n < length lumps → P (label_part n)) → AllByRecursion P (trim_parts lumps art name)

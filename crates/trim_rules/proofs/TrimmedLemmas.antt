@@ -69,7 +69,7 @@ all_both P (x ∷ xs) ys a b = (a.0, all_both P xs ys a.1 b)
 module _ (bytes : ℕ → List ℕ) (lumps : List Lump) (group : Group) where
   plain_part : (p : TrimPart) → is_mark (part_name lumps p) ≡ false → IsPlain group (part_lump bytes lumps p)
   unfolding part_lump
-  plain_part p e = let both = plain_name group (part_name lumps p) e in record { start = both.0; end = both.1 }
+  plain_part p e = let no_start_nor_end = plain_name group (part_name lumps p) e in record { start = no_start_nor_end.0; end = no_start_nor_end.1 }
 
   plain_copy : (n : ℕ) → IsUnmarked lumps (copy_part n) → IsPlain group (part_lump bytes lumps (copy_part n))
   unfolding part_name

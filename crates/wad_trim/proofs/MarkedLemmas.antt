@@ -59,10 +59,10 @@ pub marked-more : (lumps : List Lump) (parts : List TrimPart) (i : ℕ) (d : Tri
 unfolding marked_lump
 marked-more lumps parts i d l =
     let so_far : ℕ → Bool = λ n. list_any (is_lump_part n) (take i parts) && is_mark (lump_at lumps n).name in
-    let here : ℕ → Bool = λ n. list_any (is_lump_part n) (get_or parts i d ∷ []) && is_mark (lump_at lumps n).name in
+    let by_this_part : ℕ → Bool = λ n. list_any (is_lump_part n) (get_or parts i d ∷ []) && is_mark (lump_at lumps n).name in
     let next : ℕ → Bool = λ n. list_any (is_lump_part n) (take (i + 1) parts) && is_mark (lump_at lumps n).name in
-    let next_is_either : next ≡ (λ n. so_far n || here n) = λ j n. marked_either lumps parts i d n l j in
-    ap (λ (f : ℕ → Bool). least f (length lumps)) next_is_either ∙ least_either so_far here (length lumps)
+    let next_is_either : next ≡ (λ n. so_far n || by_this_part n) = λ j n. marked_either lumps parts i d n l j in
+    ap (λ (f : ℕ → Bool). least f (length lumps)) next_is_either ∙ least_either so_far by_this_part (length lumps)
 
 -- no part at all
 pub marked-none : (lumps : List Lump) → marked_lump lumps [] ≡ None

@@ -106,13 +106,13 @@ module _ (lumps : List Lump) (art : SceneArt) (name : List ℕ)
   -- a label that is called is one of these lumps
   label_needed : list_any (has_name lumps name) (called_lumps lumps art.prepared) ≡ true → is_needed lumps art art.label ≡ true
   label_needed any =
-      let all = both (λ n. IsNumber lumps n × IsLastOfName lumps n) IsNeeded _ (both (IsNumber lumps) (IsLastOfName lumps) _ (called-there lumps art.prepared) called_last) called in
-      let by_name = one_passes (has_name lumps name) (λ n. (IsNumber lumps n × IsLastOfName lumps n) × IsNeeded n) (called_lumps lumps art.prepared) all any in
+      let all_are_needed = both (λ n. IsNumber lumps n × IsLastOfName lumps n) IsNeeded _ (both (IsNumber lumps) (IsLastOfName lumps) _ (called-there lumps art.prepared) called_last) called in
+      let by_name = one_passes (has_name lumps name) (λ n. (IsNumber lumps n × IsLastOfName lumps n) × IsNeeded n)
+      (called_lumps lumps art.prepared) all_are_needed any in
       let name_same : (lump_at lumps by_name.0).name ≡ name = (bytes_eq-Decides (lump_at lumps by_name.0).name name).0 (sym (is_lump-at (λ lump. bytes_eq lump.name name) lumps by_name.0 by_name.2.0.0) ∙ by_name.1) in
       let name_is_called : last_of lumps name ≡ Some by_name.0 = ap (last_of lumps) (sym name_same) ∙ by_name.2.0.1 in
       let last_is_label : last_of lumps name ≡ Some art.label = (label-is lumps name art.label label).0 in
-      let lumps_same : by_name.0 ≡ art.label = cc in
-      subst IsNeeded lumps_same by_name.2.1
+      let lumps_same : by_name.0 ≡ art.label = cc in subst IsNeeded lumps_same by_name.2.1
 
   copied : (ns : List ℕ) → AllByRecursion IsNeeded ns → AllByRecursion (IsPartNeeded lumps art) (map copy_part ns)
   copied [] all = tt

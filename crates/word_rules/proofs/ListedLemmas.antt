@@ -72,12 +72,12 @@ joined_lists-one f x = append-nil (f x)
 pub joined_lists-next : {Y : Type 0} (f : ℕ → List Y) (first next : ℕ) → first ≤ next →
     joined_lists f (map (λ x. x) (range_with_len first (next + 1 - first))) ≡ joined_lists f (map (λ x. x) (range_with_len first (next - first))) ++ f next
 joined_lists-next {Y} f first next l =
-    let before : List ℕ = map (λ x. x) (range_with_len first (next - first)) in
+    let numbers_before : List ℕ = map (λ x. x) (range_with_len first (next - first)) in
     let count_grows : next + 1 - first ≡ next - first + 1 = omega arith in
     ap (λ (k : ℕ). joined_lists f (map (λ x. x) (range_with_len first k))) count_grows
     ∙ ap (joined_lists f) (map-range_with_len_more (λ x. x) first (next - first) next (omega (arith, l)))
-    ∙ joined_lists-append f before (next ∷ [])
-    ∙ ap (λ (ys : List Y). joined_lists f before ++ ys) (joined_lists-one f next)
+    ∙ joined_lists-append f numbers_before (next ∷ [])
+    ∙ ap (λ (ys : List Y). joined_lists f numbers_before ++ ys) (joined_lists-one f next)
 
 -- for `grind`: a loop that pushes the values
 pub ruleset listing = (listed-zero, listed-more, length-listed)

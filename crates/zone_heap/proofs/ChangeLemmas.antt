@@ -124,8 +124,8 @@ module _ (region : List ℕ) (o : Owner) (place : ℕ) (f : IsFound region o pla
       let tag_is : code_tag (word_at part 12) ≡ tag = ap code_tag (word_same f.part 12 (tag_code tag) (omega arith) (code_small tag)) ∙ code_back tag in
       let asked_same = word 4 (omega arith) in let owner_same = word 8 (omega arith) in
       let bytes_same : drop HEADER_SIZE part ≡ drop HEADER_SIZE f.part = drop-with_word f.part 12 (tag_code tag) HEADER_SIZE (omega arith) (omega arith) in
-      let same : live_in part ≡ record { owner = owner_in (word_at f.part 8); tag = tag; asked = word_at f.part 4; bytes = take (word_at f.part 4) (drop HEADER_SIZE f.part) } = λ i. record { owner = owner_in (owner_same i); tag = tag_is i; asked = asked_same i; bytes = take (asked_same i) (bytes_same i) } in
-      changed_block _ _ _ f ring part _ len (word 0 (omega arith)) (behind 16 (omega arith)) (behind 20 (omega arith)) is _ owner_same same
+      let live_is : live_in part ≡ record { owner = owner_in (word_at f.part 8); tag = tag; asked = word_at f.part 4; bytes = take (word_at f.part 4) (drop HEADER_SIZE f.part) } = λ i. record { owner = owner_in (owner_same i); tag = tag_is i; asked = asked_same i; bytes = take (asked_same i) (bytes_same i) } in
+      changed_block _ _ _ f ring part _ len (word 0 (omega arith)) (behind 16 (omega arith)) (behind 20 (omega arith)) is _ owner_same live_is
       ∙ sym (cond-true (is_held_by o f.block) _ _ f.held ∙ ap (λ x. record { place = f.block.place; size = f.block.size; holding = set_tag tag x }) f.holds)
 
   pub tagged_blocks : blocks_in (with_word region (place + 12) (tag_code tag)) ≡ map (retag_block o tag) (blocks_in region)

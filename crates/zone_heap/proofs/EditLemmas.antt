@@ -87,9 +87,9 @@ module _ (c d : List ℕ) (large : HEADER_SIZE ≤ length c) where
       let joined_length = length-append c d in
       let owner : word_at (two_parts c d) 8 ≡ word_at c 8 =
       word_other (c ++ d) 0 (length c + length d) 8 (omega arith) (inr (omega arith)) ∙ word_in_front c d 8 (omega arith) in
-      let none : holding_in (two_parts c d) ≡ None = nothing (two_parts c d) (ap (λ n. n == FREE_OWNER) owner ∙ told (word_at c 8 == FREE_OWNER) (live_in c) f) in
+      let holds_nothing : holding_in (two_parts c d) ≡ None = nothing (two_parts c d) (ap (λ n. n == FREE_OWNER) owner ∙ told (word_at c 8 == FREE_OWNER) (live_in c) f) in
       let size = length-two in
-      λ i. record { place = p; size = size i; holding = none i } where
+      λ i. record { place = p; size = size i; holding = holds_nothing i } where
         nothing : (e : List ℕ) → (word_at e 8 == FREE_OWNER) ≡ true → holding_in e ≡ None
         nothing e t = cond-true (word_at e 8 == FREE_OWNER) None (Some (live_in e)) t
 

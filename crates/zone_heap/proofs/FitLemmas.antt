@@ -14,7 +14,7 @@ FitMeans v w f i bs None = (walk_place v w f bs ≡ None) × (walk v w bs ≡ un
 FitMeans v w f i bs (Some r) = (walk_place v w f bs ≡ Some r.0) × (i < r.1) × (r.1 ≤ i + length bs) × (walk v w bs ≡ unpinned (take (r.1 - i) bs))
 
 one_less : (n i : ℕ) (b : Block) (bs : List Block) → i + 1 < n → take (n - i) (b ∷ bs) ≡ b ∷ take (n - (i + 1)) bs
-one_less n i b bs h = let one_more : n - i ≡ suc (n - (i + 1)) = omega arith in rw one_more refl
+one_less n i b bs h = let difference_is : n - i ≡ suc (n - (i + 1)) = omega arith in rw difference_is refl
 
 -- past a pinned block
 past_pinned : (v w i : ℕ) (f : Option ℕ) (b : Block) (bs : List Block) (r : Option (ℕ × ℕ)) → is_pinned b ≡ true → FitMeans w w None (i + 1) bs r

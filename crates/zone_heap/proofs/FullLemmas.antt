@@ -21,7 +21,7 @@ pub full_purges : (w : ℕ) (z : Heap) → IsSound z → 0 < w → first_room w 
     → purge_among (passed_blocks w (stretches z.rover z.blocks)) z.blocks ≡ map purge_block z.blocks
 full_purges w z s pos e =
     let bs = z.blocks in let front = gaps (blocks_from (start_in z.rover bs) bs) in
-    let none = no_room_first w front (gaps bs) e in let later = found_later w front (gaps bs) none in
+    let no_room_in_front = no_room_first w front (gaps bs) e in let later = found_later w front (gaps bs) no_room_in_front in
     let fit = no_fit_of w 0 z.size bs pos s.tiles (sym later.0 ∙ e) in
     ap (λ ch. purge_among ch bs) (later.1 ∙ ap (λ xs. passed_blocks w front ++ xs) fit.passed_is)
     ∙ purge_covered _ bs (covers_after (passed_blocks w front) (unpinned bs) bs (covers_itself bs))

@@ -73,8 +73,8 @@ module _ (old new : Homes) (o : Owner) (home : ℕ) (bs cs : List Block) (s : Is
   set_exact here others = λ p q. moved p ∙ go p (slot_kept old new (set_alike old new o home s) p q) (same_owner o p) refl where
     go : (p : Owner) → IsSlot old p → (t : Bool) → same_owner o p ≡ t → after p.kind p.number ≡ home_of (owned_block p cs)
     go p q true e =
-        let same = owner_eq o p e in
-        ap (λ (r : Owner). after r.kind r.number) (sym same) ∙ get_or-set_same old.list.items (home_index old.lumps o.kind o.number) home 0 (slot_small old few o slot) ∙ here ∙ ap (λ (r : Owner). home_of (owned_block r cs)) same
+        let owners_same = owner_eq o p e in
+        ap (λ (r : Owner). after r.kind r.number) (sym owners_same) ∙ get_or-set_same old.list.items (home_index old.lumps o.kind o.number) home 0 (slot_small old few o slot) ∙ here ∙ ap (λ (r : Owner). home_of (owned_block r cs)) owners_same
     go p q false e =
         get_or-set_other old.list.items (home_index old.lumps o.kind o.number) (home_index old.lumps p.kind p.number) home 0
         (λ same. false≢true (sym e ∙ slot_same old few o p slot q (sym same))) ∙ exact p q ∙ ap home_of (sym (others p e))

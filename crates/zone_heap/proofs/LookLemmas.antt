@@ -21,7 +21,7 @@ owned_parts : (o : Owner) (bs : List Block) (b : Block) → owned_block o bs ≡
 owned_parts o [] b e = cc
 owned_parts o (c ∷ bs) b e = go (is_held_by o c) refl e (λ k. owned_parts o bs b k) where
   go : (t : Bool) → is_held_by o c ≡ t → cond t (Some c) (owned_block o bs) ≡ Some b → (owned_block o bs ≡ Some b → IsOwned o bs b) → IsOwned o (c ∷ bs) b
-  go true h x k = let same : c ≡ b = cc in record { front = []; rest = bs; is = ap (λ y. y ∷ bs) same; held = ap (is_held_by o) (sym same) ∙ h }
+  go true h x k = let first_is : c ≡ b = cc in record { front = []; rest = bs; is = ap (λ y. y ∷ bs) first_is; held = ap (is_held_by o) (sym first_is) ∙ h }
   go false h x k = let found_behind = k x in
       record { front = c ∷ found_behind.front; rest = found_behind.rest; is = ap (λ ys. c ∷ ys) found_behind.is; held = found_behind.held }
 
@@ -60,34 +60,34 @@ pub look : (region : List ℕ) (laid : IsLaid region) (o : Owner) (place : ℕ) 
 look region laid o place live at =
     let owned_there = some_is (owned_block o (blocks_in region)) live in let block = owned_there.0 in
     let owned_is = owned_there.1 in let around = owned_parts o (blocks_in region) block owned_is in
-    let here : block.place ≡ place = sym (at ∙ ap home_of owned_is) in
-    let there = among region laid around.front around.rest block around.is in
-    let whole = subst AllWhole there.rest_is there.split.rest_whole in
-    let is = there.split.is ∙ ap (λ cs. joined there.split.front ++ joined cs) there.rest_is in
-    let held = ap (is_held_by o) there.part_is ∙ around.held in
-    let region_length = ap length is ∙ length-append (joined there.split.front) (there.part ++ joined there.others) in
-    let part_and_others = length-append there.part (joined there.others) in let front_length = there.split.at_is in
+    let block_place_is : block.place ≡ place = sym (at ∙ ap home_of owned_is) in let its_part = among region laid around.front around.rest block around.is in
+    let whole = subst AllWhole its_part.rest_is its_part.split.rest_whole in
+    let region_is = its_part.split.is ∙ ap (λ cs. joined its_part.split.front ++ joined cs) its_part.rest_is in
+    let part_is_held = ap (is_held_by o) its_part.part_is ∙ around.held in
+    let region_length = ap length region_is ∙ length-append (joined its_part.split.front) (its_part.part ++ joined its_part.others) in
+    let part_and_others = length-append its_part.part (joined its_part.others) in let front_length = its_part.split.at_is in
     record {
       block = block;
       owned = owned_is;
-      place_is = here;
+      place_is = block_place_is;
       front = around.front;
       rest = around.rest;
       is = around.is;
       held = around.held;
-      part = there.part;
-      others = there.others;
-      split = record { front = there.split.front; rest = there.split.rest; is = there.split.is; at_is = there.split.at_is ∙ here; front_whole = there.split.front_whole; rest_whole = there.split.rest_whole };
-      rest_is = there.rest_is;
-      front_is = there.front_is;
-      block_is = sym there.part_is ∙ ap (λ p. block_in p there.part) here;
-      others_is = ap (λ p. blocks_from (p + length there.part) there.others) (sym here) ∙ there.others_is;
-      holds = sym (ap (λ (x : Block). x.holding) there.part_is)
-          ∙ cond-false (word_at there.part 8 == FREE_OWNER) None (Some (live_in there.part)) (held_live o there.part (word_at there.part 8 == FREE_OWNER) held);
+      part = its_part.part;
+      others = its_part.others;
+      split = record { front = its_part.split.front; rest = its_part.split.rest; is = its_part.split.is; at_is = its_part.split.at_is ∙ block_place_is; front_whole = its_part.split.front_whole; rest_whole = its_part.split.rest_whole };
+      rest_is = its_part.rest_is;
+      front_is = its_part.front_is;
+      block_is = sym its_part.part_is ∙ ap (λ p. block_in p its_part.part) block_place_is;
+      others_is = ap (λ p. blocks_from (p + length its_part.part) its_part.others) (sym block_place_is) ∙ its_part.others_is;
+      holds = sym (ap (λ (x : Block). x.holding) its_part.part_is)
+          ∙ cond-false (word_at its_part.part 8 == FREE_OWNER) None (Some (live_in its_part.part))
+          (held_live o its_part.part (word_at its_part.part 8 == FREE_OWNER) part_is_held);
       large = whole.0;
       fits = omega arith;
-      words = λ n h. let place_is : place + n ≡ length (joined there.split.front) + n = omega arith in ap (λ xs. word_at xs (place + n)) is
-          ∙ word_within (joined there.split.front) there.part (joined there.others) n (place + n) place_is (let part_large = whole.0 in omega arith);
+      words = λ n h. let place_is : place + n ≡ length (joined its_part.split.front) + n = omega arith in ap (λ xs. word_at xs (place + n)) region_is
+          ∙ word_within (joined its_part.split.front) its_part.part (joined its_part.others) n (place + n) place_is (let part_large = whole.0 in omega arith);
     }
 
 -- what a live slot holds

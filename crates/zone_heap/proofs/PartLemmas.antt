@@ -79,13 +79,13 @@ opened_word region at s lt n n_is = go s.rest refl s.rest_whole where
       let joined_length = length-append (joined s.front) [] in let front_length = s.at_is in omega arith
       )
   go (c ∷ cs) e w =
-      let is = s.is ∙ ap (λ r. joined s.front ++ joined r) e in
-      let behind : drop at region ≡ c ++ joined cs = ap (drop at) is ∙ drop_at (joined s.front) (c ++ joined cs) at s.at_is in
+      let region_is = s.is ∙ ap (λ r. joined s.front ++ joined r) e in
+      let behind : drop at region ≡ c ++ joined cs = ap (drop at) region_is ∙ drop_at (joined s.front) (c ++ joined cs) at s.at_is in
       let head : header_in (drop at region) ≡ header_in c = ap header_in behind ∙ header_front c (joined cs) w.0 in
-      let told : word_at (drop at region) 0 ≡ word_at region at =
+      let size_word_is : word_at (drop at region) 0 ≡ word_at region at =
       word_from region at 0 ∙ ap (word_at region) (let place_is : at + 0 ≡ at = omega arith in place_is) in
-      let size : n ≡ length c = n_is ∙ sym told ∙ ap (λ (h : Header). h.size) head ∙ w.1 in
-      let total = ap length is ∙ length-append (joined s.front) (c ++ joined cs) in
+      let size : n ≡ length c = n_is ∙ sym size_word_is ∙ ap (λ (h : Header). h.size) head ∙ w.1 in
+      let total = ap length region_is ∙ length-append (joined s.front) (c ++ joined cs) in
       let inner = length-append c (joined cs) in let front_length = s.at_is in let part_large = w.0 in
       let front_grown = ap length (joined-append s.front (c ∷ [])) ∙ length-append (joined s.front) (c ++ []) in
       let part_length = ap length (append-nil c) in
@@ -94,7 +94,7 @@ opened_word region at s lt n n_is = go s.rest refl s.rest_whole where
         next = record {
           front = s.front ++ (c ∷ []);
           rest = cs;
-          is = is ∙ sym (append_assoc (joined s.front) c (joined cs))
+          is = region_is ∙ sym (append_assoc (joined s.front) c (joined cs))
               ∙ ap (λ xs. xs ++ joined cs) (ap (λ xs. joined s.front ++ xs) (sym (append-nil c)) ∙ sym (joined-append s.front (c ∷ [])));
           at_is = omega arith;
           front_whole = whole-append s.front (c ∷ []) s.front_whole (w.0, w.1, tt);
@@ -236,7 +236,7 @@ module _ (rover : ℕ) (region : List ℕ) (at : ℕ) (p : HasPassed rover regio
 
     pub start_here : t ≡ true → StartsAt rover region at
     start_here starts =
-        let here = ap (position_or_len (starts_at rover)) o.blocks ∙ cond-false _ _ _ (ap not (told ∙ starts)) in
+        let start_is_here = ap (position_or_len (starts_at rover)) o.blocks ∙ cond-false _ _ _ (ap not (told ∙ starts)) in
         (p.split, let passed_so_far = p.value in omega arith)
 
     pub passed_then : t ≡ false → HasPassed rover region (at + h.size)
@@ -247,7 +247,7 @@ module _ (rover : ℕ) (region : List ℕ) (at : ℕ) (p : HasPassed rover regio
 
   pub start_last : length region ≤ at → StartsAt rover region at
   start_last le =
-      let none = ap (λ cs. position_or_len (starts_at rover) (blocks_from at cs)) (nothing_left region at p.split le) in
+      let no_blocks_left = ap (λ cs. position_or_len (starts_at rover) (blocks_from at cs)) (nothing_left region at p.split le) in
       (p.split, let passed_so_far = p.value in omega arith)
 
 -- a part replaced by one of the same length, in another region

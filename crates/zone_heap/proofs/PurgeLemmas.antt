@@ -31,8 +31,8 @@ module _ (c : List ℕ) (large : HEADER_SIZE ≤ length c) where
       let asked_kept = length-with_word c 4 0 (omega arith) in let owner_kept = length-with_word asked_emptied 8 FREE_OWNER (omega arith) in
       let owner : word_at (freed c) 8 ≡ FREE_OWNER =
       word_other owner_freed 12 0 8 (omega arith) (inl (omega arith)) ∙ word_same asked_emptied 8 FREE_OWNER (omega arith) (omega arith) in
-      let none = nothing (freed c) (ap (λ n. n == FREE_OWNER) owner) in let size = length-freed in
-      λ i. record { place = p; size = size i; holding = none i } where
+      let holds_nothing = nothing (freed c) (ap (λ n. n == FREE_OWNER) owner) in let size = length-freed in
+      λ i. record { place = p; size = size i; holding = holds_nothing i } where
         nothing : (e : List ℕ) → (word_at e 8 == FREE_OWNER) ≡ true → holding_in e ≡ None
         nothing e t = cond-true (word_at e 8 == FREE_OWNER) None (Some (live_in e)) t
 

@@ -127,12 +127,12 @@ module _ (r p q : ℕ) (b c : Block) (bs : List Block) (t : Tiles p q (b ∷ c �
     (skip : starts_at r b ≡ false) where
   low : p + b.size ≤ r
   low =
-      let up = above r p q b (c ∷ bs) t a skip in let no : (b.place == r) ≡ false = ne_eqb b.place r (λ e. omega arith) in
+      let place_below_rover = above r p q b (c ∷ bs) t a skip in let no : (b.place == r) ≡ false = ne_eqb b.place r (λ e. omega arith) in
       let place_behind : has_place r (c ∷ bs) ≡ true = rw no at h in has_low r (p + b.size) q (c ∷ bs) t.2 place_behind
 
   next_place : has_place r (c ∷ bs) ≡ true
   next_place =
-      let up = above r p q b (c ∷ bs) t a skip in let no : (b.place == r) ≡ false = ne_eqb b.place r (λ e. omega arith) in rw no at h
+      let place_below_rover = above r p q b (c ∷ bs) t a skip in let no : (b.place == r) ≡ false = ne_eqb b.place r (λ e. omega arith) in rw no at h
 
   held_here : starts_at r c ≡ true → is_free b ≡ false
   held_here e = elim (or_cases (nat_le r c.place) (ends_free_at r c) e) [
@@ -149,7 +149,7 @@ module _ (r p q : ℕ) (b c : Block) (bs : List Block) (t : Tiles p q (b ∷ c �
 last_start : (r p q : ℕ) (b : Block) → Tiles p q (b ∷ []) → Apart (b ∷ []) → has_place r (b ∷ []) ≡ true → starts_at r b ≡ false
     → EndsHeld (take (position_or_len (starts_at r) (b ∷ [])) (b ∷ []))
 last_start r p q b t a h skip =
-    let up = above r p q b [] t a skip in let no : (b.place == r) ≡ false = ne_eqb b.place r (λ e. omega arith) in
+    let place_below_rover = above r p q b [] t a skip in let no : (b.place == r) ≡ false = ne_eqb b.place r (λ e. omega arith) in
     let no_place : false ≡ true = rw no at h in absurd (false≢true no_place)
 
 -- the blocks before the start of a search end with one that is not free

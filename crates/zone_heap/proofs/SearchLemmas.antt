@@ -182,10 +182,10 @@ module _ (w rover p q : ℕ) (bs : List Block) (t : Tiles p q bs) (at : has_plac
       let behind_start = unpinned (drop s bs) in let ch = unpinned (take upto bs) in
       let later = found_later w (gaps (drop s bs)) (gaps bs) n.none in
       let chosen : passed_blocks w (stretches rover bs) ≡ behind_start ++ ch = ap (passed_blocks w) stretches_are ∙ later.1 ∙ ap₂ ◌++◌ n.passed_is f.passed_is in
-      let back : purge_among behind_start bs ≡ cleared = purge_back p q s bs t in
-      let top : purge_among behind_start (take upto bs) ≡ take upto cleared = sym (take-map _ upto bs) ∙ ap (take upto) back in
-      let bottom : purge_among behind_start (drop upto bs) ≡ drop upto cleared = sym (drop-map _ upto bs) ∙ ap (drop upto) back in
-      let parts : purge_among behind_start bs ≡ purge_among behind_start (take upto bs) ++ purge_among behind_start (drop upto bs) =
+      let purged_is_cleared : purge_among behind_start bs ≡ cleared = purge_back p q s bs t in
+      let top : purge_among behind_start (take upto bs) ≡ take upto cleared = sym (take-map _ upto bs) ∙ ap (take upto) purged_is_cleared in
+      let bottom : purge_among behind_start (drop upto bs) ≡ drop upto cleared = sym (drop-map _ upto bs) ∙ ap (drop upto) purged_is_cleared in
+      let purged_by_halves : purge_among behind_start bs ≡ purge_among behind_start (take upto bs) ++ purge_among behind_start (drop upto bs) =
       ap (purge_among behind_start) (sym (take-append-drop upto bs)) ∙ purge_among-append behind_start (take upto bs) (drop upto bs) in
       let covers : Covers ch (purge_among behind_start (take upto bs)) = covers_kept ch behind_start (take upto bs) (covers_itself (take upto bs)) in
       let misses : Misses ch (purge_among behind_start (drop upto bs)) =
@@ -193,12 +193,12 @@ module _ (w rover p q : ℕ) (bs : List Block) (t : Tiles p q bs) (at : has_plac
       record {
         place_is = ap (first_room w) stretches_are ∙ later.0 ∙ f.place_is;
         after_is =
-            ap (λ c. purge_among c bs) chosen ∙ purge_twice behind_start ch bs ∙ ap (purge_among ch) parts
+            ap (λ c. purge_among c bs) chosen ∙ purge_twice behind_start ch bs ∙ ap (purge_among ch) purged_by_halves
             ∙ purge_among-append ch (purge_among behind_start (take upto bs)) (purge_among behind_start (drop upto bs))
             ∙ ap₂ ◌++◌ (purge_covered ch _ covers ∙ ap (map purge_block) top) (purge_missed ch _ misses ∙ bottom);
         count_is =
             ap (λ c. count_among c bs) chosen ∙ count_twice behind_start ch bs ∙ ap₂ ◌+◌ (count_back p q s bs t)
-            (ap (count_among ch) parts ∙ count_among-append ch (purge_among behind_start (take upto bs)) (purge_among behind_start (drop upto bs)) ∙ ap₂ ◌+◌ (count_covered ch _ covers ∙ ap (count_by is_purgeable) top) (count_missed ch _ misses) ∙ add-zero _);
+            (ap (count_among ch) purged_by_halves ∙ count_among-append ch (purge_among behind_start (take upto bs)) (purge_among behind_start (drop upto bs)) ∙ ap₂ ◌+◌ (count_covered ch _ covers ∙ ap (count_by is_purgeable) top) (count_missed ch _ misses) ∙ add-zero _);
       }
 
   -- not found

@@ -74,17 +74,17 @@ whole_parts (c ∷ xs) ys w = let whole_behind = whole_parts xs ys w.2 in ((w.0,
 -- each block of a region that is laid out has its part there
 pub among : (region : List ℕ) (laid : IsLaid region) (F R : List Block) (b : Block) → blocks_in region ≡ F ++ (b ∷ R) → IsAmong region b.place F R b
 among region laid F R b e =
-    let parts = parts_of 0 laid.parts F R b (sym (blocks_laid region laid) ∙ e) in
-    let front_length : length (joined parts.front) ≡ b.place = let place_same = ap (λ (x : Block). x.place) parts.part_is in omega arith in
-    let both_whole = whole_parts parts.front (parts.part ∷ parts.others) (subst AllWhole parts.is laid.whole) in
+    let its_part = parts_of 0 laid.parts F R b (sym (blocks_laid region laid) ∙ e) in
+    let front_length : length (joined its_part.front) ≡ b.place = let place_same = ap (λ (x : Block). x.place) its_part.part_is in omega arith in
+    let both_whole = whole_parts its_part.front (its_part.part ∷ its_part.others) (subst AllWhole its_part.is laid.whole) in
     record {
-      split = record { front = parts.front; rest = parts.part ∷ parts.others; is = laid.is ∙ ap joined parts.is ∙ joined-append parts.front (parts.part ∷ parts.others); at_is = front_length; front_whole = both_whole.0; rest_whole = both_whole.1 };
-      part = parts.part;
-      others = parts.others;
+      split = record { front = its_part.front; rest = its_part.part ∷ its_part.others; is = laid.is ∙ ap joined its_part.is ∙ joined-append its_part.front (its_part.part ∷ its_part.others); at_is = front_length; front_whole = both_whole.0; rest_whole = both_whole.1 };
+      part = its_part.part;
+      others = its_part.others;
       rest_is = refl;
-      front_is = parts.front_is;
-      part_is = ap (λ n. block_in n parts.part) (let place_is : b.place ≡ 0 + length (joined parts.front) = omega arith in place_is) ∙ parts.part_is;
-      others_is = ap (λ n. blocks_from (n + length parts.part) parts.others) (let place_is : b.place ≡ 0 + length (joined parts.front) = omega arith in place_is) ∙ parts.others_is;
+      front_is = its_part.front_is;
+      part_is = ap (λ n. block_in n its_part.part) (let place_is : b.place ≡ 0 + length (joined its_part.front) = omega arith in place_is) ∙ its_part.part_is;
+      others_is = ap (λ n. blocks_from (n + length its_part.part) its_part.others) (let place_is : b.place ≡ 0 + length (joined its_part.front) = omega arith in place_is) ∙ its_part.others_is;
     }
 
 -- a part of another use
@@ -121,14 +121,14 @@ module _ (c : List ℕ) (u : Used) (large : HEADER_SIZE ≤ length c) (asked_sma
       let owner : word_at given 8 ≡ u.owner = word_other owner_written 12 u.tag 8 (omega arith) (inl (omega arith)) ∙ word_same asked_written 8 u.owner (omega arith) owner_small in
       let asked : word_at given 4 ≡ u.asked = word_other owner_written 12 u.tag 4 (omega arith) (inl (omega arith))
       ∙ word_other asked_written 8 u.owner 4 (omega arith) (inl (omega arith)) ∙ word_same c 4 u.asked (omega arith) asked_small in
-      let back : drop HEADER_SIZE given ≡ drop HEADER_SIZE c = drop-with_word owner_written 12 u.tag HEADER_SIZE (omega arith) (omega arith)
+      let bytes_stay : drop HEADER_SIZE given ≡ drop HEADER_SIZE c = drop-with_word owner_written 12 u.tag HEADER_SIZE (omega arith) (omega arith)
       ∙ drop-with_word asked_written 8 u.owner HEADER_SIZE (omega arith) (omega arith) ∙ drop-with_word c 4 u.asked HEADER_SIZE (omega arith) (omega arith) in
       let size = length-given in
       let some : holding_in given ≡ Some (live_in given) =
       cond-false (word_at given 8 == FREE_OWNER) None (Some (live_in given)) (ap (λ n. n == FREE_OWNER) owner ∙ live) in
-      let same : live_in given ≡ used_holding u (drop HEADER_SIZE c) =
-      λ i. record { owner = owner_in (owner i); tag = code_tag (tag i); asked = asked i; bytes = take (asked i) (back i) } in
-      λ i. record { place = p; size = size i; holding = (some ∙ ap Some same) i }
+      let live_is : live_in given ≡ used_holding u (drop HEADER_SIZE c) =
+      λ i. record { owner = owner_in (owner i); tag = code_tag (tag i); asked = asked i; bytes = take (asked i) (bytes_stay i) } in
+      λ i. record { place = p; size = size i; holding = (some ∙ ap Some live_is) i }
 
 -- a part cut into two
 module _ (c : List ℕ) (wanted : ℕ) (large : HEADER_SIZE ≤ wanted) (room : wanted + HEADER_SIZE ≤ length c) (small : length c < 2 ^ 32) where

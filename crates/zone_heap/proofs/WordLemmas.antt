@@ -123,8 +123,8 @@ pub drop-with_word : (xs : List ℕ) (at x n : ℕ) → at + 4 ≤ length xs →
 unfolding with_word
 drop-with_word xs at x n h l =
     let front_length : length (take at xs) ≡ at = simp length-take (omega arith) in
-    let beyond = n - (at + 4) in let sum_is : n ≡ at + (4 + beyond) = omega arith in let back = drop 4 (drop at xs) in
-    ap (λ m. drop m (with_word xs at x)) sum_is ∙ sym (drop-drop (4 + beyond) at (with_word xs at x)) ∙ ap (drop (4 + beyond)) (drop_at (take at xs) (little_bytes 4 x ++ back) at front_length) ∙ sym (drop-drop beyond 4 (little_bytes 4 x ++ back)) ∙ drop-drop beyond 4 (drop at xs)
+    let beyond = n - (at + 4) in let sum_is : n ≡ at + (4 + beyond) = omega arith in let behind_word = drop 4 (drop at xs) in
+    ap (λ m. drop m (with_word xs at x)) sum_is ∙ sym (drop-drop (4 + beyond) at (with_word xs at x)) ∙ ap (drop (4 + beyond)) (drop_at (take at xs) (little_bytes 4 x ++ behind_word) at front_length) ∙ sym (drop-drop beyond 4 (little_bytes 4 x ++ behind_word)) ∙ drop-drop beyond 4 (drop at xs)
     ∙ drop-drop (4 + beyond) at xs ∙ ap (λ m. drop m xs) (sym sum_is)
 
 -- a word of a part between others is the part's

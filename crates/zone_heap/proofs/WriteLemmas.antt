@@ -49,11 +49,11 @@ module _ (region : List ℕ) (o : Owner) (place : ℕ) (f : IsFound region o pla
   parts =
       let whole = f.split.is ∙ ap (λ cs. joined f.split.front ++ joined cs) f.rest_is in
       let front_length = f.split.at_is in let part_large = f.large in let front = joined f.split.front in
-      let others = joined f.others in
-      let front_taken : take (place + HEADER_SIZE) region ≡ front ++ take HEADER_SIZE f.part = ap₂ take (let place_is : place + HEADER_SIZE ≡ length front + HEADER_SIZE = omega arith in place_is) whole ∙ take_in front f.part others HEADER_SIZE (omega arith) in
-      let behind_dropped : drop (place + HEADER_SIZE + asked) region ≡ drop (HEADER_SIZE + asked) f.part ++ others = ap₂ drop (let place_is : place + HEADER_SIZE + asked ≡ length front + (HEADER_SIZE + asked) = omega arith in place_is) whole ∙ drop_in front f.part others (HEADER_SIZE + asked) (omega arith) in
-      is ∙ ap₂ (λ x y. x ++ (w ++ y)) front_taken behind_dropped ∙ append_assoc front (take HEADER_SIZE f.part) (w ++ (drop (HEADER_SIZE + asked) f.part ++ others))
-      ∙ ap (λ x. front ++ x) (ap (λ x. take HEADER_SIZE f.part ++ x) (sym (append_assoc w (drop (HEADER_SIZE + asked) f.part) others)) ∙ sym (append_assoc (take HEADER_SIZE f.part) (w ++ drop (HEADER_SIZE + asked) f.part) others))
+      let other_parts = joined f.others in
+      let front_taken : take (place + HEADER_SIZE) region ≡ front ++ take HEADER_SIZE f.part = ap₂ take (let place_is : place + HEADER_SIZE ≡ length front + HEADER_SIZE = omega arith in place_is) whole ∙ take_in front f.part other_parts HEADER_SIZE (omega arith) in
+      let behind_dropped : drop (place + HEADER_SIZE + asked) region ≡ drop (HEADER_SIZE + asked) f.part ++ other_parts = ap₂ drop (let place_is : place + HEADER_SIZE + asked ≡ length front + (HEADER_SIZE + asked) = omega arith in place_is) whole ∙ drop_in front f.part other_parts (HEADER_SIZE + asked) (omega arith) in
+      is ∙ ap₂ (λ x y. x ++ (w ++ y)) front_taken behind_dropped ∙ append_assoc front (take HEADER_SIZE f.part) (w ++ (drop (HEADER_SIZE + asked) f.part ++ other_parts))
+      ∙ ap (λ x. front ++ x) (ap (λ x. take HEADER_SIZE f.part ++ x) (sym (append_assoc w (drop (HEADER_SIZE + asked) f.part) other_parts)) ∙ sym (append_assoc (take HEADER_SIZE f.part) (w ++ drop (HEADER_SIZE + asked) f.part) other_parts))
 
   pub written_ring : IsRing after
   written_ring = changed_ring region o place f ring part after same (word 0 (omega arith)) (word 16 (omega arith)) (word 20 (omega arith)) parts
@@ -65,9 +65,9 @@ module _ (region : List ℕ) (o : Owner) (place : ℕ) (f : IsFound region o pla
   block_is : block_in place part ≡ write_block o w f.block
   block_is =
       let asked_same = word 4 (omega arith) in let owner_same = word 8 (omega arith) in let tag_same = word 12 (omega arith) in
-      let back : drop HEADER_SIZE part ≡ w ++ drop (HEADER_SIZE + asked) f.part =
+      let body_is : drop HEADER_SIZE part ≡ w ++ drop (HEADER_SIZE + asked) f.part =
       drop_at (take HEADER_SIZE f.part) (w ++ drop (HEADER_SIZE + asked) f.part) HEADER_SIZE front_len in
-      let bytes : take (word_at part 4) (drop HEADER_SIZE part) ≡ w = ap₂ take asked_same back ∙ take_at w (drop (HEADER_SIZE + asked) f.part) asked len in
+      let bytes : take (word_at part 4) (drop HEADER_SIZE part) ≡ w = ap₂ take asked_same body_is ∙ take_at w (drop (HEADER_SIZE + asked) f.part) asked len in
       let said : live_in part ≡ record { owner = owner_in (word_at f.part 8); tag = code_tag (word_at f.part 12); asked = word_at f.part 4; bytes = w } =
       λ i. record { owner = owner_in (owner_same i); tag = code_tag (tag_same i); asked = asked_same i; bytes = bytes i } in
       changed_block region o place f ring part after same (word 0 (omega arith)) (word 16 (omega arith)) (word 20 (omega arith)) parts _ owner_same said

@@ -10,9 +10,9 @@ no_holding b bs e = go b.holding refl where
   go : (h : Option Holding) → b.holding ≡ h → h ≡ None
   go None k = refl
   go (Some h) k =
-      let same : same_owner h.owner h.owner ≡ true = and_from (h.owner.kind == h.owner.kind) (h.owner.number == h.owner.number) (eq-eqb h.owner.kind h.owner.kind refl) (eq-eqb h.owner.number h.owner.number refl) in
-      let impossible : Some b ≡ None = sym (cond-true (is_held_by h.owner b) (Some b) (owned_block h.owner bs) (ap (holds_for h.owner) k ∙ same)) ∙ e h.owner in
-      cc
+      let owner_same : same_owner h.owner h.owner ≡ true = and_from (h.owner.kind == h.owner.kind) (h.owner.number == h.owner.number) (eq-eqb h.owner.kind h.owner.kind refl) (eq-eqb h.owner.number h.owner.number refl) in
+      let impossible : Some b ≡ None = sym (cond-true (is_held_by h.owner b) (Some b) (owned_block h.owner bs) (ap (holds_for h.owner) k ∙ owner_same))
+      ∙ e h.owner in cc
 
 none_free : (b : Block) → b.holding ≡ None → is_free b ≡ true
 none_free b e = ap (λ h. is_free (record b { holding = h })) e
@@ -54,8 +54,8 @@ empty_place w p z s pos e found = go (cases_lt z.size w) where
   go : (z.size < w) ⊎ (w ≤ z.size) → p ≡ 0
   go (inl small) =
       let total_is = total-cons (free_block 0 z.size) [] in
-      let none = All-cons (λ g. total g < w) (free_block 0 z.size ∷ []) [] (omega (arith, total_is, small)) (All-nil (λ g. total g < w)) in
-      absurd (full_some w z.rover p z.size z.blocks pos s.tiles found (subst (λ bs. All (λ g. total g < w) (gaps bs)) (sym is) none))
+      let no_gap_fits = All-cons (λ g. total g < w) (free_block 0 z.size ∷ []) [] (omega (arith, total_is, small)) (All-nil (λ g. total g < w)) in
+      absurd (full_some w z.rover p z.size z.blocks pos s.tiles found (subst (λ bs. All (λ g. total g < w) (gaps bs)) (sym is) no_gap_fits))
   go (inr large) =
       let found_at_start : first_room w (stretches z.rover z.blocks) ≡ Some 0 = ap (λ bs. first_room w (stretches z.rover bs)) is ∙ ap (λ r. first_room w (stretches r (free_block 0 z.size ∷ []))) rover_is ∙ rest_found w 0 z.size size large [] tt tt in
       let same_place : Some p ≡ Some 0 = sym found ∙ found_at_start in

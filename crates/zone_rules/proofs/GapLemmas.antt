@@ -30,11 +30,11 @@ wider_from r p q (b ∷ bs) t = pick (cases_lt b.place r) (wider_from r (p + b.s
   pick : (b.place < r) ⊎ (r ≤ b.place) → widest (gaps (blocks_from r bs)) ≤ widest (gaps bs) → widest (gaps (blocks_from r (b ∷ bs))) ≤ widest (gaps (b ∷ bs))
   pick (inl low) rest =
       let skip : blocks_from r (b ∷ bs) ≡ blocks_from r bs = cond-false _ _ _ (lt-leb r b.place low) in
-      let same = ap (λ xs. widest (gaps xs)) skip in
-      let more = wider_more b bs in
+      let widest_same = ap (λ xs. widest (gaps xs)) skip in
+      let widest_grows = wider_more b bs in
       omega arith
   pick (inr high) rest =
-      let same = ap (λ xs. widest (gaps xs)) (all_from r p q (b ∷ bs) t (let begins = t.0 in omega arith)) in
+      let widest_same = ap (λ xs. widest (gaps xs)) (all_from r p q (b ∷ bs) t (let begins = t.0 in omega arith)) in
       omega arith
 
 -- nothing holds where the widest is too small

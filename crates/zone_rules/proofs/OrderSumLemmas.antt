@@ -34,9 +34,9 @@ item_block i = block_size i.size
 
 same_item : (o : Owner) (size : ℕ) (i : Item) → (same_owner o i.owner && (i.size == size)) ≡ true → item o size ≡ i
 same_item o size i e =
-    let parts = and_parts (same_owner o i.owner) (i.size == size) e in
-    let same_owners = owner_eq o i.owner parts.0 in
-    let same_sizes = sym (eqb-true i.size size parts.1) in
+    let owner_and_size = and_parts (same_owner o i.owner) (i.size == size) e in
+    let same_owners = owner_eq o i.owner owner_and_size.0 in
+    let same_sizes = sym (eqb-true i.size size owner_and_size.1) in
     λ k. record { owner = same_owners k; size = same_sizes k }
 
 item_owner : (items : List Item) (o : Owner) (size : ℕ) → has_item items o size ≡ true → has_owner items o ≡ true
@@ -51,8 +51,8 @@ module _ (f : Item → ℕ) (b : Block) (h : Holding) (is : b.holding ≡ Some h
   sum_beside : (items : List Item) → has_owner items h.owner ≡ false → live_sum f items (b ∷ bs) ≡ live_sum f items bs
   sum_beside [] e = refl
   sum_beside (i ∷ items) e =
-      let parts = or_parts (same_owner h.owner i.owner) (has_owner items h.owner) e in
-      ap₂ ◌+◌ (ap (λ t. cond t (f i) 0) (live_past i.owner b bs (ap (holds_for i.owner) is ∙ parts.0))) (sum_beside items parts.1)
+      let neither_is_owner = or_parts (same_owner h.owner i.owner) (has_owner items h.owner) e in
+      ap₂ ◌+◌ (ap (λ t. cond t (f i) 0) (live_past i.owner b bs (ap (holds_for i.owner) is ∙ neither_is_owner.0))) (sum_beside items neither_is_owner.1)
 
   not_again : (i : Item) (items : List Item) → has_owner items i.owner ≡ false → has_item items h.owner h.asked ≡ true → (t : Bool) → same_owner h.owner i.owner ≡ t → t ≡ false
   not_again i items d e true x = absurd (false≢true (sym d ∙ ap (has_owner items) (sym (owner_eq h.owner i.owner x)) ∙ item_owner items h.owner h.asked e))
@@ -64,18 +64,18 @@ module _ (f : Item → ℕ) (b : Block) (h : Holding) (is : b.holding ≡ Some h
     go : (t : Bool) → (same_owner h.owner i.owner && (i.size == h.asked)) ≡ t → (t || has_item items h.owner h.asked) ≡ true
         → (has_item items h.owner h.asked ≡ true → live_sum f items (b ∷ bs) ≡ f (item h.owner h.asked) + live_sum f items bs) → live_sum f (i ∷ items) (b ∷ bs) ≡ f (item h.owner h.asked) + live_sum f (i ∷ items) bs
     go true x e rest =
-        let own = (and_parts (same_owner h.owner i.owner) (i.size == h.asked) x).0 in
-        let o_is = owner_eq h.owner i.owner own in
-        let now = cond-true (is_live (b ∷ bs) i.owner) (f i) 0 (live_here i.owner b bs (ap (holds_for i.owner) is ∙ own)) in
-        let before = cond-false (is_live bs i.owner) (f i) 0 (ap (is_live bs) (sym o_is) ∙ n) in
-        let beside = sum_beside items (ap (has_owner items) o_is ∙ d.0) in
+        let owners_agree = (and_parts (same_owner h.owner i.owner) (i.size == h.asked) x).0 in
+        let o_is = owner_eq h.owner i.owner owners_agree in
+        let now = cond-true (is_live (b ∷ bs) i.owner) (f i) 0 (live_here i.owner b bs (ap (holds_for i.owner) is ∙ owners_agree)) in
+        let not_counted_before = cond-false (is_live bs i.owner) (f i) 0 (ap (is_live bs) (sym o_is) ∙ n) in
+        let rest_sum_kept = sum_beside items (ap (has_owner items) o_is ∙ d.0) in
         let same_value = ap f (same_item h.owner h.asked i x) in
-        omega (arith, now, before, beside, same_value)
+        omega (arith, now, not_counted_before, rest_sum_kept, same_value)
     go false x e rest =
-        let apart = not_again i items d.0 e (same_owner h.owner i.owner) refl in
-        let same = ap (λ t. cond t (f i) 0) (live_past i.owner b bs (ap (holds_for i.owner) is ∙ apart)) in
+        let owners_differ = not_again i items d.0 e (same_owner h.owner i.owner) refl in
+        let count_same = ap (λ t. cond t (f i) 0) (live_past i.owner b bs (ap (holds_for i.owner) is ∙ owners_differ)) in
         let rest_sum = rest e in
-        omega (arith, same, rest_sum)
+        omega (arith, count_same, rest_sum)
 
 -- what live blocks add up to
 abbrev pub held_one : (Item → ℕ) → Option Holding → ℕ
@@ -124,12 +124,12 @@ live_room f [] bs o size e n = absurd (false≢true e)
 live_room f (i ∷ items) bs o size e n = go (same_owner o i.owner && (i.size == size)) refl e (λ k. live_room f items bs o size k n) where
   go : (t : Bool) → (same_owner o i.owner && (i.size == size)) ≡ t → (t || has_item items o size) ≡ true → (has_item items o size ≡ true → f (item o size) + live_sum f items bs ≤ sum_by f items) → f (item o size) + live_sum f (i ∷ items) bs ≤ sum_by f (i ∷ items)
   go true x e rest =
-      let own = (and_parts (same_owner o i.owner) (i.size == size) x).0 in
-      let before = cond-false (is_live bs i.owner) (f i) 0 (ap (is_live bs) (sym (owner_eq o i.owner own)) ∙ n) in
+      let owners_agree = (and_parts (same_owner o i.owner) (i.size == size) x).0 in
+      let not_counted_before = cond-false (is_live bs i.owner) (f i) 0 (ap (is_live bs) (sym (owner_eq o i.owner owners_agree)) ∙ n) in
       let same_value = ap f (same_item o size i x) in
       let rest_is_most = live_most f items bs in
       let sum_of_all = sum_by-cons f i items in
-      omega (arith, before, same_value, rest_is_most, sum_of_all)
+      omega (arith, not_counted_before, same_value, rest_is_most, sum_of_all)
   go false x e rest =
       let rest_has_room = rest e in
       let sum_of_all = sum_by-cons f i items in

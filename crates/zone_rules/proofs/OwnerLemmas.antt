@@ -17,8 +17,8 @@ owned_on o b [] = refl
 owned_on o b (c ∷ cs) = go (is_free b && is_free c) refl where
   go : (t : Bool) → (is_free b && is_free c) ≡ t → owned_block o (cond t (free_block b.place (b.size + c.size) ∷ cs) (b ∷ c ∷ cs)) ≡ owned_block o (b ∷ c ∷ cs)
   go true e =
-      let parts = and_parts (is_free b) (is_free c) e in
-      sym (cond-false (is_held_by o b) (Some b) (owned_block o (c ∷ cs)) (free_holds_none o b.holding parts.0) ∙ cond-false (is_held_by o c) (Some c) (owned_block o cs) (free_holds_none o c.holding parts.1))
+      let both_free = and_parts (is_free b) (is_free c) e in
+      sym (cond-false (is_held_by o b) (Some b) (owned_block o (c ∷ cs)) (free_holds_none o b.holding both_free.0) ∙ cond-false (is_held_by o c) (Some c) (owned_block o cs) (free_holds_none o c.holding both_free.1))
   go false e = refl
 
 pub owned_block-join_free : (o : Owner) (bs : List Block) → owned_block o (join_free bs) ≡ owned_block o bs
@@ -30,7 +30,7 @@ none_owned o [] l = refl
 none_owned o (b ∷ bs) l = cond-false (is_held_by o b) (Some b) (owned_block o bs) l.0 ∙ none_owned o bs l.1
 
 pub owner_eq : (a b : Owner) → same_owner a b ≡ true → a ≡ b
-owner_eq a b e = let parts = and_parts (a.kind == b.kind) (a.number == b.number) e in let same_kind = eqb-true a.kind b.kind parts.0 in let same_number = eqb-true a.number b.number parts.1 in λ i. record { kind = same_kind i; number = same_number i }
+owner_eq a b e = let kind_and_number = and_parts (a.kind == b.kind) (a.number == b.number) e in let same_kind = eqb-true a.kind b.kind kind_and_number.0 in let same_number = eqb-true a.number b.number kind_and_number.1 in λ i. record { kind = same_kind i; number = same_number i }
 
 pub lacks_held : (o : Owner) (h : Option Holding) (bs : List Block) → holds_for o h ≡ true → OwnsOnce h bs → Lacks o bs
 lacks_held o None bs e u = absurd (false≢true e)

@@ -11,7 +11,7 @@ use Rattle.zone_rules.proofs.TakeLemmas.{InRange, take_at_is, tiles_cut_block, a
 
 pub few_tiles : (p q : ℕ) (bs : List Block) → Tiles p q bs → p + 24 * length bs ≤ q
 few_tiles p q [] t = omega arith
-few_tiles p q (b ∷ bs) t = let rest_fits = few_tiles (p + b.size) q bs t.2 in let one_more : length (b ∷ bs) ≡ length bs + 1 = omega arith in omega arith
+few_tiles p q (b ∷ bs) t = let rest_fits = few_tiles (p + b.size) q bs t.2 in let length_grows : length (b ∷ bs) ≡ length bs + 1 = omega arith in omega arith
 
 -- after a search
 pub searched_tiles : (wanted : ℕ) (z : Heap) → IsSound z → Tiles 0 z.size (after_search wanted z)

@@ -49,7 +49,7 @@ module _ (p size wanted : ℕ) (h : Holding) where
   fit_cut l m rest b le f r = go (nat_lt 64 (size - wanted)) refl where
     go : (u : Bool) → nat_lt 64 (size - wanted) ≡ u → AllFit l m (cond u (record { place = p; size = wanted; holding = Some h } ∷ free_block (p + wanted) (size - wanted) ∷ []) (record { place = p; size = size; holding = Some h } ∷ []) ++ rest)
     go true x = (f wanted (omega arith) (omega arith), (tt, r))
-    go false x = let small = ltb-false 64 (size - wanted) x in (f size (omega arith) (omega arith), r)
+    go false x = let rest_is_small = ltb-false 64 (size - wanted) x in (f size (omega arith) (omega arith), r)
 
   pub fit_cut_block : (l m : ℕ) (front rest : List Block) → (block_size h.asked ≡ wanted) → wanted ≤ size → ((s : ℕ) → block_size h.asked ≤ s → s ≤ block_size h.asked + 64 → FitsHolding l m s (Some h)) → AllFit l m (front ++ (fb ∷ rest)) → AllFit l m (front ++ (cut ++ rest))
   fit_cut_block l m [] rest b le f a = fit_cut l m rest b le f a.1

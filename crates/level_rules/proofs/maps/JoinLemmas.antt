@@ -27,8 +27,8 @@ line_field-none_at sides vertexes lines segs k d e f l =
 -- the first seg of a leaf is there
 pub leaf_first-there : (segs : ℕ) (leaves : List MapLeaf) (k : ℕ) (d : MapLeaf) → first_refusal (leaf_refusal segs) 0 leaves ≡ None → k < length leaves → (slice_index_or leaves k d).first < segs
 leaf_first-there segs leaves k d e l =
-    let parts = leaf_refusal-none segs _ (slice_index_or leaves k d) (first_refusal-none (leaf_refusal segs) 0 leaves e k d l) in
-    omega (arith, parts.0, parts.1)
+    let count_and_last = leaf_refusal-none segs _ (slice_index_or leaves k d) (first_refusal-none (leaf_refusal segs) 0 leaves e k d l) in
+    omega (arith, count_and_last.0, count_and_last.1)
 
 -- what holds of records of which nothing is refused
 pub record AreRight (m : MapRecords) : Type 0 where
@@ -44,9 +44,9 @@ pub records_refusal-none : (m : MapRecords) → records_refusal m ≡ None → A
 unfolding records_refusal range_refusal
 records_refusal-none m e =
     let rest = or_else-none _ _ e in
-    let parts = or_else-none _ _ rest.1 in
-    let lists = or_else-five _ _ _ _ _ parts.0 in
-    record { leaf = rest.0; lines = lists.0; sides = lists.1; segs = lists.2; leaves = lists.3; nodes = lists.4; tree = parts.1 }
+    let lists_and_tree = or_else-none _ _ rest.1 in
+    let lists = or_else-five _ _ _ _ _ lists_and_tree.0 in
+    record { leaf = rest.0; lines = lists.0; sides = lists.1; segs = lists.2; leaves = lists.3; nodes = lists.4; tree = lists_and_tree.1 }
 
 -- a level of these lists
 pub joined_level-lists : (m : MapRecords) (segs : List Seg) (leaves : List Leaf) (root : Child) → segs ≡ joined_segs m → leaves ≡ joined_leaves m → root ≡ root_of m.nodes → record { things = m.things; sides = m.sides; segs = segs; leaves = leaves; nodes = m.nodes; sectors = m.sectors; root = root } ≡ joined_level m

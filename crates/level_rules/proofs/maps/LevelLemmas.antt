@@ -51,6 +51,6 @@ unless-ok (Some r) value v e = cc
 pub level_of-sound : (b : MapBytes) (level : LevelValue) → level_of b ≡ Ok level → IsSound level
 unfolding level_of map_refusal
 level_of-sound b level e =
-    let parts = unless-ok _ (joined_level (records_of b)) level e in
-    let none = or_else-none _ _ parts.0 in
-    subst IsSound parts.1 (joined_level-sound (records_of b) (sizes_refusal-none b none.0) none.1)
+    let unrefused_and_level = unless-ok _ (joined_level (records_of b)) level e in
+    let none_refused = or_else-none _ _ unrefused_and_level.0 in
+    subst IsSound unrefused_and_level.1 (joined_level-sound (records_of b) (sizes_refusal-none b none_refused.0) none_refused.1)

@@ -36,8 +36,8 @@ pub line_field-none : (sides : ℕ) (line : MapLine) → line_field sides line �
 unfolding line_field
 line_field-none sides line e =
     let front = cond-none (is_side sides line.front) _ _ e in
-    let back = cond-none (is_side sides line.back) _ _ front.1 in
-    (front.0, back.0)
+    let back_is_side = cond-none (is_side sides line.back) _ _ front.1 in
+    (front.0, back_is_side.0)
 
 side_on-go : (sides front back : ℕ) (b : Bool) → is_side sides front ≡ true → is_side sides back ≡ true → (cond b front back == NO_SIDE) ≡ false → cond b front back < sides
 side_on-go sides front back true e f h = is_side-there sides front e h
@@ -47,7 +47,7 @@ side_on-go sides front back false e f h = is_side-there sides back f h
 pub side_on-there : (sides k : ℕ) (line : MapLine) → line_field sides line ≡ None → (side_on line k == NO_SIDE) ≡ false → side_on line k < sides
 unfolding side_on
 side_on-there sides k line e h =
-    let parts = line_field-none sides line e in side_on-go sides line.front line.back (k == 0) parts.0 parts.1 h
+    let both_are_sides = line_field-none sides line e in side_on-go sides line.front line.back (k == 0) both_are_sides.0 both_are_sides.1 h
 
 not-true : (b : Bool) → not b ≡ true → b ≡ false
 not-true true e = cc
@@ -60,7 +60,7 @@ has_side-go false c e = cc
 pub has_side-parts : (line : MapLine) (side : ℕ) → has_side line side ≡ true → (side < 2) × ((side_on line side == NO_SIDE) ≡ false)
 unfolding has_side
 has_side-parts line side e =
-    let parts = has_side-go (nat_lt side 2) (side_on line side == NO_SIDE) e in (ltb-true side 2 parts.0, parts.1)
+    let number_and_side = has_side-go (nat_lt side 2) (side_on line side == NO_SIDE) e in (ltb-true side 2 number_and_side.0, number_and_side.1)
 
 -- a seg that is not refused has two vertices and a line, and that line has its side
 pub seg_field-none : (vertexes : ℕ) (lines : List MapLine) (seg : MapSeg) → seg_field vertexes lines seg ≡ None → (seg.start < vertexes) × (seg.end < vertexes) × (seg.line < length lines) × (has_side (line_by lines seg.line) seg.side ≡ true)
@@ -96,8 +96,8 @@ pub node_refusal-none : (nodes leaves n : ℕ) (node : Node) → node_refusal no
 unfolding node_refusal node_field
 node_refusal-none nodes leaves n node e =
     let front = cond-none (is_there nodes leaves (child_on node 0)) _ _ (index_refusal-none lump.Nodes n _ e) in
-    let back = cond-none (is_there nodes leaves (child_on node 1)) _ _ front.1 in
-    (front.0, back.0)
+    let back_child_there = cond-none (is_there nodes leaves (child_on node 1)) _ _ front.1 in
+    (front.0, back_child_there.0)
 
 pub line_refusal-none : (sides n : ℕ) (line : MapLine) → line_refusal sides n line ≡ None → line_field sides line ≡ None
 unfolding line_refusal

@@ -13,10 +13,10 @@ use Rattle.level_rules.proofs.maps.VisitLemmas.{visits_refusal-append, visits_re
 pub child_passes : (passes : Child → Bool) (node : Node) (side : ℕ) → side ≤ 1 → (passes (child_on node 0) && passes (child_on node 1)) ≡ true →
     passes (child_on node side) ≡ true
 child_passes passes node side low both =
-    let each = and_parts (passes (child_on node 0)) (passes (child_on node 1)) both in
+    let both_pass = and_parts (passes (child_on node 0)) (passes (child_on node 1)) both in
     elim (cases_eq side 0) [
-      | inl front ↦ ap (λ (s : ℕ). passes (child_on node s)) front ∙ each.0
-      | inr behind ↦ (let back : side ≡ 1 = omega arith in ap (λ (s : ℕ). passes (child_on node s)) back ∙ each.1)
+      | inl front ↦ ap (λ (s : ℕ). passes (child_on node s)) front ∙ both_pass.0
+      | inr behind ↦ (let side_is_back : side ≡ 1 = omega arith in ap (λ (s : ℕ). passes (child_on node s)) side_is_back ∙ both_pass.1)
     ]
 
 -- a visit past the limit is refused
@@ -32,8 +32,8 @@ within-node : (nodes : List Node) (k : ℕ) (reached : List Bool) (visits : Chil
 unfolding visits_of
 within-node nodes k reached visits h None e = refl
 within-node nodes k reached visits h (Some node) e =
-    let parts = or_else-none _ _ (sym (visits_refusal-append reached (visits (child_on node 0)) (visits (child_on node 1))) ∙ e) in
-    rw (h (child_on node 0) reached parts.0, h (child_on node 1) _ parts.1) refl
+    let neither_refused = or_else-none _ _ (sym (visits_refusal-append reached (visits (child_on node 0)) (visits (child_on node 1))) ∙ e) in
+    rw (h (child_on node 0) reached neither_refused.0, h (child_on node 1) _ neither_refused.1) refl
 
 -- where no visit is refused, no way is longer than the limit
 pub within : (nodes : List Node) (k depth : ℕ) (c : Child) (reached : List Bool) → k + depth ≡ MAX_DEPTH + 1 →
@@ -43,19 +43,19 @@ within nodes zero depth (LeafChild leaf) reached d e = refl
 within nodes (suc k) depth (LeafChild leaf) reached d e = refl
 within nodes zero depth (NodeChild n) reached d e =
     let deep : depth ≡ MAX_DEPTH + 1 = omega (arith, d) in
-    let parts = or_else-none _ _ (sym (visits_refusal-cons reached (record { node = n; depth = depth }) _) ∙ e) in
-    absurd (visit-deep reached n depth deep parts.0)
+    let neither_refused = or_else-none _ _ (sym (visits_refusal-cons reached (record { node = n; depth = depth }) _) ∙ e) in
+    absurd (visit-deep reached n depth deep neither_refused.0)
 within nodes (suc k) depth (NodeChild n) reached d e =
     let deeper : k + (depth + 1) ≡ MAX_DEPTH + 1 = omega (arith, d) in
-    let parts = or_else-none _ _ (sym (visits_refusal-cons reached (record { node = n; depth = depth }) _) ∙ e) in
-    within-node nodes k (slice_set reached n true) (preorder nodes (suc k) (depth + 1)) (λ c r h. within nodes k (depth + 1) c r deeper h) (slice_get nodes n) parts.1
+    let neither_refused = or_else-none _ _ (sym (visits_refusal-cons reached (record { node = n; depth = depth }) _) ∙ e) in
+    within-node nodes k (slice_set reached n true) (preorder nodes (suc k) (depth + 1)) (λ c r h. within nodes k (depth + 1) c r deeper h) (slice_get nodes n) neither_refused.1
 
 more-node : (nodes : List Node) (k depth : ℕ) → ((c : Child) → is_within nodes k c ≡ true → preorder nodes (suc k) depth c ≡ preorder nodes k depth c) → (found : Option Node) → option_map_or (λ node. is_within nodes k (child_on node 0) && is_within nodes k (child_on node 1)) found true ≡ true → visits_of (preorder nodes (suc k) depth) found ≡ visits_of (preorder nodes k depth) found
 unfolding visits_of
 more-node nodes k depth h None e = refl
 more-node nodes k depth h (Some node) e =
-    let parts = and_parts _ _ e in
-    ap₂ ◌++◌ (h (child_on node 0) parts.0) (h (child_on node 1) parts.1)
+    let both_within = and_parts _ _ e in
+    ap₂ ◌++◌ (h (child_on node 0) both_within.0) (h (child_on node 1) both_within.1)
 
 -- in a tree that is no deeper, one level more shows no more
 pub preorder-more : (nodes : List Node) (k depth : ℕ) (c : Child) → is_within nodes k c ≡ true → preorder nodes (suc k) depth c ≡ preorder nodes k depth c
@@ -124,8 +124,8 @@ inside-found : (nodes leaves : ℕ) (visits : Child → List Visit) → ((c : Ch
 unfolding visits_of
 inside-found nodes leaves visits h None e = refl
 inside-found nodes leaves visits h (Some node) e =
-    let parts = and_parts _ _ e in
-    list_all-append (λ v. nat_lt v.node nodes) (visits (child_on node 0)) (visits (child_on node 1)) ∙ rw (h (child_on node 0) parts.0, h (child_on node 1) parts.1) refl
+    let children_there = and_parts _ _ e in
+    list_all-append (λ v. nat_lt v.node nodes) (visits (child_on node 0)) (visits (child_on node 1)) ∙ rw (h (child_on node 0) children_there.0, h (child_on node 1) children_there.1) refl
 
 found-children : (count leaves : ℕ) (some : List Node) (n : ℕ) → list_all (has_children count leaves) some ≡ true →
     option_map_or (has_children count leaves) (slice_get some n) true ≡ true
@@ -160,6 +160,6 @@ unfolding tree_refusal
 tree_refusal-none nodes leaves l e h =
     let inside = preorder-inside nodes (length nodes) leaves (MAX_DEPTH + 1) 1 (root_of nodes) e (root-there nodes leaves l) in
     let limited : is_within nodes MAX_DEPTH (root_of nodes) ≡ true = within nodes MAX_DEPTH 1 (root_of nodes) (replicate (length nodes) false) refl h in
-    let same : preorder nodes (MAX_DEPTH + 1) 1 (root_of nodes) ≡ preorder nodes MAX_DEPTH 1 (root_of nodes) = preorder-more nodes MAX_DEPTH 1 (root_of nodes) limited in
+    let visits_same : preorder nodes (MAX_DEPTH + 1) 1 (root_of nodes) ≡ preorder nodes MAX_DEPTH 1 (root_of nodes) = preorder-more nodes MAX_DEPTH 1 (root_of nodes) limited in
     let single = once-all nodes (replicate (length nodes) false) (preorder nodes (MAX_DEPTH + 1) 1 (root_of nodes)) (length-replicate (length nodes) false) inside h in
-    record { within = limited; once = subst (λ vs. AreOnce vs) same single }
+    record { within = limited; once = subst (λ vs. AreOnce vs) visits_same single }

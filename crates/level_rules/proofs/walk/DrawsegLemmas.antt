@@ -33,8 +33,8 @@ pub drawsegs-room : (es : List Event) (seg first last : ℕ) → length (leaf_fr
 unfolding drawsegs leaf_fragments
 drawsegs-room es seg first last h =
     let fragment : LeafFragment = record { leaf = last_leaf 0 es; seg = seg; first = first; last = last } in
-    let one_more : leaf_fragments 0 (es ++ FragmentEvent seg first last ∷ []) ≡ leaf_fragments 0 es ++ (fragment ∷ []) = leaf_fragments-append 0 es (FragmentEvent seg first last ∷ []) in
-    ap (take MAX_DRAWSEGS) one_more
+    let fragment_added : leaf_fragments 0 (es ++ FragmentEvent seg first last ∷ []) ≡ leaf_fragments 0 es ++ (fragment ∷ []) = leaf_fragments-append 0 es (FragmentEvent seg first last ∷ []) in
+    ap (take MAX_DRAWSEGS) fragment_added
     ∙ take_all MAX_DRAWSEGS (leaf_fragments 0 es ++ (fragment ∷ [])) (omega (arith, length_push (leaf_fragments 0 es) fragment))
     ∙ ap (λ (fs : List LeafFragment). fs ++ (fragment ∷ [])) (sym (take_all MAX_DRAWSEGS (leaf_fragments 0 es) (omega arith)))
 
@@ -44,8 +44,8 @@ pub drawsegs-full : (es : List Event) (seg first last : ℕ) → MAX_DRAWSEGS �
 unfolding drawsegs leaf_fragments
 drawsegs-full es seg first last h =
     let fragment : LeafFragment = record { leaf = last_leaf 0 es; seg = seg; first = first; last = last } in
-    let one_more : leaf_fragments 0 (es ++ FragmentEvent seg first last ∷ []) ≡ leaf_fragments 0 es ++ (fragment ∷ []) = leaf_fragments-append 0 es (FragmentEvent seg first last ∷ []) in
-    ap (take MAX_DRAWSEGS) one_more ∙ take-append-le MAX_DRAWSEGS (leaf_fragments 0 es) (fragment ∷ []) h
+    let fragment_added : leaf_fragments 0 (es ++ FragmentEvent seg first last ∷ []) ≡ leaf_fragments 0 es ++ (fragment ∷ []) = leaf_fragments-append 0 es (FragmentEvent seg first last ∷ []) in
+    ap (take MAX_DRAWSEGS) fragment_added ∙ take-append-le MAX_DRAWSEGS (leaf_fragments 0 es) (fragment ∷ []) h
 
 -- there is room exactly where fewer are drawn than a view keeps
 pub room-drawsegs : (es : List Event) → length (drawsegs es) < MAX_DRAWSEGS → length (leaf_fragments 0 es) < MAX_DRAWSEGS

@@ -8,17 +8,17 @@ pub returns-then-not-allows : goal.returns-then-not-allows
 returns-then-not-allows c =
     let rows = rows_of (found_of c.args.found.now) in
     let of_left = λ (options : List (Bor (List ℕ))). takes_each rows c.args.job.now (map (λ (w : Bor (List ℕ)). w.now) options) in
-    let left = of_left (drop (c.loop-option.option-index + 1) c.args.options.now) in
+    let rest_allowed = of_left (drop (c.loop-option.option-index + 1) c.args.options.now) in
     sym (sym c.loop-option.invariant ∙ at_drop_more of_left c.args.options.now c.loop-option.option-index _ c.loop-option-test.true
-    ∙ ap (λ allowed. allowed && left) (sym c.allows.ensures ∙ c.if-not-allows.true))
+    ∙ ap (λ allowed. allowed && rest_allowed) (sym c.allows.ensures ∙ c.if-not-allows.true))
 
 pub loop-option-preserved : goal.loop-option-preserved
 loop-option-preserved c =
     let rows = rows_of (found_of c.args.found.now) in
     let of_left = λ (options : List (Bor (List ℕ))). takes_each rows c.args.job.now (map (λ (w : Bor (List ℕ)). w.now) options) in
-    let left = of_left (drop (c.loop-option.option-index + 1) c.args.options.now) in
+    let rest_allowed = of_left (drop (c.loop-option.option-index + 1) c.args.options.now) in
     sym (at_drop_more of_left c.args.options.now c.loop-option.option-index _ c.loop-option-test.true
-    ∙ ap (λ allowed. allowed && left) (sym c.allows.ensures ∙ c.if-not-allows.false)) ∙ c.loop-option.invariant
+    ∙ ap (λ allowed. allowed && rest_allowed) (sym c.allows.ensures ∙ c.if-not-allows.false)) ∙ c.loop-option.invariant
 
 pub returns : goal.returns
 returns c =

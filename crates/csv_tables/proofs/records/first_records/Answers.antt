@@ -13,11 +13,11 @@ loop-row-init c =
     let flexible_set = c.flexible.ensures in
     let start = c.into_iter-row-iterator.ensures.into_iter_gives ∙ refl in
     let rdr = c.into_byte_records-row-items.ensures.rdr in
-    let left = c.into_byte_records-row-items.ensures.left in
+    let bytes_left = c.into_byte_records-row-items.ensures.left in
     rw (start, rdr, c.new-rows.ensures.items) (
       rw (flexible_set, headers_set) at reader_is.trim ∙ c.new.ensures.trim,
       inr (inr (rw (flexible_set, headers_set) at reader_is.has_headers, reader_is.headers)),
-      left,
+      bytes_left,
       rw (flexible_set, headers_set) at reader_is.config ∙ c.new.ensures.config,
       strip_bom c.args.bytes.now,
       reader_is.source,
@@ -52,10 +52,10 @@ returns-then-len-limit c =
 
 pub returns : goal.returns
 returns c =
-    let inv = c.loop-row.invariant in
-    let no_next_record = rw c.in-None.is at ((c.next.ensures.steps inv.2 inv.0).0 inv.1) in
-    let none = rows-end (λ (s : Bor (List ℕ)). Some s.now) c.loop-row.row-iterator.rdr c.next.new.self.rdr [] default_config inv.4 inv.3 inv.5 no_next_record in
-    first_records-end c.args.limit c.args.bytes.now inv.4 c.loop-row.row-iterator.rdr.state (map fields_of c.loop-row.rows.items) inv.6 none (rw (length-map c.loop-row.rows.items fields_of) inv.7)
+    let inv = c.loop-row.invariant in let no_next_record = rw c.in-None.is at ((c.next.ensures.steps inv.2 inv.0).0 inv.1) in
+    let no_rows_left = rows-end (λ (s : Bor (List ℕ)). Some s.now) c.loop-row.row-iterator.rdr c.next.new.self.rdr [] default_config
+    inv.4 inv.3 inv.5 no_next_record in
+    first_records-end c.args.limit c.args.bytes.now inv.4 c.loop-row.row-iterator.rdr.state (map fields_of c.loop-row.rows.items) inv.6 no_rows_left (rw (length-map c.loop-row.rows.items fields_of) inv.7)
 
 pub prove-unreachable-requires : goal.prove-unreachable-requires
 prove-unreachable-requires c =

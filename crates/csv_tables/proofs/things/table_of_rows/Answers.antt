@@ -22,10 +22,10 @@ loop-i-preserved c =
     let items = rw push_is_ok at c.push.ensures.items in
     let line_read = rw c.deref.ensures.value at c.in-Ok-read_line.ensures.value in
     let new = rw c.deref.ensures.value at c.in-Ok-read_line.ensures.new in
-    let small : line.kind < TYPES = omega (arith, c.in-Ok-read_line.ensures.range) in
+    let kind_fits : line.kind < TYPES = omega (arith, c.in-Ok-read_line.ensures.range) in
     rw items (record {
       read = read_more _ _ _ _ _ _ _ line inv.read c.loop-i-test.true c.index-rows-i.is line_read c.in-Ok-read_line.ensures.range;
-      numbers = numbers-step c.loop-i.lines.items line c.loop-i.numbers.items (c.loop-i.i + 1) inv.numbers small new (ap (λ n. n + 1) (sym inv.read.count));
+      numbers = numbers-step c.loop-i.lines.items line c.loop-i.numbers.items (c.loop-i.i + 1) inv.numbers kind_fits new (ap (λ n. n + 1) (sym inv.read.count));
     })
 
 pub returns-clause-ok : goal.returns-clause-ok

@@ -6,5 +6,5 @@ use Rattle.lump_cache.proofs.tags.retag.Goals as goal
 -- the block has the tag already
 pub returns-else-ne-clause-zone : goal.returns-else-ne-clause-zone
 returns-else-ne-clause-zone g c =
-    let same : c.args.current ≡ c.args.tag = search rules in
-    sym (unless_same_tag (owner_at g.K.SlotKind.CODE c.args.slot.number) c.args.tag c.args.zone.now c.requires.sound (c.requires.current ∙ ap Some same))
+    let tags_same : c.args.current ≡ c.args.tag = search rules in
+    sym (unless_same_tag (owner_at g.K.SlotKind.CODE c.args.slot.number) c.args.tag c.args.zone.now c.requires.sound (c.requires.current ∙ ap Some tags_same))

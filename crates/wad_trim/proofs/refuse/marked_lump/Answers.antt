@@ -9,9 +9,9 @@ loop-part-init c = sym (marked-none c.args.dir.now.lumps)
 pub loop-part-preserved : goal.loop-part-preserved
 loop-part-preserved c =
     let lumps = c.args.dir.now.lumps in
-    let parts = c.args.parts.now in
+    let all_parts = c.args.parts.now in
     let part_no = c.loop-part.part-index in
     c.lesser-least.ensures
     ∙ ap (λ (o : Option ℕ). lesser o (option_map (λ (l : LumpNo). l.0) c.marked_part.result)) c.loop-part.invariant
-    ∙ ap (lesser (marked_lump lumps (take part_no parts))) (c.marked_part.ensures ∙ ap (λ (p : TrimPart). marked_lump lumps (p ∷ [])) c.part-item.is)
-    ∙ sym (marked-more lumps parts part_no c.part-item.result (omega arith))
+    ∙ ap (lesser (marked_lump lumps (take part_no all_parts))) (c.marked_part.ensures ∙ ap (λ (p : TrimPart). marked_lump lumps (p ∷ [])) c.part-item.is)
+    ∙ sym (marked-more lumps all_parts part_no c.part-item.result (omega arith))

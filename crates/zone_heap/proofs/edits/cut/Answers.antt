@@ -30,11 +30,11 @@ module _ (a c b : List ℕ) (place wanted : ℕ) (at : length a ≡ place) (room
       let whole : a ++ (c ++ b) ≡ a ++ (f ++ (g ++ b)) = ap (λ xs. a ++ xs) (ap (λ xs. xs ++ b) (sym (take-append-drop wanted c)) ∙ append_assoc f g b) in
       let size_written : with_word (a ++ (c ++ b)) place wanted ≡ (a ++ f1) ++ (g ++ b) =
       ap (λ xs. with_word xs place wanted) whole ∙ written_within a f (g ++ b) 0 place wanted (omega arith) (omega arith) ∙ sym (append_assoc a f1 (g ++ b)) in
-      let here : place + wanted ≡ length (a ++ f1) + 0 = let place_is = length-append a f1 in omega arith in
-      let there : place + wanted ≡ length (a ++ f1) = let place_is = length-append a f1 in omega arith in
-      let rest_written = ap (λ xs. with_word xs (place + wanted) n) size_written ∙ written_within (a ++ f1) g b 0 (place + wanted) n here (omega arith) in
+      let rest_start : place + wanted ≡ length (a ++ f1) + 0 = let place_is = length-append a f1 in omega arith in
+      let rest_place_is : place + wanted ≡ length (a ++ f1) = let place_is = length-append a f1 in omega arith in
+      let rest_written = ap (λ xs. with_word xs (place + wanted) n) size_written ∙ written_within (a ++ f1) g b 0 (place + wanted) n rest_start (omega arith) in
       let rest_kept = length-with_word g 0 n (omega arith) in
-      ap (λ xs. with_use xs (place + wanted) 0 FREE_OWNER 0) rest_written ∙ used_within (a ++ f1) (with_word g 0 n) b (place + wanted) 0 FREE_OWNER 0 there (omega arith) ∙ append_assoc a f1 (with_use (with_word g 0 n) 0 0 FREE_OWNER 0 ++ b)
+      ap (λ xs. with_use xs (place + wanted) 0 FREE_OWNER 0) rest_written ∙ used_within (a ++ f1) (with_word g 0 n) b (place + wanted) 0 FREE_OWNER 0 rest_place_is (omega arith) ∙ append_assoc a f1 (with_use (with_word g 0 n) 0 0 FREE_OWNER 0 ++ b)
 
 pub returns-clause-parts : goal.returns-clause-parts
 returns-clause-parts c = λ a d b is at room told.

@@ -14,7 +14,7 @@ pub loop-next-init : goal.loop-next-init
 loop-next-init c = record {
   split = split_first c.args.region.now c.requires.laid;
   inside = c.requires.some;
-  size = let told = c.word_at-next.ensures in omega arith;
+  size = let size_told = c.word_at-next.ensures in omega arith;
   len = refl;
   value = ap join_free (blocks_laid c.args.region.now c.requires.laid);
 }
@@ -93,19 +93,19 @@ module _ (region : List ℕ) (at next : ℕ) (s : IsSplit region at) (inside : a
 
   last_value : length region ≤ next → join_free (blocks_from at s.rest) ≡ blocks_from at s.rest
   last_value le =
-      let none = nothing_left region next behind le in
-      let blocks_are_one = first.blocks ∙ ap (λ cs. block_in at first.part ∷ blocks_from (at + word_at region at) cs) none in
+      let no_parts_left = nothing_left region next behind le in
+      let blocks_are_one = first.blocks ∙ ap (λ cs. block_in at first.part ∷ blocks_from (at + word_at region at) cs) no_parts_left in
       ap join_free blocks_are_one ∙ sym blocks_are_one
 
 pub word_at-requires : goal.word_at-requires
-word_at-requires c = let known = c.loop-next.invariant in let bounds_hold = bounds _ _ _ known.split known.inside known.size c.loop-next-test.true in
+word_at-requires c = let so_far = c.loop-next.invariant in let bounds_hold = bounds _ _ _ so_far.split so_far.inside so_far.size c.loop-next-test.true in
     let next_fits = bounds_hold.1 in omega arith
 
 pub are_free-requires-clause-first : goal.are_free-requires-clause-first
-are_free-requires-clause-first c = let known = c.loop-next.invariant in (bounds _ _ _ known.split known.inside known.size c.loop-next-test.true).0
+are_free-requires-clause-first c = let so_far = c.loop-next.invariant in (bounds _ _ _ so_far.split so_far.inside so_far.size c.loop-next-test.true).0
 
 pub are_free-requires-clause-second : goal.are_free-requires-clause-second
-are_free-requires-clause-second c = let known = c.loop-next.invariant in (bounds _ _ _ known.split known.inside known.size c.loop-next-test.true).1
+are_free-requires-clause-second c = let so_far = c.loop-next.invariant in (bounds _ _ _ so_far.split so_far.inside so_far.size c.loop-next-test.true).1
 
 -- the size of the joined block
 grown : (region : List ℕ) (at next : ℕ) (s : IsSplit region at) (inside : at < length region) (size : next ≡ at + word_at region at) (more : next < length region) (n : ℕ) → n ≡ word_at region next → next + n - at ≡ length (first region at next s inside size).part + length (second region at next s inside size more).part
@@ -115,68 +115,68 @@ grown region at next s inside size more n e =
 
 pub overflow_cast-after-then-are_free : goal.overflow_cast-after-then-are_free
 overflow_cast-after-then-are_free c =
-    let known = c.loop-next.invariant in
-    let bounds_hold = bounds _ _ _ known.split known.inside known.size c.loop-next-test.true in
-    let next_fits = bounds_hold.2 in let told = c.word_at.ensures in let length_kept = known.len in
+    let so_far = c.loop-next.invariant in
+    let bounds_hold = bounds _ _ _ so_far.split so_far.inside so_far.size c.loop-next-test.true in
+    let next_fits = bounds_hold.2 in let size_told = c.word_at.ensures in let length_kept = so_far.len in
     let size_small : c.loop-next.next + c.word_at.result - c.loop-next.at < 4294967296 = omega arith in
     search rules
 
 pub set_word-requires : goal.set_word-requires
-set_word-requires c = let known = c.loop-next.invariant in let bounds_hold = bounds _ _ _ known.split known.inside known.size c.loop-next-test.true in
+set_word-requires c = let so_far = c.loop-next.invariant in let bounds_hold = bounds _ _ _ so_far.split so_far.inside so_far.size c.loop-next-test.true in
     let header_fits = bounds_hold.0 in omega arith
 
 pub loop-next-smaller-then-are_free : goal.loop-next-smaller-then-are_free
 loop-next-smaller-then-are_free c =
-    let known = c.loop-next.invariant in
-    let bounds_hold = bounds _ _ _ known.split known.inside known.size c.loop-next-test.true in
-    let header_fits = bounds_hold.0 in let next_large = bounds_hold.3 in let told = c.word_at.ensures in
+    let so_far = c.loop-next.invariant in
+    let bounds_hold = bounds _ _ _ so_far.split so_far.inside so_far.size c.loop-next-test.true in
+    let header_fits = bounds_hold.0 in let next_large = bounds_hold.3 in let size_told = c.word_at.ensures in
     let length_kept = ap length c.set_word.ensures
     ∙ length-with_word c.loop-next.region c.loop-next.at (c.loop-next.next + c.word_at.result - c.loop-next.at) (omega arith) in
     omega arith
 
 pub loop-next-smaller : goal.loop-next-smaller
 loop-next-smaller c =
-    let known = c.loop-next.invariant in
-    let bounds_hold = bounds _ _ _ known.split known.inside known.size c.loop-next-test.true in
-    let next_large = bounds_hold.3 in let told = c.word_at.ensures in omega arith
+    let so_far = c.loop-next.invariant in
+    let bounds_hold = bounds _ _ _ so_far.split so_far.inside so_far.size c.loop-next-test.true in
+    let next_large = bounds_hold.3 in let size_told = c.word_at.ensures in omega arith
 
 pub loop-next-preserved-then-are_free : goal.loop-next-preserved-then-are_free
 loop-next-preserved-then-are_free c =
-    let known = c.loop-next.invariant in let region = c.loop-next.region in let at = c.loop-next.at in
-    let next = c.loop-next.next in let more = c.loop-next-test.true in let size_joined = next + c.word_at.result - at in
-    let bounds_hold = bounds _ _ _ known.split known.inside known.size more in
-    let next_fits = bounds_hold.2 in let told = c.word_at.ensures in let length_kept = known.len in
-    let size_is = grown _ _ _ known.split known.inside known.size more c.word_at.result told in
-    let small : length (first _ _ _ known.split known.inside known.size).part + length (second _ _ _ known.split known.inside known.size more).part < 4294967296 = omega arith in
-    let free = and_parts _ _ (sym (tests _ _ _ known.split known.inside known.size more) ∙ sym c.are_free.ensures ∙ c.if-are_free.true) in
-    let joint_length = joint_len _ _ _ known.split known.inside known.size more size_joined size_is small in
-    let word_written = joint_word _ _ _ known.split known.inside known.size more size_joined size_is small in
-    let next_is = known.size in
-    subst (λ xs. JoinedTo c.args.region.now xs at (next + c.word_at.result)) (sym c.set_word.ensures) (record {
-      split = joint _ _ _ known.split known.inside known.size more size_joined size_is small;
-      inside = let inside_before = known.inside in omega arith;
+    let so_far = c.loop-next.invariant in let region = c.loop-next.region in let place = c.loop-next.at in
+    let next = c.loop-next.next in let next_inside = c.loop-next-test.true in let size_joined = next + c.word_at.result - place in
+    let bounds_hold = bounds _ _ _ so_far.split so_far.inside so_far.size next_inside in
+    let next_fits = bounds_hold.2 in let size_told = c.word_at.ensures in let length_kept = so_far.len in
+    let size_is = grown _ _ _ so_far.split so_far.inside so_far.size next_inside c.word_at.result size_told in
+    let joint_small : length (first _ _ _ so_far.split so_far.inside so_far.size).part + length (second _ _ _ so_far.split so_far.inside so_far.size next_inside).part < 4294967296 = omega arith in
+    let free = and_parts _ _ (sym (tests _ _ _ so_far.split so_far.inside so_far.size next_inside) ∙ sym c.are_free.ensures ∙ c.if-are_free.true) in
+    let joint_length = joint_len _ _ _ so_far.split so_far.inside so_far.size next_inside size_joined size_is joint_small in
+    let word_written = joint_word _ _ _ so_far.split so_far.inside so_far.size next_inside size_joined size_is joint_small in
+    let next_is = so_far.size in
+    subst (λ xs. JoinedTo c.args.region.now xs place (next + c.word_at.result)) (sym c.set_word.ensures) (record {
+      split = joint _ _ _ so_far.split so_far.inside so_far.size next_inside size_joined size_is joint_small;
+      inside = let inside_before = so_far.inside in omega arith;
       size = omega arith;
       len = joint_length ∙ length_kept;
-      value = known.value ∙ ap (λ bs. blocks_from 0 known.split.front ++ bs) (joint_value _ _ _ known.split known.inside known.size more size_joined size_is small free.0 free.1);
+      value = so_far.value ∙ ap (λ bs. blocks_from 0 so_far.split.front ++ bs) (joint_value _ _ _ so_far.split so_far.inside so_far.size next_inside size_joined size_is joint_small free.0 free.1);
     })
 
 pub loop-next-preserved : goal.loop-next-preserved
 loop-next-preserved c =
-    let known = c.loop-next.invariant in let more = c.loop-next-test.true in
+    let so_far = c.loop-next.invariant in let next_inside = c.loop-next-test.true in
     record {
-      split = behind _ _ _ known.split known.inside known.size;
-      inside = more;
+      split = behind _ _ _ so_far.split so_far.inside so_far.size;
+      inside = next_inside;
       size = ap (λ k. c.loop-next.next + k) c.word_at.ensures;
-      len = known.len;
-      value = known.value ∙ passed_value _ _ _ known.split known.inside known.size more (sym (tests _ _ _ known.split known.inside known.size more) ∙ sym c.are_free.ensures ∙ c.if-are_free.false);
+      len = so_far.len;
+      value = so_far.value ∙ passed_value _ _ _ so_far.split so_far.inside so_far.size next_inside (sym (tests _ _ _ so_far.split so_far.inside so_far.size next_inside) ∙ sym c.are_free.ensures ∙ c.if-are_free.false);
     }
 
 pub returns : goal.returns
 returns c =
-    let known = c.loop-next.invariant in let region = c.loop-next.region in
-    let last = last_value region c.loop-next.at c.loop-next.next known.split known.inside known.size (omega arith) in
+    let so_far = c.loop-next.invariant in let region = c.loop-next.region in
+    let last = last_value region c.loop-next.at c.loop-next.next so_far.split so_far.inside so_far.size (omega arith) in
     record {
-      laid = split_laid region c.loop-next.at known.split;
-      blocks = blocks_split region c.loop-next.at known.split ∙ ap (λ bs. blocks_from 0 known.split.front ++ bs) (sym last) ∙ sym known.value;
-      len = known.len;
+      laid = split_laid region c.loop-next.at so_far.split;
+      blocks = blocks_split region c.loop-next.at so_far.split ∙ ap (λ bs. blocks_from 0 so_far.split.front ++ bs) (sym last) ∙ sym so_far.value;
+      len = so_far.len;
     }

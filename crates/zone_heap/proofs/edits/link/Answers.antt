@@ -73,10 +73,10 @@ module _ (region : List ℕ) (at n : ℕ) (s : IsSplit region at) (o : Opened re
 
   next_blocks : blocks_in after ≡ blocks_in region
   next_blocks =
-      let front_length = s.at_is in let back = blocks_from (at + n) o.next.rest in
-      blocks_split after (at + n) next ∙ ap (λ bs. bs ++ back) (blocks_next region at n s o part same told after after_is)
-      ∙ append_assoc (blocks_from 0 s.front) (block_in at part ∷ []) back
-      ∙ ap (λ b. blocks_from 0 s.front ++ (b ∷ back)) (block-relinked o.part (ring_place (at + n) end') previous large at)
+      let front_length = s.at_is in let blocks_behind = blocks_from (at + n) o.next.rest in
+      blocks_split after (at + n) next ∙ ap (λ bs. bs ++ blocks_behind) (blocks_next region at n s o part same told after after_is)
+      ∙ append_assoc (blocks_from 0 s.front) (block_in at part ∷ []) blocks_behind
+      ∙ ap (λ b. blocks_from 0 s.front ++ (b ∷ blocks_behind)) (block-relinked o.part (ring_place (at + n) end') previous large at)
       ∙ ap (λ bs. blocks_from 0 s.front ++ bs) (sym o.blocks) ∙ sym (blocks_split region at s)
 
 -- the ring closed
@@ -92,30 +92,30 @@ closed region at previous s none pos low linked last = go s.front refl s.front_w
   go [] e w l m = absurd (let front_empty = ap (λ cs. length (joined cs)) (sym e) in let front_length = s.at_is in omega arith)
   go (c ∷ cs) e w l m =
       let large : HEADER_SIZE ≤ length c = w.0 in
-      let is : region ≡ c ++ joined cs = s.is ∙ ap₂ (λ xs ys. joined xs ++ joined ys) e none ∙ append-nil (c ++ joined cs) in
-      let ringed_part = with_word c 20 previous in let same = length-ringed c previous large in
+      let region_is : region ≡ c ++ joined cs = s.is ∙ ap₂ (λ xs ys. joined xs ++ joined ys) e none ∙ append-nil (c ++ joined cs) in
+      let ringed_part = with_word c 20 previous in let length_same = length-ringed c previous large in
       let after : with_word region 20 previous ≡ ringed_part ++ joined cs =
-      ap (λ xs. with_word xs 20 previous) is ∙ written_in_front c (joined cs) 20 previous (omega arith) in
+      ap (λ xs. with_word xs 20 previous) region_is ∙ written_in_front c (joined cs) 20 previous (omega arith) in
       let laid : IsLaid (with_word region 20 previous) =
-      record { parts = ringed_part ∷ cs; is = after; whole = (omega arith, word-ringed c previous large 0 (omega arith) ∙ w.1 ∙ sym same, w.2) } in
-      let len = length-with_word region 20 previous (let region_length = ap length is ∙ length-append c (joined cs) in omega arith) in
+      record { parts = ringed_part ∷ cs; is = after; whole = (omega arith, word-ringed c previous large 0 (omega arith) ∙ w.1 ∙ sym length_same, w.2) } in
+      let len = length-with_word region 20 previous (let region_length = ap length region_is ∙ length-append c (joined cs) in omega arith) in
       record {
         ring = record {
           laid = laid;
-          linked = subst (λ n. AreLinked n (last_place 0 0 (ringed_part ∷ cs)) 0 (ringed_part ∷ cs)) (sym len) (subst (λ n. AreLinked (length region) n 0 (ringed_part ∷ cs)) (sym m ∙ last-any 0 0 0 c ringed_part cs (sym same)) (linked-ringed c previous large (length region) 0 0 cs low l));
+          linked = subst (λ n. AreLinked n (last_place 0 0 (ringed_part ∷ cs)) 0 (ringed_part ∷ cs)) (sym len) (subst (λ n. AreLinked (length region) n 0 (ringed_part ∷ cs)) (sym m ∙ last-any 0 0 0 c ringed_part cs (sym length_same)) (linked-ringed c previous large (length region) 0 0 cs low l));
         };
         blocks = blocks_laid (with_word region 20 previous) laid
-            ∙ ap₂ (λ b n. b ∷ blocks_from (0 + n) cs) (block-ringed c previous large 0) same
-            ∙ sym (blocks_laid region (record { parts = c ∷ cs; is = is; whole = w }));
+            ∙ ap₂ (λ b n. b ∷ blocks_from (0 + n) cs) (block-ringed c previous large 0) length_same
+            ∙ sym (blocks_laid region (record { parts = c ∷ cs; is = region_is; whole = w }));
         len = len;
       }
 
 pub loop-at-smaller : goal.loop-at-smaller
 loop-at-smaller c =
-    let known = c.loop-at.invariant in
-    let block = opened_word c.loop-at.region c.loop-at.at known.split c.loop-at-test.true c.word_at.result c.word_at.ensures in
+    let so_far = c.loop-at.invariant in
+    let block = opened_word c.loop-at.region c.loop-at.at so_far.split c.loop-at-test.true c.word_at.result c.word_at.ensures in
     let block_large = block.large in let block_fits = block.fits in
-    let header_fits = head_fits c.loop-at.region c.loop-at.at known.split c.loop-at-test.true in
+    let header_fits = head_fits c.loop-at.region c.loop-at.at so_far.split c.loop-at-test.true in
     let next_written_length = ap length c.set_word.ensures ∙ length-with_word c.loop-at.region (c.loop-at.at + 16) c.ring_place.result (omega arith) in
     let previous_written_length = ap length c.set_word-in-loop-at.ensures
     ∙ length-with_word c.set_word.new.region (c.loop-at.at + 20) c.loop-at.previous (omega arith) in
@@ -127,35 +127,35 @@ set_word-requires-2 c = let header_fits = head_fits c.args.region.now 0 (split_f
 
 pub loop-at-preserved : goal.loop-at-preserved
 loop-at-preserved c =
-    let known = c.loop-at.invariant in let at = c.loop-at.at in let size = c.word_at.result in let region = c.loop-at.region in
-    let end' = length region in
-    let block = opened_word region at known.split c.loop-at-test.true size c.word_at.ensures in
-    let block_fits = block.fits in let low = known.low in let len = known.len in
-    let is : c.set_word-in-loop-at.new.region ≡ with_word (with_word region (at + 16) (ring_place (at + size) end')) (at + 20) c.loop-at.previous =
-    c.set_word-in-loop-at.ensures
-    ∙ ap (λ xs. with_word xs (at + 20) c.loop-at.previous) (c.set_word.ensures ∙ ap (with_word region (at + 16)) c.ring_place.ensures.value) in
-    let ring : ring_place (at + size) end' < 4294967296 =
+    let so_far = c.loop-at.invariant in let place = c.loop-at.at in let size = c.word_at.result in let region = c.loop-at.region in
+    let end' = length region in let block = opened_word region place so_far.split c.loop-at-test.true size c.word_at.ensures in
+    let block_fits = block.fits in let low = so_far.low in let len = so_far.len in
+    let region_written : c.set_word-in-loop-at.new.region
+    ≡ with_word (with_word region (place + 16) (ring_place (place + size) end')) (place + 20) c.loop-at.previous = c.set_word-in-loop-at.ensures
+    ∙ ap (λ xs. with_word xs (place + 20) c.loop-at.previous) (c.set_word.ensures ∙ ap (with_word region (place + 16)) c.ring_place.ensures.value) in
+    let ring : ring_place (place + size) end' < 4294967296 =
     subst (λ k. k < 4294967296) c.ring_place.ensures.value (let ring_bound = c.ring_place.ensures.bound in omega arith) in
-    let small : end' < 4294967296 = omega arith in let lower : c.loop-at.previous < 4294967296 = omega arith in
-    let grown = next_len region at size known.split block c.loop-at.previous end' refl small lower ring known.linked known.last in
-    subst (λ xs. LinkedTo c.args.region.now xs (at + size) at) (sym is) (record {
-      split = next region at size known.split block c.loop-at.previous end' refl small lower ring known.linked known.last;
+    let end_small : end' < 4294967296 = omega arith in let lower : c.loop-at.previous < 4294967296 = omega arith in
+    let grown = next_len region place size so_far.split block c.loop-at.previous end' refl end_small lower ring so_far.linked so_far.last in
+    subst (λ xs. LinkedTo c.args.region.now xs (place + size) place) (sym region_written) (record {
+      split = next region place size so_far.split block c.loop-at.previous end' refl end_small lower ring so_far.linked so_far.last;
       low = omega arith;
       len = grown ∙ len;
-      linked = subst (λ k. AreLinked k 0 0 (next region at size known.split block c.loop-at.previous end' refl small lower ring known.linked known.last).front)
-          (sym grown) (next_linked region at size known.split block c.loop-at.previous end' refl small lower ring known.linked known.last);
-      last = next_last region at size known.split block c.loop-at.previous end' refl small lower ring known.linked known.last;
-      blocks = next_blocks region at size known.split block c.loop-at.previous end' refl small lower ring known.linked known.last ∙ known.blocks;
+      linked = subst (λ k. AreLinked k 0 0
+          (next region place size so_far.split block c.loop-at.previous end' refl end_small lower ring so_far.linked so_far.last).front)
+          (sym grown) (next_linked region place size so_far.split block c.loop-at.previous end' refl end_small lower ring so_far.linked so_far.last);
+      last = next_last region place size so_far.split block c.loop-at.previous end' refl end_small lower ring so_far.linked so_far.last;
+      blocks = next_blocks region place size so_far.split block c.loop-at.previous end' refl end_small lower ring so_far.linked so_far.last ∙ so_far.blocks;
     })
 
 pub returns : goal.returns
 returns c =
-    let known = c.loop-at.invariant in
-    let none = nothing_left c.loop-at.region c.loop-at.at known.split (omega arith) in
-    let len = known.len in let le = split_le c.loop-at.region c.loop-at.at known.split in let low = known.low in
-    let ring_closed = closed c.loop-at.region c.loop-at.at c.loop-at.previous known.split none (omega arith) (omega arith) known.linked known.last in
+    let so_far = c.loop-at.invariant in
+    let none_left = nothing_left c.loop-at.region c.loop-at.at so_far.split (omega arith) in
+    let len = so_far.len in let le = split_le c.loop-at.region c.loop-at.at so_far.split in let low = so_far.low in
+    let ring_closed = closed c.loop-at.region c.loop-at.at c.loop-at.previous so_far.split none_left (omega arith) (omega arith) so_far.linked so_far.last in
     record {
       ring = subst IsRing (sym c.set_word-2.ensures) ring_closed.ring;
-      blocks = ap blocks_in c.set_word-2.ensures ∙ ring_closed.blocks ∙ known.blocks;
+      blocks = ap blocks_in c.set_word-2.ensures ∙ ring_closed.blocks ∙ so_far.blocks;
       len = ap length c.set_word-2.ensures ∙ ring_closed.len ∙ len;
     }

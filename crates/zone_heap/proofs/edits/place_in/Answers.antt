@@ -17,15 +17,15 @@ loop-at-smaller c =
 
 pub loop-at-preserved : goal.loop-at-preserved
 loop-at-preserved c =
-    let at = c.loop-at.at in
-    let block = opened_word c.args.region.now at c.loop-at.invariant.split c.loop-at-test.true c.word_at.result c.word_at.ensures in
-    let below : at ≤ c.args.place = omega arith in
-    record { split = block.next; low = omega arith; value = c.loop-at.invariant.value ∙ ap (place_around c.args.place c.loop-at.around) block.blocks ∙ cond-true _ _ _ (le-leb _ _ below) }
+    let place_now = c.loop-at.at in
+    let block = opened_word c.args.region.now place_now c.loop-at.invariant.split c.loop-at-test.true c.word_at.result c.word_at.ensures in
+    let block_before_place : place_now ≤ c.args.place = omega arith in
+    record { split = block.next; low = omega arith; value = c.loop-at.invariant.value ∙ ap (place_around c.args.place c.loop-at.around) block.blocks ∙ cond-true _ _ _ (le-leb _ _ block_before_place) }
 
 pub returns-then-place-at : goal.returns-then-place-at
 returns-then-place-at c =
-    let at = c.loop-at.at in
-    let block = opened_word c.args.region.now at c.loop-at.invariant.split c.loop-at-test.true _ refl in
+    let place_now = c.loop-at.at in
+    let block = opened_word c.args.region.now place_now c.loop-at.invariant.split c.loop-at-test.true _ refl in
     record {
       value = sym (c.loop-at.invariant.value ∙ ap (place_around c.args.place c.loop-at.around) block.blocks ∙ cond-false _ _ _ (lt-leb _ _ c.if-place-at.true));
       bound = c.loop-at.invariant.low;

@@ -19,7 +19,7 @@ pub cut-requires-clause-inside : goal.cut-requires-clause-inside
 cut-requires-clause-inside c =
     let needs = c.requires in
     let bounds = size_here _ _ _ needs.laid needs.small needs.room c.args.used needs.large needs.live needs.owner needs.tag _ c.word_at-size.ensures in
-    let block_fits = bounds.1 in let over = ltb-true _ _ (sym c.is_rest.ensures ∙ c.if-is_rest.true) in omega arith
+    let block_fits = bounds.1 in let rest_is_large = ltb-true _ _ (sym c.is_rest.ensures ∙ c.if-is_rest.true) in omega arith
 
 pub set_use-requires : goal.set_use-requires
 set_use-requires c =
@@ -31,7 +31,7 @@ pub overflow_add-result : goal.overflow_add-result
 overflow_add-result c =
     let needs = c.requires in
     let wanted_fits = inside _ _ _ needs.laid needs.small needs.room c.args.used needs.large needs.live needs.owner needs.tag in
-    let small = needs.small in
+    let region_small = needs.small in
     let place_small : c.args.place + c.args.wanted < 18446744073709551616 = omega arith in
     search rules
 
@@ -45,36 +45,36 @@ pub overflow_add-result-else-is_rest : goal.overflow_add-result-else-is_rest
 overflow_add-result-else-is_rest c =
     let needs = c.requires in
     let bounds = size_here _ _ _ needs.laid needs.small needs.room c.args.used needs.large needs.live needs.owner needs.tag _ c.word_at-size.ensures in
-    let block_fits = bounds.1 in let small = needs.small in
+    let block_fits = bounds.1 in let region_small = needs.small in
     let place_small : c.args.place + c.word_at-size.result < 18446744073709551616 = omega arith in
     search rules
 
 pub returns-then-is_rest : goal.returns-then-is_rest
 returns-then-is_rest c =
     let needs = c.requires in
-    let told = word_here _ _ _ needs.laid needs.small needs.room c.args.used needs.large needs.live needs.owner needs.tag in
-    let size_told = c.word_at-size.ensures ∙ told in let over = ltb-true _ _ (sym c.is_rest.ensures ∙ c.if-is_rest.true) in
+    let size_word_is = word_here _ _ _ needs.laid needs.small needs.room c.args.used needs.large needs.live needs.owner needs.tag in
+    let size_told = c.word_at-size.ensures ∙ size_word_is in let rest_is_large = ltb-true _ _ (sym c.is_rest.ensures ∙ c.if-is_rest.true) in
     let much : MIN_FRAGMENT < needs.room.size - c.args.wanted = omega arith in
     let part_size = size_is _ _ _ needs.laid needs.small needs.room c.args.used needs.large needs.live needs.owner needs.tag in
     let found_part = m _ _ _ needs.laid needs.small needs.room c.args.used needs.large needs.live needs.owner needs.tag in
     let region_parts = region_is _ _ _ needs.laid needs.small needs.room c.args.used needs.large needs.live needs.owner needs.tag in
-    let is = c.cut.ensures.parts (joined found_part.split.front) found_part.part (joined found_part.others)
-    region_parts found_part.split.at_is (omega arith) (told ∙ sym part_size) in
+    let parts_are = c.cut.ensures.parts (joined found_part.split.front) found_part.part (joined found_part.others)
+    region_parts found_part.split.at_is (omega arith) (size_word_is ∙ sym part_size) in
     let block_fits = fits _ _ _ needs.laid needs.small needs.room c.args.used needs.large needs.live needs.owner needs.tag in
     let room_large = needs.room.large in
     record {
-      laid = cut_laid _ _ _ needs.laid needs.small needs.room c.args.used needs.large needs.live needs.owner needs.tag _ _ is c.set_use.ensures much;
-      len = cut_len _ _ _ needs.laid needs.small needs.room c.args.used needs.large needs.live needs.owner needs.tag _ _ is c.set_use.ensures much;
-      blocks = cut_blocks _ _ _ needs.laid needs.small needs.room c.args.used needs.large needs.live needs.owner needs.tag _ _ is c.set_use.ensures much;
-      rover = cut_rover _ _ _ needs.laid needs.small needs.room c.args.used needs.large needs.live needs.owner needs.tag _ _ is c.set_use.ensures much;
+      laid = cut_laid _ _ _ needs.laid needs.small needs.room c.args.used needs.large needs.live needs.owner needs.tag _ _ parts_are c.set_use.ensures much;
+      len = cut_len _ _ _ needs.laid needs.small needs.room c.args.used needs.large needs.live needs.owner needs.tag _ _ parts_are c.set_use.ensures much;
+      blocks = cut_blocks _ _ _ needs.laid needs.small needs.room c.args.used needs.large needs.live needs.owner needs.tag _ _ parts_are c.set_use.ensures much;
+      rover = cut_rover _ _ _ needs.laid needs.small needs.room c.args.used needs.large needs.live needs.owner needs.tag _ _ parts_are c.set_use.ensures much;
       bound = omega arith;
     }
 
 pub returns-else-is_rest : goal.returns-else-is_rest
 returns-else-is_rest c =
     let needs = c.requires in
-    let told = word_here _ _ _ needs.laid needs.small needs.room c.args.used needs.large needs.live needs.owner needs.tag in
-    let size_told = c.word_at-size.ensures ∙ told in let under = ltb-false _ _ (sym c.is_rest.ensures ∙ c.if-is_rest.false) in
+    let size_word_is = word_here _ _ _ needs.laid needs.small needs.room c.args.used needs.large needs.live needs.owner needs.tag in
+    let size_told = c.word_at-size.ensures ∙ size_word_is in let rest_is_little = ltb-false _ _ (sym c.is_rest.ensures ∙ c.if-is_rest.false) in
     let little : needs.room.size - c.args.wanted ≤ MIN_FRAGMENT = omega arith in
     let block_fits = fits _ _ _ needs.laid needs.small needs.room c.args.used needs.large needs.live needs.owner needs.tag in
     let written = c.set_use-else-is_rest.ensures in

@@ -14,11 +14,11 @@ set_word-requires c =
 
 pub returns-clause-ring : goal.returns-clause-ring
 returns-clause-ring c =
-    let known = (goal.at.returns-clause-ring c).After-of-home in
-    subst IsRing (sym (c.set_word.ensures ∙ ap (with_word c.args.region.now (c.of-home.result + 12)) c.tag_code.ensures)) (tagged_ring _ _ _ (it known) c.requires.ring c.requires.unique c.args.tag)
+    let context = (goal.at.returns-clause-ring c).After-of-home in
+    subst IsRing (sym (c.set_word.ensures ∙ ap (with_word c.args.region.now (c.of-home.result + 12)) c.tag_code.ensures)) (tagged_ring _ _ _ (it context) c.requires.ring c.requires.unique c.args.tag)
 
 pub returns-clause-blocks : goal.returns-clause-blocks
 returns-clause-blocks c =
-    let known = (goal.at.returns-clause-blocks c).After-of-home in
+    let context = (goal.at.returns-clause-blocks c).After-of-home in
     ap blocks_in (c.set_word.ensures ∙ ap (with_word c.args.region.now (c.of-home.result + 12)) c.tag_code.ensures)
-    ∙ tagged_blocks _ _ _ (it known) c.requires.ring c.requires.unique c.args.tag
+    ∙ tagged_blocks _ _ _ (it context) c.requires.ring c.requires.unique c.args.tag

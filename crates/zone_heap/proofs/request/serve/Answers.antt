@@ -13,7 +13,7 @@ abbrev z : (c : In-Ok) → Heap
 z c = heap_at c.args.region.now c.args.homes.now c.args.rover
 
 room_is : (c : In-Ok) → RoomAt c.in-Ok.place c.args.request.wanted (blocks_in c.search-room.new.region)
-room_is c = let there = c.search-room.ensures.room in let at = rw c.in-Ok.is at there in at
+room_is c = let room_told = c.search-room.ensures.room in let room_at = rw c.in-Ok.is at room_told in room_at
 
 tiles_is : (c : In-Ok) → Tiles 0 (length c.args.region.now) (blocks_in c.search-room.new.region)
 tiles_is c = subst (Tiles 0 (length c.args.region.now)) (sym c.search-room.ensures.blocks) (searched_tiles c.args.request.wanted (z c) c.requires.sound)
@@ -60,25 +60,25 @@ search-room-requires c = record {
 
 pub returns-in-Ok-clause-exact : goal.returns-in-Ok-clause-exact
 returns-in-Ok-clause-exact c =
-    let known = (goal.at.returns-in-Ok-clause-exact c).In-Ok in let room = room_is known in let homes = c.search-room.new.homes in
+    let context = (goal.at.returns-in-Ok-clause-exact c).In-Ok in let room = room_is context in let homes = c.search-room.new.homes in
     let home = subst (AreHome homes) room.is c.search-room.ensures.home in
-    let lacks = subst (Lacks (owner_in c.args.request.used.owner)) room.is (lacks_is known) in
-    subst (AreExact c.set.new.self) (sym (c.link-in-Ok.ensures.blocks ∙ c.take-next.ensures.blocks ∙ shape known room))
-    (taken_exact homes _ room.front room.rest c.in-Ok.place room.size c.args.request.wanted (new_holding known) home (slot_is known) lacks c.set.ensures)
+    let lacks = subst (Lacks (owner_in c.args.request.used.owner)) room.is (lacks_is context) in
+    subst (AreExact c.set.new.self) (sym (c.link-in-Ok.ensures.blocks ∙ c.take-next.ensures.blocks ∙ shape context room))
+    (taken_exact homes _ room.front room.rest c.in-Ok.place room.size c.args.request.wanted (new_holding context) home (slot_is context) lacks c.set.ensures)
 
 pub returns-in-Ok-clause-some : goal.returns-in-Ok-clause-some
 returns-in-Ok-clause-some c =
-    let known = (goal.at.returns-in-Ok-clause-some c).In-Ok in let room_ends = ends known in
+    let context = (goal.at.returns-in-Ok-clause-some c).In-Ok in let room_ends = ends context in
     let length_kept = c.search-room.ensures.len in let fit = asked_fits c.args.request.used.asked in
     let wanted_is = c.requires.wanted in
     let taken_length = length-take c.args.request.used.asked (drop (c.in-Ok.place + HEADER_SIZE) c.search-room.new.region) in
     let dropped_length = length-drop (c.in-Ok.place + HEADER_SIZE) c.search-room.new.region in
     record {
-      room = subst (RoomAt c.in-Ok.place c.args.request.wanted) c.search-room.ensures.blocks (room_is known);
+      room = subst (RoomAt c.in-Ok.place c.args.request.wanted) c.search-room.ensures.blocks (room_is context);
       bytes = take c.args.request.used.asked (drop (c.in-Ok.place + HEADER_SIZE) c.search-room.new.region);
       len = omega arith;
       blocks = c.link-in-Ok.ensures.blocks ∙ c.take-next.ensures.blocks
-          ∙ ap (take_at c.in-Ok.place c.args.request.wanted (new_holding known)) c.search-room.ensures.blocks;
+          ∙ ap (take_at c.in-Ok.place c.args.request.wanted (new_holding context)) c.search-room.ensures.blocks;
       rover_is = c.ring_place.ensures.value ∙ ap (ring_place c.take-next.result) (c.link-in-Ok.ensures.len ∙ c.take-next.ensures.len)
           ∙ c.take-next.ensures.rover ∙ ap₂ (place_after c.in-Ok.place) length_kept (sym c.link-in-Ok.ensures.blocks);
     }

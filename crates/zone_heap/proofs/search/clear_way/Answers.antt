@@ -71,12 +71,12 @@ module _ (homes : Homes) (rover wanted : ℕ) (region : List ℕ) (q : CanSearch
       → (n : ℕ) → ((s : IsSplit region start) → n ≡ count_by is_purgeable (take e (blocks_from start s.rest)))
       → SearchIs wanted rover (blocks_in region) (Some place) new n × RoomAt place wanted (join_free new)
   found_first fit new left n count =
-      let same = sym (rest_is region q.laid start s) in let here = fit s ∙ ap (fit_from wanted 0 0 0) same in
-      let is = parts_again region q.laid start s new e (left s) in
+      let rest_same = sym (rest_is region q.laid start s) in let fit_here = fit s ∙ ap (fit_from wanted 0 0 0) rest_same in
+      let blocks_are = parts_again region q.laid start s new e (left s) in
       let search_is =
-      fit_first _ _ _ _ _ q.positive (tiles_region region q.laid) q.rover_is _ split.1 place e here in (
-        with_after _ _ _ _ _ _ _ _ search_is is (count s ∙ ap (λ bs. count_by is_purgeable (take e bs)) same),
-        subst (λ bs. RoomAt place wanted (join_free bs)) (sym is) (room_first _ rover _ _ _ q.positive (tiles_region region q.laid) q.apart q.rover_is (length s.front) split.1 place e here),
+      fit_first _ _ _ _ _ q.positive (tiles_region region q.laid) q.rover_is _ split.1 place e fit_here in (
+        with_after _ _ _ _ _ _ _ _ search_is blocks_are (count s ∙ ap (λ bs. count_by is_purgeable (take e bs)) rest_same),
+        subst (λ bs. RoomAt place wanted (join_free bs)) (sym blocks_are) (room_first _ rover _ _ _ q.positive (tiles_region region q.laid) q.apart q.rover_is (length s.front) split.1 place e fit_here),
       )
 
   found_second : ((s : IsSplit region start) → None ≡ fit_from wanted 0 0 0 (blocks_from start s.rest))
@@ -91,10 +91,10 @@ module _ (homes : Homes) (rover wanted : ℕ) (region : List ℕ) (q : CanSearch
       let none_from_start = none s ∙ ap (fit_from wanted 0 0 0) (sym (rest_is region q.laid start s)) in
       let again = fit (split_first region q.laid) ∙ ap (fit_from wanted 0 0 0) (sym (blocks_laid region q.laid)) in
       let clear = cleared region q.laid start s (blocks_in later) (cleared_is s) in
-      let is = from_first later laid new e (left (split_first later laid)) ∙ ap (purged_to e) clear in
+      let blocks_are = from_first later laid new e (left (split_first later laid)) ∙ ap (purged_to e) clear in
       let search_is = fit_second _ _ _ _ _ q.positive (tiles_region region q.laid) q.rover_is _ split.1 place e none_from_start again in (
-        with_after _ _ _ _ _ _ _ _ search_is is (ap₂ ◌+◌ (cleared_count s ∙ counted region q.laid start s) (count (split_first later laid) ∙ ap (λ bs. count_by is_purgeable (take e bs)) (sym (blocks_laid later laid) ∙ clear))),
-        subst (λ bs. RoomAt place wanted (join_free bs)) (sym is) (room_second _ rover _ _ _ q.positive (tiles_region region q.laid) q.apart q.rover_is (length s.front) split.1 place e again),
+        with_after _ _ _ _ _ _ _ _ search_is blocks_are (ap₂ ◌+◌ (cleared_count s ∙ counted region q.laid start s) (count (split_first later laid) ∙ ap (λ bs. count_by is_purgeable (take e bs)) (sym (blocks_laid later laid) ∙ clear))),
+        subst (λ bs. RoomAt place wanted (join_free bs)) (sym blocks_are) (room_second _ rover _ _ _ q.positive (tiles_region region q.laid) q.apart q.rover_is (length s.front) split.1 place e again),
       )
 
 pub first_fit-requires-2-clause-split : goal.first_fit-requires-2-clause-split
@@ -121,9 +121,9 @@ returns-in-Some-first_fit-clause-room c = (found_second _ _ _ _ c.requires _ c.s
 pub returns-clause-search : goal.returns-clause-search
 returns-clause-search c =
     let region = c.args.region.now in let laid = c.requires.laid in let start = c.start_place-start.result in
-    let start_split = c.start_place-start.ensures.split.0 in let at = c.start_place-start.ensures.split.1 in
-    let all = split_first region laid in
+    let start_split = c.start_place-start.ensures.split.0 in let start_told = c.start_place-start.ensures.split.1 in
+    let whole_split = split_first region laid in
     let none_from_start = c.in_default.ensures.value start_split ∙ ap (fit_from c.args.wanted 0 0 0) (sym (rest_is region laid start start_split)) in
-    let again = c.in_default-first_fit.ensures.value all ∙ ap (fit_from c.args.wanted 0 0 0) (sym (blocks_laid region laid)) in
-    let search_is = fit_never _ _ _ _ _ c.requires.positive (tiles_region region laid) c.requires.rover_is _ at none_from_start again in
-    with_after _ _ _ _ _ _ _ _ search_is (cleared region laid 0 all _ (c.purge-purges-2.ensures.blocks all)) (c.purge-purges-2.ensures.count all ∙ counted region laid 0 all)
+    let again = c.in_default-first_fit.ensures.value whole_split ∙ ap (fit_from c.args.wanted 0 0 0) (sym (blocks_laid region laid)) in
+    let search_is = fit_never _ _ _ _ _ c.requires.positive (tiles_region region laid) c.requires.rover_is _ start_told none_from_start again in
+    with_after _ _ _ _ _ _ _ _ search_is (cleared region laid 0 whole_split _ (c.purge-purges-2.ensures.blocks whole_split)) (c.purge-purges-2.ensures.count whole_split ∙ counted region laid 0 whole_split)

@@ -33,9 +33,9 @@ pub free_at-requires-clause-slot : goal.free_at-requires-clause-slot
 free_at-requires-clause-slot c =
     let purged_so_far = c.loop-at.invariant.purged in let header = c.header_at-header.result in
     let block = opened c.loop-at.region c.loop-at.at purged_so_far.split c.loop-at-test.true header c.header_at-header.ensures in
-    let on = sym (purgeable_at c.loop-at.region c.loop-at.at purged_so_far.split header.size block header c.header_at-header.ensures)
+    let purgeable_there = sym (purgeable_at c.loop-at.region c.loop-at.at purged_so_far.split header.size block header c.header_at-header.ensures)
     ∙ sym c.is_purgeable.ensures ∙ c.if-is_purgeable.true in
-    slot_there _ _ _ _ _ _ _ _ purged_so_far header.size block on
+    slot_there _ _ _ _ _ _ _ _ purged_so_far header.size block purgeable_there
 
 pub loop-at-smaller : goal.loop-at-smaller
 loop-at-smaller c =
@@ -49,15 +49,15 @@ loop-at-smaller c =
 
 pub loop-at-preserved : goal.loop-at-preserved
 loop-at-preserved c =
-    let purged_so_far = c.loop-at.invariant.purged in let at = c.loop-at.at in let header = c.header_at-header.result in
-    let block = opened c.loop-at.region at purged_so_far.split c.loop-at-test.true header c.header_at-header.ensures in
-    let told = c.is_purgeable.ensures ∙ purgeable_at c.loop-at.region at purged_so_far.split header.size block header c.header_at-header.ensures in
+    let purged_so_far = c.loop-at.invariant.purged in let place = c.loop-at.at in let header = c.header_at-header.result in
+    let block = opened c.loop-at.region place purged_so_far.split c.loop-at-test.true header c.header_at-header.ensures in
+    let purgeable_is = c.is_purgeable.ensures ∙ purgeable_at c.loop-at.region place purged_so_far.split header.size block header c.header_at-header.ensures in
     record {
       purged = elim c.if-is_purgeable.branch [
         | then-is_purgeable w ↦ rw (w.region-is, w.free_at.ensures.region, w.homes-is, w.count-is)
-            (freed_step _ _ _ _ _ _ _ _ purged_so_far header.size block (sym told ∙ w.if-is_purgeable.true) w.free_at.new.homes w.free_at.ensures.home)
+            (freed_step _ _ _ _ _ _ _ _ purged_so_far header.size block (sym purgeable_is ∙ w.if-is_purgeable.true) w.free_at.new.homes w.free_at.ensures.home)
         | else-is_purgeable w ↦ rw (w.region-is, w.homes-is, w.count-is)
-            (passed_step _ _ _ _ _ _ _ _ purged_so_far header.size block (sym told ∙ w.if-is_purgeable.false))
+            (passed_step _ _ _ _ _ _ _ _ purged_so_far header.size block (sym purgeable_is ∙ w.if-is_purgeable.false))
       ];
       within = omega arith;
     }
@@ -96,17 +96,17 @@ returns-after-loop-at-clause-laid c = split_laid c.loop-at.region c.loop-at.at c
 pub returns-after-loop-at-clause-blocks : goal.returns-after-loop-at-clause-blocks
 returns-after-loop-at-clause-blocks c = λ s.
     let purged_so_far = c.loop-at.invariant.purged in
-    let none = ap (blocks_from c.loop-at.at) (nothing_left c.loop-at.region c.loop-at.at purged_so_far.split (omega arith)) in
+    let none_left = ap (blocks_from c.loop-at.at) (nothing_left c.loop-at.region c.loop-at.at purged_so_far.split (omega arith)) in
     let bs = blocks_from c.args.from s.rest in
-    let most_is_all = whole bs c.loop-at.passed c.args.most (sym none ∙ purged_so_far.rest s) c.loop-at.invariant.within in
+    let most_is_all = whole bs c.loop-at.passed c.args.most (sym none_left ∙ purged_so_far.rest s) c.loop-at.invariant.within in
     purged_blocks _ _ _ _ _ _ _ _ purged_so_far s
     ∙ ap₂ (λ xs ys. blocks_from 0 s.front ++ (map purge_block xs ++ ys)) (sym most_is_all.0) (sym most_is_all.1)
 
 pub returns-after-loop-at-clause-count : goal.returns-after-loop-at-clause-count
 returns-after-loop-at-clause-count c = λ s.
     let purged_so_far = c.loop-at.invariant.purged in
-    let none = ap (blocks_from c.loop-at.at) (nothing_left c.loop-at.region c.loop-at.at purged_so_far.split (omega arith)) in
-    let most_is_all = whole (blocks_from c.args.from s.rest) c.loop-at.passed c.args.most (sym none ∙ purged_so_far.rest s) c.loop-at.invariant.within in
+    let none_left = ap (blocks_from c.loop-at.at) (nothing_left c.loop-at.region c.loop-at.at purged_so_far.split (omega arith)) in
+    let most_is_all = whole (blocks_from c.args.from s.rest) c.loop-at.passed c.args.most (sym none_left ∙ purged_so_far.rest s) c.loop-at.invariant.within in
     purged_so_far.count_is s ∙ ap (count_by is_purgeable) (sym most_is_all.0)
 
 pub returns-after-loop-at-clause-bound : goal.returns-after-loop-at-clause-bound

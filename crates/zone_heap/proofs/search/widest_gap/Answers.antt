@@ -15,22 +15,22 @@ loop-at-smaller c = less_left c.args.region.now c.loop-at.at c.loop-at.invariant
 
 pub loop-at-preserved : goal.loop-at-preserved
 loop-at-preserved c =
-    let at = c.loop-at.at in let best = c.loop-at.best in let run = c.loop-at.run in let header = c.header_at-header.result in
-    let block = opened c.args.region.now at c.loop-at.invariant.split c.loop-at-test.true header c.header_at-header.ensures in
-    let told = c.is_pinned.ensures ∙ pinned_at c.args.region.now at c.loop-at.invariant.split header.size block header c.header_at-header.ensures in
-    let later = blocks_from (at + header.size) block.next.rest in
+    let place = c.loop-at.at in let best = c.loop-at.best in let run = c.loop-at.run in let header = c.header_at-header.result in
+    let block = opened c.args.region.now place c.loop-at.invariant.split c.loop-at-test.true header c.header_at-header.ensures in
+    let pinned_told = c.is_pinned.ensures ∙ pinned_at c.args.region.now place c.loop-at.invariant.split header.size block header c.header_at-header.ensures in
+    let later = blocks_from (place + header.size) block.next.rest in
     let step = c.loop-at.invariant.value ∙ ap (widest_from best run) block.blocks in
     let grown = block.len in
     elim c.if-is_pinned.branch [
       | then-is_pinned w ↦ record {
         split = block.next;
         small = omega arith;
-        value = rw (w.best-is, w.run-is) (step ∙ cond-true _ _ _ (sym told ∙ w.if-is_pinned.true));
+        value = rw (w.best-is, w.run-is) (step ∙ cond-true _ _ _ (sym pinned_told ∙ w.if-is_pinned.true));
       }
       | else-is_pinned w ↦ record {
         split = block.next;
         small = omega arith;
-        value = rw (w.best-is, w.run-is, w.max-best.ensures, w.from-run.ensures) (step ∙ cond-false _ _ _ (sym told ∙ w.if-is_pinned.false) ∙ ap (λ n. widest_from (max best (run + n)) (run + n) later) grown);
+        value = rw (w.best-is, w.run-is, w.max-best.ensures, w.from-run.ensures) (step ∙ cond-false _ _ _ (sym pinned_told ∙ w.if-is_pinned.false) ∙ ap (λ n. widest_from (max best (run + n)) (run + n) later) grown);
       }
     ]
 

@@ -4,8 +4,8 @@ use Rattle.map_lumps.proofs.lists.MapLists.joined_segs.Goals as goal
 
 pub join_segs-requires-clause-lines : goal.join_segs-requires-clause-lines
 join_segs-requires-clause-lines c =
-    let right = records_refusal-none (listed_records c.self.inside) (rw (c.self.view_is) c.requires) in cc
+    let records_right = records_refusal-none (listed_records c.self.inside) (rw (c.self.view_is) c.requires) in cc
 
 pub join_segs-requires-clause-segs : goal.join_segs-requires-clause-segs
 join_segs-requires-clause-segs c =
-    let right = records_refusal-none (listed_records c.self.inside) (rw (c.self.view_is) c.requires) in cc
+    let records_right = records_refusal-none (listed_records c.self.inside) (rw (c.self.view_is) c.requires) in cc

@@ -23,9 +23,9 @@ sound_after g c = rw (after g c) (with_tag_sound (owner_at g.K.SlotKind.CODE c.a
 
 pub invariant_of-self : goal.invariant_of-self
 invariant_of-self g c =
-    let known = (goal.at.invariant_of-self g c).After-retag in let inside = c.self.inside in
-    zone_with _ c.self.invariant _ _ _ _ refl (refl, refl) (sound_after g known) (subst IsRing (sym (items_are g known)) c.retag.ensures.ring)
-    (subst (AreExact inside.homes) (sym (after g known)) (exact_tagged inside.homes (blocks_in inside.region.items) (owner_at g.K.SlotKind.CODE c.args.slot.number) c.args.tag c.self.invariant.exact))
+    let context = (goal.at.invariant_of-self g c).After-retag in let inside = c.self.inside in
+    zone_with _ c.self.invariant _ _ _ _ refl (refl, refl) (sound_after g context) (subst IsRing (sym (items_are g context)) c.retag.ensures.ring)
+    (subst (AreExact inside.homes) (sym (after g context)) (exact_tagged inside.homes (blocks_in inside.region.items) (owner_at g.K.SlotKind.CODE c.args.slot.number) c.args.tag c.self.invariant.exact))
 
 pub returns-clause-sound : goal.returns-clause-sound
 returns-clause-sound g c = sound_after g (goal.at.returns-clause-sound g c).After-retag

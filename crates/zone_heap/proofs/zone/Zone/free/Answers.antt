@@ -24,9 +24,9 @@ sound_after g c = subst IsSound (sym (after g c)) (without_block_sound (owner_at
 
 pub invariant_of-self : goal.invariant_of-self
 invariant_of-self g c =
-    let known = (goal.at.invariant_of-self g c).After-place_in in let inside = c.self.inside in
-    zone_with _ c.self.invariant _ _ _ _ refl c.release.ensures.slots (sound_after g known) (subst IsRing (sym (items_are g known)) c.release.ensures.ring)
-    (subst (λ xs. AreExact c.release.new.homes (blocks_in xs)) (sym (items_are g known)) c.release.ensures.home.exact)
+    let context = (goal.at.invariant_of-self g c).After-place_in in let inside = c.self.inside in
+    zone_with _ c.self.invariant _ _ _ _ refl c.release.ensures.slots (sound_after g context) (subst IsRing (sym (items_are g context)) c.release.ensures.ring)
+    (subst (λ xs. AreExact c.release.new.homes (blocks_in xs)) (sym (items_are g context)) c.release.ensures.home.exact)
 
 pub returns-clause-sound : goal.returns-clause-sound
 returns-clause-sound g c = sound_after g (goal.at.returns-clause-sound g c).After-place_in

@@ -29,9 +29,9 @@ lacks_it g c = lacked _ _ (subst (λ (z : Heap). IsNone (holding_of (owner_at g.
 
 pub serve-outcome-requires-clause-empty : goal.serve-outcome-requires-clause-empty
 serve-outcome-requires-clause-empty g c =
-    let known = (goal.at.serve-outcome-requires-clause-empty g c).After-deref_mut in
-    subst (λ (p : Owner). Lacks p (blocks_in c.deref_mut.result.now)) (sym (owner_is g known))
-    (subst (λ xs. Lacks (owner_at g.K.SlotKind.CODE c.args.slot.number) (blocks_in xs)) (sym c.deref_mut.ensures.value) (lacks_it g known))
+    let context = (goal.at.serve-outcome-requires-clause-empty g c).After-deref_mut in
+    subst (λ (p : Owner). Lacks p (blocks_in c.deref_mut.result.now)) (sym (owner_is g context))
+    (subst (λ xs. Lacks (owner_at g.K.SlotKind.CODE c.args.slot.number) (blocks_in xs)) (sym c.deref_mut.ensures.value) (lacks_it g context))
 
 abbrev earlier : (g : Over) (c : After-saturating_add-self-inside g) → After-deref_mut g
 earlier g c = c.before.before.before.before
@@ -75,12 +75,12 @@ record IsMade (g : Over) (c : After-saturating_add-self-inside g) : Type 0 where
 
 made : (g : Over) (c : After-saturating_add-self-inside g) (place : ℕ) → c.serve-outcome.result.place ≡ Ok place → IsMade g c
 made g c place e =
-    let inside = c.self.inside in let wanted = c.block_size-wanted.result in let there = c.serve-outcome.ensures.some in
-    let placed = rw e at there in
+    let inside = c.self.inside in let wanted = c.block_size-wanted.result in let some_told = c.serve-outcome.ensures.some in
+    let placed = rw e at some_told in
     let searched_same = ap (λ xs. after_search wanted (heap_at xs inside.homes inside.rover)) c.deref_mut.ensures.value in
-    let own = owner_is g (earlier g c) in
+    let owner_same = owner_is g (earlier g c) in
     let tag : code_tag c.tag_code.result ≡ c.args.tag = ap code_tag c.tag_code.ensures ∙ code_back c.args.tag in
-    let holding_is : ◌≡◌ {A = Holding} (record { owner = owner_in c.owner_word.result; tag = code_tag c.tag_code.result; asked = c.args.size; bytes = placed.bytes }) (record { owner = owner_at g.K.SlotKind.CODE c.args.slot.number; tag = c.args.tag; asked = c.args.size; bytes = placed.bytes }) = λ j. record { owner = own j; tag = tag j; asked = c.args.size; bytes = placed.bytes } in
+    let holding_is : ◌≡◌ {A = Holding} (record { owner = owner_in c.owner_word.result; tag = code_tag c.tag_code.result; asked = c.args.size; bytes = placed.bytes }) (record { owner = owner_at g.K.SlotKind.CODE c.args.slot.number; tag = c.args.tag; asked = c.args.size; bytes = placed.bytes }) = λ j. record { owner = owner_same j; tag = tag j; asked = c.args.size; bytes = placed.bytes } in
     let blocks_are = ap blocks_in (items_are g c) ∙ placed.blocks ∙ ap₂ (λ (x : Holding) (ys : List Block). take_at place wanted x ys) holding_is searched_same in
     let size : length c.deref_mut.result.now ≡ inside.size = ap (λ (xs : List ℕ). length xs) c.deref_mut.ensures.value ∙ region_len inside c.self.invariant in
     let rover_is : c.serve-outcome.result.rover ≡ place_after place inside.size (blocks_in (with_items inside.region c.serve-outcome.new.region).items) =
@@ -117,60 +117,60 @@ kept g c sound =
 
 pub invariant_of-self : goal.invariant_of-self
 invariant_of-self g c =
-    let known = (goal.at.invariant_of-self g c).After-saturating_add-self-inside in
-    kept g known (subst IsSound (sym (none_heap g known _ c.in-Err.is)) (without_room_sound _ _ c.self.invariant.sound c.self.invariant.least))
+    let context = (goal.at.invariant_of-self g c).After-saturating_add-self-inside in
+    kept g context (subst IsSound (sym (none_heap g context _ c.in-Err.is)) (without_room_sound _ _ c.self.invariant.sound c.self.invariant.least))
 
 pub invariant_of-self-2 : goal.invariant_of-self-2
 invariant_of-self-2 g c =
-    let known = (goal.at.invariant_of-self-2 g c).After-saturating_add-self-inside in
-    let new_block = made g known _ c.in_default.is in
-    kept g known (subst IsSound (sym new_block.heap) (made_sound g known new_block))
+    let context = (goal.at.invariant_of-self-2 g c).After-saturating_add-self-inside in
+    let new_block = made g context _ c.in_default.is in
+    kept g context (subst IsSound (sym new_block.heap) (made_sound g context new_block))
 
 pub returns-clause-sound : goal.returns-clause-sound
-returns-clause-sound g c = let known = (goal.at.returns-clause-sound g c).After-saturating_add-self-inside in let new_block = made g known _ c.in_default.is in
-    subst IsSound (sym new_block.heap) (made_sound g known new_block)
+returns-clause-sound g c =
+    let context = (goal.at.returns-clause-sound g c).After-saturating_add-self-inside in let new_block = made g context _ c.in_default.is in
+    subst IsSound (sym new_block.heap) (made_sound g context new_block)
 
 pub returns-clause-ok : goal.returns-clause-ok
 returns-clause-ok g c =
-    let known = (goal.at.returns-clause-ok g c).After-saturating_add-self-inside in
-    let new_block = made g known _ c.in_default.is in let wanted = c.block_size-wanted.result in
-    let wanted_is = c.block_size-wanted.ensures.value in
-    subst (λ (y : Heap). TakesBlock y (new_heap g known) (owner_at g.K.SlotKind.CODE c.args.slot.number) c.args.size c.args.tag) c.self.view_is (record {
+    let context = (goal.at.returns-clause-ok g c).After-saturating_add-self-inside in
+    let new_block = made g context _ c.in_default.is in let wanted = c.block_size-wanted.result in let wanted_is = c.block_size-wanted.ensures.value in
+    subst (λ (y : Heap). TakesBlock y (new_heap g context) (owner_at g.K.SlotKind.CODE c.args.slot.number) c.args.size c.args.tag) c.self.view_is (record {
       place = new_block.place;
-      place_is = ap (λ n. first_room n (stretches c.self.inside.rover (blocks_in c.self.inside.region.items))) (sym wanted_is) ∙ place_is g known
+      place_is = ap (λ n. first_room n (stretches c.self.inside.rover (blocks_in c.self.inside.region.items))) (sym wanted_is) ∙ place_is g context
           ∙ ap result_ok new_block.is;
       bytes = new_block.bytes;
       len = new_block.len;
-      size = cut_size new_block.place new_block.room.size wanted (held g known new_block);
-      least = subst (λ n. n ≤ cut_size new_block.place new_block.room.size wanted (held g known new_block)) wanted_is (cut_least new_block.place new_block.room.size wanted (held g known new_block) new_block.room.large);
-      most = subst (λ n. cut_size new_block.place new_block.room.size wanted (held g known new_block) ≤ n + MIN_FRAGMENT) wanted_is (cut_most new_block.place new_block.room.size wanted (held g known new_block));
-      block = ap (λ (y : Heap). owned_block (owner_at g.K.SlotKind.CODE c.args.slot.number) y.blocks) new_block.heap ∙ owned_new wanted new_block.place (heap_of c.self.inside) (held g known new_block) c.self.invariant.sound (lacks_it g (earlier g known)) new_block.room;
-      zone = new_block.heap ∙ ap (λ n. with_block n (held g known new_block) new_block.place (heap_of c.self.inside)) wanted_is;
+      size = cut_size new_block.place new_block.room.size wanted (held g context new_block);
+      least = subst (λ n. n ≤ cut_size new_block.place new_block.room.size wanted (held g context new_block)) wanted_is (cut_least new_block.place new_block.room.size wanted (held g context new_block) new_block.room.large);
+      most = subst (λ n. cut_size new_block.place new_block.room.size wanted (held g context new_block) ≤ n + MIN_FRAGMENT) wanted_is (cut_most new_block.place new_block.room.size wanted (held g context new_block));
+      block = ap (λ (y : Heap). owned_block (owner_at g.K.SlotKind.CODE c.args.slot.number) y.blocks) new_block.heap ∙ owned_new wanted new_block.place (heap_of c.self.inside) (held g context new_block) c.self.invariant.sound (lacks_it g (earlier g context)) new_block.room;
+      zone = new_block.heap ∙ ap (λ n. with_block n (held g context new_block) new_block.place (heap_of c.self.inside)) wanted_is;
     })
 
 pub returns-clause-full : goal.returns-clause-full
 returns-clause-full g c =
-    let known = (goal.at.returns-clause-full g c).After-saturating_add-self-inside in
-    let new_block = made g known _ c.in_default.is in let inside = c.self.inside in let zone = c.self.invariant in
+    let context = (goal.at.returns-clause-full g c).After-saturating_add-self-inside in
+    let new_block = made g context _ c.in_default.is in let inside = c.self.inside in let zone = c.self.invariant in
     subst (λ (y : Heap). (false ≡ true → All (λ x. total x < block_size c.args.size) (gaps y.blocks)) × (All (λ x. total x < block_size c.args.size) (gaps y.blocks) → false ≡ true)) c.self.view_is (
       (λ e. absurd (false≢true e)),
       λ a. absurd (full_some (block_size c.args.size) inside.rover new_block.place inside.size (blocks_in inside.region.items) (omega arith) zone.sound.tiles
-          (ap (λ n. first_room n (stretches inside.rover (blocks_in inside.region.items))) (sym c.block_size-wanted.ensures.value) ∙ place_is g known ∙ ap result_ok new_block.is) a),
+          (ap (λ n. first_room n (stretches inside.rover (blocks_in inside.region.items))) (sym c.block_size-wanted.ensures.value) ∙ place_is g context ∙ ap result_ok new_block.is) a),
     )
 
 pub returns-clause-others : goal.returns-clause-others
 returns-clause-others g c = λ p apart.
-    let known = (goal.at.returns-clause-others g c).After-saturating_add-self-inside in
-    let new_block = made g known _ c.in_default.is in
-    ap (λ (y : Heap). owned_block p y.blocks) new_block.heap ∙ owned_others c.block_size-wanted.result new_block.place (heap_of c.self.inside) (held g known new_block) c.self.invariant.sound (lacks_it g (earlier g known)) new_block.room p apart
+    let context = (goal.at.returns-clause-others g c).After-saturating_add-self-inside in
+    let new_block = made g context _ c.in_default.is in
+    ap (λ (y : Heap). owned_block p y.blocks) new_block.heap ∙ owned_others c.block_size-wanted.result new_block.place (heap_of c.self.inside) (held g context new_block) c.self.invariant.sound (lacks_it g (earlier g context)) new_block.room p apart
     ∙ ap₂ (λ n (y : Heap). block_left (passed_blocks n (stretches y.rover y.blocks)) (owned_block p y.blocks)) c.block_size-wanted.ensures.value c.self.view_is
 
 pub returns-in-Err-clause-full : goal.returns-in-Err-clause-full
 returns-in-Err-clause-full g c =
-    let known = (goal.at.returns-in-Err-clause-full g c).After-saturating_add-self-inside in
+    let context = (goal.at.returns-in-Err-clause-full g c).After-saturating_add-self-inside in
     let inside = c.self.inside in
     subst (λ (y : Heap). (true ≡ true → All (λ x. total x < block_size c.args.size) (gaps y.blocks)) × (All (λ x. total x < block_size c.args.size) (gaps y.blocks) → true ≡ true)) c.self.view_is (
-      (λ e. full_none (block_size c.args.size) inside.rover (blocks_in inside.region.items) (omega arith) (ap (λ n. first_room n (stretches inside.rover (blocks_in inside.region.items))) (sym c.block_size-wanted.ensures.value) ∙ place_is g known ∙ ap result_ok c.in-Err.is)),
+      (λ e. full_none (block_size c.args.size) inside.rover (blocks_in inside.region.items) (omega arith) (ap (λ n. first_room n (stretches inside.rover (blocks_in inside.region.items))) (sym c.block_size-wanted.ensures.value) ∙ place_is g context ∙ ap result_ok c.in-Err.is)),
       λ a. refl,
     )
 
@@ -192,20 +192,20 @@ returns-in-Err-clause-sound g c = subst IsSound (sym (none_heap g (goal.at.retur
 
 pub returns-in-Err-clause-empty : goal.returns-in-Err-clause-empty
 returns-in-Err-clause-empty g c =
-    let known = (goal.at.returns-in-Err-clause-empty g c).After-saturating_add-self-inside in
+    let context = (goal.at.returns-in-Err-clause-empty g c).After-saturating_add-self-inside in
     let owner = owner_at g.K.SlotKind.CODE c.args.slot.number in let heap_before = heap_of c.self.inside in
-    ap (λ (x : Heap). owned_block owner x.blocks) (none_heap g known _ c.in-Err.is) ∙ owned_searched owner c.block_size-wanted.result heap_before c.self.invariant.sound ∙ ap (block_left (passed_blocks c.block_size-wanted.result (stretches heap_before.rover heap_before.blocks))) (none_owned owner heap_before.blocks (lacks_it g (earlier g known)))
+    ap (λ (x : Heap). owned_block owner x.blocks) (none_heap g context _ c.in-Err.is) ∙ owned_searched owner c.block_size-wanted.result heap_before c.self.invariant.sound ∙ ap (block_left (passed_blocks c.block_size-wanted.result (stretches heap_before.rover heap_before.blocks))) (none_owned owner heap_before.blocks (lacks_it g (earlier g context)))
 
 pub returns-in-Err-clause-purged : goal.returns-in-Err-clause-purged
 returns-in-Err-clause-purged g c =
-    let known = (goal.at.returns-in-Err-clause-purged g c).After-saturating_add-self-inside in
+    let context = (goal.at.returns-in-Err-clause-purged g c).After-saturating_add-self-inside in
     let least = c.block_size-wanted.ensures.least in
-    subst (λ (x : Heap). All (λ (b : Block). is_purgeable b ≡ false) x.blocks) (sym (none_heap g known _ c.in-Err.is))
-    (full_all c.block_size-wanted.result (heap_of c.self.inside) c.self.invariant.sound (omega arith) (place_is g known ∙ ap result_ok c.in-Err.is))
+    subst (λ (x : Heap). All (λ (b : Block). is_purgeable b ≡ false) x.blocks) (sym (none_heap g context _ c.in-Err.is))
+    (full_all c.block_size-wanted.result (heap_of c.self.inside) c.self.invariant.sound (omega arith) (place_is g context ∙ ap result_ok c.in-Err.is))
 
 pub returns-in-Err-clause-others : goal.returns-in-Err-clause-others
 returns-in-Err-clause-others g c = λ p apart.
-    let known = (goal.at.returns-in-Err-clause-others g c).After-saturating_add-self-inside in
-    ap (λ (x : Heap). owned_block p x.blocks) (none_heap g known _ c.in-Err.is)
+    let context = (goal.at.returns-in-Err-clause-others g c).After-saturating_add-self-inside in
+    ap (λ (x : Heap). owned_block p x.blocks) (none_heap g context _ c.in-Err.is)
     ∙ owned_searched p c.block_size-wanted.result (heap_of c.self.inside) c.self.invariant.sound
     ∙ ap₂ (λ n (y : Heap). block_left (passed_blocks n (stretches y.rover y.blocks)) (owned_block p y.blocks)) c.block_size-wanted.ensures.value c.self.view_is

@@ -19,14 +19,14 @@ with_parts-requires-clause-write_bound g c =
 
 pub with_parts-requires-clause-apart : goal.with_parts-requires-clause-apart
 with_parts-requires-clause-apart g c =
-    let known = (goal.at.with_parts-requires-clause-apart g c).After-live_span-to in
-    spans_apart _ c.self.invariant _ _ _ _ _ _ _ (read g known) (write g known) refl
+    let context = (goal.at.with_parts-requires-clause-apart g c).After-live_span-to in
+    spans_apart _ c.self.invariant _ _ _ _ _ _ _ (read g context) (write g context) refl
 
 pub invariant_of-self : goal.invariant_of-self
 invariant_of-self g c = part_zone _ c.self.invariant _ _ _ _ (write g (goal.at.invariant_of-self g c).After-live_span-to) _ c.with_parts.new.region c.with_parts.ensures.parts c.with_parts.ensures.len
 
 pub returns : goal.returns
 returns g c =
-    let known = (goal.at.returns g c).After-live_span-to in let parts = c.with_parts.ensures.parts in
-    let rewritten = part_rewritten _ c.self.invariant _ _ _ _ (write g known) _ c.with_parts.new.region parts c.with_parts.ensures.len in
-    record { called = record { x = _; y = _; w = parts.0; x_is = span_bytes _ c.self.invariant _ _ _ _ (read g known); y_is = rewritten.x_is; len = rewritten.len; called = parts.2; zone = rewritten.zone } }
+    let context = (goal.at.returns g c).After-live_span-to in let parts_told = c.with_parts.ensures.parts in
+    let rewritten = part_rewritten _ c.self.invariant _ _ _ _ (write g context) _ c.with_parts.new.region parts_told c.with_parts.ensures.len in
+    record { called = record { x = _; y = _; w = parts_told.0; x_is = span_bytes _ c.self.invariant _ _ _ _ (read g context); y_is = rewritten.x_is; len = rewritten.len; called = parts_told.2; zone = rewritten.zone } }
