@@ -104,10 +104,8 @@ module _ (lumps : List Lump) (name : List ℕ) (base : LevelBase) (parts : IsBas
     -- COLORMAP has room, since one of the map's lumps stands beside it
     colormap_room : lump_block lumps base.colormap ≤ zone
     colormap_room = elim (cases_lt base.colormap (base.label + 2)) [
-      | inl below ↦ let room_for_both = within (base.label + 2) (map_asked 2 (omega arith) (omega arith)) (λ e. omega (arith, below, e)) in
-        omega (arith, room_for_both)
-      | inr above ↦ let room_for_both = within (base.label + 1) (map_asked 1 (omega arith) (omega arith)) (λ e. omega (arith, above, e)) in
-        omega (arith, room_for_both)
+      | inl below ↦ let both_fit = within (base.label + 2) (map_asked 2 (omega arith) (omega arith)) (λ e. omega (arith, below, e)) in omega (arith, both_fit)
+      | inr above ↦ let both_fit = within (base.label + 1) (map_asked 1 (omega arith) (omega arith)) (λ e. omega (arith, above, e)) in omega (arith, both_fit)
     ]
 
     base_room : lump_block lumps base.colormap + base_block lumps base ≤ zone

@@ -7,7 +7,7 @@ pub returns : goal.returns
 returns g c =
     let counts = c.args.counts.now in
     let list = c.args.list.now in
-    let labelled_of : ℕ → List ℕ = labelled (codes " labelled_of ") in
+    let labelled_of : ℕ → List ℕ = labelled (codes " of ") in
     same_bytes
     (seven_added (labelled (codes "view ") c.args.view) (labelled (codes " fragments ") counts.fragments) (labelled_of list.all_fragments) (labelled (codes " planes ") counts.planes)
     (labelled (codes " openings ") counts.openings) (labelled (codes " sprites ") counts.sprites) (labelled_of list.all_sprites) (codes "\n") _ _ _ _ _ _ _ _
