@@ -134,7 +134,7 @@ abbrev pub IsRunIn : ℕ → Option (ℕ × ℕ) → Type 0
 IsRunIn height run = IfSome run (λ (r : ℕ × ℕ). r.1 < height)
 
 some_rows : (height : ℕ) (rows : RowRange) (mark less : Bool) → int_lt rows.last rows.first ≡ less → (rows.first ≤ℤ rows.last → (pos 0 ≤ℤ rows.first) × (rows.last <ℤ pos height)) →
-    (let no_rows : Option (ℕ × ℕ) = None in IsRunIn height (cond mark (cond less no_rows (Some (natural rows.first, natural rows.last))) no_rows))
+    (let none : Option (ℕ × ℕ) = None in IsRunIn height (cond mark (cond less none (Some (natural rows.first, natural rows.last))) none))
 some_rows height rows false less e within = tt
 some_rows height rows true true e within = tt
 some_rows height rows true false e within =

@@ -77,7 +77,7 @@ unfolding key_of
 ceiling_of s height light = ceiling_flat s height light (is_sky s.ceiling_flat) refl
 
 key_if : (shape : ViewShape) (scene : SceneValue) (t : Bool) (key : PlaneKey) → IsFlatShown scene key.flat →
-    IfSome (let no_key : Option PlaneKey = None in cond t (Some key) no_key) (λ (k : PlaneKey). IsPlaneIn shape scene (empty_plane k))
+    IfSome (let none : Option PlaneKey = None in cond t (Some key) none) (λ (k : PlaneKey). IsPlaneIn shape scene (empty_plane k))
 key_if shape scene true key shown = plane_empty shape scene key shown
 key_if shape scene false key shown = tt
 

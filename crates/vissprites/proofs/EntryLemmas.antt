@@ -42,7 +42,7 @@ project-scale v thing seen f h =
 pub entry_of-parts : (v : ViewValue) (number : ℕ) (thing : Placed) (seen : Seen) (shape : Shape5) (a1 a2 first last a x y gz gzt mid scale iscale : ℤ) (colormap : ℕ) →
     first ≡ greater_word a1 (pos 0) → last ≡ lesser_word a2 (minus (pos v.shape.width) (pos 1)) → a ≡ a1 → x ≡ thing.x → y ≡ thing.y → gz ≡ thing.z →
     gzt ≡ picture_height thing shape → mid ≡ minus (picture_height thing shape) v.eye.z → scale ≡ seen.scale → iscale ≡ div FRACTION_UNIT seen.scale → colormap ≡ sprite_map v thing seen.scale →
-    (let made_entry : SpriteEntry = record { number = number; first = first; last = last; a1 = a; x = x; y = y; gz = gz; gzt = gzt; mid = mid; scale = scale; iscale = iscale; flip = shape.flip; width = shape.width; lump = shape.lump; map = colormap } in
+    (let made : SpriteEntry = record { number = number; first = first; last = last; a1 = a; x = x; y = y; gz = gz; gzt = gzt; mid = mid; scale = scale; iscale = iscale; flip = shape.flip; width = shape.width; lump = shape.lump; map = colormap } in
     made ≡ entry_of v number thing seen shape a1 a2)
 unfolding entry_of
 entry_of-parts v number thing seen shape a1 a2 first last a x y gz gzt mid scale iscale colormap p1 p2 p3 p4 p5 p6 p7 p8 p9 p10 p11 =

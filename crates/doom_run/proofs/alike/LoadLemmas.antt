@@ -95,8 +95,8 @@ compared bytes lumps few art name parts plan lines skill level flats moved is sa
     let steps = scene-steps (λ k. bytes (source_of trimmed_parts k)) trimmed lines name skill moved is in
     let sectors = moved.base.level.sectors in
     let source : sector_flats lumps sectors ≡ Ok art.flats = ap (λ (l : LevelValue). sector_flats lumps l.sectors) (sym same) ∙ flats in
-    let flats_found : sector_flats trimmed sectors ≡ Ok moved.faces.flats = faces_flats trimmed name moved.base.level moved.base.lists moved.faces steps.faces
-    in let base_is_made = base-made (λ k. bytes (source_of trimmed_parts k)) trimmed name moved.base steps.base in
+    let flats_found : sector_flats trimmed sectors ≡ Ok moved.faces.flats = faces_flats trimmed name moved.base.level moved.base.lists moved.faces
+    steps.faces in let base_is_made = base-made (λ k. bytes (source_of trimmed_parts k)) trimmed name moved.base steps.base in
     record {
       sky = sky-kept lumps art name parts plan;
       one = flats-one-to-one lumps art name parts plan bytes sectors few source;
