@@ -47,7 +47,7 @@ pub can_draw-facts : (lumps : List Lump) (scene : SceneValue) (z : Heap) (facts 
 can_draw-facts lumps scene z facts textures number can ready same is =
     let number_ready = ready_number scene facts number ready is in
     let slots = can.composites in
-    let texture_below = number_ready.1 in
+    let texture_in_list = number_ready.1 in
     subst (λ (t : TexturesView). CanDraw lumps t z number) (sym same) (record {
       prepared = number_ready.0;
       slot = omega arith;

@@ -178,8 +178,8 @@ walked-fragment v bytes scene most events seg first last facts old planes walls 
     elim (cases_lt (length (walls_of v whole_scene events)) MAX_DRAWSEGS) [
       | inl room ↦ walked_room v bytes scene most events seg first last facts old planes walls tall takes builds h room
       | inr full ↦
-          let stays_full = (takes.full (notes_full v whole_scene events (planes_after v whole_scene events) old.walls old.planes.planes h.built full)).1 in
-          walked_full v bytes scene most events seg first last old planes walls takes.there full stays_full.0 stays_full.1 h
+          let nothing_changed = (takes.full (notes_full v whole_scene events (planes_after v whole_scene events) old.walls old.planes.planes h.built full)).1 in
+          walked_full v bytes scene most events seg first last old planes walls takes.there full nothing_changed.0 nothing_changed.1 h
     ]
 
 -- by the answer of the call
