@@ -115,14 +115,14 @@ module _ (level : LevelJobValue) (loaded : LoadedScene) (view : ShelfView) (stan
     };
     tells = λ wads files of.
         let value : LoadedValue = loaded_value loaded in
-        let named = loaded_named level wads files value of.is in
-        let holds = (of.holds named.contents named.named).contents in
-        let bytes = lump_bytes named.contents loaded.files.dir.lumps in
+        let files_are_named = loaded_named level wads files value of.is in
+        let holds = (of.holds files_are_named.contents files_are_named.named).contents in
+        let bytes = lump_bytes files_are_named.contents loaded.files.dir.lumps in
         record {
-          ends = subst (λ (contents : List (List ℕ)). EndsAt view.steady (from_below at_step (delivered (trimming level) (lump_bytes contents loaded.files.dir.lumps) value)) old new (status_of_written result)) (sym named.are)
+          ends = subst (λ (contents : List (List ℕ)). EndsAt view.steady (from_below at_step (delivered (trimming level) (lump_bytes contents loaded.files.dir.lumps) value)) old new (status_of_written result)) (sym files_are_named.are)
               (renders_end view.steady _ (loaded_sizes value).enough (done (trimmed_file bytes loaded.files.dir.lumps parts)) old new (status_of_written result)
               (ap (λ (v : Result Accepted (Stop Refusal)). from_below at_step v) (planned_is bytes parts planned))
-              (written_renders view.steady (trimmed_file bytes loaded.files.dir.lumps parts) old new result (writes.ok named.contents holds) (writes.err named.contents holds) (writes.steady named.contents holds)));
+              (written_renders view.steady (trimmed_file bytes loaded.files.dir.lumps parts) old new result (writes.ok files_are_named.contents holds) (writes.err files_are_named.contents holds) (writes.steady files_are_named.contents holds)));
           zone_full = λ wanted widest' e. (refl, trim_draw level wads files loaded parts stands of.is planned there wanted widest' (writes.full wanted widest' (written_full result wanted widest' e)));
           least = λ end. none_drawn level wads files (trimming level) loaded stands (λ views. refl) of.is;
           reads = λ calm inside.

@@ -79,12 +79,12 @@ module _ (n zone : ℕ) (format : Format) where
   over_end : (steady : Bool) (old : List ℕ → Type 0) (view : ℕ) (kind : LimitKind) (count : ℕ) (t0 t1 : List ℕ → Type 0) → EndsWith (job_verdict render_job (made_files n)) t0 t1 (Limit view kind count) → (held : List File) →
       EndsAt steady (job_verdict exercise_job held) old old (Limit view kind count)
   over_end steady old view kind count t0 t1 ends held =
-      let by = accepted_by made_views (rendered (Frame format)) loading ends.accepted ends.is in
-      let views_value = made_views by.0 in
-      let limit : rendered_end views_value ≡ Limit view kind count = ap (λ (a : Accepted). a.end) by.2 ∙ ends.due in
+      let accepted_load = accepted_by made_views (rendered (Frame format)) loading ends.accepted ends.is in
+      let views_value = made_views accepted_load.0 in
+      let limit : rendered_end views_value ≡ Limit view kind count = ap (λ (a : Accepted). a.end) accepted_load.2 ∙ ends.due in
       record {
-        accepted = accepted_in (loaded_sizes by.0).enough (exercised n format views_value);
-        is = ap (λ (l : Result LoadedValue (Stop Refusal)). drawn_by made_views (exercised n format) l) by.1;
+        accepted = accepted_in (loaded_sizes accepted_load.0).enough (exercised n format views_value);
+        is = ap (λ (l : Result LoadedValue (Stop Refusal)). drawn_by made_views (exercised n format) l) accepted_load.1;
         due = limit;
         written = subst (λ (bytes : List ℕ). Grew old old bytes) (sym (over_unwritten n format views_value view kind count limit)) (grew_none old);
       }
@@ -154,11 +154,11 @@ module _ (n zone : ℕ) (format : Format) where
         DeliversBytes (summary_line summary) old new status → (status ≡ WriteFault → FaultsRose faults later) → Performs exercise_job view view old new faults later status
     exercise_done view old new faults later status summary first rendering summed writes failed =
         let render_tells = said Done rendering in
-        let by = accepted_by made_views (rendered (Frame format)) loading render_tells.ends.accepted render_tells.ends.is in
-        let views_value = made_views by.0 in
-        let end : rendered_end views_value ≡ Done = ap (λ (a : Accepted). a.end) by.2 ∙ render_tells.ends.due in
-        let grew_by_frames : Grew (IsTallyOf t0) (IsTallyOf t1) (rendered_bytes (Frame format) views_value) = subst (λ (a : Accepted). Grew (IsTallyOf t0) (IsTallyOf t1) a.output) (sym by.2) render_tells.ends.written in
-        let views_few : length views_value.views ≤ MAX_VIEWS = subst (λ k. k ≤ MAX_VIEWS) (sym (views_rows (wad_bytes made_wads (made_files n) by.0.files.lumps) (made_level zone).settings by.0)) (loaded_few (made_level zone) made_wads (made_files n) by.0 by.1) in
+        let accepted_load = accepted_by made_views (rendered (Frame format)) loading render_tells.ends.accepted render_tells.ends.is in
+        let views_value = made_views accepted_load.0 in
+        let end : rendered_end views_value ≡ Done = ap (λ (a : Accepted). a.end) accepted_load.2 ∙ render_tells.ends.due in
+        let grew_by_frames : Grew (IsTallyOf t0) (IsTallyOf t1) (rendered_bytes (Frame format) views_value) = subst (λ (a : Accepted). Grew (IsTallyOf t0) (IsTallyOf t1) a.output) (sym accepted_load.2) render_tells.ends.written in
+        let views_few : length views_value.views ≤ MAX_VIEWS = subst (λ k. k ≤ MAX_VIEWS) (sym (views_rows (wad_bytes made_wads (made_files n) accepted_load.0.files.lumps) (made_level zone).settings accepted_load.0)) (loaded_few (made_level zone) made_wads (made_files n) accepted_load.0 accepted_load.1) in
         let line : summary_line summary ≡ exercised_bytes n format views_value = ap (λ (s : Summary). summary_line s) summed ∙ tallied_line n format views_value t1 views_few end (tally_of first grew_by_frames) in
         let due : done (summary_line summary) ≡ exercised n format views_value =
         ap (λ (bytes : List ℕ). record { output = bytes; end = Done }) line ∙ ap (λ (e : Status). record { output = exercised_bytes n format views_value; end = e }) (sym end) in
@@ -168,8 +168,8 @@ module _ (n zone : ℕ) (format : Format) where
           asked = λ e. absurd (delivers_all (done (summary_line summary)) old new status delivers (rw e tt));
           zoned = λ wanted widest e. refl;
           tells = λ held holds. record {
-            ends = renders_end view.steady _ (loaded_sizes by.0).enough (exercised n format views_value) old new status
-                (ap (λ (l : Result LoadedValue (Stop Refusal)). drawn_by made_views (exercised n format) l) by.1)
+            ends = renders_end view.steady _ (loaded_sizes accepted_load.0).enough (exercised n format views_value) old new status
+                (ap (λ (l : Result LoadedValue (Stop Refusal)). drawn_by made_views (exercised n format) l) accepted_load.1)
                 (delivers_render view.steady _ old new status (subst (λ (w : Written). DeliversAt w old new status) due delivers));
             zone_full = λ wanted widest e. absurd (delivers_all (done (summary_line summary)) old new status delivers (rw e tt));
             least = λ is. subst (λ k. k ≤ zone) least_alike (render_tells.least tt);

@@ -71,8 +71,8 @@ module _ {k : ℕ} {view after : ShelfView} {ready left : ReadyViews} {c : ViewC
 
   pub view_fails : (old : List ℕ → Type 0) (f : ViewFault) (status : Status) → drawn ≡ Err f → status ≡ status_of_view k f → ViewEnds view.steady form first_views k old old status
   view_fails old f status was is =
-      let told : IfSome (limit_of_view f) (λ over. over_at first_views k ≡ Some over) = rw was at (draws.over (ready_bytes contents ready)) in
-      rw is (fails_by view.steady form first_views k old f told (λ t. rw was at (draws.draws.steady contents holds.files.stand holds.files.within t)))
+      let limit_is_over : IfSome (limit_of_view f) (λ over. over_at first_views k ≡ Some over) = rw was at (draws.over (ready_bytes contents ready)) in
+      rw is (fails_by view.steady form first_views k old f limit_is_over (λ t. rw was at (draws.draws.steady contents holds.files.stand holds.files.within t)))
 
   -- it was drawn, and what was written is of its frame
   pub view_written : {F : Type 0} {old new : List ℕ → Type 0} {i j : ℕ} (palette : List ℕ) (put : Result (Unit {0}) F) (unit : Unit {0}) → drawn ≡ Ok unit → form_of c ≡ form → palette ≡ left.loaded.scene.scene.base.palette →
@@ -126,9 +126,9 @@ rendered-more {form} {r} {n} {old} {mid} {new} steady status so_far below ends i
 pub render_done : {form : ViewForm} {r : ViewsValue} {old new : List ℕ → Type 0} (steady : Bool) (n : ℕ) → n ≡ length r.views → Rendered form r n old new → RendersAt steady (rendered form r) old new Done
 render_done {form} {r} {old} {new} steady n all so_far =
     let never_over : (k : ℕ) → k < length r.views → over_at r k ≡ None = λ k below. so_far.within k (omega (arith, all, below)) in
-    let none : first_over r ≡ None = none_over r never_over in
-    let due : frames_of form r (take n r.views) ≡ rendered_bytes form r = ap (λ (m : ℕ). frames_of form r (take m r.views)) all ∙ due_by form r None none in
-    (ap (end_at r) none, subst (Grew old new) due so_far.written)
+    let nothing_over : first_over r ≡ None = none_over r never_over in
+    let due : frames_of form r (take n r.views) ≡ rendered_bytes form r = ap (λ (m : ℕ). frames_of form r (take m r.views)) all
+    ∙ due_by form r None nothing_over in (ap (end_at r) nothing_over, subst (Grew old new) due so_far.written)
 
 -- a prefix of what is due was written, where the n-th view wrote nothing
 stopped_before : {form : ViewForm} {r : ViewsValue} {n : ℕ} {old mid new : List ℕ → Type 0} → Rendered form r n old mid → n < length r.views → Grew mid new [] → GrewByPrefix old new (rendered_bytes form r)

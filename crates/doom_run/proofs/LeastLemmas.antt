@@ -26,8 +26,7 @@ module _ {X : Type 0} (f : X → ℕ) (m zone : ℕ) (least : m ≤ zone) where
   taken_beside zero xs each = omega (arith, least)
   taken_beside (suc n) [] each = omega (arith, least)
   taken_beside (suc n) (x ∷ xs) each =
-      let first_fits_zone : m + f x ≤ zone = each 0 (omega arith) in
-      omega (arith, first_fits_zone, taken_beside n xs (λ k l. each (suc k) (omega (arith, l))))
+      let first_fits_zone : m + f x ≤ zone = each 0 (omega arith) in omega (arith, first_fits_zone, taken_beside n xs (λ k l. each (suc k) (omega (arith, l))))
 
 -- of numbers in a range
 range_beside : (f : ℕ → ℕ) (m zone first n : ℕ) → m ≤ zone → ((k : ℕ) → m + f k ≤ zone) → m + greatest_by f (range_with_len first n) ≤ zone
@@ -105,8 +104,8 @@ module _ (lumps : List Lump) (name : List ℕ) (base : LevelBase) (parts : IsBas
     -- COLORMAP has room, since one of the map's lumps stands beside it
     colormap_room : lump_block lumps base.colormap ≤ zone
     colormap_room = elim (cases_lt base.colormap (base.label + 2)) [
-      | inl below ↦ let beside = within (base.label + 2) (map_asked 2 (omega arith) (omega arith)) (λ e. omega (arith, below, e)) in omega (arith, beside)
-      | inr above ↦ let beside = within (base.label + 1) (map_asked 1 (omega arith) (omega arith)) (λ e. omega (arith, above, e)) in omega (arith, beside)
+      | inl below ↦ let both_fit = within (base.label + 2) (map_asked 2 (omega arith) (omega arith)) (λ e. omega (arith, below, e)) in omega (arith, both_fit)
+      | inr above ↦ let both_fit = within (base.label + 1) (map_asked 1 (omega arith) (omega arith)) (λ e. omega (arith, above, e)) in omega (arith, both_fit)
     ]
 
     base_room : lump_block lumps base.colormap + base_block lumps base ≤ zone

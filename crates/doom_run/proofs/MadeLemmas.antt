@@ -26,7 +26,7 @@ then_ok (Err reason) next value e = absurd (cc)
 -- a row past the limit is one too many
 row_past : (width row : ℕ) (fields : List (List ℕ)) → MAX_VIEWS < row → path_row width row fields ≡ Err TooMany
 unfolding path_row checked_shape
-row_past width row fields past = let over : nat_lt MAX_VIEWS row ≡ true = grind (arith, nat_tests) in rw over refl
+row_past width row fields past = let past_most_views : nat_lt MAX_VIEWS row ≡ true = grind (arith, nat_tests) in rw past_most_views refl
 
 records_few : (records : List (List (List ℕ))) (rows : List Eye) → path_of_records records ≡ Ok rows → length rows ≤ MAX_VIEWS
 unfolding path_of_records

@@ -89,8 +89,8 @@ row_dots-own v book light lit k n row layer art same own is =
 shape_has : (rotation : ℕ) (shapes : List Shape) (shape : Shape) → slice_get shapes rotation ≡ Some shape → Contains (map (λ (s : Shape). s.lump.0) shapes) shape.lump.0
 shape_has rotation [] shape e = absurd (cc)
 shape_has zero (first ∷ rest) shape e =
-    let same : first ≡ shape = cc in
-    subst (λ (s : Shape). Contains (map (λ (s : Shape). s.lump.0) (first ∷ rest)) s.lump.0) same (among_first first.lump.0 (map (λ (s : Shape). s.lump.0) rest))
+    let shape_is : first ≡ shape = cc in subst
+    (λ (s : Shape). Contains (map (λ (s : Shape). s.lump.0) (first ∷ rest)) s.lump.0) shape_is (among_first first.lump.0 (map (λ (s : Shape). s.lump.0) rest))
 shape_has (suc rotation) (first ∷ rest) shape e = among_later first.lump.0 (map (λ (s : Shape). s.lump.0) rest) shape.lump.0 (shape_has rotation rest shape e)
 
 found_by : (passes : Bool) (first frame : Frame) (later : Option Frame) (rest : List ℕ) (lump : ℕ) → cond passes (Some first) later ≡ Some frame → Contains (shape_lumps frame) lump →

@@ -10,6 +10,6 @@ can_count-drawable lumps scene z can = record {
   sides = can.drawable.sides;
   flats = can.drawable.flats;
   numbers = λ i d l.
-      let there = surface_flats lumps scene can.drawable can.few i d l in
-      record { floor = there.floor.number; ceiling = there.ceiling.number };
+      let flats_are_there = surface_flats lumps scene can.drawable can.few i d l in
+      record { floor = flats_are_there.floor.number; ceiling = flats_are_there.ceiling.number };
 }

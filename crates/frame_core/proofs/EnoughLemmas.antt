@@ -35,8 +35,8 @@ product_some (suc a) (suc b) l m = omega arith
 composed_some : (patches : List PlacedPatch) (width x : ℕ) → x < width → 1 < length (patches_in patches x) → 0 < composed_count patches width
 unfolding composed_count composed_columns is_composed
 composed_some patches width x l many =
-    let on : nat_lt 1 (length (patches_in patches x)) ≡ true = grind (arith, nat_tests) in
-    some_of (λ m. m == x) (filter (is_composed patches) (range_with_len 0 width)) (any_passed (is_composed patches) 0 width x (omega arith) (omega (arith, l)) ∙ on)
+    let has_many_patches : nat_lt 1 (length (patches_in patches x)) ≡ true = grind (arith, nat_tests) in
+    some_of (λ m. m == x) (filter (is_composed patches) (range_with_len 0 width)) (any_passed (is_composed patches) 0 width x (omega arith) (omega (arith, l)) ∙ has_many_patches)
 
 -- for whom, and how many bytes: one of a texture's patches, or its composite, which has bytes
 abbrev pub IsOfTexture : List Lump → ℕ → PreparedTexture → Owner → ℕ → Type 0
@@ -240,8 +240,8 @@ module _ {v : ShelfView} {dir : DirectoryView} {scene : SceneValue} {x : Heap} (
   unfolding art_of
   never_full wanted widest full =
       let colormap_at_rest : IsAtRest scene.base.colormap (lump_at dir.lumps scene.base.colormap).size x = subst (λ n. IsAtRest scene.base.colormap n x) (sym is) hold.rest in
-      let small = full-small dir.lumps (art_with scene (book_lumps scene.book ++ [])) x.size wanted widest (full_narrow wanted widest full) (view_full contents dir scene [] x can hold.prepared colormap_at_rest wanted widest full) in
-      let less : x.size < enough dir.lumps (art_with scene (book_lumps scene.book)) = subst (λ pictures. x.size < enough dir.lumps (art_with scene pictures)) (append-nil (book_lumps scene.book)) small in
+      let size_below_enough = full-small dir.lumps (art_with scene (book_lumps scene.book ++ [])) x.size wanted widest (full_narrow wanted widest full) (view_full contents dir scene [] x can hold.prepared colormap_at_rest wanted widest full) in
+      let less : x.size < enough dir.lumps (art_with scene (book_lumps scene.book)) = subst (λ pictures. x.size < enough dir.lumps (art_with scene pictures)) (append-nil (book_lumps scene.book)) size_below_enough in
       let enough_below_size : enough dir.lumps (art_with scene (book_lumps scene.book)) ≤ x.size = room in
       omega (arith, less, enough_below_size)
 

@@ -22,7 +22,7 @@ module _ (Q : ℕ → Type 0) where
   -- what holds of all lumps of a book holds of that of a picture that is picked from it
   first_or_later : (passes : Bool) (first frame : Frame) (later : Option Frame) → cond passes (Some first) later ≡ Some frame → AllByRecursion Q (shape_lumps first) →
       (later ≡ Some frame → AllByRecursion Q (shape_lumps frame)) → AllByRecursion Q (shape_lumps frame)
-  first_or_later true first frame later e h after = let same : first ≡ frame = cc in subst (λ (f : Frame). AllByRecursion Q (shape_lumps f)) same h
+  first_or_later true first frame later e h after = let frame_is : first ≡ frame = cc in subst (λ (f : Frame). AllByRecursion Q (shape_lumps f)) frame_is h
   first_or_later false first frame later e h after = after e
 
   frame_has : (test : Frame → Bool) (book : List Frame) (frame : Frame) → find test book ≡ Some frame → AllByRecursion Q (joined_lists shape_lumps book) → AllByRecursion Q (shape_lumps frame)
@@ -34,7 +34,7 @@ module _ (Q : ℕ → Type 0) where
 
   shape_has : (rotation : ℕ) (shapes : List Shape) (shape : Shape) → slice_get shapes rotation ≡ Some shape → AllByRecursion Q (map (λ (s : Shape). s.lump.0) shapes) → Q shape.lump.0
   shape_has rotation [] shape e h = absurd (cc)
-  shape_has zero (first ∷ rest) shape e h = let same : first ≡ shape = cc in subst (λ (s : Shape). Q s.lump.0) same h.0
+  shape_has zero (first ∷ rest) shape e h = let shapes_same : first ≡ shape = cc in subst (λ (s : Shape). Q s.lump.0) shapes_same h.0
   shape_has (suc rotation) (first ∷ rest) shape e h = shape_has rotation rest shape e h.1
 
   picked_from : (rotation : ℕ) (frame : Option Frame) (shape : Shape) → option_and_then (λ (f : Frame). slice_get f.shapes rotation) frame ≡ Some shape →
@@ -104,5 +104,5 @@ pub entry_lump : (bytes : ℕ → List ℕ) (v : ViewValue) (s : SceneValue) (ev
     i < length sprites → list_any (λ n. n == (get_or sprites i e).lump) (book_lumps s.book) ≡ true
 entry_lump bytes v s events sprites i e is l =
     let is_book_lump : ℕ → Type 0 = λ lump. list_any (λ n. n == lump) (book_lumps s.book) ≡ true in
-    let all = entries_have is_book_lump bytes v s (each_found (book_lumps s.book)) events in
-    All-from_recursion (λ (e : SpriteEntry). is_book_lump e.lump) sprites (subst (AllByRecursion (λ (e : SpriteEntry). is_book_lump e.lump)) (sym is) all) i e l
+    let all_book_lumps = entries_have is_book_lump bytes v s (each_found (book_lumps s.book)) events in All-from_recursion
+    (λ (e : SpriteEntry). is_book_lump e.lump) sprites (subst (AllByRecursion (λ (e : SpriteEntry). is_book_lump e.lump)) (sym is) all_book_lumps) i e l

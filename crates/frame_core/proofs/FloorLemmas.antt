@@ -57,7 +57,7 @@ module _ (lumps : List Lump) (scene : SceneValue) (z : Heap) (sky : Option TexNo
 -- the number of the sky's texture is one of the list
 some_listed : (count : ℕ) (sky : Option ℕ) (n : ℕ) → IfSome sky (λ number. number < count) → sky ≡ Some n → n < count
 some_listed count None n h e = absurd (cc)
-some_listed count (Some k) n h e = let same : k ≡ n = cc in subst (λ (m : ℕ). m < count) same h
+some_listed count (Some k) n h e = let numbers_same : k ≡ n = cc in subst (λ (m : ℕ). m < count) numbers_same h
 
 -- the sky's texture may be drawn
 pub sky_can : (lumps : List Lump) (scene : SceneValue) (z : Heap) (sky : Option TexNo) → CanDrawView lumps scene z → IsSkyOf scene sky → IfSome sky (λ (tex : TexNo). CanDraw lumps (textures_view scene) z tex.0)

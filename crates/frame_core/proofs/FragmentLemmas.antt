@@ -47,7 +47,7 @@ pub can_draw-facts : (lumps : List Lump) (scene : SceneValue) (z : Heap) (facts 
 can_draw-facts lumps scene z facts textures number can ready same is =
     let number_ready = ready_number scene facts number ready is in
     let slots = can.composites in
-    let below = number_ready.1 in
+    let texture_in_list = number_ready.1 in
     subst (λ (t : TexturesView). CanDraw lumps t z number) (sym same) (record {
       prepared = number_ready.0;
       slot = omega arith;
@@ -127,23 +127,23 @@ paints_lower : (mark : Painter → ℕ → ℕ) (s : ViewScene) (most : Limits) 
     (lower : Result (Unit {0}) DrawFault) → StoresFragment mark s (view_tools s) seg first last facts old planes walls before after lower → ((bytes : ℕ → List ℕ) → HasWalked s.view bytes s.scene most events old) →
     Paints draw_fault mark (view_tools s) (IsSeenOf s.view old.walls facts first last) IsNoPicture (λ (q : Unit {0}). ⊤) (λ contents q. next_dots s.view (held_scene contents s) events seg first last) before after lower
 paints_lower mark s most events seg first last facts old planes walls before after lower stores walked =
-    let none : ℕ → List ℕ = λ n. [] in
-    let ws = walls_of s.view (scene_of none s.scene) events in
-    let behind : List Wall × PlanesNow = (ws, planes_after s.view (scene_of none s.scene) events) in
-    let same = λ (contents : List (List ℕ)). walls_same s.view none (lump_bytes contents s.dir.lumps) s.scene events in
+    let no_bytes : ℕ → List ℕ = λ n. [] in
+    let ws = walls_of s.view (scene_of no_bytes s.scene) events in
+    let behind : List Wall × PlanesNow = (ws, planes_after s.view (scene_of no_bytes s.scene) events) in
+    let walls_stay_same = λ (contents : List (List ℕ)). walls_same s.view no_bytes (lump_bytes contents s.dir.lumps) s.scene events in
     elim (cases_lt (length ws) MAX_DRAWSEGS) [
       | inl room ↦
           paints-same _
           (λ contents (q : Unit {0}) asked. let bytes = lump_bytes contents s.dir.lumps in
-          next_room s.view bytes s.scene events seg first last ws (wall_of s.view facts first last) (same contents)
+          next_room s.view bytes s.scene events seg first last ws (wall_of s.view facts first last) (walls_stay_same contents)
           (next_wall-facts s.view bytes s.scene events seg first last old.sector facts (walked bytes).sector (stores.takes.facts_are bytes)) room)
-          (paints-asked (λ (q : Unit {0}). ⊤) (λ q. behind) (λ q asked. ((walked none).built, room)) stores.paints)
+          (paints-asked (λ (q : Unit {0}). ⊤) (λ q. behind) (λ q asked. ((walked no_bytes).built, room)) stores.paints)
       | inr full ↦
-          let past = stores.past (notes_full s.view (scene_of none s.scene) events behind.1 old.walls old.planes.planes (walked none).built full) in
+          let past = stores.past (notes_full s.view (scene_of no_bytes s.scene) events behind.1 old.walls old.planes.planes (walked no_bytes).built full) in
           let paints_next : PaintState → Result (Unit {0}) DrawFault → Type 0 = λ st r. Paints draw_fault mark (view_tools s) (IsSeenOf s.view old.walls facts first last) IsNoPicture (λ (q : Unit {0}). ⊤)
           (λ contents q. next_dots s.view (held_scene contents s) events seg first last) before st r in
           subst (paints_next after) (sym past.0) (subst (λ st. paints_next st (Ok tt)) (untouched before after past.1)
-          (paints-same _ (λ contents (q : Unit {0}) asked. next_full s.view (lump_bytes contents s.dir.lumps) s.scene events seg first last ws (same contents) full) (paints-none before tt)))
+          (paints-same _ (λ contents (q : Unit {0}) asked. next_full s.view (lump_bytes contents s.dir.lumps) s.scene events seg first last ws (walls_stay_same contents) full) (paints-none before tt)))
     ]
 
 -- by the answer that its own is turned into
@@ -152,7 +152,7 @@ pub paints-fragment : {mark : Painter → ℕ → ℕ} {t : PaintTools} (s : Vie
     AreFactsReady s.scene facts → ((bytes : ℕ → List ℕ) → HasWalked s.view bytes s.scene most events old) →
     PaintsView mark s (λ scene. next_dots s.view scene events seg first last) before after result
 paints-fragment {mark} s most events seg first last facts old planes walls before after lower result stores mapped ready walked =
-    let own : StoresFragment mark s (view_tools s) seg first last facts old planes walls before after lower =
+    let stores_for_view : StoresFragment mark s (view_tools s) seg first last facts old planes walls before after lower =
     subst (λ (t : PaintTools). StoresFragment mark s t seg first last facts old planes walls before after lower) stores.tools stores in
     paints-mapped (λ (o : OverLimit). o) from_draw same_fault lower result mapped
-    (paints-wider (λ number own is. (ready_number s.scene facts number ready (seen-texture s.view old.walls facts first last number own is)).0) (λ lump no. absurd no) (paints_lower mark s most events seg first last facts old planes walls before after lower own walked))
+    (paints-wider (λ number own is. (ready_number s.scene facts number ready (seen-texture s.view old.walls facts first last number own is)).0) (λ lump no. absurd no) (paints_lower mark s most events seg first last facts old planes walls before after lower stores_for_view walked))

@@ -87,30 +87,30 @@ module _ (lumps : List Lump) (s : SceneValue) (can : IsDrawable lumps s) (sound 
   unfolding note_at fragment_wall wall_of fragment_numbers numbers_by fragment_facts facts_of note_seg middle_by seg_at back_of wall_texture textures_at scene_of
   middle_ready bytes v f place l h =
       let has_back_and_middle = masked_some (fragment_facts (scene_of bytes s) f) (fragment_facts (scene_of bytes s) f).back place h in
-      let there = sound.segs f.seg no_seg l in
-      let side : ℕ = (get_or s.base.level.segs f.seg no_seg).side in
+      let seg_is_sound = sound.segs f.seg no_seg l in let side : ℕ = (get_or s.base.level.segs f.seg no_seg).side in
       let behind = mapped_some (surface_at (scene_of bytes s).level) (get_or s.base.level.segs f.seg no_seg).back has_back_and_middle.0 in
-      let inside : side < length s.faces.sides = omega (arith, there.side, can.sides) in
+      let inside : side < length s.faces.sides = omega (arith, seg_is_sound.side, can.sides) in
       let number : ℕ = (get_or s.faces.sides side no_textures).middle in
-      let same : number ≡ get_or (middles_of s.faces.sides) side 0 = sym (get_or-map (λ (t : SideTextures). t.middle) s.faces.sides side no_textures) in
-      record {
-        back = if_some (λ (back : ℕ). back < length s.base.level.sectors) (get_or s.base.level.segs f.seg no_seg).back there.back;
+      let number_is_middle : number ≡ get_or (middles_of s.faces.sides) side 0 =
+      sym (get_or-map (λ (t : SideTextures). t.middle) s.faces.sides side no_textures) in record {
+        back = if_some (λ (back : ℕ). back < length s.base.level.sectors) (get_or s.base.level.segs f.seg no_seg).back seg_is_sound.back;
         some = behind;
-        texture = subst (CanDraw lumps (textures_view s) z) same (middle_drawn side inside has_back_and_middle.1);
-        among = subst (λ (n : ℕ). n < length s.base.lists.textures) same (middle_among side inside has_back_and_middle.1);
-        single = subst (λ (n : ℕ). AllColumnsSingle (prepared_texture (textures_view s) n)) same (middle_single f.seg l behind has_back_and_middle.1);
+        texture = subst (CanDraw lumps (textures_view s) z) number_is_middle (middle_drawn side inside has_back_and_middle.1);
+        among = subst (λ (n : ℕ). n < length s.base.lists.textures) number_is_middle (middle_among side inside has_back_and_middle.1);
+        single = subst (λ (n : ℕ). AllColumnsSingle (prepared_texture (textures_view s) n)) number_is_middle
+          (middle_single f.seg l behind has_back_and_middle.1);
       }
 
   note_listed : (bytes : ℕ → List ℕ) (v : ViewValue) (f : LeafFragment) (place : ℕ) → f.seg < length s.base.level.segs →
       IsListed lumps (textures_view s) z (mask_lists s) (note_at v (fragment_wall v (scene_of bytes s) f) place)
   unfolding note_at fragment_wall wall_of fragment_facts facts_of note_seg
   note_listed bytes v f place l =
-      let there = sound.segs f.seg no_seg l in
+      let seg_is_sound = sound.segs f.seg no_seg l in
       record {
         seg = l;
-        front = there.front;
-        side = there.side;
-        middle = omega (arith, there.side, can.sides, length-map s.faces.sides (λ (t : SideTextures). t.middle));
+        front = seg_is_sound.front;
+        side = seg_is_sound.side;
+        middle = omega (arith, seg_is_sound.side, can.sides, length-map s.faces.sides (λ (t : SideTextures). t.middle));
         masked = middle_ready bytes v f place l;
       }
 

@@ -46,8 +46,8 @@ lists-passed p q next e visits lists = record {
 pub lists-stopped : (p : ListerValue) (q : CounterValue) (e : Event) (stop : OverLimit) (result : Result (Unit {0}) OverLimit) → IsErrAnd result (λ over. over ≡ stop) →
     CounterVisits p.counter q (e ∷ []) (Err stop) → ListerVisits p (record p { counter = q }) (e ∷ []) result
 lists-stopped p q e stop result told visits =
-    let is = err_from_is_err_and result told in
-    subst (ListerVisits p (record p { counter = q }) (e ∷ [])) (sym (is.1 ∙ ap Err is.2)) (record {
+    let result_is_error = err_from_is_err_and result told in
+    subst (ListerVisits p (record p { counter = q }) (e ∷ [])) (sym (result_is_error.1 ∙ ap Err result_is_error.2)) (record {
       ok = tt;
       takes_on = tt;
       err = record {

@@ -101,11 +101,11 @@ module _ {v : ViewValue} {s : SceneValue} {b : Bench} {z : Heap} (dir : Director
       let is_walked = walked no_bytes in
       let is_book_lump : ℕ → Type 0 = λ (m : ℕ). list_any (λ n. n == m) (book_lumps s.book) ≡ true in
       let lump_in_book = entry_lump no_bytes v s (view_events v (lists_of s)) b.sprites k.among.0 k.sprite is_walked.sprites k.among.1 in
-      let same : (get_or b.sprites k.among.0 k.sprite).lump ≡ lump = ap (λ (e : SpriteEntry). e.lump) k.among.2 ∙ sym k.is.0 in
-      let below = All-contains (λ (e : SpriteEntry). has_lump_below (length dir.lumps) e ≡ true) b.sprites k.sprite sprites-below k.among in
+      let lumps_same : (get_or b.sprites k.among.0 k.sprite).lump ≡ lump = ap (λ (e : SpriteEntry). e.lump) k.among.2 ∙ sym k.is.0 in
+      let entry_lump_below = All-contains (λ (e : SpriteEntry). has_lump_below (length dir.lumps) e ≡ true) b.sprites k.sprite sprites-below k.among in
       record {
-        there = subst (λ (m : ℕ). m < length dir.lumps) (sym k.is.0) (lump_below (length dir.lumps) k.sprite below);
-        drawn = or_right (list_any (has_flat lump) s.faces.flats) (list_any (λ n. n == lump) (book_lumps s.book)) (subst is_book_lump same lump_in_book);
+        there = subst (λ (m : ℕ). m < length dir.lumps) (sym k.is.0) (lump_below (length dir.lumps) k.sprite entry_lump_below);
+        drawn = or_right (list_any (has_flat lump) s.faces.flats) (list_any (λ n. n == lump) (book_lumps s.book)) (subst is_book_lump lumps_same lump_in_book);
       }
 
   same_dots : (bytes : ℕ → List ℕ) →

@@ -37,10 +37,10 @@ unfolding ceiling_marks floor_marks wall_edges
 rows_in v walls k w x tall =
     let clip = clip_before v.shape walls k x in
     let edges = wall_edges v.shape w x in
-    let within = clip_before-in v.shape walls k x tall in
+    let clip_in_frame = clip_before-in v.shape walls k x tall in
     let words = edges_at-words v.shape w.numbers (x - w.first) in (
-      marked_rows-in v.shape.height (ceiling_rows clip edges) w.numbers.ceiling_mark (ceiling_rows-in v.shape.height clip edges tall within words),
-      marked_rows-in v.shape.height (floor_rows clip edges) w.numbers.floor_mark (floor_rows-in v.shape.height clip edges tall within words),
+      marked_rows-in v.shape.height (ceiling_rows clip edges) w.numbers.ceiling_mark (ceiling_rows-in v.shape.height clip edges tall clip_in_frame words),
+      marked_rows-in v.shape.height (floor_rows clip edges) w.numbers.floor_mark (floor_rows-in v.shape.height clip edges tall clip_in_frame words),
     )
 
 -- after a fragment of columns of the view

@@ -26,7 +26,7 @@ first_got : {Y R : Type 0} (first : Option Y) (reason : R) (rest : Result (List 
     (y : Y) × (zs : List Y) × (first ≡ Some y) × (rest ≡ Ok zs) × (ys ≡ y ∷ zs)
 first_got None reason rest ys e = absurd (cc)
 first_got (Some y) reason (Err stop) ys e = absurd (cc)
-first_got (Some y) reason (Ok zs) ys e = let same : y ∷ zs ≡ ys = cc in (y, zs, refl, refl, sym same)
+first_got (Some y) reason (Ok zs) ys e = let lists_same : y ∷ zs ≡ ys = cc in (y, zs, refl, refl, sym lists_same)
 
 -- what was got of the item of that number
 got_at : {X Y R : Type 0} (f : X → Option Y) (refuse : ℕ → R) (number : ℕ) (xs : List X) (ys : List Y) (i : ℕ) (d : X) (e : Y) → each_from f refuse number xs ≡ Ok ys → i < length xs →
@@ -46,8 +46,8 @@ unfolding both_flats
 both_named None ceiling both e = absurd (cc)
 both_named (Some f) None both e = absurd (cc)
 both_named (Some f) (Some c) both e =
-    let same : both_flats f c ≡ both = cc in
-    (ap (λ (b : SectorFlats). Some b.floor) same, ap (λ (b : SectorFlats). Some b.ceiling) same)
+    let flats_same : both_flats f c ≡ both = cc in
+    (ap (λ (b : SectorFlats). Some b.floor) flats_same, ap (λ (b : SectorFlats). Some b.ceiling) flats_same)
 
 -- only the sky's name means the sky
 sky_meant : (is_name : Bool) (lump : Option ℕ) → cond is_name (Some Sky) (option_map lump_flat lump) ≡ Some Sky → is_name ≡ true
@@ -115,8 +115,8 @@ are_meant lumps name level lists faces e =
     let sky = and_then-ok (sky_texture lists.textures name level.sectors) _ faces sides.2 in
     let flats = and_then-ok (sector_flats lumps level.sectors) _ faces sky.2 in
     let meant_faces : Faces = record { sides = sides.0; sky = sky.0; flats = flats.0 } in
-    let same : meant_faces ≡ faces = cc (flats.2) in
-    record { sky = sky.1 ∙ ap (λ (f : Faces). Ok f.sky) same; flats = flats.1 ∙ ap (λ (f : Faces). Ok f.flats) same }
+    let faces_same : meant_faces ≡ faces = cc (flats.2) in
+    record { sky = sky.1 ∙ ap (λ (f : Faces). Ok f.sky) faces_same; flats = flats.1 ∙ ap (λ (f : Faces). Ok f.flats) faces_same }
 
 -- a sector that shows the sky has one
 sky_of_name : (lumps : List Lump) (flat : List ℕ) → flat_named lumps flat ≡ Some Sky → is_sky_name flat ≡ true
@@ -158,7 +158,8 @@ none_or_ready scene (suc number) (inr prepared) below = inr (prepared, below (om
 sky_number : (textures : List Texture) (name : List ℕ) (o sky : Option ℕ) (n : ℕ) → texture_number textures (sky_name name) ≡ o → found_sky o ≡ Ok sky → sky ≡ Some n → n < length textures
 unfolding found_sky
 sky_number textures name None sky n e f g = absurd (cc)
-sky_number textures name (Some k) sky n e f g = let same : k ≡ n = cc in subst (λ (m : ℕ). m < length textures) same (sky_is_listed textures name k e)
+sky_number textures name (Some k) sky n e f g = let numbers_same : k ≡ n = cc in
+    subst (λ (m : ℕ). m < length textures) numbers_same (sky_is_listed textures name k e)
 
 sky_by : (asked : Bool) (textures : List Texture) (name : List ℕ) (sky : Option ℕ) (n : ℕ) → cond asked (found_sky (texture_number textures (sky_name name))) (Ok None) ≡ Ok sky → sky ≡ Some n → n < length textures
 sky_by true textures name sky n e f = sky_number textures name (texture_number textures (sky_name name)) sky n refl e f
@@ -211,10 +212,10 @@ module _ (lumps : List Lump) (scene : SceneValue) (can : IsDrawable lumps scene)
   unfolding surface_of
   surface_flats few i d l =
       let inside : i < length scene.base.level.sectors = omega (arith, l, surfaces_as_many) in
-      let flats = get_or scene.faces.flats i no_flats in
-      let there = can.flats_there i no_flats (omega (arith, inside, can.flats)) in
+      let flats = get_or scene.faces.flats i no_flats in let flats_listed = can.flats_there i no_flats (omega (arith, inside, can.flats)) in
       subst (AreFlatsOf (length lumps)) (sym (surface_from scene.base.level.sectors scene.faces.flats i no_sector no_flats d can.flats inside))
-      (record { floor = flat_of_number (length lumps) flats.floor few there.floor; ceiling = flat_of_number (length lumps) flats.ceiling few there.ceiling })
+      (record { floor = flat_of_number (length lumps) flats.floor few flats_listed.floor;
+        ceiling = flat_of_number (length lumps) flats.ceiling few flats_listed.ceiling })
 
   pub flats_at : length lumps ≤ SKY_FLAT → (sector : ℕ) → sector < length scene.base.level.sectors → AreFlatsOf (length lumps) (surface_at (lists_of scene) sector)
   unfolding surface_at
@@ -225,8 +226,8 @@ module _ (lumps : List Lump) (scene : SceneValue) (can : IsDrawable lumps scene)
       ((get_or scene.faces.flats sector no_flats).floor ≡ Sky) ⊎ ((get_or scene.faces.flats sector no_flats).ceiling ≡ Sky)
   unfolding surface_at
   sky_of_flats few sector l e =
-      let there = can.flats_there sector no_flats (omega (arith, l, can.flats)) in
-      flats_with_sky (length lumps) (get_or scene.base.level.sectors sector no_sector) (get_or scene.faces.flats sector no_flats) few there.floor there.ceiling
+      let flats_listed = can.flats_there sector no_flats (omega (arith, l, can.flats)) in flats_with_sky
+      (length lumps) (get_or scene.base.level.sectors sector no_sector) (get_or scene.faces.flats sector no_flats) few flats_listed.floor flats_listed.ceiling
       (subst (λ (s : Surface). (is_sky s.floor_flat || is_sky s.ceiling_flat) ≡ true) (surface_from scene.base.level.sectors scene.faces.flats sector no_sector no_flats no_surface can.flats l) e)
 
   -- where a surface has sky, the sky has a texture
@@ -241,12 +242,11 @@ module _ (lumps : List Lump) (scene : SceneValue) (can : IsDrawable lumps scene)
   facts_ready sound bytes front seg l =
       let side = (seg_at (lists_of scene) seg).side in
       let inside : side < length scene.faces.sides = omega (arith, (sound.segs seg no_seg l).side, can.sides) in
-      let prepared = can.textures side no_textures inside in
-      let below = can.below side no_textures inside in
+      let prepared = can.textures side no_textures inside in let textures_below = can.below side no_textures inside in
       record {
-        top = none_or_ready scene _ prepared.top below.top;
-        bottom = none_or_ready scene _ prepared.bottom below.bottom;
-        middle = none_or_ready scene _ prepared.middle below.middle;
+        top = none_or_ready scene _ prepared.top textures_below.top;
+        bottom = none_or_ready scene _ prepared.bottom textures_below.bottom;
+        middle = none_or_ready scene _ prepared.middle textures_below.middle;
       }
 
 -- the patches of the texture of a number are there: one that is not prepared has none

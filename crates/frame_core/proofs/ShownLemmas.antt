@@ -66,8 +66,8 @@ first_of : (v : ViewValue) (number : ℕ) (thing : Placed) (seen : Seen) (shape 
 unfolding misses_view entry_of
 first_of v number thing seen shape a1 a2 true e is h = absurd (cc)
 first_of v number thing seen shape a1 a2 false e is h =
-    let same : e ≡ entry_of v number thing seen shape a1 a2 = cc in
-    subst (λ (f : SpriteEntry). f.first ≤ℤ pos v.shape.width) (sym same) (first_bound v.shape.width a1 (either_false (int_lt (pos v.shape.width) a1) (is_negative a2) is))
+    let entry_is : e ≡ entry_of v number thing seen shape a1 a2 = cc in
+    subst (λ (f : SpriteEntry). f.first ≤ℤ pos v.shape.width) (sym entry_is) (first_bound v.shape.width a1 (either_false (int_lt (pos v.shape.width) a1) (is_negative a2) is))
 
 pub entry-first : (v : ViewValue) (number : ℕ) (thing : Placed) (seen : Seen) (shape : Shape5) (e : SpriteEntry) → v.shape.width ≤ FRAME_WIDTH → Some e ≡ entry_for v number thing seen shape → e.first ≤ℤ pos FRAME_WIDTH
 unfolding entry_for entry_within

@@ -17,7 +17,7 @@ right_below n xs ys below = λ i d l. subst (λ (lump : ℕ). lump < n) (get_or-
 -- the frame that is first found has the lumps of its shapes in the book
 first_or_later : (n : ℕ) (passes : Bool) (first frame : Frame) (later : Option Frame) → cond passes (Some first) later ≡ Some frame → AllBelow n (shape_lumps first) →
     (later ≡ Some frame → AllBelow n (shape_lumps frame)) → AllBelow n (shape_lumps frame)
-first_or_later n true first frame later e below after = let same : first ≡ frame = cc in subst (λ (f : Frame). AllBelow n (shape_lumps f)) same below
+first_or_later n true first frame later e below after = let frame_is : first ≡ frame = cc in subst (λ (f : Frame). AllBelow n (shape_lumps f)) frame_is below
 first_or_later n false first frame later e below after = after e
 
 frame_below : (n : ℕ) (test : Frame → Bool) (book : List Frame) (frame : Frame) → find test book ≡ Some frame → AllBelow n (joined_lists shape_lumps book) → AllBelow n (shape_lumps frame)

@@ -37,8 +37,8 @@ placed-as v shape old now same place = place ∙ ap (λ (sh : ViewShape). placed
 -- a canvas on which the view was placed has it in the frame
 pub placed-frame : (v : ViewValue) (shape : ViewShape) (old now : CanvasView) → shape ≡ v.shape → IsWithinFrame shape → now ≡ placed_at shape.left shape.top old → IsPlacedIn v now
 placed-frame v shape old now same frame place =
-    let within : IsWithinFrame v.shape = subst IsWithinFrame same frame in
-    subst (IsPlacedIn v) (sym (placed-as v shape old now same place)) (record { columns = within.width; rows = within.height })
+    let shape_in_frame : IsWithinFrame v.shape = subst IsWithinFrame same frame in
+    subst (IsPlacedIn v) (sym (placed-as v shape old now same place)) (record { columns = shape_in_frame.width; rows = shape_in_frame.height })
 
 -- the three parts of a view are its paints
 view_parts : (v : ViewValue) (bytes : ℕ → List ℕ) (s : SceneValue) →

@@ -52,15 +52,16 @@ with_room : (entries : List SpriteEntry) (things : List PlacedThing) (list : Wal
     HasSprites (entries ++ e ∷ []) (things ++ thing ∷ []) (with_sprite list (Some s))
 unfolding with_sprite
 with_room entries things list e thing s is room h =
-    let same : length entries ≡ length things = (let entries_count = h.count in omega (arith, entries_count, room)) in
+    let counts_same : length entries ≡ length things = (let entries_count = h.count in omega (arith, entries_count, room)) in
     let sprites_count = list_counted entries things list h in
     let has_room : nat_lt (length list.sprites) MAX_VISSPRITES ≡ true = rw sprites_count (grind (arith, nat_tests)) in
     record {
-      count = (let more_things = length_push things thing in let more_entries = length_push entries e in omega (arith, same, more_things, more_entries, room));
+      count = (let more_things = length_push things thing in let more_entries = length_push entries e in
+        omega (arith, counts_same, more_things, more_entries, room));
       sprites = ap (λ (b : Bool). cond b (list.sprites ++ s ∷ []) list.sprites) has_room
           ∙ ap (λ (ss : List ListedSprite). ss ++ s ∷ []) h.sprites
           ∙ ap (λ (t : ListedSprite). listed_sprites entries things ++ t ∷ []) is
-          ∙ sym (sprites_push entries things e thing same);
+          ∙ sym (sprites_push entries things e thing counts_same);
       all = counts_more list things thing h.all;
     }
 
@@ -198,12 +199,12 @@ module _ (v : ViewValue) (scene : Scene) (es : List Event) where
   unfolding list_leaf
   listed-leaf n planes is_known list is count h =
       let mid = with_makers list (Leaf n) planes in
-      let same = entered_same v scene is_known (leaf_sector scene n) mid in
+      let entered_alike = entered_same v scene is_known (leaf_sector scene n) mid in
       let stays = with_makers_same list (Leaf n) planes in
       record {
-        fragments = same.fragments ∙ stays.0 ∙ h.fragments ∙ sym (fragments-leaf es n);
-        all = same.all ∙ stays.1 ∙ h.all ∙ ap count_shown (sym (all_fragments-leaf es n));
-        makers = same.makers ∙ makers_more v scene es (LeafEvent n) list (Leaf n) planes h.makers (leaf_maker (length (drawsegs es)) n) count;
+        fragments = entered_alike.fragments ∙ stays.0 ∙ h.fragments ∙ sym (fragments-leaf es n);
+        all = entered_alike.all ∙ stays.1 ∙ h.all ∙ ap count_shown (sym (all_fragments-leaf es n));
+        makers = entered_alike.makers ∙ makers_more v scene es (LeafEvent n) list (Leaf n) planes h.makers (leaf_maker (length (drawsegs es)) n) count;
         sprites = sprites_after n is_known mid is (makers_sprites (view_entries v scene es) (shown_things v scene es) list (Leaf n) planes h.sprites);
       }
 
@@ -236,9 +237,9 @@ module _ (v : ViewValue) (scene : Scene) (es : List Event) where
         all = ap (λ (k : ℕ). min (k + 1) MOST_TOLD) h.all ∙ told-more (length (leaf_fragments 0 es)) ∙ ap count_shown (sym (all_fragments-fragment es seg first last));
         makers = makers_more v scene es (FragmentEvent seg first last) list (Fragment (length list.fragments)) planes h.makers (ap Fragment fragments_count ∙ fragment_maker (length (drawsegs es)) seg first last) count;
         sprites = (
-            let own : HasSprites (view_entries v scene es) (shown_things v scene es) (list_fragment (record { seg = seg; first = first; last = last }) planes list) =
+            let list_has_sprites : HasSprites (view_entries v scene es) (shown_things v scene es) (list_fragment (record { seg = seg; first = first; last = last }) planes list) =
             record { count = h.sprites.count; sprites = h.sprites.sprites; all = h.sprites.all } in
-            rw (view_entries-fragment v scene es seg first last, shown_things-fragment v scene es seg first last) own);
+            rw (view_entries-fragment v scene es seg first last, shown_things-fragment v scene es seg first last) list_has_sprites);
       }
 
 -- nothing is listed of no event
@@ -282,11 +283,10 @@ pub leaf-listed : (v : ViewValue) (bytes : ℕ → List ℕ) (s : SceneValue) (m
     HasWalked v bytes s most es b → HasWalked v bytes s most (es ++ LeafEvent n ∷ []) c → HasListed v (scene_of bytes s) es list → HasListed v (scene_of bytes s) (es ++ LeafEvent n ∷ []) next
 unfolding list_leaf
 leaf-listed v bytes s most es n sector planes is_known b c list mid next is there known count making entering before after h =
-    let scene = scene_of bytes s in
-    let own : sector ≡ leaf_sector scene n = leaf_of bytes s n sector is in
-    let entered : is_entered scene es (leaf_sector scene n) ≡ is_known = ap (is_entered scene es) (sym own) ∙ sym (before.entered sector there) ∙ sym known in
-    let next_is : next ≡ list_leaf v scene is_known n (leaf_sector scene n) planes list =
-    entering ∙ ap (with_entered v scene is_known sector) making ∙ ap (λ (k : ℕ). with_entered v scene is_known k (with_makers list (Leaf n) planes)) own in
+    let scene = scene_of bytes s in let leaf_sector_is : sector ≡ leaf_sector scene n = leaf_of bytes s n sector is in
+    let entered : is_entered scene es (leaf_sector scene n) ≡ is_known = ap (is_entered scene es) (sym leaf_sector_is) ∙ sym (before.entered sector there)
+    ∙ sym known in let next_is : next ≡ list_leaf v scene is_known n (leaf_sector scene n) planes list = entering
+    ∙ ap (with_entered v scene is_known sector) making ∙ ap (λ (k : ℕ). with_entered v scene is_known k (with_makers list (Leaf n) planes)) leaf_sector_is in
     subst (HasListed v scene (es ++ LeafEvent n ∷ [])) (sym next_is)
     (listed-leaf v scene es n planes is_known list entered (count ∙ ap (λ (ps : List Plane). length ps) (planes-walked v bytes s most (es ++ LeafEvent n ∷ []) c after)) h)
 

@@ -119,15 +119,15 @@ pub over-fragment : (v : ViewValue) (bytes : ℕ → List ℕ) (scene : SceneVal
 over-fragment v bytes scene most events seg first last facts old planes walls answer takes h =
     let whole_scene = scene_of bytes scene in
     let ws = walls_of v whole_scene events in
-    let before = planes_after v whole_scene events in
+    let planes_before = planes_after v whole_scene events in
     let es = events ++ FragmentEvent seg first last ∷ [] in
     elim (cases_lt (length ws) MAX_DRAWSEGS) [
       | inl room ↦
-          takes.limit ws before h.built room
-          ∙ ap (λ (w : Wall). step_over (limits_of old.walls old.planes) before (length old.walls.openings) (step_of_wall v ws w)) (next_wall-facts v bytes scene events seg first last old.sector facts h.sector (takes.facts_are bytes))
+          takes.limit ws planes_before h.built room
+          ∙ ap (λ (w : Wall). step_over (limits_of old.walls old.planes) planes_before (length old.walls.openings) (step_of_wall v ws w)) (next_wall-facts v bytes scene events seg first last old.sector facts h.sector (takes.facts_are bytes))
           ∙ over-step v bytes scene most events es (step_of_wall v ws (next_wall v whole_scene events seg first last)) old h (one_more-room v whole_scene events seg first last room)
       | inr full ↦
-          (takes.full (notes_full v whole_scene events before old.walls old.planes.planes h.built full)).0 ∙ sym h.within ∙ ap (steps_over most) (sym (steps-full v whole_scene events seg first last full))
+          (takes.full (notes_full v whole_scene events planes_before old.walls old.planes.planes h.built full)).0 ∙ sym h.within ∙ ap (steps_over most) (sym (steps-full v whole_scene events seg first last full))
     ]
 
 -- what is built where the fragment is drawn
@@ -141,30 +141,30 @@ walked_room : (v : ViewValue) (bytes : ℕ → List ℕ) (scene : SceneValue) (m
 unfolding openings_past wall_step
 walked_room v bytes scene most events seg first last facts old planes walls tall takes builds h room =
     let whole_scene = scene_of bytes scene in let ws = walls_of v whole_scene events in
-    let before = planes_after v whole_scene events in
+    let planes_before = planes_after v whole_scene events in
     let wall = next_wall v whole_scene events seg first last in
     let new_step : Step = step_of_wall v ws wall in
     let new = bench_of planes walls old.sprites old.entered old.sector in
-    let same = next_wall-facts v bytes scene events seg first last old.sector facts h.sector (takes.facts_are bytes) in
-    let built_with : Wall → Type 0 = λ u. IsBuilt v (with_wall ws u) (after_event before (step_of_wall v ws u).event) walls planes.planes in
-    let built : IsBuilt v (with_wall ws wall) (after_event before new_step.event) walls planes.planes = subst built_with same (builds ws before h.built room) in
-    let first_same = next_first v whole_scene events seg first last in
+    let next_wall_is = next_wall-facts v bytes scene events seg first last old.sector facts h.sector (takes.facts_are bytes) in
+    let built_with : Wall → Type 0 = λ u. IsBuilt v (with_wall ws u) (after_event planes_before (step_of_wall v ws u).event) walls planes.planes in
+    let built : IsBuilt v (with_wall ws wall) (after_event planes_before new_step.event) walls planes.planes =
+    subst built_with next_wall_is (builds ws planes_before h.built room) in let first_same = next_first v whole_scene events seg first last in
     let last_same = next_last v whole_scene events seg first last in
     let columns = takes.there.1 in
     let ordered = columns.0 in
-    let within = columns.1 in
-    let planes_inside : All (IsPlaneIn v.shape scene) (after_event before new_step.event).planes =
-    planes-wall v scene (with_wall ws wall) (length ws) wall before tall (omega arith) (omega arith) (planes_so_far v bytes scene most events old h) in
+    let columns_within = columns.1 in
+    let planes_inside : All (IsPlaneIn v.shape scene) (after_event planes_before new_step.event).planes =
+    planes-wall v scene (with_wall ws wall) (length ws) wall planes_before tall (omega arith) (omega arith) (planes_so_far v bytes scene most events old h) in
     walked_step v bytes scene most events (FragmentEvent seg first last) new_step old new h
     (record {
       more = one_more-room v whole_scene events seg first last room;
       there = takes.there;
-      built = subst (λ (us : List Wall). IsBuilt v us (after_event before new_step.event) walls planes.planes)
+      built = subst (λ (us : List Wall). IsBuilt v us (after_event planes_before new_step.event) walls planes.planes)
           (sym (walls-room v whole_scene events seg first last room)) built;
       openings = ap length built.openings ∙ openings_more v ws wall ∙ ap (λ (n : ℕ). n + openings_of wall) (sym (ap length h.built.openings));
       limits = takes.limits;
-      within = takes.limit ws before h.built room
-          ∙ ap (λ (u : Wall). step_over (limits_of old.walls old.planes) before (length old.walls.openings) (step_of_wall v ws u)) same;
+      within = takes.limit ws planes_before h.built room
+          ∙ ap (λ (u : Wall). step_over (limits_of old.walls old.planes) planes_before (length old.walls.openings) (step_of_wall v ws u)) next_wall_is;
       planes = planes_inside;
     })
     (seen-fragment v bytes scene most events seg first last old planes walls h)
@@ -178,8 +178,8 @@ walked-fragment v bytes scene most events seg first last facts old planes walls 
     elim (cases_lt (length (walls_of v whole_scene events)) MAX_DRAWSEGS) [
       | inl room ↦ walked_room v bytes scene most events seg first last facts old planes walls tall takes builds h room
       | inr full ↦
-          let same = (takes.full (notes_full v whole_scene events (planes_after v whole_scene events) old.walls old.planes.planes h.built full)).1 in
-          walked_full v bytes scene most events seg first last old planes walls takes.there full same.0 same.1 h
+          let nothing_changed = (takes.full (notes_full v whole_scene events (planes_after v whole_scene events) old.walls old.planes.planes h.built full)).1 in
+          walked_full v bytes scene most events seg first last old planes walls takes.there full nothing_changed.0 nothing_changed.1 h
     ]
 
 -- by the answer of the call

@@ -100,8 +100,7 @@ over-step v bytes scene most events more e old h one =
 pub walked_step : (v : ViewValue) (bytes : ℕ → List ℕ) (scene : SceneValue) (most : Limits) (events : List Event) (event : Event) (e : Step) (old new : Bench) → HasWalked v bytes scene most events old →
     IsBuiltOn v bytes scene events event e old new → IsSeen v bytes scene (events ++ event ∷ []) new → HasWalked v bytes scene most (events ++ event ∷ []) new
 walked_step v bytes scene most events event e old new h on seen =
-    let whole_scene = scene_of bytes scene in
-    let now = after_event (planes_after v whole_scene events) e.event in
+    let whole_scene = scene_of bytes scene in let now = after_event (planes_after v whole_scene events) e.event in
     record {
       there = All-push (IsEventIn v scene) events event h.there on.there;
       built = subst (λ (s : PlanesNow). IsBuilt v (walls_of v whole_scene (events ++ event ∷ [])) s new.walls new.planes.planes) (sym on.more.planes) on.built;
@@ -197,25 +196,26 @@ pub walked-leaf : (v : ViewValue) (bytes : ℕ → List ℕ) (scene : SceneValue
 unfolding openings_past leaf_step
 walked-leaf v bytes scene most events n sector floor ceiling old new enters h =
     let whole_scene = scene_of bytes scene in let walls = walls_of v whole_scene events in
-    let before = planes_after v whole_scene events in
-    let own : sector ≡ leaf_sector whole_scene n = enters.own ∙ sector_of_leaf bytes scene n in
+    let planes_before = planes_after v whole_scene events in
+    let leaf_sector_is : sector ≡ leaf_sector whole_scene n = enters.own ∙ sector_of_leaf bytes scene n in
     let new_step : Step = leaf_step v (leaf_surface whole_scene n) in
-    let is : step_of_leaf floor ceiling ≡ new_step = step_is v bytes scene n sector floor ceiling own enters.floor_is enters.ceiling_is in
-    let surface : leaf_surface whole_scene n ≡ surface_at (lists_of scene) sector = surface_of_leaf bytes scene n
-    ∙ ap (surface_at (lists_of scene)) (sym own) in let planes_inside : All (IsPlaneIn v.shape scene) (after_event before new_step.event).planes =
-    subst (λ (t : _). All (IsPlaneIn v.shape scene) (after_event before (leaf_step v t).event).planes) (sym surface)
-    (planes-leaf v scene sector before enters.inside (planes_so_far v bytes scene most events old h)) in
-    let built_after : Step → Type 0 = λ t. IsBuilt v walls (after_event before t.event) new.walls new.planes.planes in
-    let built : IsBuilt v walls (after_event before new_step.event) new.walls new.planes.planes = subst built_after is (enters.built walls before h.built) in
-    walked_step v bytes scene most events (LeafEvent n) new_step old new h
+    let leaf_step_is : step_of_leaf floor ceiling ≡ new_step = step_is v bytes scene n sector floor ceiling leaf_sector_is enters.floor_is enters.ceiling_is in
+    let surface : leaf_surface whole_scene n ≡ surface_at (lists_of scene) sector = surface_of_leaf bytes scene n ∙ ap
+    (surface_at (lists_of scene)) (sym leaf_sector_is) in let planes_inside : All (IsPlaneIn v.shape scene) (after_event planes_before new_step.event).planes =
+    subst (λ (t : _). All (IsPlaneIn v.shape scene) (after_event planes_before (leaf_step v t).event).planes) (sym surface)
+    (planes-leaf v scene sector planes_before enters.inside (planes_so_far v bytes scene most events old h)) in
+    let built_after : Step → Type 0 = λ t. IsBuilt v walls (after_event planes_before t.event) new.walls new.planes.planes in
+    let built : IsBuilt v walls (after_event planes_before new_step.event) new.walls new.planes.planes =
+    subst built_after leaf_step_is (enters.built walls planes_before h.built) in walked_step v bytes scene most events (LeafEvent n) new_step old new h
     (record {
       more = one_more-leaf v whole_scene events n;
       there = enters.there;
-      built = subst (λ (ws : List Wall). IsBuilt v ws (after_event before new_step.event) new.walls new.planes.planes)
+      built = subst (λ (ws : List Wall). IsBuilt v ws (after_event planes_before new_step.event) new.walls new.planes.planes)
           (sym (walls-leaf v whole_scene events n)) built;
       openings = ap length enters.openings;
       limits = enters.limits;
-      within = enters.limit walls before h.built ∙ ap (step_over (limits_of old.walls old.planes) before (length old.walls.openings)) is;
+      within = enters.limit walls planes_before h.built
+        ∙ ap (step_over (limits_of old.walls old.planes) planes_before (length old.walls.openings)) leaf_step_is;
       planes = planes_inside;
     })
     (record {
@@ -223,14 +223,14 @@ walked-leaf v bytes scene most events n sector floor ceiling old new enters h =
           enters.sprites bytes
           ∙ ap (with_sector v whole_scene (has_entered old.entered sector) sector) h.sprites
           ∙ ap (λ (b : Bool). with_sector v whole_scene b sector (view_entries v whole_scene events)) (h.entered sector enters.inside)
-          ∙ ap (λ (k : ℕ). with_sector v whole_scene (is_entered whole_scene events k) k (view_entries v whole_scene events)) own
+          ∙ ap (λ (k : ℕ). with_sector v whole_scene (is_entered whole_scene events k) k (view_entries v whole_scene events)) leaf_sector_is
           ∙ sprites_leaf v whole_scene events n (is_entered whole_scene events (leaf_sector whole_scene n)) refl;
       columns = enters.columns h.columns;
       lumps = λ m below. enters.lumps m below (h.lumps m below);
-      entered = λ k l. entered_by whole_scene events n k (has_entered new.entered k) sector (sector == k) own refl
+      entered = λ k l. entered_by whole_scene events n k (has_entered new.entered k) sector (sector == k) leaf_sector_is refl
           (λ t. ap (has_entered new.entered) (sym (eqb-true sector k t)) ∙ enters.entered)
           (λ t. enters.others k t ∙ h.entered k l);
-      sector = enters.now ∙ own ∙ ap (leaf_sector whole_scene) (last_of_leaf events n);
+      sector = enters.now ∙ leaf_sector_is ∙ ap (leaf_sector whole_scene) (last_of_leaf events n);
     })
 
 -- there is as much room as before

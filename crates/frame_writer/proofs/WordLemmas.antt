@@ -96,10 +96,10 @@ pub filled-more : (words colours band piece : List ℕ) (i k n : ℕ) → i < le
 filled-more words colours band piece i k n there room within four size same before =
     let index : ℕ = get_or band i 0 in
     let end_is : 3 * (i + 1) ≡ 3 * i + 3 = omega arith in
-    let own : take 3 piece ≡ word_colour words index =
+    let three_bytes_are : take 3 piece ≡ word_colour words index =
     ap (take 3) same ∙ take-take 3 n (drop (4 * index) words) (omega (arith, four)) ∙ three_from words (4 * index) (omega (arith, within)) in
     ap (λ (m : ℕ). take m (put_mid (3 * i) k colours piece)) end_is
     ∙ put_below colours piece (3 * i) k room (omega (arith, size))
     ∙ ap (λ (xs : List ℕ). xs ++ take 3 piece) before
-    ∙ ap (λ (xs : List ℕ). flat_map (word_colour words) (take i band) ++ xs) (own ∙ sym (append-nil (word_colour words index)))
+    ∙ ap (λ (xs : List ℕ). flat_map (word_colour words) (take i band) ++ xs) (three_bytes_are ∙ sym (append-nil (word_colour words index)))
     ∙ sym (ap (flat_map (word_colour words)) (take_more band i 0 there) ∙ flat_map-append (word_colour words) (take i band) (index ∷ []))

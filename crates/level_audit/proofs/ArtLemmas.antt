@@ -66,8 +66,8 @@ module _ (textures : TexturesView) (sides : List SideTextures) (sky : Option ℕ
   -- where all wanted textures are prepared, one that is wanted is
   wanted_prepared : (number : ℕ) → is_wanted_texture sides sky number ≡ true → IsPrepared textures number
   wanted_prepared number is =
-      let found = Any-from_list_any (λ (tex : TexNo). tex.0 == number) wanted (same number ∙ is) in
-      subst (IsPrepared textures) (eqb-true _ _ found.4) (subst (λ (tex : TexNo). IsPrepared textures tex.0) found.3 (prepared found.0 found.1 found.2))
+      let texture_found = Any-from_list_any (λ (tex : TexNo). tex.0 == number) wanted (same number ∙ is) in subst (IsPrepared textures) (eqb-true
+      _ _ texture_found.4) (subst (λ (tex : TexNo). IsPrepared textures tex.0) texture_found.3 (prepared texture_found.0 texture_found.1 texture_found.2))
 
   shown_prepared : (number i : ℕ) (d : SideTextures) → i < length sides → shows_texture number (get_or sides i d) ≡ true → IsNoneOrPrepared textures number
   shown_prepared number i d l shown = elim (cases_eq number 0) [

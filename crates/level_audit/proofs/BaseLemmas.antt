@@ -38,7 +38,7 @@ module _ (lumps : List Lump) (z : Heap) where
   -- the lumps behind the label that was found are those of the map
   pub map_beside : (name : List ℕ) (label : ℕ) → label_of lumps name ≡ Ok label → ((lump : ℕ) → is_map_lump label lump ≡ true → StandsBeside lumps z lump) → (lump : ℕ) → IsLumpOfMap lumps name lump → StandsBeside lumps z lump
   map_beside name label is beside lump asked =
-      let other = asked.is in
+      let asked_label_is = asked.is in
       let label_same : asked.label ≡ label = cc in
       beside lump (subst (λ n. is_map_lump n lump ≡ true) label_same asked.among)
 

@@ -29,8 +29,8 @@ first_of (x ∷ needs) need has = elim (among_cases x needs need has) [
 ] where
   by_test : (f : IsFirst needs need) (b : Bool) → same_frame x f.first ≡ b → IsFirst (x ∷ needs) need
   by_test f true e =
-      let parts = frame_parts x f.first e in
-      record { first = x; among = among_first x _; sprite = parts.0 ∙ f.sprite; frame = parts.1 ∙ f.frame }
+      let frames_agree = frame_parts x f.first e in
+      record { first = x; among = among_first x _; sprite = frames_agree.0 ∙ f.sprite; frame = frames_agree.1 ∙ f.frame }
   by_test f false e = record {
     first = f.first;
     among = among_later x _ f.first (among_kept (λ other. not (same_frame x other)) (first_needs needs) f.first f.among (ap not e));

@@ -31,10 +31,10 @@ module _ {v w : ShelfView} {dir : DirectoryView} {a b : Heap} (lump : MapLump) (
   -- the lump was added
   pub add_passed : r ≡ Ok tt → new ≡ with_lump old lump live → ReadsLumps itself v w dir a b (λ n. n ≡ number) (λ (done : Unit {0}). new) (λ bytes. lump_added old lump (bytes number)) (Ok tt)
   add_passed was is =
-      let small = none_refused (size_refusal lump live) (λ refusal e. let result_is_refusal = (sizes refusal).1 e in cc) in
+      let size_not_refused = none_refused (size_refusal lump live) (λ refusal e. let result_is_refusal = (sizes refusal).1 e in cc) in
       record {
         keeps = fetched.keeps;
-        answers = λ contents t. record { ok = ap (lump_added old lump) (sym (known contents t)) ∙ added_of_small old lump live small ∙ ap Ok (sym is); err = tt };
+        answers = λ contents t. record { ok = ap (lump_added old lump) (sym (known contents t)) ∙ added_of_small old lump live size_not_refused ∙ ap Ok (sym is); err = tt };
         causes = record { err = tt };
         full = tt;
         order = fetched.order;

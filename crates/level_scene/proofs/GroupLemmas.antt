@@ -76,10 +76,10 @@ module _ (groups : List (Vec PlacedThing Global)) where
       let place = length all - 1 - n in
       let placed_is : placed ≡ get_or all place placed = at ∙ get_or-reverse all n placed inside in
       let low : placed.sector < length groups = subst (IsIn (length groups)) (sym placed_is) (within place placed (omega arith)) in
-      let here : place ≡ length all - (n + 1) = omega arith in
+      let place_is : place ≡ length all - (n + 1) = omega arith in
       let next : place + 1 ≡ length all - n = omega arith in
       let split : drop (length all - (n + 1)) all ≡ placed ∷ drop (length all - n) all =
-      ap (λ (k : ℕ). drop k all) (sym here) ∙ drop_more all place placed (omega arith)
+      ap (λ (k : ℕ). drop k all) (sym place_is) ∙ drop_more all place placed (omega arith)
       ∙ ap (λ (p : Placed). p ∷ drop (place + 1) all) (sym placed_is)
       ∙ ap (λ (k : ℕ). placed ∷ drop k all) next in
       subst (λ (things : List Placed). AreGroupsOf things (set groups placed.sector now)) (sym split) (groups-cons placed (drop (length all - n) all) was now low read pushed before)

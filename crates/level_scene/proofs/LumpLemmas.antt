@@ -16,11 +16,11 @@ ends_ok (Err x) a e = e
 next_after : (bytes : ℕ → List ℕ) (label place : ℕ) (lumps : List MapLump) (i number : ℕ) (d : MapLump) (b c e : BuilderValue) → i < length lumps → number ≡ label + (place + i) →
     lumps_from bytes label place (take i lumps) b ≡ Ok c → lump_added c (get_or lumps i d) (bytes number) ≡ Ok e → lumps_from bytes label place (take (suc i) lumps) b ≡ Ok e
 unfolding lumps_from
-next_after bytes label place [] i number d b c e inside at before added = let none : ⊥ = omega (arith, inside) in absurd none
+next_after bytes label place [] i number d b c e inside at before added = let impossible : ⊥ = omega (arith, inside) in absurd impossible
 next_after bytes label place (lump ∷ lumps) zero number d b c e inside at before added =
     let start : b ≡ c = cc in
-    let here : number ≡ label + place = omega arith in
-    ends_ok (lump_added b lump (bytes (label + place))) e (ap (λ x. lump_added x lump (bytes (label + place))) start ∙ ap (λ n. lump_added c lump (bytes n)) (sym here) ∙ added)
+    let number_is : number ≡ label + place = omega arith in
+    ends_ok (lump_added b lump (bytes (label + place))) e (ap (λ x. lump_added x lump (bytes (label + place))) start ∙ ap (λ n. lump_added c lump (bytes n)) (sym number_is) ∙ added)
 next_after bytes label place (lump ∷ lumps) (suc i) number d b c e inside at before added =
     go (lump_added b lump (bytes (label + place))) before (λ x h. next_after bytes label (suc place) lumps i number d x c e (omega arith) (omega arith) h added) where
       go : (r : Result BuilderValue MapRefusal) → and_then r (lumps_from bytes label (suc place) (take i lumps)) ≡ Ok c →
@@ -39,11 +39,11 @@ lumps_from-next bytes label place lumps i k number d b c e next inside at before
 pub lumps_from-stop : (bytes : ℕ → List ℕ) (label place : ℕ) (lumps : List MapLump) (i number : ℕ) (d : MapLump) (b c : BuilderValue) (refusal : MapRefusal) → i < length lumps → number ≡ label + (place + i) →
     lumps_from bytes label place (take i lumps) b ≡ Ok c → lump_added c (get_or lumps i d) (bytes number) ≡ Err refusal → lumps_from bytes label place lumps b ≡ Err refusal
 unfolding lumps_from
-lumps_from-stop bytes label place [] i number d b c refusal inside at before added = let none : ⊥ = omega (arith, inside) in absurd none
+lumps_from-stop bytes label place [] i number d b c refusal inside at before added = let impossible : ⊥ = omega (arith, inside) in absurd impossible
 lumps_from-stop bytes label place (lump ∷ lumps) zero number d b c refusal inside at before added =
     let start : b ≡ c = cc in
-    let here : number ≡ label + place = omega arith in
-    ap (λ r. and_then r (lumps_from bytes label (suc place) lumps)) (ap (λ x. lump_added x lump (bytes (label + place))) start ∙ ap (λ n. lump_added c lump (bytes n)) (sym here) ∙ added)
+    let number_is : number ≡ label + place = omega arith in
+    ap (λ r. and_then r (lumps_from bytes label (suc place) lumps)) (ap (λ x. lump_added x lump (bytes (label + place))) start ∙ ap (λ n. lump_added c lump (bytes n)) (sym number_is) ∙ added)
 lumps_from-stop bytes label place (lump ∷ lumps) (suc i) number d b c refusal inside at before added =
     go (lump_added b lump (bytes (label + place))) before (λ x h. lumps_from-stop bytes label (suc place) lumps i number d x c refusal (omega arith) (omega arith) h added) where
       go : (r : Result BuilderValue MapRefusal) → and_then r (lumps_from bytes label (suc place) (take i lumps)) ≡ Ok c →
@@ -72,9 +72,9 @@ next_absent b lump i e at = rw (e, at) (next_off i (8 - i))
 -- and then it is
 pub next_added : (added : List Bool) (number i k : ℕ) → i + 1 ≡ k → added ≡ added_first i → number ≡ i → i < 8 → set added number true ≡ added_first k
 next_added added number i k next e at few =
-    let left : 8 - i ≡ suc (8 - k) = omega arith in
+    let rest_is_suc : 8 - i ≡ suc (8 - k) = omega arith in
     let next_is : suc i ≡ k = omega arith in
-    rw (e, at, left) (next_on i (8 - k) ∙ ap (λ n. replicate n true ++ replicate (8 - k) false) next_is)
+    rw (e, at, rest_is_suc) (next_on i (8 - k) ∙ ap (λ n. replicate n true ++ replicate (8 - k) false) next_is)
 
 -- lumps in the order of their numbers
 module _ (lumps : List MapLump) (n : ℕ) (are : map lump_no lumps ≡ range_with_len 0 n) where
@@ -102,4 +102,4 @@ pub up_to_more : (P : ℕ → Type 0) (label i k next : ℕ) → i + 1 ≡ k →
 up_to_more P label i k next one at before here lump above below = go (cases_eq lump next) where
   go : (lump ≡ next) ⊎ (lump ≡ next → ⊥) → P lump
   go (inl e) = subst P (sym e) here
-  go (inr h) = let other : lump ≢ next = h in before lump above (omega arith)
+  go (inr h) = let lumps_differ : lump ≢ next = h in before lump above (omega arith)

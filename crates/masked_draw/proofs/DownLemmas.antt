@@ -22,9 +22,9 @@ pub down-more : (v : ViewValue) (art : Art) (ds : List Drawseg) (es : List Sprit
     middles_down v art ds es moment n (n - m) ≡ middles_down v art ds es moment n (n - (m + 1)) ++ middles_of v art es moment m (slice_get ds m)
 unfolding middles_down
 down-more v art ds es moment n m l =
-    let one_more : n - m ≡ suc (n - (m + 1)) = omega arith in
+    let rest_is_suc : n - m ≡ suc (n - (m + 1)) = omega arith in
     let comes_to_m : n - suc (n - (m + 1)) ≡ m = omega arith in
-    ap (middles_down v art ds es moment n) one_more
+    ap (middles_down v art ds es moment n) rest_is_suc
     ∙ ap (λ (k : ℕ). middles_down v art ds es moment n (n - (m + 1)) ++ middles_of v art es moment k (slice_get ds k)) comes_to_m
 
 down_rest : (v : ViewValue) (art : Art) (ds : List Drawseg) (es : List SpriteEntry) (moment : Option ℕ) (n c : ℕ) → c ≤ n →

@@ -48,13 +48,13 @@ module _ (s : MaskScene) (notes : List FragmentNote) (es : List SpriteEntry) whe
       (λ art. unmarked_dots s.view.now art old d (is_between d.first d.last) number (scene_drawseg s d)) a b (Ok answer) →
       MarksBy d (is_between d.first d.last) old new → LeavesMiddles mark m new start b
   leaves-more {mark = mark} {start} {a} from m number d old new apart l g n up later call marks =
-      let before : LeavesMiddles mark (m + 1) old start a = subst (λ (k : ℕ). LeavesMiddles mark k old start a) up later in record {
+      let leaves_middles_before : LeavesMiddles mark (m + 1) old start a = subst (λ (k : ℕ). LeavesMiddles mark k old start a) up later in record {
         paints = paints-value (tt {0}) (paints-same _
             (λ contents q is. let art = scene_art contents s in middles_more s.view.now art None m number d (unmarked_dots s.view.now art old d (is_between d.first d.last) number (scene_drawseg s d)) g l n
-            (ap (λ (k : ℕ). unmarked_dots s.view.now art old d (is_between d.first d.last) k (scene_drawseg s d)) n
-            ∙ left-middles s.view.now art (scene_drawseg s) notes es (m + 1) (λ k. length es) old m d (scene-columns s d) before.marked (omega arith) g refl))
-            (paints-then before.paints (paints-wider (scene-middle (scene_lists s) s.openings.now notes m d g) (λ n e. e) call)));
-        marked = marked-left (scene_drawseg s) notes es (λ k. length es) (is_between d.first d.last) old new m d apart g marks before.marked;
+            (ap (λ (k : ℕ). unmarked_dots s.view.now art old d (is_between d.first d.last) k (scene_drawseg s d)) n ∙ left-middles s.view.now art
+            (scene_drawseg s) notes es (m + 1) (λ k. length es) old m d (scene-columns s d) leaves_middles_before.marked (omega arith) g refl))
+            (paints-then leaves_middles_before.paints (paints-wider (scene-middle (scene_lists s) s.openings.now notes m d g) (λ n e. e) call)));
+        marked = marked-left (scene_drawseg s) notes es (λ k. length es) (is_between d.first d.last) old new m d apart g marks leaves_middles_before.marked;
       }
 
   pub leaves-end : {mark : Painter → ℕ → ℕ} {start now : PaintState} (m : ℕ) (marks : List Bool) → m ≡ 0 → LeavesMiddles mark m marks start now →
@@ -81,13 +81,13 @@ module _ (s : MaskScene) (notes : List FragmentNote) (es : List SpriteEntry) whe
       PaintsDots mark s (IsMiddleColumn (scene_lists s) s.openings.now d) (λ (n : ℕ). ⊥) (λ art. unmarked_dots s.view.now art old d (is_passed e (scene_drawseg s d)) number (scene_drawseg s d)) a b (Ok answer) →
       MarksBy d (is_passed e (scene_drawseg s d)) old new → PassesMiddles mark i m new start b
   passes-more {mark = mark} {start} {a} e i from m number d old new apart l g n il ig up later call marks =
-      let before : PassesMiddles mark i (m + 1) old start a = subst (λ (k : ℕ). PassesMiddles mark i k old start a) up later in record {
+      let passes_middles_before : PassesMiddles mark i (m + 1) old start a = subst (λ (k : ℕ). PassesMiddles mark i k old start a) up later in record {
         paints = paints-value (tt {0}) (paints-same _
             (λ contents q is. let art = scene_art contents s in middles_more s.view.now art (Some i) m number d (unmarked_dots s.view.now art old d (is_passed e (scene_drawseg s d)) number (scene_drawseg s d)) g l n
             (ap (λ (k : ℕ). unmarked_dots s.view.now art old d (is_passed e (scene_drawseg s d)) k (scene_drawseg s d)) n
-            ∙ passed-middles s.view.now art (scene_drawseg s) notes es (length notes) (turn_at i (m + 1)) old m i d e (scene-columns s d) before.marked l g (turn-here i m) il ig))
-            (paints-then before.paints (paints-wider (scene-middle (scene_lists s) s.openings.now notes m d g) (λ n e. e) call)));
-        marked = marked-pass (scene_drawseg s) notes es (length notes) old new i m d e apart g l il ig marks before.marked;
+            ∙ passed-middles s.view.now art (scene_drawseg s) notes es (length notes) (turn_at i (m + 1)) old m i d e (scene-columns s d) passes_middles_before.marked l g (turn-here i m) il ig))
+            (paints-then passes_middles_before.paints (paints-wider (scene-middle (scene_lists s) s.openings.now notes m d g) (λ n e. e) call)));
+        marked = marked-pass (scene_drawseg s) notes es (length notes) old new i m d e apart g l il ig marks passes_middles_before.marked;
       }
 
   pub passes-stop : {A B : Type 0} {mark : Painter → ℕ → ℕ} {f : List (List ℕ) → ⊤ → List Dot} {start a b : PaintState} {part : Result B CacheFault} {fault : CacheFault} {whole : Result A CacheFault} (e : SpriteEntry) (i m k : ℕ) (d : FragmentNote) (old new : List Bool) → slice_get notes k ≡ Some d →
@@ -136,10 +136,10 @@ clips-more s notes e from m d old new whole g takes up later =
     let from_next : ClipsFrom s notes e (m + 1) old = subst (λ (k : ℕ). ClipsFrom s notes e k old) up later in
     let ds = scene_drawsegs s notes in
     let seg = scene_drawseg s d in
-    let here = scene-get s notes m d g in
+    let drawseg_there = scene-get s notes m d g in
     record {
-      tops = rows-more (λ x d. d.top_clip x) (gives_top e) ds (entry_has e) m minus_one greatest_clip old.tops new.tops seg here (λ x t. (takes x t).top) (λ x t y. gives_top-bounds s d e x whole y) from_next.tops;
-      bottoms = rows-more (λ x d. d.bottom_clip x) (gives_bottom e) ds (entry_has e) m least_clip (pos s.view.now.shape.height) old.bottoms new.bottoms seg here (λ x t. (takes x t).bottom) (λ x t y. gives_bottom-bounds s d e x whole y) from_next.bottoms;
+      tops = rows-more (λ x d. d.top_clip x) (gives_top e) ds (entry_has e) m minus_one greatest_clip old.tops new.tops seg drawseg_there (λ x t. (takes x t).top) (λ x t y. gives_top-bounds s d e x whole y) from_next.tops;
+      bottoms = rows-more (λ x d. d.bottom_clip x) (gives_bottom e) ds (entry_has e) m least_clip (pos s.view.now.shape.height) old.bottoms new.bottoms seg drawseg_there (λ x t. (takes x t).bottom) (λ x t y. gives_bottom-bounds s d e x whole y) from_next.bottoms;
     }
 
 lowest : minus_one ≤ℤ greatest_clip

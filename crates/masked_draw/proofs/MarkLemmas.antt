@@ -56,10 +56,10 @@ one_more_at q from x n l =
     let with_it = up_to q from (x + 1) in
     let without_it = up_to q from x in
     let rest : List ℕ = map (λ x. x) (range_with_len (x + 1) n) in
-    let none = range_none with_it (x + 1) n (λ y a b. up_past q from (x + 1) y a) in
+    let no_later_column = range_none with_it (x + 1) n (λ y a b. up_past q from (x + 1) y a) in
     let none_g = range_none without_it x (suc n) (λ y a b. up_past q from x y a) in
     ap (λ (b : Bool). cond b (x ∷ filter with_it rest) (filter with_it rest)) (up_at q from x l)
-    ∙ ap (λ (xs : List ℕ). cond (q x) (x ∷ xs) xs) none
+    ∙ ap (λ (xs : List ℕ). cond (q x) (x ∷ xs) xs) no_later_column
     ∙ sym (ap (λ (xs : List ℕ). xs ++ cond (q x) (x ∷ []) []) none_g)
 
 head_append : (b : Bool) (a : ℕ) (xs ys zs : List ℕ) → xs ≡ ys ++ zs → cond b (a ∷ xs) xs ≡ cond b (a ∷ ys) ys ++ zs

@@ -106,9 +106,9 @@ pub art-lent : {A : Type 0} {view : ShelfView} {dir : DirectoryView} {textures :
     colormap < length dir.lumps → IsLive z (lump_owner lump) → result ≡ None →
     (IsLive z (lump_owner lump) → IsLive z (lump_owner colormap) → IsSome result) → P
 art-lent {A} {dir = dir} {contents = contents} {colormap} {z = z} P lump result hold there live none some =
-    let is : IsSome result = some live (lent_live (lump_owner colormap) z
+    let colormap_is_lent : IsSome result = some live (lent_live (lump_owner colormap) z
     (lump_bytes contents dir.lumps colormap) (colormap_lent hold there)) in
-    absurd (go result none is) where
+    absurd (go result none colormap_is_lent) where
       go : (o : Option A) → o ≡ None → IsSome o → ⊥
       go None e k = cc
       go (Some v) e k = cc

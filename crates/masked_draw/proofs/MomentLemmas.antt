@@ -20,8 +20,8 @@ before-least_at p i zero =
     let same_count : i + zero ≡ i = omega arith in
     ap (λ (m : ℕ). is_before (least p m) i) same_count ∙ before_here p i (least p i) refl
 before-least_at p i (suc k) =
-    let one_more : i + suc k ≡ (i + k) + 1 = omega arith in
-    ap (λ (m : ℕ). is_before (least p m) i) one_more
+    let sum_is_one_more : i + suc k ≡ (i + k) + 1 = omega arith in
+    ap (λ (m : ℕ). is_before (least p m) i) sum_is_one_more
     ∙ ap (λ (o : Option ℕ). is_before o i) (least-more p (i + k))
     ∙ before_step p (i + k) i (p (i + k)) (least p (i + k)) (omega arith)
     ∙ before-least_at p i k
@@ -64,10 +64,10 @@ pub front-more : (sprites : List SpriteEntry) (d : Drawseg) (x i : ℕ) (e : Spr
 front-more sprites d x i e l h =
     let stands = λ (k : ℕ). stands_in_front d x (slice_get sprites k) in
     let least_is = sprite_in_front-least sprites d x in
-    let up = before-least stands (length sprites) (i + 1) (omega arith) in
-    let at = before-least stands (length sprites) i (omega arith) in
-    ap (λ (o : Option ℕ). is_before o (i + 1)) least_is ∙ up ∙ some-least_more stands i
-    ∙ ap (λ (b : Bool). b || stands i) (sym (ap (λ (o : Option ℕ). is_before o i) least_is ∙ at))
+    let is_before_next = before-least stands (length sprites) (i + 1) (omega arith) in
+    let is_before_this = before-least stands (length sprites) i (omega arith) in
+    ap (λ (o : Option ℕ). is_before o (i + 1)) least_is ∙ is_before_next ∙ some-least_more stands i
+    ∙ ap (λ (b : Bool). b || stands i) (sym (ap (λ (o : Option ℕ). is_before o i) least_is ∙ is_before_this))
     ∙ ap (λ (b : Bool). is_before (sprite_in_front sprites d x) i || b) (stands_passed d x e (slice_get sprites i) h)
 
 -- it is painted just before this sprite

@@ -176,14 +176,14 @@ pass_note seg notes es n old new i m d e a g b l f w h k s c r (inr high) = elim
       let AtTurn : ℕ → Type 0 = λ j. AreBefore seg es new c j c.masked in
       subst AtTurn (turn_same i m k ne) (other_before seg notes es old new (is_passed e (seg d)) k m (turn_at i (m + 1) k) c d a ne r g w (note_at seg notes es n (turn_at i (m + 1)) old k c h s r))
   | inr here ↦
-      let same : m ≡ k = omega arith in
+      let numbers_same : m ≡ k = omega arith in
       let OldAtTurn : ℕ → Type 0 = λ j. AreBefore seg es old d j d.masked in
-      let before : AreBefore seg es old d i d.masked = subst OldAtTurn (turn_low i (m + 1) m (omega arith)) (note_at seg notes es n (turn_at i (m + 1)) old m d h b g) in
-      let now : AreBefore seg es new d (i + 1) d.masked = own_before seg es old new i d e l f w before in
-      let both : d ≡ c = same_some d c (slice_get notes k) (ap (slice_get notes) (sym same) ∙ g) r in
+      let are_before_turn : AreBefore seg es old d i d.masked = subst OldAtTurn (turn_low i (m + 1) m (omega arith)) (note_at seg notes es n (turn_at i (m + 1)) old m d h b g) in
+      let now : AreBefore seg es new d (i + 1) d.masked = own_before seg es old new i d e l f w are_before_turn in
+      let notes_same : d ≡ c = same_some d c (slice_get notes k) (ap (slice_get notes) (sym numbers_same) ∙ g) r in
       let AtTurn : ℕ → Type 0 = λ j. AreBefore seg es new c j c.masked in
       let OfNote : FragmentNote → Type 0 = λ z. AreBefore seg es new z (i + 1) z.masked in
-      subst AtTurn (sym (turn_high i m k high)) (subst OfNote both now)
+      subst AtTurn (sym (turn_high i m k high)) (subst OfNote notes_same now)
 ]
 
 -- one note more had its turn

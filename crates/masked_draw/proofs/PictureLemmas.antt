@@ -19,9 +19,9 @@ pub own-outside : (mark : Painter → ℕ → ℕ) (shape : ViewShape) (x : ℕ)
     (int_le (pos 0) own && int_lt own (pos (half_at bytes 0))) ≡ false →
     canvas ≡ with_dots mark (posts_dots shape canvas.painter x column (byte_at bytes) shade_of (own_posts bytes own)) canvas
 own-outside mark shape x column bytes shade_of own canvas out =
-    let none : own_posts bytes own ≡ [] = ap (λ (b : Bool). cond b (posts bytes (column_place bytes (natural own))) []) out in
+    let no_posts : own_posts bytes own ≡ [] = ap (λ (b : Bool). cond b (posts bytes (column_place bytes (natural own))) []) out in
     dots_none mark canvas
-    ∙ ap (λ (dots : List Dot). with_dots mark dots canvas) (sym (ap (posts_dots shape canvas.painter x column (byte_at bytes) shade_of) none ∙ posts-nil shape canvas.painter x column (byte_at bytes) shade_of))
+    ∙ ap (λ (dots : List Dot). with_dots mark dots canvas) (sym (ap (posts_dots shape canvas.painter x column (byte_at bytes) shade_of) no_posts ∙ posts-nil shape canvas.painter x column (byte_at bytes) shade_of))
 
 pub natural_of : (z : ℤ) (n : ℕ) → z ≡ pos n → natural z ≡ n
 unfolding natural
@@ -34,10 +34,10 @@ pub own-inside : (mark : Painter → ℕ → ℕ) (shape : ViewShape) (x : ℕ) 
     new ≡ with_dots mark (posts_dots shape old.painter x column (byte_at bytes) shade_of (posts bytes place)) old →
     new ≡ with_dots mark (posts_dots shape old.painter x column (byte_at bytes) shade_of (own_posts bytes own)) old
 own-inside mark shape x column bytes shade_of place n own old new inside here at h =
-    let same : posts bytes place ≡ own_posts bytes own =
+    let posts_same : posts bytes place ≡ own_posts bytes own =
     ap (posts bytes) (at ∙ ap (column_place bytes) (sym (natural_of own n here)))
     ∙ sym (ap (λ (b : Bool). cond b (posts bytes (column_place bytes (natural own))) []) inside) in
-    h ∙ ap (λ (ps : List Post). with_dots mark (posts_dots shape old.painter x column (byte_at bytes) shade_of ps) old) same
+    h ∙ ap (λ (ps : List Post). with_dots mark (posts_dots shape old.painter x column (byte_at bytes) shade_of ps) old) posts_same
 
 -- a function of two words, at others
 pub same_words : (f : ℤ → ℤ → ℤ) (a b c d : ℤ) → a ≡ b → c ≡ d → f a c ≡ f b d
@@ -88,8 +88,8 @@ not_less a b first last p q l = grind (arith, ints)
 rows_whole : (a b : ℤ) (first last : ℕ) → a ≡ pos first → b ≡ pos last → first ≤ last → rows_between a b ≡ map (λ x. x) (range_with_len first (last + 1 - first))
 unfolding rows_between listed_from
 rows_whole a b first last p q l =
-    let none : int_lt b a ≡ false = not_less a b first last p q l in
-    ap (λ (c : Bool). cond c [] (map (λ x. x) (range_with_len (natural a) (natural b + 1 - natural a)))) none
+    let last_not_less : int_lt b a ≡ false = not_less a b first last p q l in
+    ap (λ (c : Bool). cond c [] (map (λ x. x) (range_with_len (natural a) (natural b + 1 - natural a)))) last_not_less
     ∙ ap (λ (n : ℕ). map (λ x. x) (range_with_len n (natural b + 1 - n))) (natural_of a first p)
     ∙ ap (λ (n : ℕ). map (λ x. x) (range_with_len first (n + 1 - first))) (natural_of b last q)
 

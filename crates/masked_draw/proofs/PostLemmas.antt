@@ -63,12 +63,12 @@ shut-post : (shape : ViewShape) (painter : Painter) (x : ℕ) (c : MaskedColumn)
 unfolding post_first post_last
 shut-post shape painter x c byte shade_of post is shut =
     let top : ℤ = post_top (picture_top shape c.mid c.scale) c.scale post.topdelta in
-    let from = greater_word-first (plus c.top_clip (pos 1)) (shr_word (plus top MAX_FRACTION) FRACTION_BITS) in
-    let to = lesser_word-first (minus c.bottom_clip (pos 1))
+    let clip_before_first = greater_word-first (plus c.top_clip (pos 1)) (shr_word (plus top MAX_FRACTION) FRACTION_BITS) in
+    let last_before_clip = lesser_word-first (minus c.bottom_clip (pos 1))
     (shr_word (minus (post_bottom top c.scale post.length) (pos 1)) FRACTION_BITS) in
-    let before : (c.bottom_clip -ℤ pos 1) <ℤ c.bottom_clip = omega (arith, ints) in
+    let before_bottom_clip : (c.bottom_clip -ℤ pos 1) <ℤ c.bottom_clip = omega (arith, ints) in
     sym (post-none shape painter x c byte shade_of post top refl
-    (over _ _ (lower _ _ _ _ _ to is before shut from))) where
+    (over _ _ (lower _ _ _ _ _ last_before_clip is before_bottom_clip shut clip_before_first))) where
       lower : (last least bottom first greatest : ℤ) → last ≤ℤ least → least ≡ bottom -ℤ pos 1 →
           (bottom -ℤ pos 1) <ℤ bottom → bottom ≤ℤ greatest → greatest ≤ℤ first → last <ℤ first
       lower last least bottom first greatest a e b d f = omega (arith, ints, a, e, b, d, f)
@@ -168,8 +168,8 @@ unfolding post_at post_in
 post_at-some bytes place post e = go (is_post bytes place) refl e where
   go : (b : Bool) → is_post bytes place ≡ b →
       Some post ≡ (if b then Some (post_in bytes place) else None) → IsPostAt bytes place post
-  go true on same = let is : post ≡ post_in bytes place = cc in
-      record { on = on; is = is; first = ap (λ (p : Post). p.first) is }
+  go true on same = let post_is : post ≡ post_in bytes place = cc in
+      record { on = on; is = post_is; first = ap (λ (p : Post). p.first) post_is }
   go false off same = cc
 
 pub post_at-none : (bytes : List ℕ) (place : ℕ) → None ≡ post_at bytes place →
@@ -185,7 +185,7 @@ pub is_post-past : (bytes : List ℕ) (place : ℕ) → length bytes ≤ place �
     is_post bytes place ≡ false
 is_post-past bytes place l = go (is_post bytes place) refl where
   go : (b : Bool) → is_post bytes place ≡ b → is_post bytes place ≡ false
-  go true on = let within = is_post-within bytes place on in absurd (omega arith)
+  go true on = let post_is_within = is_post-within bytes place on in absurd (omega arith)
   go false off = off
 
 -- the post after one does not begin before its first texel
@@ -215,16 +215,16 @@ module _ {mark : Painter → ℕ → ℕ} {shape : ViewShape} {x : ℕ} {c : Mas
   left-more place next now after post left at is_next painted =
       let rest : Painter → List Dot = λ painter. posts_dots shape painter x c (byte_at bytes)
       (shade colormap m) (posts bytes next) in
-      let own : List Dot = post_dots shape now.painter x c (byte_at bytes) (shade colormap m) post in
-      let all : posts bytes place ≡ post ∷ posts bytes next =
+      let own_dots : List Dot = post_dots shape now.painter x c (byte_at bytes) (shade colormap m) post in
+      let posts_are : posts bytes place ≡ post ∷ posts bytes next =
       posts-some bytes place at.on
       ∙ ap (λ (p : Post). p ∷ posts bytes (next_place p)) (sym at.is)
       ∙ ap (λ (n : ℕ). post ∷ posts bytes n) (sym is_next) in
       record {
         same = ap (λ (canvas : CanvasView). with_dots mark (rest canvas.painter) canvas) painted
-            ∙ with_dots-append mark own (rest now.painter) now
+            ∙ with_dots-append mark own_dots (rest now.painter) now
             ∙ ap (λ (dots : List Dot). with_dots mark dots now)
-            (sym (ap (posts_dots shape now.painter x c (byte_at bytes) (shade colormap m)) all
+            (sym (ap (posts_dots shape now.painter x c (byte_at bytes) (shade colormap m)) posts_are
             ∙ posts-cons shape now.painter x c (byte_at bytes) (shade colormap m) post
             (posts bytes next)))
             ∙ left.same;

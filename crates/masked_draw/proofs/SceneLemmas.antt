@@ -112,13 +112,13 @@ pub gives_bottom-bounds : (s : MaskScene) (d : FragmentNote) (e : SpriteEntry) (
 unfolding gives_bottom noted_drawseg
 gives_bottom-bounds s d e x whole g =
     let seg = scene_drawseg s d in
-    let given = given_parts seg e x seg.has_bottom (int_lt e.gz seg.bottom_height) g in
-    whole.bottom_rows x given.0.0 given.0.1 (whole.bottom (not_zero _ given.1))
+    let bottom_is_clipped = given_parts seg e x seg.has_bottom (int_lt e.gz seg.bottom_height) g in
+    whole.bottom_rows x bottom_is_clipped.0.0 bottom_is_clipped.0.1 (whole.bottom (not_zero _ bottom_is_clipped.1))
 
 pub gives_top-bounds : (s : MaskScene) (d : FragmentNote) (e : SpriteEntry) (x : ℕ) → IsWholeNote s.view.now.shape s.openings.now d →
     gives_top e x (scene_drawseg s d) ≡ true → (minus_one ≤ℤ (scene_drawseg s d).top_clip x) × ((scene_drawseg s d).top_clip x ≤ℤ greatest_clip)
 unfolding gives_top noted_drawseg
 gives_top-bounds s d e x whole g =
     let seg = scene_drawseg s d in
-    let given = given_parts seg e x seg.has_top (int_lt seg.top_height e.gzt) g in
-    whole.top_rows x given.0.0 given.0.1 (whole.top (not_zero _ given.1))
+    let top_is_clipped = given_parts seg e x seg.has_top (int_lt seg.top_height e.gzt) g in
+    whole.top_rows x top_is_clipped.0.0 top_is_clipped.0.1 (whole.top (not_zero _ top_is_clipped.1))

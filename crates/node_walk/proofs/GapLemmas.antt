@@ -17,9 +17,9 @@ slice_none columns at last l = let none_left : last + 1 - at ≡ 0 = omega arith
 -- the first of them, and the others
 slice_one : (columns : List Bool) (at last : ℕ) → at ≤ last → last < length columns → slice columns at last ≡ get_or columns at true ∷ slice columns (at + 1) last
 slice_one columns at last l h =
-    let one_more : last + 1 - at ≡ suc (last + 1 - (at + 1)) = omega arith in
+    let count_is_suc : last + 1 - at ≡ suc (last + 1 - (at + 1)) = omega arith in
     let next_is_suc : at + 1 ≡ suc at = omega arith in
-    ap (λ (n : ℕ). take n (drop at columns)) one_more
+    ap (λ (n : ℕ). take n (drop at columns)) count_is_suc
     ∙ ap (take (suc (last + 1 - (at + 1)))) (drop-cons columns at true (omega arith))
     ∙ ap (λ (n : ℕ). get_or columns at true ∷ take (last + 1 - (at + 1)) (drop n columns)) (sym next_is_suc)
 

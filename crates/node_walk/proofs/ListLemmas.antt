@@ -45,5 +45,5 @@ pub read_lists-whole : (level : LevelValue) (segs : List Seg) (leaves : List Lea
     segs ≡ level.segs → leaves ≡ level.leaves → nodes ≡ level.nodes → root ≡ level.root → length surfaces ≡ length level.sectors → length middles ≡ length level.sides →
     AreWhole (record { segs = segs; leaves = leaves; nodes = nodes; root = root; surfaces = surfaces; middles = middles })
 read_lists-whole level segs leaves nodes root surfaces middles sound a b c d es em =
-    let same : walk_lists level surfaces middles ≡ record { segs = segs; leaves = leaves; nodes = nodes; root = root; surfaces = surfaces; middles = middles } = cc in
-    subst AreWhole same (lists-whole level surfaces middles sound es em)
+    let lists_same : walk_lists level surfaces middles ≡ record { segs = segs; leaves = leaves; nodes = nodes; root = root; surfaces = surfaces; middles = middles } = cc in
+    subst AreWhole lists_same (lists-whole level surfaces middles sound es em)

@@ -114,13 +114,13 @@ segs_front v level front first j (suc n) columns l =
       | inr ne ↦
           let rest_of : (rest : List Event) × ((at_segs v level front first j (part_start columns)).events ++ rest ≡ (at_segs v level front first n (part_start columns)).events) = segs_front v level front first j n columns (omega arith) in
           let now : List Bool = (at_segs v level front first n (part_start columns)).covered in
-          let more : List Event = (at_seg v level front (first + n) (part_start now)).events in
-          let one_more : n + 1 ≡ suc n = omega arith in (
-            rest_of.0 ++ more,
-            sym (append_assoc (at_segs v level front first j (part_start columns)).events rest_of.0 more)
-                ∙ ap (λ (es : List Event). es ++ more) rest_of.1
+          let seg_events : List Event = (at_seg v level front (first + n) (part_start now)).events in
+          let next_is_suc : n + 1 ≡ suc n = omega arith in (
+            rest_of.0 ++ seg_events,
+            sym (append_assoc (at_segs v level front first j (part_start columns)).events rest_of.0 seg_events)
+                ∙ ap (λ (es : List Event). es ++ seg_events) rest_of.1
                 ∙ sym (ap (λ (w : WalkState). w.events) (segs_part v level front first n columns now refl))
-                ∙ ap (λ (m : ℕ). (at_segs v level front first m (part_start columns)).events) one_more,
+                ∙ ap (λ (m : ℕ). (at_segs v level front first m (part_start columns)).events) next_is_suc,
           )
     ]
 

@@ -23,11 +23,11 @@ four_parts false b c d e = cc
 pub apart_parts : (j width : ℕ) (rs : List Range) → are_apart j width rs ≡ true → AreApart j width rs
 apart_parts j width [] e = tt
 apart_parts j width (r ∷ rs) e =
-    let parts = four_parts (nat_le j r.first) (nat_le r.first r.last) (nat_lt r.last width) (are_apart (r.last + 2) width rs) e in
-    let from_j : j ≤ r.first = let starts_test : nat_le j r.first ≡ true = parts.0 in grind (arith, nat_tests) in
-    let in_order : r.first ≤ r.last = let order_test : nat_le r.first r.last ≡ true = parts.1 in grind (arith, nat_tests) in
-    let within_width : r.last < width = let width_test : nat_lt r.last width ≡ true = parts.2 in grind (arith, nat_tests) in
-    (from_j, in_order, within_width, apart_parts (r.last + 2) width rs parts.3)
+    let tests_hold = four_parts (nat_le j r.first) (nat_le r.first r.last) (nat_lt r.last width) (are_apart (r.last + 2) width rs) e in
+    let from_j : j ≤ r.first = let starts_test : nat_le j r.first ≡ true = tests_hold.0 in grind (arith, nat_tests) in
+    let in_order : r.first ≤ r.last = let order_test : nat_le r.first r.last ≡ true = tests_hold.1 in grind (arith, nat_tests) in
+    let within_width : r.last < width = let width_test : nat_lt r.last width ≡ true = tests_hold.2 in grind (arith, nat_tests) in
+    (from_j, in_order, within_width, apart_parts (r.last + 2) width rs tests_hold.3)
 
 -- four tests that hold, together
 four_hold : (a b c d : Bool) → a ≡ true → b ≡ true → c ≡ true → d ≡ true → (a && (b && (c && d))) ≡ true

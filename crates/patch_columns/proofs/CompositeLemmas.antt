@@ -39,9 +39,9 @@ take_next patches n patch e =
 composed_column-more : (bytes : ℕ → List ℕ) (patches : List PlacedPatch) (n height x : ℕ) (lump : List ℕ) (patch : PlacedPatch) → IsNext bytes patches n lump patch → composed_column bytes (take (n + 1) patches) height x ≡ with_posts (composed_column bytes (take n patches) height x) (posts_in lump patch x)
 unfolding composed_column
 composed_column-more bytes patches n height x lump patch h =
-    let more : column_posts bytes (take (n + 1) patches) x ≡ column_posts bytes (take n patches) x ++ posts_in lump patch x =
+    let posts_one_more : column_posts bytes (take (n + 1) patches) x ≡ column_posts bytes (take n patches) x ++ posts_in lump patch x =
     ap (λ (ps : List PlacedPatch). column_posts bytes ps x) (take_next patches n patch h.is) ∙ column_posts-more bytes lump x (take n patches) patch h.its in
-    ap (λ (ps : List PlacedPost). listed (composed_byte height ps) height) more
+    ap (λ (ps : List PlacedPost). listed (composed_byte height ps) height) posts_one_more
     ∙ sym (with_posts-composed height (column_posts bytes (take n patches) x) (posts_in lump patch x))
 
 -- the same, with the columns of the texture, where the composite has the patches before it
@@ -82,12 +82,12 @@ composed_step bytes patches n height x width lump patch lookup old new is l on a
     let column_before = composed_column bytes (take n patches) height in
     let composed_at = is_composed patches in
     let front = joined_lists column_after (below composed_at x) in
-    let back = joined_lists column_before (onward composed_at (x + 1) width) in
-    puts.put (composite_place patches height x) front (column_before x) back at
+    let columns_behind = joined_lists column_before (onward composed_at (x + 1) width) in
+    puts.put (composite_place patches height x) front (column_before x) columns_behind at
     (before ∙ joined_up_to-here column_after column_before composed_at x width l on)
     (length-joined_lists column_after height (below composed_at x) (length-composed_column bytes (take (n + 1) patches) height))
     (length-composed_column bytes (take n patches) height x)
-    ∙ ap (λ (column : List ℕ). front ++ (column ++ back)) (sym (composed_column-more bytes patches n height x lump patch is))
+    ∙ ap (λ (column : List ℕ). front ++ (column ++ columns_behind)) (sym (composed_column-more bytes patches n height x lump patch is))
     ∙ sym (joined_up_to-next column_after column_before composed_at x width on)
 
 other_step : (bytes : ℕ → List ℕ) (patches : List PlacedPatch) (n height x width : ℕ) (placed : List PlacedPost) (lookup : ColumnLookup) (old new : List ℕ) → x < width → is_composed patches x ≡ false → ((place : ℕ) → lookup ≡ Composed place → ⊥) → old ≡ composite_up_to bytes patches n height x width → Puts lookup height placed old new → new ≡ composite_up_to bytes patches n height (x + 1) width

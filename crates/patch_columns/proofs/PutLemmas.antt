@@ -53,9 +53,9 @@ posts_at-some : (bytes : List ℕ) (place : ℕ) (y : ℤ) (post : Post) → pos
 unfolding posts_at
 posts_at-some bytes place y post h =
     let begins_there = begins bytes place post h in
-    let all : posts bytes place ≡ post ∷ posts bytes (next_place post) =
+    let posts_are : posts bytes place ≡ post ∷ posts bytes (next_place post) =
     posts-some bytes place begins_there.is ∙ ap (λ (p : Post). p ∷ posts bytes (next_place p)) begins_there.read in
-    ap (map (λ (p : Post). placed_post (y +ℤ pos p.topdelta) p bytes)) all
+    ap (map (λ (p : Post). placed_post (y +ℤ pos p.topdelta) p bytes)) posts_are
 
 -- no post is left
 pub put_all : (bytes : List ℕ) (place : ℕ) (y : ℤ) (column : List ℕ) → post_at bytes place ≡ None → column ≡ with_posts column (posts_at bytes place y)

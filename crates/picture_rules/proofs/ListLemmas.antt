@@ -59,9 +59,9 @@ all_fragments-leaf es n = ap length (leaf_fragments-append 0 es (LeafEvent n ∷
 longer_step : (steps : List Step) (s : Step) → length (view_planes steps) ≤ length (view_planes (steps ++ s ∷ []))
 unfolding view_planes planes_of
 longer_step steps s =
-    let one_more = ap (after_events no_planes) (map-append (λ (t : Step). t.event) steps (s ∷ [])) ∙ after_events-more no_planes (map (λ (t : Step). t.event) steps) s.event in
+    let after_one_step = ap (after_events no_planes) (map-append (λ (t : Step). t.event) steps (s ∷ [])) ∙ after_events-more no_planes (map (λ (t : Step). t.event) steps) s.event in
     let is_longer = after_event-longer (after_events no_planes (map (λ (t : Step). t.event) steps)) s.event in
-    subst (λ (now : PlanesNow). length (after_events no_planes (map (λ (t : Step). t.event) steps)).planes ≤ length now.planes) (sym one_more) is_longer
+    subst (λ (now : PlanesNow). length (after_events no_planes (map (λ (t : Step). t.event) steps)).planes ≤ length now.planes) (sym after_one_step) is_longer
 
 pub walls_counted : (v : ViewValue) (scene : Scene) (es : List Event) → length (walls_of v scene es) ≡ length (drawsegs es)
 unfolding walls_of
@@ -79,22 +79,22 @@ all_counted es h = omega (arith, length-take MAX_DRAWSEGS (leaf_fragments 0 es))
 pub event_planes-longer : (v : ViewValue) (scene : Scene) (es : List Event) (e : Event) → length (event_planes v scene es) ≤ length (event_planes v scene (es ++ e ∷ []))
 unfolding event_planes view_steps
 event_planes-longer v scene es (LeafEvent n) =
-    let is = ap (λ walls. steps_of v scene walls (es ++ LeafEvent n ∷ [])) (walls_of-leaf v scene es n) ∙ steps_of-leaf v scene (walls_of v scene es) es n in
-    rw is (longer_step (steps_of v scene (walls_of v scene es) es) (leaf_step v (leaf_surface scene n)))
+    let steps_after_leaf = ap (λ walls. steps_of v scene walls (es ++ LeafEvent n ∷ [])) (walls_of-leaf v scene es n) ∙ steps_of-leaf v scene
+    (walls_of v scene es) es n in rw steps_after_leaf (longer_step (steps_of v scene (walls_of v scene es) es) (leaf_step v (leaf_surface scene n)))
 event_planes-longer v scene es (FragmentEvent seg first last) =
     let same_counts = walls_counted v scene es in
     elim (cases_lt (length (walls_of v scene es)) MAX_DRAWSEGS) [
       | inl room ↦ (
           let wall = fragment_wall v scene (record { leaf = last_leaf 0 es; seg = seg; first = first; last = last }) in
-          let has_room : length (drawsegs es) < MAX_DRAWSEGS = omega arith in
-          let is = ap (λ (walls : List Wall). steps_of v scene walls (es ++ FragmentEvent seg first last ∷ [])) (walls_of-room v scene es seg first last room)
-          ∙ steps_of-room v scene (walls_of v scene es) wall es seg first last (same_counts ∙ all_counted es has_room) in
-          rw is (longer_step (steps_of v scene (walls_of v scene es) es) (wall_step v (walls_of v scene es ++ wall ∷ []) (length (walls_of v scene es)) wall)))
+          let has_room : length (drawsegs es) < MAX_DRAWSEGS = omega arith in let steps_after_wall =
+          ap (λ (walls : List Wall). steps_of v scene walls (es ++ FragmentEvent seg first last ∷ [])) (walls_of-room v scene es seg first last room)
+          ∙ steps_of-room v scene (walls_of v scene es) wall es seg first last (same_counts ∙ all_counted es has_room) in rw steps_after_wall
+          (longer_step (steps_of v scene (walls_of v scene es) es) (wall_step v (walls_of v scene es ++ wall ∷ []) (length (walls_of v scene es)) wall)))
       | inr full ↦ (
-          let drawn_at_most = drawn_counted es in
-          let is = ap (λ (walls : List Wall). steps_of v scene walls (es ++ FragmentEvent seg first last ∷ [])) (walls_of-full v scene es seg first last full)
+          let drawn_at_most = drawn_counted es in let steps_when_full =
+          ap (λ (walls : List Wall). steps_of v scene walls (es ++ FragmentEvent seg first last ∷ [])) (walls_of-full v scene es seg first last full)
           ∙ steps_of-full v scene (walls_of v scene es) es seg first last (omega arith) in
-          rw is (omega arith))
+          rw steps_when_full (omega arith))
     ]
 
 pub event_planes-none : (v : ViewValue) (scene : Scene) → event_planes v scene [] ≡ []
@@ -109,10 +109,10 @@ makers_last v scene before [] e =
     append-nil (replicate (planes_made v scene before e) (maker_of (length (drawsegs before)) e))
     ∙ ap (λ (fs : List Event). replicate (planes_made v scene fs e) (maker_of (length (drawsegs fs)) e)) (sym (append-nil before))
 makers_last v scene before (f ∷ fs) e =
-    let own = replicate (planes_made v scene before f) (maker_of (length (drawsegs before)) f) in
-    ap (λ (ms : List PlaneMaker). own ++ ms) (makers_last v scene (before ++ f ∷ []) fs e
+    let makers_of_event = replicate (planes_made v scene before f) (maker_of (length (drawsegs before)) f) in
+    ap (λ (ms : List PlaneMaker). makers_of_event ++ ms) (makers_last v scene (before ++ f ∷ []) fs e
     ∙ ap (λ (gs : List Event). makers_from v scene (before ++ f ∷ []) fs ++ replicate (planes_made v scene gs e) (maker_of (length (drawsegs gs)) e)) (append_assoc before (f ∷ []) fs))
-    ∙ sym (append_assoc own (makers_from v scene (before ++ f ∷ []) fs) (replicate (planes_made v scene (before ++ f ∷ fs) e) (maker_of (length (drawsegs (before ++ f ∷ fs))) e)))
+    ∙ sym (append_assoc makers_of_event (makers_from v scene (before ++ f ∷ []) fs) (replicate (planes_made v scene (before ++ f ∷ fs) e) (maker_of (length (drawsegs (before ++ f ∷ fs))) e)))
 
 pub plane_makers-more : (v : ViewValue) (scene : Scene) (es : List Event) (e : Event) →
     plane_makers v scene (es ++ e ∷ []) ≡ plane_makers v scene es ++ replicate (planes_made v scene es e) (maker_of (length (drawsegs es)) e)
@@ -126,21 +126,21 @@ plane_makers-none v scene = refl
 -- each plane has a maker
 makers_counted : (v : ViewValue) (scene : Scene) (before es : List Event) → length (makers_from v scene before es) + length (event_planes v scene before) ≡ length (event_planes v scene (before ++ es))
 unfolding makers_from planes_made
-makers_counted v scene before [] = let same = ap (λ (fs : List Event). length (event_planes v scene fs)) (append-nil before) in omega (arith, same)
+makers_counted v scene before [] = let planes_same = ap (λ (fs : List Event). length (event_planes v scene fs)) (append-nil before) in
+    omega (arith, planes_same)
 makers_counted v scene before (e ∷ es) =
-    let more = event_planes-longer v scene before e in
+    let planes_grow = event_planes-longer v scene before e in
     let rest = makers_counted v scene (before ++ e ∷ []) es ∙ ap (λ (fs : List Event). length (event_planes v scene fs)) (append_assoc before (e ∷ []) es) in
-    let own = replicate (planes_made v scene before e) (maker_of (length (drawsegs before)) e) in
-    let joined_length = length-append own (makers_from v scene (before ++ e ∷ []) es) in
+    let makers_of_event = replicate (planes_made v scene before e) (maker_of (length (drawsegs before)) e) in
+    let joined_length = length-append makers_of_event (makers_from v scene (before ++ e ∷ []) es) in
     let own_length = length-replicate (planes_made v scene before e) (maker_of (length (drawsegs before)) e) in
-    omega (arith, more, rest, joined_length, own_length)
+    omega (arith, planes_grow, rest, joined_length, own_length)
 
 pub plane_makers-count : (v : ViewValue) (scene : Scene) (es : List Event) → length (plane_makers v scene es) ≡ length (event_planes v scene es)
 unfolding plane_makers
 plane_makers-count v scene es =
-    let none = ap length (event_planes-none v scene) in
-    let all = makers_counted v scene [] es in
-    omega (arith, none, all)
+    let no_planes_yet = ap length (event_planes-none v scene) in let makers_are_counted = makers_counted v scene [] es in
+    omega (arith, no_planes_yet, makers_are_counted)
 
 -- a fragment shows no thing, a leaf those of its sector where none of that was entered before
 pub shown_things-fragment : (v : ViewValue) (scene : Scene) (es : List Event) (seg first last : ℕ) → shown_things v scene (es ++ FragmentEvent seg first last ∷ []) ≡ shown_things v scene es
@@ -191,16 +191,16 @@ module _ (v : ViewValue) (scene : Scene) where
   with_room : (entries : List SpriteEntry) (things : List PlacedThing) (thing : PlacedThing) (e : SpriteEntry) → length entries < MAX_VISSPRITES →
       IsEntryOf v scene (length entries) thing e → AreEntriesOf v scene entries things → AreEntriesOf v scene (entries ++ e ∷ []) (things ++ thing ∷ [])
   with_room entries things thing e room own h =
-      let same : length entries ≡ length things = omega (arith, h.count, room) in
+      let counts_same : length entries ≡ length things = omega (arith, h.count, room) in
       record {
-        count = omega (arith, same, length_push things thing, length_push entries e, room);
+        count = omega (arith, counts_same, length_push things thing, length_push entries e, room);
         each = λ k f t is on. elim (get_push entries e f k is) [
           | inl old ↦ elim (get_push things thing t k on) [
             | inl on_old ↦ h.each k f t old on_old
-            | inr on_new ↦ absurd (omega (arith, slice_get_within entries k f old, on_new.0, same))
+            | inr on_new ↦ absurd (omega (arith, slice_get_within entries k f old, on_new.0, counts_same))
           ]
           | inr new ↦ elim (get_push things thing t k on) [
-            | inl on_old ↦ absurd (omega (arith, slice_get_within things k t on_old, new.0, same))
+            | inl on_old ↦ absurd (omega (arith, slice_get_within things k t on_old, new.0, counts_same))
             | inr on_new ↦
                 subst (λ (f : SpriteEntry). IsEntryOf v scene k t f) new.1
                 (subst (λ (t : PlacedThing). IsEntryOf v scene k t e) on_new.1
@@ -224,7 +224,7 @@ module _ (v : ViewValue) (scene : Scene) where
   shape_with sector entries things thing seen shape false is_seen is_picked is h =
       let placed = placed_of v scene sector thing in
       let entry = entry_of v (length entries) placed seen shape (picture_first v seen shape) (picture_last v seen shape) in
-      let own : IsEntryOf v scene (length entries) thing entry = record {
+      let is_entry_of_thing : IsEntryOf v scene (length entries) thing entry = record {
         sector = sector;
         seen = seen;
         shape = shape;
@@ -232,7 +232,7 @@ module _ (v : ViewValue) (scene : Scene) where
         is_picked = is_picked;
         is_made = rw is refl;
       } in
-      rw is (made_if entries things thing entry (nat_lt (length entries) MAX_VISSPRITES) refl own h)
+      rw is (made_if entries things thing entry (nat_lt (length entries) MAX_VISSPRITES) refl is_entry_of_thing h)
 
   picked_with : (sector : ℕ) (entries : List SpriteEntry) (things : List PlacedThing) (thing : PlacedThing) (seen : Seen) (shape : Option Shape5) →
       project v (placed_of v scene sector thing) ≡ Some seen → scene.pick thing.sprite thing.frame seen.rotation ≡ shape → AreEntriesOf v scene entries things →

@@ -57,7 +57,7 @@ numbered_from Q k (x ∷ xs) h =
     )
 
 numbered : {X : Type 0} (Q : ℕ → X → Type 0) (xs : List X) → ((i : ℕ) (x : X) → slice_get xs i ≡ Some x → Q i x) → AllNumbered Q 0 xs
-numbered Q xs h = numbered_from Q 0 xs (λ i x is. let same : i ≡ 0 + i = omega arith in subst (λ (n : ℕ). Q n x) same (h i x is))
+numbered Q xs h = numbered_from Q 0 xs (λ i x is. let index_is : i ≡ 0 + i = omega arith in subst (λ (n : ℕ). Q n x) index_is (h i x is))
 
 -- each item of a list is what its place says
 all_places : {X : Type 0} (Q : X → Type 0) (xs : List X) → ((i : ℕ) (x : X) → slice_get xs i ≡ Some x → Q x) → AllByRecursion Q xs
@@ -320,37 +320,38 @@ entry_number v k placed seen shape e h = number_if k (entry_of v k placed seen s
 module _ (v : ViewValue) (scene : Scene) (events : List Event) where
   fragment_at : (k : ℕ) (w : Wall) → slice_get (walls_of v scene events) k ≡ Some w → IsFragmentAt (event_list v scene events) k w.first w.last
   unfolding event_list walls_of
-  fragment_at k w h = let found = wall_at v scene (drawsegs events) k w h in record { fragment = found.0; is = found.1; first_is = found.2; last_is = found.3 }
+  fragment_at k w h = let wall_found = wall_at v scene (drawsegs events) k w h in
+      record { fragment = wall_found.0; is = wall_found.1; first_is = wall_found.2; last_is = wall_found.3 }
 
   note_at : (k : ℕ) (d : Drawseg) → slice_get (view_drawsegs v scene (walls_of v scene events)) k ≡ Some d → IsFragmentAt (event_list v scene events) k d.first d.last
   unfolding view_drawsegs
   note_at k d h =
-      let found = drawseg_at v scene (walls_of v scene events) 0 (walls_of v scene events) k d h in
-      let own = fragment_at k found.0 found.1 in
-      record { fragment = own.fragment; is = own.is; first_is = own.first_is ∙ found.2; last_is = own.last_is ∙ found.3 }
+      let drawseg_found = drawseg_at v scene (walls_of v scene events) 0 (walls_of v scene events) k d h in
+      let fragment_is = fragment_at k drawseg_found.0 drawseg_found.1 in record {
+      fragment = fragment_is.fragment; is = fragment_is.is; first_is = fragment_is.first_is ∙ drawseg_found.2; last_is = fragment_is.last_is ∙ drawseg_found.3 }
 
   plane_at : (n : ℕ) (p : Plane) → slice_get (event_planes v scene events) n ≡ Some p → IsPlaneAt (event_list v scene events) n p
   unfolding event_list listed_plane
   plane_at n p h =
-      let same = plane_makers-count v scene events in
-      let found = get_zip (event_planes v scene events) (plane_makers v scene events) n p (omega (arith, same)) h in
+      let makers_counted = plane_makers-count v scene events in
+      let pair_found = get_zip (event_planes v scene events) (plane_makers v scene events) n p (omega (arith, makers_counted)) h in
       record {
-        plane = listed_plane p found.0;
-        is = slice_get-map (λ both. listed_plane both.0 both.1) (zip (event_planes v scene events) (plane_makers v scene events)) n ∙ ap (option_map (λ both. listed_plane both.0 both.1)) found.2;
+        plane = listed_plane p pair_found.0;
+        is = slice_get-map (λ both. listed_plane both.0 both.1) (zip (event_planes v scene events) (plane_makers v scene events)) n ∙ ap (option_map (λ both. listed_plane both.0 both.1)) pair_found.2;
         key_is = refl;
       }
 
   sprite_of : (k : ℕ) (e : SpriteEntry) → slice_get (view_entries v scene events) k ≡ Some e → IsSpriteOf (event_list v scene events) e
   unfolding event_list listed_sprite
   sprite_of k e h =
-      let all = entries-of_shown v scene events in
-      let count = all.count in
-      let found = get_zip (view_entries v scene events) (shown_things v scene events) k e (omega (arith, count)) h in
-      let own = all.each k e found.0 h found.1 in
-      let number = entry_number v k _ own.seen own.shape e own.is_made in
+      let entries_are_shown = entries-of_shown v scene events in
+      let count = entries_are_shown.count in
+      let pair_found = get_zip (view_entries v scene events) (shown_things v scene events) k e (omega (arith, count)) h in
+      let its_thing = entries_are_shown.each k e pair_found.0 h pair_found.1 in
+      let number = entry_number v k _ its_thing.seen its_thing.shape e its_thing.is_made in
       record {
-        sprite = listed_sprite e found.0;
-        is = ap (slice_get (event_list v scene events).sprites) number ∙ slice_get-map (λ both. listed_sprite both.0 both.1) (zip (view_entries v scene events) (shown_things v scene events)) k ∙ ap (option_map (λ both. listed_sprite both.0 both.1)) found.2;
+        sprite = listed_sprite e pair_found.0;
+        is = ap (slice_get (event_list v scene events).sprites) number ∙ slice_get-map (λ both. listed_sprite both.0 both.1) (zip (view_entries v scene events) (shown_things v scene events)) k ∙ ap (option_map (λ both. listed_sprite both.0 both.1)) pair_found.2;
         first_is = refl;
         last_is = refl;
         lump_is = refl;
@@ -359,8 +360,7 @@ module _ (v : ViewValue) (scene : Scene) (events : List Event) where
   paints_all : AllByRecursion (IsNamed (event_list v scene events)) (paints_of v scene events)
   unfolding paints_of paints_by event_planes view_steps
   paints_all =
-      let list = event_list v scene events in
-      let walls = walls_of v scene events in
+      let list = event_list v scene events in let walls = walls_of v scene events in
       all_append (IsNamed list) (walls_dots v scene walls) (planes_dots v scene (event_planes v scene events) ++ masked_dots v scene.art (view_drawsegs v scene walls) (draw_order (view_entries v scene events)))
       (walls_all list v scene walls fragment_at)
       (all_append (IsNamed list) (planes_dots v scene (event_planes v scene events)) (masked_dots v scene.art (view_drawsegs v scene walls) (draw_order (view_entries v scene events)))

@@ -53,9 +53,9 @@ pub cut_strip : (source colormap texels shades : List ℕ) (base map : ℕ) (fra
     cut_strip_colour texels shades fraction step first ≡ strip_colour source base colormap map fraction step first
 unfolding cut_strip_colour strip_colour
 cut_strip source colormap texels shades base map fraction step first t s bytes =
-    let same : (y : ℕ) → cut_strip_colour texels shades fraction step first y ≡ strip_colour source base colormap map fraction step first y =
+    let colours_same : (y : ℕ) → cut_strip_colour texels shades fraction step first y ≡ strip_colour source base colormap map fraction step first y =
     λ y. cut_column source colormap texels shades base map (step_at fraction step (y - first)) t s (bytes (texel_row (step_at fraction step (y - first)))) in
-    λ i y. same y i
+    λ i y. colours_same y i
 
 pub cut_row : (spans : Spans) (flat colormap texels shades : List ℕ) (map : ℕ) (x_fraction y_fraction x_step y_step : ℤ) (first : ℕ) →
     IsWindow flat 0 4096 texels → IsWindow colormap (MAP_COLOURS * map) MAP_COLOURS shades → ((k : ℕ) → slice_index texels k < MAP_COLOURS) →
@@ -63,9 +63,9 @@ pub cut_row : (spans : Spans) (flat colormap texels shades : List ℕ) (map : �
 unfolding cut_row_colour row_colour
 cut_row spans flat colormap texels shades map x_fraction y_fraction x_step y_step first t s bytes =
     let place : ℕ → ℕ = λ x. span_place spans x_fraction y_fraction x_step y_step (x - first) in
-    let same : (x : ℕ) → cut_row_colour spans texels shades x_fraction y_fraction x_step y_step first x ≡ row_colour spans flat colormap map x_fraction y_fraction x_step y_step first x =
+    let colours_same : (x : ℕ) → cut_row_colour spans texels shades x_fraction y_fraction x_step y_step first x ≡ row_colour spans flat colormap map x_fraction y_fraction x_step y_step first x =
     λ x. cut_span flat colormap texels shades map (place x) (place_within spans x_fraction y_fraction x_step y_step (x - first)) t s (bytes (place x)) in
-    λ i x. same x i
+    λ i x. colours_same x i
 
 -- a number that was written to a word and read again
 abbrev word : ℤ → ℤ

@@ -90,9 +90,9 @@ fill_cells-again place value cells below k zero n e =
 fill_cells-again place value cells below k (suc m) n e =
     let last : ℕ = k + 1 + m in
     let more_filled = fill_cells-more place value last n cells (omega (arith, e)) in
-    let apart : place last ≢ place k = let place_below = below k last (omega arith) in omega arith in
+    let places_differ : place last ≢ place k = let place_below = below k last (omega arith) in omega arith in
     ap (λ (cs : List ℕ). set cs (place k) (value k)) (sym more_filled)
-    ∙ set_comm (fill_cells place value last cells) (place last) (place k) (value last) (value k) apart
+    ∙ set_comm (fill_cells place value last cells) (place last) (place k) (value last) (value k) places_differ
     ∙ ap (λ (cs : List ℕ). set cs (place last) (value last)) (fill_cells-again place value cells below k m last refl) ∙ more_filled
 
 -- the next cell, or one that is set already

@@ -193,11 +193,11 @@ flat_place_steps x y a b most place step zero h p s =
     subst (IsFlatPlace (step_at x a 0) (step_at y b 0) (most + 0)) place_stays
     (flat_place-on x y _ _ most (most + 0) place (step_at-zero x a p.x_fits) (step_at-zero y b p.y_fits) (omega arith) p)
 flat_place_steps x y a b most place step (suc k) h p s =
-    let before : ℕ = (place + step * k % 2 ^ 64) % 2 ^ 64 in
+    let place_before : ℕ = (place + step * k % 2 ^ 64) % 2 ^ 64 in
     subst (IsFlatPlace (step_at x a (suc k)) (step_at y b (suc k)) (most + suc k)) (packed_more place step (step * k) (step * suc k) (mul-suc step k))
-    (flat_place-on (plus (step_at x a k) a) (plus (step_at y b k) b) _ _ (most + k + 0 + 1) (most + suc k) ((before + step) % 2 ^ 64)
+    (flat_place-on (plus (step_at x a k) a) (plus (step_at y b k) b) _ _ (most + k + 0 + 1) (most + suc k) ((place_before + step) % 2 ^ 64)
     (step_at-more x a k (suc k) (omega arith)) (step_at-more y b k (suc k) (omega arith)) (omega arith)
-    (flat_place_more (step_at x a k) (step_at y b k) a b (most + k) 0 before step (omega arith) (flat_place_steps x y a b most place step k (omega arith) p s) s))
+    (flat_place_more (step_at x a k) (step_at y b k) a b (most + k) 0 place_before step (omega arith) (flat_place_steps x y a b most place step k (omega arith) p s) s))
 
 -- the first fraction, as the code has its word, is that of step 0
 first_step : (first step : ℤ) → FitsSigned w32 first → to_z w32 (of_z w32 first) ≡ step_at first step 0
@@ -242,7 +242,7 @@ packed_place_more w s most place step h p q =
     record {
       fits = mod-lt (w + s) (pow_pos 32);
       carries = p.carries + q.carries + (w + s) / 2 ^ 32;
-      few = let each = carried w s p.carries q.carries most 0 p.fits q.fits p.few q.few in omega (arith, each);
+      few = let each_carried = carried w s p.carries q.carries most 0 p.fits q.fits p.few q.few in omega (arith, each_carried);
       is = ap₂ (λ (m n : ℕ). (m + n) % 2 ^ 64) p.is q.is ∙ packed_sum w s p.carries q.carries p.fits q.fits (omega arith);
     }
 
@@ -276,11 +276,11 @@ packed_place_steps w s most place step zero h p q =
     subst (λ (n : ℕ). IsPackedPlace (packed_at w s 0) n ((place + step * 0 % 2 ^ 64) % 2 ^ 64)) most_same
     (subst₂ (λ (n m : ℕ). IsPackedPlace n most m) (packed_at-zero w s p.fits) place_stays p)
 packed_place_steps w s most place step (suc k) h p q =
-    let before : ℕ = (place + step * k % 2 ^ 64) % 2 ^ 64 in
+    let place_before : ℕ = (place + step * k % 2 ^ 64) % 2 ^ 64 in
     let most_more : most + k + 1 ≡ most + suc k = omega arith in
     subst (λ (n : ℕ). IsPackedPlace (packed_at w s (suc k)) n ((place + step * suc k % 2 ^ 64) % 2 ^ 64)) most_more
     (subst₂ (λ (n m : ℕ). IsPackedPlace n (most + k + 1) m) (packed_at-suc w s k) (packed_more place step (step * k) (step * suc k) (mul-suc step k))
-    (packed_place_more (packed_at w s k) s (most + k) before step (omega arith) (packed_place_steps w s most place step k (omega arith) p q) q))
+    (packed_place_more (packed_at w s k) s (most + k) place_before step (omega arith) (packed_place_steps w s most place step k (omega arith) p q) q))
 
 -- the texel of a packed place
 packed_above : (w carries : ℕ) → carries < 2 ^ 10 → w < 2 ^ 32 → (2 ^ 32 * (2 ^ 16 * (w % 2 ^ 16) + carries) + w) / 2 ^ 58 ≡ w / 2 ^ 10 % 64

@@ -43,8 +43,8 @@ strip-rows painter x source base colormap m centre mid step fraction first last 
     (at k ∙ sym (row_fraction-steps centre mid step first k))) where
       at : (k : ℕ) → step_at fraction step (first + k - first)
           ≡ step_at (row_fraction centre mid step first) step k
-      at k = let back : first + k - first ≡ k = omega arith in
-          ap (λ (n : ℕ). step_at fraction step n) back ∙ ap (λ (f : ℤ). step_at f step k) is
+      at k = let offset_is : first + k - first ≡ k = omega arith in
+          ap (λ (n : ℕ). step_at fraction step n) offset_is ∙ ap (λ (f : ℤ). step_at f step k) is
 
 -- rows by whole numbers
 pub rows-between : (from to : ℤ) (first last : ℕ) → pos first ≡ from → pos last ≡ to →

@@ -41,7 +41,7 @@ pub column_dotted : {mark : Painter → ℕ → ℕ} {x : ℕ} {colour : ℤ →
     ColumnSoFar mark x colour fraction step first y now canvas view → v ≡ colour now → sum ≡ plus now (to_z w32 (of_z w32 step)) → after ≡ with_dot mark x y v view →
     ColumnSoFar mark x colour fraction step first (y + 1) (to_z w32 (of_z w32 sum)) canvas after
 column_dotted {mark} {x} {colour} {fraction} {step} {first} {y} {v} {now} {sum} {canvas} {view} {after} old is more dot =
-    let from = old.from in
+    let first_at_most = old.from in
     let offset_more : y - first + 1 ≡ y + 1 - first = omega arith in
     let of_row : ℕ → ℕ = λ k. colour (step_at fraction step (k - first)) in
     record {
@@ -84,7 +84,7 @@ pub span_dotted : {mark : Painter → ℕ → ℕ} {y : ℕ} {colour : ℕ → �
     IsSpanPlace spans x_fraction y_fraction x_step y_step (x - first + 1) next → after ≡ with_dot mark x y v view →
     SpanSoFar mark y colour spans x_fraction y_fraction x_step y_step first (x + 1) next canvas after
 span_dotted {mark} {y} {colour} {spans} {x_fraction} {y_fraction} {x_step} {y_step} {first} {x} {v} {place} {texel} {next} {canvas} {view} {after} old is there more dot =
-    let from = old.from in
+    let first_at_most = old.from in
     let offset_more : x - first + 1 ≡ x + 1 - first = omega arith in
     let of_column : ℕ → ℕ = λ k. colour (span_place spans x_fraction y_fraction x_step y_step (k - first)) in
     record {

@@ -91,9 +91,9 @@ pub planes-end : (v : ViewValue) (scene : Scene) (planes : List Plane) →
     first_planes v scene.art scene.sky planes (length planes) ≡ planes_dots v scene planes
 unfolding first_planes planes_dots listed
 planes-end v scene planes =
-    let none : (k : ℕ) → 0 + k ≡ k = λ k. omega arith in
+    let plus_zero_is : (k : ℕ) → 0 + k ≡ k = λ k. omega arith in
     from_listed v scene (λ k. plane_dots v scene.art scene.sky k (plane_at planes k)) 0 planes
-    (λ k inside. ap (λ (m : ℕ). plane_dots v scene.art scene.sky (0 + k) (plane_at planes m)) (none k))
+    (λ k inside. ap (λ (m : ℕ). plane_dots v scene.art scene.sky (0 + k) (plane_at planes m)) (plus_zero_is k))
 
 -- a floor by its flat
 floor_by : (v : ViewValue) (art : Art) (sky n lump : ℕ) (p : Plane) → p.key.flat ≡ flat.Lump lump → plane_dots v art sky n p ≡ floor_dots v art n lump p
@@ -115,7 +115,7 @@ sky-no_run v art n sky x run is = sym (run_none (painter_of SKY n (art.texture_s
 -- columns without a run, from the one to the other
 columns_on : (v : ViewValue) (art : Art) (n sky : ℕ) (p : Plane) (a k : ℕ) → ((x : ℕ) → a ≤ x → x < a + k → column p x ≡ None) →
     first_columns v art n sky p a ≡ first_columns v art n sky p (a + k)
-columns_on v art n sky p a zero none = let same : a ≡ a + 0 = omega arith in ap (first_columns v art n sky p) same
+columns_on v art n sky p a zero none = let start_is : a ≡ a + 0 = omega arith in ap (first_columns v art n sky p) start_is
 columns_on v art n sky p a (suc k) none =
     let next_column_is : a + k + 1 ≡ a + suc k = omega arith in
     columns_on v art n sky p a k (λ x from to. none x from (omega arith))
@@ -129,10 +129,10 @@ pub columns-past : (v : ViewValue) (art : Art) (n sky : ℕ) (p : Plane) (a b : 
     first_columns v art n sky p a ≡ first_columns v art n sky p b
 columns-past v art n sky p a b up down =
     elim (cases_lt a b) [
-      | inl l ↦ (let is : a + (b - a) ≡ b = omega (arith, l) in
-          columns_on v art n sky p a (b - a) (λ x from to. up x from (omega (arith, is, to))) ∙ ap (first_columns v art n sky p) is)
-      | inr l ↦ (let is : b + (a - b) ≡ a = omega (arith, l) in
-          sym (columns_on v art n sky p b (a - b) (λ x from to. down x from (omega (arith, is, to))) ∙ ap (first_columns v art n sky p) is))
+      | inl l ↦ (let end_is : a + (b - a) ≡ b = omega (arith, l) in
+          columns_on v art n sky p a (b - a) (λ x from to. up x from (omega (arith, end_is, to))) ∙ ap (first_columns v art n sky p) end_is)
+      | inr l ↦ (let end_is : b + (a - b) ≡ a = omega (arith, l) in
+          sym (columns_on v art n sky p b (a - b) (λ x from to. down x from (omega (arith, end_is, to))) ∙ ap (first_columns v art n sky p) end_is))
     ]
 
 -- the bytes of planes fit beside the colormap, where those of their painters do

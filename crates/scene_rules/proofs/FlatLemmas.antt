@@ -17,8 +17,8 @@ surfaces_of-more [] flats i s f l m = absurd (omega arith)
 surfaces_of-more (sector ∷ sectors) [] i s f l m = absurd (omega arith)
 surfaces_of-more (sector ∷ sectors) (both ∷ flats) zero s f l m = refl
 surfaces_of-more (sector ∷ sectors) (both ∷ flats) (suc i) s f l m =
-    let more : suc i + 1 ≡ suc (i + 1) = omega arith in
-    rw more (ap (λ v. surface_of sector both ∷ v) (surfaces_of-more sectors flats i s f (omega arith) (omega arith)))
+    let next_count_is : suc i + 1 ≡ suc (i + 1) = omega arith in
+    rw next_count_is (ap (λ v. surface_of sector both ∷ v) (surfaces_of-more sectors flats i s f (omega arith) (omega arith)))
 
 -- for `grind`: a loop over the sectors
 pub ruleset surfaces = (surfaces_of-none, surfaces_of-more)

@@ -56,8 +56,8 @@ passed_here p a k rest same none =
 
 passed_later : (p : ℕ → Bool) (a k : ℕ) (rest : List ℕ) → a < k → list_any (λ (m : ℕ). m == k) rest ≡ p k → ((p a && (a == k)) || list_any (λ (m : ℕ). m == k) rest) ≡ p k
 passed_later p a k rest l more =
-    let other : (a == k) ≡ false = grind (arith, nat_tests) in
-    ap (λ e. (p a && e) || list_any (λ (m : ℕ). m == k) rest) other ∙ and_false (p a) (list_any (λ (m : ℕ). m == k) rest) ∙ more
+    let numbers_differ : (a == k) ≡ false = grind (arith, nat_tests) in
+    ap (λ e. (p a && e) || list_any (λ (m : ℕ). m == k) rest) numbers_differ ∙ and_false (p a) (list_any (λ (m : ℕ). m == k) rest) ∙ more
 
 -- a number is among those that pass exactly where it passes
 pub any_passed : (p : ℕ → Bool) (a n k : ℕ) → a ≤ k → k < a + n → list_any (λ (m : ℕ). m == k) (filter p (range_with_len a n)) ≡ p k

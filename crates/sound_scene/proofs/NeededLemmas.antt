@@ -48,5 +48,5 @@ needed_there lumps art lump needed l = among_greatest (lump_block lumps) _ lump 
 pub past_block : (lumps : List Lump) (lump other : ℕ) → length lumps ≤ lump → lump_block lumps lump ≤ lump_block lumps other
 unfolding lump_block
 past_block lumps lump other l =
-    let none : block_size (lump_at lumps lump).size ≡ HEADER_SIZE = ap (λ (one : Lump). block_size one.size) (get_or_past lumps lump no_lump l) in
-    omega (arith, none, block_least (lump_at lumps other).size)
+    let block_is_header : block_size (lump_at lumps lump).size ≡ HEADER_SIZE = ap (λ (one : Lump). block_size one.size) (get_or_past lumps lump no_lump l) in
+    omega (arith, block_is_header, block_least (lump_at lumps other).size)

@@ -11,8 +11,8 @@ HaveSame xs ys = (n : ℕ) → Contains xs n ↔ Contains ys n
 -- a test for a number tells the same of both
 pub any_same : (xs ys : List ℕ) (k : ℕ) → HaveSame xs ys → list_any (λ n. n == k) xs ≡ list_any (λ n. n == k) ys
 any_same xs ys k same =
-    let there = any-contains xs k in
-    same_from_decides (list_any (λ n. n == k) xs) (list_any (λ n. n == k) ys) (λ e. (same k).0 (there.0 e), λ c. there.1 ((same k).1 c)) (any-contains ys k)
+    let any_is_contains = any-contains xs k in same_from_decides
+    (list_any (λ n. n == k) xs) (list_any (λ n. n == k) ys) (λ e. (same k).0 (any_is_contains.0 e), λ c. any_is_contains.1 ((same k).1 c)) (any-contains ys k)
 
 -- a lump is needed with both or with none
 needed_number : (lumps : List Lump) (scene : SceneValue) (xs ys : List ℕ) (k : ℕ) → HaveSame xs ys → is_needed lumps (art_with scene xs) k ≡ is_needed lumps (art_with scene ys) k

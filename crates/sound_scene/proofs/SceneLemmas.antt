@@ -6,17 +6,17 @@ use Rattle.sound_scene.specs.Rules.{Art, ArtRefusal, AuditRefusal, COLORMAP, COL
 
 -- a step of the layer below, likewise
 pub from_below-ok : {A R Q : Type 0} (f : R → Q) (r : Result A R) (x : A) → from_below f r ≡ Ok x → r ≡ Ok x
-from_below-ok f (Ok y) x e = let same : y ≡ x = cc in ap Ok same
+from_below-ok f (Ok y) x e = let values_same : y ≡ x = cc in ap Ok values_same
 from_below-ok f (Err reason) x e = cc
 
 -- a result has one value
 pub same_value : {A R : Type 0} {r : Result A R} (x y : A) → r ≡ Ok x → r ≡ Ok y → x ≡ y
-same_value {A} {R} x y one other = let same : ◌≡◌ {A = Result A R} (Ok x) (Ok y) = sym one ∙ other in cc
+same_value {A} {R} x y one other = let results_same : ◌≡◌ {A = Result A R} (Ok x) (Ok y) = sym one ∙ other in cc
 
 -- COLORMAP is a lump of the directory
 some_value : {X E : Type 0} (o : Option X) (e : E) (x : X) → ok_or o e ≡ Ok x → o ≡ Some x
 some_value None e x is = cc
-some_value (Some y) e x is = let same : y ≡ x = cc in ap Some same
+some_value (Some y) e x is = let values_same : y ≡ x = cc in ap Some values_same
 
 long_there : (lumps : List Lump) (size number : ℕ) (last : Option ℕ) → option_and_then (if_long lumps size) last ≡ Some number → last ≡ Some number
 long_there lumps size number None e = cc

@@ -24,8 +24,8 @@ module _ {X : Type 0} (f : X → ℕ) where
   greatest_more [] i d l = absurd (omega arith)
   greatest_more (x ∷ xs) zero d l = max_none (f x)
   greatest_more (x ∷ xs) (suc i) d l =
-      let more : suc i + 1 ≡ suc (i + 1) = omega arith in
-      rw more (ap (max (f x)) (greatest_more xs i d (omega arith)) ∙ max_first (f x) (greatest_by f (take i xs)) (f (get_or xs i d)))
+      let next_count_is : suc i + 1 ≡ suc (i + 1) = omega arith in
+      rw next_count_is (ap (max (f x)) (greatest_more xs i d (omega arith)) ∙ max_first (f x) (greatest_by f (take i xs)) (f (get_or xs i d)))
 
   -- of the items that g makes
   pub greatest_by-map : {Y : Type 0} (g : Y → X) (ys : List Y) → greatest_by (λ y. f (g y)) ys ≡ greatest_by f (map g ys)
@@ -48,8 +48,8 @@ module _ {X : Type 0} (f : X → ℕ) where
     go (inl l) = sym (sum_by_more f xs i d l)
     go (inr l) =
         let nothing : f (get_or xs i d) ≡ 0 = ap f (get_or_past xs i d l) ∙ none l in
-        let same : sum_by f (take i xs) ≡ sum_by f (take (i + 1) xs) = ap (sum_by f) (take_all i xs l ∙ sym (take_all (i + 1) xs (omega arith))) in
-        omega (arith, nothing, same)
+        let sums_same : sum_by f (take i xs) ≡ sum_by f (take (i + 1) xs) = ap (sum_by f) (take_all i xs l ∙ sym (take_all (i + 1) xs (omega arith))) in
+        omega (arith, nothing, sums_same)
 
 -- a texture that is not prepared has no composite
 pub composite_block-none : composite_block None ≡ 0
@@ -102,10 +102,10 @@ number_read (lump ∷ lumps) (suc i) d l = number_read lumps i d (omega arith)
 increase_index : (xs : List ℕ) → IsStrictlyIncreasing xs → (i : ℕ) → i < length xs → i ≤ slice_index xs i
 increase_index xs up zero l = omega arith
 increase_index xs up (suc i) l =
-    let more : i + 1 ≡ suc i = omega arith in
-    let before : i ≤ slice_index xs i = increase_index xs up i (omega arith) in
+    let next_is_suc : i + 1 ≡ suc i = omega arith in
+    let index_at_most : i ≤ slice_index xs i = increase_index xs up i (omega arith) in
     let step : slice_index xs i < slice_index xs (i + 1) = up i (omega arith) in
-    let last : slice_index xs i < slice_index xs (suc i) = subst (λ (k : ℕ). slice_index xs i < slice_index xs k) more step in
+    let last : slice_index xs i < slice_index xs (suc i) = subst (λ (k : ℕ). slice_index xs i < slice_index xs k) next_is_suc step in
     omega arith
 
 -- of lumps that ascend the number is at least the index, so a bound of numbers is one of indexes

@@ -146,8 +146,8 @@ module _ (lumps : List Lump) where
   shapes_there (s ∷ shapes) (m ∷ pictures) e all =
       let tail : map shape_outline shapes ≡ map mention_outline pictures = cc in
       let head : (s.lump.0, s.flip) ≡ (m.lump, m.flip) = cc in
-      let there : m.lump < length lumps = All-head (λ (mention : Mention). mention.lump < length lumps) m pictures all in
-      All-cons (λ (shape : Shape). shape.lump.0 < length lumps) s shapes (subst (λ n. n < length lumps) (sym (ap (λ (x : ℕ × Bool). x.0) head)) there) (shapes_there shapes pictures tail (All-tail (λ (mention : Mention). mention.lump < length lumps) m pictures all))
+      let lump_is_there : m.lump < length lumps = All-head (λ (mention : Mention). mention.lump < length lumps) m pictures all in
+      All-cons (λ (shape : Shape). shape.lump.0 < length lumps) s shapes (subst (λ n. n < length lumps) (sym (ap (λ (x : ℕ × Bool). x.0) head)) lump_is_there) (shapes_there shapes pictures tail (All-tail (λ (mention : Mention). mention.lump < length lumps) m pictures all))
 
   frame_there : (need : Need) (frame : Frame) → outline_of lumps need ≡ Ok (outline frame) → All (λ (shape : Shape). shape.lump.0 < length lumps) frame.shapes
   unfolding outline_of outline_in outline

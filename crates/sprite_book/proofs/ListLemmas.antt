@@ -50,8 +50,8 @@ pub picked_found : (frames : List Frame) (sprite : List ℕ) (letter rotation pl
 unfolding picked
 picked_found frames sprite letter rotation place d e =
     let frame_at_place = place_found (is_frame sprite letter) 0 frames d place e in
-    let same : frame_at_place.k ≡ place = omega (arith, frame_at_place.is) in
-    rw frame_at_place.frame (ap (λ n. slice_get (get_or frames n d).shapes rotation) same)
+    let place_is : frame_at_place.k ≡ place = omega (arith, frame_at_place.is) in
+    rw frame_at_place.frame (ap (λ n. slice_get (get_or frames n d).shapes rotation) place_is)
 
 pub picked_none : (frames : List Frame) (sprite : List ℕ) (letter rotation : ℕ) → position_from (is_frame sprite letter) 0 frames ≡ None → picked frames sprite letter rotation ≡ None
 unfolding picked

@@ -105,8 +105,8 @@ index_none index e f lumps numbers = record {
 pub entry_below : (entries : List LumpNo) (lumps : List Lump) (i : ℕ) (d : LumpNo) → numbers_of entries ≡ members Sprites lumps → i < length entries → (get_or entries i d).0 < length lumps
 entry_below entries lumps i d e h =
     let numbers_length = length-map entries (λ (lump : LumpNo). lump.0) in
-    let below : All (λ n. n < length lumps) (numbers_of entries) = subst (All (λ n. n < length lumps)) (sym e) (members_below lumps) in
-    let number_below = All-get_or (λ n. n < length lumps) (numbers_of entries) i d.0 (omega arith) below in
+    let numbers_below : All (λ n. n < length lumps) (numbers_of entries) = subst (All (λ n. n < length lumps)) (sym e) (members_below lumps) in
+    let number_below = All-get_or (λ n. n < length lumps) (numbers_of entries) i d.0 (omega arith) numbers_below in
     subst (λ n. n < length lumps) (get_or-map (λ (lump : LumpNo). lump.0) entries i d) number_below
 
 -- the mentions of one lump more

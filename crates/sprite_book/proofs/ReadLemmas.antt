@@ -52,8 +52,8 @@ set_read : (bytes : ℕ → List ℕ) (patches : List (Option Patch)) (lump : �
 set_read bytes patches lump patch lt are is = record { at = λ n. go n (cases_eq n lump) } where
   go : (n : ℕ) → (n ≡ lump) ⊎ (n ≡ lump → ⊥) → IfSome (get_or (set patches lump (Some patch)) n None) (λ p. patch_of (bytes n) ≡ Some p)
   go n (inl e) =
-      let here : IfSome (get_or (set patches lump (Some patch)) lump None) (λ p. patch_of (bytes lump) ≡ Some p) = subst (λ x. IfSome x (λ p. patch_of (bytes lump) ≡ Some p)) (sym (get_or-set_same patches lump (Some patch) None lt)) is in
-      subst (λ m. IfSome (get_or (set patches lump (Some patch)) m None) (λ p. patch_of (bytes m) ≡ Some p)) (sym e) here
+      let patch_is_kept : IfSome (get_or (set patches lump (Some patch)) lump None) (λ p. patch_of (bytes lump) ≡ Some p) = subst (λ x. IfSome x (λ p. patch_of (bytes lump) ≡ Some p)) (sym (get_or-set_same patches lump (Some patch) None lt)) is in
+      subst (λ m. IfSome (get_or (set patches lump (Some patch)) m None) (λ p. patch_of (bytes m) ≡ Some p)) (sym e) patch_is_kept
   go n (inr h) = subst (λ x. IfSome x (λ p. patch_of (bytes n) ≡ Some p)) (sym (get_or-set_other patches lump n (Some patch) None h)) (are.at n)
 
 -- what was read is kept

@@ -27,7 +27,7 @@ slope_steps-bound (pos n) (pos m) p l h =
     let some : 0 < n = omega (arith, ints) in
     let order : m ≤ n = omega (arith, ints) in
     let fits : nat_le n (m / 2 ^ 14) ≡ false = grind (arith, nat_tests) in
-    let small = div_below (m * 65536) n 65537 (omega arith) (omega arith) in
+    let quotient_below = div_below (m * 65536) n 65537 (omega arith) (omega arith) in
     rw fits (omega arith)
 slope_steps-bound (pos n) (negsuc m) p l h = absurd (omega (arith, ints))
 slope_steps-bound (negsuc n) dy p l h = absurd (omega (arith, ints))

@@ -79,10 +79,10 @@ clamp_mono lo hi y z h = omega (arith, ints, clamps)
 
 seen_falls : (shape : ViewShape) (m : ℕ) (f g : ℤ) → shape.centre_x ≤ 160 → m ≤ 20971520 → negsuc 131071 ≤ℤ f → f ≤ℤ g → g ≤ℤ pos 131072 → seen_column shape (pos m) g ≤ℤ seen_column shape (pos m) f
 seen_falls shape m f g c b l h r =
-    let up : f ≤ℤ pos 131072 = omega (arith, ints) in
+    let f_at_most : f ≤ℤ pos 131072 = omega (arith, ints) in
     let g_at_least : negsuc 131071 ≤ℤ g = omega (arith, ints) in
     let shifted = shift_mono (f *ℤ pos m) (g *ℤ pos m) (product_mono f g m h) in
-    rw (seen_is shape m f c b l up, seen_is shape m g c b g_at_least r)
+    rw (seen_is shape m f c b l f_at_most, seen_is shape m g c b g_at_least r)
     (clamp_mono minus_one (pos (shape.width + 1)) _ _ (place_falls shape.centre_x (int_shr (f *ℤ pos m) 16) (int_shr (g *ℤ pos m) 16) shifted))
 
 seen_low : (shape : ViewShape) (focal f : ℤ) → minus_one ≤ℤ seen_column shape focal f

@@ -34,8 +34,8 @@ rise : (t : Angles) → tangent_refusal t.tangent ≡ None → (n : ℕ) → 0 <
 unfolding tangent_refusal is_wrong_tangent tangent_at
 rise t e n p h =
     let none_wrong = refused_at-none Tangent (least (is_wrong_tangent t.tangent) TANGENTS) e in
-    let right = none-below (is_wrong_tangent t.tangent) TANGENTS none_wrong n h in
-    not_lt (slice_index_or t.tangent n (pos 0)) (slice_index_or t.tangent (n - 1) (pos 0)) (and-second_false (nat_lt 0 n) _ (positive n p) right)
+    let tangent_not_wrong = none-below (is_wrong_tangent t.tangent) TANGENTS none_wrong n h in
+    not_lt (slice_index_or t.tangent n (pos 0)) (slice_index_or t.tangent (n - 1) (pos 0)) (and-second_false (nat_lt 0 n) _ (positive n p) tangent_not_wrong)
 
 rising : (t : Angles) → ((n : ℕ) → 0 < n → n < TANGENTS → tangent_at t (n - 1) ≤ℤ tangent_at t n) → (i k : ℕ) → i ≤ k → k < TANGENTS → tangent_at t i ≤ℤ tangent_at t k
 rising t step i zero h l = let index_is_zero : i ≡ 0 = omega arith in rw index_is_zero (≤ℤ_refl (tangent_at t 0))
@@ -57,7 +57,7 @@ div_is p n h = let quotient_small : nat_le n (p / 2 ^ 14) ≡ false = grind (ari
 quotient_is : (p : ℕ) (edge : ℤ) → p ≤ 10485760 → pos 32768 ≤ℤ edge → (m : ℕ) × (m ≤ 20971520) × (div (pos p) edge ≡ pos m)
 quotient_is p (pos n) b l =
     let large : 32768 ≤ n = omega (arith, ints) in
-    let small = div_below (p * 65536) n 20971521 (omega arith) (omega arith) in
+    let quotient_below = div_below (p * 65536) n 20971521 (omega arith) (omega arith) in
     (p * 65536 / n, omega arith, div_is p n (omega arith))
 quotient_is p (negsuc n) b l = absurd (omega (arith, ints))
 

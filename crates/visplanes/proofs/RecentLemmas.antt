@@ -46,10 +46,10 @@ number_of-same planes b c e =
 pub first-found : (planes : List Plane) (key : PlaneKey) (n : ℕ) → number_of planes key ≡ Some n → IsFirst planes n
 unfolding number_of
 first-found planes key n e =
-    let at = position-Some (λ p. same_key p.key key) planes n no_plane e in
+    let plane_is_there = position-Some (λ p. same_key p.key key) planes n no_plane e in
     record {
-      within = (let is_there = at.0 in omega arith);
-      first = λ l. number_of-same planes (plane_at planes n).key key at.1 ∙ e;
+      within = (let is_there = plane_is_there.0 in omega arith);
+      first = λ l. number_of-same planes (plane_at planes n).key key plane_is_there.1 ∙ e;
     }
 
 -- a plane with a key that is the first of its own is the first of that key
@@ -67,18 +67,18 @@ position_push_none test planes p e t =
 pub first-push : (planes : List Plane) (p : Plane) (n : ℕ) → IsFirst planes n → IsFirst (planes ++ p ∷ []) n
 unfolding number_of
 first-push [] p n f =
-    let none : n ≡ 0 = (let was_within = f.within in omega arith) in
-    subst (λ (m : ℕ). IsFirst (p ∷ []) m) (sym none) (record {
+    let number_is_zero : n ≡ 0 = (let was_within = f.within in omega arith) in
+    subst (λ (m : ℕ). IsFirst (p ∷ []) m) (sym number_is_zero) (record {
       within = omega arith;
       first = λ l. position_push_none (λ q. same_key q.key p.key) [] p refl (same_key-refl p.key);
     })
 first-push (q ∷ qs) p n f =
     let inside : n < length (q ∷ qs) = (let was_within = f.within in omega arith) in
-    let same : get_or ((q ∷ qs) ++ p ∷ []) n no_plane ≡ get_or (q ∷ qs) n no_plane = get_or_append_left (q ∷ qs) (p ∷ []) no_plane n inside in
+    let plane_same : get_or ((q ∷ qs) ++ p ∷ []) n no_plane ≡ get_or (q ∷ qs) n no_plane = get_or_append_left (q ∷ qs) (p ∷ []) no_plane n inside in
     record {
       within = omega (arith, length_push (q ∷ qs) p);
       first = λ l.
-          ap (λ (r : Plane). number_of ((q ∷ qs) ++ p ∷ []) r.key) same
+          ap (λ (r : Plane). number_of ((q ∷ qs) ++ p ∷ []) r.key) plane_same
           ∙ position_push_some (λ r. same_key r.key (plane_at (q ∷ qs) n).key) (q ∷ qs) p n (f.first inside);
     }
 

@@ -75,11 +75,11 @@ pub runs_from-run : (p : Plane) (y first end : ℕ) → first < end → end ≤ 
     (end ≡ length p.runs) ⊎ (holds p y end ≡ false) → runs_from p y first ≡ (first, end - 1) ∷ runs_from p y end
 unfolding runs_from
 runs_from-run p y first end l m h o =
-    let more : ℕ = end - first - 1 in
-    let reaches_end : first + suc more ≡ end = omega arith in
-    let reaches_last : first + more ≡ end - 1 = omega arith in
-    let goes_on : first + more + 1 ≡ end = omega arith in
-    ap (runs first) (held (suc more) first (plane_gaps p y) (omega (arith, length-gaps p y)) (λ k d e. gap_on p y k (omega arith) (h k d (omega arith))) ∙ ap (λ (i : ℕ). replicate (suc more) false ++ drop i (plane_gaps p y)) reaches_end)
-    ∙ runs-open more first (drop end (plane_gaps p y)) (open_end p y end o)
-    ∙ ap (λ (i : ℕ). (first, i) ∷ runs (first + more + 1) (drop end (plane_gaps p y))) reaches_last
+    let rows_after_first : ℕ = end - first - 1 in
+    let reaches_end : first + suc rows_after_first ≡ end = omega arith in
+    let reaches_last : first + rows_after_first ≡ end - 1 = omega arith in
+    let goes_on : first + rows_after_first + 1 ≡ end = omega arith in
+    ap (runs first) (held (suc rows_after_first) first (plane_gaps p y) (omega (arith, length-gaps p y)) (λ k d e. gap_on p y k (omega arith) (h k d (omega arith))) ∙ ap (λ (i : ℕ). replicate (suc rows_after_first) false ++ drop i (plane_gaps p y)) reaches_end)
+    ∙ runs-open rows_after_first first (drop end (plane_gaps p y)) (open_end p y end o)
+    ∙ ap (λ (i : ℕ). (first, i) ∷ runs (first + rows_after_first + 1) (drop end (plane_gaps p y))) reaches_last
     ∙ ap (λ (i : ℕ). (first, end - 1) ∷ runs i (drop end (plane_gaps p y))) goes_on

@@ -52,7 +52,7 @@ numbered : (v : ViewValue) (number : ℕ) (thing : Placed) (seen : Seen) (shape 
     cond b None (Some (entry_of v number thing seen shape a1 a2)) ≡ Some e → e.number ≡ number
 unfolding entry_of
 numbered v number thing seen shape a1 a2 e true h = cc
-numbered v number thing seen shape a1 a2 e false h = let same : entry_of v number thing seen shape a1 a2 ≡ e = cc in ap (λ (f : SpriteEntry). f.number) (sym same)
+numbered v number thing seen shape a1 a2 e false h = let entry_is : entry_of v number thing seen shape a1 a2 ≡ e = cc in ap (λ (f : SpriteEntry). f.number) (sym entry_is)
 
 -- an entry has its number
 pub entry_for-number : (v : ViewValue) (number : ℕ) (thing : Placed) (seen : Seen) (shape : Shape5) (e : SpriteEntry) → entry_for v number thing seen shape ≡ Some e → e.number ≡ number

@@ -131,14 +131,14 @@ length-made_order es k = sym (length-draw_order (made_order es)) ∙ ap length (
 -- one more entry, numbered by those that are there
 pub insert_last-kept : (e : SpriteEntry) (es : List SpriteEntry) → IsKept es → e.number ≡ length es → length es < MAX_VISSPRITES → IsKept (insert_last e es)
 insert_last-kept e es k n l =
-    let below : are_below e.number es ≡ true = rw n k.numbered in
+    let numbers_below : are_below e.number es ≡ true = rw n k.numbered in
     let next : nat_lt e.number (length es + 1) ≡ true = grind (arith, nat_tests) in
     let numbered : are_below (length es + 1) (insert_last e es) ≡ true =
     are_below-insert_last (length es + 1) e es next (are_below-more (length es) (length es + 1) es (omega arith) k.numbered)
     in
     record {
       ordered =
-          ap (insert_last e) k.ordered ∙ sym (draw_order-more (made_order es) e) ∙ ap draw_order (sym (made_order-insert_last e es below));
+          ap (insert_last e) k.ordered ∙ sym (draw_order-more (made_order es) e) ∙ ap draw_order (sym (made_order-insert_last e es numbers_below));
       numbered = rw (length-insert_last e es) numbered;
       room = omega (arith, length-insert_last e es);
     }
@@ -148,9 +148,9 @@ pub with_entry-room : (e : SpriteEntry) (es : List SpriteEntry) → IsKept es �
     made_order (insert_last e es) ≡ with_entry (made_order es) (Some e)
 unfolding with_entry
 with_entry-room e es k n l =
-    let below : are_below e.number es ≡ true = rw n k.numbered in
+    let numbers_below : are_below e.number es ≡ true = rw n k.numbered in
     let room : nat_lt (length (made_order es)) MAX_VISSPRITES ≡ true = rw (length-made_order es k) (grind (arith, nat_tests)) in
-    rw room (made_order-insert_last e es below)
+    rw room (made_order-insert_last e es numbers_below)
 
 -- else nothing changes
 pub with_entry-full : (e : SpriteEntry) (es : List SpriteEntry) → IsKept es → MAX_VISSPRITES ≤ length es → made_order es ≡ with_entry (made_order es) (Some e)

@@ -86,15 +86,13 @@ record IsFloor (height : ℕ) (row : ℤ) : Type 0 where
 row_before : (first : ℤ) → IsFirst first → IsCeiling (minus first (pos 1))
 row_before first f =
     let first_at_least = f.low in let first_at_most = f.high in
-    let before_is = minus_near first (omega (arith, ints)) (omega (arith, ints)) in
-    let ClipOfCeiling : ℤ → Type 0 = IsCeiling in
+    let before_is = minus_near first (omega (arith, ints)) (omega (arith, ints)) in let ClipOfCeiling : ℤ → Type 0 = IsCeiling in
     subst ClipOfCeiling (sym before_is) (record { low = omega (arith, ints); high = omega (arith, ints) })
 
 row_past : (height : ℕ) (last : ℤ) → height ≤ FRAME_HEIGHT → IsLast height last → IsFloor height (plus last (pos 1))
 row_past height last s f =
     let last_at_least = f.low in let last_at_most = f.high in
-    let past_is = plus_near last (omega (arith, ints)) (omega (arith, ints)) in
-    let ClipOfFloor : ℤ → Type 0 = IsFloor height in
+    let past_is = plus_near last (omega (arith, ints)) (omega (arith, ints)) in let ClipOfFloor : ℤ → Type 0 = IsFloor height in
     subst ClipOfFloor (sym past_is) (record { low = omega (arith, ints); high = omega (arith, ints) })
 
 int_le-is : (a b : ℤ) (t : Bool) → int_le a b ≡ t → cond t (a ≤ℤ b) (b <ℤ a)
@@ -233,15 +231,17 @@ floor_rows-in height clip e s i w =
 
 pub middle_rows-in : (height : ℕ) (clip : ColumnClip) (e : Edges) → height ≤ FRAME_HEIGHT → IsClipIn height clip → AreEdgeWords e → AreRowsIn height (middle_rows clip e)
 unfolding middle_rows
-middle_rows-in height clip e s i w = let known = opened height clip e s i w in rows_in height _ _ (first_is height clip e known) (last_is height clip e known)
+middle_rows-in height clip e s i w = let clip_opened = opened height clip e s i w in
+    rows_in height _ _ (first_is height clip e clip_opened) (last_is height clip e clip_opened)
 
 pub top_rows-in : (height : ℕ) (clip : ColumnClip) (e : Edges) → height ≤ FRAME_HEIGHT → IsClipIn height clip → AreEdgeWords e → AreRowsIn height (top_rows clip e)
 unfolding top_rows
-top_rows-in height clip e s i w = let known = opened height clip e s i w in rows_in height _ _ (first_is height clip e known) (top_last_is height clip e known)
+top_rows-in height clip e s i w = let clip_opened = opened height clip e s i w in
+    rows_in height _ _ (first_is height clip e clip_opened) (top_last_is height clip e clip_opened)
 
 pub bottom_rows-in : (height : ℕ) (n : FragmentNumbers) (clip : ColumnClip) (e : Edges) → height ≤ FRAME_HEIGHT → IsClipIn height clip → AreEdgeWords e → AreRowsIn height (bottom_rows n clip e)
 unfolding bottom_rows
-bottom_rows-in height n clip e s i w = let known = opened height clip e s i w in rows_in height _ _ (bottom_first_is height n clip e known) (last_is height clip e known)
+bottom_rows-in height n clip e s i w = let clip_opened = opened height clip e s i w in rows_in height _ _ (bottom_first_is height n clip e clip_opened) (last_is height clip e clip_opened)
 
 -- an open column is in its ranges
 pub open_clip-in : (height : ℕ) → height ≤ FRAME_HEIGHT → IsClipIn height (open_clip height)

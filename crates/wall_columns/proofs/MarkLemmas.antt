@@ -151,8 +151,8 @@ by_test f k x y start now next before between later after true t h e l m p =
     ∙ sym (clip_along-last start.windows.height f (window_at start.windows) k x e)
     ∙ ap (clip_along start.windows.height f (window_at start.windows) (k + 1)) (sym column_same)
 by_test f k x y start now next before between later after false t h e l m p =
-    let other : y ≢ x = grind (arith, nat_tests) in
-    p.other y other ∙ h.windows y m ∙ clip_along-other start.windows.height f (window_at start.windows) k x y e other
+    let columns_differ : y ≢ x = grind (arith, nat_tests) in
+    p.other y columns_differ ∙ h.windows y m ∙ clip_along-other start.windows.height f (window_at start.windows) k x y e columns_differ
 
 marked_column : (f : FragmentValue) (k x : ℕ) (start : ColumnState) (w : ColumnClip) (e : Edges) (ceiling floor : Option ℕ) (planes : List Plane) → x ≡ f.first + k →
     w ≡ window_at start.windows x → e ≡ column_edges f x →
@@ -160,8 +160,8 @@ marked_column : (f : FragmentValue) (k x : ℕ) (start : ColumnState) (w : Colum
     ≡ column_marked (marks_along f (window_at start.windows)) ceiling floor (f.first + k) planes
 unfolding column_marked marks_along
 marked_column f k x start w e ceiling floor planes p q r =
-    let by : ColumnClip → Edges → ℕ → List Plane = λ w e y. set_run (set_run planes ceiling y (marked_rows f.numbers.ceiling_mark (ceiling_rows w e))) floor y (marked_rows f.numbers.floor_mark (floor_rows w e)) in
-    ap (λ (w : ColumnClip). by w e x) q ∙ ap (λ (e : Edges). by (window_at start.windows x) e x) r ∙ ap (λ (y : ℕ). by (window_at start.windows y) (column_edges f y) y) p
+    let planes_with_runs : ColumnClip → Edges → ℕ → List Plane = λ w e y. set_run (set_run planes ceiling y (marked_rows f.numbers.ceiling_mark (ceiling_rows w e))) floor y (marked_rows f.numbers.floor_mark (floor_rows w e)) in
+    ap (λ (w : ColumnClip). planes_with_runs w e x) q ∙ ap (λ (e : Edges). planes_with_runs (window_at start.windows x) e x) r ∙ ap (λ (y : ℕ). planes_with_runs (window_at start.windows y) (column_edges f y) y) p
 
 -- one column more
 has_marked-more : (f : FragmentValue) (k x : ℕ) (start now next : ColumnState) (before between later : PlanesView) (after : ColumnClip) → HasMarked f k start now before between →

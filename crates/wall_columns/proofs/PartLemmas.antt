@@ -103,19 +103,19 @@ unfolding with_list
 take-with_list xs list used place long room =
     let front : List ℤ = take used xs in
     let rest : List ℤ = drop used xs in
-    let before : List ℤ = take place front in
+    let values_before : List ℤ = take place front in
     let behind : List ℤ = drop (place + length list) front in
     let whole : length front ≡ used = length-take-le used xs long in
     let split_is : xs ≡ front ++ rest = sym (take-append-drop used xs) in
-    let joined : (before ++ (list ++ behind)) ++ rest ≡ before ++ (list ++ (behind ++ rest)) =
-    append_assoc before (list ++ behind) rest ∙ ap (λ (ys : List ℤ). before ++ ys) (append_assoc list behind rest) in
+    let joined : (values_before ++ (list ++ behind)) ++ rest ≡ values_before ++ (list ++ (behind ++ rest)) =
+    append_assoc values_before (list ++ behind) rest ∙ ap (λ (ys : List ℤ). values_before ++ ys) (append_assoc list behind rest) in
     ap (λ (ys : List ℤ). take used (take place ys ++ (list ++ drop (place + length list) ys))) split_is
     ∙ ap (λ (ys : List ℤ). take used (ys ++ (list ++ drop (place + length list) (front ++ rest)))) (take-append-le place front rest (omega arith))
-    ∙ ap (λ (ys : List ℤ). take used (before ++ (list ++ ys))) (drop-append-le (place + length list) front rest (omega arith))
+    ∙ ap (λ (ys : List ℤ). take used (values_before ++ (list ++ ys))) (drop-append-le (place + length list) front rest (omega arith))
     ∙ ap (take used) (sym joined)
-    ∙ take_at (before ++ (list ++ behind)) rest used (omega (
+    ∙ take_at (values_before ++ (list ++ behind)) rest used (omega (
       arith,
-      length-append before (list ++ behind),
+      length-append values_before (list ++ behind),
       length-append list behind,
       length-take-le place front (omega arith),
       length-drop (place + length list) front,

@@ -28,11 +28,11 @@ pub columns-more : (column : ℕ → ℤ) (xs now : List ℤ) (place first last 
 columns-more column xs now place first last x value written from to room same is before =
     let list : List ℤ = listed_from column first last in
     let column_at : first + (x - first) ≡ x = omega arith in
-    let own : written ≡ get_or list (x - first) (pos 0) =
+    let written_is : written ≡ get_or list (x - first) (pos 0) =
     same ∙ is ∙ ap column (sym column_at) ∙ sym (get_or-listed_from column first last (x - first) (pos 0) (omega arith)) in
     let offset_next : x - first + 1 ≡ x + 1 - first = omega arith in
     ap (λ (zs : List ℤ). set zs (place + (x - first)) written) before
-    ∙ ap (λ (z : ℤ). set (paste xs place list (x - first)) (place + (x - first)) z) own
+    ∙ ap (λ (z : ℤ). set (paste xs place list (x - first)) (place + (x - first)) z) written_is
     ∙ paste_more xs place list (x - first) (pos 0) (omega arith) (omega (arith, length-listed_from column first last))
     ∙ ap (paste xs place list) offset_next
 
@@ -85,7 +85,7 @@ lists_saved-behind n count before xs columns ceilings floors middle_count top_co
     let to_middles : length (before ++ middles) ≡ top_place = omega (arith, length-append before middles, length_saved n.masked columns count middle_count) in
     let to_tops : length ((before ++ middles) ++ tops) ≡ bottom_place =
     omega (arith, to_middles, length-append (before ++ middles) tops, length_saved (saves_top n) ceilings count top_count) in
-    let none : drop (room_of (saves_bottom n) (length floors)) behind_tops ≡ [] =
+    let none_behind_tops : drop (room_of (saves_bottom n) (length floors)) behind_tops ≡ [] =
     drop_all (room_of (saves_bottom n) (length floors)) behind_tops (omega (
       arith,
       length-drop (length before) xs,
@@ -99,5 +99,5 @@ lists_saved-behind n count before xs columns ceilings floors middle_count top_co
     ∙ ap (λ (ys : List ℤ). with_saved ys (place_if (saves_bottom n) bottom_place) floors)
     (saved_behind (saves_top n) (before ++ middles) behind_middles ceilings top_place to_middles)
     ∙ saved_behind (saves_bottom n) ((before ++ middles) ++ tops) behind_tops floors bottom_place to_tops
-    ∙ ap (λ (ys : List ℤ). (((before ++ middles) ++ tops) ++ bottoms) ++ ys) none ∙ append-nil (((before ++ middles) ++ tops) ++ bottoms)
+    ∙ ap (λ (ys : List ℤ). (((before ++ middles) ++ tops) ++ bottoms) ++ ys) none_behind_tops ∙ append-nil (((before ++ middles) ++ tops) ++ bottoms)
     ∙ append_assoc (before ++ middles) tops bottoms ∙ append_assoc before middles (tops ++ bottoms)

@@ -25,7 +25,7 @@ at_first f g e ordered within fits =
 
 edges_on : (f : FragmentValue) (k : ℕ) (now step : Edges) → now ≡ edges_at f.shape f.numbers k → step ≡ edges_step f.numbers →
     edges_plus now step ≡ edges_at f.shape f.numbers (k + 1)
-edges_on f k now step e g = let more = edges_at-more f.shape f.numbers k (k + 1) refl in cc
+edges_on f k now step e g = let edges_one_more = edges_at-more f.shape f.numbers k (k + 1) refl in cc
 
 -- one column on
 pub at_next : (f : FragmentValue) (k : ℕ) (s : Stepper) → IsAt f k s → 0 < s.left → IsAt f (k + 1) (one_column_on s)
@@ -49,7 +49,7 @@ unfolding stepper_after
 at_column f s zero h l = h
 at_column f s (suc k) h l =
     let is_at_column = at_column f s k h (omega arith) in
-    let left : 0 < (stepper_after k s).left = omega (arith, is_at_column.x, is_at_column.left) in
+    let columns_are_left : 0 < (stepper_after k s).left = omega (arith, is_at_column.x, is_at_column.left) in
     let next_is : k + 1 ≡ suc k = omega arith in
     let next_is_at : ℕ → Type 0 = λ n. IsAt f n (next_stepper (stepper_after k s)) in
-    subst next_is_at next_is (at_more f k (stepper_after k s) is_at_column left)
+    subst next_is_at next_is (at_more f k (stepper_after k s) is_at_column columns_are_left)

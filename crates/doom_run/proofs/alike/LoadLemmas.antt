@@ -90,19 +90,20 @@ compared : (bytes : ℕ → List ℕ) (lumps : List Lump) (few : length lumps �
     → scene_in (λ k. bytes (source_of (trim_parts lumps art name) k)) (trimmed_lumps bytes lumps (trim_parts lumps art name)) lines name skill ≡ Ok moved → level ≡ moved.base.level
     → IsComparedAlike (IsFlatPlace (length (flat_lumps lumps art.flats))) (source_of (trim_parts lumps art name)) moved
 compared bytes lumps few art name parts plan lines skill level flats moved is same =
-    let all = trim_parts lumps art name in
-    let trimmed = trimmed_lumps bytes lumps all in
-    let steps = scene-steps (λ k. bytes (source_of all k)) trimmed lines name skill moved is in
+    let trimmed_parts = trim_parts lumps art name in
+    let trimmed = trimmed_lumps bytes lumps trimmed_parts in
+    let steps = scene-steps (λ k. bytes (source_of trimmed_parts k)) trimmed lines name skill moved is in
     let sectors = moved.base.level.sectors in
     let source : sector_flats lumps sectors ≡ Ok art.flats = ap (λ (l : LevelValue). sector_flats lumps l.sectors) (sym same) ∙ flats in
-    let here : sector_flats trimmed sectors ≡ Ok moved.faces.flats = faces_flats trimmed name moved.base.level moved.base.lists moved.faces steps.faces in
-    let made = base-made (λ k. bytes (source_of all k)) trimmed name moved.base steps.base in
+    let flats_found : sector_flats trimmed sectors ≡ Ok moved.faces.flats = faces_flats trimmed name moved.base.level moved.base.lists moved.faces
+    steps.faces in let base_is_made = base-made (λ k. bytes (source_of trimmed_parts k)) trimmed name moved.base steps.base in
     record {
       sky = sky-kept lumps art name parts plan;
       one = flats-one-to-one lumps art name parts plan bytes sectors few source;
       has_sky = inl refl;
-      sectors = scene-sectors (map_bytes (λ k. bytes (source_of all k)) moved.base.label) moved made.level (flats-count trimmed sectors moved.faces.flats here);
-      flats = surfaces-placed (length (flat_lumps lumps art.flats)) sectors moved.faces.flats (flats-placed lumps art name parts plan bytes sectors few source moved.faces.flats here);
+      sectors = scene-sectors (map_bytes (λ k. bytes (source_of trimmed_parts k)) moved.base.label) moved base_is_made.level
+        (flats-count trimmed sectors moved.faces.flats flats_found);
+      flats = surfaces-placed (length (flat_lumps lumps art.flats)) sectors moved.faces.flats (flats-placed lumps art name parts plan bytes sectors few source moved.faces.flats flats_found);
     }
 
 -- the same files, but for the WADs
@@ -135,19 +136,18 @@ trimmed-load level wads files loaded is parts plan name others stands =
     let bytes = wad_bytes wads files lumps in
     let pictures = loaded_pictures loaded in
     let art = art_with loaded.scene pictures in
-    let all = trim_parts lumps art level.map_name in
-    let σ = source_of all in
-    let trimmed = trimmed_lumps bytes lumps all in
-    let file = trimmed_file bytes lumps all in
+    let trimmed_parts = trim_parts lumps art level.map_name in
+    let σ = source_of trimmed_parts in
+    let trimmed = trimmed_lumps bytes lumps trimmed_parts in
+    let file = trimmed_file bytes lumps trimmed_parts in
     let steps = load-steps level wads files loaded is in
     let directory_is : directory contents ≡ Ok lumps = lumps-listed wads files lumps steps.values.lumps in
     let lumps_within : length lumps ≤ MAX_LUMPS = directory-few contents lumps directory_is in
     let lumps_few : length lumps ≤ SKY_FLAT = omega arith in
-    let lines = loaded.files.things in
-    let skill = level.settings.skill in
-    let made = scene-steps bytes lumps lines level.map_name skill loaded.scene steps.scene in
+    let lines = loaded.files.things in let skill = level.settings.skill in
+    let scene_is_made = scene-steps bytes lumps lines level.map_name skill loaded.scene steps.scene in
     let sprites : AllByRecursion (IsSprite lumps) pictures = all-append (IsSprite lumps) (book_lumps loaded.scene.book) (weapon_lumps loaded.weapons)
-    (book-sprites bytes lumps (first_needs (map need_of loaded.scene.placed)) loaded.scene.book (book_found bytes lumps loaded.scene made.book))
+    (book-sprites bytes lumps (first_needs (map need_of loaded.scene.placed)) loaded.scene.book (book_found bytes lumps loaded.scene scene_is_made.book))
     (layers_sprites bytes lumps loaded.files.weapons loaded.weapons steps.weapons) in
     let scene = trimmed-scene contents lumps directory_is lumps_few lines level.map_name skill loaded.scene steps.scene pictures sprites
     (λ n any. any_left (λ m. m == n) (book_lumps loaded.scene.book) (weapon_lumps loaded.weapons) any) parts plan in
@@ -161,7 +161,7 @@ trimmed-load level wads files loaded is parts plan name others stands =
       weapons = weapons.0;
     } in
     let bytes_same : wad_bytes (name ∷ []) others trimmed ≡ (λ k. bytes (σ k)) =
-    ap (λ o. lump_bytes (unwrap_or o []) trimmed) (one-named name file others stands.trimmed) ∙ bytes-moved contents lumps all lumps_few in (
+    ap (λ o. lump_bytes (unwrap_or o []) trimmed) (one-named name file others stands.trimmed) ∙ bytes-moved contents lumps trimmed_parts lumps_few in (
       moved,
       load-made level (name ∷ []) others moved (record {
         values = files_moved level wads files loaded file name others trimmed steps stands directory-is;
@@ -170,6 +170,6 @@ trimmed-load level wads files loaded is parts plan name others stands =
       }),
       record { tables = refl; path = refl; rows = refl; scene = scene.2; weapons = weapons.2 },
       bytes_same,
-      compared bytes lumps lumps_few art level.map_name parts plan lines skill loaded.scene.base.level
-          (faces_flats lumps level.map_name loaded.scene.base.level loaded.scene.base.lists loaded.scene.faces made.faces) scene.0 scene.1 scene.2.level,
+      compared bytes lumps lumps_few art level.map_name parts plan lines skill loaded.scene.base.level (faces_flats
+          lumps level.map_name loaded.scene.base.level loaded.scene.base.lists loaded.scene.faces scene_is_made.faces) scene.0 scene.1 scene.2.level,
     )

@@ -192,8 +192,7 @@ trimmed-views level wads files loaded is parts plan name others stands =
     let lumps = loaded.files.lumps in
     let bytes = wad_bytes wads files lumps in
     let art = art_with loaded.scene (loaded_pictures loaded) in
-    let all = trim_parts lumps art level.map_name in
-    let σ = source_of all in
+    let trimmed_parts = trim_parts lumps art level.map_name in let σ = source_of trimmed_parts in
     let load = trimmed-load level wads files loaded is parts plan name others
     (subst (λ ps. StandsForWads level.files (trimmed_file bytes lumps ps) name files others) (sym (plan-accepted lumps art level.map_name parts plan).0) stands) in
     let moved = load.0 in

@@ -50,9 +50,9 @@ files-steps names wads settings files values e =
     let tables = and_then-ok (in_file (tables_file settings) names.tables files) _ values e in
     let texts = and_then-ok (texts_in names files) _ values tables.2 in
     let lumps = and_then-ok (lumps_in wads files) _ values texts.2 in
-    let parts = texts-steps names files texts.0 texts.1 in
+    let texts_read = texts-steps names files texts.0 texts.1 in
     let values_are : ◌≡◌ {A = FilesValue} (record { tables = tables.0; things = texts.0.things; path = texts.0.path; weapons = texts.0.weapons; lumps = lumps.0 }) values = ok_of _ values lumps.2 in
-    subst (IsFilesOf names wads settings files) values_are (record { tables = tables.1; things = parts.things; path = parts.path; weapons = parts.weapons; lumps = lumps.1 })
+    subst (IsFilesOf names wads settings files) values_are (record { tables = tables.1; things = texts_read.things; path = texts_read.path; weapons = texts_read.weapons; lumps = lumps.1 })
 
 pub files-made : (names : FileNames) (wads : List (List ℕ)) (settings : Settings) (files : List File) (values : FilesValue)
     → IsFilesOf names wads settings files values → files_in names wads settings files ≡ Ok values

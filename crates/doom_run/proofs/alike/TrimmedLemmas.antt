@@ -60,12 +60,12 @@ no_leaf = record { first = 0; count = 0; sector = 0 }
 level-leaf : (b : MapBytes) (level : LevelValue) → level_of b ≡ Ok level → 0 < length level.leaves
 unfolding level_of map_refusal records_refusal joined_level joined_leaves
 level-leaf b level e =
-    let parts = unless_step _ (joined_level (records_of b)) level e in
-    let records = or_else-none (sizes_refusal b) (records_refusal (records_of b)) parts.0 in
+    let level_not_refused = unless_step _ (joined_level (records_of b)) level e in
+    let records = or_else-none (sizes_refusal b) (records_refusal (records_of b)) level_not_refused.0 in
     let leaf = or_else-none (no_leaf_refusal (records_of b).leaves) _ records.1 in
     let has_leaves : 0 < length (records_of b).leaves = some_leaf (records_of b).leaves leaf.0 in
     let count : length (joined_leaves (records_of b)) ≡ length (records_of b).leaves = length-map (records_of b).leaves _ in
-    let leaf_count_same : length (joined_leaves (records_of b)) ≡ length level.leaves = ap (λ (l : LevelValue). length l.leaves) parts.1 in
+    let leaf_count_same : length (joined_leaves (records_of b)) ≡ length level.leaves = ap (λ (l : LevelValue). length l.leaves) level_not_refused.1 in
     omega arith
 
 -- and so a sector

@@ -64,11 +64,11 @@ base_lists bytes lumps name base e =
 pub scene_textures : (contents : List (List ℕ)) (lumps : List Lump) (lines : List ThingLine) (name : List ℕ) (skill : ℕ) (scene : SceneValue) → scene_in (lump_bytes contents lumps) lumps lines name skill ≡ Ok scene → AreTexturesOf contents lumps (textures_view scene)
 unfolding lists_in
 scene_textures contents lumps lines name skill scene e =
-    let parts = scene_parts (lump_bytes contents lumps) lumps lines name skill scene e in
+    let scene_is_read = scene_parts (lump_bytes contents lumps) lumps lines name skill scene e in
     record {
       wanted = is_wanted_texture scene.faces.sides scene.faces.sky;
-      lists = base_lists (lump_bytes contents lumps) lumps name scene.base parts.base;
-      prepared = parts.prepared;
+      lists = base_lists (lump_bytes contents lumps) lumps name scene.base scene_is_read.base;
+      prepared = scene_is_read.prepared;
     }
 
 -- what is audited has an accepted scene

@@ -65,9 +65,9 @@ module _ (lumps : List Lump) where
   map_there : (name : List ℕ) (label lump : ℕ) → label_of lumps name ≡ Ok label → is_map_lump label lump ≡ true → lump < length lumps
   unfolding label_of
   map_there name label lump is among =
-      let parts = label_parts (last_of lumps name) label (found_or (map_of lumps name) _ label is) in
-      let label_below_count = last_there name label parts.0 in
-      let map_lumps_fit = named_within lumps (lump_at lumps label).file (suc label) MAP_LUMPS (omega (arith, label_below_count)) (label_names label parts.1) in
+      let label_found = label_parts (last_of lumps name) label (found_or (map_of lumps name) _ label is) in
+      let label_below_count = last_there name label label_found.0 in let map_lumps_fit =
+      named_within lumps (lump_at lumps label).file (suc label) MAP_LUMPS (omega (arith, label_below_count)) (label_names label label_found.1) in
       let lump_in_map = map_last label lump among in
       omega (arith, map_lumps_fit, lump_in_map)
 
@@ -119,13 +119,13 @@ module _ (bytes : ℕ → List ℕ) (level : LevelJobValue) (found : FilesValue)
 
   read_item : IsReadBy bytes found.lumps found.things level.map_name level.settings.skill lump → has_item (loaded_items whole) (lump_owner lump) (lump_at found.lumps lump).size ≡ true
   read_item (inl colormap) =
-      let parts = scene_parts bytes found.lumps found.things level.map_name level.settings.skill scene accepted in
-      let colormap_same : scene.base.colormap ≡ lump = same_value scene.base.colormap lump (base_parts bytes found.lumps level.map_name scene.base parts.base).colormap colormap in
+      let scene_is_read = scene_parts bytes found.lumps found.things level.map_name level.settings.skill scene accepted in
+      let colormap_same : scene.base.colormap ≡ lump = same_value scene.base.colormap lump (base_parts bytes found.lumps level.map_name scene.base scene_is_read.base).colormap colormap in
       scene_item whole lump (colormap_there found.lumps lump colormap) (colormap_needed found.lumps scene lump colormap_same)
   read_item (inr later) =
-      let parts = scene_parts bytes found.lumps found.things level.map_name level.settings.skill scene accepted in
+      let scene_is_read = scene_parts bytes found.lumps found.things level.map_name level.settings.skill scene accepted in
       scene_item whole lump (after_there found.lumps bytes found.things level.map_name level.settings.skill lump later)
-      (needed_later bytes found.lumps found.things level.map_name level.settings.skill scene parts lump later)
+      (needed_later bytes found.lumps found.things level.map_name level.settings.skill scene scene_is_read lump later)
 
   layer_item : IsOfLayers found.lumps found.weapons lump → has_item (loaded_items whole) (lump_owner lump) (lump_at found.lumps lump).size ≡ true
   layer_item asked = picture_item whole lump (picture_there found.lumps (weapon_needs asked.0) lump asked.2) (book_of_layers bytes found.lumps found.weapons weapons lump layers asked)

@@ -29,8 +29,8 @@ edges_at-zero shape n f =
 pub edges_at-more : (shape : ViewShape) (n : FragmentNumbers) (k m : ℕ) → k + 1 ≡ m → edges_plus (edges_at shape n k) (edges_step n) ≡ edges_at shape n m
 unfolding edges_at edges_step edges_plus edge_at
 edges_at-more shape n k m h =
-    let more = λ (height : ℤ). step_at-more (edge_first shape (shr_word height HEIGHT_SHIFT) n.scale1) (edge_step (shr_word height HEIGHT_SHIFT) n.step) k m h in
-    cc (step_at-more n.scale1 n.step k m h, more n.world_top, more n.world_bottom, more n.world_high, more n.world_low)
+    let edge_one_more = λ (height : ℤ). step_at-more (edge_first shape (shr_word height HEIGHT_SHIFT) n.scale1) (edge_step (shr_word height HEIGHT_SHIFT) n.step) k m h in
+    cc (step_at-more n.scale1 n.step k m h, edge_one_more n.world_top, edge_one_more n.world_bottom, edge_one_more n.world_high, edge_one_more n.world_low)
 
 -- for `grind`: a loop that steps the edges
 pub ruleset edge_stepping = (edges_at-zero, edges_at-more)

@@ -7,6 +7,6 @@ use Rattle.angle_tables.proofs.columns.fine_of_column.Goals as goal
 pub returns-clause-before : goal.returns-clause-before
 returns-clause-before c =
     λ k left h l.
-    let found : c.unwrap_or.result ≡ fine_of_column c.args.t.now c.args.shape c.args.x = unfold fine_of_column in search rules in
-    let below : k < fine_of_column c.args.t.now c.args.shape c.args.x = omega arith in
-    fine_of_column-below c.args.t.now c.args.shape c.args.x k left below l
+    let fine_angle_is : c.unwrap_or.result ≡ fine_of_column c.args.t.now c.args.shape c.args.x = unfold fine_of_column in search rules in
+    let below_fine_angle : k < fine_of_column c.args.t.now c.args.shape c.args.x = omega arith in
+    fine_of_column-below c.args.t.now c.args.shape c.args.x k left below_fine_angle l

@@ -28,16 +28,16 @@ pub returns-in_default-clause-ends : goal.returns-in_default-clause-ends
 returns-in_default-clause-ends g c contents count holds =
     let so_far = c.loop-number.invariant in
     let bytes = ready_bytes contents c.args.ready.now in
-    let below : c.loop-number.number < length (ready_views bytes c.args.ready.now).views = omega (arith, views_count bytes c.args.ready.now, c.loop-number-test.true, c.view_count-count.ensures) in
-    render_stops {r = ready_views bytes c.args.ready.now} (g.K.Sink.written c.loop-number.out) _ _ c.render_view.result (so_far.rendered contents count holds) below
+    let view_is_there : c.loop-number.number < length (ready_views bytes c.args.ready.now).views = omega (arith, views_count bytes c.args.ready.now, c.loop-number-test.true, c.view_count-count.ensures) in
+    render_stops {r = ready_views bytes c.args.ready.now} (g.K.Sink.written c.loop-number.out) _ _ c.render_view.result (so_far.rendered contents count holds) view_is_there
     (view_ends-later _ _ _ _ _ _ contents so_far.renders.keeps so_far.form (c.render_view.ensures.ends contents count (holds-later so_far.renders.keeps holds))) c.in_default.not-Done
 
 pub returns-in_default-clause-fits : goal.returns-in_default-clause-fits
 returns-in_default-clause-fits g c contents count holds is =
     let so_far = c.loop-number.invariant in
     let bytes = ready_bytes contents c.args.ready.now in
-    let below : c.loop-number.number < length (ready_views bytes c.args.ready.now).views = omega (arith, views_count bytes c.args.ready.now, c.loop-number-test.true, c.view_count-count.ensures) in
-    due_stops (ready_views bytes c.args.ready.now) (FitsAt bytes count c.args.ready.now) (g.K.Sink.written c.loop-number.out) _ _ c.render_view.result (so_far.rendered contents count holds) below
+    let view_is_there : c.loop-number.number < length (ready_views bytes c.args.ready.now).views = omega (arith, views_count bytes c.args.ready.now, c.loop-number-test.true, c.view_count-count.ensures) in
+    due_stops (ready_views bytes c.args.ready.now) (FitsAt bytes count c.args.ready.now) (g.K.Sink.written c.loop-number.out) _ _ c.render_view.result (so_far.rendered contents count holds) view_is_there
     (view_ends-later _ _ _ _ _ _ contents so_far.renders.keeps so_far.form (c.render_view.ensures.ends contents count (holds-later so_far.renders.keeps holds))) c.in_default.not-Done is
     (so_far.fits contents count holds)
 
@@ -52,8 +52,8 @@ loop-number-preserved g c =
       form = c.render_view.ensures.form ∙ so_far.form;
       rendered = λ contents count holds.
           let bytes = ready_bytes contents c.args.ready.now in
-          let below : c.loop-number.number < length (ready_views bytes c.args.ready.now).views = omega (arith, views_count bytes c.args.ready.now, c.loop-number-test.true, c.view_count-count.ensures) in
-          rendered-more {r = ready_views bytes c.args.ready.now} (g.S.Shelf.view c.args.shelf.now).steady c.render_view.result (so_far.rendered contents count holds) below
+          let view_is_there : c.loop-number.number < length (ready_views bytes c.args.ready.now).views = omega (arith, views_count bytes c.args.ready.now, c.loop-number-test.true, c.view_count-count.ensures) in
+          rendered-more {r = ready_views bytes c.args.ready.now} (g.S.Shelf.view c.args.shelf.now).steady c.render_view.result (so_far.rendered contents count holds) view_is_there
           (view_ends-later _ _ _ _ _ _ contents so_far.renders.keeps so_far.form (c.render_view.ensures.ends contents count (holds-later so_far.renders.keeps holds))) c.in-Done.is;
       fits = λ contents count holds k l.
           let view_fits = c.render_view.ensures.fits contents count (holds-later so_far.renders.keeps holds) c.in-Done.is in

@@ -16,8 +16,7 @@ returns-in-Level-clause-runs g c = command_runs _ (rw c.in-Level.is at c.in-Ok.e
 
 pub perform_exercise-requires-clause-count : goal.perform_exercise-requires-clause-count
 perform_exercise-requires-clause-count g c =
-    let counted : IsExercise c.in-Exercise.count c.in-Exercise.zone = rw c.in-Exercise.is at c.in-Ok.ensures.counted in
-    counted.count
+    let counted : IsExercise c.in-Exercise.count c.in-Exercise.zone = rw c.in-Exercise.is at c.in-Ok.ensures.counted in counted.count
 
 pub perform_exercise-requires-clause-zone : goal.perform_exercise-requires-clause-zone
 perform_exercise-requires-clause-zone g c =
@@ -28,7 +27,8 @@ pub returns-in-Ok-clause-runs : goal.returns-in-Ok-clause-runs
 returns-in-Ok-clause-runs g c = command_runs _ (rw c.in-Exercise.is at c.in-Ok.ensures.ok) (c.perform_exercise.ensures (g.S.Shelf.view c.args.shelf.now))
 
 pub returns-in-Err-Usage-clause-runs : goal.returns-in-Err-Usage-clause-runs
-returns-in-Err-Usage-clause-runs g c = rw (c.in-Err-Usage.ensures.usage (let is = c.in-Err-Usage.is in cc)) (record { runs = (inl refl, grew_none _) })
+returns-in-Err-Usage-clause-runs g c = rw (c.in-Err-Usage.ensures.usage (let error_is_usage = c.in-Err-Usage.is in cc))
+    (record { runs = (inl refl, grew_none _) })
 
 pub returns-clause-runs : goal.returns-clause-runs
 returns-clause-runs g c = memory_runs (command_of (texts c.args.words.now)) (g.S.Shelf.view c.args.shelf.now) _ _

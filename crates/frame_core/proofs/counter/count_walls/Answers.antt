@@ -6,5 +6,5 @@ use Rattle.frame_core.proofs.counter.count_walls.Goals as goal
 pub returns : goal.returns
 returns c =
     let events_counted = counter-walked _ _ _ _ c.requires.walked c.walk_view.ensures in
-    let same = sym events_counted.name in
+    let names_same = sym events_counted.name in
     counted-view _ _ _ c.walk_view.result events_counted (search rules)

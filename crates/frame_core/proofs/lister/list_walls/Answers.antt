@@ -8,7 +8,7 @@ pub returns : goal.returns
 returns c =
     let events_gathered = lister-walked _ _ _ _ c.requires.walked c.requires.empty c.walk_view.ensures in
     let counted = events_gathered.counted in
-    let same = sym counted.name in
+    let names_same = sym counted.name in
     let same_list = sym events_gathered.name in
     record {
       counted = counted-view _ _ _ c.walk_view.result counted (search rules);

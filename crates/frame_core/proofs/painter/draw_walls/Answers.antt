@@ -16,7 +16,7 @@ shape_of-tools-3 g c = sym (ap (λ (n : PainterNames). n.cache) (painter-viewed 
 pub returns : goal.returns
 returns g c =
     let view_painted = painter-viewed g.C.Canvas.mark _ _ _ c.walked_scene-walked.ensures.lists c.requires.walked c.walk.ensures.visits in
-    let same = sym (ap (λ (n : PainterNames). n.bench) view_painted.names) in
+    let bench_same = sym (ap (λ (n : PainterNames). n.bench) view_painted.names) in
     let limits = view_painted.limits in
     record {
       same = search rules;

@@ -31,9 +31,9 @@ walls_drawable g c = can_draw_view-later c.args.tools.now.dir.now.lumps c.args.t
 walls_placed : (g : Over) (c : In_ok-draw_walls g) → IsPlacedIn c.args.tools.now.view.now (g.C.Canvas.view c.draw_walls.new.tools.canvas.now)
 walls_placed g c =
     let view_now = c.args.tools.now.view.now in
-    let here = g.C.Canvas.view c.place.new.self in
-    placed-later view_now here (g.C.Canvas.view c.draw_walls.new.tools.canvas.now) c.in_ok-draw_walls.ensures.paints.place
-    (placed-frame view_now c.shape-shape.result (g.C.Canvas.view c.args.tools.now.canvas.now) here c.shape-shape.ensures.value c.shape-shape.ensures.frame c.place.ensures)
+    let placed_canvas = g.C.Canvas.view c.place.new.self in
+    placed-later view_now placed_canvas (g.C.Canvas.view c.draw_walls.new.tools.canvas.now) c.in_ok-draw_walls.ensures.paints.place
+    (placed-frame view_now c.shape-shape.result (g.C.Canvas.view c.args.tools.now.canvas.now) placed_canvas c.shape-shape.ensures.value c.shape-shape.ensures.frame c.place.ensures)
 
 -- and so behind the planes
 floors_alike : (g : Over) (c : In_ok-draw_floors g) → ReadsAlike c.args.tools.now c.draw_floors.new.tools
@@ -49,26 +49,27 @@ draw_walls-requires-clause-placed g c = placed g (goal.at.draw_walls-requires-cl
 pub draw_floors-requires : goal.draw_floors-requires
 draw_floors-requires g c =
     let walls_passed = (goal.at.draw_floors-requires g c).In_ok-draw_walls in
-    let tools_now = c.args.tools.now in let tools_later = c.draw_walls.new.tools in let same = walls_alike g walls_passed in
+    let tools_now = c.args.tools.now in let tools_later = c.draw_walls.new.tools in let same_after_walls = walls_alike g walls_passed in
     record {
       drawable = drawable-at tools_now.dir.now tools_later.dir.now tools_now.scene.now.scene tools_later.scene.now.scene
-          tools_later.cache.now same.1.1 same.1.0 (walls_drawable g walls_passed);
-      placed = subst (λ (w : ViewValue). IsPlacedIn w (g.C.Canvas.view c.draw_walls.new.tools.canvas.now)) (sym same.0) (walls_placed g walls_passed);
+          tools_later.cache.now same_after_walls.1.1 same_after_walls.1.0 (walls_drawable g walls_passed);
+      placed = subst (λ (w : ViewValue). IsPlacedIn w (g.C.Canvas.view c.draw_walls.new.tools.canvas.now))
+        (sym same_after_walls.0) (walls_placed g walls_passed);
       walked = walked-at tools_now.view.now tools_later.view.now tools_now.scene.now.scene tools_later.scene.now.scene
-          c.draw_walls.new.bench same.0 same.1.0 c.in_ok-draw_walls.ensures.walked;
+          c.draw_walls.new.bench same_after_walls.0 same_after_walls.1.0 c.in_ok-draw_walls.ensures.walked;
     }
 
 pub draw_masks-requires : goal.draw_masks-requires
 draw_masks-requires g c =
-    let at = goal.at.draw_masks-requires g c in
+    let context = goal.at.draw_masks-requires g c in
     let tools_now = c.args.tools.now in let tools_later = c.draw_floors.new.tools in
-    let same = floors_alike g at.In_ok-draw_floors in
+    let same_after_floors = floors_alike g context.In_ok-draw_floors in
     let floors_painted = c.in_ok-draw_floors.ensures.paints in
     record {
-      drawable = drawable-at tools_now.dir.now tools_later.dir.now tools_now.scene.now.scene tools_later.scene.now.scene tools_later.cache.now same.1.1 same.1.0 (can_draw_view-later tools_now.dir.now.lumps tools_now.scene.now.scene c.draw_walls.new.tools.cache.now c.draw_floors.new.tools.cache.now floors_painted.draws.keeps.counts (walls_drawable g at.In_ok-draw_walls));
-      placed = subst (λ (w : ViewValue). IsPlacedIn w (g.C.Canvas.view c.draw_floors.new.tools.canvas.now)) (sym same.0) (placed-later c.args.tools.now.view.now (g.C.Canvas.view c.draw_walls.new.tools.canvas.now) (g.C.Canvas.view c.draw_floors.new.tools.canvas.now) floors_painted.place (walls_placed g at.In_ok-draw_walls));
+      drawable = drawable-at tools_now.dir.now tools_later.dir.now tools_now.scene.now.scene tools_later.scene.now.scene tools_later.cache.now same_after_floors.1.1 same_after_floors.1.0 (can_draw_view-later tools_now.dir.now.lumps tools_now.scene.now.scene c.draw_walls.new.tools.cache.now c.draw_floors.new.tools.cache.now floors_painted.draws.keeps.counts (walls_drawable g context.In_ok-draw_walls));
+      placed = subst (λ (w : ViewValue). IsPlacedIn w (g.C.Canvas.view c.draw_floors.new.tools.canvas.now)) (sym same_after_floors.0) (placed-later c.args.tools.now.view.now (g.C.Canvas.view c.draw_walls.new.tools.canvas.now) (g.C.Canvas.view c.draw_floors.new.tools.canvas.now) floors_painted.place (walls_placed g context.In_ok-draw_walls));
       walked = walked-at tools_now.view.now tools_later.view.now tools_now.scene.now.scene tools_later.scene.now.scene
-          c.draw_walls.new.bench same.0 same.1.0 c.in_ok-draw_walls.ensures.walked;
+          c.draw_walls.new.bench same_after_floors.0 same_after_floors.1.0 c.in_ok-draw_walls.ensures.walked;
       marks = subst (λ (n : ℕ). n ≤ length c.args.marks.now) (sym (ap (λ (l : Limits). l.openings) (c.in_ok-draw_walls.ensures.limits ∙ c.start.ensures.limits))) c.requires.marks;
     }
 
@@ -95,10 +96,10 @@ returns-in_err-draw_floors-clause-over g c =
 pub returns-in_err-draw_floors-clause-paints : goal.returns-in_err-draw_floors-clause-paints
 returns-in_err-draw_floors-clause-paints g c =
     let tools_now = c.args.tools.now in
-    let same = walls_alike g (goal.at.returns-in_err-draw_floors-clause-paints g c).In_ok-draw_walls in
+    let same_after_walls = walls_alike g (goal.at.returns-in_err-draw_floors-clause-paints g c).In_ok-draw_walls in
     paints-placed tools_now.view.now c.shape-shape.result (g.C.Canvas.view tools_now.canvas.now) (g.C.Canvas.view c.place.new.self) c.shape-shape.ensures.value
     c.place.ensures (paints-then_stop c.in_err-draw_floors.was c.from_residual-in_err-draw_floors.ensures.1 c.in_ok-draw_walls.ensures.paints
-    (part-at floors_of tools_now c.draw_walls.new.tools same c.draw_floors.ensures.paints))
+    (part-at floors_of tools_now c.draw_walls.new.tools same_after_walls c.draw_floors.ensures.paints))
 
 pub returns-clause-within : goal.returns-clause-within
 returns-clause-within g c =
@@ -116,10 +117,9 @@ returns-clause-over g c =
 
 pub returns-clause-paints : goal.returns-clause-paints
 returns-clause-paints g c =
-    let tools_now = c.args.tools.now in
-    let at = goal.at.returns-clause-paints g c in
-    let same_after_walls = walls_alike g at.In_ok-draw_walls in
-    let same_after_floors = floors_alike g at.In_ok-draw_floors in
+    let tools_now = c.args.tools.now in let context = goal.at.returns-clause-paints g c in
+    let same_after_walls = walls_alike g context.In_ok-draw_walls in
+    let same_after_floors = floors_alike g context.In_ok-draw_floors in
     paints-placed tools_now.view.now c.shape-shape.result (g.C.Canvas.view tools_now.canvas.now) (g.C.Canvas.view c.place.new.self) c.shape-shape.ensures.value
     c.place.ensures (parts-paint (tools_scene tools_now) c.in_ok-draw_walls.ensures.paints (part-at floors_of tools_now c.draw_walls.new.tools same_after_walls c.in_ok-draw_floors.ensures.paints) (part-at masks_dots tools_now c.draw_floors.new.tools same_after_floors c.draw_masks.ensures.paints))
 

@@ -65,19 +65,19 @@ returns-clause-whole g c = λ few.
     let lines = c.args.request.now.things.now in
     let skill = c.args.request.now.skill in let name = c.args.request.now.name.now in
     let faces_are = c.in-Ok.ensures in
-    let made = c.read_things.ensures in
+    let things_read = c.read_things.ensures in
     let prepared = c.in_ok-prepare_faces.ensures in
     let base : ReadBase = record c.args.base { textures = c.prepare_faces.new.textures } in
     scene_after lumps lines name skill c.args.base c.in-Ok.faces c.read_things.result
     (faces_over lumps lines name skill c.args.base c.in-Ok.faces c.lists.result.now c.lists.ensures
     faces_are.answers.ok faces_are.sides faces_are.flats faces_are.there faces_are.below few)
-    (IfOk-weaker c.read_things.result _ _ (λ scene same. ap base_of same ∙ ap (λ (lists : TextureLists). record (base_of c.args.base) { lists = lists }) prepared.lists) made.base)
-    made.faces
-    (art_after lumps lines skill base c.in-Ok.faces c.in_ok-placed.placed c.read_things.result made.base made.faces made.placed c.in_ok-placed.ensures
-    (record {
+    (IfOk-weaker c.read_things.result _ _ (λ scene same. ap base_of same ∙ ap (λ (lists : TextureLists). record (base_of c.args.base) { lists = lists }) prepared.lists) things_read.base)
+    things_read.faces
+    (art_after lumps lines skill base c.in-Ok.faces c.in_ok-placed.placed c.read_things.result things_read.base things_read.faces things_read.placed
+    c.in_ok-placed.ensures (record {
       sides = subst (λ (sides : List SideTextures). All (AreSidePrepared c.prepare_faces.new.textures) sides) c.deref.ensures.value prepared.sides;
       sky = prepared.sky;
       patches = prepared.there;
       listed = prepared.listed;
     })
-    made.middles made.pictures)
+    things_read.middles things_read.pictures)

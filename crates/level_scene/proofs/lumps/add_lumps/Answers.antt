@@ -13,7 +13,7 @@ unfolding empty_builder
 loop-i-init g c = record {
   tells = reads_known (g.S.Shelf.view c.args.shelf.now) c.args.dir.now c.args.cache.now tt (λ contents told. lumps_from-none _ c.args.label.0 1 c.args.lumps.now empty_builder ∙ ap Ok (sym c.new-builder.ensures));
   added = ap (λ (b : BuilderValue). b.added) c.new-builder.ensures;
-  fits = λ lump above below. let none : ⊥ = omega (arith, above, below) in absurd none;
+  fits = λ lump above below. let impossible : ⊥ = omega (arith, above, below) in absurd impossible;
 }
 
 pub add_lump-requires-clause-absent : goal.add_lump-requires-clause-absent

@@ -22,14 +22,14 @@ returns-in-Node-clause-depth t c more =
     let x_same : to_z w32 (of_z w32 c.args.x) ≡ c.args.x = to_z-of_z w32 c.args.x (search rules) in
     let y_same : to_z w32 (of_z w32 c.args.y) ≡ c.args.y = to_z-of_z w32 c.args.y (search rules) in
     let some : 0 < levels = within-node nodes levels c.in-Node.n (rw c.in-Node.is at c.requires.within) in
-    let left : levels + more - 1 ≡ levels - 1 + more = omega arith in
+    let levels_left_is : levels + more - 1 ≡ levels - 1 + more = omega arith in
     let leaf_of_child = rw (x_same, y_same) at (c.child_toward.ensures.leaf (levels + more) (omega arith)) in
     ap (λ (child : Child). leaf_from nodes c.args.x c.args.y (levels + more) child) c.in-Node.is
     ∙ leaf_of_child
-    ∙ ap (λ (fuel : ℕ). leaf_from nodes c.args.x c.args.y fuel c.child_toward.result) left
+    ∙ ap (λ (fuel : ℕ). leaf_from nodes c.args.x c.args.y fuel c.child_toward.result) levels_left_is
     ∙ rw (x_same, y_same) at (c.leaf_from.ensures.depth more)
 
 pub returns-in-Node-clause-value : goal.returns-in-Node-clause-value
 returns-in-Node-clause-value t c =
-    let none : c.args.levels + 0 ≡ c.args.levels = omega arith in
-    sym (ap (λ (fuel : ℕ). leaf_from c.args.level.now.nodes c.args.x c.args.y fuel c.args.child) (sym none) ∙ returns-in-Node-clause-depth t c 0)
+    let levels_are : c.args.levels + 0 ≡ c.args.levels = omega arith in
+    sym (ap (λ (fuel : ℕ). leaf_from c.args.level.now.nodes c.args.x c.args.y fuel c.args.child) (sym levels_are) ∙ returns-in-Node-clause-depth t c 0)

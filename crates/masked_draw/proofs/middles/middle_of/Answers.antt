@@ -53,7 +53,7 @@ returns-clause-middle c =
     let scene = c.args.scene.now in
     let height = c.height-height.ensures in
     let eye = c.eye.ensures in
-    let back = c.back_sector-back.ensures in
+    let back_sector_is = c.back_sector-back.ensures in
     let eye_height_is : to_z w32 (of_z w32 c.eye.result.z) ≡ scene.view.now.eye.z = to_z-of_z w32 c.eye.result.z (search rules) ∙ ap (λ (e : Eye). e.z) eye in
     let y_offset_is = to_z-of_z w32 _ (search rules) ∙ ap (λ (r : Side). r.y_offset) (get_or_default scene.sides.now _ c.index-scene-seg-2.result no_side c.requires.lists.side) in
     let front = get_or_default scene.sectors.now _ c.index-scene-seg.result no_sector c.requires.lists.front in
@@ -63,7 +63,7 @@ returns-clause-middle c =
       tex = refl;
       mid = to_z-of_z w32 c.masked_mid.result (search rules)
           ∙ mid_of scene.view.now scene.textures.now (scene_lists scene) c.args.note.now (note_seg (scene_lists scene) c.args.note.now).back c.back_sector-back.result.now c.masked_mid.result
-          c.requires.lists.some back (mid_same _ _ _ _ _ _ _ _ _ _ _ (ap heights_of front) eye_height_is height y_offset_is c.masked_mid.ensures);
+          c.requires.lists.some back_sector_is (mid_same _ _ _ _ _ _ _ _ _ _ _ (ap heights_of front) eye_height_is height y_offset_is c.masked_mid.ensures);
       light = light_same _ _ _ _ _ light c.seg_light.ensures.value;
       place = c.requires.masked;
     }

@@ -39,18 +39,18 @@ returns-in_err-paint_unmarked-clause-paints g c =
 
 pub loop-x-preserved : goal.loop-x-preserved
 loop-x-preserved g c =
-    let scene = c.args.scene.now in
-    let note = c.args.note.now in
-    let known = c.loop-x.invariant in
+    let scene = c.args.scene.now in let note = c.args.note.now in
+    let invariant = c.loop-x.invariant in
     let painted = c.in_ok-paint_unmarked.ensures in
     let masked = c.middle_of-middle.ensures.middle.place in
     record {
-      kept = keeps-then known.kept painted.same painted.marks;
-      ready = can_paint-later painted.paints known.ready;
-      listed = listed-later painted.paints.draws.keeps.counts known.listed;
-      marked = marks-more note c.middle_of-middle.result.place c.args.first c.loop-x.x _ _ _ masked c.requires.begins c.loop-x.auto.x (omega arith) known.marked painted.marked painted.others;
+      kept = keeps-then invariant.kept painted.same painted.marks;
+      ready = can_paint-later painted.paints invariant.ready;
+      listed = listed-later painted.paints.draws.keeps.counts invariant.listed;
+      marked = marks-more note c.middle_of-middle.result.place c.args.first c.loop-x.x _ _ _ masked c.requires.begins c.loop-x.auto.x (omega arith) invariant.marked painted.marked painted.others;
       paints = paints-same _ (λ contents q is. one_more scene.view.now (scene_art contents scene) c.args.hands.now.marks.now c.loop-x.hands.marks.now note c.middle_of-middle.result.place c.args.first c.loop-x.x c.args.number c.middle_of-middle.result.number (scene_drawseg scene note)
-          masked c.requires.begins c.loop-x.auto.x (omega arith) known.marked c.middle_of-middle.ensures.number) (paints-then known.paints painted.paints);
+          masked c.requires.begins c.loop-x.auto.x (omega arith) invariant.marked c.middle_of-middle.ensures.number)
+            (paints-then invariant.paints painted.paints);
     }
 
 pub returns-clause-paints : goal.returns-clause-paints

@@ -15,8 +15,8 @@ loop-k-init g c = record {
 
 pub paint_middle-requires-clause-note : goal.paint_middle-requires-clause-note
 paint_middle-requires-clause-note g c =
-    let below : c.loop-k.k - 1 < length c.args.notes.now = omega arith in
-    can_pass-note (c.loop-k.k - 1) _ c.loop-k.invariant.kept.ready (note-get c.args.notes.now (c.loop-k.k - 1) _ below) below
+    let note_is_there : c.loop-k.k - 1 < length c.args.notes.now = omega arith in
+    can_pass-note (c.loop-k.k - 1) _ c.loop-k.invariant.kept.ready (note-get c.args.notes.now (c.loop-k.k - 1) _ note_is_there) note_is_there
 
 pub paint_middle-requires-clause-ordered : goal.paint_middle-requires-clause-ordered
 paint_middle-requires-clause-ordered g c =
@@ -24,14 +24,14 @@ paint_middle-requires-clause-ordered g c =
 
 pub loop-k-preserved : goal.loop-k-preserved
 loop-k-preserved g c =
-    let known = c.loop-k.invariant in
+    let invariant = c.loop-k.invariant in
     let painted = c.in_ok-paint_middle.ensures in
     record {
-      kept = keeps-more known.kept painted.same painted.marks painted.paints;
+      kept = keeps-more invariant.kept painted.same painted.marks painted.paints;
       leaves = λ es h.
-          let up : c.loop-k.k ≡ c.loop-k.k - 1 + 1 = omega arith in
-          let below : c.loop-k.k - 1 < length c.args.notes.now = omega arith in
-          leaves-more c.args.scene.now c.args.notes.now es c.loop-k.k (c.loop-k.k - 1) _ _ _ _ (scene-apart known.kept.ready.noted) below (note-get c.args.notes.now (c.loop-k.k - 1) _ below) refl up (known.leaves es h) painted.paints painted.marked;
+          let number_is_next : c.loop-k.k ≡ c.loop-k.k - 1 + 1 = omega arith in
+          let note_is_there : c.loop-k.k - 1 < length c.args.notes.now = omega arith in
+          leaves-more c.args.scene.now c.args.notes.now es c.loop-k.k (c.loop-k.k - 1) _ _ _ _ (scene-apart invariant.kept.ready.noted) note_is_there (note-get c.args.notes.now (c.loop-k.k - 1) _ note_is_there) refl number_is_next (invariant.leaves es h) painted.paints painted.marked;
     }
 
 pub returns-in_err-paint_middle-clause-paints : goal.returns-in_err-paint_middle-clause-paints

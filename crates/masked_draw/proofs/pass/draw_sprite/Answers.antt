@@ -64,21 +64,21 @@ loop-k-init g c =
 
 pub pass_fragment-requires-clause-note : goal.pass_fragment-requires-clause-note
 pass_fragment-requires-clause-note g c =
-    let below : c.loop-k.k - 1 < length c.args.notes.now = omega arith in
-    can_pass-note (c.loop-k.k - 1) _ c.loop-k.invariant.kept.ready (note-get c.args.notes.now (c.loop-k.k - 1) _ below) below
+    let note_is_there : c.loop-k.k - 1 < length c.args.notes.now = omega arith in
+    can_pass-note (c.loop-k.k - 1) _ c.loop-k.invariant.kept.ready (note-get c.args.notes.now (c.loop-k.k - 1) _ note_is_there) note_is_there
 
 pub loop-k-preserved : goal.loop-k-preserved
 loop-k-preserved g c =
-    let known = c.loop-k.invariant in
+    let invariant = c.loop-k.invariant in
     let passed = c.in_ok-pass_fragment.ensures in
-    let up : c.loop-k.k ≡ c.loop-k.k - 1 + 1 = omega arith in
-    let below : c.loop-k.k - 1 < length c.args.notes.now = omega arith in
+    let number_is_next : c.loop-k.k ≡ c.loop-k.k - 1 + 1 = omega arith in
+    let note_is_there : c.loop-k.k - 1 < length c.args.notes.now = omega arith in
     record {
-      kept = keeps-more known.kept passed.same passed.marks passed.paints;
-      clips = clips-more c.args.scene.now c.args.notes.now c.args.entry.now c.loop-k.k (c.loop-k.k - 1) _ _ _ (scene-whole (c.loop-k.k - 1) _ known.kept.ready.noted (note-get c.args.notes.now (c.loop-k.k - 1) _ below))
-          (note-get c.args.notes.now (c.loop-k.k - 1) _ below) passed.rows up known.clips;
+      kept = keeps-more invariant.kept passed.same passed.marks passed.paints;
+      clips = clips-more c.args.scene.now c.args.notes.now c.args.entry.now c.loop-k.k (c.loop-k.k - 1) _ _ _ (scene-whole (c.loop-k.k - 1) _ invariant.kept.ready.noted (note-get c.args.notes.now (c.loop-k.k - 1) _ note_is_there))
+          (note-get c.args.notes.now (c.loop-k.k - 1) _ note_is_there) passed.rows number_is_next invariant.clips;
       passes = λ es n l f h.
-          passes-more c.args.scene.now c.args.notes.now es c.args.entry.now n c.loop-k.k (c.loop-k.k - 1) _ _ _ _ (scene-apart known.kept.ready.noted) below (note-get c.args.notes.now (c.loop-k.k - 1) _ below) refl l f up (known.passes es n l f h) passed.paints passed.marked;
+          passes-more c.args.scene.now c.args.notes.now es c.args.entry.now n c.loop-k.k (c.loop-k.k - 1) _ _ _ _ (scene-apart invariant.kept.ready.noted) note_is_there (note-get c.args.notes.now (c.loop-k.k - 1) _ note_is_there) refl l f number_is_next (invariant.passes es n l f h) passed.paints passed.marked;
     }
 
 pub returns-in_err-pass_fragment-clause-sprite : goal.returns-in_err-pass_fragment-clause-sprite

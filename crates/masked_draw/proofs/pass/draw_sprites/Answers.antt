@@ -30,28 +30,28 @@ loop-entry-preserved g c =
     let turn = YieldsList-turn (YieldsList-from_first (λ (x : SpriteEntry). x) (λ (es : List SpriteEntry). es) (draw_order c.args.sprites.now) cc) c.loop-entry.yielded _ c.loop-entry.yielded_by _ _ c.in-Some.entry c.in-Some.is c.next.ensures.steps in
     let scene = c.args.scene.now in
     let es = draw_order c.args.sprites.now in
-    let known = c.loop-entry.invariant in
+    let invariant = c.loop-entry.invariant in
     let drawn = c.in_ok-draw_sprite.ensures in
-    let sprite = drawn.sprite es (length c.loop-entry.yielded) turn.0 (sprite-get es (length c.loop-entry.yielded) c.in-Some.entry turn) known.marked in
+    let sprite = drawn.sprite es (length c.loop-entry.yielded) turn.0 (sprite-get es (length c.loop-entry.yielded) c.in-Some.entry turn) invariant.marked in
     record {
-      kept = keeps-more known.kept drawn.same drawn.marks sprite.paints;
+      kept = keeps-more invariant.kept drawn.same drawn.marks sprite.paints;
       marked = subst (λ (n : ℕ). MarkedTo (scene_drawseg scene) c.args.notes.now es (length c.args.notes.now) (λ k. n) c.draw_sprite.new.hands.marks.now) (sym (length_push c.loop-entry.yielded c.in-Some.entry)) sprite.marked;
-      paints = sprites-more scene c.args.notes.now c.args.sprites.now c.loop-entry.yielded c.in-Some.entry _ turn known.paints sprite;
+      paints = sprites-more scene c.args.notes.now c.args.sprites.now c.loop-entry.yielded c.in-Some.entry _ turn invariant.paints sprite;
     }
 
 pub returns-in_err-draw_sprite-clause-paints : goal.returns-in_err-draw_sprite-clause-paints
 returns-in_err-draw_sprite-clause-paints g c =
     let turn = YieldsList-turn (YieldsList-from_first (λ (x : SpriteEntry). x) (λ (es : List SpriteEntry). es) (draw_order c.args.sprites.now) cc) c.loop-entry.yielded _ c.loop-entry.yielded_by _ _ c.in-Some.entry c.in-Some.is c.next.ensures.steps in
     let es = draw_order c.args.sprites.now in
-    let known = c.loop-entry.invariant in
+    let invariant = c.loop-entry.invariant in
     let sprite =
-    c.draw_sprite.ensures.sprite es (length c.loop-entry.yielded) turn.0 (sprite-get es (length c.loop-entry.yielded) c.in-Some.entry turn) known.marked in
-    paints-then_stop c.in_err-draw_sprite.was c.from_residual.ensures.1 known.paints
+    c.draw_sprite.ensures.sprite es (length c.loop-entry.yielded) turn.0 (sprite-get es (length c.loop-entry.yielded) c.in-Some.entry turn) invariant.marked in
+    paints-then_stop c.in_err-draw_sprite.was c.from_residual.ensures.1 invariant.paints
     (paints-wider (λ n own k. k) (sprite-among c.args.sprites.now (length c.loop-entry.yielded) c.in-Some.entry turn) sprite.paints)
 
 pub returns-clause-paints : goal.returns-clause-paints
 returns-clause-paints g c =
     let yielded_all = YieldsList-end (YieldsList-from_first (λ (x : SpriteEntry). x) (λ (es : List SpriteEntry). es) (draw_order c.args.sprites.now) cc) c.loop-entry.yielded _ c.loop-entry.yielded_by _ _ c.in-None.is c.next.ensures.steps in
     let scene = c.args.scene.now in
-    let all : c.loop-entry.yielded ≡ draw_order c.args.sprites.now = sym (map-id c.loop-entry.yielded) ∙ yielded_all.0 in
-    paints-same _ (λ contents q is. ap (λ (es : List SpriteEntry). sprites_from scene.view.now (scene_art contents scene) (scene_drawsegs scene c.args.notes.now) (draw_order c.args.sprites.now) 0 es) all) c.loop-entry.invariant.paints
+    let yielded_is_order : c.loop-entry.yielded ≡ draw_order c.args.sprites.now = sym (map-id c.loop-entry.yielded) ∙ yielded_all.0 in
+    paints-same _ (λ contents q is. ap (λ (es : List SpriteEntry). sprites_from scene.view.now (scene_art contents scene) (scene_drawsegs scene c.args.notes.now) (draw_order c.args.sprites.now) 0 es) yielded_is_order) c.loop-entry.invariant.paints

@@ -71,15 +71,15 @@ columns_ordered {e} {d} {first} {last} {from} {to} both o h meet = both_ordered 
 
 pub paint_middle-requires-clause-ordered : goal.paint_middle-requires-clause-ordered
 paint_middle-requires-clause-ordered g c =
-    let both : AreShared c.args.entry.now c.args.note.now c.column_of-first.result c.column_of-last.result c.max-from.result c.min-to.result =
+    let columns_shared : AreShared c.args.entry.now c.args.note.now c.column_of-first.result c.column_of-last.result c.max-from.result c.min-to.result =
     record { first_is = search (rules, to_z-of_z); last_is = search (rules, to_z-of_z); from_is = c.max-from.ensures; to_is = c.min-to.ensures } in
-    columns_ordered both c.requires.ordered c.requires.note.whole.ordered (c.counts.ensures.yes c.if-not-counts.false)
+    columns_ordered columns_shared c.requires.ordered c.requires.note.whole.ordered (c.counts.ensures.yes c.if-not-counts.false)
 
 pub take-requires-clause-ordered : goal.take-requires-clause-ordered
 take-requires-clause-ordered g c =
-    let both : AreShared c.args.entry.now c.args.note.now c.column_of-first.result c.column_of-last.result c.max-from.result c.min-to.result =
+    let columns_shared : AreShared c.args.entry.now c.args.note.now c.column_of-first.result c.column_of-last.result c.max-from.result c.min-to.result =
     record { first_is = search (rules, to_z-of_z); last_is = search (rules, to_z-of_z); from_is = c.max-from.ensures; to_is = c.min-to.ensures } in
-    columns_ordered both c.requires.ordered c.requires.note.whole.ordered (c.counts.ensures.yes c.if-not-counts.false)
+    columns_ordered columns_shared c.requires.ordered c.requires.note.whole.ordered (c.counts.ensures.yes c.if-not-counts.false)
 
 -- where the fragment is behind, the columns that it is asked to paint are those that pass
 marks_behind : {e : SpriteEntry} {d : FragmentNote} {first last from to : ℕ} {old new : List Bool} (seg : Drawseg) → AreShared e d first last from to → is_behind seg e ≡ true → MarksBy d (is_between from to) old new → MarksBy d (is_passed e seg) old new
@@ -98,15 +98,15 @@ unfolding noted_drawseg note_seg
 returns-then-is_behind g c =
     let entry = c.args.entry.now in
     let seg = scene_drawseg c.args.scene.now c.args.note.now in
-    let both : AreShared entry c.args.note.now c.column_of-first.result c.column_of-last.result c.max-from.result c.min-to.result =
+    let columns_shared : AreShared entry c.args.note.now c.column_of-first.result c.column_of-last.result c.max-from.result c.min-to.result =
     record { first_is = search (rules, to_z-of_z); last_is = search (rules, to_z-of_z); from_is = c.max-from.ensures; to_is = c.min-to.ensures } in
     let behind : is_behind seg entry ≡ true = sym (c.is_behind.ensures _ refl refl refl) ∙ c.if-is_behind.true in
     record {
       same = search rules;
       marks = search rules;
-      marked = on_ok_weaker c.paint_middle.result (λ h. marks_behind seg both behind h) c.paint_middle.ensures.marked;
+      marked = on_ok_weaker c.paint_middle.result (λ h. marks_behind seg columns_shared behind h) c.paint_middle.ensures.marked;
       rows = λ x t. record { top = behind-top entry seg x (seg.top_clip x) _ behind; bottom = behind-bottom entry seg x (seg.bottom_clip x) _ behind };
-      paints = paints-same _ (λ contents q is. dots_behind c.args.scene.now.view.now (scene_art contents c.args.scene.now) c.args.number seg c.args.hands.now.marks.now both behind) c.paint_middle.ensures.paints;
+      paints = paints-same _ (λ contents q is. dots_behind c.args.scene.now.view.now (scene_art contents c.args.scene.now) c.args.number seg c.args.hands.now.marks.now columns_shared behind) c.paint_middle.ensures.paints;
     }
 
 pub returns-clause-marked : goal.returns-clause-marked
@@ -129,15 +129,15 @@ unfolding noted_drawseg note_seg
 returns-clause-rows g c = λ x t.
     let entry = c.args.entry.now in
     let note = c.args.note.now in
-    let both : AreShared entry note c.column_of-first.result c.column_of-last.result c.max-from.result c.min-to.result =
+    let columns_shared : AreShared entry note c.column_of-first.result c.column_of-last.result c.max-from.result c.min-to.result =
     record { first_is = search (rules, to_z-of_z); last_is = search (rules, to_z-of_z); from_is = c.max-from.ensures; to_is = c.min-to.ensures } in
     let is_seg = scene-seg c.args.scene.now note in
     let in_front : is_behind (scene_drawseg c.args.scene.now note) entry ≡ false = sym (c.is_behind.ensures _ refl refl refl) ∙ c.if-is_behind.false in
     record {
-      top = front-top entry note _ _ _ x _ _ _ is_seg both.first_is both.last_is t in_front
-          (rows_taken x (clips_top note entry) _ _ _ both (c.take.ensures.tops x));
-      bottom = front-bottom entry note _ _ _ x _ _ _ is_seg both.first_is both.last_is t in_front
-          (rows_taken x (clips_bottom note entry) _ _ _ both (c.take.ensures.bottoms x));
+      top = front-top entry note _ _ _ x _ _ _ is_seg columns_shared.first_is columns_shared.last_is t in_front
+          (rows_taken x (clips_top note entry) _ _ _ columns_shared (c.take.ensures.tops x));
+      bottom = front-bottom entry note _ _ _ x _ _ _ is_seg columns_shared.first_is columns_shared.last_is t in_front
+          (rows_taken x (clips_bottom note entry) _ _ _ columns_shared (c.take.ensures.bottoms x));
     }
 
 pub returns-clause-paints : goal.returns-clause-paints

@@ -6,15 +6,15 @@ use Rattle.masked_draw.proofs.pictures.paint_own.Goals as goal
 
 pub returns-then-is_in_picture : goal.returns-then-is_in_picture
 returns-then-is_in_picture g c =
-    let own = to_z-of_z w32 c.args.own (search rules) in
+    let own_column_is = to_z-of_z w32 c.args.own (search rules) in
     own-inside g.C.Canvas.mark c.args.shape c.args.x c.args.column.now c.args.art.now.bytes.now (shade c.args.art.now.colormap.now c.args.art.now.map) c.column_place-place.result c.column_of.result c.args.own
     (g.C.Canvas.view c.args.canvas.now) (g.C.Canvas.view c.paint_posts.new.canvas)
-    (subst (λ (z : ℤ). (int_le (pos 0) z && int_lt z (pos (half_at c.args.art.now.bytes.now 0))) ≡ true) own (sym c.is_in_picture.ensures.value ∙ c.if-is_in_picture.true))
-    (sym own ∙ c.column_of.ensures) c.column_place-place.ensures c.paint_posts.ensures
+    (subst (λ (z : ℤ). (int_le (pos 0) z && int_lt z (pos (half_at c.args.art.now.bytes.now 0))) ≡ true) own_column_is (sym c.is_in_picture.ensures.value ∙ c.if-is_in_picture.true))
+    (sym own_column_is ∙ c.column_of.ensures) c.column_place-place.ensures c.paint_posts.ensures
 
 pub returns-else-is_in_picture : goal.returns-else-is_in_picture
 returns-else-is_in_picture g c =
-    let own = to_z-of_z w32 c.args.own (search rules) in
+    let own_column_is = to_z-of_z w32 c.args.own (search rules) in
     own-outside g.C.Canvas.mark c.args.shape c.args.x c.args.column.now c.args.art.now.bytes.now (shade c.args.art.now.colormap.now c.args.art.now.map) c.args.own
     (g.C.Canvas.view c.args.canvas.now)
-    (subst (λ (z : ℤ). (int_le (pos 0) z && int_lt z (pos (half_at c.args.art.now.bytes.now 0))) ≡ false) own (sym c.is_in_picture.ensures.value ∙ c.if-is_in_picture.false))
+    (subst (λ (z : ℤ). (int_le (pos 0) z && int_lt z (pos (half_at c.args.art.now.bytes.now 0))) ≡ false) own_column_is (sym c.is_in_picture.ensures.value ∙ c.if-is_in_picture.false))

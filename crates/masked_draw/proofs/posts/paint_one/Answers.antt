@@ -74,7 +74,7 @@ returns-else-first-last g c =
     let rows : ArePostRows c.args.look.now.shape c.args.look.now.column c.args.post c.plus-begin.result c.first_row-first.result c.last_row-last.result =
     rows-words _ _ _ c.args.top _ c.times.result c.plus.result c.times-2.result _ _ c.requires.top (search (rules, to_z-of_z)) (search (rules, to_z-of_z))
     (search (rules, to_z-of_z)) (search (rules, to_z-of_z)) (search (rules, to_z-of_z)) (search (rules, to_z-of_z)) in
-    let over : c.last_row-last.result <ℤ c.first_row-first.result = search (rules, to_z-of_z) in
+    let last_before_first : c.last_row-last.result <ℤ c.first_row-first.result = search (rules, to_z-of_z) in
     dots_none g.C.Canvas.mark (g.C.Canvas.view c.args.canvas.now)
     ∙ ap (λ (dots : List Dot). with_dots g.C.Canvas.mark dots (g.C.Canvas.view c.args.canvas.now))
     (post-none c.args.look.now.shape (g.C.Canvas.view c.args.canvas.now).painter c.args.look.now.x c.args.look.now.column
@@ -82,4 +82,4 @@ returns-else-first-last g c =
     c.args.post c.plus-begin.result rows.top
     (subst (λ (z : ℤ). int_lt z (post_first c.args.look.now.column.top_clip c.plus-begin.result) ≡ true)
     rows.last (subst (λ (z : ℤ). int_lt c.last_row-last.result z ≡ true) rows.first
-    (past c.first_row-first.result c.last_row-last.result over))))
+    (past c.first_row-first.result c.last_row-last.result last_before_first))))

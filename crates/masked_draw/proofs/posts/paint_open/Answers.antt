@@ -10,22 +10,22 @@ returns-in_default g c =
 
 pub returns-then-end-post : goal.returns-then-end-post
 returns-then-end-post g c =
-    let at = post_at-some c.args.art.now.bytes.now c.loop-place.place c.in-Some.post c.in-Some.ensures in
-    let from = next_place-from c.in-Some.post in
+    let post_is_at = post_at-some c.args.art.now.bytes.now c.loop-place.place c.in-Some.post c.in-Some.ensures in
+    let next_is_from = next_place-from c.in-Some.post in
     let past : length c.args.art.now.bytes.now ≤ next_place c.in-Some.post = omega arith in
     left-end (next_place c.in-Some.post) (g.C.Canvas.view c.paint_one.new.canvas)
     (left-more c.loop-place.place (next_place c.in-Some.post) (g.C.Canvas.view c.loop-place.canvas)
-    (g.C.Canvas.view c.paint_one.new.canvas) c.in-Some.post c.loop-place.invariant at refl
+    (g.C.Canvas.view c.paint_one.new.canvas) c.in-Some.post c.loop-place.invariant post_is_at refl
     c.paint_one.ensures)
     (is_post-past c.args.art.now.bytes.now (next_place c.in-Some.post) past)
 
 pub loop-place-smaller : goal.loop-place-smaller
 loop-place-smaller g c =
-    let at = post_at-some c.args.art.now.bytes.now c.loop-place.place c.in-Some.post c.in-Some.ensures in
-    let begins = at.first in
-    let from = next_place-from c.in-Some.post in
-    let is = c.next_place-place.ensures in
-    let within : c.loop-place.place < length c.args.art.now.bytes.now = omega arith in
+    let post_is_at = post_at-some c.args.art.now.bytes.now c.loop-place.place c.in-Some.post c.in-Some.ensures in
+    let begins = post_is_at.first in
+    let next_is_from = next_place-from c.in-Some.post in
+    let result_is_next = c.next_place-place.ensures in
+    let place_in_bytes : c.loop-place.place < length c.args.art.now.bytes.now = omega arith in
     omega arith
 
 pub loop-place-preserved : goal.loop-place-preserved

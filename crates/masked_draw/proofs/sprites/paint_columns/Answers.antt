@@ -18,12 +18,12 @@ paint_own-requires-clause-clips g c =
 pub loop-x-preserved : goal.loop-x-preserved
 loop-x-preserved g c =
     let entry = c.args.entry.now in
-    let own = to_z-of_z w32 c.picture_column-own.result (search rules) in
+    let own_column_is = to_z-of_z w32 c.picture_column-own.result (search rules) in
     columns-more g.C.Canvas.mark c.args.shape c.args.art.now.bytes.now c.args.art.now.colormap.now c.args.clips.now entry c.args.first c.loop-x.x (g.C.Canvas.view c.args.canvas.now) (g.C.Canvas.view c.loop-x.canvas) (g.C.Canvas.view c.paint_own.new.canvas)
     c.loop-x.auto.x c.loop-x.invariant
     (column-own g.C.Canvas.mark c.args.shape c.args.art.now.bytes.now c.args.art.now.colormap.now c.args.art.now.map c.args.clips.now entry c.clipped_masked-column.result c.loop-x.x _
     (g.C.Canvas.view c.loop-x.canvas) (g.C.Canvas.view c.paint_own.new.canvas)
-    (own ∙ c.picture_column-own.ensures
+    (own_column_is ∙ c.picture_column-own.ensures
     ∙ same_words (λ z w. picture_column entry.flip entry.width z w c.loop-x.x) _ _ _ _ (to_z-of_z w32 entry.a1 (search rules))
     (to_z-of_z w32 entry.iscale (search rules)))
     c.clipped_masked-column.ensures c.requires.map c.paint_own.ensures)

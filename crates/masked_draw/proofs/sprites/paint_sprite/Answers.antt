@@ -28,11 +28,11 @@ returns-clause-paints g c =
     let lent = c.in-Some.ensures in
     paints-live tt (draws-fetch entry.lump c.requires.lump c.in_ok-fetch.ensures.fetches)
     (λ view contents count q hold is.
-    let own = lent_lump contents scene.dir.now.lumps _ entry.lump c.in-Some.art.bytes.now hold.files.faithful c.requires.lump lent.bytes in
+    let lump_is_lent = lent_lump contents scene.dir.now.lumps _ entry.lump c.in-Some.art.bytes.now hold.files.faithful c.requires.lump lent.bytes in
     let shades =
     lent_lump contents scene.dir.now.lumps _ scene.colormap.0 c.in-Some.art.colormap.now hold.files.faithful c.requires.ready.colormap lent.colormap in
     picture-painted scene.view.now (lump_bytes contents scene.dir.now.lumps) scene.textures.now scene.colormap.0 c.args.clips.now entry c.args.first c.args.last c.shape-shape.result _ _ _ _ _
-    c.requires.begins c.requires.ends c.requires.ordered c.shape-shape.ensures.value own shades c.begin.ensures c.paint_columns.ensures)
+    c.requires.begins c.requires.ends c.requires.ordered c.shape-shape.ensures.value lump_is_lent shades c.begin.ensures c.paint_columns.ensures)
     (λ view contents count q hold is.
     fit-columns scene.dir.now.lumps scene.textures.now scene.colormap.0 count _ scene.view.now (lump_bytes contents scene.dir.now.lumps) c.args.clips.now entry c.args.first c.args.last c.requires.begins c.requires.ends c.requires.ordered
     (fits-lump hold SPRITE entry.number entry.lump c.in-Some.art.bytes.now c.requires.lump (sym lent.bytes) (λ apart. lent.fits scene.colormap.0 count (rest_static hold.rest) apart)))

@@ -24,9 +24,9 @@ returns-in_err-visit_seg-clause-walks g c =
     let leaf = c.leaf-leaf.result.now in
     let front = c.surface-front.result.now in
     let failed = err_from_is_err_and c.from_residual-in_err-visit_seg.result c.from_residual-in_err-visit_seg.ensures.1 in
-    let left = segs_left c.args.view.now lists front leaf.first c.loop-k.k leaf.count c.args.cover.now c.loop-k.cover (omega arith) c.loop-k.invariant.walks.covered in
+    let segs_to_come = segs_left c.args.view.now lists front leaf.first c.loop-k.k leaf.count c.args.cover.now c.loop-k.cover (omega arith) c.loop-k.invariant.walks.covered in
     walks_then _ c.leaf.ensures _ c.in_ok-leaf.was
-    (walks_stopped c.from_residual-in_err-visit_seg.result _ _ left.0 c.loop-k.invariant.walks.visits tt refl c.visit_seg.ensures.walks.visits _ c.in_err-visit_seg.was (failed.1 ∙ ap Err failed.2) left.1)
+    (walks_stopped c.from_residual-in_err-visit_seg.result _ _ segs_to_come.0 c.loop-k.invariant.walks.visits tt refl c.visit_seg.ensures.walks.visits _ c.in_err-visit_seg.was (failed.1 ∙ ap Err failed.2) segs_to_come.1)
     (leaf_part c.args.view.now lists c.args.n leaf front c.args.cover.now c.leaf-leaf.ensures.value c.surface-front.ensures)
 
 pub loop-k-init : goal.loop-k-init

@@ -33,7 +33,7 @@ loop-k-preserved c =
 pub returns : goal.returns
 returns c =
     let all_put : c.loop-k.k ≡ c.put_count-count.result = omega arith in
-    let from : c.first_row-first.result ≡ first_row c.args.row = search (rules, to_z-of_z) in
+    let first_row_is : c.first_row-first.result ≡ first_row c.args.row = search (rules, to_z-of_z) in
     let count_is : c.put_count-count.result ≡ put_count (length c.args.column.now) c.args.row c.args.post.length = search (rules, to_z-of_z) in
     row_so_far-all c.args.lump.now c.args.row c.args.post c.first_row-first.result c.loop-k.k c.args.column.now c.loop-k.column
-    from (all_put ∙ count_is) c.loop-k.invariant.same c.loop-k.invariant.rows
+    first_row_is (all_put ∙ count_is) c.loop-k.invariant.same c.loop-k.invariant.rows

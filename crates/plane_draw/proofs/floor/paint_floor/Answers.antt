@@ -16,10 +16,10 @@ draw_plane-requires-clause-floor g c =
 pub returns-in-Some-bytes-clause-painted : goal.returns-in-Some-bytes-clause-painted
 returns-in-Some-bytes-clause-painted g c = λ view contents count sky hold.
     let scene_now = c.args.scene.now in
-    let own = some-same _ _ _ c.in-Some.ensures.value (live_faithful contents scene_now.dir.now c.args.hands.now.cache.now c.args.lump.0 c.requires.lump hold.files.faithful c.requires.live) in
+    let flat_bytes_are = some-same _ _ _ c.in-Some.ensures.value (live_faithful contents scene_now.dir.now c.args.hands.now.cache.now c.args.lump.0 c.requires.lump hold.files.faithful c.requires.live) in
     let shades = some-same _ _ _ c.in-Some-bytes.ensures.value (colormap_lent hold c.requires.ready.0.colormap) in
     floor-painted g.C.Canvas.mark _ scene_now.view.now (lump_bytes contents scene_now.dir.now.lumps) scene_now.textures.now scene_now.colormap.0 c.args.plane.0 sky c.args.lump.0 (plane_at scene_now.planes.now.planes c.args.plane.0) _ _ _ _
-    c.requires.flat own shades c.draw_plane.ensures
+    c.requires.flat flat_bytes_are shades c.draw_plane.ensures
 
 pub returns-in-Some-bytes-clause-fits : goal.returns-in-Some-bytes-clause-fits
 unfolding lump_source

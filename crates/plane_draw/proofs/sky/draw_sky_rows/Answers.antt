@@ -8,8 +8,8 @@ use Rattle.plane_draw.proofs.sky.draw_sky_rows.Goals as goal
 pub returns-then-rows-clause-paints : goal.returns-then-rows-clause-paints
 returns-then-rows-clause-paints g c =
     let rows = c.args.rows.now in
-    let none : rows.last < rows.first = grind (arith, nat_tests) in
-    paints-same _ (λ contents sky is. sky-none c.args.scene.now.view.now (plane_art contents c.args.scene.now) rows.number rows.tex.0 rows.x rows.first rows.last none) (paints-none _ _)
+    let has_no_rows : rows.last < rows.first = grind (arith, nat_tests) in
+    paints-same _ (λ contents sky is. sky-none c.args.scene.now.view.now (plane_art contents c.args.scene.now) rows.number rows.tex.0 rows.x rows.first rows.last has_no_rows) (paints-none _ _)
 
 pub paint_texture-requires-clause-texture : goal.paint_texture-requires-clause-texture
 paint_texture-requires-clause-texture g c = sky-can c.requires.ready c.args.rows.now.tex c.requires.sky

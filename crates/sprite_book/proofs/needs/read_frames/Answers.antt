@@ -17,10 +17,10 @@ loop-need-init g c = record {
 
 pub loop-need-preserved-then-has : goal.loop-need-preserved-then-has
 loop-need-preserved-then-has g c =
-    let same = need_same c.args.needed.now c.loop-need.need-index no_need (omega arith) (need_asked _ _ _ (get_or c.args.needed.now c.loop-need.need-index no_need) c.loop-need.invariant.outlines c.has.ensures c.if-has.true) in
+    let needs_same = need_same c.args.needed.now c.loop-need.need-index no_need (omega arith) (need_asked _ _ _ (get_or c.args.needed.now c.loop-need.need-index no_need) c.loop-need.invariant.outlines c.has.ensures c.if-has.true) in
     record {
-      tells = subst (λ ns. Reads (g.S.Shelf.view c.args.shelf.now) (g.S.Shelf.view c.loop-need.shelf) c.args.dir.now c.args.cache.now c.loop-need.cache c.args.patches.now c.loop-need.patches (IsWanted c.args.dir.now.lumps c.args.needed.now) (λ (_ : Unit {0}). c.loop-need.list.frames.items) (λ bytes. each_of (frame_of bytes c.args.dir.now.lumps) ns) (Ok tt)) same c.loop-need.invariant.tells;
-      outlines = subst (λ ns. each_of (outline_of c.args.dir.now.lumps) ns ≡ Ok (map outline c.loop-need.list.frames.items)) same c.loop-need.invariant.outlines;
+      tells = subst (λ ns. Reads (g.S.Shelf.view c.args.shelf.now) (g.S.Shelf.view c.loop-need.shelf) c.args.dir.now c.args.cache.now c.loop-need.cache c.args.patches.now c.loop-need.patches (IsWanted c.args.dir.now.lumps c.args.needed.now) (λ (_ : Unit {0}). c.loop-need.list.frames.items) (λ bytes. each_of (frame_of bytes c.args.dir.now.lumps) ns) (Ok tt)) needs_same c.loop-need.invariant.tells;
+      outlines = subst (λ ns. each_of (outline_of c.args.dir.now.lumps) ns ≡ Ok (map outline c.loop-need.list.frames.items)) needs_same c.loop-need.invariant.outlines;
       placed = c.loop-need.invariant.placed;
     }
 

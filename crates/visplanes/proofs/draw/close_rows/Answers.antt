@@ -11,10 +11,10 @@ returns g c =
     let mark = g.C.Canvas.mark in
     let floor = c.args.floor.now in
     let start : ℕ → ℕ = slice_index c.args.starts.now in
-    let before = c.args.before in
+    let rows_before = c.args.before in
     let now = c.args.now in
     c.paint_rows-2.ensures
-    ∙ ap (λ (v : CanvasView). with_dots mark (closed_rows floor v.painter start c.args.x c.max.result (before.end - c.max.result)) v) c.paint_rows.ensures
-    ∙ with_dots-append mark (closed_rows floor old.painter start c.args.x before.begin (c.min.result - before.begin)) (closed_rows floor old.painter start c.args.x c.max.result (before.end - c.max.result)) old
-    ∙ ap (λ (m : ℕ). with_dots mark (closed_rows floor old.painter start c.args.x before.begin (m - before.begin) ++ closed_rows floor old.painter start c.args.x c.max.result (before.end - c.max.result)) old) c.min.ensures
-    ∙ ap (λ (m : ℕ). with_dots mark (closed_rows floor old.painter start c.args.x before.begin (min before.end now.begin - before.begin) ++ closed_rows floor old.painter start c.args.x m (before.end - m)) old) c.max.ensures
+    ∙ ap (λ (v : CanvasView). with_dots mark (closed_rows floor v.painter start c.args.x c.max.result (rows_before.end - c.max.result)) v) c.paint_rows.ensures
+    ∙ with_dots-append mark (closed_rows floor old.painter start c.args.x rows_before.begin (c.min.result - rows_before.begin)) (closed_rows floor old.painter start c.args.x c.max.result (rows_before.end - c.max.result)) old
+    ∙ ap (λ (m : ℕ). with_dots mark (closed_rows floor old.painter start c.args.x rows_before.begin (m - rows_before.begin) ++ closed_rows floor old.painter start c.args.x c.max.result (rows_before.end - c.max.result)) old) c.min.ensures
+    ∙ ap (λ (m : ℕ). with_dots mark (closed_rows floor old.painter start c.args.x rows_before.begin (min rows_before.end now.begin - rows_before.begin) ++ closed_rows floor old.painter start c.args.x m (rows_before.end - m)) old) c.max.ensures

@@ -8,11 +8,11 @@ unfolding holds
 loop-x-preserved c =
     let plane = c.args.plane.now in
     let row = c.args.row in
-    let here = c.loop-x.x in
-    let on : holds plane row here ≡ true =
+    let this_x = c.loop-x.x in
+    let plane_holds_here : holds plane row this_x ≡ true =
     ap (λ (r : Option (ℕ × ℕ)). holds_row r row) (sym c.column.ensures.run) ∙ sym c.holds_row.ensures ∙ c.if-holds_row.true in
     record {
-      held = λ k a b. elim (cases_lt k here) [ inl l ↦ c.loop-x.invariant.held k a l | inr m ↦ (let is_here : k ≡ here = omega arith in ap (λ (i : ℕ). holds plane row i) is_here ∙ on) ];
+      held = λ k a b. elim (cases_lt k this_x) [ inl l ↦ c.loop-x.invariant.held k a l | inr m ↦ (let is_here : k ≡ this_x = omega arith in ap (λ (i : ℕ). holds plane row i) is_here ∙ plane_holds_here) ];
       after = omega (arith, c.loop-x.invariant.after);
       within = omega arith;
     }

@@ -26,25 +26,25 @@ returns-in_err-scene g c =
     let scene_tells = c.audit.ensures in
     let level = level_job_value c.args.level.now in
     let files = c.args.files.now in
-    let found = value_of files in
+    let files_found = value_of files in
     let result = c.from_residual.result in
-    let was = c.in_err-scene.was in let is = c.from_residual.ensures.1 in
+    let scene_failed = c.in_err-scene.was in let result_is_error = c.from_residual.ensures.1 in
     record {
-      answers = λ contents told. scene_stopped _ level found _ result (scene_tells.answers contents told) was is;
+      answers = λ contents told. scene_stopped _ level files_found _ result (scene_tells.answers contents told) scene_failed result_is_error;
       full = λ contents told.
-          same_full (IsFullOver (lump_bytes contents files.dir.lumps) level found) c.audit.result _ result
+          same_full (IsFullOver (lump_bytes contents files.dir.lumps) level files_found) c.audit.result _ result
           (audit_full contents level files c.audit.result told c.requires.empty c.requires.size
-          scene_tells.full scene_tells.found scene_tells.room scene_tells.gap scene_tells.enough) was is;
-      audited = none_given _ _ result is;
-      fresh = none_given _ _ result is;
+          scene_tells.full scene_tells.found scene_tells.room scene_tells.gap scene_tells.enough) scene_failed result_is_error;
+      audited = none_given _ _ result result_is_error;
+      fresh = none_given _ _ result result_is_error;
       counts = scene_tells.counts;
       faithful = scene_tells.faithful;
       order = λ contents expected told accepted order.
-          let has_items = items_all _ level found expected accepted in
+          let has_items = items_all _ level files_found expected accepted in
           let keeps_order = KeepsOrder (loaded_items expected) c.args.cache.now c.audit.new.cache (g.S.Shelf.view c.args.shelf.now).taken (g.S.Shelf.view c.audit.new.shelf).taken in
-          call_order (λ _. keeps_order) keeps_order keeps_order c.audit.result _ result (scene_tells.order contents (loaded_items expected) told (λ lump read. has_items lump (inl read)) order) was is (λ k. k);
+          call_order (λ _. keeps_order) keeps_order keeps_order c.audit.result _ result (scene_tells.order contents (loaded_items expected) told (λ lump read. has_items lump (inl read)) order) scene_failed result_is_error (λ k. k);
       follows = scene_tells.follows;
-      causes = causes_after c.audit.result _ result (omega arith) scene_tells.causes was is;
+      causes = causes_after c.audit.result _ result (omega arith) scene_tells.causes scene_failed result_is_error;
     }
 
 pub returns-in_err-weapons : goal.returns-in_err-weapons
@@ -53,31 +53,31 @@ returns-in_err-weapons g c =
     let tells = c.audit_layers.ensures.tells in
     let level = level_job_value c.args.level.now in
     let files = c.args.files.now in
-    let found = value_of files in
+    let files_found = value_of files in
     let scene = c.in_ok-scene.scene.scene in
     let result = c.from_residual-in_err-weapons.result in
-    let was = c.in_err-weapons.was in let is = c.from_residual-in_err-weapons.ensures.1 in
+    let weapons_failed = c.in_err-weapons.was in let result_is_error = c.from_residual-in_err-weapons.ensures.1 in
     let counts = tells.keeps.counts in
     record {
       answers = λ contents told.
-          layers_stopped _ level found scene _ result (scene_tells.answers contents told).ok scene_tells.follows.steady (tells.answers contents (told_after scene_tells.follows scene_tells.faithful contents told)) was is;
+          layers_stopped _ level files_found scene _ result (scene_tells.answers contents told).ok scene_tells.follows.steady (tells.answers contents (told_after scene_tells.follows scene_tells.faithful contents told)) weapons_failed result_is_error;
       full = λ contents told.
-          same_full (IsFullOver (lump_bytes contents files.dir.lumps) level found) c.audit_layers.result _ result
-          (layers_full contents level files scene c.audit_layers.result (scene_tells.answers contents told).ok scene_tells.colormap (scene_tells.rest c.requires.empty) (scene_tells.counts.0 ∙ c.requires.size) tells.full) was is;
-      audited = none_given _ _ result is;
-      fresh = none_given _ _ result is;
+          same_full (IsFullOver (lump_bytes contents files.dir.lumps) level files_found) c.audit_layers.result _ result
+          (layers_full contents level files scene c.audit_layers.result (scene_tells.answers contents told).ok scene_tells.colormap (scene_tells.rest c.requires.empty) (scene_tells.counts.0 ∙ c.requires.size) tells.full) weapons_failed result_is_error;
+      audited = none_given _ _ result result_is_error;
+      fresh = none_given _ _ result result_is_error;
       counts = (counts.0 ∙ scene_tells.counts.0, counts.1 ∙ scene_tells.counts.1, counts.2 ∙ scene_tells.counts.2);
       faithful = λ contents stand faithful. tells.keeps.faithful contents (all_stand_later _ _ files.dir.files contents scene_tells.follows stand) (scene_tells.faithful contents stand faithful);
       order = λ contents expected told accepted order.
-          let has_items = items_all _ level found expected accepted in
+          let has_items = items_all _ level files_found expected accepted in
           let scene_in_order = scene_tells.order contents (loaded_items expected) told (λ lump read. has_items lump (inl read)) order in
           let layers_in_order = tells.order (loaded_items expected) (λ lump asked. has_items lump (inr asked)) scene_in_order.order in
           let keeps_order = KeepsOrder (loaded_items expected) c.args.cache.now c.audit_layers.new.cache (g.S.Shelf.view c.args.shelf.now).taken (g.S.Shelf.view c.audit_layers.new.shelf).taken in
           call_order (λ _. keeps_order) keeps_order keeps_order c.audit_layers.result _ result
           (order_after itself c.audit_layers.new.cache (g.S.Shelf.view c.audit_layers.new.shelf).taken c.audit_layers.result
-          scene_in_order layers_in_order) was is (λ k. k);
+          scene_in_order layers_in_order) weapons_failed result_is_error (λ k. k);
       follows = follows_then scene_tells.follows tells.keeps.follows;
-      causes = causes_after c.audit_layers.result _ result scene_tells.follows.faults tells.causes was is;
+      causes = causes_after c.audit_layers.result _ result scene_tells.follows.faults tells.causes weapons_failed result_is_error;
     }
 
 pub returns : goal.returns
@@ -86,7 +86,7 @@ returns g c =
     let tells = c.in_ok-weapons.ensures.tells in
     let level = level_job_value c.args.level.now in
     let files = c.args.files.now in
-    let lumps = files.dir.lumps in let found = value_of files in
+    let lumps = files.dir.lumps in let files_found = value_of files in
     let sound = c.in_ok-scene.scene in let weapons = c.in_ok-weapons.weapons in
     let with_all = c.in_ok-weapons.ensures.scene in
     let scene_same = ap (λ (s : SoundValue). s.scene) with_all ∙ scene_kept lumps weapons sound in
@@ -94,16 +94,16 @@ returns g c =
     let counts = tells.keeps.counts in
     record {
       answers = λ contents told. record {
-        ok = both_accepted _ level found sound.scene weapons (scene_tells.answers contents told).ok (tells.answers contents (told_after scene_tells.follows scene_tells.faithful contents told)).ok
-            ∙ ap (λ (s : SceneValue). Ok (record { files = found; scene = s; weapons = weapons })) (sym scene_same);
+        ok = both_accepted _ level files_found sound.scene weapons (scene_tells.answers contents told).ok (tells.answers contents (told_after scene_tells.follows scene_tells.faithful contents told)).ok
+            ∙ ap (λ (s : SceneValue). Ok (record { files = files_found; scene = s; weapons = weapons })) (sym scene_same);
         err = tt;
       };
       full = λ contents told. tt;
       audited = record {
-        named = subst (λ (s : SoundValue). s.named ≡ loaded_lumps (audited_value found (s, weapons)))
-            (sym with_all) (named_layers found weapons sound scene_tells.named);
-        sizes = subst (λ (s : SoundValue). s.sizes ≡ loaded_sizes (audited_value found (s, weapons)))
-            (sym with_all) (sizes_layers found weapons sound scene_tells.sizes);
+        named = subst (λ (s : SoundValue). s.named ≡ loaded_lumps (audited_value files_found (s, weapons)))
+            (sym with_all) (named_layers files_found weapons sound scene_tells.named);
+        sizes = subst (λ (s : SoundValue). s.sizes ≡ loaded_sizes (audited_value files_found (s, weapons)))
+            (sym with_all) (sizes_layers files_found weapons sound scene_tells.sizes);
         rest = subst (λ (s : SceneValue). IsAtRest s.base.colormap (lump_at lumps s.base.colormap).size c.audit_layers.new.cache) (sym scene_same)
             (tells.keeps.rest colormap (lump_at lumps colormap).size (scene_tells.rest c.requires.empty));
         whole = subst (IsWholeScene lumps files.things level.map_name level.settings.skill) (sym scene_same) scene_tells.whole;
@@ -116,7 +116,7 @@ returns g c =
       counts = (counts.0 ∙ scene_tells.counts.0, counts.1 ∙ scene_tells.counts.1, counts.2 ∙ scene_tells.counts.2);
       faithful = λ contents stand faithful. tells.keeps.faithful contents (all_stand_later _ _ files.dir.files contents scene_tells.follows stand) (scene_tells.faithful contents stand faithful);
       order = λ contents expected told accepted order.
-          let has_items = items_all _ level found expected accepted in
+          let has_items = items_all _ level files_found expected accepted in
           let scene_in_order = scene_tells.order contents (loaded_items expected) told (λ lump read. has_items lump (inl read)) order in
           order_then scene_in_order (tells.order (loaded_items expected) (λ lump asked. has_items lump (inr asked)) scene_in_order.order);
       follows = follows_then scene_tells.follows tells.keeps.follows;

@@ -19,19 +19,18 @@ returns-in_err-files g c =
     let files_tell = c.read_files.ensures in
     let level = level_job_value c.args.level.now in
     let wads = map (λ (wad : Bor (List ℕ)). wad.now) c.args.wads.now in
-    let result = c.from_residual.result in
-    let was = c.in_err-files.was in
-    let is = c.from_residual.ensures.1 in
+    let result = c.from_residual.result in let files_failed = c.in_err-files.was in
+    let result_is_error = c.from_residual.ensures.1 in
     record {
-      answers = λ files holds. files_stopped level wads files _ result (files_tell.answers files holds) was is;
-      full = λ files holds. files_full (IsFullLoad level wads files) c.read_files.result _ result files_tell.full was is;
-      loaded = none_given _ _ result is;
-      holds = λ files contents holds named. none_given _ _ result is;
+      answers = λ files holds. files_stopped level wads files _ result (files_tell.answers files holds) files_failed result_is_error;
+      full = λ files holds. files_full (IsFullLoad level wads files) c.read_files.result _ result files_tell.full files_failed result_is_error;
+      loaded = none_given _ _ result result_is_error;
+      holds = λ files contents holds named. none_given _ _ result result_is_error;
       order = λ files contents expected holds named loads room.
           let read = files_tell.taken_of files contents holds named in
-          files_order _ _ c.read_files.result _ result files_tell.full was is (omega (arith, read));
+          files_order _ _ c.read_files.result _ result files_tell.full files_failed result_is_error (omega (arith, read));
       follows = files_tell.follows;
-      causes = causes_after c.read_files.result _ result (omega arith) files_tell.causes was is;
+      causes = causes_after c.read_files.result _ result (omega arith) files_tell.causes files_failed result_is_error;
     }
 
 pub returns-in_err-cache : goal.returns-in_err-cache
@@ -41,17 +40,17 @@ returns-in_err-cache g c =
     let wads = map (λ (wad : Bor (List ℕ)). wad.now) c.args.wads.now in
     let result = c.from_residual-in_err-cache.result in
     let memory = c.in_err-cache.ensures.memory in
-    let is = c.from_residual-in_err-cache.ensures.1 in
+    let result_is_error = c.from_residual-in_err-cache.ensures.1 in
     record {
-      answers = λ files holds. memory_agrees _ _ result memory is;
-      full = λ files holds. memory_full (IsFullLoad level wads files) _ result memory is;
-      loaded = none_given _ _ result is;
-      holds = λ files contents holds named. none_given _ _ result is;
+      answers = λ files holds. memory_agrees _ _ result memory result_is_error;
+      full = λ files holds. memory_full (IsFullLoad level wads files) _ result memory result_is_error;
+      loaded = none_given _ _ result result_is_error;
+      holds = λ files contents holds named. none_given _ _ result result_is_error;
       order = λ files contents expected holds named loads room.
           let read = files_tell.taken_of files contents holds named in
-          memory_order _ _ _ result memory is (omega (arith, read));
+          memory_order _ _ _ result memory result_is_error (omega (arith, read));
       follows = files_tell.follows;
-      causes = memory_causes _ result memory is;
+      causes = memory_causes _ result memory result_is_error;
     }
 
 pub returns-in_err-scene : goal.returns-in_err-scene
@@ -60,28 +59,29 @@ returns-in_err-scene g c =
     let level = level_job_value c.args.level.now in
     let later = audited_above level c.in_ok-files.files c.audit_level.result c.map_err.result c.map_err.ensures.cases c.audit_level.ensures in
     let result = c.from_residual-in_err-scene.result in
-    let was = c.in_err-scene.was in
-    let is = c.from_residual-in_err-scene.ensures.1 in
+    let scene_failed = c.in_err-scene.was in
+    let result_is_error = c.from_residual-in_err-scene.ensures.1 in
     record {
       answers = λ files holds.
           let are = (files_tell.answers files holds).ok in
-          let told = told_wads level _ files _ are (λ contents named. files_tell.contents files contents holds named) c.in_ok-cache.ensures.faithful in
-          audit_stopped level _ files _ _ result are files_tell.follows.steady (later.answers _ told) was is;
+          let wads_are_held = told_wads level _ files _ are (λ contents named. files_tell.contents files contents holds named) c.in_ok-cache.ensures.faithful in
+          audit_stopped level _ files _ _ result are files_tell.follows.steady (later.answers _ wads_are_held) scene_failed result_is_error;
       full = λ files holds.
           let are = (files_tell.answers files holds).ok in
-          let told = told_wads level _ files _ are (λ contents named. files_tell.contents files contents holds named) c.in_ok-cache.ensures.faithful in
-          load_full level _ files _ c.map_err.result _ result are (later.full _ told) was is;
-      loaded = none_given _ _ result is;
-      holds = λ files contents holds named. none_given _ _ result is;
+          let wads_are_held = told_wads level _ files _ are (λ contents named. files_tell.contents files contents holds named) c.in_ok-cache.ensures.faithful in
+          load_full level _ files _ c.map_err.result _ result are (later.full _ wads_are_held) scene_failed result_is_error;
+      loaded = none_given _ _ result result_is_error;
+      holds = λ files contents holds named. none_given _ _ result result_is_error;
       order = λ files contents expected holds named loads room.
           let are = (files_tell.answers files holds).ok in
-          let told = told_wads level _ files _ are (λ contents named. files_tell.contents files contents holds named) c.in_ok-cache.ensures.faithful in
+          let wads_are_held = told_wads level _ files _ are (λ contents named. files_tell.contents files contents holds named) c.in_ok-cache.ensures.faithful in
           let cache_ordered : IsInOrder (loaded_items expected) c.in_ok-cache.cache = c.in_ok-cache.ensures.order (loaded_items expected) (items_roomy expected level.settings.zone room) in
           let read = files_tell.taken_of files contents holds named in
           call_order _ _ (KeepsOrder (loaded_items expected) c.in_ok-cache.cache c.audit_level.new.cache (g.S.Shelf.view c.read_files.new.shelf).taken (g.S.Shelf.view c.audit_level.new.shelf).taken) c.map_err.result _ result
-          (later.order _ expected told (audited_of level _ files _ expected are loads) cache_ordered) was is (λ k. omega (arith, read, lumps_taken expected k));
+          (later.order _ expected wads_are_held (audited_of level _ files _ expected are loads) cache_ordered) scene_failed result_is_error
+            (λ k. omega (arith, read, lumps_taken expected k));
       follows = follows_then files_tell.follows later.follows;
-      causes = causes_after c.map_err.result _ result files_tell.follows.faults later.causes was is;
+      causes = causes_after c.map_err.result _ result files_tell.follows.faults later.causes scene_failed result_is_error;
     }
 
 pub returns : goal.returns
@@ -91,12 +91,12 @@ returns g c =
     let level = level_job_value c.args.level.now in
     let later = audited_above level c.in_ok-files.files c.audit_level.result (Ok (c.in_ok-scene.scene, c.in_ok-scene.weapons)) c.in_ok-scene.ensures.cases c.audit_level.ensures in
     let dir = c.in_ok-files.files.dir in
-    let found = value_of c.in_ok-files.files in
+    let files_found = value_of c.in_ok-files.files in
     record {
       answers = λ files holds.
           let are = (files_tell.answers files holds).ok in
-          let told = told_wads level _ files _ are (λ contents named. files_tell.contents files contents holds named) cache_tells.faithful in
-          all_loaded level _ files _ _ are (later.answers _ told).ok;
+          let wads_are_held = told_wads level _ files _ are (λ contents named. files_tell.contents files contents holds named) cache_tells.faithful in
+          all_loaded level _ files _ _ are (later.answers _ wads_are_held).ok;
       full = λ files holds. tt;
       loaded = record {
         audited = later.audited;
@@ -107,20 +107,20 @@ returns g c =
       };
       holds = λ files contents holds named.
           let contents_stand = files_tell.contents files contents holds named in
-          let before = cache_tells.faithful contents in
-          let loaded = audited_value found (c.in_ok-scene.scene, c.in_ok-scene.weapons) in
-          let accepted = (later.answers contents (record { stand = contents_stand.0; within = contents_stand.1; faithful = before })).ok in
-          let holds_contents : HoldContents (g.S.Shelf.view c.audit_level.new.shelf) dir c.audit_level.new.cache contents = record { stand = all_stand_later _ _ dir.files contents later.follows contents_stand.0; within = contents_stand.1; faithful = later.faithful contents contents_stand.0 before } in
+          let cache_is_faithful = cache_tells.faithful contents in
+          let loaded = audited_value files_found (c.in_ok-scene.scene, c.in_ok-scene.weapons) in
+          let accepted = (later.answers contents (record { stand = contents_stand.0; within = contents_stand.1; faithful = cache_is_faithful })).ok in
+          let holds_contents : HoldContents (g.S.Shelf.view c.audit_level.new.shelf) dir c.audit_level.new.cache contents = record { stand = all_stand_later _ _ dir.files contents later.follows contents_stand.0; within = contents_stand.1; faithful = later.faithful contents contents_stand.0 cache_is_faithful } in
           record {
             contents = holds_contents;
-            art = all_held contents level found loaded _ refl accepted later.audited.rest holds_contents later.fresh;
+            art = all_held contents level files_found loaded _ refl accepted later.audited.rest holds_contents later.fresh;
           };
       order = λ files contents expected holds named loads room.
           let are = (files_tell.answers files holds).ok in
-          let told = told_wads level _ files _ are (λ contents named. files_tell.contents files contents holds named) cache_tells.faithful in
+          let wads_are_held = told_wads level _ files _ are (λ contents named. files_tell.contents files contents holds named) cache_tells.faithful in
           let cache_ordered : IsInOrder (loaded_items expected) c.in_ok-cache.cache = cache_tells.order (loaded_items expected) (items_roomy expected level.settings.zone room) in
           let read = files_tell.taken_of files contents holds named in
-          let keeps = later.order _ expected told (audited_of level _ files _ expected are loads) cache_ordered in
+          let keeps = later.order _ expected wads_are_held (audited_of level _ files _ expected are loads) cache_ordered in
           record { order = keeps.order; taken = omega (arith, keeps.taken, read) };
       follows = follows_then files_tell.follows later.follows;
       causes = record { err = tt };

@@ -11,21 +11,21 @@ add_range-requires c =
 
 pub invariant_of-self : goal.invariant_of-self
 invariant_of-self c =
-    let within : c.args.last < c.self.inside.width =
+    let last_in_width : c.args.last < c.self.inside.width =
     omega (arith, ap length c.self.view_is, length-columns_of c.self.inside.width c.self.inside.ranges.items) in (
       c.self.invariant.0,
       ap (are_apart 0 c.self.inside.width) c.add_range.ensures
           ∙ apart_test 0 c.self.inside.width (with_range (record { first = c.args.first; last = c.args.last }) c.self.inside.ranges.items)
-          (with_range-apart 0 c.self.inside.width (record { first = c.args.first; last = c.args.last }) c.self.inside.ranges.items (apart_parts 0 _ _ c.self.invariant.1) (omega arith) c.requires.ordered within),
+          (with_range-apart 0 c.self.inside.width (record { first = c.args.first; last = c.args.last }) c.self.inside.ranges.items (apart_parts 0 _ _ c.self.invariant.1) (omega arith) c.requires.ordered last_in_width),
     )
 
 pub returns-clause-covered : goal.returns-clause-covered
 returns-clause-covered c =
-    let within : c.args.last < c.self.inside.width =
+    let last_in_width : c.args.last < c.self.inside.width =
     omega (arith, ap length c.self.view_is, length-columns_of c.self.inside.width c.self.inside.ranges.items) in
     ap (columns_of c.self.inside.width) c.add_range.ensures
-    ∙ with_range-cover c.self.inside.width c.args.first c.args.last c.self.inside.ranges.items (apart_parts 0 _ _ c.self.invariant.1) c.requires.ordered within
-    ∙ ap (λ (columns : List Bool). cover columns c.args.first c.args.last) c.self.view_is
+    ∙ with_range-cover c.self.inside.width c.args.first c.args.last c.self.inside.ranges.items (apart_parts 0 _ _ c.self.invariant.1) c.requires.ordered
+    last_in_width ∙ ap (λ (columns : List Bool). cover columns c.args.first c.args.last) c.self.view_is
 
 pub returns-clause-width : goal.returns-clause-width
 returns-clause-width c =

@@ -15,6 +15,6 @@ returns c =
           ∙ ap (λ (p : Plane). is_free p.runs first_column last_column) c.self.view_is
       | inr f ↦
           f ∙ sym (kept-taken fields.tops fields.bottoms fields.first fields.last first_column last_column c.requires.within
-          (let taken = c.are_unmarked.ensures.taken f in record { x = taken.x; from = omega (arith, taken.from, c.max.ensures); to = omega (arith, taken.to, c.min.ensures); run = taken.run }))
+          (let column_taken = c.are_unmarked.ensures.taken f in record { x = column_taken.x; from = omega (arith, column_taken.from, c.max.ensures); to = omega (arith, column_taken.to, c.min.ensures); run = column_taken.run }))
           ∙ ap (λ (p : Plane). is_free p.runs first_column last_column) c.self.view_is
     ]

@@ -9,9 +9,9 @@ invariant_of-self c =
     let fields = c.self.inside in
     let tops = set fields.tops c.args.x c.args.top in
     let bottoms = set fields.bottoms c.args.x c.args.bottom in
-    let kept = kept-more fields.tops fields.bottoms fields.first fields.last c.args.x c.args.top c.args.bottom c.self.invariant c.requires.column c.requires.ordered c.requires.row in
+    let rows_kept = kept-more fields.tops fields.bottoms fields.first fields.last c.args.x c.args.top c.args.bottom c.self.invariant c.requires.column c.requires.ordered c.requires.row in
     subst (λ (last : ℕ). IsKept tops bottoms c.min-self-inside.result last) (sym c.max-self-inside.ensures)
-    (subst (λ (first : ℕ). IsKept tops bottoms first (max fields.last c.args.x)) (sym c.min-self-inside.ensures) kept)
+    (subst (λ (first : ℕ). IsKept tops bottoms first (max fields.last c.args.x)) (sym c.min-self-inside.ensures) rows_kept)
 
 pub returns : goal.returns
 returns c =

@@ -16,7 +16,7 @@ returns-then-is_free-clause-number c =
 
 pub returns-then-is_free-clause-full : goal.returns-then-is_free-clause-full
 returns-then-is_free-clause-full c =
-    let same = ap (λ (ch : PlaneChoice). length ch.planes) (check-read c.args.self.now _ _ c.args.plane.0 c.args.first c.args.last _ _
+    let counts_same = ap (λ (ch : PlaneChoice). length ch.planes) (check-read c.args.self.now _ _ c.args.plane.0 c.args.first c.args.last _ _
     c.self.view_is c.requires.plane c.self.invariant.0 c.index-checked.ensures c.is_free.ensures c.if-is_free.true) in
     let room : length c.args.self.now.planes ≤ c.args.self.now.room = within_room c.args.self.now _ _ c.self.view_is c.self.invariant.0 in
     (λ e. absurd (false≢true e), λ l. absurd (omega arith))

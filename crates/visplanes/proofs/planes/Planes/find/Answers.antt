@@ -26,5 +26,5 @@ returns-in-Some-clause-full c = (
 
 pub remember-requires : goal.remember-requires
 remember-requires c =
-    let found = c.in_ok-plane.ensures in
-    rw (ap (λ (t : PlanesView). t.planes) found.ok, found.number) (first-find c.args.self.now.planes c.args.key)
+    let plane_found = c.in_ok-plane.ensures in
+    rw (ap (λ (t : PlanesView). t.planes) plane_found.ok, plane_found.number) (first-find c.args.self.now.planes c.args.key)

@@ -10,13 +10,13 @@ invariant_of-self c =
     let fields = c.self.inside in
     let items = fields.planes.items in
     let inside : c.args.plane.0 < fields.count = omega (arith, ap (λ (s : PlanesView). length s.planes) c.self.view_is, length-take fields.count items) in
-    let within : c.args.plane.0 < length items = (let counted = c.self.invariant.0 in omega arith) in
+    let plane_in_items : c.args.plane.0 < length items = (let counted = c.self.invariant.0 in omega arith) in
     let marked : (n : ℕ) → IsFirst (take fields.count items) n → IsFirst (take fields.count (set items c.args.plane.0 c.mark.new.self)) n =
     (λ n f. first-marked items fields.count c.args.plane.0 n c.args.x (c.args.top, c.args.bottom) c.index_mut.result.now c.mark.new.self inside c.self.invariant.0 c.index_mut.ensures.value c.mark.ensures f) in (
       omega (arith, length-set {A = Plane}),
       omega (arith, length-set {A = Plane}),
       wide-put items c.args.plane.0 c.mark.new.self
-          (wide-marked items c.args.plane.0 c.args.x (c.args.top, c.args.bottom) c.index_mut.result.now c.mark.new.self within c.index_mut.ensures.value c.mark.ensures c.self.invariant.2)
+          (wide-marked items c.args.plane.0 c.args.x (c.args.top, c.args.bottom) c.index_mut.result.now c.mark.new.self plane_in_items c.index_mut.ensures.value c.mark.ensures c.self.invariant.2)
           c.self.invariant.2,
       marked fields.recent c.self.invariant.3,
       marked fields.older c.self.invariant.4,
@@ -26,8 +26,8 @@ pub returns-clause-run : goal.returns-clause-run
 returns-clause-run c =
     let fields = c.self.inside in
     let items = fields.planes.items in
-    let within : c.args.plane.0 < fields.count = omega (arith, ap (λ (s : PlanesView). length s.planes) c.self.view_is, length-take fields.count items) in
-    let with_room : ℕ → List Plane → PlanesView = λ room planes. record { planes = planes; room = room } in
+    let plane_in_count : c.args.plane.0 < fields.count = omega (arith, ap (λ (s : PlanesView). length s.planes) c.self.view_is,
+    length-take fields.count items) in let with_room : ℕ → List Plane → PlanesView = λ room planes. record { planes = planes; room = room } in
     ap (λ (n : ℕ). with_room n (take fields.count (set items c.args.plane.0 c.mark.new.self))) (length-set items c.args.plane.0 c.mark.new.self)
-    ∙ ap (with_room (length items)) (mark-taken items fields.count c.args.plane.0 c.args.x (c.args.top, c.args.bottom) c.index_mut.result.now c.mark.new.self within c.self.invariant.0 c.index_mut.ensures.value c.mark.ensures)
+    ∙ ap (with_room (length items)) (mark-taken items fields.count c.args.plane.0 c.args.x (c.args.top, c.args.bottom) c.index_mut.result.now c.mark.new.self plane_in_count c.self.invariant.0 c.index_mut.ensures.value c.mark.ensures)
     ∙ ap (λ (s : PlanesView). with_planes (mark s.planes c.args.plane.0 c.args.x (c.args.top, c.args.bottom)) s) c.self.view_is

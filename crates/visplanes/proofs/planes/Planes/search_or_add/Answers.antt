@@ -7,12 +7,12 @@ use Rattle.visplanes.proofs.planes.Planes.search_or_add.Goals as goal
 pub returns-in-Some : goal.returns-in-Some
 returns-in-Some c =
     let view = c.args.self.now in
-    let same = find-some view.planes c.args.key c.in-Some.number (sym c.in-Some.ensures.value) in
+    let choice_is = find-some view.planes c.args.key c.in-Some.number (sym c.in-Some.ensures.value) in
     record {
-      ok = sym (ap (λ (ch : PlaneChoice). with_planes ch.planes view) same);
-      number = sym (ap (λ (ch : PlaneChoice). ch.number) same);
-      within = subst (λ (ch : PlaneChoice). ch.number < length ch.planes) same (find-within view.planes c.args.key);
-      full = (λ e. absurd (false≢true e), λ l. absurd (omega (arith, ap (λ (ch : PlaneChoice). length ch.planes) same, c.in-Some.ensures.room)));
+      ok = sym (ap (λ (ch : PlaneChoice). with_planes ch.planes view) choice_is);
+      number = sym (ap (λ (ch : PlaneChoice). ch.number) choice_is);
+      within = subst (λ (ch : PlaneChoice). ch.number < length ch.planes) choice_is (find-within view.planes c.args.key);
+      full = (λ e. absurd (false≢true e), λ l. absurd (omega (arith, ap (λ (ch : PlaneChoice). length ch.planes) choice_is, c.in-Some.ensures.room)));
       refused = (tt, tt);
     }
 

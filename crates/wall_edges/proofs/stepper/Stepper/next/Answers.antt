@@ -6,5 +6,5 @@ use Rattle.wall_edges.proofs.stepper.Stepper.next.Goals as goal
 pub returns-clause-column : goal.returns-clause-column
 returns-clause-column c =
     λ f k h.
-    let left : 0 < c.args.self.now.left = omega arith in
-    (h.now, rw c.edges_plus-self.ensures (at_next f k c.args.self.now h left))
+    let columns_are_left : 0 < c.args.self.now.left = omega arith in
+    (h.now, rw c.edges_plus-self.ensures (at_next f k c.args.self.now h columns_are_left))
