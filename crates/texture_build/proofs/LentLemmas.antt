@@ -1,14 +1,14 @@
 -- What a cache that has the art lends: the colormap, texture columns, and what fits beside them.
 use Rattle.art_rules.proofs.Common.{ap, false, IfSome, IsSome, length, List, ne_eqb, None, Option, option_map, refl, Some, subst, sym, ℕ, ◌+◌, ◌<◌, ◌∙◌, ◌≡◌, ◌≢◌, ◌≤◌}
 use Rattle.texture_build.specs.Rules.{ColumnLookup, Composed, Empty, LUMP, POST_BYTES_AT, PreparedTexture, ShelfView, Single, lump_at, lump_bytes, painter_of}
-use Rattle.lump_cache.specs.Zones.{Owner, Holding, Block, Heap, IsLive, bytes_of, block_size, owned_block, same_owner}
+use Rattle.lump_cache.specs.Zones.{Owner, Holding, Block, Heap, IsLive, bytes_of, block_size, holding_of, owned_block, same_owner}
 use Rattle.lump_cache.specs.DirectoryView.{DirectoryView}
 use Rattle.lump_cache.specs.Caches.{IsStatic, composite_owner, lump_owner}
 use Rattle.lump_cache.specs.Calls.{HoldContents}
 use Rattle.lump_cache.proofs.{FetchLemmas.live_faithful, SizeLemmas.sizes_told}
 use Rattle.art_rules.proofs.LookupLemmas.{composite_size-length}
 use Rattle.texture_build.specs.{Arts.lookup_source, Composites.composite_of, Asked.size_of}
-use Rattle.texture_build.specs.Sources.{ColumnView, IsColumnThere, IsLentBeside, column_from, column_view}
+use Rattle.texture_build.specs.Sources.{ColumnView, IsColumnLive, IsColumnThere, IsLentBeside, column_from, column_view}
 use Rattle.texture_build.specs.Views.{TexturesView, IsPrepared, prepared_at, prepared_texture}
 use Rattle.texture_build.specs.Draws.{HoldsArt, FitsBeside}
 use Rattle.texture_build.proofs.TexelLemmas.{prepared_is}
@@ -50,6 +50,20 @@ lent_lump-fits {view} {dir} {contents = contents} {colormap} {count} {z} files k
   composite = λ source. cc;
 }
 
+lent_if_held : (f : List ℕ → ColumnView) (h : Option Holding) → IsSome h →
+    None ≡ option_map f (option_map (λ (x : Holding). x.bytes) h) → ⊥
+lent_if_held f None live none = cc
+lent_if_held f (Some h) live none = cc
+
+-- a live column is lent
+pub live_is_lent : (number : ℕ) (z : Heap) (lookup : ColumnLookup) →
+    IsColumnLive number z lookup → None ≡ column_view number z lookup → ⊥
+live_is_lent number z Empty live none = cc
+live_is_lent number z (Single lump place) live none =
+    lent_if_held (column_from (place + POST_BYTES_AT)) (holding_of (lump_owner lump) z.blocks) live none
+live_is_lent number z (Composed place) live none =
+    lent_if_held (column_from place) (holding_of (composite_owner number) z.blocks) live none
+
 module _ {view : ShelfView} {dir : DirectoryView} {textures : TexturesView}
     {contents : List (List ℕ)} {colormap count : ℕ} {z : Heap}
     (hold : HoldsArt view dir textures contents colormap count z) where
@@ -58,6 +72,12 @@ module _ {view : ShelfView} {dir : DirectoryView} {textures : TexturesView}
       bytes_of (lump_owner colormap) z.blocks ≡ Some (lump_bytes contents dir.lumps colormap)
   colormap_lent there = live_faithful contents dir z colormap there hold.files.faithful
       (static_live (lump_owner colormap) z hold.rest.block count hold.rest.is hold.rest.pinned)
+
+  pub colormap_is_lent : colormap < length dir.lumps →
+      None ≡ bytes_of (lump_owner colormap) z.blocks → ⊥
+  colormap_is_lent there none = go (none ∙ colormap_lent there) where
+    go : {bytes : List ℕ} → None ≡ Some bytes → ⊥
+    go e = cc
 
   composite_size : (number : ℕ) (bytes : List ℕ) → IsPrepared textures number →
       bytes_of (composite_owner number) z.blocks ≡ Some bytes →

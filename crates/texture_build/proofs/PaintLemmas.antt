@@ -152,7 +152,7 @@ paints-mapped {mark = mark} {t} {dots = dots} {a} {b} f above same lower result 
 }
 
 -- a texture that may be drawn may be drawn later
-pub can_draw-counts : {lumps : List Lump} {textures : TexturesView} {x y : Heap} {number : ℕ} → KeepsCounts x y →
+can_draw-counts : {lumps : List Lump} {textures : TexturesView} {x y : Heap} {number : ℕ} → KeepsCounts x y →
     CanDraw lumps textures x number → CanDraw lumps textures y number
 can_draw-counts {number = number} counts can =
     record { prepared = can.prepared; slot = subst (λ (n : ℕ). number < n) (sym counts.2) can.slot; there = can.there }

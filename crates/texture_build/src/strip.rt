@@ -2,17 +2,14 @@
 //
 // Rules: `specs/Strips`. The original: `R_RenderSegLoop`, r_segs.c, and the sky of `R_DrawPlanes`,
 // r_plane.c, where they call `R_GetColumn` and `colfunc`.
-ghost use Rattle.std.specs.Prelude.{◌≡◌, ◌<◌, ◌≤◌, length};
-ghost use Rattle.pixel_strips.specs.Dotted.{PlacedAlike};
+ghost use Rattle.std.specs.Prelude.{◌<◌, ◌≤◌, length};
 ghost use Rattle.texture_build.specs.Draws.{CanDraw};
 ghost use Rattle.texture_build.specs.Hands.{AreSameHands, hands_state};
-ghost use Rattle.texture_build.specs.Sources.{IsColumnLive, IsColumnThere, column_in};
-ghost use Rattle.texture_build.specs.Strips.{FitsLiveStrip, IsTextureIn, PaintsLiveStrip, PaintsTexture, art_tools};
-ghost use Rattle.texture_build.specs.Views.{prepared_texture};
+ghost use Rattle.texture_build.specs.Strips.{IsTextureIn, PaintsTexture, art_tools};
 
 use crate::hands::Hands;
 use crate::textures::Textures;
-use art_rules::{ColumnLookup, Shelf};
+use art_rules::Shelf;
 use lump_cache::{CacheFault, Directory, LumpNo};
 use pixel_strips::{Canvas, ColumnStrip, paint_column, row_fraction};
 use texture_lists::TexNo;
@@ -68,39 +65,9 @@ pub fn paint_texture<S: Shelf, C: Canvas>(
     ensures paints { PaintsTexture C.mark (art_tools art.now) strip.now
         (hands_state S.view C.view hands.old) (hands_state S.view C.view hands.new) result }
 {
-    let lookup = art.textures.lookup(strip.tex, strip.column);
-    art.textures
-        .ready_at(hands.cache, art.dir, hands.shelf, strip.tex, lookup)?;
-    paint_live(art, hands, strip, lookup);
-    Ok(())
-}
-
-// Paints a strip whose column is live.
-#[inline(always)]
-fn paint_live<S: Shelf, C: Canvas>(
-    art: &TextureArt<'_>,
-    hands: &mut Hands<'_, S, C>,
-    strip: &TextureStrip,
-    lookup: ColumnLookup,
-)
-    requires slots { length art.now.dir.now.lumps ≤ hands.old.cache.now.lumps }
-    requires colormap { art.now.colormap.0 < length art.now.dir.now.lumps }
-    requires texture { CanDraw art.now.dir.now.lumps art.now.textures.now hands.old.cache.now
-        strip.now.tex.0 }
-    requires within { IsTextureIn strip.now (C.view hands.old.canvas.now) }
-    requires lookup { lookup
-        ≡ column_in (prepared_texture art.now.textures.now strip.now.tex.0) strip.now.column }
-    requires there { IsColumnThere art.now.dir.now.lumps lookup }
-    requires live { IsColumnLive strip.now.tex.0 hands.old.cache.now lookup }
-    ensures same { AreSameHands hands.old hands.new }
-    ensures cache { hands.new.cache.now ≡ hands.old.cache.now }
-    ensures shelf { hands.new.shelf.now ≡ hands.old.shelf.now }
-    ensures painted { PaintsLiveStrip C.mark (art_tools art.now) strip.now hands.old.cache.now
-        (C.view hands.old.canvas.now) (C.view hands.new.canvas.now) }
-    ensures fits { FitsLiveStrip (art_tools art.now) strip.now hands.old.cache.now }
-    ensures place { PlacedAlike (C.view hands.old.canvas.now) (C.view hands.new.canvas.now) }
-{
     let textures = art.textures;
+    let lookup = textures.lookup(strip.tex, strip.column);
+    textures.ready_at(hands.cache, art.dir, hands.shelf, strip.tex, lookup)?;
     let painter = textures.painter_at(strip.kind, strip.number, strip.tex, lookup);
     let cache = &*hands.cache;
     if let Some(colormap) = cache.bytes(art.colormap)
@@ -120,4 +87,5 @@ fn paint_live<S: Shelf, C: Canvas>(
         hands.canvas.begin(painter);
         paint_column(hands.canvas, &column);
     }
+    Ok(())
 }

@@ -1,20 +1,59 @@
--- The column is made live, and then the strip is painted.
-use Rattle.art_rules.proofs.Common.{ap, rules, w32, ◌∙◌, to_z-of_z}
-use Rattle.texture_build.specs.{Sources.column_in, Views.prepared_texture}
-use Rattle.texture_build.proofs.LiveLemmas.{draws-ready}
-use Rattle.texture_build.proofs.PaintLemmas.{can_draw-counts, paints-live}
+-- The column is made live, and then the strip is painted with the bytes that are lent: those of the column and of the colormap.
+use Rattle.art_rules.proofs.Common.{ap, of_z, refl, rules, some-same, sym, to_z, w32, ℕ, ◌+◌, ◌∙◌, ◌≡◌, to_z-of_z}
+use Rattle.texture_build.specs.Rules.{byte_at, lump_bytes, row_fraction}
+use Rattle.texture_build.specs.{Sources.ColumnView, Sources.column_in, Strips.art_tools, Views.prepared_texture}
+use Rattle.texture_build.proofs.ColumnLemmas.{single_slot}
+use Rattle.texture_build.proofs.LentLemmas.{colormap_is_lent, colormap_lent, fits-column, live_is_lent}
+use Rattle.texture_build.proofs.{LiveLemmas.draws-ready, PaintLemmas.paints-live, StripLemmas.texture-fits, StripLemmas.texture-painted}
 use Rattle.texture_build.proofs.strip.paint_texture.Goals as goal
+use Rattle.texture_build.proofs.strip.paint_texture.Goals.{in_default-via-in-None-1, in_default-via-in-Some+in-None-1}
 
-pub paint_live-requires-clause-texture : goal.paint_live-requires-clause-texture
-paint_live-requires-clause-texture g c = can_draw-counts c.in_ok-ready_at.ensures.keeps.counts c.requires.texture
+pub column_at-requires-clause-lumps : goal.column_at-requires-clause-lumps
+column_at-requires-clause-lumps g c =
+    let lumps = c.args.art.now.dir.now.lumps in
+    single_slot lumps c.ready_at.new.cache.lumps c.lookup-lookup.result (search rules) (c.lookup-lookup.ensures.there lumps c.requires.texture.there)
 
-pub returns-clause-paints : goal.returns-clause-paints
-returns-clause-paints g c =
-    let strip = c.args.strip.now in let texture_ready = c.in_ok-ready_at.ensures in
-    let live_paints = c.paint_live.ensures in
-    let own = column_in (prepared_texture c.args.art.now.textures.now strip.tex.0) in
-    paints-live tt
-    (draws-ready strip.tex.0 strip.column c.lookup-lookup.result
-    (c.lookup-lookup.ensures.value ∙ ap own (to_z-of_z w32 strip.column (search rules))) texture_ready.keeps texture_ready.readies)
-    (λ view contents count q hold is. live_paints.painted view contents count hold) (λ view contents count q hold is. live_paints.fits view contents count hold)
-    live_paints.place (ap g.S.Shelf.view live_paints.shelf) live_paints.cache
+pub returns-in-Some-column_at-clause-paints : goal.returns-in-Some-column_at-clause-paints
+returns-in-Some-column_at-clause-paints g c =
+    let art = c.args.art.now in
+    let s = c.args.strip.now in
+    let ready = c.in_ok-ready_at.ensures in
+    let texels = c.texels.inside in
+    let own = column_in (prepared_texture art.textures.now s.tex.0) in
+    let is_lookup : c.lookup-lookup.result ≡ own s.column = c.lookup-lookup.ensures.value ∙ ap own (to_z-of_z w32 s.column (search rules)) in
+    let fraction : to_z w32 (of_z w32 c.row_fraction.result) ≡ row_fraction s.centre s.mid s.step s.first = search (rules, to_z-of_z) in
+    paints-live tt (draws-ready s.tex.0 s.column c.lookup-lookup.result is_lookup ready.keeps ready.readies)
+    (λ view contents count q hold is.
+    texture-painted (lump_bytes contents art.dir.now.lumps) art.textures.now art.colormap.0 s texels.bytes.now c.in-Some.colormap.now texels.first _ _
+    c.begin.ensures c.paint_column.ensures c.painter_at-painter.ensures is_lookup (to_z-of_z w32 s.step (search rules)) fraction
+    (some-same c.in-Some.colormap.now _ _ c.in-Some.ensures.value (colormap_lent hold c.requires.colormap))
+    (λ r. ap (λ (v : ColumnView). byte_at v.bytes (v.first + r)) c.texels.view_is
+    ∙ c.in-Some-column_at.ensures.texel s.column contents art.dir.now.lumps is_lookup c.requires.texture.there
+    hold.files.faithful hold.composites hold.prepared r))
+    (λ view contents count q hold is.
+    texture-fits (art_tools art) count c.ready_at.new.cache.size (lump_bytes contents art.dir.now.lumps) s c.lookup-lookup.result is_lookup
+    (fits-column hold s.kind s.number s.tex.0 c.lookup-lookup.result c.in-Some-column_at.texels c.requires.texture.prepared
+    (c.lookup-lookup.ensures.there art.dir.now.lumps c.requires.texture.there)
+    (sym c.in-Some-column_at.ensures.column) (c.in-Some-column_at.ensures.fits art.colormap.0 count hold.rest)))
+    (search rules) refl refl
+
+-- what is live is lent
+pub returns-in_default-clause-paints : goal.returns-in_default-clause-paints
+returns-in_default-clause-paints g c =
+    let art = c.args.art.now in
+    let s = c.args.strip.now in
+    let ready = c.in_ok-ready_at.ensures in
+    let own = column_in (prepared_texture art.textures.now s.tex.0) in
+    let is_lookup : c.lookup-lookup.result ≡ own s.column = c.lookup-lookup.ensures.value ∙ ap own (to_z-of_z w32 s.column (search rules)) in
+    let draws = draws-ready {pictures = λ (lump : ℕ). ⊥} s.tex.0 s.column c.lookup-lookup.result is_lookup ready.keeps ready.readies in
+    elim c.in_default.branch [
+      | in_default-via-in-None-1 w ↦
+          paints-live tt draws
+          (λ view contents count q hold is. absurd (colormap_is_lent hold c.requires.colormap (search rules)))
+          (λ view contents count q hold is. absurd (colormap_is_lent hold c.requires.colormap (search rules)))
+          (search rules) (ap (λ hands. g.S.Shelf.view hands.shelf.now) w.hands-is) (ap (λ hands. hands.cache.now) w.hands-is)
+      | in_default-via-in-Some+in-None-1 w ↦
+          let never : ⊥ = live_is_lent s.tex.0 c.ready_at.new.cache c.lookup-lookup.result ready.readies.live (search rules) in
+          paints-live tt draws (λ view contents count q hold is. absurd never) (λ view contents count q hold is. absurd never)
+          (search rules) (ap (λ hands. g.S.Shelf.view hands.shelf.now) w.hands-is) (ap (λ hands. hands.cache.now) w.hands-is)
+    ]
