@@ -1,5 +1,5 @@
 -- A part of a walk adds its events behind those that are there, and covers the same columns whatever they are.
-use Rattle.word_rules.proofs.Common.{[], ap, append-nil, append_assoc, arith, Bool, cases_eq, cond, false, inl, inr, List, map, None, Option, refl, replicate, Some, suc, sym, true, zero, ℕ, ◌++◌, ◌+◌, ◌-◌, ◌<◌, ◌==◌, ◌∙◌, ◌∷◌, ◌≡◌, ◌≤◌}
+use Rattle.word_rules.proofs.Common.{[], ap, append-nil, append_assoc, arith, Bool, cases_eq, cond, false, false≢true, inl, inr, List, map, None, Option, refl, replicate, Some, suc, sym, true, zero, ℕ, ◌++◌, ◌+◌, ◌-◌, ◌<◌, ◌==◌, ◌∙◌, ◌∷◌, ◌≡◌, ◌≤◌, ◌⊎◌}
 use Rattle.node_walk.specs.Rules.{Behind, Box4, Child, ColumnRange, Columns, Event, FragmentEvent, Leaf, LeafEvent, LevelLists, Node, Outside, Seg, Surface, ViewValue, WalkState, at_columns, at_far, at_leaf, at_leaf_of, at_node, at_range, at_seg, at_seg_of, at_segs, back_of, box_on, box_passes, child_on, cover, covers, enters, eye_side, far_box, far_child, fragments, is_pass, is_solid, leaf_at, middle_of, near_child, node_at, seg_at, seg_range, shows, surface_at, walk_child, walk_start}
 use Rattle.level_rules.specs.declared.Child.TheVariants.{Node as NodeChild, Leaf as LeafChild}
 use Rattle.level_rules.proofs.walk.WalkLemmas.{walk-node, at_segs-more}
@@ -202,30 +202,27 @@ module _ (v : ViewValue) (level : LevelLists) (depth n side : ℕ) (child near :
       ∙ ap (behind walked.events) (passed_by (box_passes v now b) (walk_child v level (depth - 1) (child_on node (1 - side)) (part_start now)) (part_start now) passes)
       ∙ ap (λ (d : Child). behind walked.events (walk_child v level (depth - 1) d (part_start now))) (sym last)
 
--- the columns of a seg: a solid one, a pass, another
-pub solid_part : (solid pass : Bool) (seg first last : ℕ) (columns now : List Bool) → solid ≡ true → now ≡ cover columns first last →
-    at_columns solid pass seg first last (part_start columns) ≡ record { events = map (λ r. FragmentEvent seg r.0 r.1) (fragments columns first last); covered = now }
+-- the columns of a seg that is solid or a pass: its runs, which a solid one covers
+pub shown_part : (solid pass : Bool) (seg first last : ℕ) (columns now : List Bool) (runs : List (ℕ × ℕ)) → (solid ≡ true) ⊎ (pass ≡ true) →
+    runs ≡ fragments columns first last → now ≡ cond solid (cover columns first last) columns →
+    at_columns solid pass seg first last (part_start columns) ≡ record { events = map (λ r. FragmentEvent seg r.0 r.1) runs; covered = now }
 unfolding at_columns shows covers
-solid_part solid pass seg first last columns now e f = rw (e, f)
+shown_part true pass seg first last columns now runs shown e f = rw (e, f)
+shown_part false pass seg first last columns now runs (inl solid) e f = absurd (false≢true solid)
+shown_part false pass seg first last columns now runs (inr passes) e f = rw (passes, e, f)
 
-pub pass_part : (solid pass : Bool) (seg first last : ℕ) (columns : List Bool) → solid ≡ false → pass ≡ true →
-    at_columns solid pass seg first last (part_start columns) ≡ record { events = map (λ r. FragmentEvent seg r.0 r.1) (fragments columns first last); covered = columns }
-unfolding at_columns shows
-pass_part solid pass seg first last columns e f = rw (e, f)
-
+-- those of another
 pub no_part : (solid pass : Bool) (seg first last : ℕ) (columns : List Bool) → solid ≡ false → pass ≡ false → at_columns solid pass seg first last (part_start columns) ≡ part_start columns
 unfolding at_columns
 no_part solid pass seg first last columns e f = rw (e, f)
 
 -- a seg that was read, by its range
 module _ (v : ViewValue) (level : LevelLists) (front : Surface) (n : ℕ) (columns : List Bool) (seg : Seg) (is : seg ≡ seg_at level n) where
-  pub behind_part : Behind ≡ seg_range v seg → at_seg v level front n (part_start columns) ≡ part_start columns
+  pub unseen_part : (range : ColumnRange) → range ≡ seg_range v seg → ((x1 x2 : ℕ) → ¬ (range ≡ Columns x1 x2)) → at_seg v level front n (part_start columns) ≡ part_start columns
   unfolding at_seg at_seg_of at_range
-  behind_part e = rw (sym is, sym e)
-
-  pub outside_part : Outside ≡ seg_range v seg → at_seg v level front n (part_start columns) ≡ part_start columns
-  unfolding at_seg at_seg_of at_range
-  outside_part e = rw (sym is, sym e)
+  unseen_part Behind e none = rw (sym is, sym e)
+  unseen_part Outside e none = rw (sym is, sym e)
+  unseen_part (Columns x1 x2) e none = absurd (none x1 x2 refl)
 
   pub no_columns_part : (x1 x2 : ℕ) → Columns x1 x2 ≡ seg_range v seg → x1 ≡ x2 → at_seg v level front n (part_start columns) ≡ part_start columns
   unfolding at_seg at_seg_of at_range

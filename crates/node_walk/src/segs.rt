@@ -74,29 +74,8 @@ fn is_pass(lists: &Lists<'_>, front: &Surface, seg: &Seg) -> bool
     }
 }
 
-// Shows the runs of columns from `first` to `last` that are not covered.
-fn show<V: Visitor>(
-    cover: &Cover,
-    seg: u16,
-    first: u16,
-    last: u16,
-    visitor: &mut V,
-) -> Result<(), V::Stop>
-    requires ordered { first ≤ last }
-    requires within { last < length cover.now }
-    requires takes { (p q : ℕ) → first ≤ p → p ≤ q → q ≤ last →
-        V.takes visitor.old (FragmentEvent seg p q) }
-    ensures { Visits (V.takes visitor.old) (V.takes visitor.new) (V.stands visitor.old)
-        (V.stands visitor.new) (V.stopped visitor.new)
-        (map (λ r. FragmentEvent seg r.0 r.1) (fragments cover.now first last)) result }
-{
-    for (p, q) in cover.fragments(first, last) {
-        visitor.fragment(seg, p, q)?;
-    }
-    Ok(())
-}
-
-/// Takes a seg of a leaf whose sector is `front`: a solid one is shown and covers, a pass is shown.
+/// Takes a seg of a leaf whose sector is `front`: a solid one is shown and covers, a pass is shown,
+/// each in the runs of its columns that are not covered.
 ///
 /// The original: `R_AddLine`, r_bsp.c.
 pub(crate) fn visit_seg<V: Visitor>(
@@ -117,23 +96,22 @@ pub(crate) fn visit_seg<V: Visitor>(
     ensures width { length cover.new ≡ length cover.old }
 {
     let seg = lists.seg(n);
-    match seg_range(view, seg) {
-        ColumnRange::Behind => Ok(()),
-        ColumnRange::Outside => Ok(()),
-        ColumnRange::Columns { x1, x2 } => {
-            if x1 == x2 {
-                return Ok(());
-            }
-            let last = x2 - 1;
-            if is_solid(lists, front, seg) {
-                show(cover, n, x1, last, visitor)?;
-                cover.cover(x1, last);
-                Ok(())
-            } else if is_pass(lists, front, seg) {
-                show(cover, n, x1, last, visitor)
-            } else {
-                Ok(())
-            }
-        }
+    let ColumnRange::Columns { x1, x2 } = seg_range(view, seg) else {
+        return Ok(());
+    };
+    if x1 == x2 {
+        return Ok(());
     }
+    let last = x2 - 1;
+    let solid = is_solid(lists, front, seg);
+    if !solid && !is_pass(lists, front, seg) {
+        return Ok(());
+    }
+    for (p, q) in cover.fragments(x1, last) {
+        visitor.fragment(n, p, q)?;
+    }
+    if solid {
+        cover.cover(x1, last);
+    }
+    Ok(())
 }

@@ -122,9 +122,10 @@ impl Canvas for Frame {
     }
 }
 
-// Sets `count` cells below one another, the first at `start`. What is cut out is given part by part,
-// in registers, and no write to a cell can change it. Not inlined, so that the loops are the same in
-// every caller.
+// Sets `count` cells below one another, the first at `start`. Four or more are set four a round.
+// The last four are set once more or for the first time, so that no second loop ends where nobody
+// can foretell it. What is cut out is given part by part, in registers, and no write to a cell can
+// change it. Not inlined, so that the loops are the same in every caller.
 #[inline(never)]
 fn fill_column(
     cells: &mut [u8],
@@ -149,9 +150,19 @@ fn fill_column(
     };
     if count < 4 {
         fill_few(cells, start, count, &cut);
-    } else {
-        fill_fours(cells, start, count, &cut);
+        return;
     }
+    let width = FRAME_WIDTH as usize;
+    let step = texel_place(cut.step);
+    let first = texel_place(cut.fraction);
+    let mut place = first;
+    for k in 0..(count - 1) / 4 {
+        fill_four(cells, start + 4 * width * k, place, step, &cut);
+        place = places_after(place, step, 4);
+    }
+    let done = count - 4;
+    let last = places_after(first, step, done as u32);
+    fill_four(cells, start + width * done, last, step, &cut);
 }
 
 // Sets few cells below one another, one by one.
@@ -170,31 +181,6 @@ fn fill_few(cells: &mut [u8], start: usize, count: usize, cut: &CutColumn<'_>)
         fill_row(cells, start + FRAME_WIDTH as usize * k, place, cut);
         place = places_after(place, step, 1);
     }
-}
-
-// Sets four cells or more below one another, four a round. The last four are set once more or for
-// the first time, so that no second loop ends where nobody can foretell it.
-#[inline(always)]
-fn fill_fours(cells: &mut [u8], start: usize, count: usize, cut: &CutColumn<'_>)
-    requires size { length cells.old ≡ FRAME_CELLS }
-    requires within { start + FRAME_WIDTH * count < FRAME_CELLS + FRAME_WIDTH }
-    requires four { 4 ≤ count }
-    requires texels { length cut.now.texels.now ≡ TEXEL_ROWS }
-    requires shades { length cut.now.shades.now ≡ MAP_COLOURS }
-    ensures { ColumnFilled cut.now.texels.now cut.now.shades.now cut.now.fraction cut.now.step
-        start count cells.old cells.new }
-{
-    let width = FRAME_WIDTH as usize;
-    let step = texel_place(cut.step);
-    let first = texel_place(cut.fraction);
-    let mut place = first;
-    for k in 0..(count - 1) / 4 {
-        fill_four(cells, start + 4 * width * k, place, step, cut);
-        place = places_after(place, step, 4);
-    }
-    let done = count - 4;
-    let last = places_after(first, step, done as u32);
-    fill_four(cells, start + width * done, last, step, cut);
 }
 
 // Sets four cells below one another, of which some may be set already: row `n` of a column and the
@@ -230,8 +216,9 @@ fn fill_row(cells: &mut [u8], cell: usize, place: u32, cut: &CutColumn<'_>)
     cells[cell] = cut.shades[cut.texels[row_at(place)] as usize];
 }
 
-// Sets `count` cells side by side, the first at `start`. `cut` is copied: behind each write to a cell
-// its fields would be read again. Not inlined either.
+// Sets `count` cells side by side, the first at `start`. Four or more are set four a round, and the
+// last four likewise. `cut` is copied: behind each write to a cell its fields would be read again.
+// Not inlined either.
 #[inline(never)]
 fn fill_span(cells: &mut [u8], start: usize, count: usize, cut: &CutSpan<'_>)
     requires size { length cells.old ≡ FRAME_CELLS }
@@ -245,9 +232,18 @@ fn fill_span(cells: &mut [u8], start: usize, count: usize, cut: &CutSpan<'_>)
     let cut = *cut;
     if count < 4 {
         fill_few_across(cells, start, count, &cut);
-    } else {
-        fill_fours_across(cells, start, count, &cut);
+        return;
     }
+    let step = first_place(cut.spans, cut.x_step, cut.y_step);
+    let first = first_place(cut.spans, cut.x_fraction, cut.y_fraction);
+    let mut place = first;
+    for k in 0..(count - 1) / 4 {
+        fill_four_across(cells, start + 4 * k, place, step, &cut);
+        place = place_after(place, step, 4);
+    }
+    let done = count - 4;
+    let last = place_after(first, step, done as u64);
+    fill_four_across(cells, start + done, last, step, &cut);
 }
 
 // Sets few cells side by side, one by one.
@@ -267,30 +263,6 @@ fn fill_few_across(cells: &mut [u8], start: usize, count: usize, cut: &CutSpan<'
         fill_one(cells, start + k, place, cut);
         place = place_after(place, step, 1);
     }
-}
-
-// Sets four cells or more side by side, four a round, and the last four likewise.
-#[inline(always)]
-fn fill_fours_across(cells: &mut [u8], start: usize, count: usize, cut: &CutSpan<'_>)
-    requires size { length cells.old ≡ FRAME_CELLS }
-    requires within { start + count ≤ FRAME_CELLS }
-    requires four { 4 ≤ count }
-    requires few { count ≤ FRAME_WIDTH }
-    requires texels { length cut.now.texels.now ≡ FLAT_BYTES }
-    requires shades { length cut.now.shades.now ≡ MAP_COLOURS }
-    ensures { SpanFilled cut.now.spans cut.now.texels.now cut.now.shades.now cut.now.x_fraction
-        cut.now.y_fraction cut.now.x_step cut.now.y_step start count cells.old cells.new }
-{
-    let step = first_place(cut.spans, cut.x_step, cut.y_step);
-    let first = first_place(cut.spans, cut.x_fraction, cut.y_fraction);
-    let mut place = first;
-    for k in 0..(count - 1) / 4 {
-        fill_four_across(cells, start + 4 * k, place, step, cut);
-        place = place_after(place, step, 4);
-    }
-    let done = count - 4;
-    let last = place_after(first, step, done as u64);
-    fill_four_across(cells, start + done, last, step, cut);
 }
 
 // Sets four cells side by side, of which some may be set already: column `n` of a span and the three

@@ -1,7 +1,7 @@
 use Rattle.std.proofs.Common.{ℕ, ◌+◌, ◌-◌, ◌*◌, rules, arith}
 use Rattle.pixel_strips.proofs.FillLemmas.{fills_to, span_begun, span_reached}
 use Rattle.pixel_strips.proofs.PlaceLemmas.{first_place_words, span_place_begun, span_place-to}
-use Rattle.pixel_strips.proofs.frame.fill_fours_across.Goals as goal
+use Rattle.pixel_strips.proofs.frame.fill_span.Goals as goal
 
 pub loop-k-init : goal.loop-k-init
 loop-k-init c = span_begun (search rules) (search rules) c.first_place-first.ensures

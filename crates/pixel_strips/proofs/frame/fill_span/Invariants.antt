@@ -1,6 +1,6 @@
 use Rattle.std.proofs.Common.{◌*◌}
 use Rattle.pixel_strips.proofs.FillLemmas.{SpanReached}
-use Rattle.pixel_strips.proofs.frame.fill_fours_across.Given as goal
+use Rattle.pixel_strips.proofs.frame.fill_span.Given as goal
 
 abbrev pub invariant-loop-k : goal.invariant-loop-k
 invariant-loop-k l = SpanReached l.cut l.start (4 * l.k) l.place l.fn.cells l.cells
