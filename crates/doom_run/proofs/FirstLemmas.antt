@@ -26,9 +26,11 @@ pub first-begins : (f : ℕ → List ℕ) (n m : ℕ) → (rest : List ℕ) × (
 first-begins f n zero = let number_same : n ≡ n + zero = omega arith in ([], append-nil (first_of f n) ∙ ap (first_of f) number_same)
 first-begins f n (suc m) =
     let rest_behind : (rest : List ℕ) × (first_of f n ++ rest ≡ first_of f (n + m)) = first-begins f n m in
-    let next_number_is : n + m + 1 ≡ n + suc m = omega arith in
-    (rest_behind.0 ++ f (n + m), sym (append_assoc (first_of f n) rest_behind.0 (f (n + m)))
-    ∙ ap (λ (xs : List ℕ). xs ++ f (n + m)) rest_behind.1 ∙ first-more f (n + m) ∙ ap (first_of f) next_number_is)
+    let next_number_is : n + m + 1 ≡ n + suc m = omega arith in (
+      rest_behind.0 ++ f (n + m),
+      sym (append_assoc (first_of f n) rest_behind.0 (f (n + m)))
+          ∙ ap (λ (xs : List ℕ). xs ++ f (n + m)) rest_behind.1 ∙ first-more f (n + m) ∙ ap (first_of f) next_number_is,
+    )
 
 -- a prefix of what the first numbers give is one of what more give
 pub prefix_first : {a b : List ℕ → Type 0} (f : ℕ → List ℕ) (n m : ℕ) → n ≤ m → GrewByPrefix a b (first_of f n) → GrewByPrefix a b (first_of f m)

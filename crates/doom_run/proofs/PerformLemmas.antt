@@ -161,7 +161,7 @@ module _ (level : LevelJobValue) (wads : List (List ℕ)) (delivery : Delivery) 
             let said = delivers.tells wads held (record { is = level_loads; holds = λ contents named. now.holds held contents (holds refl) named }) in
             record {
               ends = subst (λ (v : Result Accepted (Stop Refusal)). EndsAt before.steady (from_below at_step v) old new status)
-                (sym (verdict_by held value level_loads))
+                  (sym (verdict_by held value level_loads))
                   (subst (λ b. EndsAt b (from_below at_step (delivered delivery (wad_bytes wads held loaded.files.dir.lumps) value)) old new status) now.follows.steady said.ends);
               zone_full = λ wanted widest e. inr (said.zone_full wanted widest e);
               least = λ end. subst (λ n. n ≤ level.settings.zone) (sym (least_by held value level_loads)) (said.least end);

@@ -98,7 +98,7 @@ module _ (lumps : List Lump) (s : SceneValue) (can : IsDrawable lumps s) (sound 
         texture = subst (CanDraw lumps (textures_view s) z) number_is_middle (middle_drawn side inside has_back_and_middle.1);
         among = subst (λ (n : ℕ). n < length s.base.lists.textures) number_is_middle (middle_among side inside has_back_and_middle.1);
         single = subst (λ (n : ℕ). AllColumnsSingle (prepared_texture (textures_view s) n)) number_is_middle
-          (middle_single f.seg l behind has_back_and_middle.1);
+            (middle_single f.seg l behind has_back_and_middle.1);
       }
 
   note_listed : (bytes : ℕ → List ℕ) (v : ViewValue) (f : LeafFragment) (place : ℕ) → f.seg < length s.base.level.segs →

@@ -214,8 +214,10 @@ module _ (lumps : List Lump) (scene : SceneValue) (can : IsDrawable lumps scene)
       let inside : i < length scene.base.level.sectors = omega (arith, l, surfaces_as_many) in
       let flats = get_or scene.faces.flats i no_flats in let flats_listed = can.flats_there i no_flats (omega (arith, inside, can.flats)) in
       subst (AreFlatsOf (length lumps)) (sym (surface_from scene.base.level.sectors scene.faces.flats i no_sector no_flats d can.flats inside))
-      (record { floor = flat_of_number (length lumps) flats.floor few flats_listed.floor;
-        ceiling = flat_of_number (length lumps) flats.ceiling few flats_listed.ceiling })
+      (record {
+        floor = flat_of_number (length lumps) flats.floor few flats_listed.floor;
+        ceiling = flat_of_number (length lumps) flats.ceiling few flats_listed.ceiling;
+      })
 
   pub flats_at : length lumps ≤ SKY_FLAT → (sector : ℕ) → sector < length scene.base.level.sectors → AreFlatsOf (length lumps) (surface_at (lists_of scene) sector)
   unfolding surface_at

@@ -57,7 +57,7 @@ with_room entries things list e thing s is room h =
     let has_room : nat_lt (length list.sprites) MAX_VISSPRITES ≡ true = rw sprites_count (grind (arith, nat_tests)) in
     record {
       count = (let more_things = length_push things thing in let more_entries = length_push entries e in
-        omega (arith, counts_same, more_things, more_entries, room));
+          omega (arith, counts_same, more_things, more_entries, room));
       sprites = ap (λ (b : Bool). cond b (list.sprites ++ s ∷ []) list.sprites) has_room
           ∙ ap (λ (ss : List ListedSprite). ss ++ s ∷ []) h.sprites
           ∙ ap (λ (t : ListedSprite). listed_sprites entries things ++ t ∷ []) is

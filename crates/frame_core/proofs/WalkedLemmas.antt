@@ -215,7 +215,7 @@ walked-leaf v bytes scene most events n sector floor ceiling old new enters h =
       openings = ap length enters.openings;
       limits = enters.limits;
       within = enters.limit walls planes_before h.built
-        ∙ ap (step_over (limits_of old.walls old.planes) planes_before (length old.walls.openings)) leaf_step_is;
+          ∙ ap (step_over (limits_of old.walls old.planes) planes_before (length old.walls.openings)) leaf_step_is;
       planes = planes_inside;
     })
     (record {

@@ -48,7 +48,7 @@ words_more words palette n h below i l =
       | inr s ↦ let index_same : n ≡ i = omega (arith, s, l) in
           ap (word_colour (with_word words (4 * n) red green blue)) (sym index_same)
           ∙ three _ _ _ _ _ _ (first_byte words (4 * n) red green blue (omega arith)) (second_byte words (4 * n) red green blue (omega arith))
-            (third_byte words (4 * n) red green blue h)
+          (third_byte words (4 * n) red green blue h)
           ∙ ap (colour palette) index_same
     ]
 

@@ -328,7 +328,11 @@ module _ (v : ViewValue) (scene : Scene) (events : List Event) where
   note_at k d h =
       let drawseg_found = drawseg_at v scene (walls_of v scene events) 0 (walls_of v scene events) k d h in
       let fragment_is = fragment_at k drawseg_found.0 drawseg_found.1 in record {
-      fragment = fragment_is.fragment; is = fragment_is.is; first_is = fragment_is.first_is ∙ drawseg_found.2; last_is = fragment_is.last_is ∙ drawseg_found.3 }
+        fragment = fragment_is.fragment;
+        is = fragment_is.is;
+        first_is = fragment_is.first_is ∙ drawseg_found.2;
+        last_is = fragment_is.last_is ∙ drawseg_found.3;
+      }
 
   plane_at : (n : ℕ) (p : Plane) → slice_get (event_planes v scene events) n ≡ Some p → IsPlaneAt (event_list v scene events) n p
   unfolding event_list listed_plane

@@ -47,9 +47,11 @@ module _ (bytes : ℕ → List ℕ) (lumps : List Lump) (base : LevelBase) (face
   over_parts scene e =
       let middles_checked = from_below Scene (checked placed (bad_middle (texture_by prepared) base.level.segs faces.sides)) in
       let own_book = and_then-ok (from_below Sprite (book_in bytes lumps placed)) (λ book. and_then middles_checked (λ done. Ok (made_scene base faces placed prepared book))) scene e in
-      let checks_passed = and_then-ok middles_checked (λ done. Ok (made_scene base faces placed prepared own_book.0)) scene own_book.2 in
-      (own_book.0, from_below-ok Sprite (book_in bytes lumps placed) own_book.0 own_book.1,
-      let scene_same : made_scene base faces placed prepared own_book.0 ≡ scene = cc in scene_same)
+      let checks_passed = and_then-ok middles_checked (λ done. Ok (made_scene base faces placed prepared own_book.0)) scene own_book.2 in (
+        own_book.0,
+        from_below-ok Sprite (book_in bytes lumps placed) own_book.0 own_book.1,
+        let scene_same : made_scene base faces placed prepared own_book.0 ≡ scene = cc in scene_same,
+      )
 
 module _ (bytes : ℕ → List ℕ) (lumps : List Lump) (lines : List ThingLine) (name : List ℕ) (skill : ℕ) where
   -- the base was refused

@@ -77,9 +77,9 @@ module _ (prepare : ℕ → Texture → Result PreparedTexture TexRefusal) (want
   prepared_in : (n k : ℕ) (ts : List Texture) (out : List (Option PreparedTexture)) (t : PreparedTexture) → prepared_from prepare wanted n ts ≡ Ok out → prepared_at out k ≡ Some t → IsPreparedOf prepare ts t
   unfolding prepared_from
   prepared_in n k [] out t e is = let out_is_empty : [] ≡ out = cc in
-    absurd (nothing k (ap (λ (xs : List (Option PreparedTexture)). prepared_at xs k) out_is_empty ∙ is)) where
-    nothing : (k : ℕ) → ◌≡◌ {A = Option PreparedTexture} None (Some t) → ⊥
-    nothing k e = cc
+      absurd (nothing k (ap (λ (xs : List (Option PreparedTexture)). prepared_at xs k) out_is_empty ∙ is)) where
+        nothing : (k : ℕ) → ◌≡◌ {A = Option PreparedTexture} None (Some t) → ⊥
+        nothing k e = cc
   prepared_in n k (x ∷ ts) out t e is =
       let texture_prepared = and_then-ok (prepared_if (wanted n) (prepare n x)) _ out e in
       let others_prepared = and_then-ok (prepared_from prepare wanted (suc n) ts) _ out texture_prepared.2 in

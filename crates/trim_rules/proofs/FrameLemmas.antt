@@ -15,9 +15,11 @@ each-moved f g move P one (x ∷ xs) ys e all =
     let list_is : first_made.0 ∷ rest_made.0 ≡ ys = ok_of (first_made.0 ∷ rest_made.0) ys rest_made.2 in
     let head_and_rest_hold : AllByRecursion P (first_made.0 ∷ rest_made.0) = subst (AllByRecursion P) (sym list_is) all in
     let first_moved = one x first_made.0 first_made.1 head_and_rest_hold.0 in
-    let rest_moved = each-moved f g move P one xs rest_made.0 rest_made.1 head_and_rest_hold.1 in
-    (first_moved.0 ∷ rest_moved.0, rw (first_moved.1, rest_moved.1) refl,
-    ap (λ y. y ∷ map move rest_moved.0) first_moved.2 ∙ ap (λ zs. first_made.0 ∷ zs) rest_moved.2 ∙ list_is)
+    let rest_moved = each-moved f g move P one xs rest_made.0 rest_made.1 head_and_rest_hold.1 in (
+      first_moved.0 ∷ rest_moved.0,
+      rw (first_moved.1, rest_moved.1) refl,
+      ap (λ y. y ∷ map move rest_moved.0) first_moved.2 ∙ ap (λ zs. first_made.0 ∷ zs) rest_moved.2 ∙ list_is,
+    )
 
 -- What holds of what f gives tells of the items.
 pub each-back : {X Y R : Type 0} (f : X → Result Y R) (P : X → Type 0) (Q : Y → Type 0) → ((x : X) (y : Y) → f x ≡ Ok y → Q y → P x)

@@ -83,9 +83,11 @@ module _ (σ : ℕ → ℕ) (bytes : ℕ → List ℕ) (last other : List ℕ �
   more_step (Some p) a' (Some rest) b' ps one more e all =
       let list_is : p ∷ rest ≡ ps = some-injective (p ∷ rest) ps e in
       let head_and_rest_hold : AllByRecursion (PatchIs Q) (p ∷ rest) = subst (AllByRecursion (PatchIs Q)) (sym list_is) all in
-      let moved_patch = one p refl head_and_rest_hold.0 in let rest_moved = more rest refl head_and_rest_hold.1 in
-      (moved_patch.0 ∷ rest_moved.0, rw (moved_patch.1, rest_moved.1) refl,
-      ap (λ q. q ∷ map (moved σ) rest_moved.0) moved_patch.2 ∙ ap (λ qs. p ∷ qs) rest_moved.2 ∙ list_is)
+      let moved_patch = one p refl head_and_rest_hold.0 in let rest_moved = more rest refl head_and_rest_hold.1 in (
+        moved_patch.0 ∷ rest_moved.0,
+        rw (moved_patch.1, rest_moved.1) refl,
+        ap (λ q. q ∷ map (moved σ) rest_moved.0) moved_patch.2 ∙ ap (λ qs. p ∷ qs) rest_moved.2 ∙ list_is,
+      )
 
   placed-moved : (names : List (List ℕ)) (entries : List TextureEntry) (ps : List PlacedPatch) → placed_patches last bytes names entries ≡ Some ps
       → AllByRecursion (PatchIs Q) ps → (qs : List PlacedPatch) × (placed_patches other (λ n. bytes (σ n)) names entries ≡ Some qs) × (map (moved σ) qs ≡ ps)

@@ -98,7 +98,8 @@ whole_note v walls k w before after place e s d =
     let saved_length = length-saved_by v walls k w in
     let top_place : ℕ = place + room_if numbers.masked w in let bottom_place : ℕ = place + room_if numbers.masked w + room_if (saves_top numbers) w in
     record {
-      ordered = d.ordered; within = d.within;
+      ordered = d.ordered;
+      within = d.within;
       scale = λ x l h. drawn_scale v w (x - w.first) d (omega arith);
       columns = listed_at numbers.masked openings (note_at v w place) place 0 (λ t. let room_is = room_true numbers.masked w t in omega arith);
       top_list = clip_among numbers.top_is_constant (saves_top numbers) (pos v.shape.height) openings (note_at v w place) top_place (λ t. let room_is = room_true (saves_top numbers) w t in omega arith);

@@ -89,9 +89,14 @@ is-step_down p n i h true q e =
     let last_is_index : n ≡ i = cc in (omega arith, ap p (sym last_is_index) ∙ q, λ k l m. absurd (omega arith))
 is-step_down p n i h false q e =
     let greatest_below = h e in
-    let index_below : i < n = greatest_below.0 in
-    (omega arith, greatest_below.1, λ k a m. elim (cases_lt k n) [ inl s ↦ greatest_below.2 k a s
-    | inr s ↦ let index_is_last : k ≡ n = omega arith in ap p index_is_last ∙ q ])
+    let index_below : i < n = greatest_below.0 in (
+      omega arith,
+      greatest_below.1,
+      λ k a m. elim (cases_lt k n) [
+        | inl s ↦ greatest_below.2 k a s
+        | inr s ↦ let index_is_last : k ≡ n = omega arith in ap p index_is_last ∙ q
+      ],
+    )
 
 -- what a greatest number is: it passes, and none of those above it
 pub greatest-is : (p : ℕ → Bool) (n i : ℕ) → greatest p n ≡ Some i → (i < n) × (p i ≡ true) × ((k : ℕ) → i < k → k < n → p k ≡ false)

@@ -102,7 +102,7 @@ compared bytes lumps few art name parts plan lines skill level flats moved is sa
       one = flats-one-to-one lumps art name parts plan bytes sectors few source;
       has_sky = inl refl;
       sectors = scene-sectors (map_bytes (λ k. bytes (source_of trimmed_parts k)) moved.base.label) moved base_is_made.level
-        (flats-count trimmed sectors moved.faces.flats flats_found);
+          (flats-count trimmed sectors moved.faces.flats flats_found);
       flats = surfaces-placed (length (flat_lumps lumps art.flats)) sectors moved.faces.flats (flats-placed lumps art name parts plan bytes sectors few source moved.faces.flats flats_found);
     }
 

@@ -54,7 +54,7 @@ draw_floors-requires g c =
       drawable = drawable-at tools_now.dir.now tools_later.dir.now tools_now.scene.now.scene tools_later.scene.now.scene
           tools_later.cache.now same_after_walls.1.1 same_after_walls.1.0 (walls_drawable g walls_passed);
       placed = subst (λ (w : ViewValue). IsPlacedIn w (g.C.Canvas.view c.draw_walls.new.tools.canvas.now))
-        (sym same_after_walls.0) (walls_placed g walls_passed);
+          (sym same_after_walls.0) (walls_placed g walls_passed);
       walked = walked-at tools_now.view.now tools_later.view.now tools_now.scene.now.scene tools_later.scene.now.scene
           c.draw_walls.new.bench same_after_walls.0 same_after_walls.1.0 c.in_ok-draw_walls.ensures.walked;
     }

@@ -50,7 +50,7 @@ loop-x-preserved g c =
       marked = marks-more note c.middle_of-middle.result.place c.args.first c.loop-x.x _ _ _ masked c.requires.begins c.loop-x.auto.x (omega arith) invariant.marked painted.marked painted.others;
       paints = paints-same _ (λ contents q is. one_more scene.view.now (scene_art contents scene) c.args.hands.now.marks.now c.loop-x.hands.marks.now note c.middle_of-middle.result.place c.args.first c.loop-x.x c.args.number c.middle_of-middle.result.number (scene_drawseg scene note)
           masked c.requires.begins c.loop-x.auto.x (omega arith) invariant.marked c.middle_of-middle.ensures.number)
-            (paints-then invariant.paints painted.paints);
+          (paints-then invariant.paints painted.paints);
     }
 
 pub returns-clause-paints : goal.returns-clause-paints

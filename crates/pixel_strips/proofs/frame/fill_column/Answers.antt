@@ -16,13 +16,13 @@ loop-k-preserved c =
 -- the strip that is cut out holds the two words that were given
 pub returns : goal.returns
 returns c =
-    let done : ℕ = c.args.count - 4 in
+    let rows_before : ℕ = c.args.count - 4 in
     let cut_fraction : ℤ = to_z w32 (of_z w32 c.args.fraction) in
     let cut_step : ℤ = to_z w32 (of_z w32 c.args.step) in
-    let first = texel_place_word cut_fraction _ (search rules) c.texel_place-first.ensures in
+    let first_place = texel_place_word cut_fraction _ (search rules) c.texel_place-first.ensures in
     let step = texel_place_word cut_step _ (search rules) c.texel_place-step.ensures in
     subst₂
     (λ (fraction step : ℤ). ColumnFilled c.args.texels.now c.args.shades.now fraction step c.args.start c.args.count c.args.cells.now c.fill_four-2.new.cells)
     (to_z-of_z w32 c.args.fraction c.ranges.fraction) (to_z-of_z w32 c.args.step c.ranges.step)
-    (fills_to (omega arith) (omega arith) (c.fill_four-2.ensures cut_fraction c.args.start done (omega arith) step
-    (c.places_after-last.ensures cut_fraction cut_step first step)) c.loop-k.invariant.filled)
+    (fills_to (omega arith) (omega arith) (c.fill_four-2.ensures cut_fraction c.args.start rows_before (omega arith) step
+    (c.places_after-last.ensures cut_fraction cut_step first_place step)) c.loop-k.invariant.filled)

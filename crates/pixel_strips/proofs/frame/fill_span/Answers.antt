@@ -16,9 +16,9 @@ loop-k-preserved c =
 pub returns : goal.returns
 returns c =
     let cut = c.args.cut.now in
-    let done : ℕ = c.args.count - 4 in
+    let cells_before : ℕ = c.args.count - 4 in
     let first_is = span_place_begun cut.spans cut.x_fraction cut.y_fraction cut.x_step cut.y_step _ (search rules) (search rules) c.first_place-first.ensures in
     let step = first_place_words cut.spans cut.x_step cut.y_step _ (search rules) (search rules) c.first_place-step.ensures in
-    fills_to (omega arith) (omega arith) (c.fill_four_across-2.ensures cut.x_fraction cut.y_fraction c.args.start done (omega arith) (omega arith) step
-    (span_place-to cut.spans cut.x_fraction cut.y_fraction cut.x_step cut.y_step (0 + done) done _ (omega arith)
+    fills_to (omega arith) (omega arith) (c.fill_four_across-2.ensures cut.x_fraction cut.y_fraction c.args.start cells_before (omega arith) (omega arith) step
+    (span_place-to cut.spans cut.x_fraction cut.y_fraction cut.x_step cut.y_step (0 + cells_before) cells_before _ (omega arith)
     (c.place_after-last.ensures cut.spans cut.x_fraction cut.y_fraction cut.x_step cut.y_step 0 (omega arith) first_is step))) c.loop-k.invariant.filled

@@ -52,7 +52,7 @@ loop-x-preserved g c =
           elim (cases_Bool (is_in rows_before y)) [
             | inl t ↦ c.change_rows.ensures.kept y t ∙ invariant.starts y t ∙ sym (start-kept plane y this_x next refl plane_holds_here)
             | inr f ↦ c.change_rows.ensures.opened y h f
-              ∙ sym (start-kept plane y this_x next refl plane_holds_here ∙ start-fresh plane y this_x (sym (invariant.held y) ∙ f))
+                ∙ sym (start-kept plane y this_x next refl plane_holds_here ∙ start-fresh plane y this_x (sym (invariant.held y) ∙ f))
           ];
       held = λ y. holding y ∙ sym (held_before-more plane y this_x next refl);
       ordered = c.rows_of-now.ensures.ordered;

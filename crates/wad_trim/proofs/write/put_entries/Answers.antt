@@ -32,8 +32,12 @@ pub loop-part-preserved : goal.loop-part-preserved
 loop-part-preserved g c =
     let lumps = c.args.dir.now.lumps in let all_parts = c.args.parts.now in let part_no = c.loop-part.part-index in
     record {
-      place = omega (arith, c.part_size-size.ensures,
-          size-more lumps all_parts part_no c.part-item.result (omega arith) c.part-item.is, c.loop-part.invariant.place);
+      place = omega (
+        arith,
+        c.part_size-size.ensures,
+        size-more lumps all_parts part_no c.part-item.result (omega arith) c.part-item.is,
+        c.loop-part.invariant.place,
+      );
       written = writes_more _ c.loop-part.invariant.written tt refl c.put_entry.ensures _ c.in_ok-put_entry.was
           (entry-more lumps all_parts part_no c.part-item.result (omega arith) c.part-item.is c.loop-part.invariant.place
           c.part_size-size.ensures c.part_name.ensures);

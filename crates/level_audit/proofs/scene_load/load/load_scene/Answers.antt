@@ -79,7 +79,7 @@ returns-in_err-scene g c =
           let read = files_tell.taken_of files contents holds named in
           call_order _ _ (KeepsOrder (loaded_items expected) c.in_ok-cache.cache c.audit_level.new.cache (g.S.Shelf.view c.read_files.new.shelf).taken (g.S.Shelf.view c.audit_level.new.shelf).taken) c.map_err.result _ result
           (later.order _ expected wads_are_held (audited_of level _ files _ expected are loads) cache_ordered) scene_failed result_is_error
-            (λ k. omega (arith, read, lumps_taken expected k));
+          (λ k. omega (arith, read, lumps_taken expected k));
       follows = follows_then files_tell.follows later.follows;
       causes = causes_after c.map_err.result _ result files_tell.follows.faults later.causes scene_failed result_is_error;
     }

@@ -26,8 +26,11 @@ pub returns-clause-run : goal.returns-clause-run
 returns-clause-run c =
     let fields = c.self.inside in
     let items = fields.planes.items in
-    let plane_in_count : c.args.plane.0 < fields.count = omega (arith, ap (λ (s : PlanesView). length s.planes) c.self.view_is,
-    length-take fields.count items) in let with_room : ℕ → List Plane → PlanesView = λ room planes. record { planes = planes; room = room } in
+    let plane_in_count : c.args.plane.0 < fields.count = omega (
+      arith,
+      ap (λ (s : PlanesView). length s.planes) c.self.view_is,
+      length-take fields.count items,
+    ) in let with_room : ℕ → List Plane → PlanesView = λ room planes. record { planes = planes; room = room } in
     ap (λ (n : ℕ). with_room n (take fields.count (set items c.args.plane.0 c.mark.new.self))) (length-set items c.args.plane.0 c.mark.new.self)
     ∙ ap (with_room (length items)) (mark-taken items fields.count c.args.plane.0 c.args.x (c.args.top, c.args.bottom) c.index_mut.result.now c.mark.new.self plane_in_count c.self.invariant.0 c.index_mut.ensures.value c.mark.ensures)
     ∙ ap (λ (s : PlanesView). with_planes (mark s.planes c.args.plane.0 c.args.x (c.args.top, c.args.bottom)) s) c.self.view_is

@@ -20,7 +20,7 @@ returns-in_err-extend-clause-limit c =
     limit-passed_on c.from_residual.result c.in_err-extend.field-0.0 c.from_residual.ensures.0 c.from_residual.ensures.1
     ∙ ap limit_of_fault c.in_err-extend.ensures.fault
     ∙ ap (λ (n : ℕ). Some (openings_count n)) end_is ∙ sym (over_room-passed openings_count room _ None
-      (let end_past_room : room < c.save_places-places.result.end = c.in_err-extend.ensures.full.0 refl in omega arith))
+    (let end_past_room : room < c.save_places-places.result.end = c.in_err-extend.ensures.full.0 refl in omega arith))
 
 pub returns-clause-taken : goal.returns-clause-taken
 returns-clause-taken c = record {
