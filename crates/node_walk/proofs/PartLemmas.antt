@@ -2,7 +2,7 @@
 use Rattle.word_rules.proofs.Common.{[], ap, append-nil, append_assoc, arith, Bool, cases_eq, cond, false, false≢true, inl, inr, List, map, None, Option, refl, replicate, Some, suc, sym, true, zero, ℕ, ◌++◌, ◌+◌, ◌-◌, ◌<◌, ◌==◌, ◌∙◌, ◌∷◌, ◌≡◌, ◌≤◌, ◌⊎◌}
 use Rattle.node_walk.specs.Rules.{Behind, Box4, Child, ColumnRange, Columns, Event, FragmentEvent, Leaf, LeafEvent, LevelLists, Node, Outside, Seg, Surface, ViewValue, WalkState, at_columns, at_far, at_leaf, at_leaf_of, at_node, at_range, at_seg, at_seg_of, at_segs, back_of, box_on, box_passes, child_on, cover, covers, enters, eye_side, far_box, far_child, fragments, is_pass, is_solid, leaf_at, middle_of, near_child, node_at, seg_at, seg_range, shows, surface_at, walk_child, walk_start}
 use Rattle.level_rules.specs.declared.Child.TheVariants.{Node as NodeChild, Leaf as LeafChild}
-use Rattle.level_rules.proofs.walk.WalkLemmas.{walk-node, at_segs-more}
+use Rattle.level_rules.proofs.walk.WalkLemmas.{walk-leaf, walk-node, at_segs-more}
 use Rattle.node_walk.specs.Lists.{part_start}
 
 -- a state behind some events
@@ -82,7 +82,7 @@ part_of : (w : WalkState) → w ≡ behind w.events (part_start w.covered)
 part_of w = ap (λ (es : List Event). record { events = es; covered = w.covered }) (sym (append-nil w.events))
 
 -- the part of a leaf: the leaf, and then its segs
-pub leaf_part : (v : ViewValue) (level : LevelLists) (n : ℕ) (leaf : Leaf) (front : Surface) (columns : List Bool) → leaf ≡ leaf_at level n → front ≡ surface_at level leaf.sector →
+leaf_part : (v : ViewValue) (level : LevelLists) (n : ℕ) (leaf : Leaf) (front : Surface) (columns : List Bool) → leaf ≡ leaf_at level n → front ≡ surface_at level leaf.sector →
     at_leaf v level n (part_start columns) ≡ behind (LeafEvent n ∷ []) (at_segs v level front leaf.first leaf.count (part_start columns))
 unfolding at_leaf at_leaf_of enters
 leaf_part v level n leaf front columns e f =
@@ -91,6 +91,13 @@ leaf_part v level n leaf front columns e f =
     ap (λ (l : Leaf). at_segs v level (surface_at level l.sector) l.first l.count (behind (LeafEvent n ∷ []) (part_start columns))) (sym e)
     ∙ ap (λ (s : Surface). at_segs v level s leaf.first leaf.count (behind (LeafEvent n ∷ []) (part_start columns))) (sym f)
     ∙ leaf_first
+
+-- the part of a child that is a leaf
+pub child_part : (v : ViewValue) (level : LevelLists) (depth : ℕ) (child : Child) (n : ℕ) (leaf : Leaf) (front : Surface) (columns : List Bool) →
+    child ≡ LeafChild n → leaf ≡ leaf_at level n → front ≡ surface_at level leaf.sector →
+    walk_child v level depth child (part_start columns) ≡ behind (LeafEvent n ∷ []) (at_segs v level front leaf.first leaf.count (part_start columns))
+child_part v level depth child n leaf front columns is e f =
+    ap (λ (d : Child). walk_child v level depth d (part_start columns)) is ∙ walk-leaf v level depth n (part_start columns) ∙ leaf_part v level n leaf front columns e f
 
 -- the part of so many segs, and of one more
 pub segs_part : (v : ViewValue) (level : LevelLists) (front : Surface) (first k : ℕ) (columns now : List Bool) → now ≡ (at_segs v level front first k (part_start columns)).covered →

@@ -1,6 +1,6 @@
 // The walk of the nodes under the root. Rules: `level_rules/walk`, Walk.
 ghost use Rattle.std.specs.Prelude.{◌≡◌, ℕ, ◌<◌, ◌+◌, false, length, replicate, OnOk};
-ghost use Rattle.level_rules.specs.walk.Walk.{walk_start, at_leaf, walk_child, view_events};
+ghost use Rattle.level_rules.specs.walk.Walk.{walk_start, walk_child, view_events};
 ghost use Rattle.node_walk.specs.Lists.{walk_lists, part_start, IsThere};
 ghost use Rattle.node_walk.specs.Visits.{Visits, TakesAll, Walks};
 
@@ -51,8 +51,9 @@ pub fn walk<V: Visitor>(
     walk_child(&lists, view, lists.root(), MAX_DEPTH, cover, visitor)
 }
 
-// Walks a child under which nodes are at most `depth` deep: of a node the near child, and the far
-// one only if some column of its box is still open then.
+// Walks a child under which nodes are at most `depth` deep: enters a leaf and takes its segs from
+// first to last; of a node the near child, and the far one only if some column of its box is still
+// open then.
 fn walk_child<V: Visitor>(
     lists: &Lists<'_>,
     view: &View<'_>,
@@ -71,7 +72,15 @@ fn walk_child<V: Visitor>(
     ensures width { length cover.new ≡ length cover.old }
 {
     match child {
-        Child::Leaf(n) => visit_leaf(lists, view, n, cover, visitor),
+        Child::Leaf(n) => {
+            visitor.leaf(n)?;
+            let leaf = lists.leaf(n);
+            let front = lists.surface(leaf.sector);
+            for k in 0..leaf.count {
+                visit_seg(lists, view, front, leaf.first + k, cover, visitor)?;
+            }
+            Ok(())
+        }
         Child::Node(n) => {
             if depth == 0 {
                 return Ok(());
@@ -86,30 +95,4 @@ fn walk_child<V: Visitor>(
             walk_child(lists, view, child_on(node, far), depth - 1, cover, visitor)
         }
     }
-}
-
-// Enters a leaf, and takes its segs from first to last.
-fn visit_leaf<V: Visitor>(
-    lists: &Lists<'_>,
-    view: &View<'_>,
-    n: u16,
-    cover: &mut Cover,
-    visitor: &mut V,
-) -> Result<(), V::Stop>
-    requires leaf { n < length lists.now.leaves }
-    requires width { length cover.old ≡ view.now.shape.width }
-    requires takes { TakesAll (V.takes visitor.old) (length lists.now.leaves)
-        (length lists.now.segs) view.now.shape.width }
-    ensures walks { Walks (V.takes visitor.old) (V.takes visitor.new) (V.stands visitor.old)
-        (V.stands visitor.new) (V.stopped visitor.new)
-        (at_leaf view.now lists.now n (part_start cover.old)) cover.new result }
-    ensures width { length cover.new ≡ length cover.old }
-{
-    visitor.leaf(n)?;
-    let leaf = lists.leaf(n);
-    let front = lists.surface(leaf.sector);
-    for k in 0..leaf.count {
-        visit_seg(lists, view, front, leaf.first + k, cover, visitor)?;
-    }
-    Ok(())
 }
