@@ -1,5 +1,6 @@
 -- The fragments that the notes of a view stand for are those of its picture, as far as the masked pass reads them.
-use Rattle.picture_rules.proofs.Common.{[], AllByRecursion, AllZip, ap, append_assoc, arith, bit_and, Bool, cond, false, from_bool, get_or, is_some, length, length-append, List, map, None, not, Option, option_map, pos, refl, slice_index_or, Some, subst, suc, sym, true, zero, ℕ, ℤ, ◌&&◌, ◌*◌, ◌++◌, ◌+◌, ◌-◌, ◌==◌, ◌||◌, ◌∙◌, ◌∷◌, ◌≡◌, get_or-map}
+use Rattle.picture_rules.proofs.Common.{[], AllByRecursion, AllZip, ap, append_assoc, arith, bit_and, Bool, cond, false, from_bool, get_or, is_some, length, length-append, List, map, None, not, Option, option_map, pos, refl, slice_index_or, Some, subst, suc, sym, true, zero, ℕ, ℤ, ◌&&◌, ◌*◌, ◌++◌, ◌+◌, ◌-◌, ◌==◌, ◌||◌, ◌∙◌, ◌∷◌, ◌≡◌}
+use Rattle.std.proofs.Math.ListN.{get_or-map}
 use Rattle.frame_core.specs.Rules.{Art, DrawAlike, Event, FragmentNote, FragmentNumbers, LeafFragment, SIL_BOTTOM, SIL_TOP, SceneValue, Sector, SectorFlats, Seg, SideTextures, SpriteEntry, Surface, ViewValue, Wall, WallFacts, WallTexture, back_of, drawseg_of, drawsegs, drawsegs_from, facts_of, fragment_facts, fragment_wall, masked_dots, masked_mid, middle_hangs, middle_stands, no_surface, no_textures, note_at, notes_from, openings_list, own_front, own_mid, place_if, room_if, saved_by, saved_from, saves_bottom, saves_top, seg_at, seg_light, side_at, silhouette_of, surface_at, surface_of, surfaces_of, texture_at, textures_at, view_drawsegs, view_notes, wall_of, wall_texture, walls_of}
 use Rattle.picture_rules.proofs.wall.NoteLemmas.{length-saved_by, note-bottom_clip, note-middle_column, note-top_clip}
 use Rattle.sound_scene.specs.{Sound.middles_of, Sound.textures_view, Pictures.scene_of}

@@ -1,5 +1,6 @@
 -- The seg of each note of a view, with its side and its sectors, is among the lists of its scene, and the middle texture of a masked one may be drawn.
-use Rattle.picture_rules.proofs.Common.{[], All, All-from_recursion, AllByRecursion, arith, false, ForSome, get_or, IfSome, inl, inr, IsSome, length, length-map, List, map, None, not, Option, option_map, recursion_from_All, refl, Some, subst, suc, sym, take, true, zero, ℕ, ◌+◌, ◌<◌, ◌==◌, ◌∷◌, ◌≡◌, ◌≤◌, ◌⊎◌, ℤ, get_or-map}
+use Rattle.picture_rules.proofs.Common.{[], All, All-from_recursion, AllByRecursion, arith, false, ForSome, get_or, IfSome, inl, inr, IsSome, length, length-map, List, map, None, not, Option, option_map, recursion_from_All, refl, Some, subst, suc, sym, take, true, zero, ℕ, ◌+◌, ◌<◌, ◌==◌, ◌∷◌, ◌≡◌, ◌≤◌, ◌⊎◌, ℤ}
+use Rattle.std.proofs.Math.ListN.{get_or-map}
 use Rattle.frame_core.specs.Rules.{Event, FragmentEvent, FragmentNote, Heap, IsSound, LeafEvent, LeafFragment, Lump, MAX_DRAWSEGS, SceneValue, SideTextures, Surface, ViewValue, Wall, WallFacts, back_of, drawsegs, facts_of, fragment_facts, fragment_numbers, fragment_wall, is_masked, leaf_fragments, no_seg, no_textures, note_at, notes_from, numbers_by, place_if, room_if, saves_bottom, saves_top, seg_at, surface_at, textures_at, three_textures, view_notes, wall_of, wall_texture, walls_of}
 use Rattle.texture_build.specs.{Draws.CanDraw, Views.IsPrepared, Views.prepared_texture}
 use Rattle.sound_scene.specs.Sound.{middles_of, textures_view}

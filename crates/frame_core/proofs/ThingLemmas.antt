@@ -1,5 +1,6 @@
 -- Laws of `with_things`: one thing more, and a thing of a scene.
-use Rattle.picture_rules.proofs.Common.{[], All, ap, arith, at_drop_all, at_drop_more, Bool, cond, drop, false, find, get_or, get_or-append-add, get_or_append_left, get_or_from_slice_get, length, length-append, length-map, List, map, None, Option, option_and_then, option_map, pos, refl, slice_get, slice_get_within, Some, subst, sym, true, ℕ, ◌++◌, ◌+◌, ◌<◌, ◌∙◌, ◌∷◌, ◌≡◌, ◌≤◌, get_or-map}
+use Rattle.picture_rules.proofs.Common.{[], All, ap, arith, at_drop_all, at_drop_more, Bool, cond, drop, false, find, get_or, get_or-append-add, get_or_append_left, get_or_from_slice_get, length, length-append, length-map, List, map, None, Option, option_and_then, option_map, pos, refl, slice_get, slice_get_within, Some, subst, sym, true, ℕ, ◌++◌, ◌+◌, ◌<◌, ◌∙◌, ◌∷◌, ◌≡◌, ◌≤◌}
+use Rattle.std.proofs.Math.ListN.{get_or-map}
 use Rattle.frame_core.specs.Rules.{Frame, Placed, PlacedThing, Scene, SceneValue, Seen, Shape, Shape5, SpriteEntry, ViewValue, add_entry, book_lumps, is_frame, joined_lists, light_number, picked, placed_of, project, shape_lumps, surface_at, with_seen, with_shape, with_thing, with_things}
 use Rattle.picture_rules.proofs.Laws.{joined_lists-cons}
 use Rattle.sound_scene.specs.Pictures.{drawn_shape, lists_of, scene_of}

@@ -1,5 +1,6 @@
 -- The last mention of a list, and an index of mentions as it grows.
-use Rattle.art_rules.proofs.Common.{[], All, All-filter, All-from_get_or, All-get_or, ap, append-nil, arith, Bool, bytes_eq, cases_eq, cases_lt, cond, eq-eqb, Equal, false, get, get_or, get_or-range_with_len, Greater, inl, inr, is_at, is_eq, is_eq-slice_cmp, IsEmpty, length, length-map, length-range_with_len, Less, List, lookup, map, nat_cmp, nat_cmp_is, ne_eqb, None, Option, Ordering, ordering_then, range_with_len, refl, slice_cmp, Some, subst, sym, take, take-length, take_more, true, Updates, ℕ, ◌&&◌, ◌++◌, ◌+◌, ◌<◌, ◌==◌, ◌∙◌, ◌∷◌, ◌≡◌, get_or-map}
+use Rattle.art_rules.proofs.Common.{[], All, All-filter, All-from_get_or, All-get_or, ap, append-nil, arith, Bool, bytes_eq, cases_eq, cases_lt, cond, eq-eqb, Equal, false, get, get_or, get_or-range_with_len, Greater, inl, inr, is_at, is_eq, is_eq-slice_cmp, IsEmpty, length, length-map, length-range_with_len, Less, List, lookup, map, nat_cmp, nat_cmp_is, ne_eqb, None, Option, Ordering, ordering_then, range_with_len, refl, slice_cmp, Some, subst, sym, take, take-length, take_more, true, Updates, ℕ, ◌&&◌, ◌++◌, ◌+◌, ◌<◌, ◌==◌, ◌∙◌, ◌∷◌, ◌≡◌}
+use Rattle.std.proofs.Math.ListN.{get_or-map}
 use Rattle.sprite_book.specs.Rules.{Lump, LumpNo, Mention, Sprites, is_member, is_of_frame, is_of_rotation, is_of_sprite, joined_lists, last_that, lump_at, lump_mentions, members, mentions, name_mentions, or_else}
 use Rattle.art_rules.proofs.Laws.{joined_lists-append}
 use Rattle.sprite_book.specs.declared.mentions.Mentions.{Mentions}

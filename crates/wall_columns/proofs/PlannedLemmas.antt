@@ -1,5 +1,6 @@
 -- Laws of the strips of a plan.
-use Rattle.picture_rules.proofs.Common.{[], All, AllByRecursion, ap, arith, int_lt, ints, List, of_z, recursion_from_All, refl, Result, SFits, to_z, true, w32, ℕ, ℤ, ◌<ℤ◌, ◌∙◌, ◌≡◌, to_z-of_z}
+use Rattle.picture_rules.proofs.Common.{[], All, AllByRecursion, ap, arith, int_lt, ints, List, of_z, recursion_from_All, refl, Result, SFits, to_z, true, w32, ℕ, ℤ, ◌<ℤ◌, ◌∙◌, ◌≡◌}
+use Rattle.std.proofs.Common.{to_z-of_z}
 use Rattle.wall_columns.specs.Rules.{Art, Dot, Edges, FragmentNumbers, Lump, Painter, RowRange, ViewValue, WallFacts, WallStrip, column_dots, inverse_word, joined_lists, rows_between, scale_map, strip_dots, texture_column, wall_colour}
 use Rattle.texture_build.specs.{Zones.Heap, Views.TexturesView, Draws.CanDraw}
 use Rattle.texture_build.specs.Paints.{PaintState, PaintTools, painted_art}
