@@ -34,7 +34,7 @@ next-shorter cfg s fields field (c ∷ rest) p e =
           let read_is : ◌≡◌ {A = Read} (fields_after (step cfg s c).1 fields field, (step cfg s c).0, rest) p = cc in
           let rest_length_same : length rest ≡ length p.2 = ap (λ (q : Read). length q.2) read_is in
           omega arith
-      | inr h ↦ let less = next-shorter cfg (step cfg s c).0 (fields_after (step cfg s c).1 fields field) (field_after (step cfg s c).1 c field) rest p h in omega arith
+      | inr h ↦ let rest_shorter = next-shorter cfg (step cfg s c).0 (fields_after (step cfg s c).1 fields field) (field_after (step cfg s c).1 c field) rest p h in omega arith
     ]
 
 next-fewer : (cfg : Config) (s : State) (fields : List (List ℕ)) (field : List ℕ) (c : ℕ) (rest : List ℕ) (p : Read) → next_record cfg s fields field (c ∷ rest) ≡ Some p → length p.2 ≤ length rest
@@ -78,7 +78,7 @@ reached-take cfg s s2 [] ys (r ∷ rs) (suc m) h l =
     let no_more_rows = reached-last cfg s s2 ys r rs h in
     rw (h.1, no_more_rows) (ap (λ (t : List (List ℕ)). t ∷ []) (sym h.2))
 reached-take cfg s s2 (c ∷ xs) ys (r ∷ rs) (suc m) h l =
-    let fewer = next-fewer cfg s [] [] c xs h.0 h.1 in
+    let bytes_fewer = next-fewer cfg s [] [] c xs h.0 h.1 in
     let rest_reached = reached-take cfg h.0.1 s2 h.0.2 ys rs m h.3 (omega arith) in
     rw (h.1, rest_reached) (ap (λ (t : List (List ℕ)). t ∷ rs) (sym h.2))
 
@@ -93,10 +93,10 @@ reached-end cfg s s2 xs ys (r ∷ rs) zero (suc n) h e l k = absurd (omega arith
 reached-end cfg s s2 [] ys (r ∷ rs) (suc m) (suc n) h e l k =
     let no_more_rows = reached-last cfg s s2 ys r rs h in
     let ends_empty = next-at_end cfg s [] [] h.0 h.1 in
-    let after = no-more cfg m n in
-    rw (h.1, ends_empty.0, ends_empty.1, after, no_more_rows) (ap (λ (t : List (List ℕ)). t ∷ []) (sym h.2))
+    let no_record_behind = no-more cfg m n in
+    rw (h.1, ends_empty.0, ends_empty.1, no_record_behind, no_more_rows) (ap (λ (t : List (List ℕ)). t ∷ []) (sym h.2))
 reached-end cfg s s2 (c ∷ xs) ys (r ∷ rs) (suc m) (suc n) h e l k =
-    let fewer = next-fewer cfg s [] [] c xs h.0 h.1 in
+    let bytes_fewer = next-fewer cfg s [] [] c xs h.0 h.1 in
     let rest_reached = reached-end cfg h.0.1 s2 h.0.2 ys rs m n h.3 e (omega arith) (omega arith) in
     rw (h.1, rest_reached) (ap (λ (t : List (List ℕ)). t ∷ rs) (sym h.2))
 

@@ -79,18 +79,18 @@ numbers-start numbers e = record {
 -- one line more, and its number
 pub numbers-step : (lines : List ThingLine) (line : ThingLine) (numbers : List ℕ) (n : ℕ) → AreNumbersOf lines numbers → line.kind < TYPES → row_of lines line.kind ≡ None → n ≡ length lines + 1 → AreNumbersOf (lines ++ line ∷ []) (set numbers line.kind n)
 numbers-step lines line numbers n h l e next =
-    let longer : length (lines ++ line ∷ []) ≡ length lines + 1 = length-append lines (line ∷ []) in
+    let count_grows : length (lines ++ line ∷ []) ≡ length lines + 1 = length-append lines (line ∷ []) in
     record {
       all = length-set numbers line.kind n ∙ h.all;
       within = λ kind. elim (cases_eq line.kind kind) [
         | inl same ↦
             let number_is_set : get_or (set numbers line.kind n) line.kind 0 ≡ n = get_or-set_same numbers line.kind n 0 (rw h.all l) in
             let number_here : get_or (set numbers line.kind n) kind 0 ≡ n = ap (λ q. get_or (set numbers line.kind n) q 0) (sym same) ∙ number_is_set in
-            omega (arith, number_here, longer)
+            omega (arith, number_here, count_grows)
         | inr other ↦
-            let off : get_or (set numbers line.kind n) kind 0 ≡ get_or numbers kind 0 = get_or-set_other numbers line.kind kind n 0 (λ q. other (sym q)) in
+            let old_kept : get_or (set numbers line.kind n) kind 0 ≡ get_or numbers kind 0 = get_or-set_other numbers line.kind kind n 0 (λ q. other (sym q)) in
             let old = h.within kind in
-            omega (arith, off, old, longer)
+            omega (arith, old_kept, old, count_grows)
       ];
       rows = λ kind k. elim (cases_eq line.kind kind) [
         | inl same ↦
@@ -100,7 +100,7 @@ numbers-step lines line numbers n h l e next =
             ap (numbered_row (lines ++ line ∷ [])) number_here ∙ numbered_row-last lines line n next ∙ sym (row_of-more lines line kind e ∙ rw kind_same refl)
         | inr other ↦
             let kind_differs : (line.kind == kind) ≡ false = ne_eqb line.kind kind other in
-            let off : get_or (set numbers line.kind n) kind 0 ≡ get_or numbers kind 0 = get_or-set_other numbers line.kind kind n 0 (λ q. other (sym q)) in
-            ap (numbered_row (lines ++ line ∷ [])) off ∙ numbered_row-first lines line (get_or numbers kind 0) (h.within kind) ∙ h.rows kind k ∙ sym (row_of-more lines line kind e ∙ rw kind_differs refl)
+            let old_kept : get_or (set numbers line.kind n) kind 0 ≡ get_or numbers kind 0 = get_or-set_other numbers line.kind kind n 0 (λ q. other (sym q)) in
+            ap (numbered_row (lines ++ line ∷ [])) old_kept ∙ numbered_row-first lines line (get_or numbers kind 0) (h.within kind) ∙ h.rows kind k ∙ sym (row_of-more lines line kind e ∙ rw kind_differs refl)
       ];
     }

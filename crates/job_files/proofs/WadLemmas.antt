@@ -29,8 +29,8 @@ same_found found one other e f = cc
 pub stand_named : (view : ShelfView) (numbers given : List FileNo) (names : List (List ℕ)) (files : List File) (contents : List (List ℕ)) →
     AllStandForNamed view numbers names files → given ≡ numbers → files_named names files ≡ Some contents → NameFiles view given contents
 stand_named view numbers given names files contents found same named =
-    let these : found.contents ≡ contents = same_found (files_named names files) found.contents contents found.lookup named in
-    rw (same, ← these) found.stand
+    let found_contents_same : found.contents ≡ contents = same_found (files_named names files) found.contents contents found.lookup named in
+    rw (same, ← found_contents_same) found.stand
 
 -- a directory of the files of these numbers
 pub wads_stand : {E : Type 0} (view : ShelfView) (numbers : List FileNo) (contents : List (List ℕ)) (result : Result DirectoryView E) →

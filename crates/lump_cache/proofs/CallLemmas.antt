@@ -136,8 +136,8 @@ module _ {A B C D E F R G : Type 0} {fault_of : G → Fault R} {v w x : ShelfVie
   reads_more expected got whole one result two is among joins = record {
     keeps = keeps_then one.keeps two.keeps;
     answers = λ contents t.
-        let ok = subst (λ (y : Result F G). IfOk y (λ g. part (lump_bytes contents dir.lumps) ≡ Ok (next g))) is (two.answers contents (told_later one.keeps t)).ok in
-        record { ok = joins (lump_bytes contents dir.lumps) (one.answers contents t).ok ok; err = tt };
+        let second_ok = subst (λ (y : Result F G). IfOk y (λ g. part (lump_bytes contents dir.lumps) ≡ Ok (next g))) is (two.answers contents (told_later one.keeps t)).ok in
+        record { ok = joins (lump_bytes contents dir.lumps) (one.answers contents t).ok second_ok; err = tt };
     causes = record { err = tt };
     full = tt;
     order = λ items all k.
@@ -151,8 +151,8 @@ module _ {A B C D E F R G : Type 0} {fault_of : G → Fault R} {v w x : ShelfVie
   reads_stop expected fault one result two is among stops = record {
     keeps = keeps_then one.keeps two.keeps;
     answers = λ contents t.
-        let err = subst (λ (y : Result F G). IfErr y (λ f. FaultFits w.steady (part (lump_bytes contents dir.lumps)) (fault_of f))) is (two.answers contents (told_later one.keeps t)).err in
-        record { ok = tt; err = reads_at v.steady w.steady (part (lump_bytes contents dir.lumps)) (expected (lump_bytes contents dir.lumps)) (fault_of fault) one.keeps.follows.steady (λ e h. stops (lump_bytes contents dir.lumps) e (one.answers contents t).ok h) err };
+        let second_err = subst (λ (y : Result F G). IfErr y (λ f. FaultFits w.steady (part (lump_bytes contents dir.lumps)) (fault_of f))) is (two.answers contents (told_later one.keeps t)).err in
+        record { ok = tt; err = reads_at v.steady w.steady (part (lump_bytes contents dir.lumps)) (expected (lump_bytes contents dir.lumps)) (fault_of fault) one.keeps.follows.steady (λ e h. stops (lump_bytes contents dir.lumps) e (one.answers contents t).ok h) second_err };
     causes = record { err = cause_later v.faults w.faults x.faults (fault_of fault) one.keeps.follows.faults (subst (λ (y : Result F G). IfErr y (λ f. HasCauseAt w.faults x.faults (fault_of f))) is two.causes.err) };
     full = full_at (fault_of fault) (λ wanted widest' k. full_for_earlier among one.keeps wanted widest' k) (subst (λ (y : Result F G). IfErr y (λ f. IfFull (fault_of f) (IsFullFor some dir b))) is two.full);
     order = λ items all k.

@@ -71,8 +71,8 @@ module _ (z : Heap) (sound : IsSound z) (o : Owner) where
         let colormap_fits = asked_least z.lumps z.composites r.size count r.holding (static_asked count r.holding has) (owned_fits colormap_owner r z.lumps z.composites z.blocks sound.fits is) in
         let bytes_fit = bytes_least z.lumps z.composites b.size b.holding xs (owned_fits o b z.lumps z.composites z.blocks sound.fits e) k in
         let both_fit = two_fit colormap_owner o apart z.blocks r b is e in
-        let ends = tiles_end 0 z.size z.blocks sound.tiles in
-        omega (arith, colormap_fits, bytes_fit, both_fit, ends)
+        let blocks_end_at_size = tiles_end 0 z.size z.blocks sound.tiles in
+        omega (arith, colormap_fits, bytes_fit, both_fit, blocks_end_at_size)
 
   -- the same of a call that lends these bytes
   pub lent_fits : (lent : Option (List ℕ)) → lent ≡ bytes_of o z.blocks → (colormap count : ℕ) → HasStatic count (owned_block (lump_owner colormap) z.blocks) → same_owner (lump_owner colormap) o ≡ false → IfSome lent (λ bytes. block_size count + block_size (length bytes) ≤ z.size)

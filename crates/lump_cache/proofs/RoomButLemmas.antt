@@ -104,13 +104,13 @@ module _ (colormap size : ℕ) (o : Owner) (asked : ℕ) (z : Heap) (rest : IsAt
         go r None e h p = absurd h
         go r (Some b) e h p =
             let widest_gap : ℕ = widest (gaps r.rest) in
-            let around' = around o b r.rest r.unique (others_open r) e in
-            let total_at_most = two_gaps (widest_gap + 1) b r.rest (omega arith) around' (all_small (widest_gap + 1) (gaps r.rest) (omega arith)) in
-            let widest_with_block = around_most b r.rest p around' in
+            let gaps_around = around o b r.rest r.unique (others_open r) e in
+            let total_at_most = two_gaps (widest_gap + 1) b r.rest (omega arith) gaps_around (all_small (widest_gap + 1) (gaps r.rest) (omega arith)) in
+            let widest_with_block = around_most b r.rest p gaps_around in
             let block_fits = owned_fits o b z.lumps z.composites r.rest r.fits e in
-            let large = asked_size z.lumps z.composites b.size asked b.holding h block_fits in
+            let size_at_most = asked_size z.lumps z.composites b.size asked b.holding h block_fits in
             let size_at_least = asked_least z.lumps z.composites b.size asked b.holding h block_fits in
-            subst (IsGapBesideTwo z.size (block_size size + block_size asked)) (sym (ap widest r.gaps_are)) (omega (arith, widest_with_block, size_at_least, r.least), omega (arith, total_at_most, large, r.sum))
+            subst (IsGapBesideTwo z.size (block_size size + block_size asked)) (sym (ap widest r.gaps_are)) (omega (arith, widest_with_block, size_at_least, r.least), omega (arith, total_at_most, size_at_most, r.sum))
 
 -- the same by what a call without room reports
 pub gap_of_except : (n : ℕ) (z : Heap) (wanted widest' : ℕ) → IsSound z → NoRoom n z wanted widest' → (colormap size : ℕ) (o : Owner) (asked : ℕ) → IsAtRestExcept colormap size (o ∷ []) z → same_owner (lump_owner colormap) o ≡ false → HasAsked asked (owned_block o z.blocks) → IsPinned (owned_block o z.blocks) → IsGapBesideTwo z.size (block_size size + block_size asked) widest'

@@ -135,8 +135,8 @@ module _ (o : Owner) (size : ℕ) (z : Heap) (block : Block) (place : block.plac
     go : (v : Bool) → is_held_by o b ≡ v → v ≡ true
     go true h = refl
     go false h =
-        let le = owned_within o (0 + b.size) z.size bs block (tiles_within (0 + b.size) z.size bs t.2) (sym (cond-false (is_held_by o b) (Some b) (owned_block o bs) h) ∙ e) in
-        absurd (omega (arith, le, t.1, place))
+        let block_behind_first = owned_within o (0 + b.size) z.size bs block (tiles_within (0 + b.size) z.size bs t.2) (sym (cond-false (is_held_by o b) (Some b) (owned_block o bs) h) ∙ e) in
+        absurd (omega (arith, block_behind_first, t.1, place))
 
   first_static : (b : Block) (bs : List Block) → is_held_by o b ≡ true → owned_block o (b ∷ bs) ≡ Some block → IsStatic size b.holding
   first_static b bs h e =
@@ -149,17 +149,17 @@ module _ (o : Owner) (size : ℕ) (z : Heap) (block : Block) (place : block.plac
   behind_of (b ∷ bs) is t u f e =
       let owner_holds_first = first_is b bs t e in
       let first_is_static = first_static b bs owner_holds_first e in
-      let large = asked_size z.lumps z.composites b.size size b.holding (static_asked size b.holding first_is_static) f.0 in
+      let size_at_most = asked_size z.lumps z.composites b.size size b.holding (static_asked size b.holding first_is_static) f.0 in
       let size_at_least = asked_least z.lumps z.composites b.size size b.holding (static_asked size b.holding first_is_static) f.0 in
-      let ends = tiles_end (0 + b.size) z.size bs t.2 in
+      let rest_ends_at_size = tiles_end (0 + b.size) z.size bs t.2 in
       record {
         rest = bs;
         lacks = lacks_held o b.holding bs owner_holds_first u.0;
         unique = u.1;
         fits = f.1;
         gaps_are = ap gaps is ∙ gaps_behind b bs (static_pinned size b.holding first_is_static);
-        sum = omega (arith, large, ends);
-        least = omega (arith, size_at_least, ends);
+        sum = omega (arith, size_at_most, rest_ends_at_size);
+        least = omega (arith, size_at_least, rest_ends_at_size);
         owned = λ q apart. ap (owned_block q) is ∙ cond-false (is_held_by q b) (Some b) (owned_block q bs) (held_once o q b.holding owner_holds_first apart);
       }
 

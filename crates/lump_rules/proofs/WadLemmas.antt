@@ -38,5 +38,5 @@ entry_refusal_none file size lumps e k d lt =
     let first_passing : ℕ = position_or_len (passes_end size) lumps in
     let no_lump_passes : nat_lt first_passing (length lumps) ≡ false = unpassed file first_passing (nat_lt first_passing (length lumps)) e in
     let decides : Decides (nat_lt first_passing (length lumps)) (first_passing < length lumps) = Decides-ltb first_passing (length lumps) in
-    let past : length lumps ≤ first_passing = omega (arith, no_lump_passes, ltb-false) in
+    let none_passes_within : length lumps ≤ first_passing = omega (arith, no_lump_passes, ltb-false) in
     fails_before_first (passes_end size) lumps k d (omega arith)

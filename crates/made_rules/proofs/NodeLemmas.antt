@@ -29,7 +29,7 @@ pieces_by : (part : Part) (b : Bool) → divides_columns part ≡ b → IsDivisi
     IsPiece part (cond b (record part { west = made_middle_column part }) (record part { north = middle_row part })) × IsPiece part (cond b (record part { east = made_middle_column part }) (record part { south = middle_row part }))
 unfolding divides_columns made_middle_column middle_row
 pieces_by part true e d =
-    let wide : height part ≤ width part = grind (arith, nat_tests, e) in
+    let not_higher_than_wide : height part ≤ width part = grind (arith, nat_tests, e) in
     (record { columns = omega arith; rows = omega arith; smaller = omega arith; east = omega arith; north = omega arith }, record { columns = omega arith; rows = omega arith; smaller = omega arith; east = omega arith; north = omega arith })
 pieces_by part false e d =
     let high : width part < height part = grind (arith, nat_tests, e) in
@@ -87,7 +87,7 @@ count_by_cases :
     + 1
 unfolding node_count divides_columns made_middle_column middle_row
 count_by_cases part true e d =
-    let wide : height part ≤ width part = grind (arith, nat_tests, e) in
+    let not_higher_than_wide : height part ≤ width part = grind (arith, nat_tests, e) in
     let column_between = (part.west + part.east) / 2 in
     beside (part.east - column_between) (column_between - part.west) (height part) (width part) (omega arith) (omega arith) (omega arith) (omega arith)
 count_by_cases part false e d =
@@ -173,14 +173,14 @@ part_nodes-parts bytes side first part within e =
     = enough depth (width (front_part part) + height (front_part part)) side first (front_part part) front.columns front.rows (omega arith) (omega arith) in
     let back_nodes_are : nodes_within depth side (first + node_count (front_part part)) (back_part part) ≡ part_nodes side (first + node_count (front_part part)) (back_part part)
     = enough depth (width (back_part part) + height (back_part part)) side (first + node_count (front_part part)) (back_part part) back_piece.columns back_piece.rows (omega arith) (omega arith) in
-    let deeper : part_nodes side first part ≡ nodes_within (suc depth) side first part
+    let nodes_one_deeper : part_nodes side first part ≡ nodes_within (suc depth) side first part
     = enough depth (suc depth) side first part columns_ordered rows_ordered (omega arith) (omega arith) in
     let nodes_are_joined :
     part_nodes side first part
     ≡ nodes_within depth side first (front_part part)
     ++ nodes_within depth side (first + node_count (front_part part)) (back_part part)
     ++ node_bytes side first part
-    = deeper ∙ this_list (is_one_cell part) _ e in
+    = nodes_one_deeper ∙ this_list (is_one_cell part) _ e in
     joined bytes (part_nodes side first (front_part part)) (part_nodes side (first + node_count (front_part part)) (back_part part)) (node_bytes side first part) _ _ _ front_nodes_are back_nodes_are nodes_are_joined
 
 line_length : (part : Part) (b : Bool) → length (cond b (halves ((CELL_SIZE * made_middle_column part) ∷ (CELL_SIZE * part.south) ∷ 0 ∷ (CELL_SIZE * height part) ∷ [])) (halves ((CELL_SIZE * part.west) ∷ (CELL_SIZE * middle_row part) ∷ (CELL_SIZE * width part) ∷ 0 ∷ []))) ≡ 8

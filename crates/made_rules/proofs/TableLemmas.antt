@@ -10,9 +10,9 @@ product_and_square a d =
 
 product_below_square_up : (a b h : ℕ) → a + b ≡ 2 * h → a ≤ h → a * b ≤ h * h
 product_below_square_up a b h e low =
-    let middle : a + (h - a) ≡ h = omega arith in
+    let sum_is_whole : a + (h - a) ≡ h = omega arith in
     let upper : a + ((h - a) + (h - a)) ≡ b = omega arith in
-    let square : a * b + (h - a) * (h - a) ≡ h * h = subst (λ (n : ℕ). a * n + (h - a) * (h - a) ≡ h * h) upper (subst (λ (n : ℕ). a * (a + ((h - a) + (h - a))) + (h - a) * (h - a) ≡ n * n) middle (product_and_square a (h - a))) in
+    let square : a * b + (h - a) * (h - a) ≡ h * h = subst (λ (n : ℕ). a * n + (h - a) * (h - a) ≡ h * h) upper (subst (λ (n : ℕ). a * (a + ((h - a) + (h - a))) + (h - a) * (h - a) ≡ n * n) sum_is_whole (product_and_square a (h - a))) in
     omega arith
 
 -- a product is greatest where both numbers are the same

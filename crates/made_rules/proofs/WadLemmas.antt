@@ -15,8 +15,8 @@ unfolding entries contents
 entries-append place [] ys = rw add-zero refl
 entries-append place (x ∷ xs) ys =
     let rest_entries = entries-append (place + length x.bytes) xs ys in
-    let behind : place + length x.bytes + length (contents xs) ≡ place + length (x.bytes ++ contents xs) = grind (arith, common_steps) in
-    rw (rest_entries, behind) (simp append_assoc)
+    let place_behind_all : place + length x.bytes + length (contents xs) ≡ place + length (x.bytes ++ contents xs) = grind (arith, common_steps) in
+    rw (rest_entries, place_behind_all) (simp append_assoc)
 
 same_parts : (lumps lumps' directory directory' : List ℕ) → lumps ≡ lumps' → directory ≡ directory' → parts_of lumps directory ≡ parts_of lumps' directory'
 same_parts lumps lumps' directory directory' e f = cc
@@ -27,9 +27,9 @@ unfolding with_lumps
 with_lumps-append wad xs ys =
     let start = HEAD_SIZE + length wad.lumps in
     let content : wad.lumps ++ contents xs ++ contents ys ≡ wad.lumps ++ contents (xs ++ ys) = grind (arith, common_steps, contents-append xs ys) in
-    let behind : HEAD_SIZE + length (wad.lumps ++ contents xs) ≡ start + length (contents xs) = grind (arith, common_steps) in
+    let end_is_same : HEAD_SIZE + length (wad.lumps ++ contents xs) ≡ start + length (contents xs) = grind (arith, common_steps) in
     let directory : wad.directory ++ entries start xs ++ entries (HEAD_SIZE + length (wad.lumps ++ contents xs)) ys ≡ wad.directory ++ entries start (xs ++ ys)
-    = rw (behind, entries-append start xs ys) (append_assoc wad.directory (entries start xs) (entries (start + length (contents xs)) ys)) in
+    = rw (end_is_same, entries-append start xs ys) (append_assoc wad.directory (entries start xs) (entries (start + length (contents xs)) ys)) in
     same_parts _ _ _ _ content directory
 
 -- one lump more

@@ -103,9 +103,9 @@ module _ (trimmed lumps : List Lump) (σ : ℕ → ℕ) (a : ℕ) (pictures : Li
       → (n : Mention) × (picture_or_missing (mentions trimmed need.sprite) need k ≡ Ok n) × (renumber σ n ≡ m)
   unfolding picture_or_missing
   picture-moved need last is kept k m e holds =
-      let moved = trimmed_picture trimmed lumps σ (λ n. list_any (λ m. m == n) pictures) need.sprite a need.frame k last m held.are held.stand is kept
+      let picture_moved = trimmed_picture trimmed lumps σ (λ n. list_any (λ m. m == n) pictures) need.sprite a need.frame k last m held.are held.stand is kept
       (found_picture (mentions lumps need.sprite) need k m e) holds in
-      (moved.0, rw moved.1 refl, moved.2)
+      (picture_moved.0, rw picture_moved.1 refl, picture_moved.2)
 
   pictures-moved : (need : Need) (ms : List Mention) → pictures_of (mentions lumps need.sprite) need ≡ Ok ms → AllByRecursion (IsPictureMention pictures) ms
       → (ns : List Mention) × (pictures_of (mentions trimmed need.sprite) need ≡ Ok ns) × (map (renumber σ) ns ≡ ms)
@@ -132,8 +132,8 @@ module _ (trimmed lumps : List Lump) (σ : ℕ → ℕ) (a : ℕ) (pictures : Li
       let frame_is : frame_in need ss.0 ≡ frame = ok_of (frame_in need ss.0) frame ss.2 in
       let shapes : AllByRecursion (IsPictureShape pictures) ss.0 = subst (IsPictureFrame pictures) (sym frame_is) listed in
       let mentioned = each-back (shape_of bytes) (IsPictureMention pictures) (IsPictureShape pictures) (λ m s f holds. subst (IsPicture pictures) (sym (shape_lump bytes m s f)) holds) ms.0 ss.0 ss.1 shapes in
-      let ns = pictures-moved need ms.0 ms.1 mentioned in let zs = shapes-moved σ bytes ns.0 ss.0 (ap (each_of (shape_of bytes)) ns.2 ∙ ss.1) in
-      (frame_in need zs.0, rw (ns.1, zs.1) refl, ap (frame_in need) zs.2 ∙ frame_is)
+      let ns = pictures-moved need ms.0 ms.1 mentioned in let new_shapes = shapes-moved σ bytes ns.0 ss.0 (ap (each_of (shape_of bytes)) ns.2 ∙ ss.1) in
+      (frame_in need new_shapes.0, rw (ns.1, new_shapes.1) refl, ap (frame_in need) new_shapes.2 ∙ frame_is)
 
 -- the shapes of a book are of its lumps
 shapes_of_book : (pictures : List ℕ) (ss : List Shape) → ((n : ℕ) → list_any (λ m. m == n) (map (λ (s : Shape). s.lump.0) ss) ≡ true → IsPicture pictures n)

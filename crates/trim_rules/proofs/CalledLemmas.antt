@@ -70,18 +70,18 @@ module _ (bytes : ℕ → List ℕ) (lumps : List Lump) where
       let flats = group_parts F_START (flat_lumps lumps art.flats) F_END in
       let pictures = group_parts S_START (picture_lumps lumps art.pictures) S_END in
       let level = map_parts (list_any (has_name lumps name) (called_lumps lumps art.prepared)) (map_of lumps name) in
-      let called = filter (λ m. not (has_name lumps name m)) (called_lumps lumps art.prepared) in
+      let called_unnamed = filter (λ m. not (has_name lumps name m)) (called_lumps lumps art.prepared) in
       let wanted = (lump_at lumps n).name in
       let lump = part_lump bytes lumps in
-      let bytes_among_called : last_bytes (map lump (map copy_part called)) wanted ≡ Some (bytes n) = last_bytes-found n called last all any in
+      let bytes_among_called : last_bytes (map lump (map copy_part called_unnamed)) wanted ≡ Some (bytes n) = last_bytes-found n called_unnamed last all any in
       ap (λ ls. last_bytes ls wanted)
-      (map-append lump flats (pictures ++ (level ++ map copy_part called))
+      (map-append lump flats (pictures ++ (level ++ map copy_part called_unnamed))
       ∙ ap (λ ls. map lump flats ++ ls)
-      (map-append lump pictures (level ++ map copy_part called)
-      ∙ ap (λ ls. map lump pictures ++ ls) (map-append lump level (map copy_part called))))
-      ∙ last_bytes-append (map lump flats) (map lump pictures ++ (map lump level ++ map lump (map copy_part called))) wanted
+      (map-append lump pictures (level ++ map copy_part called_unnamed)
+      ∙ ap (λ ls. map lump pictures ++ ls) (map-append lump level (map copy_part called_unnamed))))
+      ∙ last_bytes-append (map lump flats) (map lump pictures ++ (map lump level ++ map lump (map copy_part called_unnamed))) wanted
       ∙ ap (λ o. or_else o (last_bytes (map lump flats) wanted))
-      (last_bytes-append (map lump pictures) (map lump level ++ map lump (map copy_part called)) wanted
+      (last_bytes-append (map lump pictures) (map lump level ++ map lump (map copy_part called_unnamed)) wanted
       ∙ ap (λ o. or_else o (last_bytes (map lump pictures) wanted))
-      (last_bytes-append (map lump level) (map lump (map copy_part called)) wanted
+      (last_bytes-append (map lump level) (map lump (map copy_part called_unnamed)) wanted
       ∙ ap (λ o. or_else o (last_bytes (map lump level) wanted)) bytes_among_called))

@@ -15,7 +15,7 @@ stored_bytes front behind (lump ∷ rest) d zero place is lt =
     ∙ take-append_seam lump.bytes (contents rest ++ behind)
 stored_bytes front behind (lump ∷ rest) d (suc k) place is lt =
     let next : place + length lump.bytes ≡ length (front ++ lump.bytes) = rw (length-append, is) refl in
-    let further = stored_bytes (front ++ lump.bytes) behind rest d k (place + length lump.bytes) next (omega arith) in
+    let bytes_of_rest = stored_bytes (front ++ lump.bytes) behind rest d k (place + length lump.bytes) next (omega arith) in
     ap (λ file. bytes_of (file ∷ []) (lump_at (stored_from (place + length lump.bytes) rest) k))
     (ap (λ xs. front ++ xs) (append_assoc lump.bytes (contents rest) behind) ∙ sym (append_assoc front lump.bytes (contents rest ++ behind)))
-    ∙ further
+    ∙ bytes_of_rest

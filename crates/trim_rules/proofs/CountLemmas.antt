@@ -12,7 +12,7 @@ unfolding whole_header_refusal
 header_few file before size head e =
     let letters = else_none (not (is_wad (take LETTER_COUNT head))) (NotWad file) _ e in
     let short = else_none (nat_lt size (directory_place head + directory_size head)) (Short file) _ letters.1 in
-    let many : nat_lt MAX_LUMPS (before + entry_count head) ≡ false = (else_none (nat_lt MAX_LUMPS (before + entry_count head)) TooMany None short.1).0 in
+    let count_fits : nat_lt MAX_LUMPS (before + entry_count head) ≡ false = (else_none (nat_lt MAX_LUMPS (before + entry_count head)) TooMany None short.1).0 in
     omega (arith, ltb-false)
 
 file_few : (file before : ℕ) (bytes : List ℕ) → file_refusal file before bytes ≡ None → before + entry_count (header bytes) ≤ MAX_LUMPS
@@ -39,6 +39,6 @@ directory_step (Some refusal) found lumps e = absurd (cc)
 pub directory-few : (contents : List (List ℕ)) (lumps : List Lump) → directory contents ≡ Ok lumps → length lumps ≤ MAX_LUMPS
 directory-few contents lumps e =
     let unrefused_and_listed = directory_step (refusal_from 0 0 contents) (lumps_from 0 contents) lumps e in
-    let few : 0 + length (lumps_from 0 contents) ≤ MAX_LUMPS = from_few 0 0 contents (omega arith) unrefused_and_listed.0 in
+    let at_most_max : 0 + length (lumps_from 0 contents) ≤ MAX_LUMPS = from_few 0 0 contents (omega arith) unrefused_and_listed.0 in
     let lengths_same : length (lumps_from 0 contents) ≡ length lumps = ap length unrefused_and_listed.1 in
     omega arith

@@ -27,7 +27,7 @@ apart trimmed lumps flats has j k lt inside =
     let earlier_inside : j < length flats = omega arith in
     let lumps_same : get_or flats k 0 ≡ get_or flats j 0 =
     some-injective _ _ (sym (has.last k inside) ∙ ap (flat_of lumps) names ∙ has.last j earlier_inside) in
-    let less : get_or flats j 0 < get_or flats k 0 = has.ascending j k lt inside in
+    let earlier_flat_below : get_or flats j 0 < get_or flats k 0 = has.ascending j k lt inside in
     absurd (omega arith))
     (λ differ. differ)
 
@@ -36,12 +36,12 @@ pub trimmed_flat : (trimmed lumps : List Lump) (flats : List ℕ) → HasFlats t
     → flat_of trimmed (lump_at lumps (get_or flats k 0)).name ≡ Some (suc k)
 trimmed_flat trimmed lumps flats has k inside =
     let name = (lump_at lumps (get_or flats k 0)).name in
-    let passes = λ (n : ℕ). is_member Flats trimmed n && has_name trimmed name n in
+    let is_flat_of_name = λ (n : ℕ). is_member Flats trimmed n && has_name trimmed name n in
     let end : 0 + suc (length flats) < length trimmed = has.group.inside in
     let flat_inside : suc k < length trimmed = omega arith in
     let is_behind : 0 < suc k = omega arith in
     let before_end : suc k < 0 + suc (length flats) = omega arith in
-    greatest-some passes (length trimmed) (suc k) flat_inside
+    greatest-some is_flat_of_name (length trimmed) (suc k) flat_inside
     (rw (between-member Flats trimmed 0 (length flats) has.group (suc k) is_behind before_end)
     (is_lump-at (λ lump. bytes_eq lump.name name) trimmed (suc k) flat_inside
     ∙ (bytes_eq-Decides (lump_at trimmed (suc k)).name name).1 (has.names k inside)))

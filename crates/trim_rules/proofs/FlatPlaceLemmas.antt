@@ -116,10 +116,10 @@ module _ (trimmed : List Lump) (count : ℕ) (has : HasGroup Flats trimmed 0 cou
   each_places number [] all e = subst (AllByRecursion (AreFlatPlaces count)) (ok_of [] all e) tt
   each_places number (sector ∷ sectors) all e =
       let first_flats = and_then-ok (ok_or (flats_of trimmed sector) (SectorFlat number)) _ all e in
-      let rest = and_then-ok (each_from (flats_of trimmed) SectorFlat (suc number) sectors) _ all first_flats.2 in
-      subst (AllByRecursion (AreFlatPlaces count)) (ok_of (first_flats.0 ∷ rest.0) all rest.2) (
+      let flats_of_rest = and_then-ok (each_from (flats_of trimmed) SectorFlat (suc number) sectors) _ all first_flats.2 in
+      subst (AllByRecursion (AreFlatPlaces count)) (ok_of (first_flats.0 ∷ flats_of_rest.0) all flats_of_rest.2) (
         sector_places sector first_flats.0 (some_value (flats_of trimmed sector) (SectorFlat number) first_flats.0 first_flats.1),
-        each_places (suc number) sectors rest.0 rest.1,
+        each_places (suc number) sectors flats_of_rest.0 flats_of_rest.1,
       )
 
   -- the flats of all sectors

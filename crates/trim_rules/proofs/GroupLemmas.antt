@@ -81,11 +81,11 @@ end-first group x lumps file is not free = record {
 } where
   behind_first : (k : ℕ) → k < suc (length lumps) → 0 < k → (is_start group (lump_at (x ∷ lumps) k).name || is_end group (lump_at (x ∷ lumps) k).name) ≡ false
   behind_first zero lt past = absurd (omega arith)
-  behind_first (suc j) lt past = let less : j < length lumps = omega arith in or-false_false _ _ (free.no_start j less) (free.no_end j less)
+  behind_first (suc j) lt past = let in_lumps : j < length lumps = omega arith in or-false_false _ _ (free.no_start j in_lumps) (free.no_end j in_lumps)
 
 end-later : (group : Group) (x : Lump) (lumps : List Lump) (count : ℕ) → x.file ≡ 0 → is_start group x.name ≡ false → is_end group x.name ≡ false → HasEnd group lumps count → HasEnd group (x ∷ lumps) (suc count)
 end-later group x lumps count file not_start not_end has =
-    let less : count < length lumps = has.inside in
+    let end_within_lumps : count < length lumps = has.inside in
     record {
       inside = omega arith;
       files = before_all (λ l. l.file ≡ 0) x lumps file has.files;
@@ -97,7 +97,7 @@ end-later group x lumps count file not_start not_end has =
 
 group-first : (group : Group) (x : Lump) (lumps : List Lump) (count : ℕ) → x.file ≡ 0 → is_start group x.name ≡ true → HasEnd group lumps count → HasGroup group (x ∷ lumps) 0 count
 group-first group x lumps count file is has =
-    let less : count < length lumps = has.inside in
+    let end_within_lumps : count < length lumps = has.inside in
     let end_place : 0 + suc count ≡ suc count = omega arith in
     record {
       inside = omega arith;
@@ -120,7 +120,7 @@ group-first group x lumps count file is has =
 group-later : (group : Group) (x : Lump) (lumps : List Lump) (start count : ℕ) → x.file ≡ 0 → is_start group x.name ≡ false → is_end group x.name ≡ false
     → HasGroup group lumps start count → HasGroup group (x ∷ lumps) (suc start) count
 group-later group x lumps start count file not_start not_end has =
-    let less : start + suc count < length lumps = has.inside in
+    let end_within_lumps : start + suc count < length lumps = has.inside in
     let end_place : suc start + suc count ≡ suc (start + suc count) = omega arith in
     record {
       inside = omega arith;

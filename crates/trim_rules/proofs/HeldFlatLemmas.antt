@@ -20,8 +20,8 @@ IsOwnFlat lumps n = flat_of lumps (lump_at lumps n).name ≡ Some n
 flat_of-own : (lumps : List Lump) (name : List ℕ) (n : ℕ) → flat_of lumps name ≡ Some n → IsOwnFlat lumps n
 flat_of-own lumps name n e =
     let found_flat = greatest-is (λ number. is_member Flats lumps number && has_name lumps name number) (length lumps) n e in
-    let has : has_name lumps name n ≡ true = (and_parts (is_member Flats lumps n) (has_name lumps name n) found_flat.1).1 in
-    let name_is : (lump_at lumps n).name ≡ name = (bytes_eq-Decides (lump_at lumps n).name name).0 (sym (is_lump-at (λ lump. bytes_eq lump.name name) lumps n found_flat.0) ∙ has) in
+    let flat_has_name : has_name lumps name n ≡ true = (and_parts (is_member Flats lumps n) (has_name lumps name n) found_flat.1).1 in
+    let name_is : (lump_at lumps n).name ≡ name = (bytes_eq-Decides (lump_at lumps n).name name).0 (sym (is_lump-at (λ lump. bytes_eq lump.name name) lumps n found_flat.0) ∙ flat_has_name) in
     ap (flat_of lumps) name_is ∙ e
 
 named_step : (f : Flat) (n : ℕ) (b : Bool) (o : Option ℕ) → n < SKY_FLAT → cond b (Some Sky) (option_map lump_flat o) ≡ Some f → flat_number f ≡ n → o ≡ Some n

@@ -64,10 +64,10 @@ first_entry place lump rest spelled =
 later_entry : (place : ℕ) (lump : made.Lump) (rest : List made.Lump) (k : ℕ) → IsSpelled lump
     → entry_at (entries place (lump ∷ rest)) (suc k) ≡ entry_at (entries (place + length lump.bytes) rest) k
 later_entry place lump rest k spelled =
-    let past : 16 * suc k ≡ 16 + 16 * k = omega arith in
+    let entries_size_step : 16 * suc k ≡ 16 + 16 * k = omega arith in
     let all_entries = entries place (lump ∷ rest) in
     ap (λ es. take 16 es)
-    (ap (λ n. drop n all_entries) past
+    (ap (λ n. drop n all_entries) entries_size_step
     ∙ sym (drop-drop (16 * k) 16 all_entries)
     ∙ ap (drop (16 * k))
     (ap (drop 16) (entries-first place lump rest)
@@ -177,21 +177,21 @@ file-entries : (lumps : List made.Lump) → AllByRecursion IsSpelled lumps → l
     → entries_in (header (wad_file lumps)) (wad_file lumps) ≡ entries HEAD_SIZE lumps
 file-entries lumps spelled few fits =
     let head = front (length lumps) (directory_at lumps) in
-    let es = entries HEAD_SIZE lumps in
-    let behind = contents lumps ++ es in
+    let directory_bytes = entries HEAD_SIZE lumps in
+    let contents_and_entries = contents lumps ++ directory_bytes in
     let place : directory_place (header (wad_file lumps)) ≡ directory_at lumps = ap (λ h. directory_place h) (file-header lumps) ∙ front-place (length lumps) (directory_at lumps) fits in
     let count : entry_count (header (wad_file lumps)) ≡ length lumps = ap (λ h. entry_count h) (file-header lumps) ∙ front-count (length lumps) (directory_at lumps) few in
     let place_by_lengths : directory_at lumps ≡ length head + length (contents lumps) = directory_at-is lumps ∙ ap (λ n. n + length (contents lumps)) (sym (front-length (length lumps) (directory_at lumps))) in
-    let dropped : drop (directory_at lumps) (wad_file lumps) ≡ es =
+    let dropped : drop (directory_at lumps) (wad_file lumps) ≡ directory_bytes =
     ap (drop (directory_at lumps)) (file-parts lumps)
-    ∙ ap (λ n. drop n (head ++ behind)) place_by_lengths
-    ∙ drop-append-add head behind (length (contents lumps))
-    ∙ drop-append_seam (contents lumps) es in
+    ∙ ap (λ n. drop n (head ++ contents_and_entries)) place_by_lengths
+    ∙ drop-append-add head contents_and_entries (length (contents lumps))
+    ∙ drop-append_seam (contents lumps) directory_bytes in
     ap (λ n. take (ENTRY_SIZE * n) (drop (directory_place (header (wad_file lumps))) (wad_file lumps))) count
     ∙ ap (λ n. take (ENTRY_SIZE * length lumps) (drop n (wad_file lumps))) place
     ∙ ap (take (ENTRY_SIZE * length lumps)) dropped
-    ∙ ap (λ n. take n es) (sym (entries-length HEAD_SIZE lumps spelled))
-    ∙ take-length es
+    ∙ ap (λ n. take n directory_bytes) (sym (entries-length HEAD_SIZE lumps spelled))
+    ∙ take-length directory_bytes
 
 file-lumps : (lumps : List made.Lump) → AllByRecursion IsSpelled lumps → length lumps < 2 ^ 32 → directory_at lumps < 2 ^ 32
     → file_lumps 0 (wad_file lumps) ≡ stored_from HEAD_SIZE lumps
@@ -206,17 +206,17 @@ header-unrefused : (lumps : List made.Lump) → AllByRecursion IsSpelled lumps �
     → header_refusal 0 0 (wad_file lumps) ≡ None
 unfolding whole_header_refusal
 header-unrefused lumps spelled few fits =
-    let few' : length lumps < 2 ^ 32 = omega arith in
+    let count_below_word : length lumps < 2 ^ 32 = omega arith in
     let size : length (wad_file lumps) ≡ directory_at lumps + 16 * length lumps = wad_file-length lumps spelled in
     let directory_is : directory_at lumps ≡ 12 + length (contents lumps) = directory_at-is lumps in
     let place : directory_place (header (wad_file lumps)) ≡ directory_at lumps = ap (λ h. directory_place h) (file-header lumps) ∙ front-place (length lumps) (directory_at lumps) fits in
-    let count : entry_count (header (wad_file lumps)) ≡ length lumps = ap (λ h. entry_count h) (file-header lumps) ∙ front-count (length lumps) (directory_at lumps) few' in
+    let count : entry_count (header (wad_file lumps)) ≡ length lumps = ap (λ h. entry_count h) (file-header lumps) ∙ front-count (length lumps) (directory_at lumps) count_below_word in
     let wad : is_wad (take LETTER_COUNT (header (wad_file lumps))) ≡ true = ap (λ h. is_wad (take LETTER_COUNT h)) (file-header lumps) ∙ front-wad (length lumps) (directory_at lumps) in
     let whole : nat_lt (length (wad_file lumps)) HEADER_SIZE ≡ false = lt-false (length (wad_file lumps)) HEADER_SIZE (omega arith) in
     let inside : nat_lt (length (wad_file lumps)) (directory_place (header (wad_file lumps)) + ENTRY_SIZE * entry_count (header (wad_file lumps))) ≡ false =
     lt-false _ _ (omega arith) in
-    let many : nat_lt MAX_LUMPS (0 + entry_count (header (wad_file lumps))) ≡ false = lt-false _ _ (omega arith) in
-    rw (whole, wad, inside, many) refl
+    let not_too_many : nat_lt MAX_LUMPS (0 + entry_count (header (wad_file lumps))) ≡ false = lt-false _ _ (omega arith) in
+    rw (whole, wad, inside, not_too_many) refl
 
 -- The directory of a new file lists its lumps, where their names are spelled as a directory spells them, they are
 -- not too many, and the directory begins below 2^32.
@@ -224,10 +224,10 @@ pub directory-of_file : (lumps : List made.Lump) → AllByRecursion IsSpelled lu
     → directory (wad_file lumps ∷ []) ≡ Ok (stored_lumps lumps)
 unfolding refusal_from lumps_from stored_lumps
 directory-of_file lumps spelled few fits =
-    let few' : length lumps < 2 ^ 32 = omega arith in
+    let count_below_word : length lumps < 2 ^ 32 = omega arith in
     let directory_is : directory_at lumps ≡ 12 + length (contents lumps) = directory_at-is lumps in
     let size : length (wad_file lumps) ≡ directory_at lumps + 16 * length lumps = wad_file-length lumps spelled in
-    let lumps_are : file_lumps 0 (wad_file lumps) ≡ stored_from HEAD_SIZE lumps = file-lumps lumps spelled few' fits in
+    let lumps_are : file_lumps 0 (wad_file lumps) ≡ stored_from HEAD_SIZE lumps = file-lumps lumps spelled count_below_word fits in
     let none_refused : entry_refusal 0 (length (wad_file lumps)) (file_lumps 0 (wad_file lumps)) ≡ None =
     ap (entry_refusal 0 (length (wad_file lumps))) lumps_are ∙ no_entry-refused HEAD_SIZE (length (wad_file lumps)) lumps (omega arith) in
     rw (header-unrefused lumps spelled few fits, none_refused) (ap Ok (append-nil (file_lumps 0 (wad_file lumps)) ∙ lumps_are))

@@ -35,9 +35,9 @@ length-front (p ∷ front) rest = let rest_length : length (front ++ rest) ≡ l
 module _ (bytes : ℕ → List ℕ) (lumps : List Lump) (name : List ℕ) (front : List TrimPart) (p : TrimPart) (behind : List TrimPart) where
   named-at : (k : ℕ) → k < length (front ++ p ∷ behind) → has_name (stored_from HEAD_SIZE (map (part_lump bytes lumps) (front ++ p ∷ behind))) name k ≡ bytes_eq (part_name lumps (part_at (front ++ p ∷ behind) k)) name
   named-at k lt =
-      let ls = stored_from HEAD_SIZE (map (part_lump bytes lumps) (front ++ p ∷ behind)) in
-      let count : length ls ≡ length (front ++ p ∷ behind) = stored-length bytes lumps HEAD_SIZE (front ++ p ∷ behind) in
-      is_lump-at (λ lump. bytes_eq lump.name name) ls k (omega arith)
+      let new_lumps = stored_from HEAD_SIZE (map (part_lump bytes lumps) (front ++ p ∷ behind)) in
+      let count : length new_lumps ≡ length (front ++ p ∷ behind) = stored-length bytes lumps HEAD_SIZE (front ++ p ∷ behind) in
+      is_lump-at (λ lump. bytes_eq lump.name name) new_lumps k (omega arith)
       ∙ ap (λ n. bytes_eq n name) (stored-name bytes lumps HEAD_SIZE (front ++ p ∷ behind) k)
 
   part_here : part_at (front ++ p ∷ behind) (length front) ≡ p
@@ -49,10 +49,10 @@ module _ (bytes : ℕ → List ℕ) (lumps : List Lump) (name : List ℕ) (front
   pub last-part : part_name lumps p ≡ name → AllByRecursion (IsOther lumps name) behind
       → last_of (stored_from HEAD_SIZE (map (part_lump bytes lumps) (front ++ p ∷ behind))) name ≡ Some (length front)
   last-part is others =
-      let ls = stored_from HEAD_SIZE (map (part_lump bytes lumps) (front ++ p ∷ behind)) in
-      let count : length ls ≡ length (front ++ p ∷ behind) = stored-length bytes lumps HEAD_SIZE (front ++ p ∷ behind) in
+      let new_lumps = stored_from HEAD_SIZE (map (part_lump bytes lumps) (front ++ p ∷ behind)) in
+      let count : length new_lumps ≡ length (front ++ p ∷ behind) = stored-length bytes lumps HEAD_SIZE (front ++ p ∷ behind) in
       let parts_length : length (front ++ p ∷ behind) ≡ length front + suc (length behind) = length-front front (p ∷ behind) in
-      greatest-some (has_name ls name) (length ls) (length front) (omega arith)
+      greatest-some (has_name new_lumps name) (length new_lumps) (length front) (omega arith)
       (named-at (length front) (omega arith) ∙ ap (λ q. bytes_eq (part_name lumps q) name) part_here ∙ (bytes_eq-Decides (part_name lumps p) name).1 is)
       (λ k above below. later k above (omega arith) others) where
         later : (k : ℕ) → length front < k → k < length (front ++ p ∷ behind) → AllByRecursion (IsOther lumps name) behind
@@ -82,12 +82,12 @@ module _ (bytes : ℕ → List ℕ) (lumps : List Lump) (parts : List TrimPart) 
       → is_named_in (stored_from HEAD_SIZE (map (part_lump bytes lumps) parts)) 0 name k ≡ bytes_eq (lump_at lumps n).name name
   unfolding part_name
   copied-named k n name e =
-      let ls = stored_from HEAD_SIZE (map (part_lump bytes lumps) parts) in
-      let count : length ls ≡ length parts = stored-length bytes lumps HEAD_SIZE parts in
+      let new_lumps = stored_from HEAD_SIZE (map (part_lump bytes lumps) parts) in
+      let count : length new_lumps ≡ length parts = stored-length bytes lumps HEAD_SIZE parts in
       let part_inside : k < length parts = copied-inside parts k n e in
-      let file : (lump_at ls k).file ≡ 0 = stored-file bytes lumps HEAD_SIZE parts k in
-      let names_same : (lump_at ls k).name ≡ (lump_at lumps n).name = stored-name bytes lumps HEAD_SIZE parts k ∙ ap (part_name lumps) e in
-      is_lump-at (λ lump. lump.file == 0 && bytes_eq lump.name name) ls k (omega arith)
+      let file : (lump_at new_lumps k).file ≡ 0 = stored-file bytes lumps HEAD_SIZE parts k in
+      let names_same : (lump_at new_lumps k).name ≡ (lump_at lumps n).name = stored-name bytes lumps HEAD_SIZE parts k ∙ ap (part_name lumps) e in
+      is_lump-at (λ lump. lump.file == 0 && bytes_eq lump.name name) new_lumps k (omega arith)
       ∙ rw (file, names_same) refl
 
   copied-row : (file a n : ℕ) (names : List (List ℕ)) → are_named lumps file n names ≡ true → ((k : ℕ) → k < length names → part_at parts (a + k) ≡ copy_part (n + k))
@@ -98,9 +98,9 @@ module _ (bytes : ℕ → List ℕ) (lumps : List Lump) (parts : List TrimPart) 
       let first_and_rest_named = and_parts (is_named_in lumps file name n) (are_named lumps file (suc n) names) e in
       let part_is_copy : part_at parts a ≡ copy_part n = (let same_place : a ≡ a + 0 = omega arith in ap (part_at parts) same_place) ∙ at 0 (omega arith) ∙ (let same_number : n + 0 ≡ n = omega arith in ap copy_part same_number) in
       let lump_there : n < length lumps = passing-there _ lumps n first_and_rest_named.0 in
-      let has : bytes_eq (lump_at lumps n).name name ≡ true =
+      let same_name : bytes_eq (lump_at lumps n).name name ≡ true =
       (and_parts ((lump_at lumps n).file == file) (bytes_eq (lump_at lumps n).name name) (sym (is_lump-at (λ lump. lump.file == file && bytes_eq lump.name name) lumps n lump_there) ∙ first_and_rest_named.0)).1 in
-      let is_named : is_named_in (stored_from HEAD_SIZE (map (part_lump bytes lumps) parts)) 0 name a ≡ true = copied-named a n name part_is_copy ∙ has in
+      let is_named : is_named_in (stored_from HEAD_SIZE (map (part_lump bytes lumps) parts)) 0 name a ≡ true = copied-named a n name part_is_copy ∙ same_name in
       let next : (k : ℕ) → k < length names → part_at parts (suc a + k) ≡ copy_part (suc n + k) = λ k lt.
       (let same_place : suc a + k ≡ a + suc k = omega arith in ap (part_at parts) same_place) ∙ at (suc k) (omega arith) ∙ (let same_number : n + suc k ≡ suc n + k = omega arith in ap copy_part same_number) in
       let rest_named : are_named (stored_from HEAD_SIZE (map (part_lump bytes lumps) parts)) 0 (suc a) names ≡ true = copied-row file (suc a) (suc n) names first_and_rest_named.1 next in
@@ -179,8 +179,8 @@ unfolding trim_parts map_parts
 parts-by-map lumps art name label is =
     let flats = group_parts F_START (flat_lumps lumps art.flats) F_END in
     let pictures = group_parts S_START (picture_lumps lumps art.pictures) S_END in
-    let copied = map copy_part (filter (λ n. not (has_name lumps name n)) (called_lumps lumps art.prepared)) in
-    ap (λ o. flats ++ (pictures ++ (map_parts (is_called lumps art name) o ++ copied))) is
+    let called_copies = map copy_part (filter (λ n. not (has_name lumps name n)) (called_lumps lumps art.prepared)) in
+    ap (λ o. flats ++ (pictures ++ (map_parts (is_called lumps art name) o ++ called_copies))) is
     ∙ sym (append_assoc flats pictures (label_or_copy (is_called lumps art name) label ∷ behind_map lumps art.prepared name label))
 
 -- none of these has the map's name
@@ -233,21 +233,21 @@ one_called : (bytes : ℕ → List ℕ) (lumps : List Lump) (name : List ℕ) (p
     → AllByRecursion (IsOther lumps name) ps → last_bytes (map (part_lump bytes lumps) (p ∷ ps)) name ≡ Some (part_bytes bytes p)
 unfolding last_bytes part_lump
 one_called bytes lumps name p ps is all =
-    let has : bytes_eq (part_name lumps p) name ≡ true = (bytes_eq-Decides (part_name lumps p) name).1 is in
-    rw (none_called bytes lumps name ps all, has) refl
+    let part_has_name : bytes_eq (part_name lumps p) name ≡ true = (bytes_eq-Decides (part_name lumps p) name).1 is in
+    rw (none_called bytes lumps name ps all, part_has_name) refl
 
 pub map_name-called : (bytes : ℕ → List ℕ) (lumps : List Lump) (art : SceneArt) (name : List ℕ) (label : ℕ) → map_of lumps name ≡ Some label
     → last_bytes (map (part_lump bytes lumps) (trim_parts lumps art name)) name ≡ Some (part_bytes bytes (label_or_copy (is_called lumps art name) label))
 map_name-called bytes lumps art name label is =
     let front = front_parts lumps art in
     let part = label_or_copy (is_called lumps art name) label in
-    let behind = behind_map lumps art.prepared name label in
+    let parts_behind = behind_map lumps art.prepared name label in
     let lump = part_lump bytes lumps in
     ap (λ ps. last_bytes (map lump ps) name) (parts-by-map lumps art name label is)
-    ∙ ap (λ ls. last_bytes ls name) (map-append lump front (part ∷ behind))
-    ∙ last_bytes-append (map lump front) (map lump (part ∷ behind)) name
+    ∙ ap (λ ls. last_bytes ls name) (map-append lump front (part ∷ parts_behind))
+    ∙ last_bytes-append (map lump front) (map lump (part ∷ parts_behind)) name
     ∙ ap (λ o. or_else o (last_bytes (map lump front) name))
-    (one_called bytes lumps name part behind (label-named lumps name (is_called lumps art name) label is) (behind-other lumps art.prepared name label is))
+    (one_called bytes lumps name part parts_behind (label-named lumps name (is_called lumps art name) label is) (behind-other lumps art.prepared name label is))
 
 pub map_name-bytes : (bytes : ℕ → List ℕ) (lumps : List Lump) (art : SceneArt) (name : List ℕ) (label : ℕ) → map_of lumps name ≡ Some label
     → is_called lumps art name ≡ true → last_bytes (map (part_lump bytes lumps) (trim_parts lumps art name)) name ≡ Some (bytes label)
@@ -264,9 +264,9 @@ module _ (bytes : ℕ → List ℕ) (lumps : List Lump) (front : List TrimPart) 
   pub row-at : (k : ℕ) → k < length MAP_LUMPS → part_at (front ++ p ∷ (map copy_part (range_with_len (suc label) (length MAP_LUMPS)) ++ called)) (suc (length front) + k) ≡ copy_part (suc label + k)
   row-at k lt =
       let numbers = range_with_len (suc label) (length MAP_LUMPS) in
-      let ps = front ++ p ∷ (map copy_part numbers ++ called) in
+      let all_parts = front ++ p ∷ (map copy_part numbers ++ called) in
       let count : length numbers ≡ length MAP_LUMPS = refl in
-      (let same_place : suc (length front) + k ≡ length front + suc k = omega arith in ap (part_at ps) same_place)
+      (let same_place : suc (length front) + k ≡ length front + suc k = omega arith in ap (part_at all_parts) same_place)
       ∙ part_at-behind front (p ∷ (map copy_part numbers ++ called)) (suc k)
       ∙ part_at-copied numbers called k (omega arith)
       ∙ ap copy_part (get_or-range_with_len (suc label) (length MAP_LUMPS) k 0 lt)
@@ -280,12 +280,12 @@ module _ (bytes : ℕ → List ℕ) (lumps : List Lump) (front : List TrimPart) 
       → is_label (stored_from HEAD_SIZE (map (part_lump bytes lumps) (front ++ p ∷ (map copy_part (range_with_len (suc label) (length MAP_LUMPS)) ++ called)))) (length front) ≡ true
   unfolding is_label
   label-whole file m named is differ =
-      let ps = front ++ p ∷ (map copy_part (range_with_len (suc label) (length MAP_LUMPS)) ++ called) in
-      let ls = stored_from HEAD_SIZE (map (part_lump bytes lumps) ps) in
-      let in_file : (lump_at ls (length front)).file ≡ 0 = stored-file bytes lumps HEAD_SIZE ps (length front) in
-      let row : are_named ls 0 (suc (length front)) MAP_LUMPS ≡ true = copied-row bytes lumps ps file (suc (length front)) (suc label) MAP_LUMPS named (λ k lt. row-at k lt) in
-      let no_behavior : is_named_in ls 0 BEHAVIOR (length front + BEHAVIOR_AFTER) ≡ false =
-      copied-named bytes lumps ps (length front + BEHAVIOR_AFTER) m BEHAVIOR (third-at ∙ is) ∙ differ in
+      let all_parts = front ++ p ∷ (map copy_part (range_with_len (suc label) (length MAP_LUMPS)) ++ called) in
+      let new_lumps = stored_from HEAD_SIZE (map (part_lump bytes lumps) all_parts) in
+      let in_file : (lump_at new_lumps (length front)).file ≡ 0 = stored-file bytes lumps HEAD_SIZE all_parts (length front) in
+      let row : are_named new_lumps 0 (suc (length front)) MAP_LUMPS ≡ true = copied-row bytes lumps all_parts file (suc (length front)) (suc label) MAP_LUMPS named (λ k lt. row-at k lt) in
+      let no_behavior : is_named_in new_lumps 0 BEHAVIOR (length front + BEHAVIOR_AFTER) ≡ false =
+      copied-named bytes lumps all_parts (length front + BEHAVIOR_AFTER) m BEHAVIOR (third-at ∙ is) ∙ differ in
       rw (in_file, row, no_behavior) refl
 
 if_whole : (ls : List Lump) (n : ℕ) → is_label ls n ≡ true → if_label ls n ≡ Some n
@@ -299,7 +299,7 @@ trimmed-map bytes lumps art name label p c n t is has =
     let front = front_parts lumps art in
     let part = label_or_copy (is_called lumps art name) label in
     let keep = λ (k : ℕ). not (has_name lumps name k) in
-    let called = map copy_part (filter keep (called_lumps lumps art.prepared)) in
+    let called_copies = map copy_part (filter keep (called_lumps lumps art.prepared)) in
     let behind = behind_map lumps art.prepared name label in
     let label_is_found = label-is lumps name label is in
     let lumps_named : are_named lumps (lump_at lumps label).file (suc label) MAP_LUMPS ≡ true = (and_parts _ _ label_is_found.1).0 in
@@ -312,10 +312,10 @@ trimmed-map bytes lumps art name label p c n t is has =
     (two_names lumps name COLORMAP TEXTURE1 c t has.colormap has.texture1 refl)
     (two_names lumps name PNAMES TEXTURE1 n t has.pnames has.texture1 refl) in
     let whole : is_label (stored_from HEAD_SIZE (map (part_lump bytes lumps) (front ++ part ∷ behind))) (length front) ≡ true = elim third_called [
-      | inl e ↦ label-whole bytes lumps front label part called (lump_at lumps label).file n lumps_named
+      | inl e ↦ label-whole bytes lumps front label part called_copies (lump_at lumps label).file n lumps_named
           (ap (λ ks. part_at (map copy_part (filter keep ks)) 2) four_called.1 ∙ e)
           (ap (λ k. bytes_eq k BEHAVIOR) (last_of-name lumps PNAMES n has.pnames))
-      | inr e ↦ label-whole bytes lumps front label part called (lump_at lumps label).file t lumps_named
+      | inr e ↦ label-whole bytes lumps front label part called_copies (lump_at lumps label).file t lumps_named
           (ap (λ ks. part_at (map copy_part (filter keep ks)) 2) four_called.1 ∙ e)
           (ap (λ k. bytes_eq k BEHAVIOR) (last_of-name lumps TEXTURE1 t has.texture1))
     ] in

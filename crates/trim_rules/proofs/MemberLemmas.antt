@@ -40,9 +40,9 @@ module _ (group : Group) (lumps : List Lump) (start count : ℕ) (has : HasGroup
       let start_inside : start < length lumps = omega (arith, has.inside) in
       let file : (lump_at lumps n).file ≡ 0 = has.files n lump_inside in
       let file' : (lump_at lumps start).file ≡ 0 = has.files start start_inside in
-      let upto : n ≤ start + suc count = omega arith in
+      let at_most_end : n ≤ start + suc count = omega arith in
       is_lump-at (λ lump. not (is_end group lump.name) && starts_in group lumps lump.file (mark_before group lumps n)) lumps n lump_inside
-      ∙ rw (has.no_end n lump_inside after below, between-mark n after upto, file)
+      ∙ rw (has.no_end n lump_inside after below, between-mark n after at_most_end, file)
       (is_lump-at (λ lump. is_start group lump.name && lump.file == 0) lumps start start_inside ∙ rw (has.starts, file') refl)
 
   -- those up to the start are not
@@ -51,8 +51,8 @@ module _ (group : Group) (lumps : List Lump) (start count : ℕ) (has : HasGroup
       let lump_inside : n < length lumps = omega (arith, has.inside) in
       let no_mark : mark_before group lumps n ≡ None =
       greatest-none (is_lump (λ lump. is_start group lump.name || is_end group lump.name) lumps) n
-      (λ k below. let earlier_inside : k < length lumps = omega arith in let early : k < start = omega arith in
-      is_lump-at (λ lump. is_start group lump.name || is_end group lump.name) lumps k earlier_inside ∙ has.before k early) in
+      (λ k below. let earlier_inside : k < length lumps = omega arith in let index_before_start : k < start = omega arith in
+      is_lump-at (λ lump. is_start group lump.name || is_end group lump.name) lumps k earlier_inside ∙ has.before k index_before_start) in
       is_lump-at (λ lump. not (is_end group lump.name) && starts_in group lumps lump.file (mark_before group lumps n)) lumps n lump_inside
       ∙ rw no_mark (none_and (is_end group (lump_at lumps n).name)) where
         none_and : (b : Bool) → (not b && false) ≡ false
@@ -67,7 +67,7 @@ module _ (group : Group) (lumps : List Lump) (start count : ℕ) (has : HasGroup
         | inl later ↦
             let end : ℕ = start + suc count in
             let end_inside : start + suc count < length lumps = has.inside in
-            let above : start < start + suc count = omega arith in
+            let start_before_end : start < start + suc count = omega arith in
             let mark : mark_before group lumps n ≡ Some (start + suc count) =
             greatest-some (is_lump (λ lump. is_start group lump.name || is_end group lump.name) lumps) n (start + suc count) later
             (is_lump-at (λ lump. is_start group lump.name || is_end group lump.name) lumps (start + suc count) end_inside
@@ -76,11 +76,11 @@ module _ (group : Group) (lumps : List Lump) (start count : ℕ) (has : HasGroup
             is_lump-at (λ lump. is_start group lump.name || is_end group lump.name) lumps k inside ∙ has.behind k inside past) in
             rw mark (and_false (not (is_end group (lump_at lumps n).name)) _
             (is_lump-at (λ lump. is_start group lump.name && lump.file == (lump_at lumps n).file) lumps (start + suc count) end_inside
-            ∙ rw (has.no_start (start + suc count) end_inside above) refl))
+            ∙ rw (has.no_start (start + suc count) end_inside start_before_end) refl))
         | inr same ↦
             let is_end_place : n ≡ start + suc count = omega arith in
-            let ends : is_end group (lump_at lumps n).name ≡ true = ap (λ k. is_end group (lump_at lumps k).name) is_end_place ∙ has.ends in
-            rw ends refl
+            let lump_is_end : is_end group (lump_at lumps n).name ≡ true = ap (λ k. is_end group (lump_at lumps k).name) is_end_place ∙ has.ends in
+            rw lump_is_end refl
       ] where
         and_false : (a b : Bool) → b ≡ false → (a && b) ≡ false
         and_false true b e = e
@@ -110,20 +110,20 @@ pub group-members : (group : Group) (lumps : List Lump) (start count : ℕ) → 
     → members group lumps ≡ range_with_len (suc start) count
 unfolding members
 group-members group lumps start count has =
-    let rest : ℕ = length lumps - (suc start + count) in
+    let count_behind_group : ℕ = length lumps - (suc start + count) in
     let inside : start + suc count < length lumps = has.inside in
     let whole : length lumps ≡ suc start + (count + (length lumps - (suc start + count))) = omega arith in
-    let middle = range_with_len (0 + suc start) count in
-    let passes = is_member group lumps in
-    ap (λ n. filter passes (range_with_len 0 n)) whole
-    ∙ ap (filter passes) (range-split 0 (suc start) (count + (length lumps - (suc start + count)))
+    let numbers_within = range_with_len (0 + suc start) count in
+    let is_of_group = is_member group lumps in
+    ap (λ n. filter is_of_group (range_with_len 0 n)) whole
+    ∙ ap (filter is_of_group) (range-split 0 (suc start) (count + (length lumps - (suc start + count)))
     ∙ ap (λ ks. range_with_len 0 (suc start) ++ ks) (range-split (0 + suc start) count (length lumps - (suc start + count))))
-    ∙ filter-append passes (range_with_len 0 (suc start)) (range_with_len (0 + suc start) count ++ range_with_len ((0 + suc start) + count) (length lumps - (suc start + count)))
-    ∙ rw (filter-failing passes 0 (suc start) (λ k from below. front-member group lumps start count has k (omega arith)))
-    (filter-append passes (range_with_len (0 + suc start) count) (range_with_len ((0 + suc start) + count) (length lumps - (suc start + count)))
+    ∙ filter-append is_of_group (range_with_len 0 (suc start)) (range_with_len (0 + suc start) count ++ range_with_len ((0 + suc start) + count) (length lumps - (suc start + count)))
+    ∙ rw (filter-failing is_of_group 0 (suc start) (λ k from below. front-member group lumps start count has k (omega arith)))
+    (filter-append is_of_group (range_with_len (0 + suc start) count) (range_with_len ((0 + suc start) + count) (length lumps - (suc start + count)))
     ∙ rw (
-      filter-passing passes (0 + suc start) count (λ k from below. between-member group lumps start count has k (omega arith) (omega arith)),
-      filter-failing passes ((0 + suc start) + count) (length lumps - (suc start + count))
+      filter-passing is_of_group (0 + suc start) count (λ k from below. between-member group lumps start count has k (omega arith) (omega arith)),
+      filter-failing is_of_group ((0 + suc start) + count) (length lumps - (suc start + count))
           (λ k from below. behind-member group lumps start count has k (omega (arith, inside)) (omega arith)),
     )
     (append-nil (range_with_len (0 + suc start) count) ∙ ap (λ a. range_with_len a count) (zero-add (suc start))))

@@ -109,11 +109,11 @@ module _ (trimmed lumps : List Lump) (σ : ℕ → ℕ) (flats : List ℕ) (has 
   each-moved number [] all e listed = let list_is : [] ≡ all = cc in ([], refl, list_is)
   each-moved number (sector ∷ sectors) all e listed =
       let first_flats = and_then-ok (ok_or (flats_of lumps sector) (SectorFlat number)) _ all e in
-      let rest = and_then-ok (each_from (flats_of lumps) SectorFlat (suc number) sectors) _ all first_flats.2 in
-      let list_is : first_flats.0 ∷ rest.0 ≡ all = ok_of (first_flats.0 ∷ rest.0) all rest.2 in
+      let flats_of_rest = and_then-ok (each_from (flats_of lumps) SectorFlat (suc number) sectors) _ all first_flats.2 in
+      let list_is : first_flats.0 ∷ flats_of_rest.0 ≡ all = ok_of (first_flats.0 ∷ flats_of_rest.0) all flats_of_rest.2 in
       let moved_flats = sector-moved sector first_flats.0 (some_value (flats_of lumps sector) (SectorFlat number) first_flats.0 first_flats.1)
       (λ n lt is. listed n lt (ap (list_any (has_flat n)) (sym list_is) ∙ or-true_left (has_flat n first_flats.0) _ is)) in
-      let rest_moved = each-moved (suc number) sectors rest.0 rest.1 (λ n lt any. listed n lt (ap (list_any (has_flat n)) (sym list_is) ∙ or-true_right (has_flat n first_flats.0) _ any)) in
+      let rest_moved = each-moved (suc number) sectors flats_of_rest.0 flats_of_rest.1 (λ n lt any. listed n lt (ap (list_any (has_flat n)) (sym list_is) ∙ or-true_right (has_flat n first_flats.0) _ any)) in
       (moved_flats.0 ∷ rest_moved.0, each-made trimmed number sector sectors moved_flats.0 rest_moved.0 moved_flats.1 rest_moved.1, ap (λ (b : SectorFlats). b ∷ map (move_both σ) rest_moved.0) moved_flats.2 ∙ ap (λ bs. first_flats.0 ∷ bs) rest_moved.2 ∙ list_is)
 
 -- The flats of an accepted level's sectors, by a directory that has its flats.

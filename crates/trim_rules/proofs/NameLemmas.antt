@@ -50,10 +50,10 @@ pub last_of-stored : (b : ℕ → List ℕ) (place : ℕ) (lumps : List made.Lum
 unfolding last_bytes stored_from greatest
 last_of-stored b place [] name gives = refl
 last_of-stored b place (lump ∷ rest) name gives =
-    let further = stored_from (place + length lump.bytes) rest in
+    let stored_rest = stored_from (place + length lump.bytes) rest in
     let all_lumps = stored_from place (lump ∷ rest) in
-    ap (option_map b) (greatest-front (has_name all_lumps name) (length further))
-    ∙ named_step b (last_of further name) (bytes_eq lump.name name)
+    ap (option_map b) (greatest-front (has_name all_lumps name) (length stored_rest))
+    ∙ named_step b (last_of stored_rest name) (bytes_eq lump.name name)
     ∙ ap (λ o. or_else o (cond (bytes_eq lump.name name) (Some (b 0)) None))
     (last_of-stored (λ k. b (suc k)) (place + length lump.bytes) rest name (λ d k lt. gives d (suc k) (omega arith)))
     ∙ ap (λ bytes. or_else (last_bytes rest name) (cond (bytes_eq lump.name name) (Some bytes) None)) (gives lump 0 (omega arith))

@@ -52,11 +52,11 @@ module _ (lumps : List Lump) (art : SceneArt) (name : List ℕ) (parts : List Tr
         → (source_of (trim_parts lumps art name) a == source_of (trim_parts lumps art name) b) ≡ (a == b)
     flats-one-to-one =
         let all_parts = trim_parts lumps art name in
-        let ns = flat_lumps lumps art.flats in
+        let numbers = flat_lumps lumps art.flats in
         let flats_held = flats-held bytes lumps art name sectors few flats (plan-unmarked lumps art name parts plan) in
-        let inside : 0 + suc (length ns) < length (trimmed_lumps bytes lumps all_parts) = flats_held.group.inside in
+        let inside : 0 + suc (length numbers) < length (trimmed_lumps bytes lumps all_parts) = flats_held.group.inside in
         let count : length (trimmed_lumps bytes lumps all_parts) ≡ length all_parts = trimmed-length bytes lumps all_parts in
-        let most : length all_parts ≤ MAX_LUMPS = (plan-accepted lumps art name parts plan).1.count in
-        one-to-one (source_of all_parts) ns sky-kept (omega arith) (λ k lt. ap part_source (flat_part lumps art name k lt))
-        (λ k lt. let flat_is_lump : get_or ns k 0 < length lumps = all-at (λ n. n < length lumps) ns k 0 (flats-there lumps art) lt in omega arith)
+        let parts_at_most_max : length all_parts ≤ MAX_LUMPS = (plan-accepted lumps art name parts plan).1.count in
+        one-to-one (source_of all_parts) numbers sky-kept (omega arith) (λ k lt. ap part_source (flat_part lumps art name k lt))
+        (λ k lt. let flat_is_lump : get_or numbers k 0 < length lumps = all-at (λ n. n < length lumps) numbers k 0 (flats-there lumps art) lt in omega arith)
         flats_held.ascending

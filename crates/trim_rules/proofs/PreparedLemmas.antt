@@ -107,13 +107,13 @@ module _ (σ : ℕ → ℕ) (bytes : ℕ → List ℕ) (last other : List ℕ �
   unfolding unless_missing unless_too_big texture_of
   missing_step number t None o' p more e all = absurd (cc)
   missing_step number t (Some ps) o' p more e all =
-      let big = big_step bytes number t ps (nat_lt MAX_COMPOSITE (composite_size ps t.width t.height)) p e in
-      let patches = more ps refl (subst (AllByRecursion (PatchIs Q)) (sym (ap (λ (u : PreparedTexture). u.patches) big.1)) all) in
+      let size_step = big_step bytes number t ps (nat_lt MAX_COMPOSITE (composite_size ps t.width t.height)) p e in
+      let patches = more ps refl (subst (AllByRecursion (PatchIs Q)) (sym (ap (λ (u : PreparedTexture). u.patches) size_step.1)) all) in
       let not_too_big : nat_lt MAX_COMPOSITE (composite_size patches.0 t.width t.height) ≡ false =
-      ap (nat_lt MAX_COMPOSITE) (sym (size-moved σ patches.0 t.width t.height) ∙ ap (λ qs. composite_size qs t.width t.height) patches.2) ∙ big.0 in (
+      ap (nat_lt MAX_COMPOSITE) (sym (size-moved σ patches.0 t.width t.height) ∙ ap (λ qs. composite_size qs t.width t.height) patches.2) ∙ size_step.0 in (
         texture_of (λ n. bytes (σ n)) t patches.0,
         ap (unless_missing (λ n. bytes (σ n)) number t) patches.1 ∙ ap (λ b. cond b (Err (TooBig number)) (Ok (texture_of (λ n. bytes (σ n)) t patches.0))) not_too_big,
-        sym (texture-moved bytes σ t patches.0) ∙ ap (texture_of bytes t) patches.2 ∙ big.1,
+        sym (texture-moved bytes σ t patches.0) ∙ ap (texture_of bytes t) patches.2 ∙ size_step.1,
       )
 
   one-moved : (names : List (List ℕ)) (number : ℕ) (t : Texture) (p : PreparedTexture) → prepared last bytes names number t ≡ Ok p

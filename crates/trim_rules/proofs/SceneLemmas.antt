@@ -77,13 +77,13 @@ module _ (contents : List (List ℕ)) (lumps : List Lump) (listed : directory co
       let all_parts = trim_parts lumps art name in
       let σ = source_of all_parts in
       let trimmed = trimmed_lumps bytes lumps all_parts in
-      let steps = scene-steps bytes lumps lines name skill scene is in let unmarked = plan-unmarked lumps art name parts plan in
+      let steps = scene-steps bytes lumps lines name skill scene is in let parts_unmarked = plan-unmarked lumps art name parts plan in
       let wanted = is_wanted_texture scene.faces.sides scene.faces.sky in
       let bytes_same : lump_bytes (trimmed_file bytes lumps all_parts ∷ []) trimmed ≡ (λ k. bytes (σ k)) = bytes-moved contents lumps all_parts few in
       let serves = trimmed-serves contents lumps art name scene.base wanted listed steps.base steps.prepared in
-      let faces = trimmed-faces bytes lumps art name scene.base.level scene.base.lists scene.faces few steps.faces refl unmarked in
+      let faces = trimmed-faces bytes lumps art name scene.base.level scene.base.lists scene.faces few steps.faces refl parts_unmarked in
       let prepared = trimmed-prepared contents lumps art name scene.base wanted few steps.base steps.prepared in
-      let pictures_held = pictures-held bytes lumps art name sprites unmarked in
+      let pictures_held = pictures-held bytes lumps art name sprites parts_unmarked in
       let book = book-moved trimmed lumps σ (first_picture lumps art) pictures pictures_held bytes
       (first_needs (map need_of scene.placed)) scene.book steps.book kept in
       let base : LevelBase = record {
@@ -94,15 +94,15 @@ module _ (contents : List (List ℕ)) (lumps : List Lump) (listed : directory co
         level = scene.base.level;
         lists = scene.base.lists;
       } in
-      let moved : SceneValue = record {
+      let moved_scene : SceneValue = record {
         base = base;
         faces = record { sides = scene.faces.sides; sky = scene.faces.sky; flats = faces.0 };
         prepared = prepared.0;
         placed = scene.placed;
         book = book.0;
       } in (
-        moved,
-        scene-made (λ k. bytes (σ k)) trimmed lines name skill moved (record {
+        moved_scene,
+        scene-made (λ k. bytes (σ k)) trimmed lines name skill moved_scene (record {
           base = subst (λ b. base_in b trimmed name ≡ Ok base) bytes_same
               (base-served bytes (lump_bytes (trimmed_file bytes lumps all_parts ∷ []) trimmed) lumps trimmed name scene.base serves.0 serves.1 (map_place lumps art) serves.3);
           faces = faces.1;

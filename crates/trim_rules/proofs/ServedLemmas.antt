@@ -79,8 +79,8 @@ module _ (contents : List (List ℕ)) (lumps : List Lump) (parts : List TrimPart
       let bytes' = lump_bytes (trimmed_file bytes lumps parts ∷ []) trimmed in
       let long_lump_found = long-is lumps wanted size n e in
       let inside = (greatest-is (has_name lumps wanted) (length lumps) n long_lump_found.0).0 in
-      let have : option_map bytes' (last_of trimmed wanted) ≡ Some (bytes n) = same ∙ ap (option_map bytes) long_lump_found.0 in
-      let trimmed_lump = named_step bytes' (last_of trimmed wanted) (bytes n) have in
+      let last_bytes_same : option_map bytes' (last_of trimmed wanted) ≡ Some (bytes n) = same ∙ ap (option_map bytes) long_lump_found.0 in
+      let trimmed_lump = named_step bytes' (last_of trimmed wanted) (bytes n) last_bytes_same in
       let lies_in_file : LiesWithin contents (lump_at lumps n) = directory_within contents lumps listed n no_lump inside in
       let sizes : (lump_at trimmed trimmed_lump.0).size ≡ (lump_at lumps n).size =
       trimmed-size bytes lumps parts trimmed_lump.0 ∙ ap length trimmed_lump.2 ∙ lump_bytes-length contents lumps n lies_in_file in
@@ -126,12 +126,12 @@ module _ (bytes : ℕ → List ℕ) (lumps : List Lump) (art : SceneArt) (name :
   behind-label : (k : ℕ) → k < 8 → lump_bytes (trimmed_file bytes lumps (trim_parts lumps art name) ∷ []) (trimmed_lumps bytes lumps (trim_parts lumps art name)) (map_place lumps art + suc k) ≡ bytes (label + suc k)
   behind-label k lt =
       let all_parts = trim_parts lumps art name in
-      let copied = map copy_part (filter (λ n. not (has_name lumps name n)) (called_lumps lumps art.prepared)) in
+      let called_copies = map copy_part (filter (λ n. not (has_name lumps name n)) (called_lumps lumps art.prepared)) in
       let part_is_copy : part_at all_parts (map_place lumps art + suc k) ≡ copy_part (label + suc k) =
       ap (λ ps. part_at ps (map_place lumps art + suc k)) (parts-by-map lumps art name label is)
       ∙ (let same_place : map_place lumps art + suc k ≡ suc (map_place lumps art) + k = omega arith in
       ap (part_at (front_parts lumps art ++ label_or_copy (is_called lumps art name) label ∷ behind_map lumps art.prepared name label)) same_place)
-      ∙ row-at bytes lumps (front_parts lumps art) label (label_or_copy (is_called lumps art name) label) copied k lt
+      ∙ row-at bytes lumps (front_parts lumps art) label (label_or_copy (is_called lumps art name) label) called_copies k lt
       ∙ (let same_number : suc label + k ≡ label + suc k = omega arith in ap copy_part same_number) in
       part-bytes bytes lumps all_parts (map_place lumps art + suc k) ∙ ap (part_bytes bytes) part_is_copy ∙ copy_bytes bytes (label + suc k)
 
@@ -182,7 +182,7 @@ trimmed-serves contents lumps art name base wanted listed is prepared =
     let palette = some_value (long_lump lumps PLAYPAL PALETTE_SIZE) Playpal base.playpal base_found_by.playpal in
     let colormap_kept = long-kept contents lumps all_parts listed COLORMAP COLORMAP_SIZE base.colormap colours colormap in
     let playpal_kept = long-kept contents lumps all_parts listed PLAYPAL PALETTE_SIZE base.playpal palette playpal in
-    let fixed : HasFixed lumps base.playpal base.colormap lists.0.0 lists.1.0 = record {
+    let fixed_lumps_there : HasFixed lumps base.playpal base.colormap lists.0.0 lists.1.0 = record {
       playpal = (long-is lumps PLAYPAL PALETTE_SIZE base.playpal palette).0;
       colormap = (long-is lumps COLORMAP COLORMAP_SIZE base.colormap colours).0;
       pnames = lists.0.1;
@@ -196,7 +196,7 @@ trimmed-serves contents lumps art name base wanted listed is prepared =
         colormap = ok_some (long_lump trimmed COLORMAP COLORMAP_SIZE) Colormap colormap_kept.0 colormap_kept.1;
         playpal = ok_some (long_lump trimmed PLAYPAL PALETTE_SIZE) Playpal playpal_kept.0 playpal_kept.1;
         palette = playpal_kept.2;
-        label = map_label trimmed name (map_place lumps art) (trimmed-map bytes lumps art name base.label base.playpal base.colormap lists.0.0 lists.1.0 label fixed);
+        label = map_label trimmed name (map_place lumps art) (trimmed-map bytes lumps art name base.label base.playpal base.colormap lists.0.0 lists.1.0 label fixed_lumps_there);
         level = map-kept bytes lumps art name base.label label;
         pnames = named-same bytes lumps art name base.label label called_are_last PNAMES (pnames-fixed lumps) (record { f_start = refl; f_end = refl; s_start = refl; s_end = refl });
         texture1 = named-same bytes lumps art name base.label label called_are_last TEXTURE1 (texture1-fixed lumps) (record { f_start = refl; f_end = refl; s_start = refl; s_end = refl });

@@ -83,7 +83,7 @@ before_step : (x : ℕ) (xs : List ℕ) (b : Bool) → is_end_byte x ≡ b → l
     length (before_first is_end_byte (x ∷ xs)) ≤ suc (length xs)
 before_step x xs true e le = let none_left : length (before_first is_end_byte (x ∷ xs)) ≡ 0 = ap length (first_step x xs true e) in omega arith
 before_step x xs false e le =
-    let longer : length (before_first is_end_byte (x ∷ xs)) ≡ suc (length (before_first is_end_byte xs)) = ap length (first_step x xs false e) in omega arith
+    let grows_one : length (before_first is_end_byte (x ∷ xs)) ≡ suc (length (before_first is_end_byte xs)) = ap length (first_step x xs false e) in omega arith
 
 before-length : (xs : List ℕ) → length (before_first is_end_byte xs) ≤ length xs
 before-length [] = omega arith
@@ -91,7 +91,7 @@ before-length (x ∷ xs) = before_step x xs (is_end_byte x) refl (before-length 
 
 pub name_of-name : (bytes : List ℕ) → length bytes ≤ 8 → IsName (name_of bytes)
 name_of-name bytes le =
-    let shorter : length (before_first is_end_byte bytes) ≤ length bytes = before-length bytes in
+    let prefix_not_longer : length (before_first is_end_byte bytes) ≤ length bytes = before-length bytes in
     filled-name (before_first is_end_byte bytes) (letters bytes) (omega arith)
 
 abbrev IsNamed : Lump → Type 0

@@ -123,10 +123,10 @@ module _ (lumps : List Lump) (P : TrimPart → Type 0) (copy : (n : ℕ) → n <
       → ((n : ℕ) → n < length lumps → P (label_part n)) → AllByRecursion P (trim_parts lumps art name)
   unfolding trim_parts
   parts-all art name a b c d one =
-      let called = list_any (has_name lumps name) (called_lumps lumps art.prepared) in
+      let is_name_called = list_any (has_name lumps name) (called_lumps lumps art.prepared) in
       all-append P (group_parts F_START (flat_lumps lumps art.flats) F_END) _ (grouped F_START (flat_lumps lumps art.flats) F_END a b (flats-there lumps art))
       (all-append P (group_parts S_START (picture_lumps lumps art.pictures) S_END) _ (grouped S_START (picture_lumps lumps art.pictures) S_END c d (pictures-there lumps art))
-      (all-append P (map_parts called (map_of lumps name)) _ (level name called (map_of lumps name) refl one)
+      (all-append P (map_parts is_name_called (map_of lumps name)) _ (level name is_name_called (map_of lumps name) refl one)
       (copied (filter (λ n. not (has_name lumps name n)) (called_lumps lumps art.prepared))
       (all-filter (IsNumber lumps) (λ n. not (has_name lumps name n)) (called_lumps lumps art.prepared) (called-there lumps art.prepared)))))
 

@@ -116,13 +116,13 @@ plain_behind : (bytes : ℕ → List ℕ) (lumps : List Lump) (art : SceneArt) (
 unfolding behind_groups
 plain_behind bytes lumps art name group all =
     let lump = part_lump bytes lumps in
-    let called = list_any (has_name lumps name) (called_lumps lumps art.prepared) in
-    let level = map_parts called (map_of lumps name) in
-    let copied = filter (λ n. not (has_name lumps name n)) (called_lumps lumps art.prepared) in
-    subst (AllByRecursion (IsPlain group)) (sym (map-append lump level (map copy_part copied)))
-    (all_both (IsPlain group) (map lump level) (map lump (map copy_part copied))
-    (plain_level bytes lumps group called (map_of lumps name) (all_first (IsUnmarked lumps) level (map copy_part copied) all))
-    (plain_copies bytes lumps group copied (all_second (IsUnmarked lumps) level (map copy_part copied) all)))
+    let is_name_called = list_any (has_name lumps name) (called_lumps lumps art.prepared) in
+    let level = map_parts is_name_called (map_of lumps name) in
+    let called_unnamed = filter (λ n. not (has_name lumps name n)) (called_lumps lumps art.prepared) in
+    subst (AllByRecursion (IsPlain group)) (sym (map-append lump level (map copy_part called_unnamed)))
+    (all_both (IsPlain group) (map lump level) (map lump (map copy_part called_unnamed))
+    (plain_level bytes lumps group is_name_called (map_of lumps name) (all_first (IsUnmarked lumps) level (map copy_part called_unnamed) all))
+    (plain_copies bytes lumps group called_unnamed (all_second (IsUnmarked lumps) level (map copy_part called_unnamed) all)))
 
 -- a mark of the one group is plain in the other
 plain_mark : (bytes : ℕ → List ℕ) (lumps : List Lump) (group : Group) (name : List ℕ) → is_start group name ≡ false → is_end group name ≡ false → IsPlain group (part_lump bytes lumps (Mark name))
@@ -164,7 +164,7 @@ trimmed-flats bytes lumps art name all =
     let are : AllByRecursion (IsUnmarked lumps) (group_parts F_START flats F_END ++ rest) =
     subst (AllByRecursion (IsUnmarked lumps)) (trim_parts-are lumps art name) all in
     let unmarked : AllByRecursion (IsUnmarked lumps) rest = all_second (IsUnmarked lumps) (group_parts F_START flats F_END) rest are in
-    let plain : AllByRecursion (IsPlain Flats) (map lump rest) =
+    let rest_plain : AllByRecursion (IsPlain Flats) (map lump rest) =
     subst (AllByRecursion (IsPlain Flats)) (sym (map-append lump (group_parts S_START pictures S_END) (behind_groups lumps art name)))
     (all_both (IsPlain Flats) (map lump (group_parts S_START pictures S_END)) (map lump (behind_groups lumps art name))
     (plain_group bytes lumps Flats S_START pictures S_END refl refl refl refl (all_first (IsUnmarked lumps) (group_parts S_START pictures S_END) (behind_groups lumps art name) unmarked))
@@ -173,7 +173,7 @@ trimmed-flats bytes lumps art name all =
     (sym (ap (map lump) (trim_parts-are lumps art name) ∙ group-shape bytes lumps F_START flats F_END rest))
     (stored-group Flats HEAD_SIZE [] (map lump (map copy_part flats)) (map lump rest) (lump (Mark F_START)) (lump (Mark F_END)) tt
     (plain_copies bytes lumps Flats flats (inner_copies lumps F_START flats F_END (all_first (IsUnmarked lumps) (group_parts F_START flats F_END) rest are)))
-    plain (ap (is_start Flats) (mark_named bytes lumps F_START)) (ap (is_end Flats) (mark_named bytes lumps F_END)) (ap (is_start Flats) (mark_named bytes lumps F_END)))
+    rest_plain (ap (is_start Flats) (mark_named bytes lumps F_START)) (ap (is_end Flats) (mark_named bytes lumps F_END)) (ap (is_start Flats) (mark_named bytes lumps F_END)))
 
 -- And the pictures of part 2 as its sprite lumps.
 pub trimmed-pictures : (bytes : ℕ → List ℕ) (lumps : List Lump) (art : SceneArt) (name : List ℕ)
@@ -188,17 +188,17 @@ trimmed-pictures bytes lumps art name all =
     let pictures = picture_lumps lumps art.pictures in
     let flat_parts = group_parts F_START flats F_END in
     let rest = behind_groups lumps art name in
-    let are : AllByRecursion (IsUnmarked lumps) (flat_parts ++ (group_parts S_START pictures S_END ++ rest)) =
+    let all_unmarked : AllByRecursion (IsUnmarked lumps) (flat_parts ++ (group_parts S_START pictures S_END ++ rest)) =
     subst (AllByRecursion (IsUnmarked lumps)) (trim_parts-are lumps art name) all in
-    let unmarked : AllByRecursion (IsUnmarked lumps) (group_parts S_START pictures S_END ++ rest) =
-    all_second (IsUnmarked lumps) flat_parts (group_parts S_START pictures S_END ++ rest) are in
+    let rest_unmarked : AllByRecursion (IsUnmarked lumps) (group_parts S_START pictures S_END ++ rest) =
+    all_second (IsUnmarked lumps) flat_parts (group_parts S_START pictures S_END ++ rest) all_unmarked in
     let front : AllByRecursion (IsPlain Sprites) (map lump flat_parts) =
-    plain_group bytes lumps Sprites F_START flats F_END refl refl refl refl (all_first (IsUnmarked lumps) flat_parts (group_parts S_START pictures S_END ++ rest) are) in
+    plain_group bytes lumps Sprites F_START flats F_END refl refl refl refl (all_first (IsUnmarked lumps) flat_parts (group_parts S_START pictures S_END ++ rest) all_unmarked) in
     subst (λ ls. HasGroup Sprites (stored_from HEAD_SIZE ls) (length (map lump flat_parts)) (length (map lump (map copy_part pictures))))
     (sym (ap (map lump) (trim_parts-are lumps art name)
     ∙ map-append lump flat_parts (group_parts S_START pictures S_END ++ rest)
     ∙ ap (λ ls. map lump flat_parts ++ ls) (group-shape bytes lumps S_START pictures S_END rest)))
     (stored-group Sprites HEAD_SIZE (map lump flat_parts) (map lump (map copy_part pictures)) (map lump rest) (lump (Mark S_START)) (lump (Mark S_END)) front
-    (plain_copies bytes lumps Sprites pictures (inner_copies lumps S_START pictures S_END (all_first (IsUnmarked lumps) (group_parts S_START pictures S_END) rest unmarked)))
-    (plain_behind bytes lumps art name Sprites (all_second (IsUnmarked lumps) (group_parts S_START pictures S_END) rest unmarked))
+    (plain_copies bytes lumps Sprites pictures (inner_copies lumps S_START pictures S_END (all_first (IsUnmarked lumps) (group_parts S_START pictures S_END) rest rest_unmarked)))
+    (plain_behind bytes lumps art name Sprites (all_second (IsUnmarked lumps) (group_parts S_START pictures S_END) rest rest_unmarked))
     (ap (is_start Sprites) (mark_named bytes lumps S_START)) (ap (is_end Sprites) (mark_named bytes lumps S_END)) (ap (is_start Sprites) (mark_named bytes lumps S_END)))

@@ -78,6 +78,6 @@ moved x1 x2 a b w p q h k = (omega arith, omega arith)
 pub range_in_front-order : (v : ViewValue) (a b x1 x2 : ℕ) → IsSound v.tables v.shape → a < 2 ^ 32 → b < 2 ^ 32 → turn_back a b < 2 ^ 31 → (span : ℕ) → range_in_front v span a b ≡ Columns x1 x2 → (x1 ≤ x2) × (x2 ≤ v.shape.width)
 unfolding range_in_front
 range_in_front-order v a b x1 x2 s p q h span e =
-    let ends = between v _ _ x1 x2 e in
-    let order = ends_in_order (clip_angle v.tables v.shape) a b ends.0 ends.1 s.clip p q h span ends.2 ends.3 in
-    moved x1 x2 _ _ v.shape.width ends.4 ends.5 (columns_in_order v ends.0 ends.1 s order.0 order.1) (column_within v ends.1)
+    let both_ends = between v _ _ x1 x2 e in
+    let order = ends_in_order (clip_angle v.tables v.shape) a b both_ends.0 both_ends.1 s.clip p q h span both_ends.2 both_ends.3 in
+    moved x1 x2 _ _ v.shape.width both_ends.4 both_ends.5 (columns_in_order v both_ends.0 both_ends.1 s order.0 order.1) (column_within v both_ends.1)

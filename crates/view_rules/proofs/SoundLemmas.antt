@@ -56,7 +56,7 @@ div_is p n h = let quotient_small : nat_le n (p / 2 ^ 14) ≡ false = grind (ari
 -- the focal length of a tangent that is no less than a half
 quotient_is : (p : ℕ) (edge : ℤ) → p ≤ 10485760 → pos 32768 ≤ℤ edge → (m : ℕ) × (m ≤ 20971520) × (div (pos p) edge ≡ pos m)
 quotient_is p (pos n) b l =
-    let large : 32768 ≤ n = omega (arith, ints) in
+    let at_least_half : 32768 ≤ n = omega (arith, ints) in
     let quotient_below = div_below (p * 65536) n 20971521 (omega arith) (omega arith) in
     (p * 65536 / n, omega arith, div_is p n (omega arith))
 quotient_is p (negsuc n) b l = absurd (omega (arith, ints))

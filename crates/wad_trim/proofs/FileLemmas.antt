@@ -198,12 +198,12 @@ module _ (files : List (List ℕ)) (lumps : List Lump) (within : AllWithin files
   unfolding trimmed_file wad_file file_of
   whole-file parts there =
       let put = map (part_lump (lump_bytes files lumps) lumps) parts in
-      let es = entries_from lumps HEADER_SIZE parts in
+      let all_entries = entries_from lumps HEADER_SIZE parts in
       sym (ap (λ (n : ℕ). codes "IWAD" ++ word_bytes n ++ word_bytes (HEAD_SIZE + length (contents put)) ++ contents put ++ entries HEAD_SIZE put) (length-map parts (part_lump (lump_bytes files lumps) lumps))
       ∙ ap (λ (n : ℕ). codes "IWAD" ++ word_bytes (length parts) ++ word_bytes (HEAD_SIZE + n) ++ contents put ++ entries HEAD_SIZE put) (whole-size parts there)
       ∙ ap (λ (v : List ℕ). codes "IWAD" ++ word_bytes (length parts) ++ word_bytes (HEAD_SIZE + parts_size lumps parts) ++ v ++ entries HEAD_SIZE put) (whole-bytes parts)
       ∙ ap (λ (v : List ℕ). codes "IWAD" ++ word_bytes (length parts) ++ word_bytes (HEAD_SIZE + parts_size lumps parts) ++ bytes_by (lump_bytes files lumps) parts ++ v) (whole-entries HEAD_SIZE parts there)
-      ∙ ap (λ (v : List ℕ). v ++ bytes_by (lump_bytes files lumps) parts ++ es) (append_assoc (codes "IWAD") (word_bytes (length parts)) (word_bytes (HEADER_SIZE + parts_size lumps parts))))
+      ∙ ap (λ (v : List ℕ). v ++ bytes_by (lump_bytes files lumps) parts ++ all_entries) (append_assoc (codes "IWAD") (word_bytes (length parts)) (word_bytes (HEADER_SIZE + parts_size lumps parts))))
 
   -- the header and the bytes of all parts, and then the entries
   pub file-ended : (parts : List TrimPart) (i : ℕ) → length parts ≤ i → All (IsPartThere (length lumps)) parts →
@@ -221,10 +221,10 @@ module _ (files : List (List ℕ)) (lumps : List Lump) (within : AllWithin files
       ≡ trimmed_file (lump_bytes files lumps) lumps parts
   file-left parts i part l is there =
       let bytes = lump_bytes files lumps in
-      let es = entries_from lumps HEADER_SIZE parts in
-      ap (λ (p : TrimPart). so_far lumps parts i bytes ++ (part_bytes bytes p ++ (bytes_by bytes (drop (suc i) parts) ++ es))) is
-      ∙ regroup (head_of lumps parts) (bytes_by bytes (take i parts)) (part_bytes bytes (get_or parts i part)) (bytes_by bytes (drop (suc i) parts)) es
-      ∙ ap (λ (v : List ℕ). (head_of lumps parts ++ v) ++ es) (bytes-left bytes parts i part l)
+      let all_entries = entries_from lumps HEADER_SIZE parts in
+      ap (λ (p : TrimPart). so_far lumps parts i bytes ++ (part_bytes bytes p ++ (bytes_by bytes (drop (suc i) parts) ++ all_entries))) is
+      ∙ regroup (head_of lumps parts) (bytes_by bytes (take i parts)) (part_bytes bytes (get_or parts i part)) (bytes_by bytes (drop (suc i) parts)) all_entries
+      ∙ ap (λ (v : List ℕ). (head_of lumps parts ++ v) ++ all_entries) (bytes-left bytes parts i part l)
       ∙ whole-file parts there
 
   -- all behind the header

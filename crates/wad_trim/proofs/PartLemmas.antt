@@ -40,11 +40,11 @@ pub parts-are : (lumps : List Lump) (art : SceneArt) (name : List ℕ) (flats pi
     e ≡ trim_parts lumps art name
 unfolding trim_parts filled
 parts-are lumps art name flats pictures called more a b c d e f g h i none p q r s =
-    let called' = called_lumps lumps art.prepared in
+    let called_numbers = called_lumps lumps art.prepared in
     let flat_parts = group_parts F_START (flat_lumps lumps art.flats) F_END in
     let picture_parts = group_parts S_START (picture_lumps lumps art.pictures) S_END in
-    let level_parts = map_parts (list_any (has_name lumps name) called') (map_of lumps name) in
-    let called_parts = map copy_part (filter (λ n. not (has_name lumps name n)) called') in
+    let level_parts = map_parts (list_any (has_name lumps name) called_numbers) (map_of lumps name) in
+    let called_parts = map copy_part (filter (λ n. not (has_name lumps name n)) called_numbers) in
     let flats_added = p ∙ ap (λ (n : List ℕ). a ++ group_parts F_START n F_END) f in
     let pictures_added = q ∙ ap (λ (n : List ℕ). b ++ group_parts S_START n S_END) g in
     let level_added = r ∙ ap (λ (n : List ℕ). c ++ map_parts (list_any (has_name lumps name) n) (map_of lumps name)) h in
@@ -104,8 +104,8 @@ few_called : (lumps : List Lump) (prepared : List (Option PreparedTexture)) → 
 unfolding called_lumps
 few_called lumps prepared =
     let not_fixed : ℕ → Bool = λ n. not (list_any (λ m. m == n) (fixed_lumps lumps)) in
-    let rest = filter not_fixed (patch_lumps prepared (length lumps)) in
-    omega (arith, length-append (fixed_lumps lumps) rest, few_fixed lumps, few_filtered not_fixed (patch_lumps prepared (length lumps)), few_patches prepared (length lumps))
+    let patches_not_fixed = filter not_fixed (patch_lumps prepared (length lumps)) in
+    omega (arith, length-append (fixed_lumps lumps) patches_not_fixed, few_fixed lumps, few_filtered not_fixed (patch_lumps prepared (length lumps)), few_patches prepared (length lumps))
 
 few_group : (start end : List ℕ) (ns : List ℕ) → length (group_parts start ns end) ≡ length ns + 2
 unfolding group_parts
@@ -122,12 +122,12 @@ few_map called (Some label) =
 parts-few : (lumps : List Lump) (art : SceneArt) (name : List ℕ) → length lumps < 2 ^ 16 → length (trim_parts lumps art name) ≤ 2 ^ 18
 unfolding trim_parts
 parts-few lumps art name l =
-    let called = called_lumps lumps art.prepared in
+    let called_numbers = called_lumps lumps art.prepared in
     let not_named : ℕ → Bool = λ n. not (has_name lumps name n) in
     let flat_parts = group_parts F_START (flat_lumps lumps art.flats) F_END in
     let picture_parts = group_parts S_START (picture_lumps lumps art.pictures) S_END in
-    let level_parts = map_parts (list_any (has_name lumps name) called) (map_of lumps name) in
-    let called_parts = map copy_part (filter not_named called) in
+    let level_parts = map_parts (list_any (has_name lumps name) called_numbers) (map_of lumps name) in
+    let called_parts = map copy_part (filter not_named called_numbers) in
     omega (
       arith,
       l,
@@ -138,9 +138,9 @@ parts-few lumps art name l =
       few_flats lumps art.flats,
       few_group S_START S_END (picture_lumps lumps art.pictures),
       few_pictures lumps art.pictures,
-      few_map (list_any (has_name lumps name) called) (map_of lumps name),
-      length-map (filter not_named called) copy_part,
-      few_filtered not_named called,
+      few_map (list_any (has_name lumps name) called_numbers) (map_of lumps name),
+      length-map (filter not_named called_numbers) copy_part,
+      few_filtered not_named called_numbers,
       few_called lumps art.prepared,
     )
 

@@ -101,9 +101,9 @@ pub any-contains : (xs : List ℕ) (k : ℕ) → Decides (list_any (λ n. n == k
 any-contains xs k = (found, passes) where
   found : list_any (λ n. n == k) xs ≡ true → Contains xs k
   found e =
-      let any = Any-from_list_any (λ (n : ℕ). n == k) xs e in
-      let number_same : any.1 ≡ k = eq-from_true any.1 k any.4 in
-      (any.0, any.2, subst (λ (n : ℕ). get_or xs any.0 n ≡ n) number_same any.3)
+      let found_number = Any-from_list_any (λ (n : ℕ). n == k) xs e in
+      let number_same : found_number.1 ≡ k = eq-from_true found_number.1 k found_number.4 in
+      (found_number.0, found_number.2, subst (λ (n : ℕ). get_or xs found_number.0 n ≡ n) number_same found_number.3)
 
   passes : Contains xs k → list_any (λ n. n == k) xs ≡ true
   passes there = list_any_at (λ (n : ℕ). n == k) xs there.0 k there.1 (eq-true (get_or xs there.0 k) k there.2)

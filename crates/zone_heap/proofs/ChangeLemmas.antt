@@ -61,9 +61,9 @@ module _ (region : List ℕ) (o : Owner) (place : ℕ) (f : IsFound region o pla
       → block_in place part ≡ record { place = f.block.place; size = f.block.size; holding = Some h }
   changed_block h owner said =
       let live : (word_at f.part 8 == FREE_OWNER) ≡ false = live_word (word_at f.part 8 == FREE_OWNER) (sym (ap (λ (b : Block). b.holding) f.block_is) ∙ f.holds) in
-      let some : holding_in part ≡ Some (live_in part) =
+      let part_holds_live : holding_in part ≡ Some (live_in part) =
       cond-false (word_at part 8 == FREE_OWNER) None (Some (live_in part)) (ap (λ n. n == FREE_OWNER) owner ∙ live) in
-      λ i. record { place = sym (ap (λ (b : Block). b.place) f.block_is) i; size = (same ∙ sym (ap (λ (b : Block). b.size) f.block_is)) i; holding = (some ∙ ap Some said) i } where
+      λ i. record { place = sym (ap (λ (b : Block). b.place) f.block_is) i; size = (same ∙ sym (ap (λ (b : Block). b.size) f.block_is)) i; holding = (part_holds_live ∙ ap Some said) i } where
         live_word : (t : Bool) → cond t None (Some (live_in f.part)) ≡ Some (live_in f.part) → t ≡ false
         live_word true e = cc
         live_word false e = refl

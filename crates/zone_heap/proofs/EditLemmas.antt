@@ -45,8 +45,8 @@ module _ (b c : Block) where
           let sum : b.size + (c.size + d.size) ≡ b.size + c.size + d.size = omega arith in
           ap (join_on b) last_joined ∙ front_joined ∙ ap (λ n. free_block b.place n ∷ js) sum ∙ sym both_joined
       step false e =
-          let off : (is_free c && is_free d) ≡ false = ap (λ t. is_free c && t) e ∙ ap (λ t. t && false) g in
-          let last_apart : join_on c (d ∷ js) ≡ c ∷ d ∷ js = cond-false (is_free c && is_free d) _ _ off in
+          let not_both_free : (is_free c && is_free d) ≡ false = ap (λ t. is_free c && t) e ∙ ap (λ t. t && false) g in
+          let last_apart : join_on c (d ∷ js) ≡ c ∷ d ∷ js = cond-false (is_free c && is_free d) _ _ not_both_free in
           let both_apart : join_on both (d ∷ js) ≡ both ∷ d ∷ js = cond-false (is_free d) _ _ e in
           ap (join_on b) last_apart ∙ pair (d ∷ js) ∙ sym both_apart
 

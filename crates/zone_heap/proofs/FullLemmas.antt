@@ -20,11 +20,11 @@ no_fit_of w p q bs pos t e = go (fit_from w 0 0 0 bs) refl where
 pub full_purges : (w : ℕ) (z : Heap) → IsSound z → 0 < w → first_room w (stretches z.rover z.blocks) ≡ None
     → purge_among (passed_blocks w (stretches z.rover z.blocks)) z.blocks ≡ map purge_block z.blocks
 full_purges w z s pos e =
-    let bs = z.blocks in let front = gaps (blocks_from (start_in z.rover bs) bs) in
-    let no_room_in_front = no_room_first w front (gaps bs) e in let later = found_later w front (gaps bs) no_room_in_front in
-    let fit = no_fit_of w 0 z.size bs pos s.tiles (sym later.0 ∙ e) in
-    ap (λ ch. purge_among ch bs) (later.1 ∙ ap (λ xs. passed_blocks w front ++ xs) fit.passed_is)
-    ∙ purge_covered _ bs (covers_after (passed_blocks w front) (unpinned bs) bs (covers_itself bs))
+    let zone_blocks = z.blocks in let front = gaps (blocks_from (start_in z.rover zone_blocks) zone_blocks) in
+    let no_room_in_front = no_room_first w front (gaps zone_blocks) e in let found_behind_front = found_later w front (gaps zone_blocks) no_room_in_front in
+    let fit = no_fit_of w 0 z.size zone_blocks pos s.tiles (sym found_behind_front.0 ∙ e) in
+    ap (λ ch. purge_among ch zone_blocks) (found_behind_front.1 ∙ ap (λ xs. passed_blocks w front ++ xs) fit.passed_is)
+    ∙ purge_covered _ zone_blocks (covers_after (passed_blocks w front) (unpinned zone_blocks) zone_blocks (covers_itself zone_blocks))
 
 abbrev pub NotPurgeable : Block → Type 0
 NotPurgeable b = is_purgeable b ≡ false

@@ -102,7 +102,7 @@ module _ (homes : Homes) (F R : List Block) (b : Block) (h : Holding) (holds : b
   -- the owners of the blocks, and their homes, are right after the block was freed and the owner's home emptied
   pub freed_home : (new : Homes) → IsSet homes new h.owner NO_HOME → AreHome new (F ++ (free_block b.place b.size ∷ R))
   freed_home new set =
-      let alike = set_alike homes new h.owner NO_HOME set in let few' = k.few in let lumps_same = alike.0 in
+      let alike = set_alike homes new h.owner NO_HOME set in let few_kept = k.few in let lumps_same = alike.0 in
       let length_same = alike.1 in
       record {
         few = omega arith;

@@ -80,8 +80,8 @@ opened_word region at s lt n n_is = go s.rest refl s.rest_whole where
       )
   go (c ∷ cs) e w =
       let region_is = s.is ∙ ap (λ r. joined s.front ++ joined r) e in
-      let behind : drop at region ≡ c ++ joined cs = ap (drop at) region_is ∙ drop_at (joined s.front) (c ++ joined cs) at s.at_is in
-      let head : header_in (drop at region) ≡ header_in c = ap header_in behind ∙ header_front c (joined cs) w.0 in
+      let region_from_part : drop at region ≡ c ++ joined cs = ap (drop at) region_is ∙ drop_at (joined s.front) (c ++ joined cs) at s.at_is in
+      let head : header_in (drop at region) ≡ header_in c = ap header_in region_from_part ∙ header_front c (joined cs) w.0 in
       let size_word_is : word_at (drop at region) 0 ≡ word_at region at =
       word_from region at 0 ∙ ap (word_at region) (let place_is : at + 0 ≡ at = omega arith in place_is) in
       let size : n ≡ length c = n_is ∙ sym size_word_is ∙ ap (λ (h : Header). h.size) head ∙ w.1 in
@@ -241,8 +241,8 @@ module _ (rover : ℕ) (region : List ℕ) (at : ℕ) (p : HasPassed rover regio
 
     pub passed_then : t ≡ false → HasPassed rover region (at + h.size)
     passed_then passes =
-        let later = ap (position_or_len (starts_at rover)) o.blocks ∙ cond-true _ _ _ (ap not (told ∙ passes)) in
-        let grown = ap length o.front ∙ length-append p.split.front (o.part ∷ []) in
+        let position_in_rest = ap (position_or_len (starts_at rover)) o.blocks ∙ cond-true _ _ _ (ap not (told ∙ passes)) in
+        let front_length_step = ap length o.front ∙ length-append p.split.front (o.part ∷ []) in
         record { split = o.next; value = let passed_so_far = p.value in omega arith }
 
   pub start_last : length region ≤ at → StartsAt rover region at

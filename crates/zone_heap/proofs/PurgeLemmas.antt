@@ -80,17 +80,17 @@ module _ (old : List ℕ) (all : Homes) (region : List ℕ) (homes : Homes) (fro
   -- the count and the blocks in front, with the block at the place among those gone over
   counted : (s : IsSplit old from) → count_by is_purgeable (take (passed + 1) (blocks_from from s.rest)) ≡ count + cond (is_purgeable here) 1 0
   counted s =
-      let bs = take passed (blocks_from from s.rest) in let purgeable_counts = λ (b : Block). cond {A = ℕ} (is_purgeable b) 1 0 in
-      ap (count_by is_purgeable) (take_next (blocks_from from s.rest) passed here _ (behind_is s)) ∙ sum_by-append purgeable_counts bs (here ∷ [])
+      let blocks_passed = take passed (blocks_from from s.rest) in let purgeable_counts = λ (b : Block). cond {A = ℕ} (is_purgeable b) 1 0 in
+      ap (count_by is_purgeable) (take_next (blocks_from from s.rest) passed here _ (behind_is s)) ∙ sum_by-append purgeable_counts blocks_passed (here ∷ [])
       ∙ ap₂ ◌+◌ (sym (p.count_is s)) (sum_by-cons purgeable_counts here [] ∙ omega arith)
 
   fronted : (s : IsSplit old from) (b : Block) → purge_block here ≡ b
       → blocks_from 0 p.split.front ++ (b ∷ []) ≡ blocks_from 0 s.front ++ map purge_block (take (passed + 1) (blocks_from from s.rest))
   fronted s b e =
-      let bs = take passed (blocks_from from s.rest) in
-      ap (λ xs. xs ++ (b ∷ [])) (p.front s) ∙ append_assoc (blocks_from 0 s.front) (map purge_block bs) (b ∷ [])
-      ∙ ap (λ x. blocks_from 0 s.front ++ (map purge_block bs ++ (x ∷ []))) (sym e)
-      ∙ ap (λ xs. blocks_from 0 s.front ++ xs) (sym (map-append purge_block bs (here ∷ [])) ∙ ap (map purge_block) (sym (take_next (blocks_from from s.rest) passed here _ (behind_is s))))
+      let blocks_passed = take passed (blocks_from from s.rest) in
+      ap (λ xs. xs ++ (b ∷ [])) (p.front s) ∙ append_assoc (blocks_from 0 s.front) (map purge_block blocks_passed) (b ∷ [])
+      ∙ ap (λ x. blocks_from 0 s.front ++ (map purge_block blocks_passed ++ (x ∷ []))) (sym e)
+      ∙ ap (λ xs. blocks_from 0 s.front ++ xs) (sym (map-append purge_block blocks_passed (here ∷ [])) ∙ ap (map purge_block) (sym (take_next (blocks_from from s.rest) passed here _ (behind_is s))))
 
   -- a block that is no purgeable one
   pub passed_step : is_purgeable here ≡ false → PurgedTo old all region homes from (at + n) (passed + 1) count
@@ -170,12 +170,12 @@ module _ (old : List ℕ) (all : Homes) (region : List ℕ) (homes : Homes) (fro
         → PurgedTo old all after new from (at + n) (passed + 1) (count + 1)
     freed_step new set =
         let block_large = o.large in let passed_low = p.low in let count_few = p.few in
-        let later = blocks_from (at + n) o.next.rest in
+        let blocks_behind = blocks_from (at + n) o.next.rest in
         record {
           split = next;
           len = length_after region at n p.split o part same told after after_is ∙ p.len;
           alike = alike_then all homes new p.alike (set_alike homes new _ NO_HOME set);
-          home = subst (AreHome new) (sym (blocks_split after (at + n) next ∙ ap (λ bs. bs ++ later) front_is ∙ append_assoc (blocks_from 0 p.split.front) (free_block at (length o.part) ∷ []) later))
+          home = subst (AreHome new) (sym (blocks_split after (at + n) next ∙ ap (λ bs. bs ++ blocks_behind) front_is ∙ append_assoc (blocks_from 0 p.split.front) (free_block at (length o.part) ∷ []) blocks_behind))
               (freed_home _ _ _ _ _ holds home_here new (subst (λ w. IsSet homes new (owner_in w) NO_HOME) word_is set));
           low = omega arith;
           few = omega arith;

@@ -38,7 +38,7 @@ ends_push (x ∷ y ∷ xs) b p = ends_push (y ∷ xs) b p
 heads_push : (place sum : ℕ) (xs : List Block) (b : Block) → Heads place xs → Sized xs → sum ≡ total xs → Heads (run_place place sum b.place) (xs ++ b ∷ [])
 heads_push place sum [] b h s e = sym (cond-true (sum == 0) b.place place (eq-eqb sum 0 e))
 heads_push place sum (x ∷ xs) b h s e =
-    let total_is = total-cons x xs in h ∙ sym (cond-false (sum == 0) b.place place (ne_eqb sum 0 (λ z. let positive = s.0 in omega arith)))
+    let total_is = total-cons x xs in h ∙ sym (cond-false (sum == 0) b.place place (ne_eqb sum 0 (λ z. let size_positive = s.0 in omega arith)))
 
 total_push : (xs : List Block) (b : Block) → total (xs ++ b ∷ []) ≡ total xs + b.size
 total_push xs b = sum_by_push (λ (c : Block). c.size) xs b
@@ -127,16 +127,16 @@ module _ (r p q : ℕ) (b c : Block) (bs : List Block) (t : Tiles p q (b ∷ c �
     (skip : starts_at r b ≡ false) where
   low : p + b.size ≤ r
   low =
-      let place_below_rover = above r p q b (c ∷ bs) t a skip in let no : (b.place == r) ≡ false = ne_eqb b.place r (λ e. omega arith) in
-      let place_behind : has_place r (c ∷ bs) ≡ true = rw no at h in has_low r (p + b.size) q (c ∷ bs) t.2 place_behind
+      let place_below_rover = above r p q b (c ∷ bs) t a skip in let not_at_rover : (b.place == r) ≡ false = ne_eqb b.place r (λ e. omega arith) in
+      let place_behind : has_place r (c ∷ bs) ≡ true = rw not_at_rover at h in has_low r (p + b.size) q (c ∷ bs) t.2 place_behind
 
   next_place : has_place r (c ∷ bs) ≡ true
   next_place =
-      let place_below_rover = above r p q b (c ∷ bs) t a skip in let no : (b.place == r) ≡ false = ne_eqb b.place r (λ e. omega arith) in rw no at h
+      let place_below_rover = above r p q b (c ∷ bs) t a skip in let not_here : (b.place == r) ≡ false = ne_eqb b.place r (λ e. omega arith) in rw not_here at h
 
   held_here : starts_at r c ≡ true → is_free b ≡ false
   held_here e = elim (or_cases (nat_le r c.place) (ends_free_at r c) e) [
-    | inl x ↦ (let le = leb-true r c.place x in let ends_low = low in not_ending r p q b (c ∷ bs) t a skip (omega arith))
+    | inl x ↦ (let rover_at_most_place = leb-true r c.place x in let ends_low = low in not_ending r p q b (c ∷ bs) t a skip (omega arith))
     | inr x ↦ (let free_behind = (and_parts (is_free c) _ x).0 in elim (and_cases (is_free b) (is_free c) a.0) [ inl y ↦ y | inr y ↦ absurd (false≢true (sym y ∙ free_behind)) ])
   ]
 
@@ -149,8 +149,8 @@ module _ (r p q : ℕ) (b c : Block) (bs : List Block) (t : Tiles p q (b ∷ c �
 last_start : (r p q : ℕ) (b : Block) → Tiles p q (b ∷ []) → Apart (b ∷ []) → has_place r (b ∷ []) ≡ true → starts_at r b ≡ false
     → EndsHeld (take (position_or_len (starts_at r) (b ∷ [])) (b ∷ []))
 last_start r p q b t a h skip =
-    let place_below_rover = above r p q b [] t a skip in let no : (b.place == r) ≡ false = ne_eqb b.place r (λ e. omega arith) in
-    let no_place : false ≡ true = rw no at h in absurd (false≢true no_place)
+    let place_below_rover = above r p q b [] t a skip in let not_at_rover : (b.place == r) ≡ false = ne_eqb b.place r (λ e. omega arith) in
+    let no_place : false ≡ true = rw not_at_rover at h in absurd (false≢true no_place)
 
 -- the blocks before the start of a search end with one that is not free
 pub start_held : (r p q : ℕ) (bs : List Block) → Tiles p q bs → Apart bs → has_place r bs ≡ true → EndsHeld (take (position_or_len (starts_at r) bs) bs)

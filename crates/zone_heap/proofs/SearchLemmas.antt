@@ -18,14 +18,14 @@ purged_from n bs = take n bs ++ map purge_block (drop n bs)
 none_ends : (r p q : ℕ) (bs : List Block) → Tiles p q bs → r ≤ p → find (ends_free_at r) bs ≡ None
 none_ends r p q [] t h = refl
 none_ends r p q (b ∷ bs) t h =
-    let no : (b.place + b.size == r) ≡ false = ne_eqb (b.place + b.size) r (λ e. omega arith) in
-    let not_ending : ends_free_at r b ≡ false = and_right (is_free b) _ no in
+    let rover_not_at_end : (b.place + b.size == r) ≡ false = ne_eqb (b.place + b.size) r (λ e. omega arith) in
+    let not_ending : ends_free_at r b ≡ false = and_right (is_free b) _ rover_not_at_end in
     rw not_ending (none_ends r (p + b.size) q bs t.2 (omega arith))
 
 -- the place of a block does not lie before the first one
 pub has_low : (r p q : ℕ) (bs : List Block) → Tiles p q bs → has_place r bs ≡ true → p ≤ r
 has_low r p q [] t h = absurd (false≢true h)
-has_low r p q (b ∷ bs) t h = elim (cases_lt r p) [ inl lt ↦ (let no : (b.place == r) ≡ false = ne_eqb b.place r (λ e. omega arith) in let place_behind : has_place r bs ≡ true = rw no at h in let le = has_low r (p + b.size) q bs t.2 place_behind in absurd (omega arith)) | inr le ↦ le ]
+has_low r p q (b ∷ bs) t h = elim (cases_lt r p) [ inl lt ↦ (let not_at_rover : (b.place == r) ≡ false = ne_eqb b.place r (λ e. omega arith) in let place_behind : has_place r bs ≡ true = rw not_at_rover at h in let end_at_most_rover = has_low r (p + b.size) q bs t.2 place_behind in absurd (omega arith)) | inr le ↦ le ]
 
 start_low : (x r p q : ℕ) (bs : List Block) → x ≤ p → x ≤ r → Tiles p q bs → x ≤ start_in r bs
 start_low x r p q [] h k t = k
@@ -54,9 +54,9 @@ module _ (r p q : ℕ) (b : Block) (bs : List Block) (t : Tiles p q (b ∷ bs)) 
   further h e k rest =
       let starts_behind : start_in r (b ∷ bs) ≡ start_in r bs = ap (place_or r) (cond-false (ends_free_at r b) (Some b) (find (ends_free_at r) bs) e) in
       let low = start_low (p + b.size) r (p + b.size) q bs (omega arith) k t.2 in
-      let no : starts_at r b ≡ false = or_from _ _ (lt-leb r b.place (omega arith)) e in
-      let pos : position_or_len (starts_at r) (b ∷ bs) ≡ suc (position_or_len (starts_at r) bs) = cond-true _ _ _ (ap not no) ∙ one-add _ in
-      ap (λ k. blocks_from k (b ∷ bs)) starts_behind ∙ cond-false _ _ _ (lt-leb (start_in r bs) b.place (omega arith)) ∙ rest ∙ sym (ap (λ n. drop n (b ∷ bs)) pos)
+      let not_at_rover : starts_at r b ≡ false = or_from _ _ (lt-leb r b.place (omega arith)) e in
+      let position_step : position_or_len (starts_at r) (b ∷ bs) ≡ suc (position_or_len (starts_at r) bs) = cond-true _ _ _ (ap not not_at_rover) ∙ one-add _ in
+      ap (λ k. blocks_from k (b ∷ bs)) starts_behind ∙ cond-false _ _ _ (lt-leb (start_in r bs) b.place (omega arith)) ∙ rest ∙ sym (ap (λ n. drop n (b ∷ bs)) position_step)
 
 -- the blocks from the start on are those from the first that starts the search on
 pub start_is : (r p q : ℕ) (bs : List Block) → Tiles p q bs → has_place r bs ≡ true → blocks_from (start_in r bs) bs ≡ drop (position_or_len (starts_at r) bs) bs
@@ -68,7 +68,7 @@ start_is r p q (b ∷ bs) t h = pick (cases_lt p r) (ends_free_at r b) refl (λ 
   pick (inr l) u e rest = let low = has_low r p q (b ∷ bs) t h in at_once r p q b bs t (omega arith)
   pick (inl l) true e rest = at_free r p q b bs t e
   pick (inl l) false e rest =
-      let no : (b.place == r) ≡ false = ne_eqb b.place r (λ x. omega arith) in let place_behind : has_place r bs ≡ true = rw no at h in
+      let not_at_rover : (b.place == r) ≡ false = ne_eqb b.place r (λ x. omega arith) in let place_behind : has_place r bs ≡ true = rw not_at_rover at h in
       further r p q b bs t l e (has_low r (p + b.size) q bs t.2 place_behind) (rest place_behind)
 
 -- a gap that holds is looked for in the first list, and then in the second
@@ -158,16 +158,16 @@ module _ (w rover p q : ℕ) (bs : List Block) (t : Tiles p q bs) (at : has_plac
   in_first place upto f =
       let front_tiles = tiles_cut s p q bs t in
       let found_from_start = found_first w place (gaps (drop s bs)) (gaps bs) f.place_is in
-      let chosen : passed_blocks w (stretches rover bs) ≡ unpinned (take upto (drop s bs)) =
+      let unpinned_passed : passed_blocks w (stretches rover bs) ≡ unpinned (take upto (drop s bs)) =
       ap (passed_blocks w) stretches_are ∙ found_from_start.1 ∙ f.passed_is in
       record {
         place_is = ap (first_room w) stretches_are ∙ found_from_start.0;
         after_is =
-            ap (λ ch. purge_among ch bs) chosen ∙ ap (purge_among (unpinned (take upto (drop s bs)))) (sym (take-append-drop s bs))
+            ap (λ ch. purge_among ch bs) unpinned_passed ∙ ap (purge_among (unpinned (take upto (drop s bs)))) (sym (take-append-drop s bs))
             ∙ purge_among-append _ (take s bs) (drop s bs)
             ∙ ap₂ ◌++◌ (purge_missed _ (take s bs) (missed_front upto)) (purge_part front_tiles.at q upto (drop s bs) front_tiles.second);
         count_is =
-            ap (λ ch. count_among ch bs) chosen ∙ ap (count_among (unpinned (take upto (drop s bs)))) (sym (take-append-drop s bs))
+            ap (λ ch. count_among ch bs) unpinned_passed ∙ ap (count_among (unpinned (take upto (drop s bs)))) (sym (take-append-drop s bs))
             ∙ count_among-append _ (take s bs) (drop s bs)
             ∙ ap₂ ◌+◌ (count_missed _ (take s bs) (missed_front upto)) (count_part front_tiles.at q upto (drop s bs) front_tiles.second) ∙ zero-add _;
       }
@@ -179,39 +179,39 @@ module _ (w rover p q : ℕ) (bs : List Block) (t : Tiles p q bs) (at : has_plac
   pub in_second : (place upto : ℕ) → NoFit w (drop s bs) → FitIs w bs place upto
       → SearchIs w rover bs (Some place) (purged_to upto cleared) (count_by is_purgeable (drop s bs) + count_by is_purgeable (take upto cleared))
   in_second place upto n f =
-      let behind_start = unpinned (drop s bs) in let ch = unpinned (take upto bs) in
-      let later = found_later w (gaps (drop s bs)) (gaps bs) n.none in
-      let chosen : passed_blocks w (stretches rover bs) ≡ behind_start ++ ch = ap (passed_blocks w) stretches_are ∙ later.1 ∙ ap₂ ◌++◌ n.passed_is f.passed_is in
+      let behind_start = unpinned (drop s bs) in let front = unpinned (take upto bs) in
+      let found_from_zero = found_later w (gaps (drop s bs)) (gaps bs) n.none in
+      let passed_are : passed_blocks w (stretches rover bs) ≡ behind_start ++ front = ap (passed_blocks w) stretches_are ∙ found_from_zero.1 ∙ ap₂ ◌++◌ n.passed_is f.passed_is in
       let purged_is_cleared : purge_among behind_start bs ≡ cleared = purge_back p q s bs t in
       let top : purge_among behind_start (take upto bs) ≡ take upto cleared = sym (take-map _ upto bs) ∙ ap (take upto) purged_is_cleared in
       let bottom : purge_among behind_start (drop upto bs) ≡ drop upto cleared = sym (drop-map _ upto bs) ∙ ap (drop upto) purged_is_cleared in
       let purged_by_halves : purge_among behind_start bs ≡ purge_among behind_start (take upto bs) ++ purge_among behind_start (drop upto bs) =
       ap (purge_among behind_start) (sym (take-append-drop upto bs)) ∙ purge_among-append behind_start (take upto bs) (drop upto bs) in
-      let covers : Covers ch (purge_among behind_start (take upto bs)) = covers_kept ch behind_start (take upto bs) (covers_itself (take upto bs)) in
-      let misses : Misses ch (purge_among behind_start (drop upto bs)) =
-      misses_kept ch behind_start (drop upto bs) (misses_after p q (take upto bs) (drop upto bs) (tiles_cut upto p q bs t)) in
+      let is_covered : Covers front (purge_among behind_start (take upto bs)) = covers_kept front behind_start (take upto bs) (covers_itself (take upto bs)) in
+      let misses : Misses front (purge_among behind_start (drop upto bs)) =
+      misses_kept front behind_start (drop upto bs) (misses_after p q (take upto bs) (drop upto bs) (tiles_cut upto p q bs t)) in
       record {
-        place_is = ap (first_room w) stretches_are ∙ later.0 ∙ f.place_is;
+        place_is = ap (first_room w) stretches_are ∙ found_from_zero.0 ∙ f.place_is;
         after_is =
-            ap (λ c. purge_among c bs) chosen ∙ purge_twice behind_start ch bs ∙ ap (purge_among ch) purged_by_halves
-            ∙ purge_among-append ch (purge_among behind_start (take upto bs)) (purge_among behind_start (drop upto bs))
-            ∙ ap₂ ◌++◌ (purge_covered ch _ covers ∙ ap (map purge_block) top) (purge_missed ch _ misses ∙ bottom);
+            ap (λ c. purge_among c bs) passed_are ∙ purge_twice behind_start front bs ∙ ap (purge_among front) purged_by_halves
+            ∙ purge_among-append front (purge_among behind_start (take upto bs)) (purge_among behind_start (drop upto bs))
+            ∙ ap₂ ◌++◌ (purge_covered front _ is_covered ∙ ap (map purge_block) top) (purge_missed front _ misses ∙ bottom);
         count_is =
-            ap (λ c. count_among c bs) chosen ∙ count_twice behind_start ch bs ∙ ap₂ ◌+◌ (count_back p q s bs t)
-            (ap (count_among ch) purged_by_halves ∙ count_among-append ch (purge_among behind_start (take upto bs)) (purge_among behind_start (drop upto bs)) ∙ ap₂ ◌+◌ (count_covered ch _ covers ∙ ap (count_by is_purgeable) top) (count_missed ch _ misses) ∙ add-zero _);
+            ap (λ c. count_among c bs) passed_are ∙ count_twice behind_start front bs ∙ ap₂ ◌+◌ (count_back p q s bs t)
+            (ap (count_among front) purged_by_halves ∙ count_among-append front (purge_among behind_start (take upto bs)) (purge_among behind_start (drop upto bs)) ∙ ap₂ ◌+◌ (count_covered front _ is_covered ∙ ap (count_by is_purgeable) top) (count_missed front _ misses) ∙ add-zero _);
       }
 
   -- not found
   pub nowhere : NoFit w (drop s bs) → NoFit w bs → SearchIs w rover bs None (map purge_block bs) (count_by is_purgeable bs)
   nowhere n f =
-      let later = found_later w (gaps (drop s bs)) (gaps bs) n.none in
-      let chosen : passed_blocks w (stretches rover bs) ≡ unpinned (drop s bs) ++ unpinned bs =
-      ap (passed_blocks w) stretches_are ∙ later.1 ∙ ap₂ ◌++◌ n.passed_is f.passed_is in
-      let covers = covers_after (unpinned (drop s bs)) (unpinned bs) bs (covers_itself bs) in
+      let found_from_zero = found_later w (gaps (drop s bs)) (gaps bs) n.none in
+      let passed_are : passed_blocks w (stretches rover bs) ≡ unpinned (drop s bs) ++ unpinned bs =
+      ap (passed_blocks w) stretches_are ∙ found_from_zero.1 ∙ ap₂ ◌++◌ n.passed_is f.passed_is in
+      let covers_all = covers_after (unpinned (drop s bs)) (unpinned bs) bs (covers_itself bs) in
       record {
-        place_is = ap (first_room w) stretches_are ∙ later.0 ∙ f.none;
-        after_is = ap (λ c. purge_among c bs) chosen ∙ purge_covered _ bs covers;
-        count_is = ap (λ c. count_among c bs) chosen ∙ count_covered _ bs covers;
+        place_is = ap (first_room w) stretches_are ∙ found_from_zero.0 ∙ f.none;
+        after_is = ap (λ c. purge_among c bs) passed_are ∙ purge_covered _ bs covers_all;
+        count_is = ap (λ c. count_among c bs) passed_are ∙ count_covered _ bs covers_all;
       }
 
 module _ (w rover p q : ℕ) (bs : List Block) (pos : 0 < w) (t : Tiles p q bs) (at : has_place rover bs ≡ true) (s : ℕ)

@@ -30,7 +30,7 @@ module _ (sort : Block → Bool) (region : List ℕ) (at so : ℕ) (i : IsSum so
   -- the next sum is a word
   pub sum_small : at < length region → (h : Header) → h ≡ header_in (drop at region) → length region < 2 ^ 32 → (more : ℕ) → more ≤ h.size → so + more < 2 ^ 32
   sum_small lt h e small more most =
-      let block = opened region at i.split lt h e in let block_fits = block.fits in let few = i.few in omega arith
+      let block = opened region at i.split lt h e in let block_fits = block.fits in let blocks_few = i.few in omega arith
 
   -- at the end it is the sum of all blocks
   pub sum_all : length region ≤ at → so ≡ sum_by (λ x. cond (sort x) x.size 0) (blocks_in region)

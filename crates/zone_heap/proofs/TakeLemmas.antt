@@ -119,16 +119,16 @@ module _ (c : List ℕ) (u : Used) (large : HEADER_SIZE ≤ length c) (asked_sma
       let asked_kept = asked_written_len in let owner_kept = owner_written_len in
       let tag : word_at given 12 ≡ u.tag = word_same owner_written 12 u.tag (omega arith) tag_small in
       let owner : word_at given 8 ≡ u.owner = word_other owner_written 12 u.tag 8 (omega arith) (inl (omega arith)) ∙ word_same asked_written 8 u.owner (omega arith) owner_small in
-      let asked : word_at given 4 ≡ u.asked = word_other owner_written 12 u.tag 4 (omega arith) (inl (omega arith))
+      let asked_stays : word_at given 4 ≡ u.asked = word_other owner_written 12 u.tag 4 (omega arith) (inl (omega arith))
       ∙ word_other asked_written 8 u.owner 4 (omega arith) (inl (omega arith)) ∙ word_same c 4 u.asked (omega arith) asked_small in
       let bytes_stay : drop HEADER_SIZE given ≡ drop HEADER_SIZE c = drop-with_word owner_written 12 u.tag HEADER_SIZE (omega arith) (omega arith)
       ∙ drop-with_word asked_written 8 u.owner HEADER_SIZE (omega arith) (omega arith) ∙ drop-with_word c 4 u.asked HEADER_SIZE (omega arith) (omega arith) in
       let size = length-given in
-      let some : holding_in given ≡ Some (live_in given) =
+      let given_holds_live : holding_in given ≡ Some (live_in given) =
       cond-false (word_at given 8 == FREE_OWNER) None (Some (live_in given)) (ap (λ n. n == FREE_OWNER) owner ∙ live) in
       let live_is : live_in given ≡ used_holding u (drop HEADER_SIZE c) =
-      λ i. record { owner = owner_in (owner i); tag = code_tag (tag i); asked = asked i; bytes = take (asked i) (bytes_stay i) } in
-      λ i. record { place = p; size = size i; holding = (some ∙ ap Some live_is) i }
+      λ i. record { owner = owner_in (owner i); tag = code_tag (tag i); asked = asked_stays i; bytes = take (asked_stays i) (bytes_stay i) } in
+      λ i. record { place = p; size = size i; holding = (given_holds_live ∙ ap Some live_is) i }
 
 -- a part cut into two
 module _ (c : List ℕ) (wanted : ℕ) (large : HEADER_SIZE ≤ wanted) (room : wanted + HEADER_SIZE ≤ length c) (small : length c < 2 ^ 32) where

@@ -44,7 +44,7 @@ holds_now v b g h = let total_is = total-cons b g in le-leb v (total (b ∷ g)) 
 holds_later : (v : ℕ) (b : Block) (g : List Block) → b.size < v → holds v (b ∷ g) ≡ holds (v - b.size) g
 holds_later v b g h = let total_is = total-cons b g in go (nat_le (v - b.size) (total g)) refl where
   go : (t : Bool) → nat_le (v - b.size) (total g) ≡ t → holds v (b ∷ g) ≡ t
-  go true t = let total_is = total-cons b g in let le = leb-true (v - b.size) (total g) t in le-leb v (total (b ∷ g)) (omega arith)
+  go true t = let total_is = total-cons b g in let rest_at_most_total = leb-true (v - b.size) (total g) t in le-leb v (total (b ∷ g)) (omega arith)
   go false t = let total_is = total-cons b g in let total_is_less = leb-false (v - b.size) (total g) t in lt-leb v (total (b ∷ g)) (omega arith)
 
 holds_none : (v : ℕ) → 0 < v → holds v [] ≡ false

@@ -123,9 +123,9 @@ pub drop-with_word : (xs : List ℕ) (at x n : ℕ) → at + 4 ≤ length xs →
 unfolding with_word
 drop-with_word xs at x n h l =
     let front_length : length (take at xs) ≡ at = simp length-take (omega arith) in
-    let beyond = n - (at + 4) in let sum_is : n ≡ at + (4 + beyond) = omega arith in let behind_word = drop 4 (drop at xs) in
-    ap (λ m. drop m (with_word xs at x)) sum_is ∙ sym (drop-drop (4 + beyond) at (with_word xs at x)) ∙ ap (drop (4 + beyond)) (drop_at (take at xs) (little_bytes 4 x ++ behind_word) at front_length) ∙ sym (drop-drop beyond 4 (little_bytes 4 x ++ behind_word)) ∙ drop-drop beyond 4 (drop at xs)
-    ∙ drop-drop (4 + beyond) at xs ∙ ap (λ m. drop m xs) (sym sum_is)
+    let bytes_behind_word = n - (at + 4) in let sum_is : n ≡ at + (4 + bytes_behind_word) = omega arith in let behind_word = drop 4 (drop at xs) in
+    ap (λ m. drop m (with_word xs at x)) sum_is ∙ sym (drop-drop (4 + bytes_behind_word) at (with_word xs at x)) ∙ ap (drop (4 + bytes_behind_word)) (drop_at (take at xs) (little_bytes 4 x ++ behind_word) at front_length) ∙ sym (drop-drop bytes_behind_word 4 (little_bytes 4 x ++ behind_word)) ∙ drop-drop bytes_behind_word 4 (drop at xs)
+    ∙ drop-drop (4 + bytes_behind_word) at xs ∙ ap (λ m. drop m xs) (sym sum_is)
 
 -- a word of a part between others is the part's
 pub word_within : (a c b : List ℕ) (k at : ℕ) → at ≡ length a + k → k + 4 ≤ length c → word_at (a ++ (c ++ b)) at ≡ word_at c k

@@ -68,9 +68,9 @@ module _ (region : List ℕ) (o : Owner) (place : ℕ) (f : IsFound region o pla
       let body_is : drop HEADER_SIZE part ≡ w ++ drop (HEADER_SIZE + asked) f.part =
       drop_at (take HEADER_SIZE f.part) (w ++ drop (HEADER_SIZE + asked) f.part) HEADER_SIZE front_len in
       let bytes : take (word_at part 4) (drop HEADER_SIZE part) ≡ w = ap₂ take asked_same body_is ∙ take_at w (drop (HEADER_SIZE + asked) f.part) asked len in
-      let said : live_in part ≡ record { owner = owner_in (word_at f.part 8); tag = code_tag (word_at f.part 12); asked = word_at f.part 4; bytes = w } =
+      let live_is : live_in part ≡ record { owner = owner_in (word_at f.part 8); tag = code_tag (word_at f.part 12); asked = word_at f.part 4; bytes = w } =
       λ i. record { owner = owner_in (owner_same i); tag = code_tag (tag_same i); asked = asked_same i; bytes = bytes i } in
-      changed_block region o place f ring part after same (word 0 (omega arith)) (word 16 (omega arith)) (word 20 (omega arith)) parts _ owner_same said
+      changed_block region o place f ring part after same (word 0 (omega arith)) (word 16 (omega arith)) (word 20 (omega arith)) parts _ owner_same live_is
       ∙ sym (cond-true (is_held_by o f.block) _ _ f.held ∙ ap (λ x. record { place = f.block.place; size = f.block.size; holding = write_holding w x }) f.holds)
 
   pub written_blocks : blocks_in after ≡ map (write_block o w) (blocks_in region)

@@ -29,8 +29,8 @@ wider_from r p q [] t = omega arith
 wider_from r p q (b ∷ bs) t = pick (cases_lt b.place r) (wider_from r (p + b.size) q bs t.2) where
   pick : (b.place < r) ⊎ (r ≤ b.place) → widest (gaps (blocks_from r bs)) ≤ widest (gaps bs) → widest (gaps (blocks_from r (b ∷ bs))) ≤ widest (gaps (b ∷ bs))
   pick (inl low) rest =
-      let skip : blocks_from r (b ∷ bs) ≡ blocks_from r bs = cond-false _ _ _ (lt-leb r b.place low) in
-      let widest_same = ap (λ xs. widest (gaps xs)) skip in
+      let first_skipped : blocks_from r (b ∷ bs) ≡ blocks_from r bs = cond-false _ _ _ (lt-leb r b.place low) in
+      let widest_same = ap (λ xs. widest (gaps xs)) first_skipped in
       let widest_grows = wider_more b bs in
       omega arith
   pick (inr high) rest =

@@ -72,7 +72,7 @@ module _ (items : List Item) (z : Heap) (s : IsSound z) (ord : IsInOrder items z
   order_has_room a = full_some w z.rover z.rover z.size z.blocks (omega arith) s.tiles found a
 
   searched : after_search w z ≡ r.front ++ (free_block z.rover r.rest ∷ [])
-  searched = let fits = room in ap (λ bs. after_search w (record z { blocks = bs })) r.is ∙ rest_searched w z.rover r.rest (omega arith) (omega arith) r.front r.exact below
+  searched = let room_fits = room in ap (λ bs. after_search w (record z { blocks = bs })) r.is ∙ rest_searched w z.rover r.rest (omega arith) (omega arith) r.front r.exact below
 
   module _ (h : Holding) (owner_is : h.owner ≡ o) (asked_is : h.asked ≡ size) where
     abbrev cut : List Block
@@ -144,13 +144,13 @@ module _ (items : List Item) (z : Heap) (s : IsSound z) (ord : IsInOrder items z
     -- a rest of 64 bytes is left only by the last item
     all_left : r.rest - w ≤ 64 → AllLive items new
     all_left small =
-        let fits = room in
+        let room_fits = room in
         let item_more = new_sum item_block in
         let live_is_front = front_sum item_block in
         let front_used = used in
         let all_fit = ord.roomy.room in
         let front_end = ends in
-        full_live items new (omega (arith, small, fits, item_more, live_is_front, front_used, all_fit, front_end.1))
+        full_live items new (omega (arith, small, room_fits, item_more, live_is_front, front_used, all_fit, front_end.1))
 
     new_left : AllLive items new ⊎ LeavesRest (place_after z.rover z.size new) new
     new_left = go (nat_lt 64 (r.rest - w)) refl new_is where

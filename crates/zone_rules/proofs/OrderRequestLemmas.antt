@@ -68,13 +68,13 @@ module _ (w r n : ℕ) (pos : 0 < n) (large : w ≤ n) where
 
   pub rest_found : (front : List Block) → AllExact front → Below r front → first_room w (stretches r (front ++ (rest ∷ []))) ≡ Some r
   rest_found front x l =
-      let bs = front ++ (rest ∷ []) in
-      ap (λ xs. first_room w (gaps xs ++ gaps bs)) (searched_from front x l) ∙ ap (option_map first_place) (cond-true (holds w (rest ∷ [])) (Some (rest ∷ [])) (find (holds w) (gaps bs)) rest_holds)
+      let blocks_at_end = front ++ (rest ∷ []) in
+      ap (λ xs. first_room w (gaps xs ++ gaps blocks_at_end)) (searched_from front x l) ∙ ap (option_map first_place) (cond-true (holds w (rest ∷ [])) (Some (rest ∷ [])) (find (holds w) (gaps blocks_at_end)) rest_holds)
 
   rest_passed : (front : List Block) → AllExact front → Below r front → passed_blocks w (stretches r (front ++ (rest ∷ []))) ≡ rest ∷ []
   rest_passed front x l =
-      let bs = front ++ (rest ∷ []) in
-      ap (λ xs. passed_blocks w (gaps xs ++ gaps bs)) (searched_from front x l) ∙ cond-true (holds w (rest ∷ [])) (least_front w (rest ∷ [])) ((rest ∷ []) ++ passed_blocks w (gaps bs)) rest_holds
+      let blocks_at_end = front ++ (rest ∷ []) in
+      ap (λ xs. passed_blocks w (gaps xs ++ gaps blocks_at_end)) (searched_from front x l) ∙ cond-true (holds w (rest ∷ [])) (least_front w (rest ∷ [])) ((rest ∷ []) ++ passed_blocks w (gaps blocks_at_end)) rest_holds
       ∙ ap (λ xs. rest ∷ xs) (cond-true (nat_le w n) [] (least_front (w - n) []) (le-leb w n large))
 
   rest_unpurged : (front : List Block) → Below r front → purge_among (rest ∷ []) (front ++ (rest ∷ [])) ≡ front ++ (rest ∷ [])

@@ -195,8 +195,8 @@ beside_owner o q (Some h) apart e = go (same_owner h.owner q) refl where
 -- the first block lies before that of an owner among the rest
 before_owned : (q : Owner) (p end' : ℕ) (a b c : Block) (bs : List Block) → Tiles p end' (a ∷ bs) → a ≡ b → owned_block q bs ≡ Some c → b.place + b.size ≤ c.place
 before_owned q p end' a b c bs t e f =
-    let pl = ap (λ (d : Block). d.place) e in
-    let sz = ap (λ (d : Block). d.size) e in
+    let places_same = ap (λ (d : Block). d.place) e in
+    let sizes_same = ap (λ (d : Block). d.size) e in
     let low = low_place q (p + a.size) end' bs c t.2 f in
     let place_is = t.0 in
     omega arith

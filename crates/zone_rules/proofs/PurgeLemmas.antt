@@ -207,7 +207,7 @@ within_wider p q p' q' (b ∷ bs) h k w = (omega arith, omega arith, within_wide
 
 pub tiles_within : (p q : ℕ) (bs : List Block) → Tiles p q bs → Within p q bs
 tiles_within p q [] t = tt
-tiles_within p q (b ∷ bs) t = let le = tiles_le (p + b.size) q bs t.2 in (omega arith, omega arith, within_wider (p + b.size) q p q bs (omega arith) (omega arith) (tiles_within (p + b.size) q bs t.2))
+tiles_within p q (b ∷ bs) t = let end_at_most_last = tiles_le (p + b.size) q bs t.2 in (omega arith, omega arith, within_wider (p + b.size) q p q bs (omega arith) (omega arith) (tiles_within (p + b.size) q bs t.2))
 
 pub unpinned_within : (p q : ℕ) (bs : List Block) → Within p q bs → Within p q (unpinned bs)
 unpinned_within p q [] w = tt

@@ -25,7 +25,7 @@ module _ (p size wanted : ℕ) (h : Holding) where
   tiles_cut_block l m q e [] rest t = go (nat_lt 64 (size - wanted)) refl where
     go : (u : Bool) → nat_lt 64 (size - wanted) ≡ u → Tiles q e (cond u (record { place = p; size = wanted; holding = Some h } ∷ free_block (p + wanted) (size - wanted) ∷ []) (record { place = p; size = size; holding = Some h } ∷ []) ++ rest)
     go true x =
-        let big = ltb-true 64 (size - wanted) x in
+        let rest_above_64 = ltb-true 64 (size - wanted) x in
         let same_end : q + size ≡ q + wanted + (size - wanted) = omega arith in
         (t.0, l, (ap (λ n. n + wanted) t.0, omega arith, subst (λ n. Tiles n e rest) same_end t.2))
     go false x = (t.0, t.1, t.2)

@@ -43,10 +43,10 @@ pub record AreRight (m : MapRecords) : Type 0 where
 pub records_refusal-none : (m : MapRecords) → records_refusal m ≡ None → AreRight m
 unfolding records_refusal range_refusal
 records_refusal-none m e =
-    let rest = or_else-none _ _ e in
-    let lists_and_tree = or_else-none _ _ rest.1 in
+    let leaf_and_others = or_else-none _ _ e in
+    let lists_and_tree = or_else-none _ _ leaf_and_others.1 in
     let lists = or_else-five _ _ _ _ _ lists_and_tree.0 in
-    record { leaf = rest.0; lines = lists.0; sides = lists.1; segs = lists.2; leaves = lists.3; nodes = lists.4; tree = lists_and_tree.1 }
+    record { leaf = leaf_and_others.0; lines = lists.0; sides = lists.1; segs = lists.2; leaves = lists.3; nodes = lists.4; tree = lists_and_tree.1 }
 
 -- a level of these lists
 pub joined_level-lists : (m : MapRecords) (segs : List Seg) (leaves : List Leaf) (root : Child) → segs ≡ joined_segs m → leaves ≡ joined_leaves m → root ≡ root_of m.nodes → record { things = m.things; sides = m.sides; segs = segs; leaves = leaves; nodes = m.nodes; sectors = m.sectors; root = root } ≡ joined_level m

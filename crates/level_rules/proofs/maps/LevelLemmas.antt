@@ -30,16 +30,16 @@ sizes_refusal-none b e =
     let things = or_else-none _ _ e in
     let lines = or_else-none _ _ things.1 in
     let sides = or_else-none _ _ lines.1 in
-    let behind = or_else-five _ _ _ _ _ sides.1 in
+    let five_lumps_behind = or_else-five _ _ _ _ _ sides.1 in
     record {
       things = few _ _ b.things (size_refusal-none lump.Things b.things things.0);
       lines = few _ _ b.lines (size_refusal-none lump.Linedefs b.lines lines.0);
       sides = few _ _ b.sides (size_refusal-none lump.Sidedefs b.sides sides.0);
-      vertexes = few _ _ b.vertexes (size_refusal-none lump.Vertexes b.vertexes behind.0);
-      segs = few _ _ b.segs (size_refusal-none lump.Segs b.segs behind.1);
-      leaves = few _ _ b.leaves (size_refusal-none lump.Ssectors b.leaves behind.2);
-      nodes = few _ _ b.nodes (size_refusal-none lump.Nodes b.nodes behind.3);
-      sectors = few _ _ b.sectors (size_refusal-none lump.Sectors b.sectors behind.4);
+      vertexes = few _ _ b.vertexes (size_refusal-none lump.Vertexes b.vertexes five_lumps_behind.0);
+      segs = few _ _ b.segs (size_refusal-none lump.Segs b.segs five_lumps_behind.1);
+      leaves = few _ _ b.leaves (size_refusal-none lump.Ssectors b.leaves five_lumps_behind.2);
+      nodes = few _ _ b.nodes (size_refusal-none lump.Nodes b.nodes five_lumps_behind.3);
+      sectors = few _ _ b.sectors (size_refusal-none lump.Sectors b.sectors five_lumps_behind.4);
     }
 
 unless-ok : {V : Type 0} (refusal : Option MapRefusal) (value v : V) → unless refusal value ≡ Ok v → (refusal ≡ None) × (value ≡ v)

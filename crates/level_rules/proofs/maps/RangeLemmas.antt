@@ -67,10 +67,10 @@ pub seg_field-none : (vertexes : ℕ) (lines : List MapLine) (seg : MapSeg) → 
 unfolding seg_field
 seg_field-none vertexes lines seg e =
     let start = cond-none (nat_lt seg.start vertexes) _ _ e in
-    let ends = cond-none (nat_lt seg.end vertexes) _ _ start.1 in
-    let line = cond-none (nat_lt seg.line (length lines)) _ _ ends.1 in
+    let end_there = cond-none (nat_lt seg.end vertexes) _ _ start.1 in
+    let line = cond-none (nat_lt seg.line (length lines)) _ _ end_there.1 in
     let side = cond-none (has_side (line_by lines seg.line) seg.side) _ _ line.1 in
-    (ltb-true _ _ start.0, ltb-true _ _ ends.0, ltb-true _ _ line.0, side.0)
+    (ltb-true _ _ start.0, ltb-true _ _ end_there.0, ltb-true _ _ line.0, side.0)
 
 pub side_field-none : (sectors : ℕ) (side : Side) → side_field sectors side ≡ None → side.sector < sectors
 unfolding side_field
@@ -88,8 +88,8 @@ eqb-false (suc n) e = omega arith
 pub leaf_refusal-none : (segs n : ℕ) (leaf : MapLeaf) → leaf_refusal segs n leaf ≡ None → (0 < leaf.count) × (leaf.first + leaf.count ≤ segs)
 unfolding leaf_refusal
 leaf_refusal-none segs n leaf e =
-    let some = cond-none_else (leaf.count == 0) _ _ e in
-    (eqb-false leaf.count some.0, leaf_field-none segs leaf (index_refusal-none lump.Ssectors n _ some.1))
+    let leaf_has_seg = cond-none_else (leaf.count == 0) _ _ e in
+    (eqb-false leaf.count leaf_has_seg.0, leaf_field-none segs leaf (index_refusal-none lump.Ssectors n _ leaf_has_seg.1))
 
 -- a node that is not refused has both its children
 pub node_refusal-none : (nodes leaves n : ℕ) (node : Node) → node_refusal nodes leaves n node ≡ None → (is_there nodes leaves (child_on node 0) ≡ true) × (is_there nodes leaves (child_on node 1) ≡ true)

@@ -46,9 +46,9 @@ within nodes zero depth (NodeChild n) reached d e =
     let neither_refused = or_else-none _ _ (sym (visits_refusal-cons reached (record { node = n; depth = depth }) _) ∙ e) in
     absurd (visit-deep reached n depth deep neither_refused.0)
 within nodes (suc k) depth (NodeChild n) reached d e =
-    let deeper : k + (depth + 1) ≡ MAX_DEPTH + 1 = omega (arith, d) in
+    let depth_step : k + (depth + 1) ≡ MAX_DEPTH + 1 = omega (arith, d) in
     let neither_refused = or_else-none _ _ (sym (visits_refusal-cons reached (record { node = n; depth = depth }) _) ∙ e) in
-    within-node nodes k (slice_set reached n true) (preorder nodes (suc k) (depth + 1)) (λ c r h. within nodes k (depth + 1) c r deeper h) (slice_get nodes n) neither_refused.1
+    within-node nodes k (slice_set reached n true) (preorder nodes (suc k) (depth + 1)) (λ c r h. within nodes k (depth + 1) c r depth_step h) (slice_get nodes n) neither_refused.1
 
 more-node : (nodes : List Node) (k depth : ℕ) → ((c : Child) → is_within nodes k c ≡ true → preorder nodes (suc k) depth c ≡ preorder nodes k depth c) → (found : Option Node) → option_map_or (λ node. is_within nodes k (child_on node 0) && is_within nodes k (child_on node 1)) found true ≡ true → visits_of (preorder nodes (suc k) depth) found ≡ visits_of (preorder nodes k depth) found
 unfolding visits_of
@@ -96,12 +96,12 @@ unfolding visits_refusal
 unreached reached [] inside e i d l = absurd (omega arith)
 unreached reached (v ∷ vs) inside e zero d l = visit-new reached v (or_else-none _ _ e).0
 unreached reached (v ∷ vs) inside e (suc i) d l =
-    let marked = set-mark reached v (inside v zero (omega arith)) in
-    let later = unreached (slice_set reached v.node true) vs (inside-rest reached v vs inside) (or_else-none _ _ e).1 i d (omega arith) in
+    let node_marked = set-mark reached v (inside v zero (omega arith)) in
+    let unreached_in_rest = unreached (slice_set reached v.node true) vs (inside-rest reached v vs inside) (or_else-none _ _ e).1 i d (omega arith) in
     elim (cases_eq (slice_index_or vs i d).node v.node) [
       | inl same ↦
-          absurd (true-false (sym marked ∙ ap (λ q. slice_index_or (slice_set reached v.node true) q false) (sym same) ∙ later))
-      | inr other ↦ sym (get_or-set_other reached v.node (slice_index_or vs i d).node true false other) ∙ later
+          absurd (true-false (sym node_marked ∙ ap (λ q. slice_index_or (slice_set reached v.node true) q false) (sym same) ∙ unreached_in_rest))
+      | inr other ↦ sym (get_or-set_other reached v.node (slice_index_or vs i d).node true false other) ∙ unreached_in_rest
     ]
 
 -- and no two are of one node
@@ -110,9 +110,9 @@ unfolding visits_refusal
 once reached [] inside e i j d l m = absurd (omega arith)
 once reached (v ∷ vs) inside e i zero d l m = absurd (omega arith)
 once reached (v ∷ vs) inside e zero (suc j) d l m = λ same.
-    let marked = set-mark reached v (inside v zero (omega arith)) in
-    let later = unreached (slice_set reached v.node true) vs (inside-rest reached v vs inside) (or_else-none _ _ e).1 j d (omega arith) in
-    true-false (sym marked ∙ ap (λ q. slice_index_or (slice_set reached v.node true) q false) same ∙ later)
+    let node_marked = set-mark reached v (inside v zero (omega arith)) in
+    let unreached_in_rest = unreached (slice_set reached v.node true) vs (inside-rest reached v vs inside) (or_else-none _ _ e).1 j d (omega arith) in
+    true-false (sym node_marked ∙ ap (λ q. slice_index_or (slice_set reached v.node true) q false) same ∙ unreached_in_rest)
 once reached (v ∷ vs) inside e (suc i) (suc j) d l m =
     once (slice_set reached v.node true) vs (inside-rest reached v vs inside) (or_else-none _ _ e).1 i j d (omega arith) (omega arith)
 
@@ -161,5 +161,5 @@ tree_refusal-none nodes leaves l e h =
     let inside = preorder-inside nodes (length nodes) leaves (MAX_DEPTH + 1) 1 (root_of nodes) e (root-there nodes leaves l) in
     let limited : is_within nodes MAX_DEPTH (root_of nodes) ≡ true = within nodes MAX_DEPTH 1 (root_of nodes) (replicate (length nodes) false) refl h in
     let visits_same : preorder nodes (MAX_DEPTH + 1) 1 (root_of nodes) ≡ preorder nodes MAX_DEPTH 1 (root_of nodes) = preorder-more nodes MAX_DEPTH 1 (root_of nodes) limited in
-    let single = once-all nodes (replicate (length nodes) false) (preorder nodes (MAX_DEPTH + 1) 1 (root_of nodes)) (length-replicate (length nodes) false) inside h in
-    record { within = limited; once = subst (λ vs. AreOnce vs) visits_same single }
+    let visits_once = once-all nodes (replicate (length nodes) false) (preorder nodes (MAX_DEPTH + 1) 1 (root_of nodes)) (length-replicate (length nodes) false) inside h in
+    record { within = limited; once = subst (λ vs. AreOnce vs) visits_same visits_once }

@@ -52,10 +52,10 @@ reached_after-nil reached = refl
 pub visits_refusal-child_1 : (reached after : List Bool) (nodes : List Node) (levels below depth n : ℕ) (node : Node) → levels ≡ below + 1 → slice_get nodes n ≡ Some node → visit_refusal reached (record { node = n; depth = depth }) ≡ None → visits_refusal (slice_set reached n true) (preorder nodes below (depth + 1) (child_on node 0)) ≡ None → after ≡ reached_after (slice_set reached n true) (preorder nodes below (depth + 1) (child_on node 0)) → visits_refusal after (preorder nodes below (depth + 1) (child_on node 1)) ≡ visits_refusal reached (preorder nodes levels depth (NodeChild n))
 unfolding visits_of
 visits_refusal-child_1 reached after nodes levels below depth n node e found here first reach =
-    let fewer : levels - 1 ≡ below = omega arith in
+    let levels_below : levels - 1 ≡ below = omega arith in
     sym (ap (visits_refusal reached) (preorder-node nodes levels depth n (omega arith))
     ∙ visits_refusal-cons reached (record { node = n; depth = depth }) _
-    ∙ rw (here, fewer, found) (visits_refusal-append (slice_set reached n true) (preorder nodes below (depth + 1) (child_on node 0)) (preorder nodes below (depth + 1) (child_on node 1)) ∙ rw (first, ← reach) refl))
+    ∙ rw (here, levels_below, found) (visits_refusal-append (slice_set reached n true) (preorder nodes below (depth + 1) (child_on node 0)) (preorder nodes below (depth + 1) (child_on node 1)) ∙ rw (first, ← reach) refl))
 
 -- for `grind`: a walk that makes the visits
 pub ruleset visiting = (preorder-leaf, preorder-node, visits_refusal-append, reached_after-append, visits_refusal-cons, visits_refusal-nil, reached_after-cons, reached_after-nil)

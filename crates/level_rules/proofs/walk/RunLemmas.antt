@@ -197,8 +197,8 @@ alone-with_column : (i : ℕ) (columns : List Bool) (rs : List (ℕ × ℕ)) →
 unfolding with_column
 alone-with_column i columns [] c s = inl (refl, refl)
 alone-with_column i columns (r ∷ rs) c s =
-    let no : r.0 ≢ i + 1 = λ e. (let is_open : get_or columns 0 true ≡ false = s.0.open_at 0 (omega arith) (omega (arith, s.0.ordered)) in cc) in
-    alone_joined i r rs no (r.0 == i + 1) refl
+    let end_not_next : r.0 ≢ i + 1 = λ e. (let is_open : get_or columns 0 true ≡ false = s.0.open_at 0 (omega arith) (omega (arith, s.0.ordered)) in cc) in
+    alone_joined i r rs end_not_next (r.0 == i + 1) refl
 
 -- a run past the first column is a run of the columns after it
 run_rest : (i : ℕ) (b : Bool) (columns : List Bool) (p q : ℕ) → i < p → IsRun i (b ∷ columns) p q → IsRun (i + 1) columns p q

@@ -12,9 +12,9 @@ loop-row-init c =
     let headers_set = c.has_headers.ensures in
     let flexible_set = c.flexible.ensures in
     let start = c.into_iter-row-iterator.ensures.into_iter_gives ∙ refl in
-    let rdr = c.into_byte_records-row-items.ensures.rdr in
+    let reader_same = c.into_byte_records-row-items.ensures.rdr in
     let bytes_left = c.into_byte_records-row-items.ensures.left in
-    rw (start, rdr, c.new-rows.ensures.items) (
+    rw (start, reader_same, c.new-rows.ensures.items) (
       rw (flexible_set, headers_set) at reader_is.trim ∙ c.new.ensures.trim,
       inr (inr (rw (flexible_set, headers_set) at reader_is.has_headers, reader_is.headers)),
       bytes_left,
@@ -28,38 +28,38 @@ loop-row-init c =
 
 pub loop-row-preserved : goal.loop-row-preserved
 loop-row-preserved c =
-    let inv = c.loop-row.invariant in
-    let next_record = rw (c.in-Some.is, c.in-Ok.is) at ((c.next.ensures.steps inv.2 inv.0).0 inv.1) in
+    let so_far = c.loop-row.invariant in
+    let next_record = rw (c.in-Some.is, c.in-Ok.is) at ((c.next.ensures.steps so_far.2 so_far.0).0 so_far.1) in
     let push_is_ok : is_ok c.push.result ≡ true = search rules in
     let items = rw push_is_ok at c.push.ensures.items in
-    let rows_reached = rows-more (λ (s : Bor (List ℕ)). Some s.now) c.loop-row.row-iterator.rdr c.next.new.self.rdr (fields_of c.in-Ok.fields) default_config st.StartRecord (strip_bom c.args.bytes.now) inv.4 (map fields_of c.loop-row.rows.items) inv.3 inv.5 inv.6 next_record.0 in (
-      next_record.0.3 ∙ inv.0,
+    let rows_reached = rows-more (λ (s : Bor (List ℕ)). Some s.now) c.loop-row.row-iterator.rdr c.next.new.self.rdr (fields_of c.in-Ok.fields) default_config st.StartRecord (strip_bom c.args.bytes.now) so_far.4 (map fields_of c.loop-row.rows.items) so_far.3 so_far.5 so_far.6 next_record.0 in (
+      next_record.0.3 ∙ so_far.0,
       inl next_record.1,
       next_record.2,
-      next_record.0.2 ∙ inv.3,
+      next_record.0.2 ∙ so_far.3,
       rows_reached.0,
       rows_reached.1,
       rw (items, map-append fields_of c.loop-row.rows.items (c.in-Ok.fields ∷ [])) rows_reached.2,
       search (rules, length-append),
-      (rw (c.in-Some.is, c.in-Ok.is) at (c.next.ensures.steps inv.2 inv.0).3) ∙ inv.8,
+      (rw (c.in-Some.is, c.in-Ok.is) at (c.next.ensures.steps so_far.2 so_far.0).3) ∙ so_far.8,
     )
 
 pub returns-then-len-limit : goal.returns-then-len-limit
 returns-then-len-limit c =
-    let inv = c.loop-row.invariant in
-    let full : length c.loop-row.rows.items ≡ c.args.limit = search rules in
-    first_records-full c.args.limit c.args.bytes.now inv.4 c.loop-row.row-iterator.rdr.state (map fields_of c.loop-row.rows.items) inv.6 (length-map c.loop-row.rows.items fields_of ∙ full)
+    let so_far = c.loop-row.invariant in
+    let rows_at_limit : length c.loop-row.rows.items ≡ c.args.limit = search rules in
+    first_records-full c.args.limit c.args.bytes.now so_far.4 c.loop-row.row-iterator.rdr.state (map fields_of c.loop-row.rows.items) so_far.6 (length-map c.loop-row.rows.items fields_of ∙ rows_at_limit)
 
 pub returns : goal.returns
 returns c =
-    let inv = c.loop-row.invariant in let no_next_record = rw c.in-None.is at ((c.next.ensures.steps inv.2 inv.0).0 inv.1) in
+    let so_far = c.loop-row.invariant in let no_next_record = rw c.in-None.is at ((c.next.ensures.steps so_far.2 so_far.0).0 so_far.1) in
     let no_rows_left = rows-end (λ (s : Bor (List ℕ)). Some s.now) c.loop-row.row-iterator.rdr c.next.new.self.rdr [] default_config
-    inv.4 inv.3 inv.5 no_next_record in
-    first_records-end c.args.limit c.args.bytes.now inv.4 c.loop-row.row-iterator.rdr.state (map fields_of c.loop-row.rows.items) inv.6 no_rows_left (rw (length-map c.loop-row.rows.items fields_of) inv.7)
+    so_far.4 so_far.3 so_far.5 no_next_record in
+    first_records-end c.args.limit c.args.bytes.now so_far.4 c.loop-row.row-iterator.rdr.state (map fields_of c.loop-row.rows.items) so_far.6 no_rows_left (rw (length-map c.loop-row.rows.items fields_of) so_far.7)
 
 pub prove-unreachable-requires : goal.prove-unreachable-requires
 prove-unreachable-requires c =
-    let inv = c.loop-row.invariant in
-    let next_refused = rw (c.in-Some.is, c.in-Err.is) at ((c.next.ensures.steps inv.2 inv.0).0 inv.1) in
-    let not_of_length = any-length (λ (s : Bor (List ℕ)). Some s.now) c.loop-row.row-iterator.rdr c.next.new.self.rdr c.in-Err.error.kind inv.8 next_refused in
-    true-false (sym c.if-prove.true ∙ c.is_of_length-refused.ensures ∙ not_of_length)
+    let so_far = c.loop-row.invariant in
+    let next_refused = rw (c.in-Some.is, c.in-Err.is) at ((c.next.ensures.steps so_far.2 so_far.0).0 so_far.1) in
+    let not_length = any-length (λ (s : Bor (List ℕ)). Some s.now) c.loop-row.row-iterator.rdr c.next.new.self.rdr c.in-Err.error.kind so_far.8 next_refused in
+    true-false (sym c.if-prove.true ∙ c.is_of_length-refused.ensures ∙ not_length)

@@ -12,11 +12,11 @@ returns-in_err-dir-clause-answers g c bytes stands =
 
 pub returns-clause-answers : goal.returns-clause-answers
 returns-clause-answers g c bytes stands =
-    let stand : NameFiles (g.S.Shelf.view c.load_dir.new.shelf) (c.args.number ∷ []) (bytes ∷ []) =
+    let lump_file_stands : NameFiles (g.S.Shelf.view c.load_dir.new.shelf) (c.args.number ∷ []) (bytes ∷ []) =
     all_stand_later _ _ (c.args.number ∷ []) (bytes ∷ []) c.load_dir.ensures.follows (stands, tt) in
     step (wad_files (bytes ∷ [])) (picture_in (bytes ∷ []) c.args.name.now) c.in_ok-dir.dir.lumps
     (c.in_ok-dir.ensures.answers (bytes ∷ []) (stands, tt)).ok c.load_dir.ensures.follows.steady
-    (c.draw_flat.ensures.answers (bytes ∷ []) (rw c.in_ok-dir.ensures.files stand) (c.in_ok-dir.ensures.within (bytes ∷ []) (stands, tt)))
+    (c.draw_flat.ensures.answers (bytes ∷ []) (rw c.in_ok-dir.ensures.files lump_file_stands) (c.in_ok-dir.ensures.within (bytes ∷ []) (stands, tt)))
 
 pub returns-clause-follows : goal.returns-clause-follows
 returns-clause-follows g c = follows_then c.load_dir.ensures.follows c.draw_flat.ensures.follows

@@ -23,19 +23,19 @@ pub returns-in_err-dir-clause-answers : goal.returns-in_err-dir-clause-answers
 unfolding files_in
 returns-in_err-dir-clause-answers g c files holds =
     let files_hold = c.load_tables.ensures.follows.all_files ∙ holds in
-    let still = c.load_texts.ensures.follows.all_files ∙ files_hold in
+    let all_hold = c.load_texts.ensures.follows.all_files ∙ files_hold in
     step_passed _ _ c.in_ok-tables.tables (c.in_ok-tables.ensures.answers files holds).ok c.load_tables.ensures.follows.steady
     (step_passed _ _ c.in_ok-texts.texts (c.in_ok-texts.ensures.answers files files_hold).ok c.load_texts.ensures.follows.steady
-    (step_stops _ _ c.from_residual-in_err-dir.result (c.load_wads.ensures.answers files still) c.in_err-dir.was refl c.from_residual-in_err-dir.ensures.1))
+    (step_stops _ _ c.from_residual-in_err-dir.result (c.load_wads.ensures.answers files all_hold) c.in_err-dir.was refl c.from_residual-in_err-dir.ensures.1))
 
 pub returns-clause-answers : goal.returns-clause-answers
 unfolding files_in
 returns-clause-answers g c files holds =
     let files_hold = c.load_tables.ensures.follows.all_files ∙ holds in
-    let still = c.load_texts.ensures.follows.all_files ∙ files_hold in
+    let all_hold = c.load_texts.ensures.follows.all_files ∙ files_hold in
     step_passed _ _ c.in_ok-tables.tables (c.in_ok-tables.ensures.answers files holds).ok c.load_tables.ensures.follows.steady
     (step_passed _ _ c.in_ok-texts.texts (c.in_ok-texts.ensures.answers files files_hold).ok c.load_texts.ensures.follows.steady
-    (step_passed _ _ c.in_ok-dir.dir.lumps (c.in_ok-dir.ensures.answers files still).ok c.load_wads.ensures.follows.steady (all_passed _ _ refl)))
+    (step_passed _ _ c.in_ok-dir.dir.lumps (c.in_ok-dir.ensures.answers files all_hold).ok c.load_wads.ensures.follows.steady (all_passed _ _ refl)))
 
 pub returns-clause-contents : goal.returns-clause-contents
 returns-clause-contents g c files contents holds named =
@@ -58,14 +58,14 @@ pub returns-in_err-dir-clause-taken_of : goal.returns-in_err-dir-clause-taken_of
 unfolding files_size
 returns-in_err-dir-clause-taken_of g c files contents holds named =
     let files_hold = c.load_tables.ensures.follows.all_files ∙ holds in
-    let still = c.load_texts.ensures.follows.all_files ∙ files_hold in
+    let all_hold = c.load_texts.ensures.follows.all_files ∙ files_hold in
     let wads_are_listed = listed_taken (map (λ (wad : Bor (List ℕ)). wad.now) c.args.wads.now) files contents named in
-    omega (arith, wads_are_listed, c.load_tables.ensures.taken_of files holds, c.load_texts.ensures.taken_of files files_hold, c.load_wads.ensures.taken files contents still named)
+    omega (arith, wads_are_listed, c.load_tables.ensures.taken_of files holds, c.load_texts.ensures.taken_of files files_hold, c.load_wads.ensures.taken files contents all_hold named)
 
 pub returns-clause-taken_of : goal.returns-clause-taken_of
 unfolding files_size
 returns-clause-taken_of g c files contents holds named =
     let files_hold = c.load_tables.ensures.follows.all_files ∙ holds in
-    let still = c.load_texts.ensures.follows.all_files ∙ files_hold in
+    let all_hold = c.load_texts.ensures.follows.all_files ∙ files_hold in
     let wads_are_listed = listed_taken (map (λ (wad : Bor (List ℕ)). wad.now) c.args.wads.now) files contents named in
-    omega (arith, wads_are_listed, c.load_tables.ensures.taken_of files holds, c.load_texts.ensures.taken_of files files_hold, c.load_wads.ensures.taken files contents still named)
+    omega (arith, wads_are_listed, c.load_tables.ensures.taken_of files holds, c.load_texts.ensures.taken_of files files_hold, c.load_wads.ensures.taken files contents all_hold named)

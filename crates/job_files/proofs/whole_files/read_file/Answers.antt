@@ -12,6 +12,6 @@ pub returns-clause-answers : goal.returns-clause-answers
 returns-clause-answers g c bytes stands =
     let size : c.in_ok-size.size ≡ length bytes = rw stands at c.in_ok-size.ensures.size in
     let whole = bytes_whole c.args.kind c.in_ok-size.size c.in-Ok.count bytes size (sym c.in-Ok.ensures.value) in
-    let still = c.size_of.ensures.follows.file _ _ stands in
-    let piece : IsPieceAt bytes 0 c.read_at.new.piece = rw still at c.in_ok-read_at.ensures.bytes in
+    let file_stands_still = c.size_of.ensures.follows.file _ _ stands in
+    let piece : IsPieceAt bytes 0 c.read_at.new.piece = rw file_stands_still at c.in_ok-read_at.ensures.bytes in
     rw (whole.0) (record { ok = grind (arith, common_steps); err = tt })

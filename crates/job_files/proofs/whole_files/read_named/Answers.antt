@@ -21,5 +21,5 @@ returns-clause-answers g c files holds =
 pub returns-clause-taken_of : goal.returns-clause-taken_of
 returns-clause-taken_of g c files holds =
     let file_there : StandsForNamed (g.S.Shelf.view c.find.new.self) c.in_ok-file.file.0 c.args.name.now files = rw holds at c.in_ok-file.ensures.found in
-    let fits = named_taken c.args.name.now files (g.S.Shelf.view c.find.new.self).taken (g.S.Shelf.view c.read_file.new.shelf).taken file_there.is_held (λ bytes is. c.read_file.ensures.taken_of bytes (file_there.stands ∙ is)) in
-    omega (arith, fits, c.find.ensures.untaken)
+    let taken_by_name = named_taken c.args.name.now files (g.S.Shelf.view c.find.new.self).taken (g.S.Shelf.view c.read_file.new.shelf).taken file_there.is_held (λ bytes is. c.read_file.ensures.taken_of bytes (file_there.stands ∙ is)) in
+    omega (arith, taken_by_name, c.find.ensures.untaken)

@@ -97,14 +97,14 @@ returns-in-Ok-clause-fetches g c =
     let owner = lump_owner c.args.lump.0 in
     let lump = lump_at c.args.dir.now.lumps c.args.lump.0 in
     let view = g.S.Shelf.view c.args.shelf.now in
-    let after = g.S.Shelf.view c.read_into.new.shelf in
+    let view_after = g.S.Shelf.view c.read_into.new.shelf in
     let block_filled = c.read_into.ensures.filled in
     let takes_block = taken g after_read in
     let bytes_length = written_len owner _ c.args.tag old zone_made new _ takes_block block_filled in
     miss_ok c.args.dir.now c.args.lump.0 c.args.tag view old c.requires.sound new (search rules) (others g after_read)
-    after (room old _ _ c.size-size.ensures c.in_ok-malloc.ensures.full.1) c.read_into.ensures.follows (filled g after_read)
+    view_after (room old _ _ c.size-size.ensures c.in_ok-malloc.ensures.full.1) c.read_into.ensures.follows (filled g after_read)
     (λ contents stand. some_bytes owner new.blocks block_filled.bytes _ (written_bytes owner _ c.args.tag old zone_made new _ takes_block block_filled) (filled_lump contents c.args.dir.now.lumps view c.args.dir.now.files c.args.lump.0 c.file.result c.place.result block_filled.bytes stand c.file.ensures c.place.ensures bytes_length (rw c.in-Ok.is at block_filled.says)))
-    (λ some. subst (λ (b : Option (List ℕ)). IfSome b (λ xs. after.taken ≡ counted view.taken (length xs))) (ap bytes_in takes_block.block) c.in-Ok.ensures.taken ∙ ap (counted view.taken) takes_block.len)
+    (λ some. subst (λ (b : Option (List ℕ)). IfSome b (λ xs. view_after.taken ≡ counted view.taken (length xs))) (ap bytes_in takes_block.block) c.in-Ok.ensures.taken ∙ ap (counted view.taken) takes_block.len)
     (λ zero. absurd (c.if-size-eq0.false (c.size-size.ensures ∙ zero)))
 
 -- over a steady shelf with the lump's file the read is answered
@@ -134,12 +134,12 @@ pub returns-in-Err-clause-fetches : goal.returns-in-Err-clause-fetches
 returns-in-Err-clause-fetches g c =
     let after_read = (goal.at.returns-in-Err-clause-fetches g c).After-read_into in
     let old = c.args.zone.now in
-    let between = c.read_into.new.zone in
+    let zone_filled = c.read_into.new.zone in
     let slot = c.lump_slot-in-Err.ensures in
     miss_read c.args.dir.now c.args.lump.0 c.args.tag (g.S.Shelf.view c.args.shelf.now) old c.requires.sound c.free.new.self (search rules)
     (λ p apart. subst (KeptOrPurged (owned_block p old.blocks)) (sym (c.free.ensures.others p (ap (λ n. same_owner (owner_at 0 n) p) slot ∙ apart))) (others g after_read p apart))
     (g.S.Shelf.view c.read_into.new.shelf) (room old _ _ c.size-size.ensures c.in_ok-malloc.ensures.full.1) c.read_into.ensures.follows
-    (record { between = between; takes = filled g after_read; freed = c.free.ensures.freed ∙ ap (λ n. without_block (owner_at 0 n) between) slot })
+    (record { between = zone_filled; takes = filled g after_read; freed = c.free.ensures.freed ∙ ap (λ n. without_block (owner_at 0 n) zone_filled) slot })
     (ap (λ n. owned_block (owner_at 0 n) c.free.new.self.blocks) (sym slot) ∙ c.free.ensures.empty)
     (λ zero. c.if-size-eq0.false (c.size-size.ensures ∙ zero)) c.in-Err.ensures.failed
     (λ contents stand within steady. steady_read g after_read contents stand within (c.in-Err.ensures.steady steady))

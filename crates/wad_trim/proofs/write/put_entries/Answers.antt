@@ -6,11 +6,11 @@ use Rattle.wad_trim.proofs.write.put_entries.Goals as goal
 
 pub loop-part-init : goal.loop-part-init
 loop-part-init g c =
-    let written = g.K.Sink.written c.args.sink.now in
+    let bytes_written = g.K.Sink.written c.args.sink.now in
     let faults = g.K.Sink.faults c.args.sink.now in
     record {
       place = omega (arith, size-none c.args.dir.now.lumps);
-      written = subst (λ (bytes : List ℕ). Writes {E = Failed} written written faults faults bytes (Ok tt)) (sym (entries-none c.args.dir.now.lumps HEADER_SIZE)) (writes_none written faults);
+      written = subst (λ (bytes : List ℕ). Writes {E = Failed} bytes_written bytes_written faults faults bytes (Ok tt)) (sym (entries-none c.args.dir.now.lumps HEADER_SIZE)) (writes_none bytes_written faults);
     }
 
 pub returns-in_err-put_entry : goal.returns-in_err-put_entry

@@ -38,8 +38,8 @@ module _ (a c b : List ℕ) (place wanted : ℕ) (at : length a ≡ place) (room
 
 pub returns-clause-parts : goal.returns-clause-parts
 returns-clause-parts c = λ a d b is at room told.
-    let rest : c.word_at.result - c.args.wanted ≡ length d - c.args.wanted = ap (λ n. n - c.args.wanted) (c.word_at.ensures ∙ told) in
-    c.set_free.ensures ∙ ap (λ xs. with_use xs (c.args.place + c.args.wanted) 0 FREE_OWNER 0) (c.set_word-2.ensures ∙ ap₂ (λ xs n. with_word xs (c.args.place + c.args.wanted) n) (c.set_word.ensures ∙ ap (λ xs. with_word xs c.args.place c.args.wanted) is) rest)
+    let rest_length_same : c.word_at.result - c.args.wanted ≡ length d - c.args.wanted = ap (λ n. n - c.args.wanted) (c.word_at.ensures ∙ told) in
+    c.set_free.ensures ∙ ap (λ xs. with_use xs (c.args.place + c.args.wanted) 0 FREE_OWNER 0) (c.set_word-2.ensures ∙ ap₂ (λ xs n. with_word xs (c.args.place + c.args.wanted) n) (c.set_word.ensures ∙ ap (λ xs. with_word xs c.args.place c.args.wanted) is) rest_length_same)
     ∙ writes a d b c.args.place c.args.wanted at room c.requires.large (length d - c.args.wanted)
 
 pub returns-clause-len : goal.returns-clause-len

@@ -84,8 +84,8 @@ module _ (region : List ℕ) (at next : ℕ) (s : IsSplit region at) (inside : a
     passed_value : (is_free (block_in at first.part) && is_free (block_in next second.part)) ≡ false
         → blocks_from 0 s.front ++ join_free (blocks_from at s.rest) ≡ blocks_from 0 behind.front ++ join_free (blocks_from next behind.rest)
     passed_value f =
-        let front_length = s.at_is in let rest = blocks_from (next + word_at region next) second.next.rest in
-        let joined_apart = ap join_free blocks_are ∙ join_passes (block_in at first.part) (block_in next second.part) rest f
+        let front_length = s.at_is in let blocks_behind = blocks_from (next + word_at region next) second.next.rest in
+        let joined_apart = ap join_free blocks_are ∙ join_passes (block_in at first.part) (block_in next second.part) blocks_behind f
         ∙ ap (λ bs. block_in at first.part ∷ join_free bs) (sym second.blocks) in
         let front_blocks = ap (blocks_from 0) first.front ∙ blocks-append 0 s.front (first.part ∷ [])
         ∙ ap (λ p. blocks_from 0 s.front ++ (block_in p first.part ∷ [])) (let place_is : 0 + length (joined s.front) ≡ at = omega arith in place_is) in

@@ -94,17 +94,17 @@ closed region at previous s none pos low linked last = go s.front refl s.front_w
       let large : HEADER_SIZE ≤ length c = w.0 in
       let region_is : region ≡ c ++ joined cs = s.is ∙ ap₂ (λ xs ys. joined xs ++ joined ys) e none ∙ append-nil (c ++ joined cs) in
       let ringed_part = with_word c 20 previous in let length_same = length-ringed c previous large in
-      let after : with_word region 20 previous ≡ ringed_part ++ joined cs =
+      let parts_are : with_word region 20 previous ≡ ringed_part ++ joined cs =
       ap (λ xs. with_word xs 20 previous) region_is ∙ written_in_front c (joined cs) 20 previous (omega arith) in
-      let laid : IsLaid (with_word region 20 previous) =
-      record { parts = ringed_part ∷ cs; is = after; whole = (omega arith, word-ringed c previous large 0 (omega arith) ∙ w.1 ∙ sym length_same, w.2) } in
+      let laid_after_write : IsLaid (with_word region 20 previous) =
+      record { parts = ringed_part ∷ cs; is = parts_are; whole = (omega arith, word-ringed c previous large 0 (omega arith) ∙ w.1 ∙ sym length_same, w.2) } in
       let len = length-with_word region 20 previous (let region_length = ap length region_is ∙ length-append c (joined cs) in omega arith) in
       record {
         ring = record {
-          laid = laid;
+          laid = laid_after_write;
           linked = subst (λ n. AreLinked n (last_place 0 0 (ringed_part ∷ cs)) 0 (ringed_part ∷ cs)) (sym len) (subst (λ n. AreLinked (length region) n 0 (ringed_part ∷ cs)) (sym m ∙ last-any 0 0 0 c ringed_part cs (sym length_same)) (linked-ringed c previous large (length region) 0 0 cs low l));
         };
-        blocks = blocks_laid (with_word region 20 previous) laid
+        blocks = blocks_laid (with_word region 20 previous) laid_after_write
             ∙ ap₂ (λ b n. b ∷ blocks_from (0 + n) cs) (block-ringed c previous large 0) length_same
             ∙ sym (blocks_laid region (record { parts = c ∷ cs; is = region_is; whole = w }));
         len = len;
@@ -136,14 +136,14 @@ loop-at-preserved c =
     let ring : ring_place (place + size) end' < 4294967296 =
     subst (λ k. k < 4294967296) c.ring_place.ensures.value (let ring_bound = c.ring_place.ensures.bound in omega arith) in
     let end_small : end' < 4294967296 = omega arith in let lower : c.loop-at.previous < 4294967296 = omega arith in
-    let grown = next_len region place size so_far.split block c.loop-at.previous end' refl end_small lower ring so_far.linked so_far.last in
+    let length_step = next_len region place size so_far.split block c.loop-at.previous end' refl end_small lower ring so_far.linked so_far.last in
     subst (λ xs. LinkedTo c.args.region.now xs (place + size) place) (sym region_written) (record {
       split = next region place size so_far.split block c.loop-at.previous end' refl end_small lower ring so_far.linked so_far.last;
       low = omega arith;
-      len = grown ∙ len;
+      len = length_step ∙ len;
       linked = subst (λ k. AreLinked k 0 0
           (next region place size so_far.split block c.loop-at.previous end' refl end_small lower ring so_far.linked so_far.last).front)
-          (sym grown) (next_linked region place size so_far.split block c.loop-at.previous end' refl end_small lower ring so_far.linked so_far.last);
+          (sym length_step) (next_linked region place size so_far.split block c.loop-at.previous end' refl end_small lower ring so_far.linked so_far.last);
       last = next_last region place size so_far.split block c.loop-at.previous end' refl end_small lower ring so_far.linked so_far.last;
       blocks = next_blocks region place size so_far.split block c.loop-at.previous end' refl end_small lower ring so_far.linked so_far.last ∙ so_far.blocks;
     })
@@ -152,7 +152,7 @@ pub returns : goal.returns
 returns c =
     let so_far = c.loop-at.invariant in
     let none_left = nothing_left c.loop-at.region c.loop-at.at so_far.split (omega arith) in
-    let len = so_far.len in let le = split_le c.loop-at.region c.loop-at.at so_far.split in let low = so_far.low in
+    let len = so_far.len in let place_within_region = split_le c.loop-at.region c.loop-at.at so_far.split in let low = so_far.low in
     let ring_closed = closed c.loop-at.region c.loop-at.at c.loop-at.previous so_far.split none_left (omega arith) (omega arith) so_far.linked so_far.last in
     record {
       ring = subst IsRing (sym c.set_word-2.ensures) ring_closed.ring;

@@ -77,12 +77,12 @@ returns-else-is_rest c =
     let size_told = c.word_at-size.ensures ∙ size_word_is in let rest_is_little = ltb-false _ _ (sym c.is_rest.ensures ∙ c.if-is_rest.false) in
     let little : needs.room.size - c.args.wanted ≤ MIN_FRAGMENT = omega arith in
     let block_fits = fits _ _ _ needs.laid needs.small needs.room c.args.used needs.large needs.live needs.owner needs.tag in
-    let written = c.set_use-else-is_rest.ensures in
+    let use_written = c.set_use-else-is_rest.ensures in
     record {
-      laid = whole_laid _ _ _ needs.laid needs.small needs.room c.args.used needs.large needs.live needs.owner needs.tag _ written little;
-      len = whole_len _ _ _ needs.laid needs.small needs.room c.args.used needs.large needs.live needs.owner needs.tag _ written little;
-      blocks = whole_blocks _ _ _ needs.laid needs.small needs.room c.args.used needs.large needs.live needs.owner needs.tag _ written little;
+      laid = whole_laid _ _ _ needs.laid needs.small needs.room c.args.used needs.large needs.live needs.owner needs.tag _ use_written little;
+      len = whole_len _ _ _ needs.laid needs.small needs.room c.args.used needs.large needs.live needs.owner needs.tag _ use_written little;
+      blocks = whole_blocks _ _ _ needs.laid needs.small needs.room c.args.used needs.large needs.live needs.owner needs.tag _ use_written little;
       rover = ap (λ n. cond (c.args.place + n == length c.args.region.now) 0 (c.args.place + n)) size_told
-          ∙ whole_rover _ _ _ needs.laid needs.small needs.room c.args.used needs.large needs.live needs.owner needs.tag _ written little;
+          ∙ whole_rover _ _ _ needs.laid needs.small needs.room c.args.used needs.large needs.live needs.owner needs.tag _ use_written little;
       bound = omega arith;
     }

@@ -89,12 +89,12 @@ module _ (homes : Homes) (rover wanted : ℕ) (region : List ℕ) (q : CanSearch
       → SearchIs wanted rover (blocks_in region) (Some place) new (m + n) × RoomAt place wanted (join_free new)
   found_second none fit later laid cleared_is m cleared_count new left n count =
       let none_from_start = none s ∙ ap (fit_from wanted 0 0 0) (sym (rest_is region q.laid start s)) in
-      let again = fit (split_first region q.laid) ∙ ap (fit_from wanted 0 0 0) (sym (blocks_laid region q.laid)) in
-      let clear = cleared region q.laid start s (blocks_in later) (cleared_is s) in
-      let blocks_are = from_first later laid new e (left (split_first later laid)) ∙ ap (purged_to e) clear in
-      let search_is = fit_second _ _ _ _ _ q.positive (tiles_region region q.laid) q.rover_is _ split.1 place e none_from_start again in (
-        with_after _ _ _ _ _ _ _ _ search_is blocks_are (ap₂ ◌+◌ (cleared_count s ∙ counted region q.laid start s) (count (split_first later laid) ∙ ap (λ bs. count_by is_purgeable (take e bs)) (sym (blocks_laid later laid) ∙ clear))),
-        subst (λ bs. RoomAt place wanted (join_free bs)) (sym blocks_are) (room_second _ rover _ _ _ q.positive (tiles_region region q.laid) q.apart q.rover_is (length s.front) split.1 place e again),
+      let fit_from_zero = fit (split_first region q.laid) ∙ ap (fit_from wanted 0 0 0) (sym (blocks_laid region q.laid)) in
+      let cleared_blocks_are = cleared region q.laid start s (blocks_in later) (cleared_is s) in
+      let blocks_are = from_first later laid new e (left (split_first later laid)) ∙ ap (purged_to e) cleared_blocks_are in
+      let search_is = fit_second _ _ _ _ _ q.positive (tiles_region region q.laid) q.rover_is _ split.1 place e none_from_start fit_from_zero in (
+        with_after _ _ _ _ _ _ _ _ search_is blocks_are (ap₂ ◌+◌ (cleared_count s ∙ counted region q.laid start s) (count (split_first later laid) ∙ ap (λ bs. count_by is_purgeable (take e bs)) (sym (blocks_laid later laid) ∙ cleared_blocks_are))),
+        subst (λ bs. RoomAt place wanted (join_free bs)) (sym blocks_are) (room_second _ rover _ _ _ q.positive (tiles_region region q.laid) q.apart q.rover_is (length s.front) split.1 place e fit_from_zero),
       )
 
 pub first_fit-requires-2-clause-split : goal.first_fit-requires-2-clause-split
@@ -120,10 +120,10 @@ returns-in-Some-first_fit-clause-room c = (found_second _ _ _ _ c.requires _ c.s
 
 pub returns-clause-search : goal.returns-clause-search
 returns-clause-search c =
-    let region = c.args.region.now in let laid = c.requires.laid in let start = c.start_place-start.result in
+    let region = c.args.region.now in let region_laid = c.requires.laid in let start = c.start_place-start.result in
     let start_split = c.start_place-start.ensures.split.0 in let start_told = c.start_place-start.ensures.split.1 in
-    let whole_split = split_first region laid in
-    let none_from_start = c.in_default.ensures.value start_split ∙ ap (fit_from c.args.wanted 0 0 0) (sym (rest_is region laid start start_split)) in
-    let again = c.in_default-first_fit.ensures.value whole_split ∙ ap (fit_from c.args.wanted 0 0 0) (sym (blocks_laid region laid)) in
-    let search_is = fit_never _ _ _ _ _ c.requires.positive (tiles_region region laid) c.requires.rover_is _ start_told none_from_start again in
-    with_after _ _ _ _ _ _ _ _ search_is (cleared region laid 0 whole_split _ (c.purge-purges-2.ensures.blocks whole_split)) (c.purge-purges-2.ensures.count whole_split ∙ counted region laid 0 whole_split)
+    let whole_split = split_first region region_laid in
+    let none_from_start = c.in_default.ensures.value start_split ∙ ap (fit_from c.args.wanted 0 0 0) (sym (rest_is region region_laid start start_split)) in
+    let fit_from_zero = c.in_default-first_fit.ensures.value whole_split ∙ ap (fit_from c.args.wanted 0 0 0) (sym (blocks_laid region region_laid)) in
+    let search_is = fit_never _ _ _ _ _ c.requires.positive (tiles_region region region_laid) c.requires.rover_is _ start_told none_from_start fit_from_zero in
+    with_after _ _ _ _ _ _ _ _ search_is (cleared region region_laid 0 whole_split _ (c.purge-purges-2.ensures.blocks whole_split)) (c.purge-purges-2.ensures.count whole_split ∙ counted region region_laid 0 whole_split)

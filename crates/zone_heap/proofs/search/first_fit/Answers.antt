@@ -18,7 +18,7 @@ returns-then-wanted-sum c =
     let place = c.loop-at.at in let header = c.header_at-header.result in
     let block = opened c.args.region.now place c.loop-at.invariant.split c.loop-at-test.true header c.header_at-header.ensures in
     let pinned_told = c.is_pinned.ensures ∙ pinned_at c.args.region.now place c.loop-at.invariant.split header.size block header c.header_at-header.ensures in
-    let grown = block.len in
+    let length_step = block.len in
     let place_is : c.if-sum-eq0.place ≡ run_place c.loop-at.place c.loop-at.sum place = elim c.if-sum-eq0.branch [
       | then-sum-eq0 w ↦ w.place-is ∙ sym (cond-true (c.loop-at.sum == 0) place c.loop-at.place (eq-eqb _ _ w.if-sum-eq0.true))
       | else-sum-eq0 w ↦ w.place-is ∙ sym (cond-false (c.loop-at.sum == 0) place c.loop-at.place (ne_eqb _ _ w.if-sum-eq0.false))
@@ -34,7 +34,7 @@ loop-at-preserved c =
     let place = c.loop-at.at in let header = c.header_at-header.result in
     let block = opened c.args.region.now place c.loop-at.invariant.split c.loop-at-test.true header c.header_at-header.ensures in
     let pinned_told = c.is_pinned.ensures ∙ pinned_at c.args.region.now place c.loop-at.invariant.split header.size block header c.header_at-header.ensures in
-    let grown = block.len in let large = block.large in let later = blocks_from (place + header.size) block.next.rest in
+    let length_step = block.len in let header_within_part = block.large in let blocks_behind = blocks_from (place + header.size) block.next.rest in
     elim c.if-is_pinned.branch [
       | then-is_pinned w ↦ record {
         split = block.next;
@@ -47,12 +47,12 @@ loop-at-preserved c =
             | then-sum-eq0 v ↦ v.place-is ∙ sym (cond-true (c.loop-at.sum == 0) place c.loop-at.place (eq-eqb _ _ v.if-sum-eq0.true))
             | else-sum-eq0 v ↦ v.place-is ∙ sym (cond-false (c.loop-at.sum == 0) place c.loop-at.place (ne_eqb _ _ v.if-sum-eq0.false))
           ] in
-          let short : c.loop-at.sum + length block.part < c.args.wanted = omega arith in
+          let sum_below_wanted : c.loop-at.sum + length block.part < c.args.wanted = omega arith in
           record {
             split = block.next;
             small = omega arith;
             few = omega arith;
-            value = λ s. rw (w.place-is, w.sum-is, w.from-sum.ensures, place_is) (c.loop-at.invariant.value s ∙ ap (fit_from c.args.wanted c.loop-at.place c.loop-at.sum c.loop-at.end) block.blocks ∙ cond-false _ _ _ (sym pinned_told ∙ w.if-is_pinned.false) ∙ cond-false _ _ _ (lt-leb _ _ short) ∙ ap (λ n. fit_from c.args.wanted (run_place c.loop-at.place c.loop-at.sum place) (c.loop-at.sum + n) (c.loop-at.end + 1) later) grown);
+            value = λ s. rw (w.place-is, w.sum-is, w.from-sum.ensures, place_is) (c.loop-at.invariant.value s ∙ ap (fit_from c.args.wanted c.loop-at.place c.loop-at.sum c.loop-at.end) block.blocks ∙ cond-false _ _ _ (sym pinned_told ∙ w.if-is_pinned.false) ∙ cond-false _ _ _ (lt-leb _ _ sum_below_wanted) ∙ ap (λ n. fit_from c.args.wanted (run_place c.loop-at.place c.loop-at.sum place) (c.loop-at.sum + n) (c.loop-at.end + 1) blocks_behind) length_step);
           }
     ]
 

@@ -78,9 +78,9 @@ returns-else-passed-most-clause-laid c = split_laid c.loop-at.region c.loop-at.a
 pub returns-else-passed-most-clause-blocks : goal.returns-else-passed-most-clause-blocks
 returns-else-passed-most-clause-blocks c = λ s.
     let purged_so_far = c.loop-at.invariant.purged in let within_most = c.loop-at.invariant.within in
-    let all_passed : c.loop-at.passed ≡ c.args.most = omega arith in let bs = blocks_from c.args.from s.rest in
+    let all_passed : c.loop-at.passed ≡ c.args.most = omega arith in let blocks_ahead = blocks_from c.args.from s.rest in
     purged_blocks _ _ _ _ _ _ _ _ purged_so_far s
-    ∙ ap (λ n. blocks_from 0 s.front ++ (map purge_block (take n bs) ++ drop n bs)) all_passed
+    ∙ ap (λ n. blocks_from 0 s.front ++ (map purge_block (take n blocks_ahead) ++ drop n blocks_ahead)) all_passed
 
 pub returns-else-passed-most-clause-count : goal.returns-else-passed-most-clause-count
 returns-else-passed-most-clause-count c = λ s.
@@ -97,8 +97,8 @@ pub returns-after-loop-at-clause-blocks : goal.returns-after-loop-at-clause-bloc
 returns-after-loop-at-clause-blocks c = λ s.
     let purged_so_far = c.loop-at.invariant.purged in
     let none_left = ap (blocks_from c.loop-at.at) (nothing_left c.loop-at.region c.loop-at.at purged_so_far.split (omega arith)) in
-    let bs = blocks_from c.args.from s.rest in
-    let most_is_all = whole bs c.loop-at.passed c.args.most (sym none_left ∙ purged_so_far.rest s) c.loop-at.invariant.within in
+    let blocks_ahead = blocks_from c.args.from s.rest in
+    let most_is_all = whole blocks_ahead c.loop-at.passed c.args.most (sym none_left ∙ purged_so_far.rest s) c.loop-at.invariant.within in
     purged_blocks _ _ _ _ _ _ _ _ purged_so_far s
     ∙ ap₂ (λ xs ys. blocks_from 0 s.front ++ (map purge_block xs ++ ys)) (sym most_is_all.0) (sym most_is_all.1)
 

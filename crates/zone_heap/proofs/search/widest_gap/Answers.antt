@@ -15,12 +15,12 @@ loop-at-smaller c = less_left c.args.region.now c.loop-at.at c.loop-at.invariant
 
 pub loop-at-preserved : goal.loop-at-preserved
 loop-at-preserved c =
-    let place = c.loop-at.at in let best = c.loop-at.best in let run = c.loop-at.run in let header = c.header_at-header.result in
+    let place = c.loop-at.at in let best_so_far = c.loop-at.best in let run = c.loop-at.run in let header = c.header_at-header.result in
     let block = opened c.args.region.now place c.loop-at.invariant.split c.loop-at-test.true header c.header_at-header.ensures in
     let pinned_told = c.is_pinned.ensures ∙ pinned_at c.args.region.now place c.loop-at.invariant.split header.size block header c.header_at-header.ensures in
-    let later = blocks_from (place + header.size) block.next.rest in
-    let step = c.loop-at.invariant.value ∙ ap (widest_from best run) block.blocks in
-    let grown = block.len in
+    let blocks_behind = blocks_from (place + header.size) block.next.rest in
+    let step = c.loop-at.invariant.value ∙ ap (widest_from best_so_far run) block.blocks in
+    let length_step = block.len in
     elim c.if-is_pinned.branch [
       | then-is_pinned w ↦ record {
         split = block.next;
@@ -30,7 +30,7 @@ loop-at-preserved c =
       | else-is_pinned w ↦ record {
         split = block.next;
         small = omega arith;
-        value = rw (w.best-is, w.run-is, w.max-best.ensures, w.from-run.ensures) (step ∙ cond-false _ _ _ (sym pinned_told ∙ w.if-is_pinned.false) ∙ ap (λ n. widest_from (max best (run + n)) (run + n) later) grown);
+        value = rw (w.best-is, w.run-is, w.max-best.ensures, w.from-run.ensures) (step ∙ cond-false _ _ _ (sym pinned_told ∙ w.if-is_pinned.false) ∙ ap (λ n. widest_from (max best_so_far (run + n)) (run + n) blocks_behind) length_step);
       }
     ]
 

@@ -11,16 +11,16 @@ returns-clause-drawable c =
     let lumps = c.args.dir.now.lumps in
     let sound = c.in_ok-audit.field-0 in
     let whole = c.in_ok-audit.ensures.whole in
-    let few = c.requires.few in
+    let enough_fit = c.requires.few in
     let counts = c.in_ok-audit.ensures.counts in
     let slots = c.requires.slots in
     let composites = c.requires.composites in
-    let least = whole.few in
-    let can : CanDrawView lumps sound.scene c.audit.new.cache = record {
+    let whole_few = whole.few in
+    let can_draw : CanDrawView lumps sound.scene c.audit.new.cache = record {
       drawable = drawable-whole lumps _ _ _ sound.scene whole;
-      few = omega (arith, few);
+      few = omega (arith, enough_fit);
       colormap = colormap_there lumps sound.scene.base.colormap c.in_ok-audit.ensures.colormap;
       slots = omega (arith, slots, counts.1);
-      composites = omega (arith, composites, counts.2, least);
+      composites = omega (arith, composites, counts.2, whole_few);
     } in
-    subst (λ (s : SoundValue). CanDrawView lumps s.scene c.audit.new.cache) (sym c.in_ok-new.ensures.ok) can
+    subst (λ (s : SoundValue). CanDrawView lumps s.scene c.audit.new.cache) (sym c.in_ok-new.ensures.ok) can_draw

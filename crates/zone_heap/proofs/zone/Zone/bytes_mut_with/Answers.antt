@@ -17,5 +17,5 @@ invariant_of-self g c = part_zone _ c.self.invariant _ _ _ _ (span g (goal.at.in
 pub returns : goal.returns
 returns g c =
     let part = c.with_part_and.ensures.part in
-    let rewritten = part_rewritten _ c.self.invariant _ _ _ _ (span g (goal.at.returns g c).After-live_span-span) _ c.with_part_and.new.region part c.with_part_and.ensures.len in
-    record { called = record { x = _; w = part.0; x_is = rewritten.x_is; len = rewritten.len; called = part.2; zone = rewritten.zone } }
+    let part_written = part_rewritten _ c.self.invariant _ _ _ _ (span g (goal.at.returns g c).After-live_span-span) _ c.with_part_and.new.region part c.with_part_and.ensures.len in
+    record { called = record { x = _; w = part.0; x_is = part_written.x_is; len = part_written.len; called = part.2; zone = part_written.zone } }

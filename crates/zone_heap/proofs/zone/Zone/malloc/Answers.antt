@@ -176,8 +176,8 @@ returns-in-Err-clause-full g c =
 
 pub returns-in-Err-clause-report : goal.returns-in-Err-clause-report
 returns-in-Err-clause-report g c =
-    let full = c.serve-outcome.ensures.full in
-    let reported = rw c.in-Err.is at full in (
+    let full_means = c.serve-outcome.ensures.full in
+    let reported = rw c.in-Err.is at full_means in (
       reported.0 ∙ c.block_size-wanted.ensures.value,
       reported.1 ∙ ap (λ xs. widest_from 0 0 (blocks_in xs)) c.deref_mut.ensures.value ∙ widest_is (blocks_in c.self.inside.region.items) ∙ ap (λ (y : Heap). widest (gaps y.blocks)) c.self.view_is,
     )
@@ -199,7 +199,7 @@ returns-in-Err-clause-empty g c =
 pub returns-in-Err-clause-purged : goal.returns-in-Err-clause-purged
 returns-in-Err-clause-purged g c =
     let context = (goal.at.returns-in-Err-clause-purged g c).After-saturating_add-self-inside in
-    let least = c.block_size-wanted.ensures.least in
+    let wanted_at_least = c.block_size-wanted.ensures.least in
     subst (λ (x : Heap). All (λ (b : Block). is_purgeable b ≡ false) x.blocks) (sym (none_heap g context _ c.in-Err.is))
     (full_all c.block_size-wanted.result (heap_of c.self.inside) c.self.invariant.sound (omega arith) (place_is g context ∙ ap result_ok c.in-Err.is))
 

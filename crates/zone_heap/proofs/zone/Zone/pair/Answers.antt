@@ -28,5 +28,5 @@ invariant_of-self g c = part_zone _ c.self.invariant _ _ _ _ (write g (goal.at.i
 pub returns : goal.returns
 returns g c =
     let context = (goal.at.returns g c).After-live_span-to in let parts_told = c.with_parts.ensures.parts in
-    let rewritten = part_rewritten _ c.self.invariant _ _ _ _ (write g context) _ c.with_parts.new.region parts_told c.with_parts.ensures.len in
-    record { called = record { x = _; y = _; w = parts_told.0; x_is = span_bytes _ c.self.invariant _ _ _ _ (read g context); y_is = rewritten.x_is; len = rewritten.len; called = parts_told.2; zone = rewritten.zone } }
+    let parts_written = part_rewritten _ c.self.invariant _ _ _ _ (write g context) _ c.with_parts.new.region parts_told c.with_parts.ensures.len in
+    record { called = record { x = _; y = _; w = parts_told.0; x_is = span_bytes _ c.self.invariant _ _ _ _ (read g context); y_is = parts_written.x_is; len = parts_written.len; called = parts_told.2; zone = parts_written.zone } }
