@@ -79,8 +79,8 @@ module _ (P : ℕ → Type 0) (σ : ℕ → ℕ) (one : IsOneToOne P σ) (sky : 
   by-moved : (events : List Event) (walls : List Wall) → paints_by v other events (map (moved_wall σ) walls) ≡ map (moved_dot σ) (paints_by v scene events walls)
   unfolding paints_by
   by-moved events walls =
-      let ds = view_drawsegs v scene walls in
-      let es = draw_order (view_entries v scene events) in
+      let drawsegs = view_drawsegs v scene walls in
+      let drawn_entries = draw_order (view_entries v scene events) in
       let planes = view_planes (steps_of v scene walls events) in
       rw (
         walls_dots-moved walls,
@@ -89,9 +89,9 @@ module _ (P : ℕ → Type 0) (σ : ℕ → ℕ) (one : IsOneToOne P σ) (sky : 
         drawsegs-same P σ one sky keeps scene other moved v walls,
         entries-moved P σ one sky keeps scene other moved v events,
         order-moved σ (view_entries v scene events),
-        masked_dots-moved σ scene.art other.art moved.art v ds es,
-        map-append (moved_dot σ) (walls_dots v scene walls) (planes_dots v scene planes ++ masked_dots v scene.art ds es),
-        map-append (moved_dot σ) (planes_dots v scene planes) (masked_dots v scene.art ds es),
+        masked_dots-moved σ scene.art other.art moved.art v drawsegs drawn_entries,
+        map-append (moved_dot σ) (walls_dots v scene walls) (planes_dots v scene planes ++ masked_dots v scene.art drawsegs drawn_entries),
+        map-append (moved_dot σ) (planes_dots v scene planes) (masked_dots v scene.art drawsegs drawn_entries),
       ) refl
 
   of-moved : (events : List Event) → paints_of v other events ≡ map (moved_dot σ) (paints_of v scene events)

@@ -48,15 +48,15 @@ module _ (level : LevelJobValue) (delivery : Delivery) (view : ShelfView) (loade
 pub telling_delivers : (level : LevelJobValue) (view : ShelfView) (loaded : LoadedScene) (tells : (ℕ → List ℕ) → LoadedValue → Written) (old new : List ℕ → Type 0) (faults later : ℕ) (status : Status) → IsLoadedScene level loaded →
     ((bytes : ℕ → List ℕ) → WritesDue (tells bytes (loaded_value loaded)) old new faults later status) → Delivers level (telling tells) view view loaded old new faults later status
 telling_delivers level view loaded tells old new faults later status stands writes =
-    let due : Written = tells (λ lump. []) (loaded_value loaded) in
+    let bytes_due : Written = tells (λ lump. []) (loaded_value loaded) in
     let writes_due = writes (λ lump. []) in
     record {
-      behaves = due_behaves false view view due old new faults later status writes_due;
+      behaves = due_behaves false view view bytes_due old new faults later status writes_due;
       tells = λ wads files of.
           let bytes = wad_bytes wads files loaded.files.dir.lumps in
           record {
             ends = renders_end view.steady _ (loaded_sizes (loaded_value loaded)).enough (tells bytes (loaded_value loaded)) old new status refl (delivers_render view.steady _ old new status (writes bytes).ends);
-            zone_full = λ wanted widest e. absurd (delivers_all due old new status writes_due.ends (rw e tt));
+            zone_full = λ wanted widest e. absurd (delivers_all bytes_due old new status writes_due.ends (rw e tt));
             least = λ end. none_drawn level wads files (telling tells) loaded stands (λ views. refl) of.is;
             reads = λ calm order. omega (arith, items_read (loaded_value loaded) loaded.cache.blocks);
           };
@@ -116,13 +116,13 @@ module _ (level : LevelJobValue) (loaded : LoadedScene) (view : ShelfView) (stan
     tells = λ wads files of.
         let value : LoadedValue = loaded_value loaded in
         let files_are_named = loaded_named level wads files value of.is in
-        let holds = (of.holds files_are_named.contents files_are_named.named).contents in
+        let contents_held = (of.holds files_are_named.contents files_are_named.named).contents in
         let bytes = lump_bytes files_are_named.contents loaded.files.dir.lumps in
         record {
           ends = subst (λ (contents : List (List ℕ)). EndsAt view.steady (from_below at_step (delivered (trimming level) (lump_bytes contents loaded.files.dir.lumps) value)) old new (status_of_written result)) (sym files_are_named.are)
               (renders_end view.steady _ (loaded_sizes value).enough (done (trimmed_file bytes loaded.files.dir.lumps parts)) old new (status_of_written result)
               (ap (λ (v : Result Accepted (Stop Refusal)). from_below at_step v) (planned_is bytes parts planned))
-              (written_renders view.steady (trimmed_file bytes loaded.files.dir.lumps parts) old new result (writes.ok files_are_named.contents holds) (writes.err files_are_named.contents holds) (writes.steady files_are_named.contents holds)));
+              (written_renders view.steady (trimmed_file bytes loaded.files.dir.lumps parts) old new result (writes.ok files_are_named.contents contents_held) (writes.err files_are_named.contents contents_held) (writes.steady files_are_named.contents contents_held)));
           zone_full = λ wanted widest' e. (refl, trim_draw level wads files loaded parts stands of.is planned there wanted widest' (writes.full wanted widest' (written_full result wanted widest' e)));
           least = λ end. none_drawn level wads files (trimming level) loaded stands (λ views. refl) of.is;
           reads = λ calm inside.

@@ -53,16 +53,16 @@ module _ (level : LevelJobValue) (form : ViewForm) (ready left : ReadyViews) (vi
     tells = λ wads files of.
         let value : LoadedValue = loaded_value ready.loaded in
         let files_are_named = loaded_named level wads files value of.is in
-        let holds = (of.holds files_are_named.contents files_are_named.named).art in
+        let art_held = (of.holds files_are_named.contents files_are_named.named).art in
         let bytes = ready_bytes files_are_named.contents ready in
         record {
           ends = subst (λ (contents : List (List ℕ)). EndsAt view.steady (from_below at_step (delivered (drawing level (rendered form)) (ready_bytes contents ready) value)) old new status) (sym files_are_named.are)
               (renders_end view.steady _ (loaded_sizes value).enough (rendered form (ready_views bytes ready)) old new status
               (ap (λ (r : ViewsValue). Ok (accepted_in (loaded_sizes value).enough (rendered form r))) (ready_as bytes level ready stands))
-              (ends files_are_named.contents colours holds));
+              (ends files_are_named.contents colours art_held));
           zone_full = λ wanted widest' e. (refl, view_draw level wads files ready stands of.is wanted widest' (renders.zone_full wanted widest' e));
           least = λ end. least_drawn level wads files (rendered form) ready of.is stands (subst (λ (contents : List (List ℕ)). FitDue
-              (ready_bytes contents ready) colours ready) (sym files_are_named.are) (fits files_are_named.contents colours holds end));
+              (ready_bytes contents ready) colours ready) (sym files_are_named.are) (fits files_are_named.contents colours art_held end));
           reads = λ calm inside.
               keeps_once value ready.loaded.cache left.loaded.cache view.taken after.taken status
               (renders.order (loaded_items value) (ready_asked level wads files ready of.is stands) inside) (λ e. calm (renders.read_fault e));

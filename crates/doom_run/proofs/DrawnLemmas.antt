@@ -67,9 +67,9 @@ drawn_full level wads files ready stands is wanted widest' (inr (inr layer)) =
 pub view_draw : (level : LevelJobValue) (wads : List (List ℕ)) (files : List File) (ready : ReadyViews) → IsReady level ready → load_in level wads files ≡ Ok (loaded_value ready.loaded) → (wanted widest' : ℕ) →
     IsFullView ready wanted widest' → IsFullDraw level wads files wanted widest'
 view_draw level wads files ready stands is wanted widest' full =
-    let loaded : LoadedValue = loaded_value ready.loaded in
-    let art : SceneArt = art_with loaded.scene (loaded_pictures loaded) in
-    let drawn : IsArtFull loaded.files.lumps art level.settings.zone wanted widest' =
-    subst (λ n. IsArtFull loaded.files.lumps art n wanted widest') stands.loaded.zone
+    let value_loaded : LoadedValue = loaded_value ready.loaded in
+    let art : SceneArt = art_with value_loaded.scene (loaded_pictures value_loaded) in
+    let drawn : IsArtFull value_loaded.files.lumps art level.settings.zone wanted widest' =
+    subst (λ n. IsArtFull value_loaded.files.lumps art n wanted widest') stands.loaded.zone
     (drawn_full level wads files ready stands is wanted widest' full) in
-    art_draw level wads files loaded is wanted widest' (narrow_of ready wanted widest' full) drawn
+    art_draw level wads files value_loaded is wanted widest' (narrow_of ready wanted widest' full) drawn

@@ -47,5 +47,5 @@ pub due_front : (form : ViewForm) (r : ViewsValue) (n : ℕ) → n ≤ length r.
 unfolding first_over due_views
 due_front form r n few within =
     let due_count : ℕ = unwrap_or (least (λ k. is_some (over_at r k)) (length r.views)) (length r.views) in
-    let le : n ≤ due_count = due_past r n _ refl few within in
-    (frames_of form r (take (due_count - n) (drop n r.views)), sym (frames_append form r (take n r.views) (take (due_count - n) (drop n r.views))) ∙ ap (frames_of form r) (take_more n (due_count - n) due_count r.views (omega (arith, le))))
+    let count_is_due : n ≤ due_count = due_past r n _ refl few within in
+    (frames_of form r (take (due_count - n) (drop n r.views)), sym (frames_append form r (take n r.views) (take (due_count - n) (drop n r.views))) ∙ ap (frames_of form r) (take_more n (due_count - n) due_count r.views (omega (arith, count_is_due))))

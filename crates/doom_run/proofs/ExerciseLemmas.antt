@@ -116,7 +116,7 @@ module _ (n zone : ℕ) (format : Format) where
     -- rendering has stopped
     pub exercise_stops : (view : ShelfView) (old : List ℕ → Type 0) (faults : ℕ) (status : Status) → (status ≡ Done → ⊥) → Rendered status → Performs exercise_job view view old old faults faults status
     exercise_stops view old faults status done rendering =
-        let failed : status ≡ WriteFault → ⊥ = λ e. no_rise (rendering.behaves.write_fault e) in
+        let no_write_fault : status ≡ WriteFault → ⊥ = λ e. no_rise (rendering.behaves.write_fault e) in
         let reads = not_read status rendering in
         let render_tells = said status rendering in
         record {
@@ -125,13 +125,13 @@ module _ (n zone : ℕ) (format : Format) where
             unread = λ none is. grew_none old;
             not_usage = rendering.behaves.not_usage;
             read_fault = λ e. absurd (reads e);
-            write_fault = λ e. absurd (failed e);
+            write_fault = λ e. absurd (no_write_fault e);
           };
           asked = λ e. absurd (reads e);
           zoned = λ wanted widest e. refl;
           tells = λ held holds. record {
             ends = steady_end view.steady before.steady status old held on reads
-                (stopped_end before.steady old (IsTallyOf t0) (IsTallyOf t1) status on done failed render_tells.ends held);
+                (stopped_end before.steady old (IsTallyOf t0) (IsTallyOf t1) status on done no_write_fault render_tells.ends held);
             zone_full = render_tells.zone_full;
             least = λ end. subst (λ k. k ≤ zone) least_alike (render_tells.least end);
             reads = λ calm. takes_none exercise_job.task held view.taken;
@@ -160,7 +160,7 @@ module _ (n zone : ℕ) (format : Format) where
         let grew_by_frames : Grew (IsTallyOf t0) (IsTallyOf t1) (rendered_bytes (Frame format) views_value) = subst (λ (a : Accepted). Grew (IsTallyOf t0) (IsTallyOf t1) a.output) (sym accepted_load.2) render_tells.ends.written in
         let views_few : length views_value.views ≤ MAX_VIEWS = subst (λ k. k ≤ MAX_VIEWS) (sym (views_rows (wad_bytes made_wads (made_files n) accepted_load.0.files.lumps) (made_level zone).settings accepted_load.0)) (loaded_few (made_level zone) made_wads (made_files n) accepted_load.0 accepted_load.1) in
         let line : summary_line summary ≡ exercised_bytes n format views_value = ap (λ (s : Summary). summary_line s) summed ∙ tallied_line n format views_value t1 views_few end (tally_of first grew_by_frames) in
-        let due : done (summary_line summary) ≡ exercised n format views_value =
+        let line_is_due : done (summary_line summary) ≡ exercised n format views_value =
         ap (λ (bytes : List ℕ). record { output = bytes; end = Done }) line ∙ ap (λ (e : Status). record { output = exercised_bytes n format views_value; end = e }) (sym end) in
         let delivers : DeliversAt (done (summary_line summary)) old new status = bytes_deliver (summary_line summary) old new status writes in
         record {
@@ -170,7 +170,7 @@ module _ (n zone : ℕ) (format : Format) where
           tells = λ held holds. record {
             ends = renders_end view.steady _ (loaded_sizes accepted_load.0).enough (exercised n format views_value) old new status
                 (ap (λ (l : Result LoadedValue (Stop Refusal)). drawn_by made_views (exercised n format) l) accepted_load.1)
-                (delivers_render view.steady _ old new status (subst (λ (w : Written). DeliversAt w old new status) due delivers));
+                (delivers_render view.steady _ old new status (subst (λ (w : Written). DeliversAt w old new status) line_is_due delivers));
             zone_full = λ wanted widest e. absurd (delivers_all (done (summary_line summary)) old new status delivers (rw e tt));
             least = λ is. subst (λ k. k ≤ zone) least_alike (render_tells.least tt);
             reads = λ calm. takes_none exercise_job.task held view.taken;

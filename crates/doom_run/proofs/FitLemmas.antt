@@ -68,11 +68,11 @@ pub least_due : (level : LevelJobValue) (wads : List (List ℕ)) (files : List F
     least_over (loaded_value ready.loaded) (ready_views (wad_bytes wads files ready.loaded.files.dir.lumps) ready).scene (due_views (ready_views (wad_bytes wads files ready.loaded.files.dir.lumps) ready)) ≤ level.settings.zone
 unfolding due_views
 least_due level wads files ready is stands fit =
-    let loaded = loaded_value ready.loaded in
+    let value_loaded = loaded_value ready.loaded in
     let views_value = ready_views (wad_bytes wads files ready.loaded.files.dir.lumps) ready in
     let audit_fits = stands.loaded.audited.fits in
-    let room : lump_block ready.loaded.files.dir.lumps ready.loaded.scene.scene.base.colormap ≤ level.settings.zone = loaded_room level wads files loaded is audit_fits in
-    over_room level wads files loaded is audit_fits views_value.scene (due_views views_value)
+    let room : lump_block ready.loaded.files.dir.lumps ready.loaded.scene.scene.base.colormap ≤ level.settings.zone = loaded_room level wads files value_loaded is audit_fits in
+    over_room level wads files value_loaded is audit_fits views_value.scene (due_views views_value)
     (taken_beside (painted_block ready.loaded.files.dir.lumps (textures_view ready.loaded.scene.scene) ready.loaded.scene.scene.base.colormap views_value.scene) (lump_block ready.loaded.files.dir.lumps ready.loaded.scene.scene.base.colormap) level.settings.zone room
     (unwrap_or (first_over views_value) (length views_value.views)) views_value.views
     (λ k l. views_beside level ready stands room views_value (slice_get views_value.views k) (fit k l)))

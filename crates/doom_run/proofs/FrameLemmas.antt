@@ -127,8 +127,8 @@ pub render_done : {form : ViewForm} {r : ViewsValue} {old new : List ℕ → Typ
 render_done {form} {r} {old} {new} steady n all so_far =
     let never_over : (k : ℕ) → k < length r.views → over_at r k ≡ None = λ k below. so_far.within k (omega (arith, all, below)) in
     let nothing_over : first_over r ≡ None = none_over r never_over in
-    let due : frames_of form r (take n r.views) ≡ rendered_bytes form r = ap (λ (m : ℕ). frames_of form r (take m r.views)) all
-    ∙ due_by form r None nothing_over in (ap (end_at r) nothing_over, subst (Grew old new) due so_far.written)
+    let all_are_due : frames_of form r (take n r.views) ≡ rendered_bytes form r = ap (λ (m : ℕ). frames_of form r (take m r.views)) all
+    ∙ due_by form r None nothing_over in (ap (end_at r) nothing_over, subst (Grew old new) all_are_due so_far.written)
 
 -- a prefix of what is due was written, where the n-th view wrote nothing
 stopped_before : {form : ViewForm} {r : ViewsValue} {n : ℕ} {old mid new : List ℕ → Type 0} → Rendered form r n old mid → n < length r.views → Grew mid new [] → GrewByPrefix old new (rendered_bytes form r)

@@ -57,8 +57,8 @@ lines_behind line xs i = lines_from line (i + 1) (drop (suc i) xs)
 pub lines-left : {A : Type 0} (line : ℕ → A → List ℕ) (xs : List A) (i : ℕ) (x : A) → x ≡ get_or xs i x → i < length xs →
     lines_from line 0 (take i xs) ++ (line i x ++ lines_behind line xs i) ≡ lines_from line 0 xs
 lines-left line xs i x is l =
-    let short = length-take-le i xs (omega arith) in
-    let taken_length : 0 + length (take i xs) ≡ i = omega (arith, short) in
+    let length_of_taken = length-take-le i xs (omega arith) in
+    let taken_length : 0 + length (take i xs) ≡ i = omega (arith, length_of_taken) in
     ap (λ (v : List ℕ). lines_from line 0 (take i xs) ++ v)
     (ap (λ y. line i y ++ lines_behind line xs i) is ∙ sym (lines-one line i (get_or xs i x) (drop (suc i) xs)) ∙ ap (lines_from line i) (sym (drop-cons xs i x l)) ∙ ap (λ (k : ℕ). lines_from line k (drop i xs)) (sym taken_length))
     ∙ sym (lines-append line 0 (take i xs) (drop i xs))
@@ -68,8 +68,8 @@ lines-left line xs i x is l =
 pub lines-more : {A : Type 0} (line : ℕ → A → List ℕ) (xs : List A) (i : ℕ) (x : A) → x ≡ get_or xs i x → i < length xs →
     lines_from line 0 (take i xs) ++ line i x ≡ lines_from line 0 (take (i + 1) xs)
 lines-more line xs i x is l =
-    let short = length-take-le i xs (omega arith) in
-    let taken_length : 0 + length (take i xs) ≡ i = omega (arith, short) in
+    let length_of_taken = length-take-le i xs (omega arith) in
+    let taken_length : 0 + length (take i xs) ≡ i = omega (arith, length_of_taken) in
     ap (λ (v : List ℕ). lines_from line 0 (take i xs) ++ v) (ap (line i) is ∙ sym (lines-last line i (get_or xs i x)) ∙ ap (λ (k : ℕ). lines_from line k (get_or xs i x ∷ [])) (sym taken_length))
     ∙ sym (lines-append line 0 (take i xs) (get_or xs i x ∷ []))
     ∙ ap (lines_from line 0) (sym (take_more xs i x l))

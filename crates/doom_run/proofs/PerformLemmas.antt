@@ -158,19 +158,19 @@ module _ (level : LevelJobValue) (wads : List (List ℕ)) (delivery : Delivery) 
         zoned = λ wanted widest e. refl;
         tells = λ held holds.
             let level_loads : load_in level wads held ≡ Ok value = (now.answers held (holds refl)).ok in
-            let said = delivers.tells wads held (record { is = level_loads; holds = λ contents named. now.holds held contents (holds refl) named }) in
+            let what_it_tells = delivers.tells wads held (record { is = level_loads; holds = λ contents named. now.holds held contents (holds refl) named }) in
             record {
               ends = subst (λ (v : Result Accepted (Stop Refusal)). EndsAt before.steady (from_below at_step v) old new status)
                   (sym (verdict_by held value level_loads))
-                  (subst (λ b. EndsAt b (from_below at_step (delivered delivery (wad_bytes wads held loaded.files.dir.lumps) value)) old new status) now.follows.steady said.ends);
-              zone_full = λ wanted widest e. inr (said.zone_full wanted widest e);
-              least = λ end. subst (λ n. n ≤ level.settings.zone) (sym (least_by held value level_loads)) (said.least end);
+                  (subst (λ b. EndsAt b (from_below at_step (delivered delivery (wad_bytes wads held loaded.files.dir.lumps) value)) old new status) now.follows.steady what_it_tells.ends);
+              zone_full = λ wanted widest e. inr (what_it_tells.zone_full wanted widest e);
+              least = λ end. subst (λ n. n ≤ level.settings.zone) (sym (least_by held value level_loads)) (what_it_tells.least end);
               reads = λ calm expected also room.
                   let value_same : value ≡ expected = same_value value expected level_loads also in
                   let files_are_named = loaded_named level wads held value level_loads in
                   let zone_is_roomy : (loaded_sizes value).roomy ≤ level.settings.zone = subst (λ (l : LoadedValue). (loaded_sizes l).roomy ≤ level.settings.zone) (sym value_same) room in
                   let once = now.order held files_are_named.contents value (holds refl) files_are_named.named level_loads zone_is_roomy in
-                  let bytes_read = said.reads (λ some. calm (rose some)) once.order in
+                  let bytes_read = what_it_tells.reads (λ some. calm (rose some)) once.order in
                   let taken_most : after.taken ≤ before.taken + (files_size level.files wads held + lumps_size value) = omega (arith, once.taken, bytes_read) in
                   subst (λ (l : LoadedValue). after.taken ≤ before.taken + (files_size level.files wads held + lumps_size l)) value_same taken_most;
             };

@@ -54,13 +54,13 @@ counts_parts v bytes s counts planes openings fragments sprites = counts_of coun
 -- a bench that the walk of a view is in counts what the view counts
 counts-walked : (v : ViewValue) (bytes : ℕ → List ℕ) (s : SceneValue) (b : Bench) → HasWalkedView v s b → counts_in b ≡ view_counts v (scene_of bytes s)
 counts-walked v bytes s b walked =
-    let has = walked bytes in
+    let bench_walked = walked bytes in
     let walls = walls_of v (scene_of bytes s) (view_events v (lists_of s)) in
     counts_parts v bytes s (counts_in b)
-    (ap (λ (ps : List Plane). length ps) has.built.planes)
-    (ap length has.built.openings ∙ length-openings_list v walls)
-    (ap length has.built.notes ∙ length-view_notes v walls)
-    (ap length has.sprites)
+    (ap (λ (ps : List Plane). length ps) bench_walked.built.planes)
+    (ap length bench_walked.built.openings ∙ length-openings_list v walls)
+    (ap length bench_walked.built.notes ∙ length-view_notes v walls)
+    (ap length bench_walked.sprites)
 
 -- of the same view by another word
 pub counts-view : (v w : ViewValue) (s : SceneValue) (b : Bench) (counts : Counts) → v ≡ w → counts ≡ counts_in b → HasWalkedView v s b →

@@ -184,10 +184,10 @@ module _ (bytes : ℕ → List ℕ) (v : ViewValue) (s : SceneValue) (flats : le
   alike_from walls k [] before place e own = tt
   alike_from walls k (w ∷ ws) before place e own =
       let next : ℕ = place + room_if w.numbers.masked w + room_if (saves_top w.numbers) w + room_if (saves_bottom w.numbers) w in
-      let long : length (before ++ saved_by v walls k w) ≡ next = (let joined_length = length-append before (saved_by v walls k w) in let openings_added = length-saved_by v walls k w in omega arith) in
+      let next_is_length : length (before ++ saved_by v walls k w) ≡ next = (let joined_length = length-append before (saved_by v walls k w) in let openings_added = length-saved_by v walls k w in omega arith) in
       let alike_with : List ℤ → Type 0 = λ openings. AllZip DrawAlike (map as_read (map (noted_drawseg v (textures_view s) (mask_lists s) openings) (notes_from v next ws))) (map as_read (drawsegs_from v (scene_of bytes s) walls (k + 1) ws)) in (
         note_alike walls k w before (saved_from v walls (k + 1) ws) place e own.0,
-        subst alike_with (append_assoc before (saved_by v walls k w) (saved_from v walls (k + 1) ws)) (alike_from walls (k + 1) ws (before ++ saved_by v walls k w) next long own.1),
+        subst alike_with (append_assoc before (saved_by v walls k w) (saved_from v walls (k + 1) ws)) (alike_from walls (k + 1) ws (before ++ saved_by v walls k w) next next_is_length own.1),
       )
 
   as_many : (openings : List ℤ) (walls : List Wall) (k place : ℕ) (ws : List Wall) →

@@ -165,7 +165,7 @@ module _ (contents : List (List ℕ)) (dir : DirectoryView) (scene : SceneValue)
     beside_full : (patch : PlacedPatch) → Contains t.patches patch → size ≡ (lump_at dir.lumps patch.lump).size → 0 < size_of t → IsGapBesideComposite z.size count (size_of t) widest → IsArtFull dir.lumps art z.size wanted widest
     unfolding lump_block
     beside_full patch among same some gap =
-        let built : composite_block (Some t) ≡ block_size (size_of t) = block_of t some in
+        let block_is_of_size : composite_block (Some t) ≡ block_size (size_of t) = block_of t some in
         inr (inr (record {
           texture = t;
           prepared = prepared;
@@ -174,8 +174,8 @@ module _ (contents : List (List ℕ)) (dir : DirectoryView) (scene : SceneValue)
           there = patch_there dir.lumps scene t patch can.drawable.patches prepared among;
           needed = needed_patch dir.lumps art t patch prepared among;
           is = wanted_is ∙ ap (λ n. block_size n) same;
-          built = subst (λ n. n ≢ 0) (sym built) (block_some (size_of t));
-          gap = subst (λ n. IsGapBesideTwo z.size (block_size count + n) widest) (sym built) gap;
+          built = subst (λ n. n ≢ 0) (sym block_is_of_size) (block_some (size_of t));
+          gap = subst (λ n. IsGapBesideTwo z.size (block_size count + n) widest) (sym block_is_of_size) gap;
         }))
 
   -- none for what a column asks for
@@ -203,8 +203,8 @@ module _ (contents : List (List ℕ)) (dir : DirectoryView) (scene : SceneValue)
 
   texture_full : IsFullForTexture (IsViewTexture scene) dir.lumps (textures_view scene) z wanted widest → IsArtFull dir.lumps art z.size wanted widest
   texture_full k =
-      let full = k.full in
-      column_full k.number (column_index (prepared_texture (textures_view scene) k.number) k.column) k.is full.owner full.size full.wanted_is full.asked (full.gap scene.base.colormap count rest)
+      let column_facts = k.full in
+      column_full k.number (column_index (prepared_texture (textures_view scene) k.number) k.column) k.is column_facts.owner column_facts.size column_facts.wanted_is column_facts.asked (column_facts.gap scene.base.colormap count rest)
 
   -- none for a flat or a picture
   lump_full : IsFullFor (IsViewLump dir.lumps scene) dir z wanted widest → IsArtFull dir.lumps art z.size wanted widest
@@ -241,9 +241,9 @@ module _ {v : ShelfView} {dir : DirectoryView} {scene : SceneValue} {x : Heap} (
   never_full wanted widest full =
       let colormap_at_rest : IsAtRest scene.base.colormap (lump_at dir.lumps scene.base.colormap).size x = subst (λ n. IsAtRest scene.base.colormap n x) (sym is) hold.rest in
       let size_below_enough = full-small dir.lumps (art_with scene (book_lumps scene.book ++ [])) x.size wanted widest (full_narrow wanted widest full) (view_full contents dir scene [] x can hold.prepared colormap_at_rest wanted widest full) in
-      let less : x.size < enough dir.lumps (art_with scene (book_lumps scene.book)) = subst (λ pictures. x.size < enough dir.lumps (art_with scene pictures)) (append-nil (book_lumps scene.book)) size_below_enough in
+      let below_enough : x.size < enough dir.lumps (art_with scene (book_lumps scene.book)) = subst (λ pictures. x.size < enough dir.lumps (art_with scene pictures)) (append-nil (book_lumps scene.book)) size_below_enough in
       let enough_below_size : enough dir.lumps (art_with scene (book_lumps scene.book)) ≤ x.size = room in
-      omega (arith, less, enough_below_size)
+      omega (arith, below_enough, enough_below_size)
 
   pub enough-view : {A : Type 0} {w : ShelfView} {y : Heap} (result : Result A ViewFault) → DrawsWith view_fault (IsViewTexture scene) (IsViewLump dir.lumps scene) v w dir (textures_view scene) x y result →
       IfErr result (λ fault. IfFull (view_fault fault) (λ wanted widest. ⊥))

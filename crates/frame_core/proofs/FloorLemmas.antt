@@ -138,10 +138,10 @@ floors-drawn {mark} {s} {old} {new} b sky textures colormap part whole can walke
     let paints_scene_floors : PaintsFloors mark s (textures_view s.scene) s.scene.base.colormap b.planes.planes sky old new part =
     subst (λ (n : ℕ). PaintsFloors mark s (textures_view s.scene) n b.planes.planes sky old new part) f
     (subst (λ (t : TexturesView). PaintsFloors mark s t colormap b.planes.planes sky old new part) e drawn) in
-    let some : Scene = scene_of (λ lump. []) s.scene in
+    let scene_with_no_bytes : Scene = scene_of (λ lump. []) s.scene in
     paints-mapped (λ (never : ⊥). absurd never) from_cache cache_above part whole mapped
     (paints-wider (λ number own asked. sky_prepared s.scene sky number can.drawable.sky is asked.some asked.texture) (λ lump asked. flat_lump s.dir.lumps s.scene old.cache sky s.view.shape b.planes.planes lump can is planes_inside asked)
     (paints-same (λ contents q. floors_of s.view s.scene (held_scene contents s))
     (λ contents q asked. ap (λ (picture : Scene). planes_dots s.view picture b.planes.planes) (scene_art (λ lump. []) (lump_bytes contents s.dir.lumps) s.scene)
     ∙ ap (planes_dots s.view (held_scene contents s)) (planes_are s.view (lump_bytes contents s.dir.lumps) s.scene (limits_in b) events b (walked (lump_bytes contents s.dir.lumps))))
-    (paints-asked (λ (q : Unit {0}). ⊤) (λ q. some) (λ q asked. held_sky (λ lump. []) s.scene sky is) paints_scene_floors)))
+    (paints-asked (λ (q : Unit {0}). ⊤) (λ q. scene_with_no_bytes) (λ q asked. held_sky (λ lump. []) s.scene sky is) paints_scene_floors)))

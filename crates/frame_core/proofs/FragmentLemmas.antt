@@ -128,22 +128,22 @@ paints_lower : (mark : Painter → ℕ → ℕ) (s : ViewScene) (most : Limits) 
     Paints draw_fault mark (view_tools s) (IsSeenOf s.view old.walls facts first last) IsNoPicture (λ (q : Unit {0}). ⊤) (λ contents q. next_dots s.view (held_scene contents s) events seg first last) before after lower
 paints_lower mark s most events seg first last facts old planes walls before after lower stores walked =
     let no_bytes : ℕ → List ℕ = λ n. [] in
-    let ws = walls_of s.view (scene_of no_bytes s.scene) events in
-    let behind : List Wall × PlanesNow = (ws, planes_after s.view (scene_of no_bytes s.scene) events) in
+    let walls_before = walls_of s.view (scene_of no_bytes s.scene) events in
+    let lists : List Wall × PlanesNow = (walls_before, planes_after s.view (scene_of no_bytes s.scene) events) in
     let walls_stay_same = λ (contents : List (List ℕ)). walls_same s.view no_bytes (lump_bytes contents s.dir.lumps) s.scene events in
-    elim (cases_lt (length ws) MAX_DRAWSEGS) [
+    elim (cases_lt (length walls_before) MAX_DRAWSEGS) [
       | inl room ↦
           paints-same _
           (λ contents (q : Unit {0}) asked. let bytes = lump_bytes contents s.dir.lumps in
-          next_room s.view bytes s.scene events seg first last ws (wall_of s.view facts first last) (walls_stay_same contents)
+          next_room s.view bytes s.scene events seg first last walls_before (wall_of s.view facts first last) (walls_stay_same contents)
           (next_wall-facts s.view bytes s.scene events seg first last old.sector facts (walked bytes).sector (stores.takes.facts_are bytes)) room)
-          (paints-asked (λ (q : Unit {0}). ⊤) (λ q. behind) (λ q asked. ((walked no_bytes).built, room)) stores.paints)
+          (paints-asked (λ (q : Unit {0}). ⊤) (λ q. lists) (λ q asked. ((walked no_bytes).built, room)) stores.paints)
       | inr full ↦
-          let past = stores.past (notes_full s.view (scene_of no_bytes s.scene) events behind.1 old.walls old.planes.planes (walked no_bytes).built full) in
+          let when_full = stores.past (notes_full s.view (scene_of no_bytes s.scene) events lists.1 old.walls old.planes.planes (walked no_bytes).built full) in
           let paints_next : PaintState → Result (Unit {0}) DrawFault → Type 0 = λ st r. Paints draw_fault mark (view_tools s) (IsSeenOf s.view old.walls facts first last) IsNoPicture (λ (q : Unit {0}). ⊤)
           (λ contents q. next_dots s.view (held_scene contents s) events seg first last) before st r in
-          subst (paints_next after) (sym past.0) (subst (λ st. paints_next st (Ok tt)) (untouched before after past.1)
-          (paints-same _ (λ contents (q : Unit {0}) asked. next_full s.view (lump_bytes contents s.dir.lumps) s.scene events seg first last ws (walls_stay_same contents) full) (paints-none before tt)))
+          subst (paints_next after) (sym when_full.0) (subst (λ st. paints_next st (Ok tt)) (untouched before after when_full.1)
+          (paints-same _ (λ contents (q : Unit {0}) asked. next_full s.view (lump_bytes contents s.dir.lumps) s.scene events seg first last walls_before (walls_stay_same contents) full) (paints-none before tt)))
     ]
 
 -- by the answer that its own is turned into

@@ -68,7 +68,7 @@ module _ (lumps : List Lump) (s : SceneValue) (can : IsDrawable lumps s) (sound 
       let number : ℕ = (get_or s.faces.sides side no_textures).middle in
       record {
         prepared = prepared_some (IsPrepared (textures_view s) number) number (can.textures side no_textures inside).middle some;
-        slot = let among = middle_among side inside some in omega (arith, among, slots);
+        slot = let middle_is_listed = middle_among side inside some in omega (arith, middle_is_listed, slots);
         there = patches_there lumps s.prepared number can.patches;
       }
 
@@ -79,8 +79,8 @@ module _ (lumps : List Lump) (s : SceneValue) (can : IsDrawable lumps s) (sound 
   unfolding three_textures
   middle_single seg l behind some =
       let number : ℕ = (get_or s.faces.sides (get_or s.base.level.segs seg no_seg).side no_textures).middle in
-      let single : IsNoneOrSingle (textures_view s) number = can.middles seg no_seg l behind in
-      prepared_some (AllColumnsSingle (prepared_texture (textures_view s) number)) number single some
+      let middle_is_single : IsNoneOrSingle (textures_view s) number = can.middles seg no_seg l behind in
+      prepared_some (AllColumnsSingle (prepared_texture (textures_view s) number)) number middle_is_single some
 
   -- the note of a fragment whose seg is there
   middle_ready : (bytes : ℕ → List ℕ) (v : ViewValue) (f : LeafFragment) (place : ℕ) → f.seg < length s.base.level.segs →
@@ -89,17 +89,17 @@ module _ (lumps : List Lump) (s : SceneValue) (can : IsDrawable lumps s) (sound 
   middle_ready bytes v f place l h =
       let has_back_and_middle = masked_some (fragment_facts (scene_of bytes s) f) (fragment_facts (scene_of bytes s) f).back place h in
       let seg_is_sound = sound.segs f.seg no_seg l in let side : ℕ = (get_or s.base.level.segs f.seg no_seg).side in
-      let behind = mapped_some (surface_at (scene_of bytes s).level) (get_or s.base.level.segs f.seg no_seg).back has_back_and_middle.0 in
+      let sector_is_behind = mapped_some (surface_at (scene_of bytes s).level) (get_or s.base.level.segs f.seg no_seg).back has_back_and_middle.0 in
       let inside : side < length s.faces.sides = omega (arith, seg_is_sound.side, can.sides) in
       let number : ℕ = (get_or s.faces.sides side no_textures).middle in
       let number_is_middle : number ≡ get_or (middles_of s.faces.sides) side 0 =
       sym (get_or-map (λ (t : SideTextures). t.middle) s.faces.sides side no_textures) in record {
         back = if_some (λ (back : ℕ). back < length s.base.level.sectors) (get_or s.base.level.segs f.seg no_seg).back seg_is_sound.back;
-        some = behind;
+        some = sector_is_behind;
         texture = subst (CanDraw lumps (textures_view s) z) number_is_middle (middle_drawn side inside has_back_and_middle.1);
         among = subst (λ (n : ℕ). n < length s.base.lists.textures) number_is_middle (middle_among side inside has_back_and_middle.1);
         single = subst (λ (n : ℕ). AllColumnsSingle (prepared_texture (textures_view s) n)) number_is_middle
-            (middle_single f.seg l behind has_back_and_middle.1);
+            (middle_single f.seg l sector_is_behind has_back_and_middle.1);
       }
 
   note_listed : (bytes : ℕ → List ℕ) (v : ViewValue) (f : LeafFragment) (place : ℕ) → f.seg < length s.base.level.segs →

@@ -28,14 +28,14 @@ pub lists-passed : (p : ListerValue) (q : CounterValue) (next : WalkListValue) (
 lists-passed p q next e visits lists = record {
   ok = record {
     each = λ start before stood.
-        let counted = visits.ok.each start.counter before stood.counted in
+        let is_counted = visits.ok.each start.counter before stood.counted in
         let lists_next : ListsNext start.counter.view start.counter.scene p.counter.bench q.bench p.list next e =
         subst (λ (s : SceneValue). ListsNext start.counter.view s p.counter.bench q.bench p.list next e) stood.counted.scene
         (subst (λ (v : ViewValue). ListsNext v p.counter.scene p.counter.bench q.bench p.list next e) stood.counted.view lists) in
         record {
-          counted = counted;
+          counted = is_counted;
           name = stood.name;
-          listed = λ bytes. lists_next bytes (limits_in start.counter.bench) before (stood.counted.walked bytes) (counted.walked bytes) (stood.listed bytes);
+          listed = λ bytes. lists_next bytes (limits_in start.counter.bench) before (stood.counted.walked bytes) (is_counted.walked bytes) (stood.listed bytes);
         };
   };
   takes_on = record { each = visits.takes_on.each };

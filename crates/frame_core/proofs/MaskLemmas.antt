@@ -78,9 +78,9 @@ pub walls-built : (v : ViewValue) (s : SceneValue) (b : Bench) → HasWalkedView
     IsBuilt v (walls_of v (scene_of no_bytes s) (view_events v (lists_of s))) (planes_after v (scene_of no_bytes s) (view_events v (lists_of s))) b.walls
     (planes_after v (scene_of no_bytes s) (view_events v (lists_of s))).planes
 walls-built v s b walked =
-    let built = (walked no_bytes).built in
+    let lists_built = (walked no_bytes).built in
     let is_built_with : List Plane → Type 0 = IsBuilt v (walls_of v (scene_of no_bytes s) (view_events v (lists_of s))) (planes_after v (scene_of no_bytes s) (view_events v (lists_of s))) b.walls in
-    subst is_built_with built.planes built
+    subst is_built_with lists_built.planes lists_built
 
 module _ {v : ViewValue} {s : SceneValue} {b : Bench} {z : Heap} (dir : DirectoryView) (sound : IsSound s.base.level) (can : CanDrawView dir.lumps s z) (walked : HasWalkedView v s b) where
   scene_notes : All (IsListed dir.lumps (textures_view s) z (mask_lists s)) b.walls.notes

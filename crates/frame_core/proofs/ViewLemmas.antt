@@ -75,27 +75,27 @@ paints-placed {fault_of = fault_of} {mark} {t} {among} {pictures} {asked} {dots}
 planes_in : (v : ViewValue) (bytes : ℕ → List ℕ) (s : SceneValue) (b : Bench) → HasWalkedView v s b → All (LiesInView v.shape) (view_planes (view_steps v (scene_of bytes s) (view_events v (lists_of s))))
 unfolding view_planes planes_of planes_after
 planes_in v bytes s b walked =
-    let has = walked bytes in
-    subst (λ (ps : List Plane). All (LiesInView v.shape) ps) has.built.planes
-    (λ i d l x y held. ((has.planes i d l).column x y held, (has.planes i d l).row x y held))
+    let bench_walked = walked bytes in
+    subst (λ (ps : List Plane). All (LiesInView v.shape) ps) bench_walked.built.planes
+    (λ i d l x y held. ((bench_walked.planes i d l).column x y held, (bench_walked.planes i d l).row x y held))
 
 -- the dots of a view that was walked lie in it
 pub in_view-walked : (v : ViewValue) (bytes : ℕ → List ℕ) (s : SceneValue) (b : Bench) → IsWithinFrame v.shape → HasWalkedView v s b → AreInView v.shape (view_paints v (scene_of bytes s))
 in_view-walked v bytes s b frame walked =
-    let has = walked bytes in
+    let bench_walked = walked bytes in
     let scene = scene_of bytes s in
     let events = view_events v (lists_of s) in
     let low : v.shape.height ≤ FRAME_HEIGHT = omega (arith, frame.height) in
     let entries = view_entries v scene events in
-    let passes : AllPass (lies_within v.shape.width) entries = subst (λ (es : List SpriteEntry). AllPass (lies_within v.shape.width) es) has.sprites has.columns in
-    let ds = view_drawsegs v scene (walls_of v scene events) in
+    let all_within_view : AllPass (lies_within v.shape.width) entries = subst (λ (es : List SpriteEntry). AllPass (lies_within v.shape.width) es) bench_walked.sprites bench_walked.columns in
+    let drawsegs = view_drawsegs v scene (walls_of v scene events) in
     let planes = view_planes (view_steps v scene events) in
     subst (AreInView v.shape) (view_parts v bytes s)
-    (in_view-append v.shape (walls_dots v scene (walls_of v scene events)) (planes_dots v scene planes ++ masked_dots v scene.art ds (draw_order entries))
-    (walls-in_view v scene events low has.built.drawn)
-    (in_view-append v.shape (planes_dots v scene planes) (masked_dots v scene.art ds (draw_order entries))
+    (in_view-append v.shape (walls_dots v scene (walls_of v scene events)) (planes_dots v scene planes ++ masked_dots v scene.art drawsegs (draw_order entries))
+    (walls-in_view v scene events low bench_walked.built.drawn)
+    (in_view-append v.shape (planes_dots v scene planes) (masked_dots v scene.art drawsegs (draw_order entries))
     (planes-in_view v scene planes (planes_in v bytes s b walked))
-    (masked-in_view v scene.art ds (draw_order entries) low (drawsegs-in_view v scene (walls_of v scene events) low has.built.drawn) (draw_order-all (lies_within v.shape.width) entries passes))))
+    (masked-in_view v scene.art drawsegs (draw_order entries) low (drawsegs-in_view v scene (walls_of v scene events) low bench_walked.built.drawn) (draw_order-all (lies_within v.shape.width) entries all_within_view))))
 
 -- what is told of a part's fault is told of the whole's
 pub if_err-stop : {A B : Type 0} (P : ViewFault → Type 0) (part : Result B ViewFault) (fault : ViewFault) (whole : Result A ViewFault) → part ≡ Err fault → IsErrAnd whole (λ e. e ≡ fault) → IfErr part P → IfErr whole P

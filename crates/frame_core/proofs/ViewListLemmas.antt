@@ -200,10 +200,10 @@ module _ (v : ViewValue) (scene : Scene) (es : List Event) where
   listed-leaf n planes is_known list is count h =
       let mid = with_makers list (Leaf n) planes in
       let entered_alike = entered_same v scene is_known (leaf_sector scene n) mid in
-      let stays = with_makers_same list (Leaf n) planes in
+      let makers_stay = with_makers_same list (Leaf n) planes in
       record {
-        fragments = entered_alike.fragments ∙ stays.0 ∙ h.fragments ∙ sym (fragments-leaf es n);
-        all = entered_alike.all ∙ stays.1 ∙ h.all ∙ ap count_shown (sym (all_fragments-leaf es n));
+        fragments = entered_alike.fragments ∙ makers_stay.0 ∙ h.fragments ∙ sym (fragments-leaf es n);
+        all = entered_alike.all ∙ makers_stay.1 ∙ h.all ∙ ap count_shown (sym (all_fragments-leaf es n));
         makers = entered_alike.makers ∙ makers_more v scene es (LeafEvent n) list (Leaf n) planes h.makers (leaf_maker (length (drawsegs es)) n) count;
         sprites = sprites_after n is_known mid is (makers_sprites (view_entries v scene es) (shown_things v scene es) list (Leaf n) planes h.sprites);
       }

@@ -118,14 +118,14 @@ pub over-fragment : (v : ViewValue) (bytes : ℕ → List ℕ) (scene : SceneVal
     answer ≡ steps_over most (view_steps v (scene_of bytes scene) (events ++ FragmentEvent seg first last ∷ []))
 over-fragment v bytes scene most events seg first last facts old planes walls answer takes h =
     let whole_scene = scene_of bytes scene in
-    let ws = walls_of v whole_scene events in
+    let walls_before = walls_of v whole_scene events in
     let planes_before = planes_after v whole_scene events in
-    let es = events ++ FragmentEvent seg first last ∷ [] in
-    elim (cases_lt (length ws) MAX_DRAWSEGS) [
+    let events_now = events ++ FragmentEvent seg first last ∷ [] in
+    elim (cases_lt (length walls_before) MAX_DRAWSEGS) [
       | inl room ↦
-          takes.limit ws planes_before h.built room
-          ∙ ap (λ (w : Wall). step_over (limits_of old.walls old.planes) planes_before (length old.walls.openings) (step_of_wall v ws w)) (next_wall-facts v bytes scene events seg first last old.sector facts h.sector (takes.facts_are bytes))
-          ∙ over-step v bytes scene most events es (step_of_wall v ws (next_wall v whole_scene events seg first last)) old h (one_more-room v whole_scene events seg first last room)
+          takes.limit walls_before planes_before h.built room
+          ∙ ap (λ (w : Wall). step_over (limits_of old.walls old.planes) planes_before (length old.walls.openings) (step_of_wall v walls_before w)) (next_wall-facts v bytes scene events seg first last old.sector facts h.sector (takes.facts_are bytes))
+          ∙ over-step v bytes scene most events events_now (step_of_wall v walls_before (next_wall v whole_scene events seg first last)) old h (one_more-room v whole_scene events seg first last room)
       | inr full ↦
           (takes.full (notes_full v whole_scene events planes_before old.walls old.planes.planes h.built full)).0 ∙ sym h.within ∙ ap (steps_over most) (sym (steps-full v whole_scene events seg first last full))
     ]
@@ -147,11 +147,11 @@ walked_room v bytes scene most events seg first last facts old planes walls tall
     let new = bench_of planes walls old.sprites old.entered old.sector in
     let next_wall_is = next_wall-facts v bytes scene events seg first last old.sector facts h.sector (takes.facts_are bytes) in
     let built_with : Wall → Type 0 = λ u. IsBuilt v (with_wall ws u) (after_event planes_before (step_of_wall v ws u).event) walls planes.planes in
-    let built : IsBuilt v (with_wall ws wall) (after_event planes_before new_step.event) walls planes.planes =
+    let new_lists_built : IsBuilt v (with_wall ws wall) (after_event planes_before new_step.event) walls planes.planes =
     subst built_with next_wall_is (builds ws planes_before h.built room) in let first_same = next_first v whole_scene events seg first last in
     let last_same = next_last v whole_scene events seg first last in
     let columns = takes.there.1 in
-    let ordered = columns.0 in
+    let columns_ordered = columns.0 in
     let columns_within = columns.1 in
     let planes_inside : All (IsPlaneIn v.shape scene) (after_event planes_before new_step.event).planes =
     planes-wall v scene (with_wall ws wall) (length ws) wall planes_before tall (omega arith) (omega arith) (planes_so_far v bytes scene most events old h) in
@@ -160,8 +160,8 @@ walked_room v bytes scene most events seg first last facts old planes walls tall
       more = one_more-room v whole_scene events seg first last room;
       there = takes.there;
       built = subst (λ (us : List Wall). IsBuilt v us (after_event planes_before new_step.event) walls planes.planes)
-          (sym (walls-room v whole_scene events seg first last room)) built;
-      openings = ap length built.openings ∙ openings_more v ws wall ∙ ap (λ (n : ℕ). n + openings_of wall) (sym (ap length h.built.openings));
+          (sym (walls-room v whole_scene events seg first last room)) new_lists_built;
+      openings = ap length new_lists_built.openings ∙ openings_more v ws wall ∙ ap (λ (n : ℕ). n + openings_of wall) (sym (ap length h.built.openings));
       limits = takes.limits;
       within = takes.limit ws planes_before h.built room
           ∙ ap (λ (u : Wall). step_over (limits_of old.walls old.planes) planes_before (length old.walls.openings) (step_of_wall v ws u)) next_wall_is;

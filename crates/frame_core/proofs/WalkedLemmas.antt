@@ -205,13 +205,13 @@ walked-leaf v bytes scene most events n sector floor ceiling old new enters h =
     subst (λ (t : _). All (IsPlaneIn v.shape scene) (after_event planes_before (leaf_step v t).event).planes) (sym surface)
     (planes-leaf v scene sector planes_before enters.inside (planes_so_far v bytes scene most events old h)) in
     let built_after : Step → Type 0 = λ t. IsBuilt v walls (after_event planes_before t.event) new.walls new.planes.planes in
-    let built : IsBuilt v walls (after_event planes_before new_step.event) new.walls new.planes.planes =
+    let new_lists_built : IsBuilt v walls (after_event planes_before new_step.event) new.walls new.planes.planes =
     subst built_after leaf_step_is (enters.built walls planes_before h.built) in walked_step v bytes scene most events (LeafEvent n) new_step old new h
     (record {
       more = one_more-leaf v whole_scene events n;
       there = enters.there;
       built = subst (λ (ws : List Wall). IsBuilt v ws (after_event planes_before new_step.event) new.walls new.planes.planes)
-          (sym (walls-leaf v whole_scene events n)) built;
+          (sym (walls-leaf v whole_scene events n)) new_lists_built;
       openings = ap length enters.openings;
       limits = enters.limits;
       within = enters.limit walls planes_before h.built

@@ -81,11 +81,11 @@ three_from words place h =
 -- what is put somewhere, up to a place within it
 put_below : (colours piece : List ℕ) (a k : ℕ) → a ≤ length colours → 3 ≤ length piece → take (a + 3) (put_mid a k colours piece) ≡ take a colours ++ take 3 piece
 put_below colours piece a k room size =
-    let rest : List ℕ = piece ++ post_of a k colours in
+    let words_after : List ℕ = piece ++ post_of a k colours in
     let front_length = length-take-le a colours room in
-    take-add a 3 (take a colours ++ rest)
-    ∙ ap (λ (xs : List ℕ). xs ++ take 3 (drop a (take a colours ++ rest))) (take_at (take a colours) rest a front_length)
-    ∙ ap (λ (xs : List ℕ). take a colours ++ take 3 xs) (drop_at (take a colours) rest a front_length)
+    take-add a 3 (take a colours ++ words_after)
+    ∙ ap (λ (xs : List ℕ). xs ++ take 3 (drop a (take a colours ++ words_after))) (take_at (take a colours) words_after a front_length)
+    ∙ ap (λ (xs : List ℕ). take a colours ++ take 3 xs) (drop_at (take a colours) words_after a front_length)
     ∙ ap (λ (xs : List ℕ). take a colours ++ xs) (take-append-le 3 piece (post_of a k colours) size)
 
 -- the bytes of the first indices, with the word of one more put behind them

@@ -60,8 +60,8 @@ pub room_first : (size : ℕ) (a : Heap) (fetched : Result (Unit {0}) CacheFault
 room_first size a (Ok done) none gap = tt
 room_first size a (Err ReadFault) none gap = tt
 room_first size a (Err (ZoneFull wanted widest')) none gap =
-    let narrow = small_all (block_size size) (gaps a.blocks) (omega arith) none.none in
-    (omega (arith, gap, narrow, none.wanted_is, none.widest_is), (none.wanted_is, gap))
+    let gaps_too_small = small_all (block_size size) (gaps a.blocks) (omega arith) none.none in
+    (omega (arith, gap, gaps_too_small, none.wanted_is, none.widest_is), (none.wanted_is, gap))
 
 -- no room for a later lump: the zone does not hold it beside the colormap
 pub room_after : (wants : ℕ → Type 0) (dir : DirectoryView) (a b : Heap) (colormap other : ℕ) (result : Result SoundValue (Fault AuditRefusal)) → colormap ≡ other → IsAtRest colormap (lump_at dir.lumps colormap).size b → b.size ≡ a.size →

@@ -30,8 +30,8 @@ pub within-child : (nodes : List Node) (levels n side : ℕ) (node : Node) → s
 unfolding is_within
 within-child nodes zero n side node low found within = cc
 within-child nodes (suc levels) n side node low found within =
-    let less : suc levels - 1 ≡ levels = omega arith in
-    rw less (child_passes (is_within nodes levels) node side low (rw found at within))
+    let one_level_less : suc levels - 1 ≡ levels = omega arith in
+    rw one_level_less (child_passes (is_within nodes levels) node side low (rw found at within))
 
 -- the leaf is that of the child on the point's side
 pub leaf_from-child : (nodes : List Node) (x y : ℤ) (levels n : ℕ) (node : Node) → 0 < levels → slice_get nodes n ≡ Some node →
@@ -39,8 +39,8 @@ pub leaf_from-child : (nodes : List Node) (x y : ℤ) (levels n : ℕ) (node : N
 unfolding leaf_from leaf_below
 leaf_from-child nodes x y zero n node some found = absurd (omega arith)
 leaf_from-child nodes x y (suc levels) n node some found =
-    let less : suc levels - 1 ≡ levels = omega arith in
-    rw (less, found) refl
+    let one_level_less : suc levels - 1 ≡ levels = omega arith in
+    rw (one_level_less, found) refl
 
 -- for `grind`: a walk down the nodes
 pub ruleset leaf_steps = (leaf_from-leaf, within-node)

@@ -122,11 +122,11 @@ pub clips-start : (s : MaskScene) (notes : List FragmentNote) (e : SpriteEntry) 
     ClipsFrom s notes e (length notes) clips
 clips-start s notes e clips t b =
     let same_count = scene-length s notes in
-    let ds = scene_drawsegs s notes in
+    let drawsegs = scene_drawsegs s notes in
     record {
-      tops = subst (λ (m : ℕ). RowsFrom (λ x d. d.top_clip x) (gives_top e) ds (entry_has e) m minus_one greatest_clip clips.tops) same_count (rows-start (λ x d. d.top_clip x) (gives_top e) ds (entry_has e) minus_one greatest_clip clips.tops t);
-      bottoms = subst (λ (m : ℕ). RowsFrom (λ x d. d.bottom_clip x) (gives_bottom e) ds (entry_has e) m least_clip (pos s.view.now.shape.height) clips.bottoms) same_count
-          (rows-start (λ x d. d.bottom_clip x) (gives_bottom e) ds (entry_has e) least_clip (pos s.view.now.shape.height) clips.bottoms b);
+      tops = subst (λ (m : ℕ). RowsFrom (λ x d. d.top_clip x) (gives_top e) drawsegs (entry_has e) m minus_one greatest_clip clips.tops) same_count (rows-start (λ x d. d.top_clip x) (gives_top e) drawsegs (entry_has e) minus_one greatest_clip clips.tops t);
+      bottoms = subst (λ (m : ℕ). RowsFrom (λ x d. d.bottom_clip x) (gives_bottom e) drawsegs (entry_has e) m least_clip (pos s.view.now.shape.height) clips.bottoms) same_count
+          (rows-start (λ x d. d.bottom_clip x) (gives_bottom e) drawsegs (entry_has e) least_clip (pos s.view.now.shape.height) clips.bottoms b);
     }
 
 pub clips-more : (s : MaskScene) (notes : List FragmentNote) (e : SpriteEntry) (from m : ℕ) (d : FragmentNote) (old new : SpriteClips) →
@@ -134,12 +134,12 @@ pub clips-more : (s : MaskScene) (notes : List FragmentNote) (e : SpriteEntry) (
     from ≡ m + 1 → ClipsFrom s notes e from old → ClipsFrom s notes e m new
 clips-more s notes e from m d old new whole g takes up later =
     let from_next : ClipsFrom s notes e (m + 1) old = subst (λ (k : ℕ). ClipsFrom s notes e k old) up later in
-    let ds = scene_drawsegs s notes in
+    let drawsegs = scene_drawsegs s notes in
     let seg = scene_drawseg s d in
     let drawseg_there = scene-get s notes m d g in
     record {
-      tops = rows-more (λ x d. d.top_clip x) (gives_top e) ds (entry_has e) m minus_one greatest_clip old.tops new.tops seg drawseg_there (λ x t. (takes x t).top) (λ x t y. gives_top-bounds s d e x whole y) from_next.tops;
-      bottoms = rows-more (λ x d. d.bottom_clip x) (gives_bottom e) ds (entry_has e) m least_clip (pos s.view.now.shape.height) old.bottoms new.bottoms seg drawseg_there (λ x t. (takes x t).bottom) (λ x t y. gives_bottom-bounds s d e x whole y) from_next.bottoms;
+      tops = rows-more (λ x d. d.top_clip x) (gives_top e) drawsegs (entry_has e) m minus_one greatest_clip old.tops new.tops seg drawseg_there (λ x t. (takes x t).top) (λ x t y. gives_top-bounds s d e x whole y) from_next.tops;
+      bottoms = rows-more (λ x d. d.bottom_clip x) (gives_bottom e) drawsegs (entry_has e) m least_clip (pos s.view.now.shape.height) old.bottoms new.bottoms seg drawseg_there (λ x t. (takes x t).bottom) (λ x t y. gives_bottom-bounds s d e x whole y) from_next.bottoms;
     }
 
 lowest : minus_one ≤ℤ greatest_clip
@@ -156,13 +156,13 @@ refl_le z = grind (arith, ints)
 pub clips-end : (s : MaskScene) (notes : List FragmentNote) (e : SpriteEntry) (m : ℕ) (clips : SpriteClips) → m ≡ 0 → ClipsFrom s notes e m clips → (x : ℕ) →
     entry_has e x ≡ true → AreSpriteRows s (scene_drawsegs s notes) e clips x
 clips-end s notes e m clips z h x t =
-    let ds = scene_drawsegs s notes in
+    let drawsegs = scene_drawsegs s notes in
     let height = s.view.now.shape.height in
     let from_start : ClipsFrom s notes e 0 clips = subst (λ (n : ℕ). ClipsFrom s notes e n clips) z h in
-    let top = rows-bounds (λ x d. d.top_clip x) (gives_top e) ds (entry_has e) 0 minus_one greatest_clip minus_one clips.tops (refl_le minus_one) lowest from_start.tops x t in
-    let bottom = rows-bounds (λ x d. d.bottom_clip x) (gives_bottom e) ds (entry_has e) 0 least_clip (pos height) (pos height) clips.bottoms (least_height height) (refl_le (pos height)) from_start.bottoms x t in
+    let top = rows-bounds (λ x d. d.top_clip x) (gives_top e) drawsegs (entry_has e) 0 minus_one greatest_clip minus_one clips.tops (refl_le minus_one) lowest from_start.tops x t in
+    let bottom = rows-bounds (λ x d. d.bottom_clip x) (gives_bottom e) drawsegs (entry_has e) 0 least_clip (pos height) (pos height) clips.bottoms (least_height height) (refl_le (pos height)) from_start.bottoms x t in
     record {
-      top = rows-top ds e (entry_has e) minus_one greatest_clip clips.tops from_start.tops x t;
-      bottom = rows-bottom height ds e (entry_has e) least_clip (pos height) clips.bottoms from_start.bottoms x t;
+      top = rows-top drawsegs e (entry_has e) minus_one greatest_clip clips.tops from_start.tops x t;
+      bottom = rows-bottom height drawsegs e (entry_has e) least_clip (pos height) clips.bottoms from_start.bottoms x t;
       rows = record { least_top = top.0; greatest_top = top.1; least_bottom = bottom.0; greatest_bottom = bottom.1 };
     }

@@ -55,10 +55,10 @@ one_more_at : (q : ℕ → Bool) (from x n : ℕ) → from ≤ x → filter (up_
 one_more_at q from x n l =
     let with_it = up_to q from (x + 1) in
     let without_it = up_to q from x in
-    let rest : List ℕ = map (λ x. x) (range_with_len (x + 1) n) in
+    let columns_after : List ℕ = map (λ x. x) (range_with_len (x + 1) n) in
     let no_later_column = range_none with_it (x + 1) n (λ y a b. up_past q from (x + 1) y a) in
     let none_g = range_none without_it x (suc n) (λ y a b. up_past q from x y a) in
-    ap (λ (b : Bool). cond b (x ∷ filter with_it rest) (filter with_it rest)) (up_at q from x l)
+    ap (λ (b : Bool). cond b (x ∷ filter with_it columns_after) (filter with_it columns_after)) (up_at q from x l)
     ∙ ap (λ (xs : List ℕ). cond (q x) (x ∷ xs) xs) no_later_column
     ∙ sym (ap (λ (xs : List ℕ). xs ++ cond (q x) (x ∷ []) []) none_g)
 
@@ -219,14 +219,14 @@ more_at : (d : FragmentNote) (place from x y : ℕ) (old now new : List Bool) �
     mark_of new d place x ≡ true → ((p : ℕ) → p ≢ place + (x - d.first) → mark_in new p ≡ mark_in now p) → (y < x) ⊎ (x ≤ y) →
     mark_of new d place y ≡ (mark_of old d place y || between from (x + 1) y)
 more_at d place from x y old now new a l g h t s (inl b) =
-    let ne : y ≢ x = omega arith in
-    let np : place + (y - d.first) ≢ place + (x - d.first) = omega arith in
-    s (place + (y - d.first)) np ∙ h ∙ ap (λ (c : Bool). mark_of old d place y || c) (between_other from x y ne)
+    let column_differs : y ≢ x = omega arith in
+    let place_differs : place + (y - d.first) ≢ place + (x - d.first) = omega arith in
+    s (place + (y - d.first)) place_differs ∙ h ∙ ap (λ (c : Bool). mark_of old d place y || c) (between_other from x y column_differs)
 more_at d place from x y old now new a l g h t s (inr b) = elim (cases_lt x y) [
   | inl c ↦
-      let ne : y ≢ x = omega arith in
-      let np : place + (y - d.first) ≢ place + (x - d.first) = omega arith in
-      s (place + (y - d.first)) np ∙ h ∙ ap (λ (c : Bool). mark_of old d place y || c) (between_other from x y ne)
+      let column_differs : y ≢ x = omega arith in
+      let place_differs : place + (y - d.first) ≢ place + (x - d.first) = omega arith in
+      s (place + (y - d.first)) place_differs ∙ h ∙ ap (λ (c : Bool). mark_of old d place y || c) (between_other from x y column_differs)
   | inr c ↦
       let is_same : x ≡ y = omega arith in
       let IsMarkedAt : ℕ → Type 0 = λ z. mark_of new d place z ≡ (mark_of old d place z || between from (x + 1) z) in

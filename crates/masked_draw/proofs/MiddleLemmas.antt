@@ -148,13 +148,13 @@ pub read-live : {s : MaskScene} {note : FragmentNote} {middle : Middle} {x lump 
     single_place (column_in (prepared_texture s.textures.now middle.tex.0) asked)
     ≡ Some (lump, place) → IsReadLive s note x z lump place
 read-live {s} {note} {middle} {x} {lump} {place} {col} z same is column there live asked =
-    let single : single_place (column_in (prepared_texture s.textures.now middle.tex.0) col)
+    let column_is_single : single_place (column_in (prepared_texture s.textures.now middle.tex.0) col)
     ≡ Some (lump, place) =
     ap (λ (k : ℤ). single_place (column_in (prepared_texture s.textures.now middle.tex.0) k))
     (sym same) ∙ asked in
-    let lookup = single-lookup _ lump place single in
+    let lookup = single-lookup _ lump place column_is_single in
     record {
-      from = read-from s note middle x lump place col is column single;
+      from = read-from s note middle x lump place col is column column_is_single;
       there = subst (IsColumnThere s.dir.now.lumps) lookup there;
       live = subst (IsColumnLive middle.tex.0 z) lookup live;
     }

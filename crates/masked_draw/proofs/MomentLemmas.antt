@@ -62,12 +62,12 @@ or_passed false b c h = h
 pub front-more : (sprites : List SpriteEntry) (d : Drawseg) (x i : ℕ) (e : SpriteEntry) → i < length sprites → slice_get sprites i ≡ Some e →
     is_before (sprite_in_front sprites d x) (i + 1) ≡ (is_before (sprite_in_front sprites d x) i || is_passed e d x)
 front-more sprites d x i e l h =
-    let stands = λ (k : ℕ). stands_in_front d x (slice_get sprites k) in
+    let stands_before = λ (k : ℕ). stands_in_front d x (slice_get sprites k) in
     let least_is = sprite_in_front-least sprites d x in
-    let is_before_next = before-least stands (length sprites) (i + 1) (omega arith) in
-    let is_before_this = before-least stands (length sprites) i (omega arith) in
-    ap (λ (o : Option ℕ). is_before o (i + 1)) least_is ∙ is_before_next ∙ some-least_more stands i
-    ∙ ap (λ (b : Bool). b || stands i) (sym (ap (λ (o : Option ℕ). is_before o i) least_is ∙ is_before_this))
+    let is_before_next = before-least stands_before (length sprites) (i + 1) (omega arith) in
+    let is_before_this = before-least stands_before (length sprites) i (omega arith) in
+    ap (λ (o : Option ℕ). is_before o (i + 1)) least_is ∙ is_before_next ∙ some-least_more stands_before i
+    ∙ ap (λ (b : Bool). b || stands_before i) (sym (ap (λ (o : Option ℕ). is_before o i) least_is ∙ is_before_this))
     ∙ ap (λ (b : Bool). is_before (sprite_in_front sprites d x) i || b) (stands_passed d x e (slice_get sprites i) h)
 
 -- it is painted just before this sprite
@@ -81,9 +81,9 @@ front-now sprites d x i e l h =
 pub front-left : (sprites : List SpriteEntry) (d : Drawseg) (x : ℕ) →
     same_number (sprite_in_front sprites d x) None ≡ not (is_before (sprite_in_front sprites d x) (length sprites))
 front-left sprites d x =
-    let stands = λ (k : ℕ). stands_in_front d x (slice_get sprites k) in
+    let stands_before = λ (k : ℕ). stands_in_front d x (slice_get sprites k) in
     let least_is = sprite_in_front-least sprites d x in
-    ap (λ (o : Option ℕ). same_number o None) least_is ∙ same_left stands (length sprites) (least stands (length sprites)) refl
+    ap (λ (o : Option ℕ). same_number o None) least_is ∙ same_left stands_before (length sprites) (least stands_before (length sprites)) refl
     ∙ ap (λ (o : Option ℕ). not (is_before o (length sprites))) (sym least_is)
 
 before_none : (o : Option ℕ) → is_before o 0 ≡ false

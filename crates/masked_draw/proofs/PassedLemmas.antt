@@ -167,14 +167,14 @@ pass_note : (seg : FragmentNote → Drawseg) (notes : List FragmentNote) (es : L
     MarkedTo seg notes es n (turn_at i (m + 1)) old → (k : ℕ) → k < n → (c : FragmentNote) → slice_get notes k ≡ Some c → (k < m) ⊎ (m ≤ k) →
     AreBefore seg es new c (turn_at i m k) c.masked
 pass_note seg notes es n old new i m d e a g b l f w h k s c r (inl low) =
-    let ne : k ≢ m = omega arith in
+    let index_differs : k ≢ m = omega arith in
     let AtTurn : ℕ → Type 0 = λ j. AreBefore seg es new c j c.masked in
-    subst AtTurn (turn_same i m k ne) (other_before seg notes es old new (is_passed e (seg d)) k m (turn_at i (m + 1) k) c d a ne r g w (note_at seg notes es n (turn_at i (m + 1)) old k c h s r))
+    subst AtTurn (turn_same i m k index_differs) (other_before seg notes es old new (is_passed e (seg d)) k m (turn_at i (m + 1) k) c d a index_differs r g w (note_at seg notes es n (turn_at i (m + 1)) old k c h s r))
 pass_note seg notes es n old new i m d e a g b l f w h k s c r (inr high) = elim (cases_lt m k) [
   | inl up ↦
-      let ne : k ≢ m = omega arith in
+      let index_differs : k ≢ m = omega arith in
       let AtTurn : ℕ → Type 0 = λ j. AreBefore seg es new c j c.masked in
-      subst AtTurn (turn_same i m k ne) (other_before seg notes es old new (is_passed e (seg d)) k m (turn_at i (m + 1) k) c d a ne r g w (note_at seg notes es n (turn_at i (m + 1)) old k c h s r))
+      subst AtTurn (turn_same i m k index_differs) (other_before seg notes es old new (is_passed e (seg d)) k m (turn_at i (m + 1) k) c d a index_differs r g w (note_at seg notes es n (turn_at i (m + 1)) old k c h s r))
   | inr here ↦
       let numbers_same : m ≡ k = omega arith in
       let OldAtTurn : ℕ → Type 0 = λ j. AreBefore seg es old d j d.masked in
@@ -201,8 +201,8 @@ pub marked-left : (seg : FragmentNote → Drawseg) (notes : List FragmentNote) (
     ApartNotes notes → slice_get notes m ≡ Some d → MarksBy d gives old new → MarkedTo seg notes es (m + 1) turn old → MarkedTo seg notes es m turn new
 marked-left seg notes es turn gives old new m d a g w h = record {
   at = λ k s. if_some (λ c. AreBefore seg es new c (turn k) c.masked) (slice_get notes k) (λ c r.
-      let ne : k ≢ m = omega arith in
-      other_before seg notes es old new gives k m (turn k) c d a ne r g w (note_at seg notes es (m + 1) turn old k c h (omega arith) r));
+      let index_differs : k ≢ m = omega arith in
+      other_before seg notes es old new gives k m (turn k) c d a index_differs r g w (note_at seg notes es (m + 1) turn old k c h (omega arith) r));
 }
 
 -- what is known by some turns is known by equal ones

@@ -21,8 +21,8 @@ unfolding post_first plus greatest_clip
 post_first-low clip begin l h =
     let sum_fits : plus clip (pos 1) ≡ clip +ℤ pos 1 = int_wrap_fits w32 (clip +ℤ pos 1)
     (fits_between _ (omega (arith, ints)) (omega (arith, ints))) in
-    let least : pos 0 ≤ℤ (clip +ℤ pos 1) = omega (arith, ints) in
-    above (plus clip (pos 1)) _ (subst (λ (z : ℤ). pos 0 ≤ℤ z) (sym sum_fits) least) where
+    let not_above_screen : pos 0 ≤ℤ (clip +ℤ pos 1) = omega (arith, ints) in
+    above (plus clip (pos 1)) _ (subst (λ (z : ℤ). pos 0 ≤ℤ z) (sym sum_fits) not_above_screen) where
       above : (a b : ℤ) → pos 0 ≤ℤ a → pos 0 ≤ℤ greater_word a b
       above a b k = let not_less = greater_word-first a b in omega (arith, ints)
 
@@ -32,8 +32,8 @@ unfolding post_last minus least_clip
 post_last-high clip end height few l h =
     let difference_fits : minus clip (pos 1) ≡ clip -ℤ pos 1 = int_wrap_fits w32 (clip -ℤ pos 1)
     (fits_between _ (omega (arith, ints)) (omega (arith, ints))) in
-    let most : (clip -ℤ pos 1) <ℤ pos height = omega (arith, ints) in
-    below (minus clip (pos 1)) _ (subst (λ (z : ℤ). z <ℤ pos height) (sym difference_fits) most) where
+    let not_below_screen : (clip -ℤ pos 1) <ℤ pos height = omega (arith, ints) in
+    below (minus clip (pos 1)) _ (subst (λ (z : ℤ). z <ℤ pos height) (sym difference_fits) not_below_screen) where
       below : (a b : ℤ) → a <ℤ pos height → lesser_word a b <ℤ pos height
       below a b k = let not_more = lesser_word-first a b in omega (arith, ints)
 
@@ -213,7 +213,7 @@ module _ {mark : Painter → ℕ → ℕ} {shape : ViewShape} {x : ℕ} {c : Mas
       now →
       ArePostsLeft mark shape x c bytes colormap m start next first after
   left-more place next now after post left at is_next painted =
-      let rest : Painter → List Dot = λ painter. posts_dots shape painter x c (byte_at bytes)
+      let dots_of_rest : Painter → List Dot = λ painter. posts_dots shape painter x c (byte_at bytes)
       (shade colormap m) (posts bytes next) in
       let own_dots : List Dot = post_dots shape now.painter x c (byte_at bytes) (shade colormap m) post in
       let posts_are : posts bytes place ≡ post ∷ posts bytes next =
@@ -221,8 +221,8 @@ module _ {mark : Painter → ℕ → ℕ} {shape : ViewShape} {x : ℕ} {c : Mas
       ∙ ap (λ (p : Post). p ∷ posts bytes (next_place p)) (sym at.is)
       ∙ ap (λ (n : ℕ). post ∷ posts bytes n) (sym is_next) in
       record {
-        same = ap (λ (canvas : CanvasView). with_dots mark (rest canvas.painter) canvas) painted
-            ∙ with_dots-append mark own_dots (rest now.painter) now
+        same = ap (λ (canvas : CanvasView). with_dots mark (dots_of_rest canvas.painter) canvas) painted
+            ∙ with_dots-append mark own_dots (dots_of_rest now.painter) now
             ∙ ap (λ (dots : List Dot). with_dots mark dots now)
             (sym (ap (posts_dots shape now.painter x c (byte_at bytes) (shade colormap m)) posts_are
             ∙ posts-cons shape now.painter x c (byte_at bytes) (shade colormap m) post

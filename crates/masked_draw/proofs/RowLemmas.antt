@@ -32,10 +32,10 @@ pub seen_row-more : (clip : Drawseg → ℤ) (test : Drawseg → Bool) (ds : Lis
     or_else old (seen_row clip test ds (m + 1)) ≡ or_else (row_after (test d) (clip d) old) (seen_row clip test ds m)
 unfolding seen_row
 seen_row-more clip test ds m d old h =
-    let passes = λ (k : ℕ). passes_at test (slice_get ds k) in
-    ap (λ (o : Option ℕ). or_else old (row_of clip ds o)) (greatest-more passes m)
-    ∙ ap (λ (b : Bool). or_else old (row_of clip ds (cond b (Some m) (greatest passes m)))) (passes_some test d (slice_get ds m) h)
-    ∙ row_of-step clip ds m d (test d) (greatest passes m) old h
+    let passes_test = λ (k : ℕ). passes_at test (slice_get ds k) in
+    ap (λ (o : Option ℕ). or_else old (row_of clip ds o)) (greatest-more passes_test m)
+    ∙ ap (λ (b : Bool). or_else old (row_of clip ds (cond b (Some m) (greatest passes_test m)))) (passes_some test d (slice_get ds m) h)
+    ∙ row_of-step clip ds m d (test d) (greatest passes_test m) old h
 
 row_of-some : (clip : Drawseg → ℤ) (without : ℤ) (o : Option Drawseg) → unwrap_or (option_map clip o) without ≡ clip_of_some clip without o
 unfolding clip_of_some

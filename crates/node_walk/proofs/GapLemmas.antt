@@ -168,8 +168,8 @@ gaps_cases columns at last j width r rs false false d e l a g rest =
     let range_began : r.first ≤ at = grind (arith, nat_tests) in
     elim (cases_lt r.last at) [
       | inl past ↦
-          let stays : max at (r.last + 1) ≡ at = omega arith in
-          ap (λ (i : ℕ). range_gaps i last rs) stays ∙ rest at (omega arith) past l
+          let max_stays : max at (r.last + 1) ≡ at = omega arith in
+          ap (λ (i : ℕ). range_gaps i last rs) max_stays ∙ rest at (omega arith) past l
       | inr within ↦
           let moves_on : max at (r.last + 1) ≡ r.last + 1 = omega arith in
           ap (λ (i : ℕ). range_gaps i last rs) moves_on ∙ after_range columns at last r rs range_began (omega arith) l g (λ h. rest (r.last + 1) (omega arith) (omega arith) (omega arith))
@@ -235,8 +235,8 @@ past_range : (first last : ℕ) (r : Range) (rs : List Range) → first ≤ last
 past_range first last r rs o p l =
     let not_past : nat_lt last first ≡ false = grind (arith, nat_tests) in
     let not_before_range : nat_lt first r.first ≡ false = grind (arith, nat_tests) in
-    let stays : max first (r.last + 1) ≡ first = omega arith in
-    rw (not_past, not_before_range) (ap (λ (i : ℕ). range_gaps i last rs) stays)
+    let max_stays : max first (r.last + 1) ≡ first = omega arith in
+    rw (not_past, not_before_range) (ap (λ (i : ℕ). range_gaps i last rs) max_stays)
 
 -- by whether the first range ends before the columns
 hidden_cases : (first last width : ℕ) (r : Range) (rs : List Range) (b : Bool) → nat_lt r.last first ≡ b → first ≤ last → r.first ≤ r.last → AreApart (r.last + 2) width rs →

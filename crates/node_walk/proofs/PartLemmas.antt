@@ -103,11 +103,11 @@ child_part v level depth child n leaf front columns is e f =
 pub segs_part : (v : ViewValue) (level : LevelLists) (front : Surface) (first k : ℕ) (columns now : List Bool) → now ≡ (at_segs v level front first k (part_start columns)).covered →
     at_segs v level front first (k + 1) (part_start columns) ≡ behind (at_segs v level front first k (part_start columns)).events (at_seg v level front (first + k) (part_start now))
 segs_part v level front first k columns now e =
-    let walked : WalkState = at_segs v level front first k (part_start columns) in
+    let state_after_segs : WalkState = at_segs v level front first k (part_start columns) in
     sym (at_segs-more v level front first k (k + 1) (part_start columns) refl)
-    ∙ ap (at_seg v level front (first + k)) (part_of walked)
-    ∙ behind-at_seg v level front (first + k) walked.events (part_start walked.covered)
-    ∙ ap (λ (c : List Bool). behind walked.events (at_seg v level front (first + k) (part_start c))) (sym e)
+    ∙ ap (at_seg v level front (first + k)) (part_of state_after_segs)
+    ∙ behind-at_seg v level front (first + k) state_after_segs.events (part_start state_after_segs.covered)
+    ∙ ap (λ (c : List Bool). behind state_after_segs.events (at_seg v level front (first + k) (part_start c))) (sym e)
 
 -- the events of fewer segs are the front of those of more
 segs_front : (v : ViewValue) (level : LevelLists) (front : Surface) (first j n : ℕ) (columns : List Bool) → j ≤ n →
@@ -165,8 +165,8 @@ failed_by b x w e = rw e
 -- a child that is a node, whose near child is walked first
 module _ (v : ViewValue) (level : LevelLists) (depth n side : ℕ) (child near : Child) (node : Node) (columns : List Bool) (is : child ≡ NodeChild n) (deep : ¬ (depth ≡ 0)) (found : node_at level n ≡ Some node) (beside : side ≡ eye_side v node) (first : near ≡ child_on node side) where
   node_part :
-      let walked = walk_child v level (depth - 1) near (part_start columns) in
-      walk_child v level depth child (part_start columns) ≡ behind walked.events (at_far v (walk_child v level (depth - 1)) node (part_start walked.covered))
+      let at_near = walk_child v level (depth - 1) near (part_start columns) in
+      walk_child v level depth child (part_start columns) ≡ behind at_near.events (at_far v (walk_child v level (depth - 1)) node (part_start at_near.covered))
   node_part =
       ap (λ (d : Child). walk_child v level depth d (part_start columns)) is
       ∙ far_part v level depth n side node columns deep found beside
@@ -185,29 +185,29 @@ module _ (v : ViewValue) (level : LevelLists) (depth n side : ℕ) (child near :
   unfolding at_far far_box far_child
   node_now now b c e =
       let walk : Child → WalkState → WalkState = walk_child v level (depth - 1) in
-      let walked : WalkState = walk near (part_start columns) in
+      let at_near : WalkState = walk near (part_start columns) in
       node_part
-      ∙ ap (λ (d : List Bool). behind walked.events (at_far v walk node (part_start d))) (sym c)
-      ∙ ap (λ (s : ℕ). behind walked.events (cond (box_passes v now (box_on node (1 - s))) (walk (child_on node (1 - s)) (part_start now)) (part_start now))) (sym beside)
-      ∙ ap (λ (d : Box4). behind walked.events (cond (box_passes v now d) (walk (child_on node (1 - side)) (part_start now)) (part_start now))) (sym e)
+      ∙ ap (λ (d : List Bool). behind at_near.events (at_far v walk node (part_start d))) (sym c)
+      ∙ ap (λ (s : ℕ). behind at_near.events (cond (box_passes v now (box_on node (1 - s))) (walk (child_on node (1 - s)) (part_start now)) (part_start now))) (sym beside)
+      ∙ ap (λ (d : Box4). behind at_near.events (cond (box_passes v now d) (walk (child_on node (1 - side)) (part_start now)) (part_start now))) (sym e)
 
   -- where the far box is not seen, they are all
   pub node_near : (now : List Bool) (b : Box4) → now ≡ (walk_child v level (depth - 1) near (part_start columns)).covered → b ≡ box_on node (1 - side) → box_passes v now b ≡ false →
       walk_child v level depth child (part_start columns) ≡ record { events = (walk_child v level (depth - 1) near (part_start columns)).events; covered = now }
   node_near now b c e fails =
-      let walked : WalkState = walk_child v level (depth - 1) near (part_start columns) in
+      let at_near : WalkState = walk_child v level (depth - 1) near (part_start columns) in
       node_now now b c e
-      ∙ ap (behind walked.events) (failed_by (box_passes v now b) (walk_child v level (depth - 1) (child_on node (1 - side)) (part_start now)) (part_start now) fails)
-      ∙ ap (λ (es : List Event). record { events = es; covered = now }) (append-nil walked.events)
+      ∙ ap (behind at_near.events) (failed_by (box_passes v now b) (walk_child v level (depth - 1) (child_on node (1 - side)) (part_start now)) (part_start now) fails)
+      ∙ ap (λ (es : List Event). record { events = es; covered = now }) (append-nil at_near.events)
 
   -- where it is, the far child's events follow
   pub node_both : (now : List Bool) (b : Box4) (far : Child) → now ≡ (walk_child v level (depth - 1) near (part_start columns)).covered → b ≡ box_on node (1 - side) → box_passes v now b ≡ true → far ≡ child_on node (1 - side) →
       walk_child v level depth child (part_start columns) ≡ behind (walk_child v level (depth - 1) near (part_start columns)).events (walk_child v level (depth - 1) far (part_start now))
   node_both now b far c e passes last =
-      let walked : WalkState = walk_child v level (depth - 1) near (part_start columns) in
+      let at_near : WalkState = walk_child v level (depth - 1) near (part_start columns) in
       node_now now b c e
-      ∙ ap (behind walked.events) (passed_by (box_passes v now b) (walk_child v level (depth - 1) (child_on node (1 - side)) (part_start now)) (part_start now) passes)
-      ∙ ap (λ (d : Child). behind walked.events (walk_child v level (depth - 1) d (part_start now))) (sym last)
+      ∙ ap (behind at_near.events) (passed_by (box_passes v now b) (walk_child v level (depth - 1) (child_on node (1 - side)) (part_start now)) (part_start now) passes)
+      ∙ ap (λ (d : Child). behind at_near.events (walk_child v level (depth - 1) d (part_start now))) (sym last)
 
 -- the columns of a seg that is solid or a pass: its runs, which a solid one covers
 pub shown_part : (solid pass : Bool) (seg first last : ℕ) (columns now : List Bool) (runs : List (ℕ × ℕ)) → (solid ≡ true) ⊎ (pass ≡ true) →

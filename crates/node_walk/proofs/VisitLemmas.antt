@@ -71,8 +71,8 @@ visits_then {E} {t} {u} {v} {a} {b} {c} {p} {q} {xs} {ys} {first} {last} all vis
 visits_stop : {A E : Type 0} {t u : Event → Type 0} {a b : A → List Event → Type 0} {p : A → List Event → E → Type 0} {xs : List Event} {first : Result (Unit {0}) E} (result : Result (Unit {0}) E) (rest all : List Event) →
     Visits t u a b p xs first → (stop : E) → first ≡ Err stop → result ≡ Err stop → xs ++ rest ≡ all → Visits t u a b p all result
 visits_stop {E} {t} {u} {a} {b} {p} {xs} {first} result rest all visits stop was is e =
-    let stopped : StoppedAt a p xs stop = rw was at visits.err in
-    subst (Visits t u a b p all) (sym is) (record { ok = tt; takes_on = tt; err = stopped_front rest all stopped e })
+    let stopped_with_cause : StoppedAt a p xs stop = rw was at visits.err in
+    subst (Visits t u a b p all) (sym is) (record { ok = tt; takes_on = tt; err = stopped_front rest all stopped_with_cause e })
 
 -- a visitor that takes every event still does after a part that was given whole
 pub takes_all_after : {A E : Type 0} {t u : Event → Type 0} {a b : A → List Event → Type 0} {p : A → List Event → E → Type 0} {xs : List Event} {first : Result (Unit {0}) E} (leaves segs width : ℕ) →

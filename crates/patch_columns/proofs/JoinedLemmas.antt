@@ -68,8 +68,8 @@ single g n = append-nil (g n)
 pub joined_up_to-next : {Y : Type 0} (g f : ℕ → List Y) (p : ℕ → Bool) (n width : ℕ) → p n ≡ true → joined_up_to g f p (n + 1) width ≡ joined_lists g (below p n) ++ (g n ++ joined_lists f (onward p (n + 1) width))
 unfolding joined_up_to
 joined_up_to-next {Y} g f p n width on =
-    let rest : List Y = joined_lists f (onward p (n + 1) width) in
+    let lists_after : List Y = joined_lists f (onward p (n + 1) width) in
     let below_is : below p (n + 1) ≡ below p n ++ n ∷ [] = below-more p n ∙ (rw on) in
-    ap (λ (ns : List ℕ). joined_lists g ns ++ rest) below_is
-    ∙ ap (λ (ys : List Y). ys ++ rest) (joined_lists-append g (below p n) (n ∷ []) ∙ ap (λ (ys : List Y). joined_lists g (below p n) ++ ys) (single g n))
-    ∙ append_assoc (joined_lists g (below p n)) (g n) rest
+    ap (λ (ns : List ℕ). joined_lists g ns ++ lists_after) below_is
+    ∙ ap (λ (ys : List Y). ys ++ lists_after) (joined_lists-append g (below p n) (n ∷ []) ∙ ap (λ (ys : List Y). joined_lists g (below p n) ++ ys) (single g n))
+    ∙ append_assoc (joined_lists g (below p n)) (g n) lists_after

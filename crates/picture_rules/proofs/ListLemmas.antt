@@ -130,11 +130,11 @@ makers_counted v scene before [] = let planes_same = ap (λ (fs : List Event). l
     omega (arith, planes_same)
 makers_counted v scene before (e ∷ es) =
     let planes_grow = event_planes-longer v scene before e in
-    let rest = makers_counted v scene (before ++ e ∷ []) es ∙ ap (λ (fs : List Event). length (event_planes v scene fs)) (append_assoc before (e ∷ []) es) in
+    let rest_is = makers_counted v scene (before ++ e ∷ []) es ∙ ap (λ (fs : List Event). length (event_planes v scene fs)) (append_assoc before (e ∷ []) es) in
     let makers_of_event = replicate (planes_made v scene before e) (maker_of (length (drawsegs before)) e) in
     let joined_length = length-append makers_of_event (makers_from v scene (before ++ e ∷ []) es) in
     let own_length = length-replicate (planes_made v scene before e) (maker_of (length (drawsegs before)) e) in
-    omega (arith, planes_grow, rest, joined_length, own_length)
+    omega (arith, planes_grow, rest_is, joined_length, own_length)
 
 pub plane_makers-count : (v : ViewValue) (scene : Scene) (es : List Event) → length (plane_makers v scene es) ≡ length (event_planes v scene es)
 unfolding plane_makers

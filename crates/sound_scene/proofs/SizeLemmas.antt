@@ -69,8 +69,8 @@ prepared_block (Some t) block e is = is
 
 range_increases : (n : ℕ) → IsStrictlyIncreasing (range_with_len 0 n)
 range_increases n = λ k l.
-    let long : k + 1 < n = omega (arith, l, length-range_with_len 0 n) in
-    omega (arith, get_or-range_with_len 0 n k 0 (omega arith), get_or-range_with_len 0 n (k + 1) 0 long)
+    let next_below : k + 1 < n = omega (arith, l, length-range_with_len 0 n) in
+    omega (arith, get_or-range_with_len 0 n k 0 (omega arith), get_or-range_with_len 0 n (k + 1) 0 next_below)
 
 -- the lumps that are needed ascend
 pub needed_increase : (lumps : List Lump) (art : SceneArt) → IsStrictlyIncreasing (needed_lumps lumps art)
@@ -111,8 +111,8 @@ increase_index xs up (suc i) l =
 -- of lumps that ascend the number is at least the index, so a bound of numbers is one of indexes
 pub index_below : (lumps : List LumpNo) (i : ℕ) (d : LumpNo) (n : ℕ) → IsStrictlyIncreasing (lump_numbers lumps) → i < length lumps → (get_or lumps i d).0 < n → i < n
 index_below lumps i d n up l below =
-    let long : i < length (lump_numbers lumps) = rw (length-map lumps (λ (lump : LumpNo). lump.0)) l in
-    let least = increase_index (lump_numbers lumps) up i long in
+    let within_numbers : i < length (lump_numbers lumps) = rw (length-map lumps (λ (lump : LumpNo). lump.0)) l in
+    let number_at_least = increase_index (lump_numbers lumps) up i within_numbers in
     omega (arith, number_read lumps i d l)
 
 -- both sizes, by what they are made of

@@ -59,9 +59,9 @@ module _ {A B C D E F : Type 0} {v w x : ShelfView} {dir : DirectoryView} {a b c
     read = step_read one two;
     count = two.count ∙ one.count;
     answers = λ contents told.
-        let later = told_with one.keeps told (one.read contents told) in
-        let ok = subst (λ (y : Result F (Fault SpriteRefusal)). IfOk y (λ g. part (lump_bytes contents dir.lumps) ≡ Ok (next g))) is (two.answers contents later).ok in
-        record { ok = joins (lump_bytes contents dir.lumps) (one.answers contents told).ok ok; err = tt };
+        let told_after_first = told_with one.keeps told (one.read contents told) in
+        let next_is_ok = subst (λ (y : Result F (Fault SpriteRefusal)). IfOk y (λ g. part (lump_bytes contents dir.lumps) ≡ Ok (next g))) is (two.answers contents told_after_first).ok in
+        record { ok = joins (lump_bytes contents dir.lumps) (one.answers contents told).ok next_is_ok; err = tt };
     causes = record { err = tt };
     full = tt;
     order = λ items all k.
@@ -77,9 +77,9 @@ module _ {A B C D E F : Type 0} {v w x : ShelfView} {dir : DirectoryView} {a b c
     read = step_read one two;
     count = two.count ∙ one.count;
     answers = λ contents told.
-        let later = told_with one.keeps told (one.read contents told) in
-        let err = subst (λ (y : Result F (Fault SpriteRefusal)). IfErr y (λ f. FaultFits w.steady (part (lump_bytes contents dir.lumps)) (itself f))) is (two.answers contents later).err in
-        record { ok = tt; err = reads_at v.steady w.steady (part (lump_bytes contents dir.lumps)) (expected (lump_bytes contents dir.lumps)) (itself fault) one.keeps.follows.steady (λ e h. stops (lump_bytes contents dir.lumps) e (one.answers contents told).ok h) err };
+        let told_after_first = told_with one.keeps told (one.read contents told) in
+        let next_is_fault = subst (λ (y : Result F (Fault SpriteRefusal)). IfErr y (λ f. FaultFits w.steady (part (lump_bytes contents dir.lumps)) (itself f))) is (two.answers contents told_after_first).err in
+        record { ok = tt; err = reads_at v.steady w.steady (part (lump_bytes contents dir.lumps)) (expected (lump_bytes contents dir.lumps)) (itself fault) one.keeps.follows.steady (λ e h. stops (lump_bytes contents dir.lumps) e (one.answers contents told).ok h) next_is_fault };
     causes = record { err = cause_later v.faults w.faults x.faults (itself fault) one.keeps.follows.faults (subst (λ (y : Result F (Fault SpriteRefusal)). IfErr y (λ f. HasCauseAt w.faults x.faults (itself f))) is two.causes.err) };
     full = full_at (itself fault) (λ wanted widest' k. full_for_earlier among one.keeps wanted widest' k) (subst (λ (y : Result F (Fault SpriteRefusal)). IfErr y (λ f. IfFull (itself f) (IsFullFor some dir b))) is two.full);
     order = λ items all k.

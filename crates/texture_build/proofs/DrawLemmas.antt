@@ -67,22 +67,22 @@ full_column-earlier : {a b : ShelfView} {dir : DirectoryView} {textures : Textur
     IsFullForTexture some dir.lumps textures y wanted widest →
     IsFullForTexture among dir.lumps textures x wanted widest
 full_column-earlier {dir = dir} {textures} {x} {y} keeps wider wanted widest k =
-    let full = k.full in record {
+    let column_facts = k.full in record {
       number = k.number;
       column = k.column;
       is = wider k.number k.column k.is;
       full = record {
-        owner = full.owner;
-        size = full.size;
-        asked = full.asked;
-        wanted_is = full.wanted_is;
-        narrow = full.narrow;
+        owner = column_facts.owner;
+        size = column_facts.size;
+        asked = column_facts.asked;
+        wanted_is = column_facts.wanted_is;
+        narrow = column_facts.narrow;
         gap = λ colormap count rest. subst
             (λ (n : ℕ). IsGapBeside n (block_size count) widest
             ⊎ (IsComposedColumn (column_in (prepared_texture textures k.number) k.column)
-            × IsPatch dir.lumps (prepared_texture textures k.number) full.owner full.size
+            × IsPatch dir.lumps (prepared_texture textures k.number) column_facts.owner column_facts.size
             × IsGapBesideComposite n count (size_of (prepared_texture textures k.number)) widest))
-            keeps.counts.0 (full.gap colormap count (keeps.rest colormap count rest));
+            keeps.counts.0 (column_facts.gap colormap count (keeps.rest colormap count rest));
       };
     }
 

@@ -84,17 +84,17 @@ module _ {view : ShelfView} {dir : DirectoryView} {textures : TexturesView}
       length bytes ≡ size_of (prepared_texture textures number)
   composite_size number bytes prepared is =
       let texture = prepared_texture textures number in
-      let at : IfSome (bytes_of (composite_owner number) z.blocks)
+      let bytes_at_owner : IfSome (bytes_of (composite_owner number) z.blocks)
       (λ xs. xs ≡ composite_of (lump_bytes contents dir.lumps) texture) =
       subst (λ (p : Option PreparedTexture). IfSome p (λ u.
       IfSome (bytes_of (composite_owner number) z.blocks)
       (λ xs. xs ≡ composite_of (lump_bytes contents dir.lumps) u)))
       (prepared_is (prepared_at textures.prepared number) prepared)
       (hold.composites.at number) in
-      let same : bytes ≡ composite_of (lump_bytes contents dir.lumps) texture =
+      let bytes_are : bytes ≡ composite_of (lump_bytes contents dir.lumps) texture =
       subst (λ (x : Option (List ℕ)). IfSome x
-      (λ xs. xs ≡ composite_of (lump_bytes contents dir.lumps) texture)) is at in
-      ap length same ∙ composite_size-length (lump_bytes contents dir.lumps) texture.patches
+      (λ xs. xs ≡ composite_of (lump_bytes contents dir.lumps) texture)) is bytes_at_owner in
+      ap length bytes_are ∙ composite_size-length (lump_bytes contents dir.lumps) texture.patches
       (length texture.columns) texture.height
 
   -- a lump that is lent, as a painter's source

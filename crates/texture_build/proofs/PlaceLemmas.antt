@@ -27,11 +27,11 @@ pub step_made : (bytes : ℕ → List ℕ) (number : ℕ) (entry : TextureEntry)
     or_missing number (option_map (step_of bytes columns) (place_lump bytes entry lump)) ≡ Ok (record { patch = patch; columns = new })
 unfolding or_missing step_of
 step_made bytes number entry lump live columns new result patch known value told is =
-    let of : patch.lump ≡ lump = lump_placed entry lump live result patch value is in
+    let lump_is : patch.lump ≡ lump = lump_placed entry lump live result patch value is in
     let columns_made : IfSome live (λ xs. new ≡ columns_with xs patch columns) = subst (λ r. IfSome r (λ p. IfSome live (λ xs. new ≡ columns_with xs p columns))) is told in
     let columns_same : new ≡ columns_with (bytes lump) patch columns = subst (λ o. IfSome o (λ xs. new ≡ columns_with xs patch columns)) known columns_made in
     ap (λ o. or_missing number (option_map (step_of bytes columns) o)) (placed_live bytes entry lump live result known value ∙ is)
-    ∙ ap (λ xs. Ok (record { patch = patch; columns = xs })) (ap (λ (n : ℕ). columns_with (bytes n) patch columns) of ∙ sym columns_same)
+    ∙ ap (λ xs. Ok (record { patch = patch; columns = xs })) (ap (λ (n : ℕ). columns_with (bytes n) patch columns) lump_is ∙ sym columns_same)
 
 pub step_missing : (bytes : ℕ → List ℕ) (number : ℕ) (entry : TextureEntry) (lump : ℕ) (live : Option (List ℕ)) (columns : List ColumnLookup) (result : Option PlacedPatch) → live ≡ Some (bytes lump) →
     result ≡ option_and_then (λ bytes. option_map (place_patch entry lump) (patch_of bytes)) live → result ≡ None →

@@ -71,8 +71,8 @@ pub texture_missing : (last : List ℕ → Option ℕ) (bytes : ℕ → List ℕ
     or_missing number (option_map (patches_part bytes width) (placed_patches last bytes names t.patches)) ≡ Err reason → prepared last bytes names number t ≡ Err reason
 unfolding prepared unless_missing
 texture_missing last bytes names number t width reason placed =
-    let missing = missing_is number (patches_part bytes width) _ _ placed in
-    ap (unless_missing bytes number t) missing.0 ∙ ap Err (sym missing.1)
+    let patches_missing = missing_is number (patches_part bytes width) _ _ placed in
+    ap (unless_missing bytes number t) patches_missing.0 ∙ ap Err (sym patches_missing.1)
 
 -- after a part that was passed, a step that is told by the bytes alone
 pub tells_bound : {A B C D : Type 0} {v w : ShelfView} {dir : DirectoryView} {a b : Heap} {wants some : ℕ → Type 0} {value : B → A} {first : D → C} {expected : (ℕ → List ℕ) → Result A TexRefusal} {before : (ℕ → List ℕ) → Result C TexRefusal} (part : Result D (Fault TexRefusal)) (found : D) (reason : TexRefusal) (result : Result B (Fault TexRefusal)) →

@@ -22,9 +22,9 @@ pub texture-painted : (bytes : ℕ → List ℕ) (textures : TexturesView) (colo
     HasDots mark (texture_dots (view_art bytes textures colormap) s) a c
 unfolding texture_dots texture_colour view_art byte_at
 texture-painted bytes textures colormap s {b = b} source shades base fraction step began painted is_painter is_lookup is_step is_fraction is_shades texels =
-    let its : ColumnLookup → Painter = λ l. painter_of s.kind s.number (lookup_source s.tex.0 l) in
-    let painter : b.painter ≡ its (column_in (prepared_texture textures s.tex.0) s.column) =
-    ap (λ (canvas : CanvasView). canvas.painter) began ∙ is_painter ∙ ap its is_lookup in
+    let painter_by_lookup : ColumnLookup → Painter = λ l. painter_of s.kind s.number (lookup_source s.tex.0 l) in
+    let painter : b.painter ≡ painter_by_lookup (column_in (prepared_texture textures s.tex.0) s.column) =
+    ap (λ (canvas : CanvasView). canvas.painter) began ∙ is_painter ∙ ap painter_by_lookup is_lookup in
     let start_is : fraction ≡ row_fraction s.centre s.mid step s.first = is_fraction ∙ sym (ap (λ (z : ℤ). row_fraction s.centre s.mid z s.first) is_step) in
     let dots : column_dots b.painter s.x (row_shade source base shades s.map s.centre s.mid step) (listed_from (λ y. y) s.first s.last)
     ≡ texture_dots (view_art bytes textures colormap) s =

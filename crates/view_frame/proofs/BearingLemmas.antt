@@ -24,11 +24,11 @@ lesser_word-greater_word a b = omega (arith, ints, clamps)
 pub slope_steps-bound : (dx dy : ℤ) → pos 0 <ℤ dx → pos 0 ≤ℤ dy → dy ≤ℤ dx → unsigned_abs (shr_word (div dy dx) SLOPE_BITS) < SLOPE_ANGLES
 unfolding div shr_word
 slope_steps-bound (pos n) (pos m) p l h =
-    let some : 0 < n = omega (arith, ints) in
+    let above_zero : 0 < n = omega (arith, ints) in
     let order : m ≤ n = omega (arith, ints) in
-    let fits : nat_le n (m / 2 ^ 14) ≡ false = grind (arith, nat_tests) in
+    let quotient_fits : nat_le n (m / 2 ^ 14) ≡ false = grind (arith, nat_tests) in
     let quotient_below = div_below (m * 65536) n 65537 (omega arith) (omega arith) in
-    rw fits (omega arith)
+    rw quotient_fits (omega arith)
 slope_steps-bound (pos n) (negsuc m) p l h = absurd (omega (arith, ints))
 slope_steps-bound (negsuc n) dy p l h = absurd (omega (arith, ints))
 

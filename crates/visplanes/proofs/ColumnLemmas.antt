@@ -159,10 +159,10 @@ kept-more tops bottoms first last x top bottom k l m h =
           (λ d. let same_first : min first x ≡ first = omega (arith, d) in λ q. k.least (omega (arith, d)) (ap (slice_index tops) (sym same_first) ∙ q));
       greatest = λ b. run_there tops x top (max last x) in_tops is_run
           (λ d. let same_last : max last x ≡ last = omega (arith, d) in
-          let some : first < FRAME_WIDTH = elim (cases_lt first FRAME_WIDTH) [
+          let first_in_frame : first < FRAME_WIDTH = elim (cases_lt first FRAME_WIDTH) [
             | inl c ↦ c
             | inr c ↦ absurd (let was_empty : first ≡ FRAME_WIDTH = omega (arith, c, k.start) in omega (arith, d, k.none was_empty))
-          ] in λ q. k.greatest some (ap (slice_index tops) (sym same_last) ∙ q));
+          ] in λ q. k.greatest first_in_frame (ap (slice_index tops) (sym same_last) ∙ q));
       none = λ e. absurd (omega (arith, e));
       ordered = λ i b. elim (cases_eq i x) [
         | inl e ↦ inr (omega (arith, set_here tops x top i in_tops e, set_here bottoms x bottom i in_bottoms e))

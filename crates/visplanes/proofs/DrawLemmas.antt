@@ -15,9 +15,9 @@ pub closed_same : (f : FloorView) (painter : Painter) (start : ℕ → ℕ) (bef
     before.begin ≡ now.begin → before.end ≡ now.end → closed_dots f painter start before now x ≡ []
 unfolding closed_dots closed_rows
 closed_same f painter start before now x b e =
-    let above : min before.end now.begin - before.begin ≡ 0 = omega (arith, b) in
+    let no_rows_above : min before.end now.begin - before.begin ≡ 0 = omega (arith, b) in
     let no_rows_below : before.end - max before.begin now.end ≡ 0 = omega (arith, e) in
-    ap₂ (λ (m n : ℕ). closed_rows f painter start x before.begin m ++ closed_rows f painter start x (max before.begin now.end) n) above no_rows_below
+    ap₂ (λ (m n : ℕ). closed_rows f painter start x before.begin m ++ closed_rows f painter start x (max before.begin now.end) n) no_rows_above no_rows_below
 
 -- the column before column x holds row y
 abbrev pub held_before : Plane → ℕ → ℕ → Bool

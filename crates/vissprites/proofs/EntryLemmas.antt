@@ -8,8 +8,8 @@ div_positive : (n : ℕ) (d : ℤ) → n ≤ 160 → int_lt d MIN_DEPTH ≡ fals
 unfolding div
 div_positive n (pos m) l h =
     let far : 262144 ≤ m = grind (arith, ints) in
-    let fits : nat_le m (n * 65536 / 2 ^ 14) ≡ false = grind (arith, nat_tests) in
-    rw fits (omega (arith, ints))
+    let scale_fits : nat_le m (n * 65536 / 2 ^ 14) ≡ false = grind (arith, nat_tests) in
+    rw scale_fits (omega (arith, ints))
 div_positive n (negsuc m) l h = cc
 
 sprite_scale-positive : (v : ViewValue) (d : ℤ) → v.shape.centre_x ≤ 160 → int_lt d MIN_DEPTH ≡ false → pos 0 ≤ℤ sprite_scale v d

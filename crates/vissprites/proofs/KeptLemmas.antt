@@ -156,8 +156,8 @@ with_entry-room e es k n l =
 pub with_entry-full : (e : SpriteEntry) (es : List SpriteEntry) → IsKept es → MAX_VISSPRITES ≤ length es → made_order es ≡ with_entry (made_order es) (Some e)
 unfolding with_entry
 with_entry-full e es k l =
-    let full : nat_lt (length (made_order es)) MAX_VISSPRITES ≡ false = rw (length-made_order es k) (grind (arith, nat_tests)) in
-    rw full refl
+    let list_is_full : nat_lt (length (made_order es)) MAX_VISSPRITES ≡ false = rw (length-made_order es k) (grind (arith, nat_tests)) in
+    rw list_is_full refl
 
 -- without an entry nothing changes
 pub with_entry-none : (es : List SpriteEntry) → es ≡ with_entry es None

@@ -264,21 +264,21 @@ now_after {v} {walls} {s} {facts} {first} {last} {notes} {old} {checked} {new} {
       floor = checked_now.floor;
       ceiling = checked_now.ceiling;
     } in
-    let ordered = d.ordered in
+    let first_to_last = d.ordered in
     let last_within = d.within in
     let new_planes : now_of new later ≡ marked_now = ap (λ (ps : List Plane).
     let planes_now : PlanesNow = record { planes = ps; floor = plane_number new.floor; ceiling = plane_number new.ceiling } in planes_now)
     (ap (λ (p : PlanesView). p.planes) d.marked.planes)
     ∙ ap (λ (o : Option _). let planes_now : PlanesNow = record { planes = marked_now.planes; floor = plane_number o; ceiling = plane_number new.ceiling } in planes_now) d.marked.floor
     ∙ ap (λ (o : Option _). let planes_now : PlanesNow = record { planes = marked_now.planes; floor = plane_number checked.floor; ceiling = plane_number o } in planes_now) d.marked.ceiling in
-    let alike : MarkAlike (marks_along fragment open_at) (plane_wall v (with_wall walls wall) (length walls) wall) =
+    let marks_alike : MarkAlike (marks_along fragment open_at) (plane_wall v (with_wall walls wall) (length walls) wall) =
     rows_same v (with_wall walls wall) (length walls) facts first last open_at
     (λ x l h. window_before d x (omega arith) ∙ sym (clip_before-front v.shape walls (wall ∷ []) (length walls) x (omega arith))) in
     new_planes
     ∙ sym (marked_event fragment open_at checked_now)
     ∙ ap (wall_marked (marks_along fragment open_at)) d.planes
     ∙ sym (drawn_event fragment open_at s)
-    ∙ event_alike s (marks_along fragment open_at) (plane_wall v (with_wall walls wall) (length walls) wall) alike first last refl refl ordered
+    ∙ event_alike s (marks_along fragment open_at) (plane_wall v (with_wall walls wall) (length walls) wall) marks_alike first last refl refl first_to_last
 
 -- a fragment is drawn
 built_wall : {v : ViewValue} {walls : List Wall} {s : PlanesNow} {facts : WallFacts} {first last : ℕ} {notes : List FragmentNote}

@@ -101,13 +101,13 @@ int_le-is a b false e = grind (arith, ints)
 
 past_top : (height : ℕ) (first last : ℤ) (t : Bool) → int_le first last ≡ t → height ≤ FRAME_HEIGHT → IsFirst first → IsLast height last → IsCeiling (cond t last (minus first (pos 1)))
 past_top height first last true e s f g =
-    let ordered = int_le-is first last true e in
+    let first_to_last = int_le-is first last true e in
     let first_at_least = f.low in let last_at_most = g.high in record { low = omega (arith, ints); high = omega (arith, ints) }
 past_top height first last false e s f g = row_before first f
 
 past_bottom : (height : ℕ) (first last : ℤ) (t : Bool) → int_le first last ≡ t → height ≤ FRAME_HEIGHT → IsFirst first → IsLast height last → IsFloor height (cond t first (plus last (pos 1)))
 past_bottom height first last true e s f g =
-    let ordered = int_le-is first last true e in
+    let first_to_last = int_le-is first last true e in
     let first_at_least = f.low in let last_at_most = g.high in record { low = omega (arith, ints); high = omega (arith, ints) }
 past_bottom height first last false e s f g = row_past height last s g
 
@@ -209,7 +209,7 @@ unfolding ceiling_rows
 ceiling_rows-in height clip e s i w =
     let is_open = opened height clip e s i w in
     let ceiling_at_least = is_open.ceiling.low in let ceiling_at_most = is_open.ceiling.high in
-    let above = (row_before (wall_first clip e) (first_is height clip e is_open)).low in
+    let low_bound = (row_before (wall_first clip e) (first_is height clip e is_open)).low in
     let next_is = plus_near clip.ceiling_clip (omega (arith, ints)) (omega (arith, ints)) in
     let above_is_last = last_above height clip.floor_clip (minus (wall_first clip e) (pos 1)) s is_open.floor.low is_open.floor.high (omega (arith, ints)) in
     let next_from_zero : pos 0 ≤ℤ (clip.ceiling_clip +ℤ pos 1) = omega (arith, ints) in

@@ -46,8 +46,8 @@ bare_strips : (n : FragmentNumbers) (clip : ColumnClip) (e : Edges) → has_part
 unfolding has_part wall_strips strip_of
 bare_strips n clip e h =
     let upper = or_parts (has_texture n.middle_part || has_texture n.top_part) (has_texture n.bottom_part) h in
-    let middle = or_parts (has_texture n.middle_part) (has_texture n.top_part) upper.0 in
-    rw (middle.0, middle.1, upper.1) refl
+    let no_middle_or_top = or_parts (has_texture n.middle_part) (has_texture n.top_part) upper.0 in
+    rw (no_middle_or_top.0, no_middle_or_top.1, upper.1) refl
 
 bare_column : (v : ViewValue) (art : Art) (k : ℕ) (f : FragmentValue) (facts : WallFacts) (before : ℕ → ColumnClip) (x : ℕ) → has_part f.numbers ≡ false → column_painted v art k f facts before x ≡ []
 unfolding column_painted joined_lists
@@ -233,8 +233,8 @@ unfolding wall_of
 seen-texture v state facts first last number own h =
     let numbers = fragment_numbers v facts first last in
     let part_there = wall_strips-there numbers (clip_at state h.x) (wall_edges v.shape (wall_of v facts first last) h.x) h.strip h.among in
-    let some = subst (λ (m : ℕ). m ≢ 0) (sym h.texture.1) part_there.0 in
-    (some, numbers-texture v facts first last number some (subst (IsPartTexture numbers) (sym h.texture.1) part_there.1))
+    let has_number = subst (λ (m : ℕ). m ≢ 0) (sym h.texture.1) part_there.0 in
+    (has_number, numbers-texture v facts first last number has_number (subst (IsPartTexture numbers) (sym h.texture.1) part_there.1))
 
 -- what paints the columns of the fragment of a seg paints it behind those that are there
 pub paints-range : (v : ViewValue) (t : PaintTools) (mark : Painter → ℕ → ℕ) (facts : WallFacts) (first last number : ℕ) (f : FragmentValue) (notes : List FragmentNote) (columns : ColumnState) (windows : WindowsView)

@@ -57,10 +57,10 @@ module _ (shape : ViewShape) (look : ColumnLook) (part : Part) (rows : RowRange)
   part-dots : (art : Art) → texture_dots art s ≡ look_dots shape art look (strip_with part rows)
   unfolding texture_dots texture_colour look_dots look_colour
   part-dots art =
-      let along : listed_from (λ y. y) s.first s.last ≡ rows_between rows.first rows.last =
+      let rows_listed : listed_from (λ y. y) s.first s.last ≡ rows_between rows.first rows.last =
       rows-between rows.first rows.last s.first s.last first last (in_order rows.first rows.last ordered) in
       λ i. column_dots (painter_of (kind i) (number i) (art.texture_source (tex i) (column i))) (x i)
-      (λ y. art.shade (map i) (art.texel (tex i) (column i) (texel_row (row_fraction (centre i) (mid i) (step i) y)))) (along i)
+      (λ y. art.shade (map i) (art.texel (tex i) (column i) (texel_row (row_fraction (centre i) (mid i) (step i) y)))) (rows_listed i)
 
   -- so a call that paints it paints the part
   pub part-painted : {t : PaintTools} {mark : Painter → ℕ → ℕ} {a b : PaintState} (lower : Result (Unit {0}) CacheFault)

@@ -102,21 +102,21 @@ take-with_list : (xs list : List ℤ) (used place : ℕ) → used ≤ length xs 
 unfolding with_list
 take-with_list xs list used place long room =
     let front : List ℤ = take used xs in
-    let rest : List ℤ = drop used xs in
+    let past_used : List ℤ = drop used xs in
     let values_before : List ℤ = take place front in
-    let behind : List ℤ = drop (place + length list) front in
+    let values_behind : List ℤ = drop (place + length list) front in
     let whole : length front ≡ used = length-take-le used xs long in
-    let split_is : xs ≡ front ++ rest = sym (take-append-drop used xs) in
-    let joined : (values_before ++ (list ++ behind)) ++ rest ≡ values_before ++ (list ++ (behind ++ rest)) =
-    append_assoc values_before (list ++ behind) rest ∙ ap (λ (ys : List ℤ). values_before ++ ys) (append_assoc list behind rest) in
+    let split_is : xs ≡ front ++ past_used = sym (take-append-drop used xs) in
+    let joined : (values_before ++ (list ++ values_behind)) ++ past_used ≡ values_before ++ (list ++ (values_behind ++ past_used)) =
+    append_assoc values_before (list ++ values_behind) past_used ∙ ap (λ (ys : List ℤ). values_before ++ ys) (append_assoc list values_behind past_used) in
     ap (λ (ys : List ℤ). take used (take place ys ++ (list ++ drop (place + length list) ys))) split_is
-    ∙ ap (λ (ys : List ℤ). take used (ys ++ (list ++ drop (place + length list) (front ++ rest)))) (take-append-le place front rest (omega arith))
-    ∙ ap (λ (ys : List ℤ). take used (values_before ++ (list ++ ys))) (drop-append-le (place + length list) front rest (omega arith))
+    ∙ ap (λ (ys : List ℤ). take used (ys ++ (list ++ drop (place + length list) (front ++ past_used)))) (take-append-le place front past_used (omega arith))
+    ∙ ap (λ (ys : List ℤ). take used (values_before ++ (list ++ ys))) (drop-append-le (place + length list) front past_used (omega arith))
     ∙ ap (take used) (sym joined)
-    ∙ take_at (values_before ++ (list ++ behind)) rest used (omega (
+    ∙ take_at (values_before ++ (list ++ values_behind)) past_used used (omega (
       arith,
-      length-append values_before (list ++ behind),
-      length-append list behind,
+      length-append values_before (list ++ values_behind),
+      length-append list values_behind,
       length-take-le place front (omega arith),
       length-drop (place + length list) front,
     ))
@@ -127,7 +127,7 @@ pub saved_view : (list new values : List ℤ) (used place : ℕ) (old : Openings
     p ≡ Some place → place + length values ≤ length old.saved → new ≡ with_list list place values → take used new ≡ with_saved old.saved p values
 unfolding with_saved
 saved_view list new values used place old p long view is room written =
-    let short : length old.saved ≤ used = omega (arith, ap (λ (o : OpeningsView). length o.saved) view, length-take used list) in
+    let saved_fits : length old.saved ≤ used = omega (arith, ap (λ (o : OpeningsView). length o.saved) view, length-take used list) in
     ap (take used) written ∙ take-with_list list values used place long (omega arith)
     ∙ ap (λ (o : OpeningsView). with_list o.saved place values) (sym view) ∙ ap (λ (o : Option ℕ). with_saved old.saved o values) (sym is)
 

@@ -74,14 +74,14 @@ lists_saved-behind n count before xs columns ceilings floors middle_count top_co
     let middles : List ℤ = saved_if n.masked columns in
     let tops : List ℤ = saved_if (saves_top n) ceilings in
     let bottoms : List ℤ = saved_if (saves_bottom n) floors in
-    let rest : List ℤ = drop (length before) xs in
-    let behind_middles : List ℤ = drop (room_of n.masked (length columns)) rest in
+    let values_after : List ℤ = drop (length before) xs in
+    let behind_middles : List ℤ = drop (room_of n.masked (length columns)) values_after in
     let behind_tops : List ℤ = drop (room_of (saves_top n) (length ceilings)) behind_middles in
     let total : length xs ≡ length before + room_of n.masked count + room_of (saves_top n) count + room_of (saves_bottom n) count = long in
     let middle_room = ap (room_of n.masked) middle_count in
     let top_room = ap (room_of (saves_top n)) top_count in
     let bottom_room = ap (room_of (saves_bottom n)) bottom_count in
-    let split_is : xs ≡ before ++ rest = sym (take-append-drop (length before) xs) ∙ ap (λ (ys : List ℤ). ys ++ rest) front in
+    let split_is : xs ≡ before ++ values_after = sym (take-append-drop (length before) xs) ∙ ap (λ (ys : List ℤ). ys ++ values_after) front in
     let to_middles : length (before ++ middles) ≡ top_place = omega (arith, length-append before middles, length_saved n.masked columns count middle_count) in
     let to_tops : length ((before ++ middles) ++ tops) ≡ bottom_place =
     omega (arith, to_middles, length-append (before ++ middles) tops, length_saved (saves_top n) ceilings count top_count) in
@@ -89,13 +89,13 @@ lists_saved-behind n count before xs columns ceilings floors middle_count top_co
     drop_all (room_of (saves_bottom n) (length floors)) behind_tops (omega (
       arith,
       length-drop (length before) xs,
-      length-drop (room_of n.masked (length columns)) rest,
+      length-drop (room_of n.masked (length columns)) values_after,
       length-drop (room_of (saves_top n) (length ceilings)) behind_middles,
     )) in
     ap (λ (ys : List ℤ). with_saved (with_saved (with_saved ys (place_if n.masked (length before)) columns) (place_if (saves_top n) top_place) ceilings)
     (place_if (saves_bottom n) bottom_place) floors) split_is
     ∙ ap (λ (ys : List ℤ). with_saved (with_saved ys (place_if (saves_top n) top_place) ceilings) (place_if (saves_bottom n) bottom_place) floors)
-    (saved_behind n.masked before rest columns (length before) refl)
+    (saved_behind n.masked before values_after columns (length before) refl)
     ∙ ap (λ (ys : List ℤ). with_saved ys (place_if (saves_bottom n) bottom_place) floors)
     (saved_behind (saves_top n) (before ++ middles) behind_middles ceilings top_place to_middles)
     ∙ saved_behind (saves_bottom n) ((before ++ middles) ++ tops) behind_tops floors bottom_place to_tops

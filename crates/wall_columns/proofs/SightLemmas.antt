@@ -83,7 +83,7 @@ some_or_none a b k n false e al ah bl bh l = let count_above_zero : 0 < n = grin
 scale_steps : (s1 s2 : ℤ) (k n : ℕ) → IsScale s1 → IsScale s2 → k ≤ n → pos 0 <ℤ step_at s1 (scale_step s1 s2 n) k
 unfolding step_at times scale_step
 scale_steps (pos a) (pos b) k n f g l =
-    let al = f.low in let ah = f.high in let bl = g.low in let bh = g.high in
+    let low_at_first = f.low in let high_at_first = f.high in let low_at_last = g.low in let high_at_last = g.high in
     some_or_none a b k n (n == 0) refl (omega (arith, ints)) (omega (arith, ints)) (omega (arith, ints)) (omega (arith, ints)) l
 scale_steps (pos a) (negsuc b) k n f g l = absurd (let least_scale = g.low in omega (arith, ints))
 scale_steps (negsuc a) s2 k n f g l = absurd (let least_scale = f.low in omega (arith, ints))

@@ -137,7 +137,7 @@ trimmed-load level wads files loaded is parts plan name others stands =
     let pictures = loaded_pictures loaded in
     let art = art_with loaded.scene pictures in
     let trimmed_parts = trim_parts lumps art level.map_name in
-    let σ = source_of trimmed_parts in
+    let source = source_of trimmed_parts in
     let trimmed = trimmed_lumps bytes lumps trimmed_parts in
     let file = trimmed_file bytes lumps trimmed_parts in
     let steps = load-steps level wads files loaded is in
@@ -152,18 +152,18 @@ trimmed-load level wads files loaded is parts plan name others stands =
     let scene = trimmed-scene contents lumps directory_is lumps_few lines level.map_name skill loaded.scene steps.scene pictures sprites
     (λ n any. any_left (λ m. m == n) (book_lumps loaded.scene.book) (weapon_lumps loaded.weapons) any) parts plan in
     let holds_pictures = pictures-held bytes lumps art level.map_name sprites (plan-unmarked lumps art level.map_name parts plan) in
-    let weapons = layers-moved trimmed lumps σ (first_picture lumps art) pictures holds_pictures bytes loaded.files.weapons loaded.weapons steps.weapons
+    let weapons = layers-moved trimmed lumps source (first_picture lumps art) pictures holds_pictures bytes loaded.files.weapons loaded.weapons steps.weapons
     (λ n any. any_right (λ m. m == n) (book_lumps loaded.scene.book) (weapon_lumps loaded.weapons) any) in
     let directory-is : directory (file ∷ []) ≡ Ok trimmed = plan-directory contents lumps directory_is art level.map_name parts plan in
-    let moved : LoadedValue = record {
+    let moved_value : LoadedValue = record {
       files = record { tables = loaded.files.tables; things = lines; path = loaded.files.path; weapons = loaded.files.weapons; lumps = trimmed };
       scene = scene.0;
       weapons = weapons.0;
     } in
-    let bytes_same : wad_bytes (name ∷ []) others trimmed ≡ (λ k. bytes (σ k)) =
+    let bytes_same : wad_bytes (name ∷ []) others trimmed ≡ (λ k. bytes (source k)) =
     ap (λ o. lump_bytes (unwrap_or o []) trimmed) (one-named name file others stands.trimmed) ∙ bytes-moved contents lumps trimmed_parts lumps_few in (
-      moved,
-      load-made level (name ∷ []) others moved (record {
+      moved_value,
+      load-made level (name ∷ []) others moved_value (record {
         values = files_moved level wads files loaded file name others trimmed steps stands directory-is;
         scene = subst (λ b. scene_in b trimmed lines level.map_name skill ≡ Ok scene.0) (sym bytes_same) scene.1;
         weapons = subst (λ b. weapons_of b trimmed loaded.files.weapons ≡ Ok weapons.0) (sym bytes_same) weapons.1;

@@ -192,20 +192,20 @@ trimmed-views level wads files loaded is parts plan name others stands =
     let lumps = loaded.files.lumps in
     let bytes = wad_bytes wads files lumps in
     let art = art_with loaded.scene (loaded_pictures loaded) in
-    let trimmed_parts = trim_parts lumps art level.map_name in let σ = source_of trimmed_parts in
+    let trimmed_parts = trim_parts lumps art level.map_name in let source = source_of trimmed_parts in
     let load = trimmed-load level wads files loaded is parts plan name others
     (subst (λ ps. StandsForWads level.files (trimmed_file bytes lumps ps) name files others) (sym (plan-accepted lumps art level.map_name parts plan).0) stands) in
-    let moved = load.0 in
+    let moved_value = load.0 in
     let flat_places = IsFlatPlace (length (flat_lumps lumps loaded.scene.faces.flats)) in
-    let alike = load.4 in
-    let views = views-moved σ bytes moved loaded load.2 flat_places level.settings alike in
+    let are_alike = load.4 in
+    let views = views-moved source bytes moved_value loaded load.2 flat_places level.settings are_alike in
     let views_untrimmed = views_of bytes level.settings loaded in
-    let views_trimmed = views_of (λ k. bytes (σ k)) level.settings moved in
+    let views_trimmed = views_of (λ k. bytes (source k)) level.settings moved_value in
     record {
-      moved = moved;
+      moved = moved_value;
       loads = load.1;
-      bytes = λ k. bytes (σ k);
+      bytes = λ k. bytes (source k);
       same = load.3;
-      rendered = λ format. sym (rendered-same flat_places σ alike.one alike.has_sky alike.sky views_trimmed views_untrimmed views format);
-      end = sym (end-same flat_places σ alike.one alike.has_sky alike.sky views_trimmed views_untrimmed views);
+      rendered = λ format. sym (rendered-same flat_places source are_alike.one are_alike.has_sky are_alike.sky views_trimmed views_untrimmed views format);
+      end = sym (end-same flat_places source are_alike.one are_alike.has_sky are_alike.sky views_trimmed views_untrimmed views);
     }

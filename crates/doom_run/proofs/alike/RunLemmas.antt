@@ -60,9 +60,9 @@ trim_accepted level bytes loaded accepted e =
     let accepted_written = and_then-ok (no_file (and_then (plan_in level loaded) (λ parts. Ok (done (trimmed_file bytes loaded.files.lumps parts))))) (λ written. Ok (accepted_in (loaded_sizes loaded).enough written)) accepted e in
     let planned = and_then-ok (plan_in level loaded) (λ parts. Ok (done (trimmed_file bytes loaded.files.lumps parts))) accepted_written.0
     (no_file_ok _ accepted_written.0 accepted_written.1) in
-    let written : done (trimmed_file bytes loaded.files.lumps planned.0) ≡ accepted_written.0 = ok_of {R = Refusal} (done (trimmed_file bytes loaded.files.lumps planned.0)) accepted_written.0 planned.2 in
+    let file_as_written : done (trimmed_file bytes loaded.files.lumps planned.0) ≡ accepted_written.0 = ok_of {R = Refusal} (done (trimmed_file bytes loaded.files.lumps planned.0)) accepted_written.0 planned.2 in
     let accepted_is : accepted_in (loaded_sizes loaded).enough accepted_written.0 ≡ accepted = ok_of {R = Stop Refusal} (accepted_in (loaded_sizes loaded).enough accepted_written.0) accepted accepted_written.2 in
-    (planned.0, below Trim (trim_plan loaded.files.lumps (art_with loaded.scene (loaded_pictures loaded)) level.map_name) planned.0 planned.1, ap (λ (w : Written). w.output) written ∙ ap (λ (a : Accepted). a.output) accepted_is)
+    (planned.0, below Trim (trim_plan loaded.files.lumps (art_with loaded.scene (loaded_pictures loaded)) level.map_name) planned.0 planned.1, ap (λ (w : Written). w.output) file_as_written ∙ ap (λ (a : Accepted). a.output) accepted_is)
 
 -- What a run that trims writes renders as the WADs do.
 pub trimmed-run : (words : List (List ℕ)) (files : List File) (level : LevelJobValue) (wads : List (List ℕ)) (accepted : Accepted)

@@ -84,5 +84,5 @@ scene-sectors b scene e count =
     record {
       some = omega arith;
       leaves = λ k d lt. let in_sector = (sound.leaves k d lt).sector in omega arith;
-      backs = λ k d lt sector is. let behind = (sound.segs k d lt).back sector is in omega arith;
+      backs = λ k d lt sector is. let back_is_there = (sound.segs k d lt).back sector is in omega arith;
     }

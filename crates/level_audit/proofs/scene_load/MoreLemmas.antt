@@ -16,7 +16,7 @@ use Rattle.level_audit.specs.scene_load.Loads.{LoadedValue, audited_value, loade
 kept_step : (f : ℕ → ℕ) (x : ℕ) (few more : Bool) (xs ys : List ℕ) → (few ≡ true → more ≡ true) → greatest_by f xs ≤ greatest_by f ys → greatest_by f (cond few (x ∷ xs) xs) ≤ greatest_by f (cond more (x ∷ ys) ys)
 unfolding greatest_by
 kept_step f x true true xs ys grows l = omega (arith, l)
-kept_step f x true false xs ys grows l = absurd (let no = grows refl in cc)
+kept_step f x true false xs ys grows l = absurd (let true_is_false = grows refl in cc)
 kept_step f x false true xs ys grows l = omega (arith, l)
 kept_step f x false false xs ys grows l = l
 
@@ -94,8 +94,8 @@ book_of_layers bytes lumps weapons layers lump e asked =
     let weapons_ok = subst (λ w. weapons_of bytes lumps w ≡ Ok layers) asked.1 e in
     let book_ok = and_then-ok (from_below WeaponArt (weapon_book bytes lumps rows)) (λ book. Ok (Some book)) layers weapons_ok in
     let book = from_below-ok weapon_refusal (each_of (frame_of bytes lumps) (first_needs (weapon_needs rows))) book_ok.0 (from_below-ok WeaponArt (weapon_book bytes lumps rows) book_ok.0 book_ok.1) in
-    let some : Some book_ok.0 ≡ layers = cc (book_ok.2) in
-    subst (λ found. list_any (λ n. n == lump) (weapon_lumps found) ≡ true) some (needed_picture bytes lumps (weapon_needs rows) book_ok.0 lump book asked.2)
+    let book_is : Some book_ok.0 ≡ layers = cc (book_ok.2) in
+    subst (λ found. list_any (λ n. n == lump) (weapon_lumps found) ≡ true) book_is (needed_picture bytes lumps (weapon_needs rows) book_ok.0 lump book asked.2)
 
 -- a zone that is enough holds a picture of the layers beside COLORMAP
 pub enough_layers : (bytes : ℕ → List ℕ) (loaded : LoadedValue) (lump : ℕ) → weapons_of bytes loaded.files.lumps loaded.files.weapons ≡ Ok loaded.weapons → loaded.scene.base.colormap < length loaded.files.lumps → IsOfLayers loaded.files.lumps loaded.files.weapons lump →

@@ -198,9 +198,9 @@ items_lump loaded lump needed there =
     let lumps = loaded.files.lumps in
     let size = (lump_at lumps lump).size in
     let numbers = needed_lumps lumps (art_with loaded.scene (loaded_pictures loaded)) in
-    let among = any_passed (is_needed lumps (art_with loaded.scene (loaded_pictures loaded))) 0 (length lumps) lump (omega arith) (omega (arith, there)) ∙ needed in
+    let is_among_needed = any_passed (is_needed lumps (art_with loaded.scene (loaded_pictures loaded))) 0 (length lumps) lump (omega arith) (omega (arith, there)) ∙ needed in
     list_any-append (is_item (lump_owner lump) size) (map (lump_item lumps) numbers) (composite_items 0 loaded.scene.prepared)
-    ∙ or_left (has_item (map (lump_item lumps) numbers) (lump_owner lump) size) (has_item (composite_items 0 loaded.scene.prepared) (lump_owner lump) size) (item_among lumps numbers lump among)
+    ∙ or_left (has_item (map (lump_item lumps) numbers) (lump_owner lump) size) (has_item (composite_items 0 loaded.scene.prepared) (lump_owner lump) size) (item_among lumps numbers lump is_among_needed)
 
 -- a composite that has bytes is asked for
 pub items_composite : (loaded : LoadedValue) (number : ℕ) (t : PreparedTexture) → prepared_at loaded.scene.prepared number ≡ Some t → 0 < size_of t → has_item (loaded_items loaded) (composite_owner number) (size_of t) ≡ true

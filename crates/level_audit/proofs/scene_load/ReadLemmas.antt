@@ -107,9 +107,9 @@ module _ (loaded : LoadedValue) (lump : ℕ) (there : lump < length loaded.files
 
   picture_item : list_any (λ n. n == lump) (weapon_lumps loaded.weapons) ≡ true → has_item (loaded_items loaded) (lump_owner lump) (lump_at loaded.files.lumps lump).size ≡ true
   picture_item on =
-      let among = list_any-append (λ n. n == lump) (book_lumps loaded.scene.book) (weapon_lumps loaded.weapons)
+      let is_among_pictures = list_any-append (λ n. n == lump) (book_lumps loaded.scene.book) (weapon_lumps loaded.weapons)
       ∙ or_right (list_any (λ n. n == lump) (book_lumps loaded.scene.book)) (list_any (λ n. n == lump) (weapon_lumps loaded.weapons)) on in
-      items_lump loaded lump (for_picture loaded.files.lumps (art_with loaded.scene (loaded_pictures loaded)) lump among) there
+      items_lump loaded lump (for_picture loaded.files.lumps (art_with loaded.scene (loaded_pictures loaded)) lump is_among_pictures) there
 
 -- the lumps of what is audited
 module _ (bytes : ℕ → List ℕ) (level : LevelJobValue) (found : FilesValue) (scene : SceneValue) (weapons : Option (List Frame))

@@ -175,9 +175,9 @@ pub note-middle_column : (v : ViewValue) (walls : List Wall) (k : ℕ) (w : Wall
     x ≤ w.last → w.numbers.masked ≡ true → get_or (before ++ (saved_by v walls k w ++ after)) (place + (x - w.first)) (pos 0) ≡ texture_column v w.facts x
 unfolding saved_by middle_columns saved_if
 note-middle_column v walls k w before after place x e l m h =
-    let rest : List ℤ = saved_if (saves_top w.numbers) (top_clips v walls k w) ++ saved_if (saves_bottom w.numbers) (bottom_clips v walls k w) in
-    ap (λ (b : Bool). get_or (before ++ ((saved_if b (middle_columns v w) ++ rest) ++ after)) (place + (x - w.first)) (pos 0)) h
-    ∙ read_first before (listed_from (texture_column v w.facts) w.first w.last) rest after place (x - w.first) e
+    let clips_saved : List ℤ = saved_if (saves_top w.numbers) (top_clips v walls k w) ++ saved_if (saves_bottom w.numbers) (bottom_clips v walls k w) in
+    ap (λ (b : Bool). get_or (before ++ ((saved_if b (middle_columns v w) ++ clips_saved) ++ after)) (place + (x - w.first)) (pos 0)) h
+    ∙ read_first before (listed_from (texture_column v w.facts) w.first w.last) clips_saved after place (x - w.first) e
     (omega (arith, length-listed_from (texture_column v w.facts) w.first w.last))
     ∙ get_or-listed_from (texture_column v w.facts) w.first w.last (x - w.first) (pos 0) (omega arith)
     ∙ (let same_column : w.first + (x - w.first) ≡ x = omega arith in ap (texture_column v w.facts) same_column)

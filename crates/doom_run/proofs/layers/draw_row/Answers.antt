@@ -25,9 +25,9 @@ overlay-requires-clause-picture g c =
 pub returns : goal.returns
 returns g c =
     let light_same = to_z-of_z w16 c.args.light (search rules) in
-    let among = row_layer-own c.args.scene.now.book.now c.args.light _ c.args.scene.now.number c.args.place c.args.row.now (layer_value c.in-Some.layer) light_same c.if-row-scene.false c.in-Some.ensures in
+    let layer_is_own = row_layer-own c.args.scene.now.book.now c.args.light _ c.args.scene.now.number c.args.place c.args.row.now (layer_value c.in-Some.layer) light_same c.if-row-scene.false c.in-Some.ensures in
     record {
       paints = λ textures. paints-wider (λ number own none. none)
-          (λ lump asked. record { layer = layer_value c.in-Some.layer; among = among; is = asked })
+          (λ lump asked. record { layer = layer_value c.in-Some.layer; among = layer_is_own; is = asked })
           (paints-same _ (λ contents q is. row_dots-own c.args.scene.now.view.now c.args.scene.now.book.now c.args.light _ c.args.scene.now.number c.args.place c.args.row.now (layer_value c.in-Some.layer) _ light_same c.if-row-scene.false c.in-Some.ensures) (c.overlay.ensures.paints textures));
     }

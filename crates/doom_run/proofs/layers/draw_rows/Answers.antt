@@ -31,9 +31,9 @@ draw_row-requires-clause-placed g c = stands-later c.args.scene.now.view.now.sha
 
 pub returns-in_err-draw_row : goal.returns-in_err-draw_row
 returns-in_err-draw_row g c =
-    let lit = to_z-of_z w16 c.args.light (search rules) in record {
+    let light_same = to_z-of_z w16 c.args.light (search rules) in record {
       paints = λ textures. paints-wider (λ number own none. none)
-          (λ lump asked. subst (λ (z : ℤ). IsLayerPicture c.args.scene.now.view.now (layers_from c.args.scene.now.book.now z c.args.scene.now.number 1 c.args.rows.now) lump) lit asked)
+          (λ lump asked. subst (λ (z : ℤ). IsLayerPicture c.args.scene.now.view.now (layers_from c.args.scene.now.book.now z c.args.scene.now.number 1 c.args.rows.now) lump) light_same asked)
           (paints-then_stop c.in_err-draw_row.was c.from_residual.ensures.1 (c.loop-i.invariant textures)
           (paints-wider (λ number own none. none) (row_pictures c.args.scene.now.view.now c.args.scene.now.book.now _ c.args.scene.now.number c.loop-i.i c.args.rows.now _ c.loop-i-test.true) (c.draw_row.ensures.paints textures)));
     }
@@ -47,9 +47,9 @@ loop-i-preserved g c = λ textures.
 pub returns : goal.returns
 returns g c =
     let end : c.loop-i.i ≡ length c.args.rows.now = omega (arith, c.loop-i.auto.i-end, c.loop-i-test.false) in
-    let lit = to_z-of_z w16 c.args.light (search rules) in
+    let light_same = to_z-of_z w16 c.args.light (search rules) in
     record {
       paints = λ textures. paints-wider (λ number own none. none)
-          (λ lump asked. subst (λ (z : ℤ). IsLayerPicture c.args.scene.now.view.now (layers_from c.args.scene.now.book.now z c.args.scene.now.number 1 c.args.rows.now) lump) lit asked)
-          (paints-same _ (λ contents q is. rows_dots-all c.args.scene.now.view.now c.args.scene.now.book.now c.args.light _ c.args.scene.now.number c.loop-i.i c.args.rows.now _ lit end) (c.loop-i.invariant textures));
+          (λ lump asked. subst (λ (z : ℤ). IsLayerPicture c.args.scene.now.view.now (layers_from c.args.scene.now.book.now z c.args.scene.now.number 1 c.args.rows.now) lump) light_same asked)
+          (paints-same _ (λ contents q is. rows_dots-all c.args.scene.now.view.now c.args.scene.now.book.now c.args.light _ c.args.scene.now.number c.loop-i.i c.args.rows.now _ light_same end) (c.loop-i.invariant textures));
     }

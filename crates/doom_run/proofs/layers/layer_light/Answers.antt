@@ -5,8 +5,8 @@ use Rattle.doom_run.proofs.layers.layer_light.Goals as goal
 
 pub bounds-surfaces-sector : goal.bounds-surfaces-sector
 bounds-surfaces-sector c =
-    let many = ap (λ (xs : List Surface). length xs) c.surfaces.ensures ∙ length_surfaces c.args.scene.now.scene.base.level.sectors c.args.scene.now.scene.faces.flats c.requires in
-    rw many c.sector_at-sector.ensures.there
+    let surfaces_counted = ap (λ (xs : List Surface). length xs) c.surfaces.ensures ∙ length_surfaces c.args.scene.now.scene.base.level.sectors c.args.scene.now.scene.faces.flats c.requires in
+    rw surfaces_counted c.sector_at-sector.ensures.there
 
 pub returns : goal.returns
 returns c =

@@ -9,18 +9,18 @@ pub returns-in_err-put_each : goal.returns-in_err-put_each
 returns-in_err-put_each g c =
     let view = c.args.view in
     let list = c.args.list.now in
-    let behind = lines_from (plane_line view) 0 list.planes ++ (lines_from (sprite_line view) 0 list.sprites ++ sums_line view c.args.counts.now list) in
+    let lines_after = lines_from (plane_line view) 0 list.planes ++ (lines_from (sprite_line view) 0 list.sprites ++ sums_line view c.args.counts.now list) in
     let fragments_written = same_bytes (ap (λ (xs : List ListedFragment). lines_from (fragment_line view) 0 xs) c.fragments.ensures) c.put_each.ensures in
-    writes_stop c.from_residual.result behind _ fragments_written _ c.in_err-put_each.was c.from_residual.ensures.0 (items_are view c.args.counts.now list)
+    writes_stop c.from_residual.result lines_after _ fragments_written _ c.in_err-put_each.was c.from_residual.ensures.0 (items_are view c.args.counts.now list)
 
 pub returns-in_err-put_each-2 : goal.returns-in_err-put_each-2
 returns-in_err-put_each-2 g c =
     let view = c.args.view in
     let list = c.args.list.now in
-    let behind = lines_from (sprite_line view) 0 list.sprites ++ sums_line view c.args.counts.now list in
+    let lines_after = lines_from (sprite_line view) 0 list.sprites ++ sums_line view c.args.counts.now list in
     let fragments_written = same_bytes (ap (λ (xs : List ListedFragment). lines_from (fragment_line view) 0 xs) c.fragments.ensures) c.put_each.ensures in
     let planes_written = same_bytes (ap (λ (xs : List ListedPlane). lines_from (plane_line view) 0 xs) c.planes.ensures) c.put_each-2.ensures in
-    writes_stopped c.from_residual-in_err-put_each-2.result behind _ fragments_written _ c.in_ok-put_each.was planes_written _ c.in_err-put_each-2.was c.from_residual-in_err-put_each-2.ensures.0
+    writes_stopped c.from_residual-in_err-put_each-2.result lines_after _ fragments_written _ c.in_ok-put_each.was planes_written _ c.in_err-put_each-2.was c.from_residual-in_err-put_each-2.ensures.0
     (items_are view c.args.counts.now list)
 
 pub returns-in_err-put_each-3 : goal.returns-in_err-put_each-3

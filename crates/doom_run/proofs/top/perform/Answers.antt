@@ -16,12 +16,12 @@ returns-in-Level-clause-runs g c = command_runs _ (rw c.in-Level.is at c.in-Ok.e
 
 pub perform_exercise-requires-clause-count : goal.perform_exercise-requires-clause-count
 perform_exercise-requires-clause-count g c =
-    let counted : IsExercise c.in-Exercise.count c.in-Exercise.zone = rw c.in-Exercise.is at c.in-Ok.ensures.counted in counted.count
+    let count_is_sound : IsExercise c.in-Exercise.count c.in-Exercise.zone = rw c.in-Exercise.is at c.in-Ok.ensures.counted in count_is_sound.count
 
 pub perform_exercise-requires-clause-zone : goal.perform_exercise-requires-clause-zone
 perform_exercise-requires-clause-zone g c =
-    let counted : IsExercise c.in-Exercise.count c.in-Exercise.zone = rw c.in-Exercise.is at c.in-Ok.ensures.counted in
-    (counted.zone.least, counted.zone.most, counted.zone.step)
+    let count_is_sound : IsExercise c.in-Exercise.count c.in-Exercise.zone = rw c.in-Exercise.is at c.in-Ok.ensures.counted in
+    (count_is_sound.zone.least, count_is_sound.zone.most, count_is_sound.zone.step)
 
 pub returns-in-Ok-clause-runs : goal.returns-in-Ok-clause-runs
 returns-in-Ok-clause-runs g c = command_runs _ (rw c.in-Exercise.is at c.in-Ok.ensures.ok) (c.perform_exercise.ensures (g.S.Shelf.view c.args.shelf.now))

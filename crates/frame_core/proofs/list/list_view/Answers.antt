@@ -9,8 +9,8 @@ use Rattle.frame_core.proofs.list.list_view.Goals as goal
 
 pub list_planes-requires-clause-makers : goal.list_planes-requires-clause-makers
 list_planes-requires-clause-makers c =
-    let many = makers-as_many c.new-view.result c.args.scene.now.scene c.list_walls.new.bench c.list_walls.new.list c.in_ok-list_walls.ensures.counted.walked c.in_ok-list_walls.ensures.listed in
-    omega (arith, many, ap (λ (makers : List PlaneMaker). length makers) c.makers.ensures)
+    let as_many_makers = makers-as_many c.new-view.result c.args.scene.now.scene c.list_walls.new.bench c.list_walls.new.list c.in_ok-list_walls.ensures.counted.walked c.in_ok-list_walls.ensures.listed in
+    omega (arith, as_many_makers, ap (λ (makers : List PlaneMaker). length makers) c.makers.ensures)
 
 pub counts-counts-requires : goal.counts-counts-requires
 counts-counts-requires c = few-notes c.new-view.result c.args.scene.now.scene c.list_walls.new.bench c.in_ok-list_walls.ensures.counted.walked

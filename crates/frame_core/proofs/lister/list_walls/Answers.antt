@@ -7,10 +7,10 @@ use Rattle.frame_core.proofs.lister.list_walls.Goals as goal
 pub returns : goal.returns
 returns c =
     let events_gathered = lister-walked _ _ _ _ c.requires.walked c.requires.empty c.walk_view.ensures in
-    let counted = events_gathered.counted in
-    let names_same = sym counted.name in
+    let events_counted = events_gathered.counted in
+    let names_same = sym events_counted.name in
     let same_list = sym events_gathered.name in
     record {
-      counted = counted-view _ _ _ c.walk_view.result counted (search rules);
+      counted = counted-view _ _ _ c.walk_view.result events_counted (search rules);
       listed = listed-back _ _ _ c.walk_view.new.visitor.list.now c.walk_view.result (search rules) events_gathered.listed;
     }

@@ -15,14 +15,14 @@ loop-number-preserved c = record {
 
 pub returns-then-is_bad_side-clause-value : goal.returns-then-is_bad_side-clause-value
 returns-then-is_bad_side-clause-value c =
-    let passes : ℕ → Bool = λ side. is_marked c.args.marks.now side && is_bad_middle (texture_by c.args.textures.now.prepared) (middle_of c.args.sides.now side) in
-    sym (least-some passes (length c.args.sides.now) c.loop-number.number c.loop-number-test.true
+    let is_marked_bad : ℕ → Bool = λ side. is_marked c.args.marks.now side && is_bad_middle (texture_by c.args.textures.now.prepared) (middle_of c.args.sides.now side) in
+    sym (least-some is_marked_bad (length c.args.sides.now) c.loop-number.number c.loop-number-test.true
     (marked_read (texture_by c.args.textures.now.prepared) c.args.sides.now c.args.marks.now c.loop-number.number _ c.has.result c.loop-number-test.true c.has.ensures ∙ sym c.is_bad_side.ensures.value ∙ c.if-is_bad_side.true) c.loop-number.invariant.sides)
 
 pub returns-clause-value : goal.returns-clause-value
 returns-clause-value c =
-    let passes : ℕ → Bool = λ side. is_marked c.args.marks.now side && is_bad_middle (texture_by c.args.textures.now.prepared) (middle_of c.args.sides.now side) in
-    sym (least-none passes (length c.args.sides.now) (λ side l. c.loop-number.invariant.sides side (omega (arith, l, c.loop-number-test.false))))
+    let is_marked_bad : ℕ → Bool = λ side. is_marked c.args.marks.now side && is_bad_middle (texture_by c.args.textures.now.prepared) (middle_of c.args.sides.now side) in
+    sym (least-none is_marked_bad (length c.args.sides.now) (λ side l. c.loop-number.invariant.sides side (omega (arith, l, c.loop-number-test.false))))
 
 pub returns-clause-none : goal.returns-clause-none
 returns-clause-none c = λ none side l. c.loop-number.invariant.single side (omega (arith, l, c.loop-number-test.false))

@@ -15,21 +15,21 @@ pub returns-in-Err-clause-tells : goal.returns-in-Err-clause-tells
 returns-in-Err-clause-tells g c =
     let dir = c.args.dir.now in
     let name = c.args.request.now.name.now in
-    let stands = base_of c.args.base in
+    let base_value = base_of c.args.base in
     let fault = above_scene c.in-Err.fault in
-    reads_stop_first (λ bytes. scene_on bytes dir.lumps c.args.request.now.things.now c.args.request.now.skill name stands) (Err fault) fault (Err c.above_scene.result)
-    (faces_told (g.S.Shelf.view c.args.shelf.now) dir c.args.cache.now (IsOfScene dir.lumps c.args.request.now.things.now c.args.request.now.skill name stands) name stands.level stands.lists c.lists.result.now (Err c.in-Err.fault) c.lists.ensures c.in-Err.ensures.answers)
-    refl c.above_scene.ensures (λ lump wanted. wanted) (λ bytes refusal e. scene_on-stop bytes dir.lumps c.args.request.now.things.now c.args.request.now.skill name stands refusal e)
+    reads_stop_first (λ bytes. scene_on bytes dir.lumps c.args.request.now.things.now c.args.request.now.skill name base_value) (Err fault) fault (Err c.above_scene.result)
+    (faces_told (g.S.Shelf.view c.args.shelf.now) dir c.args.cache.now (IsOfScene dir.lumps c.args.request.now.things.now c.args.request.now.skill name base_value) name base_value.level base_value.lists c.lists.result.now (Err c.in-Err.fault) c.lists.ensures c.in-Err.ensures.answers)
+    refl c.above_scene.ensures (λ lump wanted. wanted) (λ bytes refusal e. scene_on-stop bytes dir.lumps c.args.request.now.things.now c.args.request.now.skill name base_value refusal e)
 
 pub returns-in_err-prepare_faces-clause-tells : goal.returns-in_err-prepare_faces-clause-tells
 returns-in_err-prepare_faces-clause-tells g c =
-    let stands = base_of c.args.base in
+    let base_value = base_of c.args.base in
     let faces = faces_of c.in-Ok.faces in
     of_scene c.lists.ensures c.in-Ok.ensures.answers.ok
     (reads_stop_first _ c.prepare_faces.result c.in_err-prepare_faces.field-0.0 c.from_residual.result
-    (sides_told stands.lists faces.sides c.deref.result.now faces.sky c.prepare_faces.result c.deref.ensures.value c.prepare_faces.ensures.tells)
+    (sides_told base_value.lists faces.sides c.deref.result.now faces.sky c.prepare_faces.result c.deref.ensures.value c.prepare_faces.ensures.tells)
     c.in_err-prepare_faces.was c.from_residual.ensures.1 (λ lump wanted. inl wanted)
-    (λ bytes refusal e. scene_with-stop bytes c.args.dir.now.lumps stands faces c.args.request.now.things.now c.args.request.now.skill refusal e))
+    (λ bytes refusal e. scene_with-stop bytes c.args.dir.now.lumps base_value faces c.args.request.now.things.now c.args.request.now.skill refusal e))
 
 pub returns-in_err-placed-clause-tells : goal.returns-in_err-placed-clause-tells
 returns-in_err-placed-clause-tells g c =
@@ -42,14 +42,14 @@ returns-in_err-placed-clause-tells g c =
 pub returns-clause-tells : goal.returns-clause-tells
 returns-clause-tells g c =
     let lumps = c.args.dir.now.lumps in
-    let stands = base_of c.args.base in
+    let base_value = base_of c.args.base in
     let faces = faces_of c.in-Ok.faces in
     of_scene c.lists.ensures c.in-Ok.ensures.answers.ok
     (reads_then _ c.read_things.result
-    (sides_told stands.lists faces.sides c.deref.result.now faces.sky (Ok c.in_ok-prepare_faces.field-0) c.deref.ensures.value c.in_ok-prepare_faces.ensures.tells)
+    (sides_told base_value.lists faces.sides c.deref.result.now faces.sky (Ok c.in_ok-prepare_faces.field-0) c.deref.ensures.value c.in_ok-prepare_faces.ensures.tells)
     c.read_things.ensures.tells (λ lump wanted. inl wanted)
     (λ lump wanted. inr (subst (λ (placed : List Placed). IsWanted lumps (map need_of placed) lump) c.in_ok-placed.ensures wanted))
-    (λ bytes prepared. scene_with-more bytes lumps stands faces c.args.request.now.things.now c.args.request.now.skill c.prepare_faces.new.textures.prepared c.prepare_faces.new.textures.lists c.in_ok-placed.placed prepared c.in_ok-prepare_faces.ensures.lists c.in_ok-placed.ensures))
+    (λ bytes prepared. scene_with-more bytes lumps base_value faces c.args.request.now.things.now c.args.request.now.skill c.prepare_faces.new.textures.prepared c.prepare_faces.new.textures.lists c.in_ok-placed.placed prepared c.in_ok-prepare_faces.ensures.lists c.in_ok-placed.ensures))
 
 pub read_things-requires-clause-middles : goal.read_things-requires-clause-middles
 read_things-requires-clause-middles g c =

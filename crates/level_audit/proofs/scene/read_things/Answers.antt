@@ -10,11 +10,11 @@ use Rattle.level_audit.proofs.scene.read_things.Goals as goal
 pub returns-in_err-book-clause-tells : goal.returns-in_err-book-clause-tells
 returns-in_err-book-clause-tells g c =
     let lumps = c.args.dir.now.lumps in
-    let stands = base_of c.args.base in
+    let base_value = base_of c.args.base in
     let faces = faces_of c.args.faces in
     let prepared = c.args.base.textures.prepared in
-    reads_stop_first (λ bytes. scene_over bytes lumps stands faces c.args.placed prepared) c.read_book.result c.in_err-book.field-0.0 c.from_residual.result
-    c.read_book.ensures.tells c.in_err-book.was c.from_residual.ensures.1 (λ lump wanted. wanted) (λ bytes refusal e. scene_over-unread bytes lumps stands faces c.args.placed prepared refusal e)
+    reads_stop_first (λ bytes. scene_over bytes lumps base_value faces c.args.placed prepared) c.read_book.result c.in_err-book.field-0.0 c.from_residual.result
+    c.read_book.ensures.tells c.in_err-book.was c.from_residual.ensures.1 (λ lump wanted. wanted) (λ bytes refusal e. scene_over-unread bytes lumps base_value faces c.args.placed prepared refusal e)
 
 pub check_scene-requires-clause-few : goal.check_scene-requires-clause-few
 check_scene-requires-clause-few g c = omega (arith, c.segs.ensures.sound.counts.sides, c.requires.sides, ap length c.deref.ensures.value)

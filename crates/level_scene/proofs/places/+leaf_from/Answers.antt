@@ -21,7 +21,7 @@ returns-in-Node-clause-depth t c more =
     let levels = c.args.levels in
     let x_same : to_z w32 (of_z w32 c.args.x) ≡ c.args.x = to_z-of_z w32 c.args.x (search rules) in
     let y_same : to_z w32 (of_z w32 c.args.y) ≡ c.args.y = to_z-of_z w32 c.args.y (search rules) in
-    let some : 0 < levels = within-node nodes levels c.in-Node.n (rw c.in-Node.is at c.requires.within) in
+    let levels_left : 0 < levels = within-node nodes levels c.in-Node.n (rw c.in-Node.is at c.requires.within) in
     let levels_left_is : levels + more - 1 ≡ levels - 1 + more = omega arith in
     let leaf_of_child = rw (x_same, y_same) at (c.child_toward.ensures.leaf (levels + more) (omega arith)) in
     ap (λ (child : Child). leaf_from nodes c.args.x c.args.y (levels + more) child) c.in-Node.is

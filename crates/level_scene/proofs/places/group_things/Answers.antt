@@ -15,9 +15,9 @@ loop-placed-preserved c =
     let all_things = c.args.all.now in
     let groups = c.loop-placed.groups.items in
     let count_so_far = length c.loop-placed.yielded in
-    let turn = YieldsList-turn (YieldsList-from_rev_slice all_things cc) c.loop-placed.yielded _ c.loop-placed.yielded_by _ _ c.in-Some.placed c.in-Some.is c.next.ensures.steps in
+    let thing_is_next = YieldsList-turn (YieldsList-from_rev_slice all_things cc) c.loop-placed.yielded _ c.loop-placed.yielded_by _ _ c.in-Some.placed c.in-Some.is c.next.ensures.steps in
     let all_in_groups : All (IsIn (length groups)) all_things = subst (λ (count : ℕ). All (IsIn count) all_things)
     (sym c.loop-placed.invariant.count) c.requires in rw (length_push c.loop-placed.yielded c.in-Some.placed) (record {
       count = length-set groups c.in-Some.placed.now.sector c.push.new.self ∙ c.loop-placed.invariant.count;
-      groups = groups-more groups all_things count_so_far c.in-Some.placed.now c.index_mut.result.now c.push.new.self all_in_groups (omega (arith, turn.0, length-reverse all_things)) turn.1 c.index_mut.ensures.value c.in_ok-push.ensures.items c.loop-placed.invariant.groups;
+      groups = groups-more groups all_things count_so_far c.in-Some.placed.now c.index_mut.result.now c.push.new.self all_in_groups (omega (arith, thing_is_next.0, length-reverse all_things)) thing_is_next.1 c.index_mut.ensures.value c.in_ok-push.ensures.items c.loop-placed.invariant.groups;
     })

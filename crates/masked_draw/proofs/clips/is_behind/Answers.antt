@@ -14,18 +14,18 @@ larger : (d : Drawseg) (e : SpriteEntry) (g l s : ℤ) → g ≡ greater_word d.
 unfolding is_behind
 larger d e g l s p o q t u =
     let scale_tests_same : int_lt g s ≡ int_lt (greater_word d.scale1 d.scale2) e.scale = cc in
-    let less : int_lt l s ≡ int_lt (lesser_word d.scale1 d.scale2) e.scale = cc in
+    let lesser_word_same : int_lt l s ≡ int_lt (lesser_word d.scale1 d.scale2) e.scale = cc in
     u
-    ∙ sym (ap (λ (z : Bool). z && is_in_front d.seg e.x e.y) (sym less ∙ u))
+    ∙ sym (ap (λ (z : Bool). z && is_in_front d.seg e.x e.y) (sym lesser_word_same ∙ u))
     ∙ sym (ap (λ (z : Bool). z || (int_lt (lesser_word d.scale1 d.scale2) e.scale && is_in_front d.seg e.x e.y)) (sym scale_tests_same ∙ t))
 
 between : (d : Drawseg) (e : SpriteEntry) (g l s : ℤ) (side : ℕ) → g ≡ greater_word d.scale1 d.scale2 → l ≡ lesser_word d.scale1 d.scale2 → s ≡ e.scale → side ≡ side_of (seg_line d.seg) e.x e.y → int_lt g s ≡ false → int_lt l s ≡ true → (side == 0) ≡ is_behind d e
 unfolding is_behind is_in_front
 between d e g l s side p o q f t u =
     let scale_tests_same : int_lt g s ≡ int_lt (greater_word d.scale1 d.scale2) e.scale = cc in
-    let less : int_lt l s ≡ int_lt (lesser_word d.scale1 d.scale2) e.scale = cc in
+    let lesser_word_same : int_lt l s ≡ int_lt (lesser_word d.scale1 d.scale2) e.scale = cc in
     ap (λ (n : ℕ). n == 0) f
-    ∙ sym (ap (λ (z : Bool). z && (side_of (seg_line d.seg) e.x e.y == 0)) (sym less ∙ u))
+    ∙ sym (ap (λ (z : Bool). z && (side_of (seg_line d.seg) e.x e.y == 0)) (sym lesser_word_same ∙ u))
     ∙ sym (ap (λ (z : Bool). z || (int_lt (lesser_word d.scale1 d.scale2) e.scale && (side_of (seg_line d.seg) e.x e.y == 0))) (sym scale_tests_same ∙ t))
 
 pair : (f : ℤ → ℤ → ℤ) (a b p q x y r t : ℤ) → a ≡ x → b ≡ y → p ≡ x → q ≡ y → r ≡ f a b → t ≡ r → t ≡ f p q

@@ -18,8 +18,8 @@ where_not marked dots e = sym (ap (λ (b : Bool). if_unmarked b dots) e)
 pub returns-then-hands-at-clause-paints : goal.returns-then-hands-at-clause-paints
 returns-then-hands-at-clause-paints g c =
     let scene = c.args.scene.now in
-    let marked = mark_of c.args.hands.now.marks.now c.args.note.now c.args.middle.place c.args.x in
-    paints-same _ (λ contents q is. where_marked marked (middle_column scene.view.now (scene_art contents scene) c.args.middle.number (scene_drawseg scene c.args.note.now) c.args.x) c.if-hands-at.true) (paints-none _ _)
+    let mark_before = mark_of c.args.hands.now.marks.now c.args.note.now c.args.middle.place c.args.x in
+    paints-same _ (λ contents q is. where_marked mark_before (middle_column scene.view.now (scene_art contents scene) c.args.middle.number (scene_drawseg scene c.args.note.now) c.args.x) c.if-hands-at.true) (paints-none _ _)
 
 pub paint_ready-requires-clause-column : goal.paint_ready-requires-clause-column
 paint_ready-requires-clause-column g c =
@@ -30,11 +30,11 @@ pub returns-clause-paints : goal.returns-clause-paints
 returns-clause-paints g c =
     let scene = c.args.scene.now in
     let note = c.args.note.now in
-    let marked = mark_of c.args.hands.now.marks.now note c.args.middle.place c.args.x in
+    let mark_before = mark_of c.args.hands.now.marks.now note c.args.middle.place c.args.x in
     let ready = c.in_ok-ready.ensures in
     let col : ℤ = to_z w32 (of_z w32 c.saved_column-col.result) in
     let lookup = column_in (prepared_texture scene.textures.now c.args.middle.tex.0) col in
-    paints-same _ (λ contents q is. where_not marked (middle_column scene.view.now (scene_art contents scene) c.args.middle.number (scene_drawseg scene note) c.args.x) c.if-hands-at.false)
+    paints-same _ (λ contents q is. where_not mark_before (middle_column scene.view.now (scene_art contents scene) c.args.middle.number (scene_drawseg scene note) c.args.x) c.if-hands-at.false)
     (paints-live tt
     (draws-wider (middle-column scene note c.args.middle c.args.x col c.requires.middle c.requires.first c.requires.last (to_z-of_z w32 c.saved_column-col.result (search rules) ∙ c.saved_column-col.ensures)) (λ lump k. k)
     (draws-ready {pictures = λ (n : ℕ). ⊥} c.args.middle.tex.0 col lookup refl ready.keeps ready.readies))

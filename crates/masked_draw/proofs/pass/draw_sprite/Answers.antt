@@ -31,16 +31,16 @@ returns-then-entry-clause-sprite g c = λ es i l f h.
 pub column_of-first-requires : goal.column_of-first-requires
 column_of-first-requires g c =
     let entry = c.args.entry.now in
-    let ordered = ordered_by _ _ entry.first entry.last (to_z-of_z w32 entry.first (search rules)) (to_z-of_z w32 entry.last (search rules)) c.if-entry.false in
-    let numbers = entry-numbers entry c.args.scene.now.view.now.shape.width (omega (arith, c.requires.ready.paint.placed.columns)) c.requires.within ordered in
+    let is_span = ordered_by _ _ entry.first entry.last (to_z-of_z w32 entry.first (search rules)) (to_z-of_z w32 entry.last (search rules)) c.if-entry.false in
+    let numbers = entry-numbers entry c.args.scene.now.view.now.shape.width (omega (arith, c.requires.ready.paint.placed.columns)) c.requires.within is_span in
     let first_is = sym (to_z-of_z w32 entry.first (search rules)) in
     record { least = subst (λ z. pos 0 ≤ℤ z) first_is numbers.first_least; greatest = subst (λ (z : ℤ). z <ℤ pos (2 ^ 16)) first_is numbers.first_greatest }
 
 pub column_of-last-requires-clause-greatest : goal.column_of-last-requires-clause-greatest
 column_of-last-requires-clause-greatest g c =
     let entry = c.args.entry.now in
-    let ordered = ordered_by _ _ entry.first entry.last (to_z-of_z w32 entry.first (search rules)) (to_z-of_z w32 entry.last (search rules)) c.if-entry.false in
-    let numbers = entry-numbers entry c.args.scene.now.view.now.shape.width (omega (arith, c.requires.ready.paint.placed.columns)) c.requires.within ordered in
+    let is_span = ordered_by _ _ entry.first entry.last (to_z-of_z w32 entry.first (search rules)) (to_z-of_z w32 entry.last (search rules)) c.if-entry.false in
+    let numbers = entry-numbers entry c.args.scene.now.view.now.shape.width (omega (arith, c.requires.ready.paint.placed.columns)) c.requires.within is_span in
     subst (λ (z : ℤ). z <ℤ pos (2 ^ 16)) (sym (to_z-of_z w32 entry.last (search rules))) numbers.last_greatest
 
 pub clear-requires-clause-within : goal.clear-requires-clause-within
@@ -100,6 +100,6 @@ returns-clause-sprite g c = λ es i l f h.
     let entry = c.args.entry.now in
     let first_is = sym (to_z-of_z w32 entry.first (search rules)) ∙ c.column_of-first.ensures in
     let last_is = sym (to_z-of_z w32 entry.last (search rules)) ∙ c.column_of-last.ensures in
-    let ordered = ordered_by _ _ entry.first entry.last (to_z-of_z w32 entry.first (search rules)) (to_z-of_z w32 entry.last (search rules)) c.if-entry.false in
-    sprite-then c.args.scene.now c.args.notes.now es i entry c.loop-k.clips _ _ _ _ first_is last_is ordered (clips-end c.args.scene.now c.args.notes.now entry c.loop-k.k c.loop-k.clips (omega arith) c.loop-k.invariant.clips)
+    let is_span = ordered_by _ _ entry.first entry.last (to_z-of_z w32 entry.first (search rules)) (to_z-of_z w32 entry.last (search rules)) c.if-entry.false in
+    sprite-then c.args.scene.now c.args.notes.now es i entry c.loop-k.clips _ _ _ _ first_is last_is is_span (clips-end c.args.scene.now c.args.notes.now entry c.loop-k.k c.loop-k.clips (omega arith) c.loop-k.invariant.clips)
     c.paint_sprite.ensures.marks (passes-end c.args.scene.now c.args.notes.now es i c.loop-k.k _ (omega arith) (c.loop-k.invariant.passes es i l f h)) c.paint_sprite.ensures.paints

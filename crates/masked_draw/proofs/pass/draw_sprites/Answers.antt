@@ -17,13 +17,13 @@ loop-entry-init g c = record {
 
 pub draw_sprite-requires-clause-within : goal.draw_sprite-requires-clause-within
 draw_sprite-requires-clause-within g c =
-    let turn = YieldsList-turn (YieldsList-from_first (λ (x : SpriteEntry). x) (λ (es : List SpriteEntry). es) (draw_order c.args.sprites.now) cc) c.loop-entry.yielded _ c.loop-entry.yielded_by _ _ c.in-Some.entry c.in-Some.is c.next.ensures.steps in
-    sprite-lies _ c.args.sprites.now (length c.loop-entry.yielded) c.in-Some.entry c.requires.columns turn
+    let entry_is_next = YieldsList-turn (YieldsList-from_first (λ (x : SpriteEntry). x) (λ (es : List SpriteEntry). es) (draw_order c.args.sprites.now) cc) c.loop-entry.yielded _ c.loop-entry.yielded_by _ _ c.in-Some.entry c.in-Some.is c.next.ensures.steps in
+    sprite-lies _ c.args.sprites.now (length c.loop-entry.yielded) c.in-Some.entry c.requires.columns entry_is_next
 
 pub draw_sprite-requires-clause-lump : goal.draw_sprite-requires-clause-lump
 draw_sprite-requires-clause-lump g c =
-    let turn = YieldsList-turn (YieldsList-from_first (λ (x : SpriteEntry). x) (λ (es : List SpriteEntry). es) (draw_order c.args.sprites.now) cc) c.loop-entry.yielded _ c.loop-entry.yielded_by _ _ c.in-Some.entry c.in-Some.is c.next.ensures.steps in
-    sprite-lump _ c.args.sprites.now (length c.loop-entry.yielded) c.in-Some.entry c.requires.lumps turn
+    let entry_is_next = YieldsList-turn (YieldsList-from_first (λ (x : SpriteEntry). x) (λ (es : List SpriteEntry). es) (draw_order c.args.sprites.now) cc) c.loop-entry.yielded _ c.loop-entry.yielded_by _ _ c.in-Some.entry c.in-Some.is c.next.ensures.steps in
+    sprite-lump _ c.args.sprites.now (length c.loop-entry.yielded) c.in-Some.entry c.requires.lumps entry_is_next
 
 pub loop-entry-preserved : goal.loop-entry-preserved
 loop-entry-preserved g c =

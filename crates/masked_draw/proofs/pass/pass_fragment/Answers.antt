@@ -100,13 +100,13 @@ returns-then-is_behind g c =
     let seg = scene_drawseg c.args.scene.now c.args.note.now in
     let columns_shared : AreShared entry c.args.note.now c.column_of-first.result c.column_of-last.result c.max-from.result c.min-to.result =
     record { first_is = search (rules, to_z-of_z); last_is = search (rules, to_z-of_z); from_is = c.max-from.ensures; to_is = c.min-to.ensures } in
-    let behind : is_behind seg entry ≡ true = sym (c.is_behind.ensures _ refl refl refl) ∙ c.if-is_behind.true in
+    let seg_behind : is_behind seg entry ≡ true = sym (c.is_behind.ensures _ refl refl refl) ∙ c.if-is_behind.true in
     record {
       same = search rules;
       marks = search rules;
-      marked = on_ok_weaker c.paint_middle.result (λ h. marks_behind seg columns_shared behind h) c.paint_middle.ensures.marked;
-      rows = λ x t. record { top = behind-top entry seg x (seg.top_clip x) _ behind; bottom = behind-bottom entry seg x (seg.bottom_clip x) _ behind };
-      paints = paints-same _ (λ contents q is. dots_behind c.args.scene.now.view.now (scene_art contents c.args.scene.now) c.args.number seg c.args.hands.now.marks.now columns_shared behind) c.paint_middle.ensures.paints;
+      marked = on_ok_weaker c.paint_middle.result (λ h. marks_behind seg columns_shared seg_behind h) c.paint_middle.ensures.marked;
+      rows = λ x t. record { top = behind-top entry seg x (seg.top_clip x) _ seg_behind; bottom = behind-bottom entry seg x (seg.bottom_clip x) _ seg_behind };
+      paints = paints-same _ (λ contents q is. dots_behind c.args.scene.now.view.now (scene_art contents c.args.scene.now) c.args.number seg c.args.hands.now.marks.now columns_shared seg_behind) c.paint_middle.ensures.paints;
     }
 
 pub returns-clause-marked : goal.returns-clause-marked

@@ -6,7 +6,7 @@ use Rattle.masked_draw.proofs.posts.last_row.Goals as goal
 pub returns-clause-to : goal.returns-clause-to
 unfolding post_last
 returns-clause-to c =
-    let few = c.ranges.height in
+    let height_bounded = c.ranges.height in
     let high : post_last c.args.clip c.args.end <ℤ pos c.args.height =
     post_last-high c.args.clip c.args.end c.args.height (omega arith) c.requires.least
     c.requires.greatest in

@@ -37,7 +37,7 @@ returns-then-first-last g c =
     rows-words _ _ _ c.args.top _ c.times.result c.plus.result c.times-2.result _ _ c.requires.top (search (rules, to_z-of_z)) (search (rules, to_z-of_z))
     (search (rules, to_z-of_z)) (search (rules, to_z-of_z)) (search (rules, to_z-of_z)) (search (rules, to_z-of_z)) in
     let low : pos 0 ≤ℤ c.first_row-first.result = search (rules, to_z-of_z) in
-    let ordered : c.first_row-first.result ≤ℤ c.last_row-last.result = search (rules, to_z-of_z) in
+    let first_to_last : c.first_row-first.result ≤ℤ c.last_row-last.result = search (rules, to_z-of_z) in
     let high : pos 0 ≤ℤ c.last_row-last.result = omega (arith, ints) in
     let first_no : c.post_strip.result.first ≡ nat_abs c.first_row-first.result =
     search (rules, to_z-of_z) in
@@ -67,7 +67,7 @@ returns-then-first-last g c =
     (by_number strip.last c.last_row-last.result last_no high ∙ rows.last)
     (subst (λ (z : ℤ). int_lt z (post_first c.args.look.now.column.top_clip c.plus-begin.result) ≡ false)
     rows.last (subst (λ (z : ℤ). int_lt c.last_row-last.result z ≡ false) rows.first
-    (in_order c.first_row-first.result c.last_row-last.result ordered))))
+    (in_order c.first_row-first.result c.last_row-last.result first_to_last))))
 
 pub returns-else-first-last : goal.returns-else-first-last
 returns-else-first-last g c =

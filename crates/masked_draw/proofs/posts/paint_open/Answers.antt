@@ -12,12 +12,12 @@ pub returns-then-end-post : goal.returns-then-end-post
 returns-then-end-post g c =
     let post_is_at = post_at-some c.args.art.now.bytes.now c.loop-place.place c.in-Some.post c.in-Some.ensures in
     let next_is_from = next_place-from c.in-Some.post in
-    let past : length c.args.art.now.bytes.now ≤ next_place c.in-Some.post = omega arith in
+    let bytes_end_before : length c.args.art.now.bytes.now ≤ next_place c.in-Some.post = omega arith in
     left-end (next_place c.in-Some.post) (g.C.Canvas.view c.paint_one.new.canvas)
     (left-more c.loop-place.place (next_place c.in-Some.post) (g.C.Canvas.view c.loop-place.canvas)
     (g.C.Canvas.view c.paint_one.new.canvas) c.in-Some.post c.loop-place.invariant post_is_at refl
     c.paint_one.ensures)
-    (is_post-past c.args.art.now.bytes.now (next_place c.in-Some.post) past)
+    (is_post-past c.args.art.now.bytes.now (next_place c.in-Some.post) bytes_end_before)
 
 pub loop-place-smaller : goal.loop-place-smaller
 loop-place-smaller g c =

@@ -9,11 +9,11 @@ use Rattle.node_walk.proofs.nodes.+walk_child.Goals as goal
 -- the visitor stopped at the leaf
 pub returns-in_err-leaf-in-Leaf-clause-walks : goal.returns-in_err-leaf-in-Leaf-clause-walks
 returns-in_err-leaf-in-Leaf-clause-walks g t c =
-    let failed = err_from_is_err_and c.from_residual.result c.from_residual.ensures.1 in
+    let failure_is = err_from_is_err_and c.from_residual.result c.from_residual.ensures.1 in
     let lists = c.args.lists.now in
     let leaf = leaf_at lists c.in-Leaf.n in
     let child_is = child_part c.args.view.now lists c.args.depth c.args.child c.in-Leaf.n leaf (surface_at lists leaf.sector) c.args.cover.now c.in-Leaf.is refl refl in
-    walks_stop c.from_residual.result _ _ _ c.leaf.ensures _ c.in_err-leaf-in-Leaf.was (failed.1 ∙ ap Err failed.2) (sym (ap (λ (w : WalkState). w.events) child_is))
+    walks_stop c.from_residual.result _ _ _ c.leaf.ensures _ c.in_err-leaf-in-Leaf.was (failure_is.1 ∙ ap Err failure_is.2) (sym (ap (λ (w : WalkState). w.events) child_is))
 
 pub visit_seg-requires-clause-takes : goal.visit_seg-requires-clause-takes
 visit_seg-requires-clause-takes g t c =
@@ -25,10 +25,10 @@ returns-in_err-visit_seg-in-Leaf-clause-walks g t c =
     let lists = c.args.lists.now in
     let leaf = c.leaf-leaf.result.now in
     let front = c.surface-front.result.now in
-    let failed = err_from_is_err_and c.from_residual-in_err-visit_seg-in-Leaf.result c.from_residual-in_err-visit_seg-in-Leaf.ensures.1 in
+    let failure_is = err_from_is_err_and c.from_residual-in_err-visit_seg-in-Leaf.result c.from_residual-in_err-visit_seg-in-Leaf.ensures.1 in
     let segs_to_come = segs_left c.args.view.now lists front leaf.first c.loop-k.k leaf.count c.args.cover.now c.loop-k.cover (omega arith) c.loop-k.invariant.walks.covered in
     walks_then _ c.leaf.ensures _ c.in_ok-leaf-in-Leaf.was
-    (walks_stopped c.from_residual-in_err-visit_seg-in-Leaf.result _ _ segs_to_come.0 c.loop-k.invariant.walks.visits tt refl c.visit_seg.ensures.walks.visits _ c.in_err-visit_seg-in-Leaf.was (failed.1 ∙ ap Err failed.2) segs_to_come.1)
+    (walks_stopped c.from_residual-in_err-visit_seg-in-Leaf.result _ _ segs_to_come.0 c.loop-k.invariant.walks.visits tt refl c.visit_seg.ensures.walks.visits _ c.in_err-visit_seg-in-Leaf.was (failure_is.1 ∙ ap Err failure_is.2) segs_to_come.1)
     (child_part c.args.view.now lists c.args.depth c.args.child c.in-Leaf.n leaf front c.args.cover.now c.in-Leaf.is c.leaf-leaf.ensures.value c.surface-front.ensures)
 
 pub loop-k-init : goal.loop-k-init
@@ -63,9 +63,9 @@ returns-then-depth-eq0-clause-walks g t c =
 -- the visitor stopped under the near child
 pub returns-in_err-walk_child-in-Node-clause-walks : goal.returns-in_err-walk_child-in-Node-clause-walks
 returns-in_err-walk_child-in-Node-clause-walks g t c =
-    let failed = err_from_is_err_and c.from_residual-in_err-walk_child-in-Node.result c.from_residual-in_err-walk_child-in-Node.ensures.1 in
-    let rest = node_front c.args.view.now c.args.lists.now c.args.depth c.in-Node.n c.eye_side-near.result c.args.child c.child_on.result c.node-node.result.now c.args.cover.now c.in-Node.is c.if-depth-eq0.false c.node-node.ensures.value c.eye_side-near.ensures.value c.child_on.ensures in
-    walks_stop c.from_residual-in_err-walk_child-in-Node.result _ _ rest.0 c.walk_child.ensures.walks.visits _ c.in_err-walk_child-in-Node.was (failed.1 ∙ ap Err failed.2) rest.1
+    let failure_is = err_from_is_err_and c.from_residual-in_err-walk_child-in-Node.result c.from_residual-in_err-walk_child-in-Node.ensures.1 in
+    let front_node = node_front c.args.view.now c.args.lists.now c.args.depth c.in-Node.n c.eye_side-near.result c.args.child c.child_on.result c.node-node.result.now c.args.cover.now c.in-Node.is c.if-depth-eq0.false c.node-node.ensures.value c.eye_side-near.ensures.value c.child_on.ensures in
+    walks_stop c.from_residual-in_err-walk_child-in-Node.result _ _ front_node.0 c.walk_child.ensures.walks.visits _ c.in_err-walk_child-in-Node.was (failure_is.1 ∙ ap Err failure_is.2) front_node.1
 
 -- the near child alone
 pub returns-then-not-box_passes-clause-walks : goal.returns-then-not-box_passes-clause-walks

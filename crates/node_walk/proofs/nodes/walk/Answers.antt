@@ -5,13 +5,13 @@ use Rattle.node_walk.proofs.nodes.walk.Goals as goal
 pub returns-clause-visits : goal.returns-clause-visits
 unfolding view_events
 returns-clause-visits g c =
-    let walks = walks_same _ c.walk_child.ensures.walks (root_part c.args.view.now c.new-lists.result _ _ c.root.result c.args.cover.now c.new-lists.ensures c.root.ensures.value c.requires.uncovered) in
-    walks.visits
+    let root_walks = walks_same _ c.walk_child.ensures.walks (root_part c.args.view.now c.new-lists.result _ _ c.root.result c.args.cover.now c.new-lists.ensures c.root.ensures.value c.requires.uncovered) in
+    root_walks.visits
 
 pub returns-clause-covered : goal.returns-clause-covered
 returns-clause-covered g c =
-    let walks = walks_same _ c.walk_child.ensures.walks (root_part c.args.view.now c.new-lists.result _ _ c.root.result c.args.cover.now c.new-lists.ensures c.root.ensures.value c.requires.uncovered) in
-    walks.covered
+    let root_walks = walks_same _ c.walk_child.ensures.walks (root_part c.args.view.now c.new-lists.result _ _ c.root.result c.args.cover.now c.new-lists.ensures c.root.ensures.value c.requires.uncovered) in
+    root_walks.covered
 
 pub returns-clause-depth : goal.returns-clause-depth
 returns-clause-depth g c more =

@@ -37,7 +37,7 @@ returns-then-not-is_pass-clause-walks g c =
 
 pub returns-in_err-fragment-clause-walks : goal.returns-in_err-fragment-clause-walks
 returns-in_err-fragment-clause-walks g c =
-    let failed = err_from_is_err_and c.from_residual.result c.from_residual.ensures.1 in
+    let failure_is = err_from_is_err_and c.from_residual.result c.from_residual.ensures.1 in
     let lists = c.args.lists.now in
     let front = c.args.front.now in
     let columns = c.args.cover.now in
@@ -51,7 +51,7 @@ returns-in_err-fragment-clause-walks g c =
       | else-not-solid-via-else-not-solid w ↦ inl (sym c.is_solid-solid.ensures ∙ w.if-not-solid.false)
     ]) refl refl in
     walks_stopped c.from_residual.result _ columns _ c.loop-p.invariant.visits tt refl c.fragment.ensures _
-    c.in_err-fragment.was (failed.1 ∙ ap Err failed.2)
+    c.in_err-fragment.was (failure_is.1 ∙ ap Err failure_is.2)
     (fragments_left c.args.n c.loop-p.yielded c.loop-p.p-iterator c.next.new.self _ c.in-Some.p c.in-Some.q c.in-Some.ensures.steps
     c.loop-p.invariant.items ∙ sym (ap (λ (w : WalkState). w.events) part))
 
@@ -64,7 +64,7 @@ returns-clause-walks g c =
     let back = back_of lists seg in
     let all_shown : c.loop-p.yielded ≡ fragments columns c.in-Columns.x1 (c.in-Columns.x2 - 1) =
     sym (append-nil c.loop-p.yielded) ∙ ap (λ (runs : List (ℕ × ℕ)). c.loop-p.yielded ++ runs) (sym c.in-None.ensures.steps.0) ∙ c.loop-p.invariant.items in
-    let covered : c.if-solid.cover ≡ cond (is_solid front back) (cover columns c.in-Columns.x1 (c.in-Columns.x2 - 1)) columns = elim c.if-solid.branch [
+    let cover_after : c.if-solid.cover ≡ cond (is_solid front back) (cover columns c.in-Columns.x1 (c.in-Columns.x2 - 1)) columns = elim c.if-solid.branch [
       | then-solid w ↦ rw (sym c.is_solid-solid.ensures, w.if-solid.true, w.cover-is, w.cover.ensures.covered)
       | else-solid w ↦ rw (sym c.is_solid-solid.ensures, w.if-solid.false, w.cover-is)
     ] in
@@ -75,4 +75,4 @@ returns-clause-walks g c =
     (elim c.else-not-solid.branch [
       | else-not-solid-via-then-not-solid+else-not-is_pass w ↦ inr (sym w.is_pass.ensures ∙ w.if-not-is_pass.false)
       | else-not-solid-via-else-not-solid w ↦ inl (sym c.is_solid-solid.ensures ∙ w.if-not-solid.false)
-    ]) all_shown covered)
+    ]) all_shown cover_after)

@@ -14,17 +14,17 @@ loop-column-init c = record {
 
 pub loop-column-preserved : goal.loop-column-preserved
 loop-column-preserved c =
-    let inv = c.loop-column.invariant in
+    let so_far = c.loop-column.invariant in
     let old = c.args.columns.now in
     let height = c.args.height in
     let index = c.loop-column.column-index in
     record {
-      place = ap (λ k. k + c.from-place.result) inv.place
-          ∙ ap (λ k. composed_before height old index + k) (c.from-place.ensures ∙ c.composed_bytes-size.ensures ∙ ap (composed_bytes height) (inv.columns.above index (omega arith)))
+      place = ap (λ k. k + c.from-place.result) so_far.place
+          ∙ ap (λ k. composed_before height old index + k) (c.from-place.ensures ∙ c.composed_bytes-size.ensures ∙ ap (composed_bytes height) (so_far.columns.above index (omega arith)))
           ∙ sym (composed_before-more height old index c.loop-column-test.true);
       bound = omega arith;
-      columns = changed_more (placed_in height old) old c.loop-column.columns index c.placed_lookup.result (omega arith) inv.columns
-          (c.placed_lookup.ensures ∙ placed_in-by height old index c.loop-column.place _ inv.place);
+      columns = changed_more (placed_in height old) old c.loop-column.columns index c.placed_lookup.result (omega arith) so_far.columns
+          (c.placed_lookup.ensures ∙ placed_in-by height old index c.loop-column.place _ so_far.place);
     }
 
 pub returns-clause-placed : goal.returns-clause-placed

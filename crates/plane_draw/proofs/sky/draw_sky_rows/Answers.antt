@@ -16,17 +16,17 @@ paint_texture-requires-clause-texture g c = sky-can c.requires.ready c.args.rows
 
 pub paint_texture-requires-clause-within : goal.paint_texture-requires-clause-within
 paint_texture-requires-clause-within g c =
-    let ordered : c.args.rows.now.first ≤ c.args.rows.now.last = grind (arith, nat_tests) in
+    let first_to_last : c.args.rows.now.first ≤ c.args.rows.now.last = grind (arith, nat_tests) in
     let placed = c.requires.ready.placed in
-    (ordered, (omega (arith, c.requires.column, placed.columns), omega (arith, c.requires.rows ordered, placed.rows)))
+    (first_to_last, (omega (arith, c.requires.column, placed.columns), omega (arith, c.requires.rows first_to_last, placed.rows)))
 
 pub returns-clause-paints : goal.returns-clause-paints
 returns-clause-paints g c =
     let rows = c.args.rows.now in
-    let ordered : rows.first ≤ rows.last = grind (arith, nat_tests) in
+    let first_to_last : rows.first ≤ rows.last = grind (arith, nat_tests) in
     let shape = c.shape-shape in
     sky-painted c.args.scene.now rows.number rows.tex rows.x rows.first rows.last
     (to_z-of_z w32 c.sky_column.result (search rules) ∙ c.sky_column.ensures)
     (ap (λ (s : ViewShape). s.centre_y) shape.ensures.value) (search rules)
     (to_z-of_z w32 shape.result.sky_step (search rules) ∙ ap (λ (s : ViewShape). s.sky_step) shape.ensures.value)
-    c.requires.sky (c.requires.shown ordered) c.paint_texture.ensures.paints
+    c.requires.sky (c.requires.shown first_to_last) c.paint_texture.ensures.paints

@@ -18,7 +18,7 @@ loop-lump-preserved c =
     let index = c.loop-lump.lump-index in
     let block : LumpNo → ℕ = λ lump. lump_block c.args.dir.now.lumps lump.0 in
     let index_below_count : index < length lumps = c.loop-lump-test.true in
-    let few = index_below lumps index _ _ c.requires.ascending index_below_count c.lump_block.ensures.number in
+    let index_within = index_below lumps index _ _ c.requires.ascending index_below_count c.lump_block.ensures.number in
     record {
       greatest = greatest_step block lumps index _ _ _ _ (λ l. absurd (omega arith)) c.loop-lump.invariant.greatest c.lump_block.ensures.value c.with_block-blocks.ensures.greatest;
       sum = sum_step block lumps index _ _ _ _ (λ l. absurd (omega arith)) c.loop-lump.invariant.sum c.lump_block.ensures.value c.with_block-blocks.ensures.sum;

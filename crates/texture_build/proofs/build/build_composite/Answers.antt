@@ -47,33 +47,33 @@ end_composite-requires-clause-live g c = building_live (c.put_patches-built.ensu
 pub returns : goal.returns
 returns g c = λ place.
     let owner = composite_owner c.args.number in let texture = c.args.texture.now in
-    let old = c.args.cache.now in let begun = c.begin_composite.new.cache in
+    let old = c.args.cache.now in let cache_begun = c.begin_composite.new.cache in
     let put = c.put_patches-built.new.cache in let new = c.end_composite.new.cache in
-    let built = c.put_patches-built.result in
-    let before = (g.S.Shelf.view c.args.shelf.now).taken in let after = (g.S.Shelf.view c.put_patches-built.new.shelf).taken in
+    let built_result = c.put_patches-built.result in
+    let taken_before = (g.S.Shelf.view c.args.shelf.now).taken in let taken_after = (g.S.Shelf.view c.put_patches-built.new.shelf).taken in
     let has_begun = begins g (goal.at.returns g c).In_ok-begin_composite in
     let patches_put = c.put_patches-built.ensures in let has_ended = c.end_composite.ensures in
     let others : OthersKeep c.args.number old new = others_then has_begun.others (others_then patches_put.keeps.others (others_kept c.args.number put new (λ n apart. inl (has_ended.others (composite_owner n) apart)))) in
     record {
       answers = patches_put.answers;
-      live = ends_live c.args.number put new built (building_live (patches_put.keeps.building (size_of texture) has_begun.building)) has_ended.released;
+      live = ends_live c.args.number put new built_result (building_live (patches_put.keeps.building (size_of texture) has_begun.building)) has_ended.released;
       follows = patches_put.keeps.follows;
       causes = patches_put.causes;
-      counts = counts_then old begun new has_begun.counts (counts_then begun put new patches_put.keeps.counts has_ended.counts);
+      counts = counts_then old cache_begun new has_begun.counts (counts_then cache_begun put new patches_put.keeps.counts has_ended.counts);
       rest = λ colormap count k. rest_of_none colormap count new
           (has_ended.rest colormap count [] (patches_put.keeps.rest colormap count (has_begun.rest colormap count k)));
       faithful = λ contents stand k. has_ended.faithful contents c.args.dir.now.lumps
           (patches_put.keeps.faithful contents stand (has_begun.faithful contents c.args.dir.now.lumps k));
       composites = λ contents textures is told k.
           let bytes = lump_bytes contents c.args.dir.now.lumps in
-          let contents_hold : HoldContents (g.S.Shelf.view c.args.shelf.now) c.args.dir.now begun contents = record { stand = told.stand; within = told.within; faithful = has_begun.faithful contents c.args.dir.now.lumps told.faithful } in
-          let whole = ends_built c.args.number put new built bytes texture
-          (patches_put.put contents contents_hold (built_none bytes c.args.number texture begun has_begun.zeros)) has_ended.released in
-          composites_built bytes textures old new c.args.number texture is others (built_here built (owned_block owner new.blocks) (composite_of bytes texture) whole has_ended.empty) k;
-      empty = on_err built (λ none composed. none) has_ended.empty;
-      full = ends_full c.args.dir.now.lumps c.args.number texture place old begun built has_begun patches_put.full;
+          let contents_hold : HoldContents (g.S.Shelf.view c.args.shelf.now) c.args.dir.now cache_begun contents = record { stand = told.stand; within = told.within; faithful = has_begun.faithful contents c.args.dir.now.lumps told.faithful } in
+          let whole = ends_built c.args.number put new built_result bytes texture
+          (patches_put.put contents contents_hold (built_none bytes c.args.number texture cache_begun has_begun.zeros)) has_ended.released in
+          composites_built bytes textures old new c.args.number texture is others (built_here built_result (owned_block owner new.blocks) (composite_of bytes texture) whole has_ended.empty) k;
+      empty = on_err built_result (λ none composed. none) has_ended.empty;
+      full = ends_full c.args.dir.now.lumps c.args.number texture place old cache_begun built_result has_begun patches_put.full;
       order = λ items all k.
-          let order_kept = has_begun.order items before (all owner (size_of texture) (inl (refl, refl))) k in
-          ends_order items old begun put new before after built order_kept
+          let order_kept = has_begun.order items taken_before (all owner (size_of texture) (inl (refl, refl))) k in
+          ends_order items old cache_begun put new taken_before taken_after built_result order_kept
           (patches_put.order items (λ owner size is. all owner size (inr is)) order_kept.order) has_ended.order;
     }

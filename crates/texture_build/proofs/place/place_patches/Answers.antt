@@ -26,17 +26,17 @@ loop-entry-preserved g c =
     let entries = c.args.entries.now in
     let entry_index = c.loop-entry.entry-index in
     let index_in_entries : entry_index < length entries = omega arith in
-    let inv = c.loop-entry.invariant in
+    let so_far = c.loop-entry.invariant in
     let patches = c.loop-entry.patches.items in
     let new_patch = c.in_ok-patch.patch in
     record {
       tells = reads_more (λ bytes. or_missing c.args.tex.0 (option_map (patches_part bytes (length c.args.columns.now)) (placed_patches (last_of c.args.dir.now.lumps) bytes c.args.lists.now.names (take (entry_index + 1) entries)))) new_patch tt
-          inv.tells c.place_entry.result c.place_entry.ensures.tells c.in_ok-patch.was
+          so_far.tells c.place_entry.result c.place_entry.ensures.tells c.in_ok-patch.was
           (λ lump is. record { entry = get_or entries entry_index no_entry; among = Contains-get_or entries entry_index no_entry index_in_entries; is = is })
           (λ bytes one two. part_push (last_of c.args.dir.now.lumps) bytes c.args.lists.now.names c.args.tex.0 (length c.args.columns.now) entries entry_index no_entry patches c.loop-entry.columns c.place_entry.new.columns new_patch index_in_entries one two
           ∙ ap (λ xs. Ok (part xs c.place_entry.new.columns)) (sym c.in_ok-push.ensures.items));
-      seen = subst (λ xs. AreSeen xs c.place_entry.new.columns) (sym c.in_ok-push.ensures.items) (c.in_ok-patch.ensures.seen patches inv.seen);
-      there = subst (All (λ (patch : PlacedPatch). patch.lump < length c.args.dir.now.lumps)) (sym c.in_ok-push.ensures.items) (All-push (λ (patch : PlacedPatch). patch.lump < length c.args.dir.now.lumps) patches new_patch inv.there c.in_ok-patch.ensures.there);
+      seen = subst (λ xs. AreSeen xs c.place_entry.new.columns) (sym c.in_ok-push.ensures.items) (c.in_ok-patch.ensures.seen patches so_far.seen);
+      there = subst (All (λ (patch : PlacedPatch). patch.lump < length c.args.dir.now.lumps)) (sym c.in_ok-push.ensures.items) (All-push (λ (patch : PlacedPatch). patch.lump < length c.args.dir.now.lumps) patches new_patch so_far.there c.in_ok-patch.ensures.there);
     }
 
 pub returns-in_err-patch-clause-tells : goal.returns-in_err-patch-clause-tells

@@ -21,19 +21,19 @@ loop-number-preserved g c =
     let marks = c.args.marks.now in
     let number = c.loop-number.number in
     let number_within : number < length lists.textures = omega (arith, c.requires.count, c.loop-number-test.true) in
-    let inv = c.loop-number.invariant in
-    let before = c.loop-number.textures.items in
+    let so_far = c.loop-number.invariant in
+    let items = c.loop-number.textures.items in
     let texture = c.in_ok-texture.texture in
     record {
       tells = reads_more (λ bytes. prepared_from (prepared (last_of c.args.dir.now.lumps) bytes lists.names) (is_marked marks) 0 (take (number + 1) lists.textures)) texture tt
-          inv.tells c.prepare_if.result c.prepare_if.ensures.tells c.in_ok-texture.was
+          so_far.tells c.prepare_if.result c.prepare_if.ensures.tells c.in_ok-texture.was
           (wanted_patch number_within)
-          (λ bytes one two. from_push (prepared (last_of c.args.dir.now.lumps) bytes lists.names) (is_marked marks) lists.textures number before texture number_within one two ∙ ap Ok (sym c.in_ok-push.ensures.items));
+          (λ bytes one two. from_push (prepared (last_of c.args.dir.now.lumps) bytes lists.names) (is_marked marks) lists.textures number items texture number_within one two ∙ ap Ok (sym c.in_ok-push.ensures.items));
       there = subst (All (λ (t : Option PreparedTexture). IfSome t (ArePatchesThere c.args.dir.now.lumps))) (sym c.in_ok-push.ensures.items)
-          (All-push (λ (t : Option PreparedTexture). IfSome t (ArePatchesThere c.args.dir.now.lumps)) before texture inv.there c.in_ok-texture.ensures.there);
+          (All-push (λ (t : Option PreparedTexture). IfSome t (ArePatchesThere c.args.dir.now.lumps)) items texture so_far.there c.in_ok-texture.ensures.there);
       listed = subst (λ textures. (number : ℕ) → IfSome (prepared_at textures number) (IsListedAs (texture_at lists.textures number))) (sym c.in_ok-push.ensures.items)
-          (listed_push lists.textures before texture number (count_marked before marks number (omega (arith, c.loop-number-test.true)) inv.marks) inv.listed c.in_ok-texture.ensures.listed);
-      marks = ap (map is_some) c.in_ok-push.ensures.items ∙ map-append is_some before (texture ∷ []) ∙ ap (λ xs. xs ++ is_some texture ∷ []) inv.marks
+          (listed_push lists.textures items texture number (count_marked items marks number (omega (arith, c.loop-number-test.true)) so_far.marks) so_far.listed c.in_ok-texture.ensures.listed);
+      marks = ap (map is_some) c.in_ok-push.ensures.items ∙ map-append is_some items (texture ∷ []) ∙ ap (λ xs. xs ++ is_some texture ∷ []) so_far.marks
           ∙ ap (λ b. take number marks ++ b ∷ []) c.in_ok-texture.ensures.wanted ∙ sym (take_more marks number false (omega (arith, c.loop-number-test.true)));
     }
 
@@ -52,14 +52,14 @@ returns-in_err-push-clause-tells g c =
     let marks = c.args.marks.now in
     let number = c.loop-number.number in
     let number_within : number < length lists.textures = omega (arith, c.requires.count, c.loop-number-test.true) in
-    let before = c.loop-number.textures.items in
+    let items = c.loop-number.textures.items in
     let texture = c.in_ok-texture.texture in
-    let value : Unit {0} → List (Option PreparedTexture) = λ done. before ++ texture ∷ [] in
+    let value : Unit {0} → List (Option PreparedTexture) = λ done. items ++ texture ∷ [] in
     let texture_added = reads_more {wants = IsWantedPatch c.args.dir.now.lumps lists (is_marked marks)} {value = value}
     (λ bytes. prepared_from (prepared (last_of c.args.dir.now.lumps) bytes lists.names) (is_marked marks) 0 (take (number + 1) lists.textures)) texture tt
     c.loop-number.invariant.tells c.prepare_if.result c.prepare_if.ensures.tells c.in_ok-texture.was
     (wanted_patch number_within) (λ bytes one two. from_push (prepared (last_of c.args.dir.now.lumps) bytes lists.names)
-    (is_marked marks) lists.textures number before texture number_within one two) in
+    (is_marked marks) lists.textures number items texture number_within one two) in
     reads_same c.from_residual-in_err-push.result OutOfMemory _ c.from_residual-in_err-push.ensures.1 (reads_short OutOfMemory refl (λ lump w. w) texture_added)
 
 pub returns-clause-tells : goal.returns-clause-tells

@@ -33,13 +33,13 @@ returns-clause-tells g c =
     let patches = c.place_patches.new.patches.items in let columns = c.place_patches.new.columns in
     let width = length c.deref_mut.result.now in
     let part_placed : PatchesPart = record { patches = patches; columns = columns } in
-    let here = λ (bytes : ℕ → List ℕ) (begun : or_missing number (option_map (patches_part bytes width) (placed_patches last bytes names c.entries-entries.result.now)) ≡ Ok part_placed).
+    let part_of_entries = λ (bytes : ℕ → List ℕ) (begun : or_missing number (option_map (patches_part bytes width) (placed_patches last bytes names c.entries-entries.result.now)) ≡ Ok part_placed).
     subst (λ entries. or_missing number (option_map (patches_part bytes width) (placed_patches last bytes names entries)) ≡ Ok part_placed) c.entries-entries.ensures begun in
     let columns_same = same_front c.in_ok-columns.columns.len columns _ (omega (arith, c.place_patches.ensures.count, c.deref_mut.ensures.len)) in
     tells_bound c.place_patches.result c.in_ok-place_patches.field-0 (TooBig number) c.bind_texture.result c.place_patches.ensures.tells c.in_ok-place_patches.was
     (λ lump w. subst (λ entries. IsEntryPatch c.args.dir.now.lumps names entries lump) c.entries-entries.ensures w)
     (λ bytes begun. IfOk-weaker c.bind_texture.result _ _
-    (λ got e. texture_is last bytes names number texture patches columns width (Ok got) (here bytes begun) e)
+    (λ got e. texture_is last bytes names number texture patches columns width (Ok got) (part_of_entries bytes begun) e)
     (c.bind_texture.ensures.ok bytes
-    (texture_seen last bytes names number texture patches columns width _ columns_same c.place_patches.ensures.count (here bytes begun))))
-    (IfErr-weaker c.bind_texture.result _ _ (λ fault h. (h.0, λ bytes begun. texture_is last bytes names number texture patches columns width (Err (TooBig number)) (here bytes begun) (h.1 bytes))) c.bind_texture.ensures.err)
+    (texture_seen last bytes names number texture patches columns width _ columns_same c.place_patches.ensures.count (part_of_entries bytes begun))))
+    (IfErr-weaker c.bind_texture.result _ _ (λ fault h. (h.0, λ bytes begun. texture_is last bytes names number texture patches columns width (Err (TooBig number)) (part_of_entries bytes begun) (h.1 bytes))) c.bind_texture.ensures.err)

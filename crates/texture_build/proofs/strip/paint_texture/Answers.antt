@@ -53,7 +53,7 @@ returns-in_default-clause-paints g c =
           (λ view contents count q hold is. absurd (colormap_is_lent hold c.requires.colormap (search rules)))
           (search rules) (ap (λ hands. g.S.Shelf.view hands.shelf.now) w.hands-is) (ap (λ hands. hands.cache.now) w.hands-is)
       | in_default-via-in-Some+in-None-1 w ↦
-          let never : ⊥ = live_is_lent strip.tex.0 c.ready_at.new.cache c.lookup-lookup.result ready.readies.live (search rules) in
-          paints-live tt column_ready (λ view contents count q hold is. absurd never) (λ view contents count q hold is. absurd never)
+          let none_is_impossible : ⊥ = live_is_lent strip.tex.0 c.ready_at.new.cache c.lookup-lookup.result ready.readies.live (search rules) in
+          paints-live tt column_ready (λ view contents count q hold is. absurd none_is_impossible) (λ view contents count q hold is. absurd none_is_impossible)
           (search rules) (ap (λ hands. g.S.Shelf.view hands.shelf.now) w.hands-is) (ap (λ hands. hands.cache.now) w.hands-is)
     ]

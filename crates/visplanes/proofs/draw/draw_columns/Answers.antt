@@ -66,8 +66,8 @@ returns g c =
     let closed : (k y : ℕ) → holds plane y k ≡ true → k < span_start (holds plane y) end = λ k y t.
     let in_marked = marked.ensures.pixels k y t in
     let is_end : marked.result.1 + 1 + 1 ≡ end = omega (arith, in_marked.0, in_marked.1, c.loop-x-test.false, c.loop-x.auto.x-end) in
-    let off : holds plane y (marked.result.1 + 1) ≡ false = false_from_ne_true (holds plane y (marked.result.1 + 1)) (λ q. absurd (omega (arith, (marked.ensures.pixels (marked.result.1 + 1) y q).1))) in
-    let starts_at_end : span_start (holds plane y) end ≡ end = start-fresh plane y end (held_before-more plane y (marked.result.1 + 1) end is_end ∙ off) in
+    let not_held : holds plane y (marked.result.1 + 1) ≡ false = false_from_ne_true (holds plane y (marked.result.1 + 1)) (λ q. absurd (omega (arith, (marked.ensures.pixels (marked.result.1 + 1) y q).1))) in
+    let starts_at_end : span_start (holds plane y) end ≡ end = start-fresh plane y end (held_before-more plane y (marked.result.1 + 1) end is_end ∙ not_held) in
     omega (arith, in_marked.1, is_end, starts_at_end) in
     spans_all g.C.Canvas.mark c.args.floor.now plane (λ y. span_start (holds plane y) end) (λ y. FRAME_WIDTH) (g.C.Canvas.view c.args.canvas.now) (g.C.Canvas.view c.loop-x.canvas) c.loop-x.invariant.spans closed
     (λ k y t. omega (arith, (marked.ensures.pixels k y t).1, marked.ensures.last))

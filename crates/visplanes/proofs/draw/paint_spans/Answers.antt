@@ -21,14 +21,14 @@ loop-y-preserved g c =
     let old = g.C.Canvas.view c.args.canvas.now in
     let invariant = c.loop-y.invariant in
     let start : ℕ → ℕ = slice_index c.args.starts.now in
-    let above : List Dot = closed_rows c.args.floor.now old.painter start c.args.x c.args.rows.begin (c.loop-y.y - c.args.rows.begin) in
+    let dots_above : List Dot = closed_rows c.args.floor.now old.painter start c.args.x c.args.rows.begin (c.loop-y.y - c.args.rows.begin) in
     record {
       from = omega (arith, invariant.from);
       idle = omega (arith, c.loop-y-test.true);
       painted = c.paint_row.ensures
           ∙ ap (λ (v : CanvasView). with_dots g.C.Canvas.mark (row_dots c.args.floor.now v.painter c.loop-y.y (start c.loop-y.y) (c.args.x - 1)) v)
           invariant.painted
-          ∙ with_dots-append g.C.Canvas.mark above (row_dots c.args.floor.now old.painter c.loop-y.y (start c.loop-y.y) (c.args.x - 1)) old
+          ∙ with_dots-append g.C.Canvas.mark dots_above (row_dots c.args.floor.now old.painter c.loop-y.y (start c.loop-y.y) (c.args.x - 1)) old
           ∙ ap (λ (dots : List Dot). with_dots g.C.Canvas.mark dots old)
           (closed_rows-more c.args.floor.now old.painter start c.args.x c.args.rows.begin (c.loop-y.y - c.args.rows.begin) (c.loop-y.y + 1 - c.args.rows.begin) c.loop-y.y (omega (arith, invariant.from)) (omega (arith, invariant.from)));
     }

@@ -6,10 +6,10 @@ use Rattle.visplanes.proofs.row_runs.first_holding.Goals as goal
 pub loop-x-preserved : goal.loop-x-preserved
 unfolding holds
 loop-x-preserved c =
-    let off : holds c.args.plane.now c.args.row c.loop-x.x ≡ false =
+    let not_held : holds c.args.plane.now c.args.row c.loop-x.x ≡ false =
     ap (λ (r : Option (ℕ × ℕ)). holds_row r c.args.row) (sym c.column.ensures.run) ∙ sym c.holds_row.ensures ∙ c.if-not-holds_row.true in
     record {
-      same = runs_from-off c.args.plane.now c.args.row c.loop-x.x (c.loop-x.x + 1) refl (omega (arith, c.requires.wide)) off ∙ c.loop-x.invariant.same;
+      same = runs_from-off c.args.plane.now c.args.row c.loop-x.x (c.loop-x.x + 1) refl (omega (arith, c.requires.wide)) not_held ∙ c.loop-x.invariant.same;
       within = omega arith;
     }
 

@@ -20,9 +20,9 @@ loop-x-preserved c =
 pub returns-else-holds_row-clause-run : goal.returns-else-holds_row-clause-run
 unfolding holds
 returns-else-holds_row-clause-run c =
-    let off : holds c.args.plane.now c.args.row c.loop-x.x ≡ false =
+    let not_held : holds c.args.plane.now c.args.row c.loop-x.x ≡ false =
     ap (λ (r : Option (ℕ × ℕ)). holds_row r c.args.row) (sym c.column.ensures.run) ∙ sym c.holds_row.ensures ∙ c.if-holds_row.false in
-    runs_from-run c.args.plane.now c.args.row c.args.first c.loop-x.x c.loop-x.invariant.after (omega (arith, c.requires.wide, c.loop-x.invariant.within)) c.loop-x.invariant.held (inr off)
+    runs_from-run c.args.plane.now c.args.row c.args.first c.loop-x.x c.loop-x.invariant.after (omega (arith, c.requires.wide, c.loop-x.invariant.within)) c.loop-x.invariant.held (inr not_held)
 
 pub returns-after-loop-x-clause-run : goal.returns-after-loop-x-clause-run
 returns-after-loop-x-clause-run c =

@@ -24,8 +24,8 @@ returns-then-rows-clause-paints g c =
 pub paint_texture-requires-clause-texture : goal.paint_texture-requires-clause-texture
 paint_texture-requires-clause-texture g c =
     let tools = c.args.tools.now in
-    let ordered : c.args.rows.first ≤ℤ c.args.rows.last = grind (arith, ints) in
-    subst (CanDraw tools.dir.now.lumps tools.textures.now tools.cache.now) (sym c.texture_strip-strip.ensures.texture) (c.requires.texture ordered)
+    let first_to_last : c.args.rows.first ≤ℤ c.args.rows.last = grind (arith, ints) in
+    subst (CanDraw tools.dir.now.lumps tools.textures.now tools.cache.now) (sym c.texture_strip-strip.ensures.texture) (c.requires.texture first_to_last)
 
 pub paint_texture-requires-clause-within : goal.paint_texture-requires-clause-within
 paint_texture-requires-clause-within g c =
@@ -34,22 +34,22 @@ paint_texture-requires-clause-within g c =
     let canvas = g.C.Canvas.view c.args.tools.now.canvas.now in
     let shape = c.args.tools.now.view.now.shape in
     let column_placed = c.requires.column in
-    let ordered : c.args.rows.first ≤ℤ c.args.rows.last = grind (arith, ints) in
+    let first_to_last : c.args.rows.first ≤ℤ c.args.rows.last = grind (arith, ints) in
     within strip.first strip.last strip.x c.args.look.now.x canvas.left canvas.top shape.width shape.height c.args.rows.first c.args.rows.last
-    fields.first fields.last ordered (c.requires.rows ordered).1 fields.x column_placed.0 column_placed.1.columns column_placed.1.rows
+    fields.first fields.last first_to_last (c.requires.rows first_to_last).1 fields.x column_placed.0 column_placed.1.columns column_placed.1.rows
 
 pub returns-in_err-paint_texture-clause-paints : goal.returns-in_err-paint_texture-clause-paints
 returns-in_err-paint_texture-clause-paints g c =
     let fields = c.texture_strip-strip.ensures in
-    let ordered : c.args.rows.first ≤ℤ c.args.rows.last = grind (arith, ints) in
+    let first_to_last : c.args.rows.first ≤ℤ c.args.rows.last = grind (arith, ints) in
     part-painted c.args.tools.now.view.now.shape c.args.look.now c.args.part c.args.rows c.texture_strip-strip.result fields.kind fields.number
-    fields.texture fields.column fields.x fields.first fields.last fields.centre fields.mid fields.step fields.map ordered c.paint_texture.result _
+    fields.texture fields.column fields.x fields.first fields.last fields.centre fields.mid fields.step fields.map first_to_last c.paint_texture.result _
     (mapped-err from_cache_fault _ c.in_err-paint_texture.field-0.0 _ c.in_err-paint_texture.was c.from_residual.ensures.1) c.paint_texture.ensures.paints
 
 pub returns-clause-paints : goal.returns-clause-paints
 returns-clause-paints g c =
     let fields = c.texture_strip-strip.ensures in
-    let ordered : c.args.rows.first ≤ℤ c.args.rows.last = grind (arith, ints) in
+    let first_to_last : c.args.rows.first ≤ℤ c.args.rows.last = grind (arith, ints) in
     part-painted c.args.tools.now.view.now.shape c.args.look.now c.args.part c.args.rows c.texture_strip-strip.result fields.kind fields.number
-    fields.texture fields.column fields.x fields.first fields.last fields.centre fields.mid fields.step fields.map ordered c.paint_texture.result _
+    fields.texture fields.column fields.x fields.first fields.last fields.centre fields.mid fields.step fields.map first_to_last c.paint_texture.result _
     (mapped-ok from_cache_fault _ c.in_ok-paint_texture.field-0 c.in_ok-paint_texture.was) c.paint_texture.ensures.paints

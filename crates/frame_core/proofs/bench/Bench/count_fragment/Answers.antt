@@ -18,8 +18,8 @@ taken c = record {
 pub returns-clause-walked : goal.returns-clause-walked
 returns-clause-walked c = λ bytes most events h.
     let frame = c.shape-rows.ensures.frame.height in
-    let tall : c.args.view.now.shape.height ≤ FRAME_HEIGHT = subst (λ (s : ViewShape). s.height ≤ FRAME_HEIGHT) c.shape-rows.ensures.value (omega arith) in
-    walked-range c.args.view.now bytes c.args.scene.now.scene most events c.args.seg c.args.first c.args.last c.facts_of-facts.result c.args.self.now c.count_range.new.planes c.count_range.new.self c.count_range.result tall (taken c)
+    let rows_fit : c.args.view.now.shape.height ≤ FRAME_HEIGHT = subst (λ (s : ViewShape). s.height ≤ FRAME_HEIGHT) c.shape-rows.ensures.value (omega arith) in
+    walked-range c.args.view.now bytes c.args.scene.now.scene most events c.args.seg c.args.first c.args.last c.facts_of-facts.result c.args.self.now c.count_range.new.planes c.count_range.new.self c.count_range.result rows_fit (taken c)
     c.count_range.ensures.built h
 
 pub returns-clause-over : goal.returns-clause-over

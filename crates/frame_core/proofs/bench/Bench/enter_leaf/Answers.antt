@@ -19,13 +19,13 @@ returns-clause-walked c = λ bytes most events h.
     let view_now = c.args.view.now in
     let scene = c.args.scene.now.scene in
     let old = c.args.self.now in
-    let stays = c.in_ok-start_leaf.ensures.stays in
-    let between = bench_of c.start_leaf.new.planes c.start_leaf.new.self old.sprites old.entered c.sector_of-sector.result in
+    let walls_stay = c.in_ok-start_leaf.ensures.stays in
+    let bench_between = bench_of c.start_leaf.new.planes c.start_leaf.new.self old.sprites old.entered c.sector_of-sector.result in
     walked-leaf view_now bytes scene most events c.args.leaf c.sector_of-sector.result _ _ old c.enter_sector.new.self
-    (enters-leaf view_now scene c.args.leaf c.sector_of-sector.result _ _ old between c.enter_sector.new.self c.enter_sector.ensures.walls c.enter_sector.ensures.planes c.enter_sector.ensures.sector refl refl refl
+    (enters-leaf view_now scene c.args.leaf c.sector_of-sector.result _ _ old bench_between c.enter_sector.new.self c.enter_sector.ensures.walls c.enter_sector.ensures.planes c.enter_sector.ensures.sector refl refl refl
     c.requires.there c.sector_of-sector.ensures.value c.sector_of-sector.ensures.there c.planes_of-planes.ensures.floor c.planes_of-planes.ensures.ceiling
     (λ ws s b. c.in_ok-start_leaf.ensures.built view_now ws s b) (λ ws s b. c.in_ok-start_leaf.ensures.limit view_now ws s b)
-    (ap (λ (w : WallsView). w.openings) stays) (same_limits old.walls c.start_leaf.new.self old.planes c.start_leaf.new.planes (ap (λ (w : WallsView). w.room) stays) c.in_ok-start_leaf.ensures.room)
+    (ap (λ (w : WallsView). w.openings) walls_stay) (same_limits old.walls c.start_leaf.new.self old.planes c.start_leaf.new.planes (ap (λ (w : WallsView). w.room) walls_stay) c.in_ok-start_leaf.ensures.room)
     c.enter_sector.ensures.sprites c.enter_sector.ensures.columns c.enter_sector.ensures.lumps c.enter_sector.ensures.own c.enter_sector.ensures.others) h
 
 pub returns-clause-over : goal.returns-clause-over

@@ -16,9 +16,9 @@ use Rattle.frame_core.proofs.bench.Bench.store_fragment.Goals.{After-store_range
 pub store_range-requires-clause-textures : goal.store_range-requires-clause-textures
 store_range-requires-clause-textures g c = λ number is.
     let scene = c.args.tools.now.scene.now.scene in
-    let can = c.requires.drawable in
-    let ready = facts-ready c.args.tools.now.dir.now.lumps scene c.args.tools.now.cache.now (surface_at (lists_of scene) c.args.self.now.sector) c.args.seg c.facts_of-facts.result can c.facts_of-facts.ensures.sound c.requires.there.0 c.facts_of-facts.ensures.facts in
-    can_draw-facts c.args.tools.now.dir.now.lumps scene c.args.tools.now.cache.now c.facts_of-facts.result c.textures.result.now number can ready c.textures.ensures is
+    let can_draw = c.requires.drawable in
+    let ready = facts-ready c.args.tools.now.dir.now.lumps scene c.args.tools.now.cache.now (surface_at (lists_of scene) c.args.self.now.sector) c.args.seg c.facts_of-facts.result can_draw c.facts_of-facts.ensures.sound c.requires.there.0 c.facts_of-facts.ensures.facts in
+    can_draw-facts c.args.tools.now.dir.now.lumps scene c.args.tools.now.cache.now c.facts_of-facts.result c.textures.result.now number can_draw ready c.textures.ensures is
 
 -- what the call of the walls gives
 stored : (g : Over) (c : After-store_range g) → StoresFragment g.C.Canvas.mark (tools_scene c.args.tools.now) (paint_tools c.args.tools.now.dir.now c.textures.result.now c.colormap.result.0) c.args.seg c.args.first c.args.last
@@ -66,9 +66,9 @@ returns-in_err-store_range-clause-paints g c =
 pub returns-clause-walked : goal.returns-clause-walked
 returns-clause-walked g c = λ bytes most events h.
     let rows = c.requires.placed.rows in
-    let tall : c.args.tools.now.view.now.shape.height ≤ FRAME_HEIGHT = omega arith in
+    let height_fits_frame : c.args.tools.now.view.now.shape.height ≤ FRAME_HEIGHT = omega arith in
     ok-through _ c.store_range.result c.in_ok-store_range.field-0 c.in_ok-store_range.was
-    (walked-range c.args.tools.now.view.now bytes c.args.tools.now.scene.now.scene most events c.args.seg c.args.first c.args.last c.facts_of-facts.result c.args.self.now c.store_range.new.tools.planes.now c.store_range.new.self c.store_range.result tall
+    (walked-range c.args.tools.now.view.now bytes c.args.tools.now.scene.now.scene most events c.args.seg c.args.first c.args.last c.facts_of-facts.result c.args.self.now c.store_range.new.tools.planes.now c.store_range.new.self c.store_range.result height_fits_frame
     (stored g (goal.at.returns-clause-walked g c).After-store_range).takes c.store_range.ensures.built h)
 
 pub returns-clause-paints : goal.returns-clause-paints

@@ -50,40 +50,40 @@ returns-in_err-scene g c =
 pub returns-in_err-weapons : goal.returns-in_err-weapons
 returns-in_err-weapons g c =
     let scene_tells = c.in_ok-scene.ensures in
-    let tells = c.audit_layers.ensures.tells in
+    let layers_tell = c.audit_layers.ensures.tells in
     let level = level_job_value c.args.level.now in
     let files = c.args.files.now in
     let files_found = value_of files in
     let scene = c.in_ok-scene.scene.scene in
     let result = c.from_residual-in_err-weapons.result in
     let weapons_failed = c.in_err-weapons.was in let result_is_error = c.from_residual-in_err-weapons.ensures.1 in
-    let counts = tells.keeps.counts in
+    let counts = layers_tell.keeps.counts in
     record {
       answers = λ contents told.
-          layers_stopped _ level files_found scene _ result (scene_tells.answers contents told).ok scene_tells.follows.steady (tells.answers contents (told_after scene_tells.follows scene_tells.faithful contents told)) weapons_failed result_is_error;
+          layers_stopped _ level files_found scene _ result (scene_tells.answers contents told).ok scene_tells.follows.steady (layers_tell.answers contents (told_after scene_tells.follows scene_tells.faithful contents told)) weapons_failed result_is_error;
       full = λ contents told.
           same_full (IsFullOver (lump_bytes contents files.dir.lumps) level files_found) c.audit_layers.result _ result
-          (layers_full contents level files scene c.audit_layers.result (scene_tells.answers contents told).ok scene_tells.colormap (scene_tells.rest c.requires.empty) (scene_tells.counts.0 ∙ c.requires.size) tells.full) weapons_failed result_is_error;
+          (layers_full contents level files scene c.audit_layers.result (scene_tells.answers contents told).ok scene_tells.colormap (scene_tells.rest c.requires.empty) (scene_tells.counts.0 ∙ c.requires.size) layers_tell.full) weapons_failed result_is_error;
       audited = none_given _ _ result result_is_error;
       fresh = none_given _ _ result result_is_error;
       counts = (counts.0 ∙ scene_tells.counts.0, counts.1 ∙ scene_tells.counts.1, counts.2 ∙ scene_tells.counts.2);
-      faithful = λ contents stand faithful. tells.keeps.faithful contents (all_stand_later _ _ files.dir.files contents scene_tells.follows stand) (scene_tells.faithful contents stand faithful);
+      faithful = λ contents stand faithful. layers_tell.keeps.faithful contents (all_stand_later _ _ files.dir.files contents scene_tells.follows stand) (scene_tells.faithful contents stand faithful);
       order = λ contents expected told accepted order.
           let has_items = items_all _ level files_found expected accepted in
           let scene_in_order = scene_tells.order contents (loaded_items expected) told (λ lump read. has_items lump (inl read)) order in
-          let layers_in_order = tells.order (loaded_items expected) (λ lump asked. has_items lump (inr asked)) scene_in_order.order in
+          let layers_in_order = layers_tell.order (loaded_items expected) (λ lump asked. has_items lump (inr asked)) scene_in_order.order in
           let keeps_order = KeepsOrder (loaded_items expected) c.args.cache.now c.audit_layers.new.cache (g.S.Shelf.view c.args.shelf.now).taken (g.S.Shelf.view c.audit_layers.new.shelf).taken in
           call_order (λ _. keeps_order) keeps_order keeps_order c.audit_layers.result _ result
           (order_after itself c.audit_layers.new.cache (g.S.Shelf.view c.audit_layers.new.shelf).taken c.audit_layers.result
           scene_in_order layers_in_order) weapons_failed result_is_error (λ k. k);
-      follows = follows_then scene_tells.follows tells.keeps.follows;
-      causes = causes_after c.audit_layers.result _ result scene_tells.follows.faults tells.causes weapons_failed result_is_error;
+      follows = follows_then scene_tells.follows layers_tell.keeps.follows;
+      causes = causes_after c.audit_layers.result _ result scene_tells.follows.faults layers_tell.causes weapons_failed result_is_error;
     }
 
 pub returns : goal.returns
 returns g c =
     let scene_tells = c.in_ok-scene.ensures in
-    let tells = c.in_ok-weapons.ensures.tells in
+    let weapons_tell = c.in_ok-weapons.ensures.tells in
     let level = level_job_value c.args.level.now in
     let files = c.args.files.now in
     let lumps = files.dir.lumps in let files_found = value_of files in
@@ -91,10 +91,10 @@ returns g c =
     let with_all = c.in_ok-weapons.ensures.scene in
     let scene_same = ap (λ (s : SoundValue). s.scene) with_all ∙ scene_kept lumps weapons sound in
     let colormap = sound.scene.base.colormap in
-    let counts = tells.keeps.counts in
+    let counts = weapons_tell.keeps.counts in
     record {
       answers = λ contents told. record {
-        ok = both_accepted _ level files_found sound.scene weapons (scene_tells.answers contents told).ok (tells.answers contents (told_after scene_tells.follows scene_tells.faithful contents told)).ok
+        ok = both_accepted _ level files_found sound.scene weapons (scene_tells.answers contents told).ok (weapons_tell.answers contents (told_after scene_tells.follows scene_tells.faithful contents told)).ok
             ∙ ap (λ (s : SceneValue). Ok (record { files = files_found; scene = s; weapons = weapons })) (sym scene_same);
         err = tt;
       };
@@ -105,20 +105,20 @@ returns g c =
         sizes = subst (λ (s : SoundValue). s.sizes ≡ loaded_sizes (audited_value files_found (s, weapons)))
             (sym with_all) (sizes_layers files_found weapons sound scene_tells.sizes);
         rest = subst (λ (s : SceneValue). IsAtRest s.base.colormap (lump_at lumps s.base.colormap).size c.audit_layers.new.cache) (sym scene_same)
-            (tells.keeps.rest colormap (lump_at lumps colormap).size (scene_tells.rest c.requires.empty));
+            (weapons_tell.keeps.rest colormap (lump_at lumps colormap).size (scene_tells.rest c.requires.empty));
         whole = subst (IsWholeScene lumps files.things level.map_name level.settings.skill) (sym scene_same) scene_tells.whole;
         fits = subst (λ (s : SceneValue). IsBaseWithin lumps level s.base.colormap) (sym scene_same)
             (λ lump asked other. rw (← c.requires.size) (scene_tells.fits (sizes_empty lumps c.args.cache.now c.requires.empty) lump asked other));
         colormap = subst (λ (s : SceneValue). s.base.colormap < length lumps) (sym scene_same) (colormap_there lumps colormap scene_tells.colormap);
         layers = c.in_ok-weapons.ensures.there;
       };
-      fresh = no_composites_then tells.keeps (no_composites_first c.args.cache.now c.audit.new.cache c.requires.empty scene_tells.composites);
+      fresh = no_composites_then weapons_tell.keeps (no_composites_first c.args.cache.now c.audit.new.cache c.requires.empty scene_tells.composites);
       counts = (counts.0 ∙ scene_tells.counts.0, counts.1 ∙ scene_tells.counts.1, counts.2 ∙ scene_tells.counts.2);
-      faithful = λ contents stand faithful. tells.keeps.faithful contents (all_stand_later _ _ files.dir.files contents scene_tells.follows stand) (scene_tells.faithful contents stand faithful);
+      faithful = λ contents stand faithful. weapons_tell.keeps.faithful contents (all_stand_later _ _ files.dir.files contents scene_tells.follows stand) (scene_tells.faithful contents stand faithful);
       order = λ contents expected told accepted order.
           let has_items = items_all _ level files_found expected accepted in
           let scene_in_order = scene_tells.order contents (loaded_items expected) told (λ lump read. has_items lump (inl read)) order in
-          order_then scene_in_order (tells.order (loaded_items expected) (λ lump asked. has_items lump (inr asked)) scene_in_order.order);
-      follows = follows_then scene_tells.follows tells.keeps.follows;
+          order_then scene_in_order (weapons_tell.order (loaded_items expected) (λ lump asked. has_items lump (inr asked)) scene_in_order.order);
+      follows = follows_then scene_tells.follows weapons_tell.keeps.follows;
       causes = record { err = tt };
     }

@@ -57,7 +57,7 @@ pub returns-in_err-scene : goal.returns-in_err-scene
 returns-in_err-scene g c =
     let files_tell = c.in_ok-files.ensures in
     let level = level_job_value c.args.level.now in
-    let later = audited_above level c.in_ok-files.files c.audit_level.result c.map_err.result c.map_err.ensures.cases c.audit_level.ensures in
+    let audit_tells = audited_above level c.in_ok-files.files c.audit_level.result c.map_err.result c.map_err.ensures.cases c.audit_level.ensures in
     let result = c.from_residual-in_err-scene.result in
     let scene_failed = c.in_err-scene.was in
     let result_is_error = c.from_residual-in_err-scene.ensures.1 in
@@ -65,11 +65,11 @@ returns-in_err-scene g c =
       answers = λ files holds.
           let are = (files_tell.answers files holds).ok in
           let wads_are_held = told_wads level _ files _ are (λ contents named. files_tell.contents files contents holds named) c.in_ok-cache.ensures.faithful in
-          audit_stopped level _ files _ _ result are files_tell.follows.steady (later.answers _ wads_are_held) scene_failed result_is_error;
+          audit_stopped level _ files _ _ result are files_tell.follows.steady (audit_tells.answers _ wads_are_held) scene_failed result_is_error;
       full = λ files holds.
           let are = (files_tell.answers files holds).ok in
           let wads_are_held = told_wads level _ files _ are (λ contents named. files_tell.contents files contents holds named) c.in_ok-cache.ensures.faithful in
-          load_full level _ files _ c.map_err.result _ result are (later.full _ wads_are_held) scene_failed result_is_error;
+          load_full level _ files _ c.map_err.result _ result are (audit_tells.full _ wads_are_held) scene_failed result_is_error;
       loaded = none_given _ _ result result_is_error;
       holds = λ files contents holds named. none_given _ _ result result_is_error;
       order = λ files contents expected holds named loads room.
@@ -78,10 +78,10 @@ returns-in_err-scene g c =
           let cache_ordered : IsInOrder (loaded_items expected) c.in_ok-cache.cache = c.in_ok-cache.ensures.order (loaded_items expected) (items_roomy expected level.settings.zone room) in
           let read = files_tell.taken_of files contents holds named in
           call_order _ _ (KeepsOrder (loaded_items expected) c.in_ok-cache.cache c.audit_level.new.cache (g.S.Shelf.view c.read_files.new.shelf).taken (g.S.Shelf.view c.audit_level.new.shelf).taken) c.map_err.result _ result
-          (later.order _ expected wads_are_held (audited_of level _ files _ expected are loads) cache_ordered) scene_failed result_is_error
+          (audit_tells.order _ expected wads_are_held (audited_of level _ files _ expected are loads) cache_ordered) scene_failed result_is_error
           (λ k. omega (arith, read, lumps_taken expected k));
-      follows = follows_then files_tell.follows later.follows;
-      causes = causes_after c.map_err.result _ result files_tell.follows.faults later.causes scene_failed result_is_error;
+      follows = follows_then files_tell.follows audit_tells.follows;
+      causes = causes_after c.map_err.result _ result files_tell.follows.faults audit_tells.causes scene_failed result_is_error;
     }
 
 pub returns : goal.returns
@@ -89,39 +89,39 @@ returns g c =
     let files_tell = c.in_ok-files.ensures in
     let cache_tells = c.in_ok-cache.ensures in
     let level = level_job_value c.args.level.now in
-    let later = audited_above level c.in_ok-files.files c.audit_level.result (Ok (c.in_ok-scene.scene, c.in_ok-scene.weapons)) c.in_ok-scene.ensures.cases c.audit_level.ensures in
+    let audit_tells = audited_above level c.in_ok-files.files c.audit_level.result (Ok (c.in_ok-scene.scene, c.in_ok-scene.weapons)) c.in_ok-scene.ensures.cases c.audit_level.ensures in
     let dir = c.in_ok-files.files.dir in
     let files_found = value_of c.in_ok-files.files in
     record {
       answers = λ files holds.
-          let are = (files_tell.answers files holds).ok in
-          let wads_are_held = told_wads level _ files _ are (λ contents named. files_tell.contents files contents holds named) cache_tells.faithful in
-          all_loaded level _ files _ _ are (later.answers _ wads_are_held).ok;
+          let files_are = (files_tell.answers files holds).ok in
+          let wads_are_held = told_wads level _ files _ files_are (λ contents named. files_tell.contents files contents holds named) cache_tells.faithful in
+          all_loaded level _ files _ _ files_are (audit_tells.answers _ wads_are_held).ok;
       full = λ files holds. tt;
       loaded = record {
-        audited = later.audited;
-        slots = omega (arith, later.counts.1, cache_tells.slots);
-        composites = later.counts.2 ∙ cache_tells.composites;
-        zone = later.counts.0 ∙ cache_tells.size;
+        audited = audit_tells.audited;
+        slots = omega (arith, audit_tells.counts.1, cache_tells.slots);
+        composites = audit_tells.counts.2 ∙ cache_tells.composites;
+        zone = audit_tells.counts.0 ∙ cache_tells.size;
         few = files_tell.count;
       };
       holds = λ files contents holds named.
           let contents_stand = files_tell.contents files contents holds named in
           let cache_is_faithful = cache_tells.faithful contents in
-          let loaded = audited_value files_found (c.in_ok-scene.scene, c.in_ok-scene.weapons) in
-          let accepted = (later.answers contents (record { stand = contents_stand.0; within = contents_stand.1; faithful = cache_is_faithful })).ok in
-          let holds_contents : HoldContents (g.S.Shelf.view c.audit_level.new.shelf) dir c.audit_level.new.cache contents = record { stand = all_stand_later _ _ dir.files contents later.follows contents_stand.0; within = contents_stand.1; faithful = later.faithful contents contents_stand.0 cache_is_faithful } in
+          let value_loaded = audited_value files_found (c.in_ok-scene.scene, c.in_ok-scene.weapons) in
+          let accepted = (audit_tells.answers contents (record { stand = contents_stand.0; within = contents_stand.1; faithful = cache_is_faithful })).ok in
+          let holds_contents : HoldContents (g.S.Shelf.view c.audit_level.new.shelf) dir c.audit_level.new.cache contents = record { stand = all_stand_later _ _ dir.files contents audit_tells.follows contents_stand.0; within = contents_stand.1; faithful = audit_tells.faithful contents contents_stand.0 cache_is_faithful } in
           record {
             contents = holds_contents;
-            art = all_held contents level files_found loaded _ refl accepted later.audited.rest holds_contents later.fresh;
+            art = all_held contents level files_found value_loaded _ refl accepted audit_tells.audited.rest holds_contents audit_tells.fresh;
           };
       order = λ files contents expected holds named loads room.
-          let are = (files_tell.answers files holds).ok in
-          let wads_are_held = told_wads level _ files _ are (λ contents named. files_tell.contents files contents holds named) cache_tells.faithful in
+          let files_are = (files_tell.answers files holds).ok in
+          let wads_are_held = told_wads level _ files _ files_are (λ contents named. files_tell.contents files contents holds named) cache_tells.faithful in
           let cache_ordered : IsInOrder (loaded_items expected) c.in_ok-cache.cache = cache_tells.order (loaded_items expected) (items_roomy expected level.settings.zone room) in
           let read = files_tell.taken_of files contents holds named in
-          let keeps = later.order _ expected wads_are_held (audited_of level _ files _ expected are loads) cache_ordered in
+          let keeps = audit_tells.order _ expected wads_are_held (audited_of level _ files _ expected files_are loads) cache_ordered in
           record { order = keeps.order; taken = omega (arith, keeps.taken, read) };
-      follows = follows_then files_tell.follows later.follows;
+      follows = follows_then files_tell.follows audit_tells.follows;
       causes = record { err = tt };
     }

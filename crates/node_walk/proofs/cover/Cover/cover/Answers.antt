@@ -6,7 +6,7 @@ use Rattle.node_walk.proofs.cover.Cover.cover.Goals as goal
 
 pub add_range-requires : goal.add_range-requires
 add_range-requires c =
-    let narrow : c.self.inside.width ≤ 320 = c.self.invariant.0 in
+    let width_bounded : c.self.inside.width ≤ 320 = c.self.invariant.0 in
     omega (arith, length-apart 0 c.self.inside.width c.self.inside.ranges.items (omega arith) (apart_parts 0 _ _ c.self.invariant.1))
 
 pub invariant_of-self : goal.invariant_of-self

@@ -7,7 +7,7 @@ use Rattle.node_walk.proofs.cover.Cover.fragments.Goals as goal
 
 pub new-requires-clause-within : goal.new-requires-clause-within
 new-requires-clause-within c =
-    let narrow : c.self.inside.width ≤ 320 = c.self.invariant.0 in
+    let width_bounded : c.self.inside.width ≤ 320 = c.self.invariant.0 in
     omega (arith, ap length c.self.view_is, length-columns_of c.self.inside.width c.self.inside.ranges.items)
 
 pub new-requires-clause-apart : goal.new-requires-clause-apart

@@ -12,7 +12,7 @@ returns c =
         | inl e ↦ eq-eqb fields.first FRAME_WIDTH e
         | inr n ↦
             (let is_marked : fields.first < FRAME_WIDTH = omega (arith, n, c.self.invariant.start) in
-            let some = kept-run fields.key fields.tops fields.bottoms fields.first fields.last c.self.invariant is_marked in
+            let first_is_held = kept-run fields.key fields.tops fields.bottoms fields.first fields.last c.self.invariant is_marked in
             let no_column : column (plane_of fields.key fields.tops fields.bottoms) fields.first ≡ None =
             ap (λ (p : Plane). column p fields.first) c.self.view_is ∙ h fields.first in
             absurd (cc))

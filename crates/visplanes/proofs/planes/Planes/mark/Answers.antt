@@ -10,16 +10,16 @@ invariant_of-self c =
     let fields = c.self.inside in
     let items = fields.planes.items in
     let inside : c.args.plane.0 < fields.count = omega (arith, ap (λ (s : PlanesView). length s.planes) c.self.view_is, length-take fields.count items) in
-    let plane_in_items : c.args.plane.0 < length items = (let counted = c.self.invariant.0 in omega arith) in
-    let marked : (n : ℕ) → IsFirst (take fields.count items) n → IsFirst (take fields.count (set items c.args.plane.0 c.mark.new.self)) n =
+    let plane_in_items : c.args.plane.0 < length items = (let count_within = c.self.invariant.0 in omega arith) in
+    let first_still : (n : ℕ) → IsFirst (take fields.count items) n → IsFirst (take fields.count (set items c.args.plane.0 c.mark.new.self)) n =
     (λ n f. first-marked items fields.count c.args.plane.0 n c.args.x (c.args.top, c.args.bottom) c.index_mut.result.now c.mark.new.self inside c.self.invariant.0 c.index_mut.ensures.value c.mark.ensures f) in (
       omega (arith, length-set {A = Plane}),
       omega (arith, length-set {A = Plane}),
       wide-put items c.args.plane.0 c.mark.new.self
           (wide-marked items c.args.plane.0 c.args.x (c.args.top, c.args.bottom) c.index_mut.result.now c.mark.new.self plane_in_items c.index_mut.ensures.value c.mark.ensures c.self.invariant.2)
           c.self.invariant.2,
-      marked fields.recent c.self.invariant.3,
-      marked fields.older c.self.invariant.4,
+      first_still fields.recent c.self.invariant.3,
+      first_still fields.older c.self.invariant.4,
     )
 
 pub returns-clause-run : goal.returns-clause-run

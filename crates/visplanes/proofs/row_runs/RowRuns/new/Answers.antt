@@ -5,6 +5,6 @@ use Rattle.visplanes.proofs.row_runs.RowRuns.new.Goals as goal
 
 pub returns : goal.returns
 returns c =
-    let marked = c.marked-at.ensures in
-    row_runs-skipped c.args.plane.now c.args.row _ marked.wide marked.first
-    (λ k l. false_from_ne_true (holds c.args.plane.now c.args.row k) (λ t. absurd (omega (arith, l, (marked.pixels k c.args.row t).0))))
+    let marked_range = c.marked-at.ensures in
+    row_runs-skipped c.args.plane.now c.args.row _ marked_range.wide marked_range.first
+    (λ k l. false_from_ne_true (holds c.args.plane.now c.args.row k) (λ t. absurd (omega (arith, l, (marked_range.pixels k c.args.row t).0))))

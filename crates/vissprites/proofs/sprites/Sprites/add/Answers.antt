@@ -14,18 +14,18 @@ keep-requires-clause-number c =
 
 pub returns-in-Some-clause-value : goal.returns-in-Some-clause-value
 returns-in-Some-clause-value c =
-    let len : vec_len c.self.inside.kept ≡ length c.self.inside.kept.items = search rules in
+    let kept_length : vec_len c.self.inside.kept ≡ length c.self.inside.kept.items = search rules in
     let number : c.len-number.result ≡ length c.args.self.now =
-    c.len-number.ensures ∙ len ∙ sym (length-made_order c.self.inside.kept.items c.self.invariant.0) ∙ ap length c.self.view_is
+    c.len-number.ensures ∙ kept_length ∙ sym (length-made_order c.self.inside.kept.items c.self.invariant.0) ∙ ap length c.self.view_is
     in
     c.keep.ensures.entries ∙ ap (λ (es : List SpriteEntry). with_entry es (Some c.in-Some.entry)) c.self.view_is
     ∙ add-entry c.args.view.now c.args.self.now c.args.thing.now c.args.seen c.args.shape c.len-number.result (Some c.in-Some.entry) number (sym c.entry_for.ensures ∙ c.in-Some.is)
 
 pub returns-in_default-clause-value : goal.returns-in_default-clause-value
 returns-in_default-clause-value c =
-    let len : vec_len c.self.inside.kept ≡ length c.self.inside.kept.items = search rules in
+    let kept_length : vec_len c.self.inside.kept ≡ length c.self.inside.kept.items = search rules in
     let number : c.len-number.result ≡ length c.args.self.now =
-    c.len-number.ensures ∙ len ∙ sym (length-made_order c.self.inside.kept.items c.self.invariant.0) ∙ ap length c.self.view_is
+    c.len-number.ensures ∙ kept_length ∙ sym (length-made_order c.self.inside.kept.items c.self.invariant.0) ∙ ap length c.self.view_is
     in
     with_entry-none c.args.self.now
     ∙ add-entry c.args.view.now c.args.self.now c.args.thing.now c.args.seen c.args.shape c.len-number.result _ number (sym c.entry_for.ensures ∙ c.in_default.is)

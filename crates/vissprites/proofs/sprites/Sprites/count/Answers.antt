@@ -5,5 +5,5 @@ use Rattle.vissprites.proofs.sprites.Sprites.count.Goals as goal
 -- as many are kept as were made
 pub returns-clause-value : goal.returns-clause-value
 returns-clause-value c =
-    let len : vec_len c.self.inside.kept ≡ length c.self.inside.kept.items = search rules in
-    c.len.ensures ∙ len ∙ sym (length-made_order c.self.inside.kept.items c.self.invariant.0) ∙ ap length c.self.view_is
+    let kept_length : vec_len c.self.inside.kept ≡ length c.self.inside.kept.items = search rules in
+    c.len.ensures ∙ kept_length ∙ sym (length-made_order c.self.inside.kept.items c.self.invariant.0) ∙ ap length c.self.view_is

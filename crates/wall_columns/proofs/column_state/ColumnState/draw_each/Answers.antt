@@ -111,16 +111,16 @@ loop-edges-preserved g c =
     let one_more_passed : count + 1 ≡ passed_columns fragment c.next.new.self = omega arith in
     let marks = c.pass_column-plan.ensures in
     let planes_before = start.planes.now in
-    let between = tools.planes.now in let so_far : HasPassed fragment c.loop-edges.stepper c.args.self.now state planes_before between =
+    let planes_between = tools.planes.now in let so_far : HasPassed fragment c.loop-edges.stepper c.args.self.now state planes_before planes_between =
     record { at = invariant.at; marked = invariant.marked } in
     let columns_passed = passed-more fragment c.args.numbers.now c.loop-edges.stepper c.next.new.self c.in-Some.edges c.args.self.now state next planes_before
-    between c.pass_column-plan.new.planes plan.after so_far c.requires.numbers step
-    (passes-column c.args.numbers.now column_no c.in-Some.edges state next between c.pass_column-plan.new.planes plan
+    planes_between c.pass_column-plan.new.planes plan.after so_far c.requires.numbers step
+    (passes-column c.args.numbers.now column_no c.in-Some.edges state next planes_between c.pass_column-plan.new.planes plan
     marks.plan marks.windows marks.own marks.other marks.planes marks.count marks.same_floor marks.same_ceiling) in
     let window : ℕ → ColumnClip = window_at c.args.self.now.windows in
     let column = paints-column tools.view.now (wall_tools tools) g.C.Canvas.mark c.args.number fragment window column_no state.windows.height c.args.numbers.now
     (window_at state.windows column_no) c.in-Some.edges plan (omega arith) (omega arith) marks.plan c.requires.numbers
-    (window_is fragment count column_no c.args.self.now state planes_before between invariant.marked column_is column_in_frame)
+    (window_is fragment count column_no c.args.self.now state planes_before planes_between invariant.marked column_is column_in_frame)
     (step.0 ∙ edges_are fragment count column_no column_is) plan_painted.paints in
     let MarkedSoFar : PlanesView → Type 0 = λ planes. HasMarked fragment (passed_columns fragment c.next.new.self) c.args.self.now next planes_before planes in
     record {
