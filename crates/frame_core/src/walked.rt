@@ -3,7 +3,8 @@
 // Rules: `sound_scene`, Pictures; `node_walk`, Visits. The original: `R_RenderBSPNode`, r_bsp.c.
 ghost use Rattle.std.specs.Prelude.{◌≡◌, length};
 ghost use Rattle.node_walk.specs.Lists.{walk_lists};
-ghost use Rattle.node_walk.specs.Visits.{TakesAll, Visits};
+ghost use Rattle.node_walk.specs.Visits.{TakesAll};
+ghost use Rattle.receiver_rules.specs.Receivers.{Receives};
 ghost use Rattle.picture_rules.specs.Words.{view_events};
 ghost use Rattle.sound_scene.specs.Pictures.{lists_of};
 
@@ -45,8 +46,7 @@ pub(crate) fn walk_view<V: Visitor>(
         ≡ length scene.now.scene.base.level.sectors }
     requires takes { TakesAll (V.takes visitor.old) (length scene.now.scene.base.level.leaves)
         (length scene.now.scene.base.level.segs) view.now.shape.width }
-    ensures { Visits (V.takes visitor.old) (V.takes visitor.new) (V.stands visitor.old)
-        (V.stands visitor.new) (V.stopped visitor.new)
+    ensures { Receives V.takes V.stands V.stopped visitor.old visitor.new
         (view_events view.now (lists_of scene.now.scene)) result }
 {
     let walked = walked_scene(scene);

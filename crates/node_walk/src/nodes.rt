@@ -2,7 +2,8 @@
 ghost use Rattle.std.specs.Prelude.{◌≡◌, ℕ, ◌<◌, ◌+◌, false, length, replicate, OnOk};
 ghost use Rattle.level_rules.specs.walk.Walk.{walk_start, walk_child, view_events};
 ghost use Rattle.node_walk.specs.Lists.{walk_lists, part_start, IsThere};
-ghost use Rattle.node_walk.specs.Visits.{Visits, TakesAll, Walks};
+ghost use Rattle.node_walk.specs.Visits.{TakesAll, Walks};
+ghost use Rattle.receiver_rules.specs.Receivers.{Receives};
 
 use crate::boxes::{box_on, box_passes, child_on, eye_side};
 use crate::cover::Cover;
@@ -34,8 +35,8 @@ pub fn walk<V: Visitor>(
         (length scene.now.level.now.segs) view.now.shape.width }
     ensures visits { let lists = walk_lists scene.now.level.now scene.now.surfaces.now
         scene.now.middles.now in
-        Visits (V.takes visitor.old) (V.takes visitor.new) (V.stands visitor.old)
-        (V.stands visitor.new) (V.stopped visitor.new) (view_events view.now lists) result }
+        Receives V.takes V.stands V.stopped visitor.old visitor.new
+        (view_events view.now lists) result }
     ensures covered { let lists = walk_lists scene.now.level.now scene.now.surfaces.now
         scene.now.middles.now in
         let start = walk_start view.now.shape.width in
@@ -66,8 +67,7 @@ fn walk_child<V: Visitor>(
     requires width { length cover.old ≡ view.now.shape.width }
     requires takes { TakesAll (V.takes visitor.old) (length lists.now.leaves)
         (length lists.now.segs) view.now.shape.width }
-    ensures walks { Walks (V.takes visitor.old) (V.takes visitor.new) (V.stands visitor.old)
-        (V.stands visitor.new) (V.stopped visitor.new)
+    ensures walks { Walks V.takes V.stands V.stopped visitor.old visitor.new
         (walk_child view.now lists.now depth child (part_start cover.old)) cover.new result }
     ensures width { length cover.new ≡ length cover.old }
 {

@@ -2,7 +2,7 @@
 ghost use Rattle.std.specs.Prelude.{◌≡◌, ℕ, ◌≤◌, ◌<◌, ◌-◌, length, map};
 ghost use Rattle.node_walk.specs.Rules.{ColumnRange, FragmentEvent, at_columns, at_seg, back_of, faces_differ, fragments, heights_differ, is_closed, is_pass, is_solid, middle_of, seg_at, seg_range};
 ghost use Rattle.node_walk.specs.Lists.{IsSegOf, part_start};
-ghost use Rattle.node_walk.specs.Visits.{Visits, TakesAll, Walks};
+ghost use Rattle.node_walk.specs.Visits.{TakesAll, Walks};
 
 use crate::cover::Cover;
 use crate::scene::Lists;
@@ -90,8 +90,7 @@ pub(crate) fn visit_seg<V: Visitor>(
     requires width { length cover.old ≡ view.now.shape.width }
     requires takes { TakesAll (V.takes visitor.old) (length lists.now.leaves)
         (length lists.now.segs) view.now.shape.width }
-    ensures walks { Walks (V.takes visitor.old) (V.takes visitor.new) (V.stands visitor.old)
-        (V.stands visitor.new) (V.stopped visitor.new)
+    ensures walks { Walks V.takes V.stands V.stopped visitor.old visitor.new
         (at_seg view.now lists.now front.now n (part_start cover.old)) cover.new result }
     ensures width { length cover.new ≡ length cover.old }
 {

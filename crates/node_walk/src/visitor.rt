@@ -1,9 +1,9 @@
 //! Who is given the events of a walk.
 //!
-//! Rules: `specs/Visits`.
+//! Rules: `receiver_rules`.
 ghost use Rattle.std.specs.Prelude.{List, [], ◌∷◌};
 ghost use Rattle.node_walk.specs.Rules.{Event, FragmentEvent, LeafEvent};
-ghost use Rattle.node_walk.specs.Visits.{Visits};
+ghost use Rattle.receiver_rules.specs.Receivers.{Receives};
 
 /// Takes the leaves that are entered and the fragments that are seen, one after the other.
 ///
@@ -31,14 +31,12 @@ pub trait Visitor {
     /// The original: `R_Subsector`, r_bsp.c.
     fn leaf(&mut self, leaf: u16) -> Result<(), Self::Stop>
         requires { takes self.old (LeafEvent leaf) }
-        ensures { Visits (takes self.old) (takes self.new) (stands self.old) (stands self.new)
-            (stopped self.new) (LeafEvent leaf ∷ []) result };
+        ensures { Receives takes stands stopped self.old self.new (LeafEvent leaf ∷ []) result };
 
     /// Of a seg, the columns from `first` to `last` are seen.
     ///
     /// The original: `R_StoreWallRange`, r_segs.c, as r_bsp.c calls it.
     fn fragment(&mut self, seg: u16, first: u16, last: u16) -> Result<(), Self::Stop>
         requires { takes self.old (FragmentEvent seg first last) }
-        ensures { Visits (takes self.old) (takes self.new) (stands self.old) (stands self.new)
-            (stopped self.new) (FragmentEvent seg first last ∷ []) result };
+        ensures { Receives takes stands stopped self.old self.new (FragmentEvent seg first last ∷ []) result };
 }

@@ -33,7 +33,7 @@ returns-in_err-visit_seg-in-Leaf-clause-walks g t c =
 
 pub loop-k-init : goal.loop-k-init
 loop-k-init g t c = record {
-  walks = walks_none _ _ _ _ c.args.cover.now (sym (at_segs-none c.args.view.now c.args.lists.now c.surface-front.result.now c.leaf-leaf.result.now.first 0 _ refl));
+  walks = walks_none _ _ c.args.cover.now (sym (at_segs-none c.args.view.now c.args.lists.now c.surface-front.result.now c.leaf-leaf.result.now.first 0 _ refl));
   width = refl;
 }
 
@@ -56,7 +56,7 @@ returns-after-loop-k-clause-walks g t c =
 
 pub returns-then-depth-eq0-clause-walks : goal.returns-then-depth-eq0-clause-walks
 returns-then-depth-eq0-clause-walks g t c =
-    walks_none _ _ _ _ c.args.cover.now
+    walks_none _ _ c.args.cover.now
     (ap (λ (d : Child). walk_child c.args.view.now c.args.lists.now c.args.depth d (part_start c.args.cover.now)) c.in-Node.is
     ∙ walk-too_deep c.args.view.now c.args.lists.now c.args.depth c.in-Node.n (part_start c.args.cover.now) c.if-depth-eq0.true)
 

@@ -8,7 +8,7 @@ decreases-walk_child g l = l.depth
 
 abbrev pub invariant-loop-k : goal.invariant-loop-k
 invariant-loop-k g l = record {
-  walks : Walks (g.V.Visitor.takes l.initial.visitor) (g.V.Visitor.takes l.visitor) (g.V.Visitor.stands l.initial.visitor) (g.V.Visitor.stands l.visitor) (g.V.Visitor.stopped l.visitor)
+  walks : Walks g.V.Visitor.takes g.V.Visitor.stands g.V.Visitor.stopped l.initial.visitor l.visitor
       (at_segs l.view l.lists l.front l.leaf.first l.k (part_start l.fn.cover)) l.cover (Ok tt);
   width : length l.cover ≡ length l.fn.cover;
 }

@@ -8,7 +8,7 @@ use Rattle.node_walk.proofs.segs.visit_seg.Goals as goal
 
 pub returns-in_default : goal.returns-in_default
 returns-in_default g c = record {
-  walks = walks_none _ _ _ _ c.args.cover.now
+  walks = walks_none _ _ c.args.cover.now
       (unseen_part c.args.view.now c.args.lists.now c.args.front.now c.args.n c.args.cover.now _ c.seg-seg.ensures.value
       _ c.seg_range.ensures.value c.in_default.not-Columns);
   width = refl;
@@ -16,7 +16,7 @@ returns-in_default g c = record {
 
 pub returns-then-x1-x2-clause-walks : goal.returns-then-x1-x2-clause-walks
 returns-then-x1-x2-clause-walks g c =
-    walks_none _ _ _ _ c.args.cover.now (no_columns_part c.args.view.now c.args.lists.now c.args.front.now c.args.n c.args.cover.now _ c.seg-seg.ensures.value
+    walks_none _ _ c.args.cover.now (no_columns_part c.args.view.now c.args.lists.now c.args.front.now c.args.n c.args.cover.now _ c.seg-seg.ensures.value
     c.in-Columns.x1 c.in-Columns.x2 c.in-Columns.ensures.value c.if-x1-x2.true)
 
 pub fragment-requires : goal.fragment-requires
@@ -29,7 +29,7 @@ fragment-requires g c =
 
 pub returns-then-not-is_pass-clause-walks : goal.returns-then-not-is_pass-clause-walks
 returns-then-not-is_pass-clause-walks g c =
-    walks_same _ (walks_none _ _ _ _ c.args.cover.now
+    walks_same _ (walks_none _ _ c.args.cover.now
     (no_part _ _ c.args.n c.in-Columns.x1 (c.in-Columns.x2 - 1) c.args.cover.now
     (sym c.is_solid-solid.ensures ∙ c.if-not-solid.true) (sym c.is_pass.ensures ∙ c.if-not-is_pass.true)))
     (columns_part c.args.view.now c.args.lists.now c.args.front.now c.args.n c.args.cover.now _ c.seg-seg.ensures.value

@@ -1,0 +1,4 @@
+pub mod Strips
+pub mod Values
+pub mod Floors
+pub mod Works

@@ -1,0 +1,60 @@
+//! Who is asked for strips.
+//!
+//! Rules: `receiver_rules`; `specs/Strips`.
+ghost use Rattle.std.specs.Prelude.{List, [], ◌∷◌, ◌<◌, length};
+ghost use Rattle.brush.specs.Strips.{Floor, Strip, Texture};
+ghost use Rattle.brush.specs.Values.{floor_value};
+ghost use Rattle.receiver_rules.specs.Receivers.{Receives};
+
+use texture_build::{LumpNo, TextureStrip};
+use view_frame::View;
+use visplanes::{PlaneNo, Planes};
+
+/// A plane of the view that is not sky, by its runs, with the flat of lump `lump`.
+///
+/// The original: what `R_DrawPlanes` sets before it calls `R_MakeSpans`, r_plane.c.
+#[derive(Clone, Copy)]
+pub struct FloorStrip<'a> {
+    pub view: &'a View<'a>,
+    pub planes: &'a Planes,
+    pub plane: PlaneNo,
+    pub lump: LumpNo,
+}
+
+/// Is asked for strips, one after the other. No call takes memory.
+///
+/// It stands for the lists of strips that it may have been asked for, each with a start: that on
+/// which what it makes of the strips depends, such as the cells of a canvas.
+pub trait Brush {
+    /// Why a strip was not painted.
+    type Stop: Drop;
+
+    /// What it makes of the strips depends on one of these.
+    ghost Start: { Type 0 } = { Unit {0} };
+
+    /// For which starts and lists of strips it stands.
+    ghost stands: { Self → Start → List Strip → Type 0 };
+
+    /// For which starts, lists of strips and Stops it has stopped; the last strip of the list is
+    /// the one that it answered so.
+    ghost stopped: { Self → Start → List Strip → Self.Stop → Type 0 };
+
+    /// Which strips it takes.
+    ghost takes: { Self → Strip → Type 0 };
+
+    /// Paints rows of a column with a column of a texture.
+    ///
+    /// The original: `R_GetColumn`, r_data.c, and `colfunc`, r_main.c.
+    fn texture(&mut self, strip: &TextureStrip) -> Result<(), Self::Stop>
+        requires { takes self.old (Texture strip.now) }
+        ensures { Receives takes stands stopped self.old self.new (Texture strip.now ∷ []) result };
+
+    /// Paints a plane with its flat.
+    ///
+    /// The original: `R_DrawPlanes`, r_plane.c.
+    fn floor(&mut self, strip: &FloorStrip<'_>) -> Result<(), Self::Stop>
+        requires takes { takes self.old (Floor (floor_value strip.now)) }
+        requires there { strip.now.plane.0 < length strip.now.planes.now.planes }
+        ensures { Receives takes stands stopped self.old self.new
+            (Floor (floor_value strip.now) ∷ []) result };
+}

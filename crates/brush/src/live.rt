@@ -1,0 +1,70 @@
+//! A brush that makes live what a strip is painted from, and paints it on a canvas.
+//!
+//! Rules: `specs/Works`.
+
+use crate::brush::{Brush, FloorStrip};
+use crate::floors::paint_floor;
+use art_rules::Shelf;
+use pixel_strips::Canvas;
+use texture_build::{
+    CacheFault, Directory, Hands, LumpCache, LumpNo, TextureArt, TextureStrip, Textures,
+    paint_texture,
+};
+
+/// Paints on a canvas with textures and with lumps of a directory, which a cache reads by its shelf.
+/// `colormap` is the number of the lump COLORMAP, which is live with the tag `Static`.
+#[derive(Drop)]
+pub struct LiveBrush<'a, S: Shelf, C: Canvas> {
+    pub textures: &'a Textures,
+    pub dir: &'a Directory,
+    pub colormap: LumpNo,
+    pub cache: &'a mut LumpCache,
+    pub shelf: &'a mut S,
+    pub canvas: &'a mut C,
+}
+
+impl<'a, S: Shelf, C: Canvas> Brush for LiveBrush<'a, S, C> {
+    ghost use Rattle.std.specs.Prelude.{Ok, Err};
+    ghost use Rattle.brush.specs.Works.{BrushValue, CanTake, HasWorked, brush_now};
+
+    ghost Start = { BrushValue };
+
+    ghost stands = { λ p start strips. HasWorked C.mark start (brush_now S.view C.view p) strips
+        (Ok tt) };
+
+    ghost stopped = { λ p start strips stop. HasWorked C.mark start (brush_now S.view C.view p)
+        strips (Err stop) };
+
+    ghost takes = { λ p strip. CanTake (brush_now S.view C.view p) strip };
+
+    type Stop = CacheFault;
+
+    #[inline(always)]
+    fn texture(&mut self, strip: &TextureStrip) -> Result<(), CacheFault> {
+        let art = TextureArt {
+            textures: self.textures,
+            dir: self.dir,
+            colormap: self.colormap,
+        };
+        let mut hands = Hands {
+            cache: &mut *self.cache,
+            shelf: &mut *self.shelf,
+            canvas: &mut *self.canvas,
+        };
+        paint_texture(&art, &mut hands, strip)
+    }
+
+    fn floor(&mut self, strip: &FloorStrip<'_>) -> Result<(), CacheFault> {
+        let art = TextureArt {
+            textures: self.textures,
+            dir: self.dir,
+            colormap: self.colormap,
+        };
+        let mut hands = Hands {
+            cache: &mut *self.cache,
+            shelf: &mut *self.shelf,
+            canvas: &mut *self.canvas,
+        };
+        paint_floor(&art, &mut hands, strip)
+    }
+}
