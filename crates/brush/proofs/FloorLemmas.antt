@@ -1,7 +1,8 @@
 -- Laws of a plane that was painted with its flat and the colormap.
-use Rattle.picture_rules.proofs.Common.{[], ap, false, List, None, Option, refl, slice_index, Some, subst, sym, ℕ, ◌<◌, ◌∙◌, ◌∷◌, ◌≡◌}
+use Rattle.picture_rules.proofs.Common.{[], ap, false, List, None, Option, refl, slice_index, Some, subst, sym, ℕ, ◌∷◌, ◌≡◌}
 use Rattle.art_rules.specs.Words.{byte_at, Lump}
-use Rattle.picture_rules.specs.Words.{Art, Dot, Flat4, PLANE, Painter, Plane, ViewValue, column, floor_colour, floor_dots, is_sky_key, joined_lists, listed, lump_source, painter_of, plane_dots, plane_dots_by, run_dots, same_flat, shade}
+use Rattle.picture_rules.specs.Words.{Art, Dot, PLANE, Painter, Plane, ViewValue, column, floor_colour, floor_dots, is_sky_key, joined_lists, listed, lump_source, painter_of, plane_dots, plane_dots_by, run_dots, same_flat, shade}
+use Rattle.picture_rules.specs.declared.{plane.Flat4.Flat4}
 use Rattle.picture_rules.specs.declared.plane.Flat4.TheVariants as flat
 use Rattle.pixel_strips.specs.Canvases.{CanvasView, with_dots, with_painter}
 use Rattle.pixel_strips.specs.Dotted.{HasDots, PlacedAlike}

@@ -1,18 +1,19 @@
 -- Laws of a brush that works: nothing yet, a strip after others, and all that it was given.
-use Rattle.word_rules.proofs.Common.{[], ap, append-nil, arith, Contains, Contains-append_left, Contains-push, drop, Err, List, Ok, refl, Result, subst, sym, take, take-append-drop, ℕ, ℤ, ◌++◌, ◌<◌, ◌∙◌, ◌∷◌, ◌≡◌}
+use Rattle.picture_rules.proofs.Common.{[], ap, arith, Contains, Contains-append_left, drop, Err, List, Ok, refl, Result, subst, sym, take, take-append-drop, ℕ, ℤ, ◌++◌, ◌<◌, ◌∙◌, ◌∷◌, ◌≡◌}
+use Rattle.std.proofs.lemmas.List.Elements.{Contains-push}
 use Rattle.std.specs.Prelude.{◌+◌}
-use Rattle.word_rules.proofs.ListedLemmas.{joined_lists-append, joined_lists-one}
-use Rattle.picture_rules.specs.Words.{Art, Dot, FRAME_HEIGHT, FRAME_WIDTH, Painter}
+use Rattle.picture_rules.proofs.Laws.{joined_lists-append, joined_lists-one}
+use Rattle.picture_rules.specs.Words.{Art, Dot, FRAME_HEIGHT, FRAME_WIDTH, Painter, joined_lists}
 use Rattle.pixel_strips.specs.{Canvases.CanvasView, Dotted.PlacedAlike}
 use Rattle.visplanes.specs.Spans.{IsSeen}
 use Rattle.texture_build.specs.CacheFault.{CacheFault}
-use Rattle.texture_build.specs.Paints.{PaintState, PaintTools, painted_art}
+use Rattle.texture_build.specs.Paints.{PaintTools, painted_art}
 use Rattle.texture_build.specs.Strips.{IsTextureIn}
 use Rattle.texture_build.specs.declared.strip.TextureStrip.{TextureStrip}
 use Rattle.texture_build.proofs.PaintLemmas.{can_draw-later, paints-none, paints-same, paints-stop, paints-then, paints-wider, slots-later}
-use Rattle.receiver_rules.specs.Receivers.{Receives, StillTakes}
+use Rattle.receiver_rules.specs.Receivers.{Receives}
 use Rattle.brush.specs.Strips.{Floor, FloorValue, IsColumnOf, IsLumpOf, ShowsColumn, ShowsLump, Strip, Texture, strip_dots, strips_dots}
-use Rattle.brush.specs.Works.{BrushValue, CanTake, HasSlots, HasWorked, PaintsStrip, PaintsStrips}
+use Rattle.brush.specs.Works.{BrushValue, CanTake, HasSlots, HasWorked, PaintsStrip}
 
 -- what some strips show the whole list shows
 columns-left : (xs ys : List Strip) (number : ℕ) (column : ℤ) → ShowsColumn xs number column → ShowsColumn (xs ++ ys) number column
@@ -28,7 +29,7 @@ lumps-last : (xs : List Strip) (strip : Strip) (lump : ℕ) → IsLumpOf strip l
 lumps-last xs strip lump h = record { strip = strip; among = Contains-push xs strip; is = h }
 
 dots-none : (art : Art) → [] ≡ strips_dots art []
-unfolding strips_dots
+unfolding strips_dots joined_lists
 dots-none art = refl
 
 pub dots-more : (art : Art) (xs : List Strip) (strip : Strip) → strips_dots art xs ++ strip_dots art strip ≡ strips_dots art (xs ++ strip ∷ [])
@@ -51,7 +52,7 @@ worked-more : {mark : Painter → ℕ → ℕ} {start : BrushValue} {result : Re
     HasWorked mark start new (before ++ strip ∷ []) result
 worked-more {mark} {start} {result} old new strip before h tools names paints =
     let by_start : PaintsStrip mark start.tools strip old.state new.state result =
-        subst (λ (t : PaintTools). PaintsStrip mark t strip old.state new.state result) h.tools paints in
+    subst (λ (t : PaintTools). PaintsStrip mark t strip old.state new.state result) h.tools paints in
     record {
       tools = tools ∙ h.tools;
       names = names ∙ h.names;
@@ -91,20 +92,23 @@ takes-still : {mark : Painter → ℕ → ℕ} {result : Result (Unit {0}) Cache
 takes-still old new strip tools paints next h =
     subst (λ (t : PaintTools). CanTake (record new { tools = t }) next) (sym tools) (takes-same old new strip tools paints next h)
 
--- So whoever has such a value was asked for the strip.
-pub strip-received : {P : Type 0} {mark : Painter → ℕ → ℕ} (value : P → BrushValue) (old new : P) (strip : Strip) (result : Result (Unit {0}) CacheFault) →
-    (value new).tools ≡ (value old).tools → (value new).names ≡ (value old).names → PaintsStrip mark (value old).tools strip (value old).state (value new).state result →
-    Receives (λ (p : P) next. CanTake (value p) next) (λ (p : P) start strips. HasWorked mark start (value p) strips (Ok tt))
-    (λ (p : P) start strips stop. HasWorked mark start (value p) strips (Err stop)) old new (strip ∷ []) result
-strip-received value old new strip (Ok tt) tools names paints = record {
-  ok = record { each = λ start before stood. worked-more (value old) (value new) strip before stood tools names paints };
-  takes_on = record { each = takes-still (value old) (value new) strip tools paints };
+-- what a brush by its value was given, and answered
+abbrev pub WorkReceives : (Painter → ℕ → ℕ) → BrushValue → BrushValue → List Strip → Result (Unit {0}) CacheFault → Type 0
+WorkReceives mark old new strips result = Receives CanTake (λ (p : BrushValue) start strips. HasWorked mark start p strips (Ok tt))
+    (λ (p : BrushValue) start strips stop. HasWorked mark start p strips (Err stop)) old new strips result
+
+-- so it was given the strip
+pub strip-received : {mark : Painter → ℕ → ℕ} (old new : BrushValue) (strip : Strip) (result : Result (Unit {0}) CacheFault) →
+    new.tools ≡ old.tools → new.names ≡ old.names → PaintsStrip mark old.tools strip old.state new.state result → WorkReceives mark old new (strip ∷ []) result
+strip-received old new strip (Ok tt) tools names paints = record {
+  ok = record { each = λ start before stood. worked-more old new strip before stood tools names paints };
+  takes_on = record { each = takes-still old new strip tools paints };
   err = tt;
 }
-strip-received value old new strip (Err stop) tools names paints = record {
+strip-received old new strip (Err stop) tools names paints = record {
   ok = tt;
   takes_on = tt;
-  err = record { count = 1; some = omega arith; within = omega arith; each = λ start before stood. worked-more (value old) (value new) strip before stood tools names paints };
+  err = record { count = 1; some = omega arith; within = omega arith; each = λ start before stood. worked-more old new strip before stood tools names paints };
 }
 
 contains-taken : (n : ℕ) (strips : List Strip) (strip : Strip) → Contains (take n strips) strip → Contains strips strip
@@ -119,13 +123,11 @@ lumps-taken : (n : ℕ) (strips : List Strip) (lump : ℕ) → ShowsLump (take n
 lumps-taken n strips lump h = record { strip = h.strip; among = contains-taken n strips h.strip h.among; is = h.is }
 
 -- A brush that was given strips has worked on them from its own state on.
-pub received-worked : {P : Type 0} {mark : Painter → ℕ → ℕ} (value : P → BrushValue) (old new : P) (strips : List Strip) (result : Result (Unit {0}) CacheFault) →
-    Receives (λ (p : P) next. CanTake (value p) next) (λ (p : P) start strips. HasWorked mark start (value p) strips (Ok tt))
-    (λ (p : P) start strips stop. HasWorked mark start (value p) strips (Err stop)) old new strips result →
-    HasWorked mark (value old) (value new) strips result
-received-worked {mark = mark} value old new strips (Ok tt) given = given.ok.each (value old) [] (worked-none mark (value old))
-received-worked {mark = mark} value old new strips (Err stop) given =
-    let worked = given.err.each (value old) [] (worked-none mark (value old)) in
+pub received-worked : {mark : Painter → ℕ → ℕ} (old new : BrushValue) (strips : List Strip) (result : Result (Unit {0}) CacheFault) →
+    WorkReceives mark old new strips result → HasWorked mark old new strips result
+received-worked {mark} old new strips (Ok tt) given = given.ok.each old [] (worked-none mark old)
+received-worked {mark} old new strips (Err stop) given =
+    let worked = given.err.each old [] (worked-none mark old) in
     record {
       tools = worked.tools;
       names = worked.names;

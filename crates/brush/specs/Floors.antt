@@ -1,5 +1,5 @@
 -- A call that paints a plane with its flat.
-use Rattle.std.specs.Prelude.{◌≡◌, ℕ, List, Result}
+use Rattle.std.specs.Prelude.{◌≡◌, ℕ, Result}
 use Rattle.picture_rules.specs.Words.{Painter}
 use Rattle.texture_build.specs.{CacheFault.CacheFault, Caches.cache_fault}
 use Rattle.texture_build.specs.Paints.{PaintState, PaintTools, Paints, painted_art}

@@ -14,16 +14,16 @@ use texture_build::{
 /// Paints on a canvas with textures and with lumps of a directory, which a cache reads by its shelf.
 /// `colormap` is the number of the lump COLORMAP, which is live with the tag `Static`.
 #[derive(Drop)]
-pub struct LiveBrush<'a, S: Shelf, C: Canvas> {
-    pub textures: &'a Textures,
-    pub dir: &'a Directory,
+pub struct LiveBrush<'t, 'a, S: Shelf, C: Canvas> {
+    pub textures: &'t Textures,
+    pub dir: &'t Directory,
     pub colormap: LumpNo,
     pub cache: &'a mut LumpCache,
     pub shelf: &'a mut S,
     pub canvas: &'a mut C,
 }
 
-impl<'a, S: Shelf, C: Canvas> Brush for LiveBrush<'a, S, C> {
+impl<'t, 'a, S: Shelf, C: Canvas> Brush for LiveBrush<'t, 'a, S, C> {
     ghost use Rattle.std.specs.Prelude.{Ok, Err};
     ghost use Rattle.brush.specs.Works.{BrushValue, CanTake, HasWorked, brush_now};
 

@@ -1,7 +1,7 @@
 -- Laws of a counter: an event that it was given after others, and a whole walk.
 use Rattle.picture_rules.proofs.Common.{[], ap, Err, IfErr, IfErr-weaker, List, Ok, OnOk, refl, Result, Some, subst, sym, take, ℕ, ◌++◌, ◌∙◌, ◌∷◌, ◌≡◌}
 use Rattle.frame_core.specs.Rules.{Event, Limits, OverLimit, SceneValue, ViewValue, steps_over, view_events, view_over, view_steps}
-use Rattle.node_walk.specs.Visits.{Visits}
+use Rattle.receiver_rules.specs.Receivers.{Receives}
 use Rattle.wall_columns.specs.{declared.fault.DrawFault.DrawFault, Faults.limit_of_fault}
 use Rattle.frame_core.specs.{declared.bench.Bench.Bench, Views.CanCount}
 use Rattle.sound_scene.specs.Pictures.{lists_of, scene_of}
@@ -64,12 +64,11 @@ takes_later p q e event given can = record {
 -- the answer of a visitor that was given events
 abbrev pub CounterVisits : CounterValue → CounterValue → List Event → Result (Unit {0}) OverLimit → Type 0
 CounterVisits p q events result =
-    Visits {A = CounterValue} {E = OverLimit} (CanCountNext p) (CanCountNext q) (λ start es. HasCounted start p es (Ok tt)) (λ start es. HasCounted start q es (Ok tt))
-    (λ start es stop. HasCounted start q es (Err stop)) events result
+    Receives CanCountNext (λ (p : CounterValue) start es. HasCounted start p es (Ok tt)) (λ (p : CounterValue) start es stop. HasCounted start p es (Err stop)) p q events result
 
 counter_visits : {e : Event} (p q : CounterValue) (result : Result (Unit {0}) OverLimit) → IsCounted p.view p.scene p q e result → CounterVisits p q (e ∷ []) result
 counter_visits {e} p q result given =
-    visits-one (CanCountNext p) (CanCountNext q) (λ start es. HasCounted start p es (Ok tt)) (λ start es. HasCounted start q es) e result (λ start before stood. counted_more p q start before stood given)
+    visits-one CanCountNext (λ p start es. HasCounted start p es) p q e result (λ start before stood. counted_more p q start before stood given)
     (λ ok event can. takes_later p q e event (subst (IsCounted p.view p.scene p q e) ok given) can)
 
 -- a walk of a counter that no event was given

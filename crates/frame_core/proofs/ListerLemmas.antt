@@ -2,7 +2,7 @@
 use Rattle.picture_rules.proofs.Common.{[], ap, Err, err_from_is_err_and, IsErrAnd, length, List, Ok, OnOk, refl, Result, subst, sym, ℕ, ◌++◌, ◌∙◌, ◌∷◌, ◌≡◌}
 use Rattle.frame_core.specs.Rules.{Event, LevelLists, Limits, ListedFragment, ListedPlane, ListedSprite, OverLimit, Plane, Scene, SceneValue, ViewListValue, ViewValue, event_list, event_planes, plane_makers, view_events, view_list}
 use Rattle.picture_rules.proofs.ListLemmas.{plane_makers-count}
-use Rattle.node_walk.specs.Visits.{Visits}
+use Rattle.receiver_rules.specs.Receivers.{Receives}
 use Rattle.frame_core.specs.{declared.bench.Bench.Bench, Walked.HasWalked}
 use Rattle.sound_scene.specs.Pictures.{lists_of, scene_of}
 use Rattle.frame_core.specs.Painters.{CanCountNext, CounterValue, HasWalkedNothing, HasWalkedView, limits_in}
@@ -14,8 +14,7 @@ use Rattle.frame_core.proofs.ViewListLemmas.{listed-none, planes-walked}
 -- the answer of a lister that was given events
 abbrev pub ListerVisits : ListerValue → ListerValue → List Event → Result (Unit {0}) OverLimit → Type 0
 ListerVisits p q events result =
-    Visits {A = ListerValue} {E = OverLimit} (CanCountNext p.counter) (CanCountNext q.counter) (λ start es. HasGathered start p es (Ok tt)) (λ start es. HasGathered start q es (Ok tt))
-    (λ start es stop. HasGathered start q es (Err stop)) events result
+    Receives (λ (p : ListerValue). CanCountNext p.counter) (λ (p : ListerValue) start es. HasGathered start p es (Ok tt)) (λ (p : ListerValue) start es stop. HasGathered start p es (Err stop)) p q events result
 
 -- a list with one event more, wherever the walk began
 abbrev ListsNext : ViewValue → SceneValue → Bench → Bench → WalkListValue → WalkListValue → Event → Type 0

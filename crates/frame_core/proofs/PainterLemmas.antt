@@ -10,7 +10,7 @@ use Rattle.pixel_strips.specs.Dotted.{PlacedAlike}
 use Rattle.pixel_strips.proofs.DottedLemmas.{placed-none}
 use Rattle.sound_scene.specs.{Sound.textures_view, Pictures.lists_of, Pictures.scene_of}
 use Rattle.picture_rules.specs.declared.LimitKind.TheVariants as kind
-use Rattle.node_walk.specs.Visits.{Visits}
+use Rattle.receiver_rules.specs.Receivers.{Receives}
 use Rattle.wall_columns.specs.declared.fault.DrawFault.{DrawFault}
 use Rattle.wall_columns.specs.declared.fault.DrawFault.TheVariants.{Planes, Openings, ZoneFull, ReadFault}
 use Rattle.wall_columns.specs.Faults.{IsLimitFault, limit_of_fault}
@@ -99,23 +99,22 @@ takes_later mark p q e dots event given can = record {
 }
 
 -- What a visitor stands for after one event, told of its answer: that it was given the event.
-pub visits-one : {A E : Type 0} (took takes : Event → Type 0) (before : A → List Event → Type 0) (after : A → List Event → Result (Unit {0}) E → Type 0) (e : Event) (result : Result (Unit {0}) E) →
-    ((start : A) (events : List Event) → before start events → after start (events ++ e ∷ []) result) → (result ≡ Ok tt → (event : Event) → took event → takes event) →
-    Visits {A = A} {E = E} took takes before (λ start es. after start es (Ok tt)) (λ start es stop. after start es (Err stop)) (e ∷ []) result
-visits-one took takes before after e (Ok unit) more still = record { ok = record { each = more }; takes_on = record { each = still refl }; err = tt }
-visits-one took takes before after e (Err stop) more still =
+pub visits-one : {P A E : Type 0} (takes : P → Event → Type 0) (after : P → A → List Event → Result (Unit {0}) E → Type 0) (p q : P) (e : Event) (result : Result (Unit {0}) E) →
+    ((start : A) (events : List Event) → after p start events (Ok tt) → after q start (events ++ e ∷ []) result) → (result ≡ Ok tt → (event : Event) → takes p event → takes q event) →
+    Receives takes (λ (p : P) start es. after p start es (Ok tt)) (λ (p : P) start es stop. after p start es (Err stop)) p q (e ∷ []) result
+visits-one takes after p q e (Ok unit) more still = record { ok = record { each = more }; takes_on = record { each = still refl }; err = tt }
+visits-one takes after p q e (Err stop) more still =
     record { ok = tt; takes_on = tt; err = record { count = 1; some = omega arith; within = omega arith; each = more } }
 
 -- the answer of a visitor that was given one event
 abbrev pub PainterVisits : (Painter → ℕ → ℕ) → PainterValue → PainterValue → List Event → Result (Unit {0}) ViewFault → Type 0
 PainterVisits mark p q events result =
-    Visits {A = PainterValue} {E = ViewFault} (CanPaintNext p) (CanPaintNext q) (λ start es. HasPainted mark start p es (Ok tt)) (λ start es. HasPainted mark start q es (Ok tt))
-    (λ start es stop. HasPainted mark start q es (Err stop)) events result
+    Receives CanPaintNext (λ (p : PainterValue) start es. HasPainted mark start p es (Ok tt)) (λ (p : PainterValue) start es stop. HasPainted mark start p es (Err stop)) p q events result
 
 pub painter-visits : {mark : Painter → ℕ → ℕ} {e : Event} {dots : List Event → Scene → List Dot} (p q : PainterValue) (result : Result (Unit {0}) ViewFault) →
     IsGiven mark p.scene p q e dots result → PainterVisits mark p q (e ∷ []) result
 painter-visits {mark} {e} {dots} p q result given =
-    visits-one (CanPaintNext p) (CanPaintNext q) (λ start es. HasPainted mark start p es (Ok tt)) (λ start es. HasPainted mark start q es) e result (λ start before stood. painted_more p q start before stood given)
+    visits-one CanPaintNext (λ p start es. HasPainted mark start p es) p q e result (λ start before stood. painted_more p q start before stood given)
     (λ ok event can. takes_later mark p q e dots event (subst (IsGiven mark p.scene p q e dots) ok given) can)
 
 -- a walk of a painter that no event was given

@@ -1,5 +1,5 @@
-pub mod KeptLemmas
-pub mod PlaneLemmas
-pub mod SkyLemmas
 pub mod CanLemmas
-pub mod FlatLemmas
+pub mod DotLemmas
+pub mod DrawLemmas
+pub mod MarkLemmas
+pub mod StripLemmas

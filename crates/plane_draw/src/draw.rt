@@ -1,22 +1,19 @@
-// The planes of a view, in order of making.
+// The planes of a view, drawn on a canvas.
 //
 // Rules: `picture_rules`, Planes; `specs/Planes`. The original: `R_DrawPlanes`, r_plane.c.
-ghost use Rattle.picture_rules.specs.Words.{plane_dots, planes_dots};
+ghost use Rattle.picture_rules.specs.Words.{planes_dots};
 ghost use Rattle.texture_build.specs.Caches.{cache_fault};
 ghost use Rattle.texture_build.specs.Hands.{AreSameHands, hands_state};
 ghost use Rattle.texture_build.specs.Paints.{Paints};
 ghost use Rattle.plane_draw.specs.Planes.{IsFlatOf, IsSkyColumn};
-ghost use Rattle.plane_draw.specs.Scenes.{CanDrawAt, CanDrawPlanes, HasSky, PaintsPlanes, plane_art, plane_tools, with_art};
-ghost use Rattle.visplanes.specs.Planes.{plane_at};
+ghost use Rattle.plane_draw.specs.Scenes.{CanDrawPlanes, HasSky, plane_tools, with_art};
 
-use crate::floor::draw_floor;
-use crate::scene::PlaneScene;
-use crate::sky::draw_sky;
+use crate::planes::paint_planes;
+use crate::scene::{PlaneScene, ViewPlanes};
 use art_rules::Shelf;
-use picture_rules::Flat4;
+use brush::LiveBrush;
 use pixel_strips::Canvas;
-use texture_build::{CacheFault, Hands, LumpNo};
-use visplanes::PlaneNo;
+use texture_build::{CacheFault, Hands};
 
 /// Paints all planes, in order of making: a floor or a ceiling by its flat, and the sky by its
 /// texture, column by column. A plane without a marked column asks for nothing, and of the sky's
@@ -44,30 +41,18 @@ pub fn draw_planes<S: Shelf, C: Canvas>(
         scene.now.planes.now.planes)
         (hands_state S.view C.view hands.old) (hands_state S.view C.view hands.new) result }
 {
-    for number in 0..scene.planes.count() {
-        draw_one(scene, hands, PlaneNo(number as u16))?;
-    }
-    Ok(())
-}
-
-// Paints a plane; one without a run asks for no flat.
-fn draw_one<S: Shelf, C: Canvas>(
-    scene: &PlaneScene<'_>,
-    hands: &mut Hands<'_, S, C>,
-    plane: PlaneNo,
-) -> Result<(), CacheFault>
-    requires ready { CanDrawAt scene.now plane.0 (hands_state S.view C.view hands.old) }
-    ensures same { AreSameHands hands.old hands.new }
-    ensures paints { PaintsPlanes C.mark scene.now
-        (λ contents sky. plane_dots scene.now.view.now (plane_art contents scene.now) sky plane.0
-        (plane_at scene.now.planes.now.planes plane.0))
-        (hands_state S.view C.view hands.old) (hands_state S.view C.view hands.new) result }
-{
-    if scene.planes.is_empty(plane) {
-        return Ok(());
-    }
-    match scene.planes.key(plane).flat {
-        Flat4::Sky => draw_sky(scene, hands, plane),
-        Flat4::Lump(lump) => draw_floor(scene, hands, plane, LumpNo(lump)),
-    }
+    let shown = ViewPlanes {
+        view: scene.view,
+        planes: scene.planes,
+        sky: scene.sky,
+    };
+    let mut brush = LiveBrush {
+        textures: scene.textures,
+        dir: scene.dir,
+        colormap: scene.colormap,
+        cache: &mut *hands.cache,
+        shelf: &mut *hands.shelf,
+        canvas: &mut *hands.canvas,
+    };
+    paint_planes(&shown, &mut brush)
 }

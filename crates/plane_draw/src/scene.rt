@@ -16,3 +16,11 @@ pub struct PlaneScene<'a> {
     pub planes: &'a Planes,
     pub colormap: LumpNo,
 }
+
+/// What is shown of planes: the view, its planes, and the number of the sky's texture, if it has one.
+#[derive(Clone, Copy)]
+pub struct ViewPlanes<'a> {
+    pub view: &'a View<'a>,
+    pub planes: &'a Planes,
+    pub sky: Option<TexNo>,
+}

@@ -1,5 +1,5 @@
 -- Some items after others, as a receiver is given them.
-use Rattle.word_rules.proofs.Common.{[], ap, append-nil, append_assoc, arith, Contains, Contains-append_left, Contains-append_right, Err, IfErr-weaker, length, length-append, List, Ok, on_ok_weaker, OnOk, refl, Result, subst, sym, take, take-append-add, take-append-le, ℕ, ◌++◌, ◌+◌, ◌∙◌, ◌∷◌, ◌≡◌}
+use Rattle.word_rules.proofs.Common.{[], ap, append-nil, append_assoc, arith, Contains-append_left, Contains-append_right, Err, IfErr-weaker, length, length-append, List, Ok, on_ok_weaker, refl, Result, subst, sym, take, take-append-add, take-append-le, ◌++◌, ◌+◌, ◌∙◌, ◌≡◌}
 use Rattle.receiver_rules.specs.Receivers.{Grew, Receives, StillTakes, StoppedAt, TakesEach}
 
 module _ {S I A : Type 0} {stands : S → A → List I → Type 0} where
@@ -96,3 +96,18 @@ module _ {S I : Type 0} {takes : S → I → Type 0} where
   -- and each of them after items that were given whole
   pub takes_each-later : {a b : S} {xs : List I} → StillTakes takes a b → TakesEach takes a xs → TakesEach takes b xs
   takes_each-later still all = record { each = λ item h. still.each item (all.each item h) }
+
+module _ {P S I A E : Type 0} {takes : S → I → Type 0} {stands : S → A → List I → Type 0} {stopped : S → A → List I → E → Type 0} (value : P → S) where
+  -- what is said of a value of two receivers is said of them, and the other way round
+  pub receives-by : (old new : P) {items : List I} (result : Result (Unit {0}) E) → Receives takes stands stopped (value old) (value new) items result →
+      Receives (λ (p : P). takes (value p)) (λ (p : P). stands (value p)) (λ (p : P). stopped (value p)) old new items result
+  receives-by old new (Ok unit) one = record { ok = record { each = one.ok.each }; takes_on = record { each = one.takes_on.each }; err = tt }
+  receives-by old new (Err stop) one =
+      record { ok = tt; takes_on = tt; err = record { count = one.err.count; some = one.err.some; within = one.err.within; each = one.err.each } }
+
+  pub receives-value : (old new : P) {items : List I} (result : Result (Unit {0}) E) →
+      Receives (λ (p : P). takes (value p)) (λ (p : P). stands (value p)) (λ (p : P). stopped (value p)) old new items result →
+      Receives takes stands stopped (value old) (value new) items result
+  receives-value old new (Ok unit) one = record { ok = record { each = one.ok.each }; takes_on = record { each = one.takes_on.each }; err = tt }
+  receives-value old new (Err stop) one =
+      record { ok = tt; takes_on = tt; err = record { count = one.err.count; some = one.err.some; within = one.err.within; each = one.err.each } }

@@ -1,6 +1,6 @@
 -- The flat is made live, and then painted with.
 use Rattle.std.proofs.Common.{ap}
-use Rattle.texture_build.proofs.{DrawLemmas.draws-wider, LiveLemmas.draws-fetch}
+use Rattle.texture_build.proofs.{LiveLemmas.draws-fetch}
 use Rattle.texture_build.proofs.PaintLemmas.{paints-live, paints-missed}
 use Rattle.brush.proofs.floors.paint_floor.Goals as goal
 

@@ -1,25 +1,28 @@
--- One plane after the other.
-use Rattle.std.proofs.Common.{◌≡◌, length, ap, arith}
-use Rattle.plane_draw.specs.Scenes.{first_planes, plane_art}
-use Rattle.plane_draw.proofs.KeptLemmas.{keeps-more, keeps-start, planes-painted}
-use Rattle.plane_draw.proofs.PlaneLemmas.{planes-more, planes-start}
-use Rattle.texture_build.proofs.PaintLemmas.{paints-same, paints-then_stop}
+-- A brush over what is lent is asked for the strips of the planes, and what came back of it.
+use Rattle.std.proofs.Common.{ap, rules, sym}
+use Rattle.receiver_rules.proofs.ReceiverLemmas.{receives-value}
+use Rattle.brush.specs.Works.{BrushNames, brush_now}
+use Rattle.brush.proofs.WorkLemmas.{received-worked}
+use Rattle.plane_draw.proofs.DrawLemmas.{planes-drawn, planes-taken}
 use Rattle.plane_draw.proofs.draw.draw_planes.Goals as goal
 
-pub loop-number-init : goal.loop-number-init
-loop-number-init g c =
-    keeps-start (λ contents sky. planes-start _ (plane_art contents c.args.scene.now) sky _) c.requires
+pub paint_planes-requires : goal.paint_planes-requires
+paint_planes-requires g c = record { each = planes-taken c.args.scene.now _ _ c.requires }
 
-pub returns-in_err-draw_one-clause-paints : goal.returns-in_err-draw_one-clause-paints
-returns-in_err-draw_one-clause-paints g c =
-    planes-painted c.args.scene.now (paints-then_stop c.in_err-draw_one.was c.from_residual.ensures.1 c.loop-number.invariant.paints c.draw_one.ensures.paints)
+pub shape_of-hands : goal.shape_of-hands
+shape_of-hands g c = sym (ap (λ (n : BrushNames). n.canvas) (received-worked _ _ _ c.paint_planes.result (receives-value (brush_now g.S.Shelf.view g.C.Canvas.view) _ _ c.paint_planes.result c.paint_planes.ensures)).names)
 
-pub loop-number-preserved : goal.loop-number-preserved
-loop-number-preserved g c =
-    keeps-more (λ contents sky. planes-more _ (plane_art contents c.args.scene.now) sky _ c.loop-number.number) c.loop-number.invariant c.in_ok-draw_one.ensures.same c.in_ok-draw_one.ensures.paints
+pub shape_of-hands-2 : goal.shape_of-hands-2
+shape_of-hands-2 g c = sym (ap (λ (n : BrushNames). n.shelf) (received-worked _ _ _ c.paint_planes.result (receives-value (brush_now g.S.Shelf.view g.C.Canvas.view) _ _ c.paint_planes.result c.paint_planes.ensures)).names)
 
-pub returns-clause-paints : goal.returns-clause-paints
-returns-clause-paints g c =
-    let scene_now = c.args.scene.now in
-    let end : c.loop-number.number ≡ length scene_now.planes.now.planes = omega arith in
-    planes-painted scene_now (paints-same _ (λ contents sky is. ap (first_planes scene_now.view.now (plane_art contents scene_now) sky scene_now.planes.now.planes) end) c.loop-number.invariant.paints)
+pub shape_of-hands-3 : goal.shape_of-hands-3
+shape_of-hands-3 g c = sym (ap (λ (n : BrushNames). n.cache) (received-worked _ _ _ c.paint_planes.result (receives-value (brush_now g.S.Shelf.view g.C.Canvas.view) _ _ c.paint_planes.result c.paint_planes.ensures)).names)
+
+pub returns : goal.returns
+returns g c =
+    let worked = received-worked _ _ _ c.paint_planes.result (receives-value (brush_now g.S.Shelf.view g.C.Canvas.view) _ _ c.paint_planes.result c.paint_planes.ensures) in
+    let names = worked.names in
+    record {
+      same = search rules;
+      paints = planes-drawn c.args.scene.now _ c.requires worked.works;
+    }
