@@ -1,6 +1,6 @@
 -- How the program ends.
 use Rattle.std.specs.Prelude.{◌≡◌, ℕ, List, Option}
-use Rattle.doom_run.specs.Rules.{CommandValue, FaultsRose, Grew, ShelfView}
+use Rattle.doom_run.specs.Rules.{CommandValue, FaultsRose, Grew, GrewByPrefix, ShelfView}
 use Rattle.job_files.specs.{Lines.line_of, Statuses.code_of, declared.status.Status.Status}
 use Rattle.doom_run.specs.Performs.{RunsAs}
 
@@ -10,5 +10,6 @@ pub record ExitsAs (command : Option CommandValue) (before after : ShelfView) (o
     (notes noted : List ℕ → Type 0) (note_faults note_later : ℕ) (number : ℕ) : Type 0 where
   pub status : Status
   pub runs : RunsAs command before after old new faults later status
+  pub part : GrewByPrefix notes noted (line_of status)
   pub line : (FaultsRose note_faults note_later → ⊥) → Grew notes noted (line_of status)
   pub is : number ≡ code_of status
