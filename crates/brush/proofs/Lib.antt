@@ -1,2 +1,6 @@
 pub mod FloorLemmas
+pub mod LayerLemmas
+pub mod LendLemmas
+pub mod PictureLemmas
+pub mod PostLemmas
 pub mod WorkLemmas

@@ -1,6 +1,6 @@
 -- What a view shows, strip by strip: what each is painted from, and its dots.
-use Rattle.std.specs.Prelude.{◌≡◌, ℕ, ℤ, List, Contains}
-use Rattle.picture_rules.specs.Words.{Art, Dot, Plane, ViewValue, floor_dots, joined_lists}
+use Rattle.std.specs.Prelude.{◌≡◌, ℕ, ℤ, Bool, List, Contains, None, Option, slice_index_or, unwrap_or}
+use Rattle.picture_rules.specs.Words.{Art, Dot, MaskedColumn, Plane, ViewShape, ViewValue, floor_dots, joined_lists, listed_from, lump_source, painter_of, picture_column, posts_dots}
 use Rattle.texture_build.specs.Strips.{texture_dots}
 use Rattle.texture_build.specs.declared.strip.TextureStrip.{TextureStrip}
 
@@ -11,6 +11,23 @@ pub record FloorValue : Type 0 where
   pub number : ℕ
   pub lump : ℕ
 
+-- Columns `first` to `last` of a view, with the picture of a lump whose left edge is at column `left`. Each column is drawn as
+-- `masked` says, but for the clips that were taken in it.
+pub record PictureValue : Type 0 where
+  pub kind : ℕ
+  pub number : ℕ
+  pub lump : ℕ
+  pub flip : Bool
+  pub width : ℕ
+  pub left : ℤ
+  pub shape : ViewShape
+  pub first : ℕ
+  pub last : ℕ
+  pub masked : MaskedColumn
+  pub map : ℕ
+  pub tops : List (Option ℤ)
+  pub bottoms : List (Option ℤ)
+
 -- a strip, by its description
 pub data Strip : Type 0 where
   -- rows of a column, with a column of a texture
@@ -20,6 +37,21 @@ pub data Strip : Type 0 where
 
 unfoldable pub floor_strip_dots : Art → FloorValue → List Dot
 floor_strip_dots art s = floor_dots s.view art s.number s.lump s.plane
+
+-- how column x of a picture is drawn
+unfoldable pub picture_masked : PictureValue → ℕ → MaskedColumn
+picture_masked s x = record s.masked {
+  top_clip = unwrap_or (slice_index_or s.tops x None) s.masked.top_clip;
+  bottom_clip = unwrap_or (slice_index_or s.bottoms x None) s.masked.bottom_clip;
+}
+
+unfoldable pub column_of_picture : Art → PictureValue → ℕ → List Dot
+column_of_picture art s x =
+    posts_dots s.shape (painter_of s.kind s.number (lump_source s.lump)) x (picture_masked s x) (art.byte s.lump) (art.shade s.map)
+    (art.picture_posts s.lump (picture_column s.flip s.width s.left s.masked.iscale x))
+
+unfoldable pub picture_dots : Art → PictureValue → List Dot
+picture_dots art s = joined_lists (column_of_picture art s) (listed_from (λ x. x) s.first s.last)
 
 -- the dots of a strip, and of some strips in order
 abbrev pub strip_dots : Art → Strip → List Dot

@@ -6,6 +6,7 @@ ghost use Rattle.brush.specs.Strips.{Floor, Strip, Texture};
 ghost use Rattle.brush.specs.Values.{floor_value};
 ghost use Rattle.receiver_rules.specs.Receivers.{Receives};
 
+use picture_rules::{MaskedColumn, ViewShape};
 use texture_build::{LumpNo, TextureStrip};
 use view_frame::View;
 use visplanes::{PlaneNo, Planes};
@@ -19,6 +20,31 @@ pub struct FloorStrip<'a> {
     pub planes: &'a Planes,
     pub plane: PlaneNo,
     pub lump: LumpNo,
+}
+
+/// Columns `first` to `last` of a view of shape `shape`, with the picture of lump `lump`, `width`
+/// texels wide, whose left edge is at column `left`, which may lie outside the view.
+///
+/// `kind` and `number` are the painter's, `map` is a colormap (0 bright to 31 dark). Each column is
+/// drawn as `masked` says, but for the clips that were taken in it: `tops` and `bottoms` have those
+/// of column x at index x, None where none was taken, and none past their end.
+///
+/// The original: `vissprite_t`, r_defs.h, with mfloorclip and mceilingclip, r_things.c.
+#[derive(Clone, Copy)]
+pub struct PictureStrip<'a> {
+    pub kind: u8,
+    pub number: u16,
+    pub lump: LumpNo,
+    pub flip: bool,
+    pub width: u16,
+    pub left: i32,
+    pub shape: ViewShape,
+    pub first: u16,
+    pub last: u16,
+    pub masked: MaskedColumn,
+    pub map: u8,
+    pub tops: &'a [Option<i32>],
+    pub bottoms: &'a [Option<i32>],
 }
 
 /// Is asked for strips, one after the other. No call takes memory.

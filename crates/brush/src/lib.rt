@@ -11,9 +11,15 @@
 mod brush;
 mod dry;
 mod floors;
+mod layers;
 mod live;
+mod pictures;
+mod posts;
 
-pub use brush::{Brush, FloorStrip};
+pub use brush::{Brush, FloorStrip, PictureStrip};
 pub use dry::DryBrush;
+pub use layers::paint_picture;
 pub use live::LiveBrush;
+pub use pictures::{column_of, paint_own, picture_column};
+pub use posts::{ColumnArt, PostLook, lend_art, paint_posts};
 pub use texture_build::TextureStrip;

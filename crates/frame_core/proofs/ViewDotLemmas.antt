@@ -5,7 +5,7 @@ use Rattle.picture_rules.proofs.FrameLemmas.{in_view-append}
 use Rattle.vissprites.specs.Bounds.{lies_within}
 use Rattle.wall_columns.specs.{Built.IsDrawn, Windows.IsClipIn}
 use Rattle.wall_columns.proofs.ClipLemmas.{clip_before-in}
-use Rattle.masked_draw.proofs.PostLemmas.{post_first-low, post_last-high}
+use Rattle.brush.proofs.PostLemmas.{post_first-low, post_last-high}
 use Rattle.picture_rules.proofs.InViewLemmas.{in_view-column, in_view-joined, numbers_between, rows_between-in}
 
 -- a fragment of the view's columns, whose clips leave no row outside the view

@@ -6,7 +6,6 @@ pub mod DownLemmas
 pub mod SceneLemmas
 pub mod KeptLemmas
 pub mod EntryLemmas
-pub mod PostLemmas
 pub mod LoopLemmas
 pub mod SpriteLemmas
 pub mod MiddleLemmas

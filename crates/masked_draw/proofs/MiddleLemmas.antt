@@ -1,15 +1,15 @@
 -- Laws of the masked column of a fragment: whose bytes it has, and its dots by them.
-use Rattle.picture_rules.proofs.Common.{[], and_le_r, ap, arith, IfSome, ints, IsSome, length, List, negsuc, None, Option, option_map, pos, refl, Some, subst, sym, unsigned_abs, unwrap_or, ℕ, ℤ, ◌<◌, ◌∙◌, ◌∷◌, ◌≡◌, ◌≤ℤ◌, ◌≤◌, is_some}
-use Rattle.masked_draw.specs.Rules.{ColumnLookup, Composed, Drawseg, Empty, FragmentNote, LIGHT_LEVELS, LUMP, Lump, MIDDLE, MaskedColumn, Painter, Post, PreparedTexture, ShelfView, Single, ViewShape, ViewValue, bits_of, byte_at, drawseg_scale, joined_lists, light_number, lump_bytes, mask_of, masked_column, middle_column, middle_masked, painter_of, post_colour, post_dots, post_rows, posts, posts_dots, scale_map, seg_light, shade, single_place}
+use Rattle.picture_rules.proofs.Common.{and_le_r, ap, arith, ints, IsSome, length, List, negsuc, Option, pos, refl, Some, subst, sym, unsigned_abs, unwrap_or, ℕ, ℤ, ◌<◌, ◌∙◌, ◌≡◌, ◌≤ℤ◌, ◌≤◌, is_some}
+use Rattle.masked_draw.specs.Rules.{ColumnLookup, Composed, Drawseg, Empty, FragmentNote, LIGHT_LEVELS, LUMP, Lump, MIDDLE, MaskedColumn, Painter, PreparedTexture, Single, ViewShape, ViewValue, bits_of, byte_at, drawseg_scale, light_number, mask_of, masked_column, middle_column, middle_masked, painter_of, posts, posts_dots, scale_map, seg_light, shade, single_place}
 use Rattle.picture_rules.specs.Words.{middle_by as dots_by}
 use Rattle.picture_rules.proofs.Laws.{clamp_word-high, clamp_word-low}
-use Rattle.texture_build.specs.Zones.{Heap, Holding, IsLive, Owner, bytes_of, holding_of}
-use Rattle.texture_build.specs.{DirectoryView.DirectoryView, Caches.IsFaithful, Caches.lump_owner}
+use Rattle.texture_build.specs.Zones.{Heap, IsLive}
+use Rattle.texture_build.specs.{Caches.lump_owner}
 use Rattle.texture_build.specs.{Arts.view_art, Views.TexturesView, Views.prepared_texture}
 use Rattle.texture_build.specs.Sources.{IsColumnLive, IsColumnThere, column_in, column_index}
-use Rattle.texture_build.specs.Draws.{FitsBeside, FitBeside, HoldsArt}
-use Rattle.texture_build.proofs.BesideLemmas.{fit_beside-append, fit_beside-as, fit_beside-column_dots}
-use Rattle.texture_build.proofs.LentLemmas.{colormap_lent}
+use Rattle.texture_build.specs.Draws.{FitsBeside, FitBeside}
+use Rattle.texture_build.proofs.BesideLemmas.{fit_beside-as}
+use Rattle.brush.proofs.LendLemmas.{fit_beside-posts}
 use Rattle.pixel_strips.specs.Canvases.{CanvasView, with_dots, with_painter}
 use Rattle.pixel_strips.specs.Dotted.{HasDots}
 use Rattle.pixel_strips.proofs.DottedLemmas.{has_dots-as, has_dots-painted}
@@ -68,50 +68,6 @@ pub middle-dots : (v : ViewValue) (bytes : ℕ → List ℕ) (textures : Texture
     ≡ middle_column v (view_art bytes textures colormap) k d x
 unfolding middle_column dots_by view_art
 middle-dots v bytes textures colormap k d x lump place e = rw e refl
-
--- all dots of posts have one painter
-pub fit_beside-posts : (lumps : List Lump) (textures : TexturesView) (colormap count zone : ℕ)
-    (shape : ViewShape) (painter : Painter) (x : ℕ) (c : MaskedColumn) (byte shade_of : ℕ → ℕ)
-    (ps : List Post) → FitsBeside lumps textures colormap count zone painter →
-    FitBeside lumps textures colormap count zone (posts_dots shape painter x c byte shade_of ps)
-unfolding posts_dots joined_lists post_dots
-fit_beside-posts lumps textures colormap count zone shape painter x c byte shade_of [] fits = tt
-fit_beside-posts lumps textures colormap count zone shape painter x c byte shade_of (p ∷ ps) fits =
-    fit_beside-append lumps textures colormap count zone
-    (post_dots shape painter x c byte shade_of p)
-    (posts_dots shape painter x c byte shade_of ps)
-    (fit_beside-column_dots lumps textures colormap count zone painter x
-    (post_colour shape c byte shade_of p) (post_rows shape c p) fits)
-    (fit_beside-posts lumps textures colormap count zone shape painter x c byte shade_of ps fits)
-
--- a lump that a faithful cache lends
-pub lent_lump : (contents : List (List ℕ)) (lumps : List Lump) (z : Heap) (lump : ℕ)
-    (bytes : List ℕ) → IsFaithful contents lumps z → lump < length lumps →
-    Some bytes ≡ bytes_of (lump_owner lump) z.blocks → bytes ≡ lump_bytes contents lumps lump
-lent_lump contents lumps z lump bytes faithful there is =
-    subst (λ (x : Option (List ℕ)). IfSome x (λ xs. xs ≡ lump_bytes contents lumps lump)) (sym is)
-    (faithful.at lump there)
-
--- a block whose bytes are lent is live
-lent_live : (o : Owner) (z : Heap) (bytes : List ℕ) → bytes_of o z.blocks ≡ Some bytes → IsLive z o
-lent_live o z bytes is = go (holding_of o z.blocks) is where
-  go : (h : Option Holding) → option_map (λ (x : Holding). x.bytes) h ≡ Some bytes → IsSome h
-  go None e = cc
-  go (Some h) e = refl
-
--- so the art of a live lump is lent
-pub art-lent : {A : Type 0} {view : ShelfView} {dir : DirectoryView} {textures : TexturesView}
-    {contents : List (List ℕ)} {colormap count : ℕ} {z : Heap} (P : Type 0) (lump : ℕ)
-    (result : Option A) → HoldsArt view dir textures contents colormap count z →
-    colormap < length dir.lumps → IsLive z (lump_owner lump) → result ≡ None →
-    (IsLive z (lump_owner lump) → IsLive z (lump_owner colormap) → IsSome result) → P
-art-lent {A} {dir = dir} {contents = contents} {colormap} {z = z} P lump result hold there live none some =
-    let colormap_is_lent : IsSome result = some live (lent_live (lump_owner colormap) z
-    (lump_bytes contents dir.lumps colormap) (colormap_lent hold there)) in
-    absurd (go result none colormap_is_lent) where
-      go : (o : Option A) → o ≡ None → IsSome o → ⊥
-      go None e k = cc
-      go (Some v) e k = cc
 
 pub drawseg-middle : (s : MaskScene) (d : FragmentNote) →
     (scene_drawseg s d).middle ≡ middle_by (scene_lists s) d

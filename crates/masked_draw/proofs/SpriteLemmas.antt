@@ -11,7 +11,8 @@ use Rattle.masked_draw.specs.Passes.{DrawsSprite}
 use Rattle.masked_draw.specs.Scenes.{PaintsDots, scene_art, scene_drawseg, scene_drawsegs}
 use Rattle.masked_draw.proofs.DownLemmas.{marked-skip, step-none}
 use Rattle.masked_draw.proofs.{EntryLemmas.entry-between, LoopLemmas.PassesSprite}
-use Rattle.masked_draw.proofs.{PictureLemmas.natural_of, SceneLemmas.scene-length}
+use Rattle.masked_draw.proofs.{SceneLemmas.scene-length}
+use Rattle.brush.proofs.PictureLemmas.{natural_of}
 
 -- lists that agree over a range
 joined_range : (f g : ℕ → List Dot) (a n : ℕ) → ((x : ℕ) → a ≤ x → x < a + n → f x ≡ g x) → joined_lists f (map (λ y. y) (range_with_len a n)) ≡ joined_lists g (map (λ y. y) (range_with_len a n))

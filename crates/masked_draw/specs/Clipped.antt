@@ -1,11 +1,10 @@
 -- How far a sprite is seen by the clips that were taken, and what is painted of it and of a masked column.
-use Rattle.std.specs.Prelude.{◌≡◌, ◌<◌, ◌≤◌, ◌⊎◌, ◌+◌, ◌-◌, ◌≤ℤ◌, ◌==◌, ◌&&◌, ℕ, ℤ, pos, bit_and, int_lt, not, Bool, cond, List, length, map, ⊤, Option, Some, None, unwrap_or, slice_index_or}
-use Rattle.masked_draw.specs.Rules.{Absent, Art, Clip, Constant, Dot, Drawseg, FRAME_HEIGHT, FRAME_WIDTH, FragmentNote, MaskedColumn, Painter, Post, SIL_BOTTOM, SIL_TOP, SPRITE, Saved, SpriteEntry, ViewShape, ViewValue, byte_at, gives_bottom, gives_top, greatest_clip, joined_lists, least_clip, lump_source, minus_one, painter_of, picture_column, posts_dots, rows_between, shade, sprite_bottom, sprite_top}
+use Rattle.std.specs.Prelude.{◌≡◌, ◌<◌, ◌⊎◌, ◌+◌, ◌-◌, ◌≤ℤ◌, ◌==◌, ◌&&◌, ℕ, ℤ, pos, bit_and, int_lt, not, Bool, cond, List, length, map, ⊤, Option, Some, None, unwrap_or, slice_index_or}
+use Rattle.masked_draw.specs.Rules.{Absent, Art, Clip, Constant, Dot, Drawseg, FragmentNote, MaskedColumn, Painter, SIL_BOTTOM, SIL_TOP, SPRITE, Saved, SpriteEntry, ViewShape, ViewValue, byte_at, gives_bottom, gives_top, greatest_clip, joined_lists, least_clip, lump_source, minus_one, painter_of, picture_column, posts_dots, rows_between, shade, sprite_bottom, sprite_top}
 use Rattle.std.specs.List.{range_with_len}
-use Rattle.pixel_strips.specs.Canvases.{CanvasView, with_dots}
 use Rattle.texture_build.specs.Arts.{own_posts}
 use Rattle.masked_draw.specs.declared.clips.SpriteClips.{SpriteClips}
-use Rattle.masked_draw.specs.{declared.middles.Middle.Middle, declared.posts.ColumnArt.ColumnArt}
+use Rattle.masked_draw.specs.declared.middles.Middle.{Middle}
 use Rattle.masked_draw.specs.{declared.scene.MaskScene.MaskScene, Lists.middle_by}
 use Rattle.masked_draw.specs.Scenes.{scene_drawseg, scene_lists}
 
@@ -48,23 +47,6 @@ pub record AreRowsAt (clips : SpriteClips) (height x : ℕ) : Type 0 where
   pub greatest_top : top_at clips x ≤ℤ greatest_clip
   pub least_bottom : least_clip ≤ℤ bottom_at clips height x
   pub greatest_bottom : bottom_at clips height x ≤ℤ pos height
-
--- so do those of a masked column
-pub record HasClipsIn (height : ℕ) (c : MaskedColumn) : Type 0 where
-  pub least_top : minus_one ≤ℤ c.top_clip
-  pub greatest_top : c.top_clip ≤ℤ greatest_clip
-  pub least_bottom : least_clip ≤ℤ c.bottom_clip
-  pub greatest_bottom : c.bottom_clip ≤ℤ pos height
-
--- column x of a view of that shape lies in the frame where the canvas has it
-abbrev pub IsColumnInFrame : CanvasView → ViewShape → ℕ → Type 0
-IsColumnInFrame canvas shape x = (x + canvas.left < FRAME_WIDTH) × (canvas.top + shape.height ≤ FRAME_HEIGHT)
-
--- a canvas is given the pixels of these posts in column x, by that art
-abbrev pub PaintsPosts : (Painter → ℕ → ℕ) → ViewShape → ℕ → MaskedColumn → ColumnArt → List Post → CanvasView →
-    CanvasView → Type 0
-PaintsPosts mark shape x c art posts old new = new ≡ with_dots mark
-    (posts_dots shape old.painter x c (byte_at art.bytes.now) (shade art.colormap.now art.map) posts) old
 
 -- they are the sprite's among these fragments, in column x
 pub record AreSpriteRows (s : MaskScene) (ds : List Drawseg) (e : SpriteEntry) (clips : SpriteClips) (x : ℕ) : Type 0 where

@@ -3,21 +3,17 @@
 //! Rules: `picture_rules/sprite`, Drawsegs, Clips, Sprites and Middles; `pixel_rules`, Posts; how a note is
 //! a drawn fragment in this crate's Lists. Proved: a canvas is given exactly the pixels of the
 //! sprites in drawing order, each after the masked columns behind it, and at last those that are
-//! left; and `paint_own` the pixels of one column of a picture, whoever draws it. No call takes memory.
+//! left. No call takes memory.
 //! The original: r_things.c, and R_RenderMaskedSegRange of r_segs.c.
 #![tactic(auto)]
 
 mod clips;
 mod middles;
 mod pass;
-mod pictures;
-mod posts;
 mod scene;
 mod sprites;
 mod tools;
 
 pub use pass::draw_masked;
 pub use picture_rules::{Clip, FragmentNote};
-pub use pictures::{paint_own, picture_column};
-pub use posts::{ColumnArt, lend_art};
 pub use tools::MaskedTools;

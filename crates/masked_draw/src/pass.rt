@@ -18,11 +18,11 @@ ghost use Rattle.masked_draw.specs.Tools.{AreSameMaskTools, masked_state, masked
 
 use crate::clips::{SpriteClips, is_behind};
 use crate::middles::paint_middle;
-use crate::pictures::column_of;
 use crate::scene::{MaskHands, MaskScene};
 use crate::sprites::paint_sprite;
 use crate::tools::MaskedTools;
 use art_rules::Shelf;
+use brush::column_of;
 use picture_rules::{FragmentNote, SpriteEntry};
 use pixel_strips::Canvas;
 use texture_build::CacheFault;

@@ -1,5 +1,5 @@
 -- What may be taken from what drawing planes asks.
-use Rattle.picture_rules.proofs.Common.{All, All-get_or, and_from, ap, arith, IfSome, le-leb, length, nat_le, Option, Some, subst, sym, true, ℕ, ◌<◌, ◌∙◌, ◌≡◌, ◌≤◌}
+use Rattle.picture_rules.proofs.Common.{All-get_or, and_from, ap, arith, IfSome, le-leb, length, nat_le, Option, Some, subst, sym, true, ℕ, ◌<◌, ◌∙◌, ◌≡◌, ◌≤◌}
 use Rattle.plane_draw.specs.Rules.{Plane, ViewShape, column, holds, holds_row}
 use Rattle.picture_rules.specs.declared.plane.Flat4.TheVariants as flat
 use Rattle.visplanes.specs.{Planes.no_plane, Planes.plane_at, Spans.IsSeen}

@@ -1,12 +1,12 @@
 -- The dots of the strips of planes are those of the planes.
-use Rattle.picture_rules.proofs.Common.{[], ap, append-nil, arith, Bool, cond, false, IfSome, IsSome, length, List, map, nat_lt, nat_tests, None, Option, range_with_len, refl, Some, subst, suc, sym, true, ℕ, ℤ, ◌++◌, ◌+◌, ◌<◌, ◌∙◌, ◌∷◌, ◌≡◌}
+use Rattle.picture_rules.proofs.Common.{[], ap, append-nil, arith, Bool, cond, false, IfSome, IsSome, length, List, map, nat_lt, nat_tests, None, Option, range_with_len, refl, Some, suc, sym, true, ℕ, ◌++◌, ◌+◌, ◌<◌, ◌∙◌, ◌∷◌, ◌≡◌}
 use Rattle.plane_draw.specs.Rules.{Art, Dot, Flat4, Painter, Plane, SKY, Scene, ViewValue, column, column_dots, floor_colour, floor_dots, joined_lists, listed, painter_of, plane_dots, plane_dots_by, planes_dots, planes_from, run_dots, sky_colour, sky_column, sky_dots}
-use Rattle.picture_rules.proofs.Laws.{column_dots-none, joined_lists-one, listed_from-none}
+use Rattle.picture_rules.proofs.Laws.{column_dots-none, listed_from-none}
 use Rattle.picture_rules.specs.declared.plane.Flat4.TheVariants as flat
 use Rattle.visplanes.specs.Planes.{plane_at}
 use Rattle.texture_build.specs.{Strips.texture_colour, Strips.texture_dots, TexNo.TexNo}
 use Rattle.receiver_rules.proofs.FirstLemmas.{first_lists, first-same, joined-joined}
-use Rattle.brush.specs.Strips.{Floor, Strip, Texture, floor_strip_dots, strip_dots, strips_dots}
+use Rattle.brush.specs.Strips.{Floor, Texture, floor_strip_dots, strip_dots, strips_dots}
 use Rattle.plane_draw.specs.Planes.{HasFlat}
 use Rattle.plane_draw.specs.Strips.{floor_strips, is_marked, plane_strips, plane_strips_by, planes_strips, run_strips, sky_strip, sky_strips}
 use Rattle.plane_draw.proofs.{MarkLemmas.unmarked-none, StripLemmas.floor_of}

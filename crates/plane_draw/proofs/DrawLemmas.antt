@@ -1,21 +1,20 @@
 -- A brush that is asked for the strips of planes draws them.
-use Rattle.picture_rules.proofs.Common.{ap, arith, Contains, Contains-get_or, IfSome, inl, inr, IsSome, length, List, Option, refl, Result, Some, subst, sym, ℕ, ℤ, ◌<◌, ◌∙◌, ◌≡◌}
-use Rattle.plane_draw.specs.Rules.{Art, Painter, Plane, Scene, ViewValue, column, planes_dots, sky_column}
+use Rattle.picture_rules.proofs.Common.{ap, arith, Contains, Contains-get_or, IfSome, inl, inr, IsSome, length, List, Option, refl, Result, subst, sym, ℕ, ℤ, ◌<◌, ◌∙◌, ◌≡◌}
+use Rattle.plane_draw.specs.Rules.{Painter, Plane, ViewValue, planes_dots}
 use Rattle.picture_rules.specs.declared.plane.Flat4.TheVariants as flat
 use Rattle.visplanes.specs.{Planes.no_plane, Planes.plane_at}
 use Rattle.texture_build.specs.{CacheFault.CacheFault, Caches.cache_fault, TexNo.TexNo}
-use Rattle.texture_build.specs.Paints.{PaintState, Paints, painted_art}
+use Rattle.texture_build.specs.Paints.{PaintState, Paints}
 use Rattle.texture_build.proofs.PaintLemmas.{paints-asked, paints-same, paints-wider}
-use Rattle.receiver_rules.proofs.FirstLemmas.{IsInFirst}
-use Rattle.brush.specs.Strips.{Floor, IsColumnOf, IsLumpOf, ShowsColumn, ShowsLump, Strip, Texture, strips_dots}
+use Rattle.brush.specs.Strips.{IsColumnOf, IsLumpOf, ShowsColumn, ShowsLump, Strip}
 use Rattle.brush.specs.Works.{BrushNames, BrushValue, CanTake, HasSlots, PaintsStrips}
 use Rattle.plane_draw.specs.declared.scene.PlaneScene.{PlaneScene}
-use Rattle.plane_draw.specs.Planes.{IsFlatOf, IsSkyColumn, ShowsSkyAt}
-use Rattle.plane_draw.specs.Scenes.{CanDrawPlanes, HasSky, plane_art, plane_tools, with_art}
-use Rattle.plane_draw.specs.Strips.{plane_strips, planes_strips, sky_strip}
+use Rattle.plane_draw.specs.Planes.{IsFlatOf, IsSkyColumn}
+use Rattle.plane_draw.specs.Scenes.{CanDrawPlanes, HasSky, plane_tools, with_art}
+use Rattle.plane_draw.specs.Strips.{planes_strips, sky_strip}
 use Rattle.plane_draw.proofs.CanLemmas.{flat-there, plane-can, seen-last, sky-can}
 use Rattle.plane_draw.proofs.DotLemmas.{planes-dots}
-use Rattle.plane_draw.proofs.StripLemmas.{IsFloorOf, IsSkyRows, floor_of, plane-cases, planes-cases}
+use Rattle.plane_draw.proofs.StripLemmas.{IsFloorOf, IsSkyRows, plane-cases, planes-cases}
 
 -- a brush with the tools of a scene
 abbrev brush_of : PlaneScene → PaintState → BrushNames → BrushValue

@@ -3,7 +3,8 @@ use Rattle.masked_draw.specs.Rules.{LIGHT_LEVELS, MIDDLE, lump_bytes, scale_map}
 use Rattle.texture_build.proofs.{StaticLemmas.rest_static, LentLemmas.fits-lump}
 use Rattle.texture_build.specs.Views.{prepared_texture}
 use Rattle.masked_draw.specs.{Ready.IsSingle, Scenes.scene_drawseg}
-use Rattle.masked_draw.proofs.MiddleLemmas.{art-lent, lent_lump, middle-draw, middle-fits, middle-light, middle-painted, read-live, single-column}
+use Rattle.masked_draw.proofs.MiddleLemmas.{middle-draw, middle-fits, middle-light, middle-painted, read-live, single-column}
+use Rattle.brush.proofs.LendLemmas.{art-lent, lent_lump}
 use Rattle.masked_draw.proofs.middles.paint_ready.Goals as goal
 
 pub posts_place-place-requires-clause-single : goal.posts_place-place-requires-clause-single
@@ -68,8 +69,8 @@ returns-in_default g c =
       cache = search rules;
       shelf = search rules;
       painted = λ view contents count hold.
-          art-lent _ _ c.lend_art.result hold c.requires.note.paint.colormap read.live c.in_default.is c.lend_art.ensures.live;
+          art-lent _ _ c.lend_art.result hold.rest read.live c.in_default.is c.lend_art.ensures.live;
       fits = λ view contents count hold.
-          art-lent _ _ c.lend_art.result hold c.requires.note.paint.colormap read.live c.in_default.is c.lend_art.ensures.live;
+          art-lent _ _ c.lend_art.result hold.rest read.live c.in_default.is c.lend_art.ensures.live;
       place = search rules;
     }

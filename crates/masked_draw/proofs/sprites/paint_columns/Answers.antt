@@ -1,8 +1,10 @@
 -- One column after the other: that of the picture that is seen at each column of the view.
 use Rattle.picture_rules.proofs.Common.{w32, sym, ◌∙◌, subst, rules, arith, to_z-of_z}
 use Rattle.picture_rules.specs.Words.{picture_column}
-use Rattle.masked_draw.specs.Clipped.{HasClipsIn, clipped_masked}
-use Rattle.masked_draw.proofs.PictureLemmas.{column-own, columns-more, columns-none, same_words}
+use Rattle.masked_draw.specs.Clipped.{clipped_masked}
+use Rattle.brush.specs.Posts.{HasClipsIn}
+use Rattle.masked_draw.proofs.PictureLemmas.{column-own, columns-more, columns-none}
+use Rattle.brush.proofs.PictureLemmas.{same_words}
 use Rattle.masked_draw.proofs.sprites.paint_columns.Goals as goal
 
 pub loop-x-init : goal.loop-x-init

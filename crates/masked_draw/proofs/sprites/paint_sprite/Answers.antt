@@ -4,7 +4,7 @@ use Rattle.masked_draw.specs.Rules.{SPRITE, lump_bytes, lump_source}
 use Rattle.texture_build.proofs.{LentLemmas.fits-lump, LiveLemmas.draws-fetch}
 use Rattle.texture_build.proofs.PaintLemmas.{paints-live, paints-missed}
 use Rattle.texture_build.proofs.StaticLemmas.{rest_static}
-use Rattle.masked_draw.proofs.MiddleLemmas.{art-lent, lent_lump}
+use Rattle.brush.proofs.LendLemmas.{art-lent, lent_lump}
 use Rattle.masked_draw.proofs.PictureLemmas.{fit-columns, picture-painted}
 use Rattle.masked_draw.proofs.sprites.paint_sprite.Goals as goal
 
@@ -16,8 +16,8 @@ returns-in_err-fetch-clause-paints g c =
 pub returns-in_default-clause-paints : goal.returns-in_default-clause-paints
 returns-in_default-clause-paints g c =
     paints-live tt (draws-fetch c.args.entry.now.lump c.requires.lump c.in_ok-fetch.ensures.fetches)
-    (λ view contents count q hold is. art-lent _ _ c.lend_art.result hold c.requires.ready.colormap c.in_ok-fetch.ensures.live c.in_default.is c.lend_art.ensures.live)
-    (λ view contents count q hold is. art-lent _ _ c.lend_art.result hold c.requires.ready.colormap c.in_ok-fetch.ensures.live c.in_default.is c.lend_art.ensures.live)
+    (λ view contents count q hold is. art-lent _ _ c.lend_art.result hold.rest c.in_ok-fetch.ensures.live c.in_default.is c.lend_art.ensures.live)
+    (λ view contents count q hold is. art-lent _ _ c.lend_art.result hold.rest c.in_ok-fetch.ensures.live c.in_default.is c.lend_art.ensures.live)
     (search rules) refl refl
 
 pub returns-clause-paints : goal.returns-clause-paints

@@ -1,7 +1,7 @@
 use Rattle.picture_rules.proofs.Common.{◌<ℤ◌, pos, rules, arith, to_z-of_z}
 use Rattle.picture_rules.specs.Words.{post_last}
-use Rattle.masked_draw.proofs.PostLemmas.{post_last-high}
-use Rattle.masked_draw.proofs.posts.last_row.Goals as goal
+use Rattle.brush.proofs.PostLemmas.{post_last-high}
+use Rattle.brush.proofs.posts.last_row.Goals as goal
 
 pub returns-clause-to : goal.returns-clause-to
 unfolding post_last

@@ -1,6 +1,6 @@
 // The columns of a picture: rules `picture_rules/sprite`, Sprites; `texture_build`, Arts.
-ghost use Rattle.masked_draw.specs.Rules.{half_at, picture_column};
-ghost use Rattle.masked_draw.specs.Clipped.{HasClipsIn, IsColumnInFrame, PaintsPosts};
+ghost use Rattle.brush.specs.Rules.{half_at, picture_column};
+ghost use Rattle.brush.specs.Posts.{HasClipsIn, IsColumnInFrame, PaintsPosts};
 ghost use Rattle.std.specs.Prelude.{◌≡◌, ◌^◌, ◌≤ℤ◌, ◌<ℤ◌, ◌&&◌, pos, true, int_le, int_lt};
 ghost use Rattle.texture_build.specs.Arts.{own_posts};
 

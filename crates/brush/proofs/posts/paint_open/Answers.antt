@@ -1,7 +1,7 @@
 use Rattle.std.proofs.Common.{◌≤◌, ◌<◌, length, sym, refl, ◌∙◌, arith}
 use Rattle.art_rules.specs.Words.{next_place}
-use Rattle.masked_draw.proofs.PostLemmas.{is_post-past, left-end, left-more, next_place-from, post_at-none, post_at-some}
-use Rattle.masked_draw.proofs.posts.paint_open.Goals as goal
+use Rattle.brush.proofs.PostLemmas.{is_post-past, left-end, left-more, next_place-from, post_at-none, post_at-some}
+use Rattle.brush.proofs.posts.paint_open.Goals as goal
 
 pub returns-in_default : goal.returns-in_default
 returns-in_default g c =

@@ -1,7 +1,7 @@
 use Rattle.std.proofs.Common.{arith}
-use Rattle.masked_draw.specs.Rules.{byte_at, posts, shade}
-use Rattle.masked_draw.proofs.PostLemmas.{shut-dots}
-use Rattle.masked_draw.proofs.posts.paint_posts.Goals as goal
+use Rattle.brush.specs.Rules.{byte_at, posts, shade}
+use Rattle.brush.proofs.PostLemmas.{shut-dots}
+use Rattle.brush.proofs.posts.paint_posts.Goals as goal
 
 pub returns-else-is_open : goal.returns-else-is_open
 returns-else-is_open g c =

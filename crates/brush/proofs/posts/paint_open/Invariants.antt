@@ -1,6 +1,6 @@
 use Rattle.std.proofs.Common.{◌-◌, length}
-use Rattle.masked_draw.proofs.PostLemmas.{ArePostsLeft}
-use Rattle.masked_draw.proofs.posts.paint_open.Given as goal
+use Rattle.brush.proofs.PostLemmas.{ArePostsLeft}
+use Rattle.brush.proofs.posts.paint_open.Given as goal
 
 -- what is left to paint on what was painted is the whole
 abbrev pub invariant-loop-place : goal.invariant-loop-place

@@ -1,7 +1,7 @@
 use Rattle.picture_rules.proofs.Common.{◌≤ℤ◌, pos, rules, to_z-of_z}
 use Rattle.picture_rules.specs.Words.{post_first}
-use Rattle.masked_draw.proofs.PostLemmas.{post_first-low}
-use Rattle.masked_draw.proofs.posts.first_row.Goals as goal
+use Rattle.brush.proofs.PostLemmas.{post_first-low}
+use Rattle.brush.proofs.posts.first_row.Goals as goal
 
 pub returns-clause-from : goal.returns-clause-from
 unfolding post_first

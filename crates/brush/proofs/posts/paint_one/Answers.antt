@@ -1,9 +1,9 @@
 use Rattle.picture_rules.proofs.Common.{ap, arith, false, int_lt, ints, List, nat_abs, pos, rules, subst, sym, true, ℕ, ℤ, ◌<ℤ◌, ◌∙◌, ◌≡◌, ◌≤ℤ◌, to_z-of_z}
-use Rattle.masked_draw.specs.Rules.{Dot, MaskedColumn, Painter, Post, ViewShape, byte_at, fixed, minus, picture_top, plus, post_bottom, post_first, post_last, post_top, row_fraction, shade, times}
+use Rattle.brush.specs.Rules.{Dot, MaskedColumn, Painter, Post, ViewShape, byte_at, fixed, minus, picture_top, plus, post_bottom, post_first, post_last, post_top, row_fraction, shade, times}
 use Rattle.pixel_strips.specs.{Canvases.with_dots, Strips.column_strip_dots, Strips.strip_colour}
 use Rattle.pixel_strips.proofs.CanvasLemmas.{dots_none}
-use Rattle.masked_draw.proofs.PostLemmas.{post-none, post-strip}
-use Rattle.masked_draw.proofs.posts.paint_one.Goals as goal
+use Rattle.brush.proofs.PostLemmas.{post-none, post-strip}
+use Rattle.brush.proofs.posts.paint_one.Goals as goal
 
 -- a row by its number, and the order of two
 by_number : (n : ℕ) (z : ℤ) → n ≡ nat_abs z → pos 0 ≤ℤ z → pos n ≡ z

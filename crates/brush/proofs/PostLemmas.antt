@@ -1,13 +1,13 @@
 -- Laws of the posts of a masked column: which rows they have, and their dots one post after the other.
 use Rattle.picture_rules.proofs.Common.{[], ap, arith, Bool, cases_lt, false, FitsSigned, get_or_past, if◌then◌else◌, inl, inr, int_lt, int_wrap_fits, ints, length, List, min, negsuc, None, pos, refl, slice_index, Some, subst, sym, true, w32, ℕ, ℤ, ◌++◌, ◌+ℤ◌, ◌+◌, ◌-ℤ◌, ◌<ℤ◌, ◌<◌, ◌^◌, ◌∙◌, ◌∷◌, ◌≡◌, ◌≤ℤ◌, ◌≤◌, ◌⊎◌}
-use Rattle.masked_draw.specs.Rules.{Dot, FRACTION_BITS, MAX_FRACTION, MaskedColumn, Painter, Post, ViewShape, byte_at, column_dots, fixed, greater_word, greatest_clip, is_post, joined_lists, least_clip, lesser_word, listed_from, minus, minus_one, next_place, picture_top, plus, post_at, post_bottom, post_colour, post_dots, post_first, post_in, post_last, post_rows, post_texel, post_top, posts, posts_dots, row_fraction, rows_between, shade, shr_word, texel_row}
+use Rattle.brush.specs.Rules.{Dot, FRACTION_BITS, MAX_FRACTION, MaskedColumn, Painter, Post, ViewShape, byte_at, column_dots, fixed, greater_word, greatest_clip, is_post, joined_lists, least_clip, lesser_word, listed_from, minus, minus_one, next_place, picture_top, plus, post_at, post_bottom, post_colour, post_dots, post_first, post_in, post_last, post_rows, post_texel, post_top, posts, posts_dots, row_fraction, rows_between, shade, shr_word, texel_row}
 use Rattle.picture_rules.proofs.Laws.{greater_word-first, joined_lists-cons, lesser_word-first}
 use Rattle.art_rules.proofs.PostLemmas.{is_post-within, posts-none, posts-some}
 use Rattle.pixel_strips.specs.Canvases.{CanvasView, with_dots}
 use Rattle.pixel_strips.specs.Strips.{column_strip_dots, strip_colour}
 use Rattle.pixel_strips.proofs.CanvasLemmas.{dots_none, with_dots-append}
 use Rattle.pixel_strips.proofs.RowLemmas.{row_shade, rows-between, strip-rows}
-use Rattle.masked_draw.specs.Clipped.{HasClipsIn}
+use Rattle.brush.specs.Posts.{HasClipsIn}
 
 -- what lies between two words is a word
 fits_between : (z : ℤ) → negsuc 2147483647 ≤ℤ z → z ≤ℤ pos 2147483647 → FitsSigned w32 z

@@ -1,8 +1,8 @@
 -- A column that the picture has, and one that it has not.
 use Rattle.picture_rules.proofs.Common.{false, int_le, int_lt, pos, rules, subst, sym, true, w32, ℤ, ◌&&◌, ◌∙◌, ◌≡◌, to_z-of_z}
-use Rattle.masked_draw.specs.Rules.{half_at, shade}
-use Rattle.masked_draw.proofs.PictureLemmas.{own-inside, own-outside}
-use Rattle.masked_draw.proofs.pictures.paint_own.Goals as goal
+use Rattle.brush.specs.Rules.{half_at, shade}
+use Rattle.brush.proofs.PictureLemmas.{own-inside, own-outside}
+use Rattle.brush.proofs.pictures.paint_own.Goals as goal
 
 pub returns-then-is_in_picture : goal.returns-then-is_in_picture
 returns-then-is_in_picture g c =
