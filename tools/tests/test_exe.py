@@ -38,8 +38,7 @@ class Exe(unittest.TestCase):
 
     def exe(self, *words):
         """Status and outputs of doomview.exe."""
-        done = subprocess.run([check.wine(), os.path.abspath(EXE), *words], cwd=self.folder, env=self.there.env,
-                              stdin=subprocess.DEVNULL, capture_output=True)
+        done = self.there.run([os.path.abspath(EXE), *words], self.folder)
         return done.returncode, done.stdout, first_line(done.stderr)
 
     def command(self, *words):

@@ -5,10 +5,11 @@ import re
 import shutil
 import subprocess
 import unittest
+from unittest import mock
 
 from made_files import TOOLS, TOP, Tools
 from doomview_tools.trouble import Trouble
-from systems import ir, kit, module, page, static, targets
+from systems import check, ir, kit, module, page, static, targets
 
 # A module with a line of each kind that is changed, and code that is not.
 MODULE = '''; ModuleID = 'module.bc'
@@ -238,6 +239,62 @@ class Gate(Tools):
                 (0, 1, 0, 1, all_three[:2]), (1, 0, 0, 1, all_three[:1])]:
             self.answers(proved, checked, tried)
             self.assertEqual(self.run_gate(), (status, called))
+
+
+class Starts(Tools):
+    """Starts of Wine, of which one may be lost, by stand-ins."""
+
+    def setUp(self):
+        super().setUp()
+        environ = mock.patch.dict(os.environ, PATH=self.bin)
+        environ.start()
+        self.addCleanup(environ.stop)
+        check.layout.cache_clear()
+        self.addCleanup(check.layout.cache_clear)
+        self.stand_in('bin/wineserver', '#!/bin/sh\n')
+        self.stand_in('bin/true', '#!/bin/sh\n')
+
+    def wine(self, first):
+        """Wine of which the first start of a program does this, and the others write what they were given."""
+        self.stand_in('bin/wine', '#!/bin/sh\n[ "$1" != cmd ] || exit 0\necho start >>starts\n'
+                      f'[ "$(cat starts)" != start ] || {{ {first}; }}\necho "$@"\n')
+
+    def runs(self, first):
+        """How a run ends, and how often it was started."""
+        self.wine(first)
+        self.write('starts', b'')
+        with check.Wine() as there:
+            done = there.run(['doomview.exe', 'render'], self.folder)
+            self.assertIn('err+virtual', there.env['WINEDEBUG'])
+        return done.returncode, done.stdout, done.stderr, self.read('starts').count('start')
+
+    def test_once_more(self):
+        """Without the words of layout a run that ended with 1 and no byte is made once more, and no other one."""
+        self.wine(':')
+        self.assertEqual(check.start(), [self.at('bin/wine')])
+        whole = b'doomview.exe render\n'
+        lost = 'echo 0024:err:virtual:virtual_init failed to map the shared user data >&2'
+        for first, ended in [('exit 1', (0, whole, b'', 2)), (f'{lost}; exit 1', (0, whole, b'', 2)), (':', (0, whole, b'', 1)),
+                             ('echo doomview: usage >&2; exit 1', (1, b'', b'doomview: usage\n', 1)),
+                             ('echo a; exit 1', (1, b'a\n', b'', 1)), ('exit 2', (2, b'', b'', 1))]:
+            self.assertEqual(self.runs(first), ended, first)
+
+    def test_layout(self):
+        """Where setarch works Wine is started by it, and each run counts."""
+        self.stand_in('bin/setarch', '#!/bin/sh\n[ "$1" = -R ] && shift && exec "$@"\n')
+        self.assertEqual(self.runs('exit 1'), (1, b'', b'', 1))
+        self.assertEqual(check.start(), ['setarch', '-R', self.at('bin/wine')])
+        with check.Wine() as there:
+            self.assertIn(f' exec setarch -R {self.at("bin/wine")} ', self.text_of(there.command(b'')))
+
+    def test_no_layout(self):
+        """setarch may be there, and be refused by the system."""
+        self.stand_in('bin/setarch', '#!/bin/sh\nexit 1\n')
+        self.assertEqual(self.runs('exit 1')[3], 2)
+
+    def text_of(self, path):
+        with open(path, encoding='utf-8') as file:
+            return file.read()
 
 
 class Static(unittest.TestCase):
