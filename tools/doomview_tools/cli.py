@@ -22,6 +22,7 @@ HELP = {'--help', '-h'}
 WAD = 'a WAD, found as ports find it (see doomview --help)'
 MINUS_ROW = re.compile(r'-[\d.]+,')  # the beginning of a row that would be taken for an option
 PYTHON = 'Python alone'
+BUILT = 'the program; it is built at the first call'  # what a job needs
 JOB_OPTION = 'job '  # before the names of options that are handed on
 
 
@@ -205,17 +206,17 @@ def add_help(parser: argparse.ArgumentParser) -> None:
     parser.add_argument('--help', '-h', action='help', help='prints this page')
 
 
-def job_page(job: jobs.Job) -> str:
-    """The help page of a job, by the table of options."""
-    ends = '\n'.join(f'{number:2}  {": ".join(filter(None, status))}' for number, status in jobs.STATUSES.items())
-    parser = Parser(Page(job.name, job.summary, job.text, job.examples, 'the program; it is built at the first call',
-                         ends))
+def job_page(job: jobs.Job, needs: str = BUILT, without: typing.Container[object] = ()) -> str:
+    """The help page of a job, by the table of options: what it needs, and without some statuses or own options."""
+    ends = '\n'.join(f'{number:2}  {": ".join(filter(None, status))}' for number, status in jobs.STATUSES.items()
+                     if number not in without)
+    parser = Parser(Page(job.name, job.summary, job.text, job.examples, needs, ends))
     for metavar, meaning in job.words:
         parser.add_argument(metavar, metavar=metavar, help=meaning)
     for option in jobs.options_of(job.name):
         parser.add_argument(option.name, metavar=option.value, help=meaning_of(option),
                             required=option.is_needed and not option.default)
-    for own in jobs.OWN_OPTIONS:
+    for own in [own for own in jobs.OWN_OPTIONS if own.name not in without]:
         if own.jobs in ('all', job.name) and own.value:
             parser.add_argument(own.name, metavar=own.value, help=own.meaning)
         elif own.jobs in ('all', job.name):
