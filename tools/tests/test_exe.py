@@ -15,7 +15,7 @@ import unittest
 from unittest import mock
 
 from made_files import COMMAND, pixels_of
-from doomview_tools import command, explanations, jobs, levels, paths, program, wads
+from doomview_tools import command, explanations, jobs, levels, paths, program, refusals, wads
 from systems import built_in, check, targets
 
 EXE, TESTED = os.environ.get('DOOMVIEW_EXE', ''), os.environ.get('DOOMVIEW_TESTED', '')
@@ -270,8 +270,15 @@ class Sentences(Exe):
             line, found, known = self.same(case.arguments())
             self.assertEqual(line, case.expected.line)
             self.assertRegex(found[0], f'^(.* in UTF-16|.* semicolons|{code}: )')
-            left = [sentence for sentence in known if sentence not in found and not re.search(MORE, sentence)]
-            self.assertEqual([sentence for sentence in left if not re.match(r'(line|sector|thing|side) \d', sentence)], [], case.words)
+            of_all = self.of_all(int(code), case.arguments()) if int(code) in refusals.CHECKS else []
+            left = [sentence for sentence in known if sentence not in [*found, *of_all] and not re.search(MORE, sentence)]
+            self.assertEqual(left, [], case.words)
+
+    def of_all(self, code, words):
+        """The sentences on all of a map that is refused for a code."""
+        with mock.patch.dict(os.environ, DOOMVIEW=TESTED):
+            scene = refusals.Scene(jobs.Words(program.complete(words)))
+        return list(refusals.all_wrong(scene, code))
 
     def test_usage(self):
         """What is wrong with words, of each kind; a guess at what is meant is explain's alone."""

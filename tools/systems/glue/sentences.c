@@ -14,7 +14,7 @@ struct refused {
     const struct words *words;
     struct scene scene;
     int code, count;
-    unsigned numbers[MOST_NUMBERS];
+    uint64_t numbers[MOST_NUMBERS];
 };
 
 static const char *place_of(const struct scene *scene, int lump) { return scene->wads[scene->lumps[lump].wad]; }
@@ -94,8 +94,8 @@ static void put_part(const struct refused *one, const char *part, int length) {
     const struct scene *scene = &one->scene;
     unsigned number = one->numbers[0];
 #define IS(name) (length == sizeof name - 1 && !memcmp(part, name, length))
-    if (IS("number")) put("%u", number);
-    if (IS("second")) put("%u", one->numbers[1]);
+    if (IS("number")) put("%I64u", one->numbers[0]);
+    if (IS("second")) put("%I64u", one->numbers[1]);
     if (IS("wad") && number < (unsigned)scene->wad_count) put("%s", scene->wads[number]);
     if (IS("map lump") && number < MAP_LUMP_COUNT) put("%s", map_lumps[number]);
     if (IS("field")) put_field(one);
@@ -140,7 +140,7 @@ static int is_of_row(int code) {
 static void put_row(const struct refused *one) {
     int kind = one->code % 100, group = one->code / 100, line;
     const char *path = value_of(one->words, table_options[group]);
-    put(": row %u under the header of %s", one->numbers[0], table_options[group]);
+    put(": row %I64u under the header of %s", one->numbers[0], table_options[group]);
     for (int i = 0; i < column_count && (kind == 4 || kind == 5); i++)
         if (columns[i].group == group && columns[i].number == (int)one->numbers[1]) put(", %s (%s)", columns[i].name, columns[i].what);
     struct bytes table = path && kind <= 6 ? bytes_of(path) : (struct bytes){0};
@@ -218,7 +218,7 @@ void put_no_map(const struct scene *scene) {
 }
 
 static void put_numbers(const struct refused *one) {
-    for (int i = 0; i < one->count; i++) put(i ? " %u" : ": %u", one->numbers[i]);
+    for (int i = 0; i < one->count; i++) put(i ? " %I64u" : ": %I64u", one->numbers[i]);
 }
 
 static void say_refusal(const struct refused *one, const struct refusal *known) {
@@ -238,7 +238,7 @@ static void say_refused(const struct words *words, const char *numbers) {
     struct refused one = {.words = words, .scene = scene_of(words)};
     char *end;
     one.code = strtol(numbers, &end, 10);
-    while (*end == ' ' && one.count < MOST_NUMBERS) one.numbers[one.count++] = strtoul(end, &end, 10);
+    while (*end == ' ' && one.count < MOST_NUMBERS) one.numbers[one.count++] = _strtoui64(end, &end, 10);
     if (one.code == NO_MAP && one.scene.lump_count && one.scene.label < 0) {
         put("%d: ", one.code), put_no_map(&one.scene), put("."), end_sentence("explain: ");
         return;
