@@ -2,7 +2,8 @@
 import os
 import sys
 
-sys.path[0] = os.path.dirname(os.path.dirname(os.path.abspath(__file__)))
+HERE = os.path.dirname(os.path.abspath(__file__))
+sys.path[:] = [os.path.dirname(HERE), *(path for path in sys.path if path != HERE)]  # the first may be that of Python's own
 from doomview_tools.command import main  # noqa: E402
 
 sys.exit(main(sys.argv[1:]))

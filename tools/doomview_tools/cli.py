@@ -1,8 +1,10 @@
 """What the tools of doomview share on the command line: their words, their help pages, and how they end.
 
 A tool is a module of `commands` with a PAGE, a function `add_words(parser)` and a function `run(options)`, which gives
-the status of the tool, or None for 0."""
+the status of the tool, or None for 0. Words that name files have a type that says so (Wad, Source, Output, Folder), so
+that no tool writes over what it reads."""
 import argparse
+import os
 import re
 import shutil
 import sys
@@ -10,7 +12,8 @@ import textwrap
 import types
 import typing
 
-from . import jobs, levels, wads
+from . import jobs, levels, program, wads
+from .files import Output, Source, check_outputs
 from .trouble import Trouble
 
 MOST_COLUMNS = 100
@@ -19,7 +22,12 @@ HELP = {'--help', '-h'}
 WAD = 'a WAD, found as ports find it (see doomview --help)'
 MINUS_ROW = re.compile(r'-[\d.]+,')  # the beginning of a row that would be taken for an option
 PYTHON = 'Python alone'
+BUILT = 'the program; it is built at the first call'  # what a job needs
 JOB_OPTION = 'job '  # before the names of options that are handed on
+
+
+class Wad(Source):
+    """The name of a WAD, which is found as ports find it."""
 
 
 class Page(typing.NamedTuple):
@@ -49,12 +57,13 @@ class Formatter(argparse.RawDescriptionHelpFormatter):
 
 class Argument(typing.NamedTuple):
     """A word or an option of a tool: the names of an option, none of a plain word; its value as a help page has it; how
-    many values there are, as argparse says it; and whether it has to be there."""
+    many values there are, as argparse says it; whether it has to be there; and the type of its values."""
 
     names: typing.Sequence[str]
     value: str
     many: typing.Union[int, str, None]
     is_needed: bool
+    type: typing.Any
 
     @property
     def form(self) -> str:
@@ -76,7 +85,8 @@ class Parser(argparse.ArgumentParser):
 
     def add_argument(self, *names: str, **more: typing.Any) -> argparse.Action:
         action = (self.options if names[0].startswith('-') else self.plain).add_argument(*names, **more)
-        self.arguments.append(Argument(action.option_strings, str(action.metavar or ''), action.nargs, action.required))
+        self.arguments.append(Argument(action.option_strings, str(action.metavar or ''), action.nargs, action.required,
+                                       action.type))
         return action
 
     def error(self, message: str) -> typing.NoReturn:
@@ -124,20 +134,20 @@ def last_parts(page: Page) -> str:
 
 
 def add_output(parser: argparse.ArgumentParser, what: str) -> None:
-    parser.add_argument('-o', dest='output', metavar='FILE',
+    parser.add_argument('-o', dest='output', metavar='FILE', type=Output,
                         help=f'writes {what} to FILE, whole or not at all, and not to the standard output')
 
 
 def add_base(parser: argparse.ArgumentParser) -> None:
-    parser.add_argument('--iwad', metavar='WAD', help='the WAD that a PWAD needs, read before it; else that of the '
-                        'variable IWAD')
-    parser.add_argument('--file', metavar='WAD', action='append', default=[], help='a WAD more, such as one with '
-                        'textures; as often as wanted, read in this order after the IWAD and before a PWAD')
+    parser.add_argument('--iwad', metavar='WAD', type=Wad, help='the WAD that a PWAD needs, read before it; else that of '
+                        'the variable IWAD')
+    parser.add_argument('--file', metavar='WAD', type=Wad, action='append', default=[], help='a WAD more, such as one '
+                        'with textures; as often as wanted, read in this order after the IWAD and before a PWAD')
 
 
 def add_level(parser: argparse.ArgumentParser, is_needed: bool = True) -> None:
     """The words of a tool over one map, which some need not name."""
-    parser.add_argument('wad', metavar='WAD', help=WAD)
+    parser.add_argument('wad', metavar='WAD', type=Wad, help=WAD)
     count: typing.Any = None if is_needed else '?'
     parser.add_argument('map', metavar='MAP', nargs=count, help='the name of a map, such as MAP01 or E1M1')
     add_base(parser)
@@ -174,8 +184,8 @@ def add_job_options(parser: argparse.ArgumentParser, job: str, without: typing.I
     """The options of a job that a tool hands on to it."""
     for option in jobs.options_of(job):
         if option.name not in without:
-            parser.add_argument(option.name, metavar=option.value, dest=JOB_OPTION + option.name,
-                                help=meaning_of(option))
+            parser.add_argument(option.name, metavar=option.value, dest=JOB_OPTION + option.name, help=meaning_of(option),
+                                type=Source if option.value == 'FILE' else str)
 
 
 def job_words(options: argparse.Namespace) -> typing.List[str]:
@@ -196,17 +206,17 @@ def add_help(parser: argparse.ArgumentParser) -> None:
     parser.add_argument('--help', '-h', action='help', help='prints this page')
 
 
-def job_page(job: jobs.Job) -> str:
-    """The help page of a job, by the table of options."""
-    ends = '\n'.join(f'{number:2}  {": ".join(filter(None, status))}' for number, status in jobs.STATUSES.items())
-    parser = Parser(Page(job.name, job.summary, job.text, job.examples, 'the program; it is built at the first call',
-                         ends))
+def job_page(job: jobs.Job, needs: str = BUILT, without: typing.Container[object] = ()) -> str:
+    """The help page of a job, by the table of options: what it needs, and without some statuses or own options."""
+    ends = '\n'.join(f'{number:2}  {": ".join(filter(None, status))}' for number, status in jobs.STATUSES.items()
+                     if number not in without)
+    parser = Parser(Page(job.name, job.summary, job.text, job.examples, needs, ends))
     for metavar, meaning in job.words:
         parser.add_argument(metavar, metavar=metavar, help=meaning)
     for option in jobs.options_of(job.name):
         parser.add_argument(option.name, metavar=option.value, help=meaning_of(option),
                             required=option.is_needed and not option.default)
-    for own in jobs.OWN_OPTIONS:
+    for own in [own for own in jobs.OWN_OPTIONS if own.name not in without]:
         if own.jobs in ('all', job.name) and own.value:
             parser.add_argument(own.name, metavar=own.value, help=own.meaning)
         elif own.jobs in ('all', job.name):
@@ -231,14 +241,29 @@ def in_order(options: argparse.Namespace) -> argparse.Namespace:
     """The words of a tool, a WAD and a map in either order where the words tell."""
     wad, name = getattr(options, 'wad', None), getattr(options, 'map', None)
     if isinstance(wad, str) and isinstance(name, str) and jobs.is_wad(name) and not jobs.is_wad(wad):
-        options.wad, options.map = name, wad
+        options.wad, options.map = Wad(name), str(wad)
     return options
+
+
+def named(options: argparse.Namespace, kind: type[str]) -> list[str]:
+    """The words of a tool that are of a kind."""
+    lists = (value if isinstance(value, list) else [value] for value in vars(options).values())
+    return [value for values in lists for value in values if isinstance(value, kind)]
+
+
+def sources_of(options: argparse.Namespace) -> list[str]:
+    """The files that the words of a tool name to be read, WADs by their paths, and the program."""
+    given = named(options, Source) + [Wad(name) for name in [os.environ.get('IWAD')] if name]
+    paths = [wads.find_or_none(name) if isinstance(name, Wad) else name for name in given]
+    return [*filter(None, paths), program.path()]
 
 
 def run(tool: types.ModuleType, words: typing.List[str]) -> int:
     """Runs a tool with its words; its status."""
     try:
-        return tool.run(in_order(parser_of(tool).parse(words))) or 0
+        options = in_order(parser_of(tool).parse(words))
+        check_outputs(named(options, Output), sources_of(options))
+        return tool.run(options) or 0
     except Trouble as error:
         if str(error):
             print(f'doomview {tool.PAGE.name}: {error}', file=sys.stderr)

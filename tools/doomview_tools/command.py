@@ -101,6 +101,7 @@ def no_such(words: typing.Sequence[str]) -> str:
 def limits_with_places(words: typing.List[str]) -> int:
     """Prints what the job limits does, and behind each line where the view is; its status."""
     given = jobs.Words(words)
+    program.check_output(words)
     warn(words)
     done = program.run(given.words)
     sys.stderr.write(done.said)

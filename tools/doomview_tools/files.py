@@ -1,4 +1,4 @@
-"""Files that are written whole or not at all."""
+"""Files that are written whole or not at all, and never over a file that is read."""
 import contextlib
 import os
 import sys
@@ -6,6 +6,61 @@ import tempfile
 import typing
 
 from .trouble import TROUBLE, Trouble
+
+
+class Source(str):
+    """The name of a file that a command reads, or of a folder of such files."""
+
+
+class Output(str):
+    """The name of a file that a command writes."""
+
+
+class Folder(str):
+    """The name of a folder into which a command writes files."""
+
+
+Known = tuple[str, os.stat_result]  # the name of a file, and which file it is
+kept: list[Known] = []  # the files that are read, which nothing that is written may replace
+
+
+def names_of(sources: typing.Iterable[str]) -> typing.Iterator[str]:
+    """The names of some files, in the place of a folder those of its files."""
+    for path in sources:
+        if os.path.isdir(path) and os.access(path, os.R_OK | os.X_OK):
+            yield from (entry.path for entry in os.scandir(path))
+        else:
+            yield path
+
+
+def known(sources: typing.Iterable[str]) -> typing.Iterator[Known]:
+    """Those of some files that are there."""
+    for name in names_of(sources):
+        with contextlib.suppress(OSError):
+            yield name, os.stat(name)
+
+
+def check_outputs(outputs: typing.Sequence[str], sources: typing.Iterable[str], status: int = TROUBLE) -> None:
+    """A Trouble with the status where a file that is to be written cannot be, is one that is read, or is named twice: by
+    the file, and not by its name. What else is written until the next call, as into a folder, may be none of the sources
+    either."""
+    kept[:] = known(sources)
+    places = [os.path.normcase(os.path.realpath(path)) for path in outputs]
+    for path, place in zip(outputs, places):
+        try:
+            check_target(path)
+        except Trouble as error:
+            raise Trouble(str(error), status) from error
+        if places.count(place) > 1:
+            raise Trouble(f'{path} is named twice; name another file', status)
+
+
+def check_unread(path: str) -> None:
+    """A Trouble where a file that is to be written is one that is read."""
+    for name, source in kept:
+        if os.path.exists(path) and os.path.samestat(os.stat(path), source):
+            what = 'a file that is read' if name == path else f'the same file as {name}, which is read'
+            raise Trouble(f'{path} is {what}; name another one to write')
 
 
 def check_source(path: str) -> None:
@@ -19,12 +74,13 @@ def check_source(path: str) -> None:
 
 
 def check_target(path: str) -> None:
-    """A Trouble where a file cannot be written, or stands in the place of what is no plain file."""
+    """A Trouble where a file cannot be written, is read, or is no plain file."""
     folder = os.path.dirname(path) or '.'
     if os.path.isdir(path):
         raise Trouble(f'{path} is a folder; name a file')
     if os.path.lexists(path) and not os.path.isfile(path):
         raise Trouble(f'{path} is no plain file, and is left as it is; name another')
+    check_unread(path)
     if not os.path.isdir(folder):
         raise Trouble(f'there is no folder {folder}; make it first')
     if not os.access(folder, os.W_OK):
@@ -37,7 +93,7 @@ def check_target(path: str) -> None:
         raise Trouble(f'cannot write {path}: {error.strerror}') from error
 
 
-def part_of(path: str) -> typing.Tuple[int, str]:
+def part_of(path: str) -> tuple[int, str]:
     """A new file beside another, for its bytes until they are whole: its handle and its path."""
     folder, name = os.path.split(path)
     return tempfile.mkstemp(prefix=f'.{name}.', dir=folder)

@@ -11,7 +11,7 @@ TOP = os.path.dirname(TOOLS)
 IS_RELEASE = not os.path.exists(os.path.join(TOP, 'crates.txt'))
 DOCS = os.path.join(TOP, 'docs')
 MANUAL = os.path.join(DOCS, 'doomview.1')
-COMMAND = os.path.join(TOP, 'doomview')
+COMMAND = os.path.join(TOP, system.COMMAND_NAME)
 PROGRAM = os.path.join(TOP, 'out', system.PROGRAM_NAME)
 
 

@@ -10,7 +10,7 @@ import typing
 
 from . import levels, wads
 from .doom import FRONT_AND_BACK, SKY, TWO_SIDED
-from .files import check_source
+from .files import Source, check_source
 from .frames import WIDTH
 from .levels import UNIT, Level, Seg, Side
 from .traces import COMPOSITE, MIDDLE, PLANE, SKY as SKY_PLANE, SPRITE, WALL, Names, Painter, Record
@@ -458,8 +458,8 @@ def only_map(files: typing.List[str]) -> str:
 
 def add_words(parser: argparse.ArgumentParser) -> None:
     """The words of a tool that takes a list."""
-    parser.add_argument('--list', metavar='FILE', help='what doomview list wrote for the same words: names lines, '
-                        'sectors and things too; needs the WADs')
+    parser.add_argument('--list', metavar='FILE', type=Source, help='what doomview list wrote for the same words: names '
+                        'lines, sectors and things too; needs the WADs')
     parser.add_argument('--map', metavar='NAME', help='the map of the list, where the WADs have more than one')
 
 

@@ -11,7 +11,7 @@ import tempfile
 import typing
 
 from . import home, tables
-from .files import WholeFile, is_terminal, write_whole
+from .files import WholeFile, check_outputs, is_terminal, write_whole
 from .jobs import LEVEL_JOBS, NO_PROGRAM, USAGE, WRITE_FAULT, Words, wrong_words
 from .trouble import Ended, Trouble
 
@@ -75,7 +75,7 @@ def ready() -> str:
     return path()
 
 
-def environment() -> typing.Dict[str, str]:
+def environment() -> dict[str, str]:
     """The surroundings of the program: DOOMVIEW is not handed on, since it may name this command."""
     return {name: value for name, value in os.environ.items() if name != 'DOOMVIEW'}
 
@@ -131,7 +131,7 @@ def things_file() -> str:
     return home.data('things.csv')
 
 
-def complete(words: typing.Iterable[str]) -> typing.List[str]:
+def complete(words: typing.Iterable[str]) -> list[str]:
     """The words of a job as the program takes them: WADs found, and the tools' own tables where none are named."""
     given = Words(words)
     if given.job not in LEVEL_JOBS:
@@ -170,22 +170,30 @@ def guard_terminal(words: typing.Iterable[str]) -> None:
     os.dup2(os.open(os.devnull, os.O_WRONLY), 1)
 
 
-def run_whole(words: typing.List[str]) -> Run:
+def check_output(words: typing.Iterable[str]) -> None:
+    """A Trouble where the file that `-o` names cannot be written, or is one that the job reads."""
+    words = list(words)
+    output, files = Words(words).output, Words(complete(words)).files
+    if output:
+        check_outputs([output], [*files, path()], WRITE_FAULT)
+
+
+def run_whole(words: list[str]) -> Run:
     """Runs the program with its output in the file that `-o` names, whole or not there, or else as it comes on the
     standard output."""
-    path = Words(words).output
-    if not path:
+    output = Words(words).output
+    if not output:
         guard_terminal(complete(words))
         return run(words, 1)
-    with contextlib.suppress(Ended), WholeFile(path, WRITE_FAULT) as part:
+    check_output(words)
+    with contextlib.suppress(Ended), WholeFile(output, WRITE_FAULT) as part:
         done = run(words, part)
         if done.status:
             raise Ended(done.status)
     return done
 
 
-def call(command: typing.List[str], output: Output, folder: typing.Optional[str] = None) -> typing.Tuple[int, bytes,
-         bytes]:
+def call(command: list[str], output: Output, folder: typing.Optional[str] = None) -> tuple[int, bytes, bytes]:
     """Status, output and what is said of a command."""
     try:
         done = subprocess.run(command, cwd=folder, env=environment(), stdin=subprocess.DEVNULL,
@@ -203,7 +211,7 @@ def start(words: typing.Iterable[str], **more: typing.Any) -> subprocess.Popen:
         raise Trouble(f'cannot run {path()}: {error.strerror}', NO_PROGRAM) from error
 
 
-def pass_on(words: typing.List[str]) -> Run:
+def pass_on(words: list[str]) -> Run:
     """Runs the program with its output on the standard output, as it comes; what it said on standard error is kept."""
     words = complete(words)
     guard_terminal(words)
@@ -214,7 +222,7 @@ def pass_on(words: typing.List[str]) -> Run:
     return run_of(done.returncode, None, done.stderr)
 
 
-def with_own_name(word: str, files: typing.Dict[str, str]) -> str:
+def with_own_name(word: str, files: dict[str, str]) -> str:
     """A word, with a name of its own for the file that it names."""
     option, equal, file = word.partition('=') if word.startswith('--') else ('', '', word)
     if not os.path.isfile(file):
@@ -224,13 +232,13 @@ def with_own_name(word: str, files: typing.Dict[str, str]) -> str:
     return option + equal + name
 
 
-def run_sources(words: typing.List[str], output: Output) -> Run:
+def run_sources(words: list[str], output: Output) -> Run:
     """Runs the sources without a proof and without a build; at most 1 MiB comes out. The checks of `rt try` stop such a
     run at an index out of range or a sum that overflows, and nothing is proved of it."""
     if not shutil.which('rt'):
         raise Trouble('the command rt is not installed: doomview is made by the Rattle kit, whose folder bin has to be '
                       'in PATH', NO_PROGRAM)
-    files: typing.Dict[str, str] = {}
+    files: dict[str, str] = {}
     words = [with_own_name(word, files) for word in words]
     data = [part for name, file in files.items() for part in ('--data', f'{name}={file}')]
     status, written, said = call(['rt', 'try', '--steps', '1', '--seconds', str(SECONDS), *data, '--', *words], output,

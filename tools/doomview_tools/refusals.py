@@ -163,21 +163,34 @@ def of_row(code: int, numbers: Numbers) -> str:
     return f'row {numbers[0]} under the header of {TABLES[code // 100]}{column}'
 
 
-# Of each code how its numbers are named: by the scene, and the numbers.
-NAMED: typing.Dict[int, typing.Callable[..., str]] = {
-    **dict.fromkeys((401, 402, 403), lambda scene, file, *_: scene.wad(file)),
-    602: lambda scene, lump: doom.MAP_LUMPS[lump],
-    604: lambda scene, lump, record, field: scene.field(lump, record, field),
-    605: lambda scene, leaf: f'SSECTORS record {leaf}',
-    **dict.fromkeys((606, 607), lambda scene, node: f'NODES record {node}'),
-    **dict.fromkeys((703, 704, 705), lambda scene, texture: scene.texture(texture)),
-    **dict.fromkeys((801, 904), lambda scene, thing: scene.thing(thing)),
-    802: lambda scene, thing, rotation: f'{scene.thing(thing)}, rotation {rotation}',
-    **dict.fromkeys((803, 907, 1013), lambda scene, lump: scene.lump(lump)),
-    **dict.fromkeys((901, 905), lambda scene, side: scene.side(side)),
-    903: lambda scene, sector: scene.sector(sector),
-    908: lambda scene, count: f'{count} entries',
-    909: lambda scene, count: f'{count} bytes',
+# Of each code how its numbers are named: words, and in braces what PARTS has. doomview.exe has them from here too.
+NAMED: typing.Dict[int, str] = {
+    **dict.fromkeys((401, 402, 403), '{wad}'),
+    602: '{map lump}',
+    604: '{field}',
+    605: 'SSECTORS record {number}',
+    **dict.fromkeys((606, 607), 'NODES record {number}'),
+    **dict.fromkeys((703, 704, 705), '{texture}'),
+    **dict.fromkeys((801, 904), '{thing}'),
+    802: '{thing}, rotation {second}',
+    **dict.fromkeys((803, 907, 1013), '{lump}'),
+    **dict.fromkeys((901, 905), '{side}'),
+    903: '{sector}',
+    908: '{number} entries',
+    909: '{number} bytes',
+}
+# What the parts of these words are, by the scene and the numbers.
+PARTS: typing.Dict[str, typing.Callable[[Scene, Numbers], object]] = {
+    'number': lambda scene, numbers: numbers[0],
+    'second': lambda scene, numbers: numbers[1],
+    'wad': lambda scene, numbers: scene.wad(numbers[0]),
+    'map lump': lambda scene, numbers: doom.MAP_LUMPS[numbers[0]],
+    'field': lambda scene, numbers: scene.field(*numbers),
+    'texture': lambda scene, numbers: scene.texture(numbers[0]),
+    'thing': lambda scene, numbers: scene.thing(numbers[0]),
+    'lump': lambda scene, numbers: scene.lump(numbers[0]),
+    'side': lambda scene, numbers: scene.side(numbers[0]),
+    'sector': lambda scene, numbers: scene.sector(numbers[0]),
 }
 
 
@@ -185,7 +198,7 @@ def names(scene: Scene, code: int, numbers: Numbers) -> str:
     """What the numbers of a refusal mean, as text."""
     try:
         if code in NAMED and numbers:
-            return NAMED[code](scene, *numbers)
+            return re.sub(r'\{(.*?)\}', lambda part: str(PARTS[part[1]](scene, numbers)), NAMED[code])
         if numbers and code // 100 in TABLES and code % 100 in OF_ROWS:
             return of_row(code, numbers)
     except (IndexError, KeyError, TypeError, struct.error):

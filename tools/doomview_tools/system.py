@@ -5,6 +5,7 @@ import signal
 IS_WINDOWS = os.name == 'nt'
 BROKEN_PIPE = 13  # the number of SIGPIPE, also where the system has no such signal
 PROGRAM_NAME = 'doomview.exe' if IS_WINDOWS else 'doomview'
+COMMAND_NAME = 'doomview.cmd' if IS_WINDOWS else 'doomview'
 
 
 def signals(*names: str) -> list[signal.Signals]:

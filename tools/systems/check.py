@@ -1,5 +1,6 @@
 """The gate of what is made for other systems: golden runs of the program for Windows under Wine, and of the page's program in
 Chromium, whose values are those of tests/golden/tables."""
+import functools
 import importlib.machinery
 import importlib.util
 import json
@@ -19,6 +20,8 @@ from . import chromium, kit
 GOLDEN = os.path.join(home.TOP, 'tests', 'golden')
 WINE = ('wine', 'wine64')
 WINE_NAMES = ('WINEPREFIX', 'WINEDEBUG', 'WINEDLLOVERRIDES')  # variables
+LAYOUT = ['setarch', '-R']  # words before a command, which starts with no random layout of memory then
+LOST = 'err:virtual:'  # in what Wine says where it cannot map what Windows has in each process
 # Cases that cannot be tried so, with the reason.
 NO_BROWSER = 'what a shell does with streams, readers that go, words that are no text, files without content'
 NO_WINDOWS = 'words that are no UTF-8, which no word of Windows can be'
@@ -88,18 +91,40 @@ def wine() -> str:
     return next(filter(None, map(shutil.which, WINE)), '')
 
 
+@functools.lru_cache(maxsize=None)
+def layout() -> list[str]:
+    """LAYOUT where it can be had, or no words. Debian's wine64 is no program that can be loaded anywhere, and has none that
+    keeps places free for it; so at times the kernel puts its heap where Windows has the page that all processes share, and
+    it ends before it has loaded the program. That cannot be where the layout is not random."""
+    try:
+        works = subprocess.run([*LAYOUT, 'true'], stdin=subprocess.DEVNULL, capture_output=True).returncode == 0
+    except OSError:
+        works = False
+    return LAYOUT if works else []
+
+
+def start() -> list[str]:
+    """The words before a program for Windows."""
+    return [*layout(), wine()]
+
+
+def is_lost(status: str, size: str, said: str) -> bool:
+    """Whether a run that ended so, with so many bytes of output, may be one that Wine ended before the program was loaded."""
+    return not layout() and (status, size) == ('1', '0') and (not said or LOST in said)
+
+
 class Wine:
     """Wine with a folder of its own, kept up while cases run: each would else wait for its services."""
 
     def __init__(self):
         self.folder = tempfile.TemporaryDirectory(ignore_cleanup_errors=True)
-        self.env = {**os.environ, 'WINEPREFIX': os.path.join(self.folder.name, 'prefix'), 'WINEDEBUG': '-all',
+        self.env = {**os.environ, 'WINEPREFIX': os.path.join(self.folder.name, 'prefix'), 'WINEDEBUG': '-all,err+virtual',
                     'WINEDLLOVERRIDES': 'mscoree,mshtml='}
 
     def __enter__(self):
-        subprocess.run([wine(), 'cmd', '/c', 'exit'], env=self.env, stdin=subprocess.DEVNULL, stdout=subprocess.DEVNULL,
+        subprocess.run([*start(), 'cmd', '/c', 'exit'], env=self.env, stdin=subprocess.DEVNULL, stdout=subprocess.DEVNULL,
                        stderr=subprocess.DEVNULL)
-        self.keeper = subprocess.Popen([wine(), 'cmd'], env=self.env, stdin=subprocess.PIPE, stdout=subprocess.DEVNULL,
+        self.keeper = subprocess.Popen([*start(), 'cmd'], env=self.env, stdin=subprocess.PIPE, stdout=subprocess.DEVNULL,
                                        stderr=subprocess.DEVNULL)
         return self
 
@@ -116,9 +141,23 @@ class Wine:
             file.write(data)
         named = ' '.join(f'{name}={self.env[name]}' for name in WINE_NAMES)
         with open(path, 'w', encoding='utf-8') as file:
-            file.write(f'#!/bin/sh\n{named} exec {wine()} {target} "$@"\n')
+            file.write(f'#!/bin/sh\n{named} exec {" ".join(start())} {target} "$@"\n')
         os.chmod(path, 0o755)
         return path
+
+    def run(self, words: list[str], folder: str, **more) -> subprocess.CompletedProcess:
+        """Runs a program for Windows in a folder, once more where its start may have been lost."""
+        def once():
+            return subprocess.run([*start(), *words], cwd=folder, env=self.env, stdin=subprocess.DEVNULL, capture_output=True, **more)
+        done = once()
+        said = done.stderr.decode(errors='replace')
+        return once() if is_lost(str(done.returncode), str(len(done.stdout)), said) else done
+
+
+def outcome_of(runner, case):
+    """How a case ends under Wine, the second time where its start may have been lost."""
+    found = runner.run(case)
+    return runner.run(case) if is_lost(found.status, found.length, found.line) else found
 
 
 def under_wine(plain: bytes, jobs: int) -> Result:
@@ -129,7 +168,7 @@ def under_wine(plain: bytes, jobs: int) -> Result:
         run.put_files(native(), folder, tried)
         runner = run.Runner(there.command(plain), folder)
         with run.concurrent.futures.ThreadPoolExecutor(jobs) as pool:
-            outcomes = dict(zip(tried, pool.map(runner.run, tried)))
+            outcomes = dict(zip(tried, pool.map(functools.partial(outcome_of, runner), tried)))
     return Result(len(tried), len(cases), list(wrong_lines(outcomes)))
 
 

@@ -1,16 +1,14 @@
 """doomview for Windows and for a browser: the module compiled anew, and linked with glue. All of it is a preview: it rests
 on what no page of the kit says, and no proof is about it."""
 import concurrent.futures
-import json
 import os
 import shutil
 import tempfile
 from typing import NamedTuple
 
-from doomview_tools import cli, command, home, jobs, tables
 from doomview_tools.trouble import Trouble
 
-from . import ir, kit, module
+from . import built_in, ir, kit, module
 
 GLUE = os.path.join(os.path.dirname(os.path.abspath(__file__)), 'glue')
 WINDOWS_COMPILER = 'x86_64-w64-mingw32-gcc'
@@ -22,21 +20,9 @@ ALWAYS = ('--no-default-config -no-canonical-prefixes -fintegrated-cc1 -fno-cras
           '-disable-postra-machine-licm -mllvm -sink-common-insts=false').split()
 X86 = '-march=x86-64 -mllvm -no-x86-call-frame-opt -Xclang -fmerge-functions'.split()
 WASM = ['-mcpu=lime1']
-# The names of the files that doomview.exe has in it: none that a file of Windows can have.
-BUILT_IN = {'--tables': '<tables>', '--things': '<things>'}
-OVERVIEW = '''doomview {version} for Windows, a preview: the proved program compiled anew, which no proof covers.
-
-usage: doomview JOB WORDS.. [OPTIONS]
-
-{jobs}
-
-  doomview JOB --help   the page of a job
-  doomview --version
-
-WADs are named by their paths. The tools beside the jobs are a part of the release for Linux.
-'''
-
-
+# The sources of doomview.exe, and of the program with its own words alone.
+COMMAND = ('windows', 'command', 'words', 'says', 'outputs', 'wads', 'sentences', 'hints', 'picture', 'png')
+PLAIN = ('windows', 'plain')
 class Windows(NamedTuple):
     """The program with the tables built in, and the same with its own words alone, which golden runs try."""
 
@@ -76,51 +62,21 @@ def read(path: str) -> str:
         return file.read()
 
 
-def c_text(words: str) -> str:
-    """A text as C has it: one literal for each line."""
-    return '\n'.join(json.dumps(line, ensure_ascii=True) for line in words.splitlines(True)) or '""'
-
-
-def c_bytes(name: str, data: bytes) -> str:
-    return f'static const unsigned char {name}[] = {{{",".join(map(str, data))}}};\n'
-
-
-def things() -> bytes:
-    return module.bytes_of(home.data('things.csv'))
-
-
-def job_pages() -> str:
-    """The table of jobs in C: name, whether it is over a level, whether it writes what is no text, and its page."""
-    rows = [f'{{"{job.name}", {int(job.name in jobs.LEVEL_JOBS)}, {int(job.is_binary)}, {c_text(cli.job_page(job))}}}'
-            for job in jobs.JOBS.values()]
-    return ('struct job { const char *name; int has_level, writes_bytes; const char *page; };\n'
-            f'static const struct job jobs[] = {{{", ".join(rows)}}};\n')
-
-
-def built_in_header() -> str:
-    """What command.c has from the tools in Python: the tables, and the pages of the jobs."""
-    data = {'--tables': tables.tables(), '--things': things()}
-    rows = [f'{{{{"{BUILT_IN[option]}", {option[2:]}_bytes, sizeof {option[2:]}_bytes}}, "{option}"}}' for option in data]
-    lines = command.table((' '.join([job.name, *(word for word, _ in job.words)]), job.summary) for job in jobs.JOBS.values())
-    named = home.version()['version']
-    return (''.join(c_bytes(f'{option[2:]}_bytes', content) for option, content in data.items()) + job_pages()
-            + 'static const struct { struct built_in file; const char *option; } built_ins[] = {' + ', '.join(rows) + '};\n'
-            + f'static const char overview[] = {c_text(OVERVIEW.format(version=named, jobs=lines))};\n'
-            + f'static const char version[] = "doomview {named}, a preview for Windows";\n')
-
-
 def windows(made: str, work: Workshop) -> Windows:
     """The programs for Windows, of the module's object file."""
-    with open(work.at('built_in.h'), 'w', encoding='utf-8') as file:
-        file.write(built_in_header())
-    found = []
-    for part in ('command', 'plain'):
-        target = work.at(f'{part}.exe')
-        kit.call([WINDOWS_COMPILER, '-O2', '-Wall', '-Wextra', '-Werror', '-static', '-s', '-municode', f'-I{work.folder}',
-                  f'-Wl,--gc-sections,--stack,{STACK},--no-insert-timestamp', made, os.path.join(GLUE, 'windows.c'),
-                  os.path.join(GLUE, f'{part}.c'), '-o', target], 'linking for Windows')
-        found.append(module.bytes_of(target))
-    return Windows(*found)
+    built_in_c = work.at('built_in.c')
+    with open(built_in_c, 'w', encoding='utf-8') as file:
+        file.write(built_in.source())
+    command, plain = ([os.path.join(GLUE, f'{part}.c') for part in parts] for parts in (COMMAND, PLAIN))
+    return Windows(linked(made, work, [*command, built_in_c]), linked(made, work, plain))
+
+
+def linked(made: str, work: Workshop, sources: list[str]) -> bytes:
+    """A program for Windows, of the module's object file and sources in C."""
+    target = work.at('doomview.exe')
+    kit.call([WINDOWS_COMPILER, '-O2', '-Wall', '-Wextra', '-Werror', '-static', '-s', '-municode', f'-I{GLUE}',
+              f'-Wl,--gc-sections,--stack,{STACK},--no-insert-timestamp', made, *sources, '-o', target], 'linking for Windows')
+    return module.bytes_of(target)
 
 
 def browser(made: str, work: Workshop) -> bytes:

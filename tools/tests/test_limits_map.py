@@ -396,7 +396,7 @@ class LimitsMap(Tools):
                              ('multiple of 8', '--step', '60'), ('--planes: a number from 128', '--planes', '1'),
                              ('there is no folder absent', '--worst', 'absent/rows'),
                              ('there is no folder absent', '--opened', 'absent/open.wad'),
-                             ('cannot write', 'a' * 300 + '.html'), ('is named twice', '--opened', 'hall.wad'),
+                             ('cannot write', 'a' * 300 + '.html'), ('hall.wad is a file that is read', '--opened', 'hall.wad'),
                              ('is named twice', '--worst', 'new', '--opened', 'new')]:
             self.refuses(part, 'limits-map', 'hall.wad', 'MAP01', *words, doomview=self.counting)
         self.refuses('there is no WAD absent', 'limits-map', 'absent', 'MAP01', doomview=self.counting)

@@ -5,10 +5,12 @@ import re
 import shutil
 import subprocess
 import unittest
+from unittest import mock
 
 from made_files import TOOLS, TOP, Tools
+from doomview_tools import command, home, jobs, levels, refusals, room, tables, wads
 from doomview_tools.trouble import Trouble
-from systems import ir, kit, module, page, static, targets
+from systems import built_in, check, ir, kit, module, page, static, targets
 
 # A module with a line of each kind that is changed, and code that is not.
 MODULE = '''; ModuleID = 'module.bc'
@@ -240,6 +242,71 @@ class Gate(Tools):
             self.assertEqual(self.run_gate(), (status, called))
 
 
+class Starts(Tools):
+    """Starts of Wine, of which one may be lost, by stand-ins."""
+
+    def setUp(self):
+        super().setUp()
+        environ = mock.patch.dict(os.environ, PATH=self.bin)
+        environ.start()
+        self.addCleanup(environ.stop)
+        check.layout.cache_clear()
+        self.addCleanup(check.layout.cache_clear)
+        self.stand_in('bin/wineserver', '#!/bin/sh\n')
+        self.stand_in('bin/true', '#!/bin/sh\n')
+
+    def wine(self, first):
+        """Wine of which the first start of a program does this, and the others write what they were given."""
+        self.stand_in('bin/wine', '#!/bin/sh\n[ "$1" != cmd ] || exit 0\necho start >>starts\n'
+                      f'[ "$(cat starts)" != start ] || {{ {first}; }}\necho "$@"\n')
+
+    def runs(self, first):
+        """How a run ends, and how often it was started."""
+        self.wine(first)
+        self.write('starts', b'')
+        with check.Wine() as there:
+            done = there.run(['doomview.exe', 'render'], self.folder)
+            self.assertIn('err+virtual', there.env['WINEDEBUG'])
+        return done.returncode, done.stdout, done.stderr, self.read('starts').count('start')
+
+    def test_once_more(self):
+        """Without the words of layout a run that ended with 1 and no byte is made once more, and no other one."""
+        self.wine(':')
+        self.assertEqual(check.start(), [self.at('bin/wine')])
+        whole = b'doomview.exe render\n'
+        lost = 'echo 0024:err:virtual:virtual_init failed to map the shared user data >&2'
+        for first, ended in [('exit 1', (0, whole, b'', 2)), (f'{lost}; exit 1', (0, whole, b'', 2)), (':', (0, whole, b'', 1)),
+                             ('echo doomview: usage >&2; exit 1', (1, b'', b'doomview: usage\n', 1)),
+                             ('echo a; exit 1', (1, b'a\n', b'', 1)), ('exit 2', (2, b'', b'', 1))]:
+            self.assertEqual(self.runs(first), ended, first)
+
+    def test_layout(self):
+        """Where setarch works Wine is started by it, and each run counts."""
+        self.stand_in('bin/setarch', '#!/bin/sh\n[ "$1" = -R ] && shift && exec "$@"\n')
+        self.assertEqual(self.runs('exit 1'), (1, b'', b'', 1))
+        self.assertEqual(check.start(), ['setarch', '-R', self.at('bin/wine')])
+        with check.Wine() as there:
+            self.assertIn(f' exec setarch -R {self.at("bin/wine")} ', self.text_of(there.command(b'')))
+
+    def test_no_layout(self):
+        """setarch may be there, and be refused by the system."""
+        self.stand_in('bin/setarch', '#!/bin/sh\nexit 1\n')
+        self.assertEqual(self.runs('exit 1')[3], 2)
+
+    def test_cases(self):
+        """A golden case is run a second time where its start may have been lost, and that run counts."""
+        lost, said, whole = (mock.Mock(status=status, length=size, line=line) for status, size, line in (
+            ('1', '0', ''), ('1', '0', 'doomview: usage'), ('0', '5', '')))
+        for outcomes, found in (([lost, whole], whole), ([lost, lost], lost), ([said], said), ([whole], whole)):
+            runner = mock.Mock(run=mock.Mock(side_effect=outcomes))
+            self.assertIs(check.outcome_of(runner, 'case'), found)
+            self.assertEqual(runner.run.call_count, len(outcomes))
+
+    def text_of(self, path):
+        with open(path, encoding='utf-8') as file:
+            return file.read()
+
+
 class Static(unittest.TestCase):
     def test_loader(self):
         """Python itself needs a loader, an ELF file without program headers none; what is no ELF file is refused."""
@@ -283,15 +350,53 @@ class Page(unittest.TestCase):
                     self.assertLessEqual(len(file.readlines()), 400, name)
 
 
-class Command(unittest.TestCase):
-    def test_built_in(self):
-        """doomview.exe has each job with its page, and both tables."""
-        header = targets.built_in_header()
-        for job in targets.jobs.JOBS.values():
-            self.assertIn(f'{{"{job.name}", {int(job.name in targets.jobs.LEVEL_JOBS)}, ', header)
-        numbers = re.search(r'tables_bytes\[\] = \{([^}]*)\}', header)[1].split(',')
-        self.assertEqual(bytes(map(int, numbers)), targets.tables.tables())
-        self.assertEqual(set(targets.BUILT_IN), {option for option in targets.jobs.needed_options() if option != '--path'})
+class BuiltIn(unittest.TestCase):
+    def test_files(self):
+        """doomview.exe has the tables, the things and the room as the tools have them."""
+        source = built_in.source()
+        for name, data in (('tables', tables.tables()), ('things', module.bytes_of(home.data('things.csv'))), ('room', room.room())):
+            numbers = re.search(r'bytes_of_%s\[\] = \{([^}]*)\}' % name, source)[1].split(',')
+            self.assertEqual(bytes(map(int, numbers)), data)
+            self.assertIn(f'{{"<{name}>", bytes_of_{name}, {len(data)}}}', source)
+
+    def test_tables(self):
+        """It has each job, each option with its jobs and its range, and each code with its sentence."""
+        source = built_in.source()
+        for number, job in enumerate(jobs.JOBS.values()):
+            self.assertIn(f'{{"{job.name}", {int(job.name in jobs.LEVEL_JOBS)}, {int(job.is_binary)}, ', source)
+            for option in jobs.options().values():
+                bits = int(re.search(r'\{"%s", (\d+), ' % option.name, source)[1])
+                self.assertEqual(bool(bits >> number & 1), job.name in option.jobs)
+        self.assertRegex(source, r'\{"--zone", \d+, 64, 536870912, 4, "", ""\}')
+        for code, (wrong, _) in refusals.codes().items():
+            self.assertIn(f'{{{code}, {built_in.text(refusals.NAMED.get(code, ""))}, {built_in.text(wrong)}, ', source)
+
+    def test_other_tools(self):
+        """No text of it names a tool that is not there but the sentence that says so, nor what a clone alone has."""
+        texts = [built_in.overview(), built_in.picture_page(), *map(built_in.job_page, jobs.JOBS.values())]
+        texts += [built_in.without_tools(mend) for _, mend in refusals.codes().values()]
+        for text in texts:
+            self.assertNotRegex(text, built_in.NAMED_TOOL)
+            self.assertNotRegex(text, r'--places|--proved|--build|could not be built|\n\n\n|[:;]\n\n')
+        for name in command.TOOLS:
+            self.assertEqual(bool(built_in.NAMED_TOOL.search(f'as doomview {name} does')), name != 'picture')
+        audit = ' '.join(built_in.job_page(jobs.JOBS['audit']).split())
+        self.assertIn('or things outside the level. Words: MAP', audit)
+
+    def test_names(self):
+        """The parts of the names of a refusal are those that the source in C knows."""
+        with open(os.path.join(targets.GLUE, 'sentences.c'), encoding='utf-8') as file:
+            known = set(re.findall(r'IS\("([a-z ]+)"\)', file.read()))
+        self.assertEqual(known, set(refusals.PARTS))
+        self.assertLessEqual({part for form in refusals.NAMED.values() for part in re.findall(r'\{(.*?)\}', form)}, known)
+
+    def test_extended(self):
+        """The letters of extended nodes, and what packed files are, are those of the tools."""
+        with open(os.path.join(targets.GLUE, 'hints.c'), encoding='utf-8') as file:
+            source = file.read()
+        self.assertIn(f'"{" ".join(letters.decode() for letters in levels.EXTENDED)}"', source)
+        for kind in wads.PACKED.values():
+            self.assertIn(f'"{kind}"', source)
 
 
 if __name__ == '__main__':

@@ -16,6 +16,16 @@ sys.path.insert(0, os.path.dirname(sys.argv[0]))
 runpy.run_path(sys.argv[0], run_name='__main__')
 '''
 
+# The command where the path has the library alone, in the order in which that package has it.
+EMBEDDED = '''import os, runpy, sys
+library = os.path.dirname(os.__file__)
+sys.path[:] = [library, os.path.join(library, 'lib-dynload')]
+for name in [name for name in sys.modules if name.split('.')[0] in ('argparse', 'tempfile', 'json', 'csv', 'zlib')]:
+    del sys.modules[name]
+script, sys.argv = %r, %r
+runpy.run_path(script, run_name='__main__')
+'''
+
 
 class System(Tools):
     def lacking(self, *words, **more):
@@ -34,6 +44,16 @@ class System(Tools):
         self.assertEqual(self.lacking('maps', self.wad)[:2], (0, 'MAP01\nMAP02\nMAP03\nMAP04\nMAP07\n'))
         self.assertEqual(self.lacking('places', self.wad, 'MAP01', '3', '-o', 'path.csv'), (0, '', ''))
         self.assertEqual(self.read('path.csv').count('\n'), 5)
+
+    def test_embedded(self):
+        """The package of Python for Windows that needs no installation has its library first in the path, and no folder of
+        the script."""
+        script = os.path.join(TOOLS, 'doomview_tools', '__main__.py')
+        for words, output in ((['maps', self.wad], b'MAP01\nMAP02\nMAP03\nMAP04\nMAP07\n'), (['--version'], b'doomview ')):
+            code = EMBEDDED % (script, [script, *words])
+            done = subprocess.run([sys.executable, '-I', '-B', '-c', code], cwd=self.folder, env=self.surroundings(), capture_output=True)
+            self.assertEqual((done.returncode, done.stderr), (0, b''))
+            self.assertTrue(done.stdout.startswith(output))
 
     def test_program(self):
         """The program is run to its end, its files are found, and its status is kept."""

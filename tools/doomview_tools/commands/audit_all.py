@@ -25,7 +25,7 @@ $ doomview audit-all --iwad freedoom2.wad mymaps.wad --skill 4
 
 
 def add_words(parser: argparse.ArgumentParser) -> None:
-    parser.add_argument('wad', metavar='WAD', help=cli.WAD)
+    parser.add_argument('wad', metavar='WAD', type=cli.Wad, help=cli.WAD)
     cli.add_base(parser)
     cli.add_job_options(parser, 'audit', WITHOUT)
 

@@ -8,7 +8,7 @@ import typing
 
 from .. import cli, diagnoses, frame_files, frames, lights, lists, png, traces, vectors, wads
 from ..compare_page import ComparePage
-from ..files import check_target, write_whole
+from ..files import Folder, Output, Source, write_whole
 from ..frames import HEIGHT, SIZE, WIDTH
 from ..trouble import FOUND, Trouble
 
@@ -67,20 +67,21 @@ $ doomview compare ours.bin shots --wad freedoom2.wad --trace trace.bin --html c
 
 
 def add_words(parser: argparse.ArgumentParser) -> None:
-    parser.add_argument('ours', metavar='OURS', help='the frames that doomview drew')
-    parser.add_argument('port', metavar='PORT', help='the frames that the port drew, or its pictures')
-    parser.add_argument('--trace', metavar='FILE', help='what doomview trace wrote: names what painted the pixels')
-    parser.add_argument('--wad', metavar='WAD', action='append', default=[], help='a WAD of the run; once for each, in '
-                        'their order')
+    parser.add_argument('ours', metavar='OURS', type=Source, help='the frames that doomview drew')
+    parser.add_argument('port', metavar='PORT', type=Source, help='the frames that the port drew, or its pictures')
+    parser.add_argument('--trace', metavar='FILE', type=Source, help='what doomview trace wrote: names what painted the pixels')
+    parser.add_argument('--wad', metavar='WAD', type=cli.Wad, action='append', default=[], help='a WAD of the run; once '
+                        'for each, in their order')
     lists.add_words(parser)
     parser.add_argument('--only', metavar='KINDS', help='counts pixels of these painters alone, of '
                         + ','.join(word for word, _ in traces.KINDS.values()))
     parser.add_argument('--but', metavar='KINDS', help='counts no pixels of these painters')
     parser.add_argument('--least-width', metavar='N', type=cli.number(1, WIDTH), default=1, help='counts no pixels of '
                         'sprites that have fewer columns; needs --list')
-    parser.add_argument('--vectors', metavar='FILE', help='the vectors whose views the files have')
-    parser.add_argument('--png', metavar='FOLDER', help='writes a picture of each view that differs into FOLDER')
-    parser.add_argument('--html', metavar='OUT.html', help='writes a page of the views that differ')
+    parser.add_argument('--vectors', metavar='FILE', type=Source, help='the vectors whose views the files have')
+    parser.add_argument('--png', metavar='FOLDER', type=Folder, help='writes a picture of each view that differs into '
+                        'FOLDER')
+    parser.add_argument('--html', metavar='OUT.html', type=Output, help='writes a page of the views that differ')
     parser.add_argument('--most', metavar='N', type=cli.number(0, sys.maxsize), default=sys.maxsize,
                         help='lists N views that differ, and counts the others')
 
@@ -185,8 +186,6 @@ class Comparison:
     def __init__(self, options: argparse.Namespace):
         files = [wads.find(name) for name in options.wad]
         self.options, self.names, self.kinds = options, traces.Names(files), kinds_of(options)
-        if options.html:
-            check_target(options.html)
         self.page, self.lights = ComparePage(self.names), lights.Lights(self.names.colormaps)
         self.ours, self.port = (frame_files.of_path(path, files, self.names.palette)
                                 for path in (options.ours, options.port))

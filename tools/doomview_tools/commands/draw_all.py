@@ -9,6 +9,7 @@ import sys
 import typing
 
 from .. import cli, home, program, system, wads
+from ..files import Folder
 from ..trouble import FOUND, Trouble
 
 WITHOUT = ('--tables', '--things', '--path', '--format')
@@ -30,8 +31,8 @@ $ doomview draw-all freedoom2.wad out --machines 8/one,8/two
 
 
 def add_words(parser: argparse.ArgumentParser) -> None:
-    parser.add_argument('wad', metavar='WAD', help=cli.WAD)
-    parser.add_argument('folder', metavar='FOLDER', help='where the pictures go; it is made')
+    parser.add_argument('wad', metavar='WAD', type=cli.Wad, help=cli.WAD)
+    parser.add_argument('folder', metavar='FOLDER', type=Folder, help='where the pictures go; it is made')
     cli.add_base(parser)
     parser.add_argument('--jobs', metavar='N', type=cli.number(1, 1000), default=system.processors(),
                         help='how many maps at a time; else one a processor')

@@ -3,6 +3,7 @@ import argparse
 import sys
 
 from .. import cli, explanations, jobs, program
+from ..files import Source
 from ..trouble import Trouble
 
 PAGE = cli.Page(
@@ -25,9 +26,9 @@ $ doomview explain 'doomview: refused 604 2 7 5'
 
 
 def add_words(parser: argparse.ArgumentParser) -> None:
-    parser.add_argument('--said', metavar='FILE', help='what a run of the words said, on standard error')
-    parser.add_argument('--file', metavar='WAD', action='append', default=[], help='a WAD more behind those of the job, '
-                        'as often as wanted')
+    parser.add_argument('--said', metavar='FILE', type=Source, help='what a run of the words said, on standard error')
+    parser.add_argument('--file', metavar='WAD', type=cli.Wad, action='append', default=[], help='a WAD more behind those '
+                        'of the job, as often as wanted')
     parser.add_argument('words', metavar='WORDS..', nargs=argparse.REMAINDER,
                         help='the words of a job, or a line of doomview')
 

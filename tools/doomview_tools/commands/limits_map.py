@@ -11,7 +11,7 @@ from .. import art, cli, cli_limits, earlier, ground, levels, paths, system, wad
 from ..cells import Cell, Grid
 from ..counting import COUNTS, Going, Progress, Runs
 from ..earlier import Change, Numbers
-from ..files import check_target, write_output, write_whole
+from ..files import Folder, Output, Source, write_output, write_whole
 from ..index_page import index_page
 from ..levels import Level
 from ..limits_page import State, limits_page
@@ -58,17 +58,18 @@ $ doomview limits-map --iwad freedoom2.wad mymaps.wad --all-maps pages
 
 def add_words(parser: argparse.ArgumentParser) -> None:
     cli.add_level(parser, is_needed=False)
-    parser.add_argument('page', metavar='OUT.html', nargs='?', help='the page, whose name ends in .html')
-    parser.add_argument('--all-maps', metavar='FOLDER', help='looks at all maps of the WAD, prints a line for each, and '
-                        'writes a page of each and an index.html to FOLDER')
+    parser.add_argument('page', metavar='OUT.html', type=Output, nargs='?', help='the page, whose name ends in .html')
+    parser.add_argument('--all-maps', metavar='FOLDER', type=Folder, help='looks at all maps of the WAD, prints a line for '
+                        'each, and writes a page of each and an index.html to FOLDER')
     parser.add_argument('--json', action='store_true', help='prints the numbers as JSON; with --all-maps each map in a '
                         'line')
-    parser.add_argument('--before', metavar='OLD.json', help='what --json wrote earlier: says what got worse or better '
-                        'since and at which places, also on the page; looks from the same grid, with the --step and the '
-                        '--directions of that run')
-    parser.add_argument('--worst', metavar='FILE', help='writes the worst views of each count as a camera path to FILE')
-    parser.add_argument('--opened', metavar='FILE', help='writes the map with its doors open as a WAD to FILE, which goes '
-                        'behind the WADs of a job')
+    parser.add_argument('--before', metavar='OLD.json', type=Source, help='what --json wrote earlier: says what got worse or '
+                        'better since and at which places, also on the page; looks from the same grid, with the --step and '
+                        'the --directions of that run')
+    parser.add_argument('--worst', metavar='FILE', type=Output, help='writes the worst views of each count as a camera path '
+                        'to FILE')
+    parser.add_argument('--opened', metavar='FILE', type=Output, help='writes the map with its doors open as a WAD to FILE, '
+                        'which goes behind the WADs of a job')
     parser.add_argument('--all', action='store_true',
                         help='looks from places to which no way leads from a start, too; the page strikes them through')
     parser.add_argument('--shut', action='store_true', help='leaves the doors shut, and does not count a second time')
@@ -94,13 +95,6 @@ def check(options: argparse.Namespace) -> None:
         raise Trouble(f'--step is a multiple of {LEAST_STEP}, and {options.step} is none')
     if options.page is not None and not options.page.endswith('.html'):
         raise Trouble(f'the name of the page has to end in .html, and {options.page} does not')
-    targets: typing.List[str] = list(filter(None, (options.page, options.worst, options.opened)))
-    for path in targets:
-        check_target(path)
-    used = [os.path.realpath(path) for path in targets + options.files]
-    for path in targets:
-        if used.count(os.path.realpath(path)) > 1:
-            raise Trouble(f'{path} is named twice, or is a WAD that is read; name another file')
 
 
 def numbers(plan: ground.Plan, states: typing.List[State], options: argparse.Namespace) -> Numbers:

@@ -16,7 +16,7 @@ $ doomview maps freedoom2.wad
 
 
 def add_words(parser: argparse.ArgumentParser) -> None:
-    parser.add_argument('wad', metavar='WAD', help=cli.WAD)
+    parser.add_argument('wad', metavar='WAD', type=cli.Wad, help=cli.WAD)
 
 
 def run(options: argparse.Namespace) -> None:

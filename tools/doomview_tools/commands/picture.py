@@ -6,7 +6,7 @@ import tempfile
 
 from .. import cli, frames, levels, paths, program, room, wads
 from ..explanations import end_of
-from ..files import check_target, write_whole
+from ..files import Output, write_whole
 from ..png import write_png
 from ..trouble import Trouble
 
@@ -33,9 +33,9 @@ $ doomview picture freedoom2.wad MAP01 there.png --at -192,-160,90
 
 
 def add_words(parser: argparse.ArgumentParser) -> None:
-    parser.add_argument('wad', metavar='WAD', nargs='?', help=cli.WAD + '; else a made room is drawn')
+    parser.add_argument('wad', metavar='WAD', type=cli.Wad, nargs='?', help=cli.WAD + '; else a made room is drawn')
     parser.add_argument('map', metavar='MAP', nargs='?', help='the name of a map; else the first of the WAD')
-    parser.add_argument('picture', metavar='OUT.png', help='the picture, whose name ends in .png')
+    parser.add_argument('picture', metavar='OUT.png', type=Output, help='the picture, whose name ends in .png')
     cli.add_base(parser)
     parser.add_argument('--at', metavar='PLACE', help='another place than the player start: X,Y,DEGREES in map units, '
                         'or X,Y,DEGREES,Z with the height of the eye, or the line of idmypos')
@@ -46,7 +46,6 @@ def add_words(parser: argparse.ArgumentParser) -> None:
 def run(options: argparse.Namespace) -> None:
     if not os.path.basename(options.picture)[:-4] or not options.picture.endswith('.png'):
         raise Trouble(f'the name of the picture has to end in .png, and {options.picture} does not')
-    check_target(options.picture)
     with tempfile.TemporaryDirectory(prefix='doomview-') as folder:
         draw(options, folder)
 

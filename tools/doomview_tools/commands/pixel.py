@@ -3,7 +3,7 @@ import argparse
 import typing
 
 from .. import cli, lists, paths, traces, wads
-from ..files import check_source
+from ..files import Source, check_source
 from ..frames import HEIGHT, WIDTH
 from ..trouble import Trouble
 
@@ -32,9 +32,10 @@ def add_words(parser: argparse.ArgumentParser) -> None:
                         help='counted from 0 in the order of the path')
     parser.add_argument('x', metavar='X', type=cli.number(0, WIDTH - 1), help='the column, 0 to 319 from the left')
     parser.add_argument('y', metavar='Y', type=cli.number(0, HEIGHT - 1), help='the row, 0 to 199 from the top')
-    parser.add_argument('trace', metavar='TRACE', help='the file of the trace')
-    parser.add_argument('wads', metavar='WAD', nargs='*', help='the WADs of the run, in their order')
-    parser.add_argument('--path', metavar='FILE', help='the camera path of the run: says too where the view is')
+    parser.add_argument('trace', metavar='TRACE', type=Source, help='the file of the trace')
+    parser.add_argument('wads', metavar='WAD', type=cli.Wad, nargs='*', help='the WADs of the run, in their order')
+    parser.add_argument('--path', metavar='FILE', type=Source, help='the camera path of the run: says too where the '
+                        'view is')
     lists.add_words(parser)
 
 

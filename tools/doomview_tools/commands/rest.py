@@ -4,7 +4,7 @@ import os
 import typing
 
 from .. import cli, paths, rest, weapons
-from ..files import write_whole
+from ..files import Folder, write_whole
 from ..trouble import Trouble
 
 PAUSED = 50
@@ -34,7 +34,7 @@ def place(text: str) -> typing.Tuple[int, int, int]:
 
 def add_words(parser: argparse.ArgumentParser) -> None:
     cli.add_level(parser)
-    parser.add_argument('folder', metavar='FOLDER', help='where the files go; it is made')
+    parser.add_argument('folder', metavar='FOLDER', type=Folder, help='where the files go; it is made')
     parser.add_argument('--views', metavar='N', type=cli.number(1, rest.MOST_VIEWS), default=rest.MOST_VIEWS,
                         help=f'how many views, 1 to {rest.MOST_VIEWS}; else {rest.MOST_VIEWS}')
     parser.add_argument('--at', metavar='X,Y,DEGREES', type=place, help='another place than the player start')

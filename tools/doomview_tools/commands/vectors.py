@@ -5,7 +5,7 @@ import os
 import typing
 
 from .. import cli, original, program, system, vectors, wads
-from ..files import WholeFile, write_whole
+from ..files import Folder, WholeFile, write_whole
 from ..trouble import Trouble
 
 MAKE, DRAW = 'make', 'draw'
@@ -33,9 +33,10 @@ $ vectors/check vectors/freedoom2.csv ours --maps MAP01,MAP07
 
 def add_words(parser: argparse.ArgumentParser) -> None:
     parser.add_argument('job', metavar='make|draw', choices=[MAKE, DRAW], help='makes vectors, or draws their frames')
-    parser.add_argument('files', metavar='FILE', nargs='+', help='WAD, found as ports find it; for draw the vectors '
-                        'before it')
-    parser.add_argument('-o', dest='output', metavar='FOLDER', default='.', help='where the files go; it is made')
+    parser.add_argument('files', metavar='FILE', type=cli.Wad, nargs='+', help='WAD, found as ports find it; for draw '
+                        'the vectors before it')
+    parser.add_argument('-o', dest='output', metavar='FOLDER', type=Folder, default='.', help='where the files go; it '
+                        'is made')
     parser.add_argument('--maps', metavar='NAMES', type=names, help='these maps alone, with commas between them')
     parser.add_argument('--sets', metavar='NAMES', type=names, default=vectors.SETS, help='these sets alone, of '
                         + ','.join(vectors.SETS))

@@ -7,7 +7,7 @@ import typing
 
 from .. import cli, program
 from ..explanations import end_of
-from ..files import WholeFile, check_source, check_target
+from ..files import Output, Source, WholeFile, check_source
 from ..trouble import Trouble
 
 WITHOUT = ('--tables', '--things', '--path', '--format')  # options of render that the tool gives itself
@@ -28,8 +28,8 @@ $ doomview video freedoom2.wad MAP01 turn.csv turn.mp4
 
 def add_words(parser: argparse.ArgumentParser) -> None:
     cli.add_level(parser)
-    parser.add_argument('path', metavar='PATH', help='the camera path')
-    parser.add_argument('video', metavar='OUT.mp4', help='the video, whose name ends in .mp4')
+    parser.add_argument('path', metavar='PATH', type=Source, help='the camera path')
+    parser.add_argument('video', metavar='OUT.mp4', type=Output, help='the video, whose name ends in .mp4')
     cli.add_job_options(parser, 'render', WITHOUT)
 
 
@@ -38,7 +38,6 @@ def check(options: argparse.Namespace) -> None:
     check_source(options.path)
     if not options.video.endswith('.mp4'):
         raise Trouble(f'the name of the video has to end in .mp4, and {options.video} does not')
-    check_target(options.video)
     if not shutil.which('ffmpeg'):
         raise Trouble('ffmpeg is not installed (package: ffmpeg)')
 

@@ -7,7 +7,7 @@ import typing
 from .. import cli, cli_limits, ground, levels, lists, paths, program, reasons, traces, wads, walls, what_if
 from ..counting import RAISED
 from ..explanations import end_of
-from ..files import write_whole
+from ..files import Source, write_whole
 from ..jobs import USAGE
 from ..levels import UNIT, Level
 from ..paths import Row
@@ -53,7 +53,7 @@ def add_words(parser: argparse.ArgumentParser) -> None:
     cli.add_level(parser)
     parser.add_argument('views', metavar='VIEW', nargs='*', help='X,Y,ANGLE, or X,Y,Z,ANGLE as in a camera path; with '
                         '--path its number there, from 0')
-    parser.add_argument('--path', metavar='FILE', help='a camera path')
+    parser.add_argument('--path', metavar='FILE', type=Source, help='a camera path')
     parser.add_argument('--open', action='store_true', help='opens the doors, as limits-map does when it counts again')
     parser.add_argument('--all', action='store_true', help='shows all lines of a table, and not the first 20')
     cli_limits.add_words(parser)

@@ -1,7 +1,5 @@
 /* The proved program with its own words and no more, for the golden runs. Nothing here is proved. */
-#define WIN32_LEAN_AND_MEAN
-#include <windows.h>
-#include "windows.h"
+#include "exe.h"
 
 const struct built_in *built_in_named(const char *name) { (void)name; return NULL; }
 int run_command(int count, char **words) { return run_proved(count, words); }

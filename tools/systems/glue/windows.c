@@ -1,21 +1,19 @@
 /* What the proved program asks of its system, on Windows: words, files, streams, memory. The names are the module's with
    `port_` before them (ir.py). Only kernel32 and the C run-time that the compiler brings are called. Nothing here is proved. */
-#define WIN32_LEAN_AND_MEAN
-#include <windows.h>
 #include <cpuid.h>
-#include <stdint.h>
 #include <stdlib.h>
 #include <string.h>
-#include "windows.h"
+#include "exe.h"
 
 enum { OPEN_MOST = 64, PATH_MOST = 4096, MOVE_MOST = 1 << 30 };
 enum { NONE = 2, OTHER = 5, BAD_NUMBER = 9, BROKEN_PIPE = 32 }; /* Linux's numbers of errors */
 enum { START, HERE, END };                                      /* ways of a seek, of both systems */
 
-/* An open file: of the system, or of bytes in this program. */
+/* An open file: of the system, or of bytes in this program, which are read or kept. */
 struct file {
     HANDLE handle;
     const struct built_in *built_in;
+    struct bytes *kept;
     uint64_t at; /* of a built-in file */
     int is_open;
 };
@@ -56,7 +54,7 @@ static size_t put_letter(unsigned char *to, uint32_t letter) {
 
 /* Words: UTF-16 of the command line as UTF-8. Half a pair of surrogates becomes three bytes that are no UTF-8, so that the
    program refuses the word, as it refuses such bytes elsewhere. */
-static char *utf8_of(const wchar_t *text) {
+char *utf8_of(const wchar_t *text) {
     size_t length = wcslen(text), at = 0;
     unsigned char *bytes = malloc(3 * length + 1);
     if (!bytes) return NULL;
@@ -88,21 +86,37 @@ wchar_t *wide_path(const char *path) {
     return MultiByteToWideChar(CP_UTF8, MB_ERR_INVALID_CHARS, path, -1, wide, PATH_MOST) ? wide : NULL;
 }
 
+HANDLE opened(const char *path, DWORD access) {
+    wchar_t *wide = wide_path(path);
+    DWORD share = FILE_SHARE_READ | FILE_SHARE_WRITE | FILE_SHARE_DELETE;
+    return wide ? CreateFileW(wide, access, share, NULL, OPEN_EXISTING, FILE_ATTRIBUTE_NORMAL, NULL) : INVALID_HANDLE_VALUE;
+}
+
+int add_bytes(struct bytes *to, const void *from, size_t count) {
+    if (to->size + count > to->room) {
+        size_t room = 2 * to->room + count + 256;
+        unsigned char *at = realloc(to->at, room);
+        if (!at) return 0;
+        to->at = at, to->room = room;
+    }
+    memcpy(to->at + to->size, from, count);
+    to->size += count;
+    return 1;
+}
+
 /* Files: the module opens to read alone. */
 int port_open(const char *path, int flags, ...) {
     int number = 3;
     if (flags & 3) return fails(BAD_NUMBER);
     while (number < OPEN_MOST && files[number].is_open) number++;
     if (number == OPEN_MOST) return fails(BAD_NUMBER);
-    struct file opened = {.built_in = built_in_named(path), .is_open = 1};
-    if (!opened.built_in) {
-        wchar_t *wide = wide_path(path);
-        if (!wide) return fails(NONE);
-        opened.handle = CreateFileW(wide, GENERIC_READ, FILE_SHARE_READ | FILE_SHARE_WRITE | FILE_SHARE_DELETE, NULL,
-                                    OPEN_EXISTING, FILE_ATTRIBUTE_NORMAL, NULL);
-        if (opened.handle == INVALID_HANDLE_VALUE) return fails_by_system();
+    struct file file = {.built_in = built_in_named(path), .is_open = 1};
+    if (!file.built_in) {
+        if (!wide_path(path)) return fails(NONE);
+        file.handle = opened(path, GENERIC_READ);
+        if (file.handle == INVALID_HANDLE_VALUE) return fails_by_system();
     }
-    files[number] = opened;
+    files[number] = file;
     return number;
 }
 
@@ -133,6 +147,7 @@ int64_t port_write(int number, const void *from, uint64_t count) {
     DWORD moved;
     struct file *file = known(number);
     if (!file || file->built_in) return fails(BAD_NUMBER);
+    if (file->kept) return add_bytes(file->kept, from, count) ? (int64_t)count : fails(OTHER);
     if (WriteFile(file->handle, from, count < MOVE_MOST ? count : MOVE_MOST, &moved, NULL)) return moved;
     return fails_by_system();
 }
@@ -194,6 +209,8 @@ int run_proved(int count, char **given) {
 }
 
 void set_output(HANDLE handle) { files[1].handle = handle, files[1].is_open = 1; }
+
+void keep_stream(int number, struct bytes *to) { files[number].kept = to, files[number].is_open = 1; }
 
 int _dowildcard = 0; /* words stay as they are: the C run-time of MinGW would look for files behind a * */
 
