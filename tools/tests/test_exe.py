@@ -346,6 +346,28 @@ class Sentences(Exe):
         return [paths.rows(self.at('many.csv'))[view] for view in views[:1]]
 
 
+class ToolJobs(Exe):
+    """The tools in Python over doomview.exe, as a release on Windows has them."""
+
+    def both(self, *words):
+        """What the command does with doomview.exe and with the program: status and outputs of each."""
+        with open(EXE, 'rb') as file:
+            path = self.there.command(file.read())
+        runs = (subprocess.run([COMMAND, *words], cwd=self.folder, env={**os.environ, 'DOOMVIEW': program}, stdin=subprocess.DEVNULL,
+                               capture_output=True) for program in (path, TESTED))
+        return [(done.returncode, done.stdout, done.stderr.decode().replace('\r', '')) for done in runs]
+
+    def test_tools(self):
+        """They write the same, and sentences come once."""
+        level = self.room()
+        for words in (['limits', *level, '--places'], ['audit', 'MAP02', *level[1:]], ['render', *level, '--zone', '20000', '-o', 'a.bin'],
+                      ['explain', 'audit', *level, '--skill', '9'], ['limits-map', 'room.wad', 'MAP01', '--shut', '--json', '--step', '256', '--jobs', '1'],
+                      ['why-limit', 'room.wad', 'MAP01', '512,192,90'], ['lint', 'room.wad', 'MAP01'], ['audit-all', 'room.wad']):
+            exe, native = self.both(*words)
+            self.assertEqual(exe, native, words)
+        self.assertEqual(self.both('picture', 'room.wad', 'a.png')[0], (0, b'', ''))
+
+
 class Consoles(Exe):
     """A console of Wine on a terminal, and help."""
 
