@@ -449,11 +449,14 @@ class Consoles(Exe):
     def test_dropped(self):
         """WADs that are dropped on the icon bring the overview, and how to draw them."""
         self.room('räume 1.wad')
-        for words in (['räume 1.wad'], ['räume 1.wad', 'path.csv'], ['Z:' + self.at('räume 1.wad')]):
+        for words in (['räume 1.wad'], ['path.csv', 'räume 1.wad'], ['Z:' + self.at('räume 1.wad')]):
             status, output, said = self.whole(*words)
             self.assertEqual((status, output), (1, b''))
             self.assertIn(built_in.overview(), said)
-            self.assertTrue(said.endswith(f'  doomview picture "{words[0]}" picture.png\n'), said)
+            self.assertTrue(said.endswith(f'  doomview picture "{words[-1]}" picture.png\n'), said)
+        self.assertTrue(self.whole('path.csv')[2].endswith(built_in.overview()))
+        shutil.copy(self.at('path.csv'), self.at('help'))
+        self.assertEqual(self.whole('help')[0], 0)
 
 
 if __name__ == '__main__':
