@@ -16,6 +16,7 @@ from .jobs import LEVEL_JOBS, NO_PROGRAM, USAGE, WRITE_FAULT, Words, wrong_words
 from .trouble import Ended, Trouble
 
 SECONDS = 300  # that a run of the sources without proofs may take
+SENTENCE = 'explain: '  # before each sentence on a line of the program
 SHOWN = 5  # lines of what rt said where there was no run
 
 
@@ -144,9 +145,11 @@ def complete(words: typing.Iterable[str]) -> list[str]:
 
 
 def run_of(status: int, output: typing.Optional[bytes], said: bytes) -> Run:
-    """How a run ended; one that a signal ended has 128 and its number, as in a shell."""
-    text = said.decode(errors='replace')
-    return Run(status if status >= 0 else 128 - status, output or b'', (text.splitlines() or [''])[-1], text)
+    """How a run ended; one that a signal ended has 128 and its number, as in a shell. The sentences that doomview.exe adds
+    to its line are left out, since the command has its own."""
+    lines = [line for line in said.decode(errors='replace').splitlines(True) if not line.startswith(SENTENCE)]
+    last = ''.join(lines[-1:]).rstrip('\r\n')
+    return Run(status if status >= 0 else 128 - status, output or b'', last, ''.join(lines))
 
 
 def run(words: typing.Iterable[str], output: Output = None, unproved: bool = False) -> Run:

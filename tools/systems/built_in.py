@@ -20,7 +20,7 @@ OVERVIEW = '''doomview {version} for Windows, a preview: the proved program comp
 usage: doomview JOB WORDS.. [OPTIONS]
        doomview picture [WAD [MAP]] OUT.png [OPTIONS]
 
-It runs in a console (Command Prompt or PowerShell), in the folder of your WADs.
+It runs in a console: in Command Prompt as it is written here, in PowerShell with .\\ before it.
 
 Jobs of the proved program:
 {jobs}

@@ -346,6 +346,28 @@ class Sentences(Exe):
         return [paths.rows(self.at('many.csv'))[view] for view in views[:1]]
 
 
+class ToolJobs(Exe):
+    """The tools in Python over doomview.exe, as a release on Windows has them."""
+
+    def both(self, *words):
+        """What the command does with doomview.exe and with the program: status and outputs of each."""
+        with open(EXE, 'rb') as file:
+            path = self.there.command(file.read())
+        runs = (subprocess.run([COMMAND, *words], cwd=self.folder, env={**os.environ, 'DOOMVIEW': program}, stdin=subprocess.DEVNULL,
+                               capture_output=True) for program in (path, TESTED))
+        return [(done.returncode, done.stdout, done.stderr.decode().replace('\r', '')) for done in runs]
+
+    def test_tools(self):
+        """They write the same, and sentences come once."""
+        level = self.room()
+        for words in (['limits', *level, '--places'], ['audit', 'MAP02', *level[1:]], ['render', *level, '--zone', '20000', '-o', 'a.bin'],
+                      ['explain', 'audit', *level, '--skill', '9'], ['limits-map', 'room.wad', 'MAP01', '--shut', '--json', '--step', '256', '--jobs', '1'],
+                      ['why-limit', 'room.wad', 'MAP01', '512,192,90'], ['lint', 'room.wad', 'MAP01'], ['audit-all', 'room.wad']):
+            exe, native = self.both(*words)
+            self.assertEqual(exe, native, words)
+        self.assertEqual(self.both('picture', 'room.wad', 'a.png')[0], (0, b'', ''))
+
+
 class Consoles(Exe):
     """A console of Wine on a terminal, and help."""
 
@@ -427,11 +449,14 @@ class Consoles(Exe):
     def test_dropped(self):
         """WADs that are dropped on the icon bring the overview, and how to draw them."""
         self.room('räume 1.wad')
-        for words in (['räume 1.wad'], ['räume 1.wad', 'path.csv'], ['Z:' + self.at('räume 1.wad')]):
+        for words in (['räume 1.wad'], ['path.csv', 'räume 1.wad'], ['Z:' + self.at('räume 1.wad')]):
             status, output, said = self.whole(*words)
             self.assertEqual((status, output), (1, b''))
             self.assertIn(built_in.overview(), said)
-            self.assertTrue(said.endswith(f'  doomview picture "{words[0]}" picture.png\n'), said)
+            self.assertTrue(said.endswith(f'  doomview picture "{words[-1]}" picture.png\n'), said)
+        self.assertTrue(self.whole('path.csv')[2].endswith(built_in.overview()))
+        shutil.copy(self.at('path.csv'), self.at('help'))
+        self.assertEqual(self.whole('help')[0], 0)
 
 
 if __name__ == '__main__':

@@ -193,7 +193,7 @@ class Explain(Tools):
         status, _, error = self.run_tool('explain', 'doomview: refused 605 4')
         self.assertEqual((status, error.count('\n')), (0, 1))
         self.assertIn('605: the SSECTORS record has no seg', error)
-        self.write('said', b'something\ndoomview: refused 605 4\n')
+        self.write('said', b'something\ndoomview: refused 605 4\nexplain: 605: as doomview.exe says it\n')
         self.assertIn('605: ', self.run_tool('explain', '--said', 'said', 'audit', *MAP)[2])
         self.refuses('cannot read absent', 'explain', '--said', 'absent', 'audit')
         self.refuses('needs the words of a job, or a line of doomview', 'explain')

@@ -19,7 +19,7 @@ from systems import static
 
 TESTED = os.environ.get('DOOMVIEW_TESTED', '')
 HEADING = '## 2.1, 2026\n'
-PLACES = ['README.md', 'CHANGELOG.md', 'doomview', 'out/doomview', 'bin/doomview', 'share/man/man1/doomview.1',
+PLACES = ['README.md', 'CHANGELOG.md', 'doomview', 'doomview.cmd', 'out/doomview', 'bin/doomview', 'share/man/man1/doomview.1',
           'docs/REFUSALS.md', 'docs/FREEDOOM.txt', 'docs/doomview.1', 'vectors/check',
           'tools/doomview_tools/__main__.py', 'tools/data/things.csv', 'tools/data/version', 'tools/original/build',
           'crates/doom_run/src/top.rt']
@@ -39,7 +39,7 @@ class Packing(Tools):
         super().setUp()
         self.clone()
         shutil.rmtree(self.at('clone/docs'))
-        for page in ('README.md', 'docs', 'vectors', 'bench'):
+        for page in ('README.md', 'doomview.cmd', 'docs', 'vectors', 'bench'):
             (shutil.copytree if os.path.isdir(os.path.join(TOP, page)) else shutil.copy)(
                 os.path.join(TOP, page), self.at('clone', page))
         shutil.copy(os.path.join(TOOLS, 'original/still.c'), self.at('clone/tools/original'))

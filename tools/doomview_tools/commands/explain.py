@@ -36,7 +36,8 @@ def add_words(parser: argparse.ArgumentParser) -> None:
 def last_line(path: str) -> str:
     try:
         with open(path, errors='replace') as file:
-            return (file.read().splitlines() or [''])[-1]
+            lines = [line for line in file.read().splitlines() if not line.startswith(program.SENTENCE)]
+        return (lines or [''])[-1]
     except OSError as error:
         raise Trouble(f'cannot read {path}: {error.strerror}') from error
 

@@ -91,11 +91,11 @@ static int help(const char *name) {
     return end_sentence("doomview: "), USAGE;
 }
 
-/* Whether all words are files that are there, as where they were dropped on the icon. */
+/* Whether all words are files that are there, as where they were dropped on the icon; a job or a tool has no such name. */
 static int are_dropped(int count, char **words) {
     for (int i = 0; i < count; i++) {
-        wchar_t *wide = wide_path(words[i]);
-        if (job_named(words[i]) || !wide || GetFileAttributesW(wide) == INVALID_FILE_ATTRIBUTES) return 0;
+        wchar_t *wide = strpbrk(words[i], "\\/.") ? wide_path(words[i]) : NULL;
+        if (!wide || GetFileAttributesW(wide) == INVALID_FILE_ATTRIBUTES) return 0;
     }
     return 1;
 }
@@ -104,9 +104,11 @@ static int are_dropped(int count, char **words) {
 static int welcome(int count, char **words) {
     say(STD_ERROR_HANDLE, count ? "doomview: a file alone says not what to do with it; this is what can be done\n\n" : "doomview: usage\n");
     say(STD_ERROR_HANDLE, overview);
-    if (count) {
-        put("doomview picture \"%s\" picture.png", words[0]);
-        end_sentence("\nThis draws the first map of a WAD:\n\n  ");
+    for (int i = 0; i < count; i++) {
+        if (!is_wad_name(words[i])) continue;
+        put("doomview picture \"%s\" picture.png", words[i]);
+        end_sentence("\nThis draws the first map of that WAD:\n\n  ");
+        break;
     }
     wait_for_key();
     return USAGE;

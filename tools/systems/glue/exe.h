@@ -135,6 +135,7 @@ int say_unreadable_file(const char *head, const char *path);      /* says why a 
 
 /* picture.c: one view as a PNG; png.c: the form. */
 int picture(struct words words);
+int is_wad_name(const char *word);
 extern struct built_in path_file; /* the camera path of the picture */
 struct bytes png_of(int width, int height, const unsigned char *rgb);
 

@@ -22,7 +22,7 @@ static int ends_in(const char *text, const char *ending) {
     return length > size && !_stricmp(text + length - size, ending);
 }
 
-static int is_wad(const char *word) { return ends_in(word, ".wad"); }
+int is_wad_name(const char *word) { return ends_in(word, ".wad"); }
 
 /* Takes the words; 0, or says what is wrong with them. */
 static int take_words(struct drawing *drawing) {
@@ -32,7 +32,7 @@ static int take_words(struct drawing *drawing) {
     if (count < 2 || count > 4) return put("the words are [WAD [MAP]] OUT.png; doomview picture --help shows them"), fails();
     drawing->file = plain[count - 1];
     if (!ends_in(drawing->file, ".png")) return put("the name of the picture has to end in .png, and %s does not", drawing->file), fails();
-    int is_turned = count == 4 && is_wad(plain[2]) && !is_wad(plain[1]);
+    int is_turned = count == 4 && is_wad_name(plain[2]) && !is_wad_name(plain[1]);
     drawing->own = count > 2 ? plain[is_turned ? 2 : 1] : "<room>";
     drawing->map = count > 3 ? plain[is_turned ? 1 : 2] : NULL;
     drawing->place = value_of(words, "--at");
