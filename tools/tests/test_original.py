@@ -6,6 +6,9 @@ import sys
 import unittest
 
 from made_files import TOP, Tools
+from made_maps import Map
+from doomview_tools import grid_paths, levels
+from doomview_tools.levels import TURN, UNIT
 
 # Draws a frame of its row's number for each row of the path; counts a view; ends view 3 for want of planes.
 DOOMVIEW = '''#!PYTHON
@@ -77,6 +80,19 @@ class Original(Tools):
         self.assertEqual(os.path.getsize(self.at('kept/near-MAP01/ours.bin')), 128000)
         self.assertEqual(self.measured('--maps', 'MAP01')[1][-1], lines[-1])
 
+    def test_grid(self):
+        """Of a room of 256 by 128 units a grid of 64 has 8 places, and so 16 views in two directions."""
+        self.originals('tangent')
+        self.write('room.wad', Map('aaaa', 'aaaa').wad())
+        status, output, error = self.run_command(self.at(ORIGINAL, 'measure'), 'room.wad', '--sets', 'grid', '--step', '64',
+                                                '--directions', '2', doomview=self.doomview)
+        self.assertEqual((status, error), (0, ''))
+        lines = output.decode().splitlines()
+        self.assertEqual(lines[0], 'grid MAP01 view 1: memory, pixels 64000')
+        self.assertEqual(lines[-1], '| grid | 16 | 1 | 13 | 1 | 0 | 1 | 0 | 0 | 0 | 0 | 128000 |')
+        self.refuses('--step and --directions are 1 or more', 'room.wad', '--step', '0',
+                     command=self.at(ORIGINAL, 'measure'), doomview=self.doomview)
+
     def test_unexplained(self):
         self.originals('none')
         status, lines = self.measured()
@@ -113,6 +129,21 @@ class Original(Tools):
             self.assertRegex(output.decode(), rf'MAP01{first} \| -?[0-9.]+{ratio} \|\n'
                                               rf'\| mean{first} \| -?[0-9.]+{ratio} \|\n$')
             self.originals('none')
+
+
+class Grid(Tools):
+    def test_places(self):
+        """The places of a grid are those 16 units off the walls, and each has its directions evenly apart."""
+        level = levels.read([self.write('two.wad', Map('aaaa', 'aaaa').wad())], 'MAP01')
+        found = grid_paths.rows(level, 16, 3, 1)
+        places = list(dict.fromkeys((row.x, row.y) for row in found))
+        self.assertEqual((len(places), len(found)), (14 * 6, 3 * 14 * 6))
+        self.assertEqual({row.z for row in found}, {41 * UNIT})
+        for first, second, third in zip(found[::3], found[1::3], found[2::3]):
+            self.assertEqual([(it.angle - first.angle) % TURN for it in (second, third)], [TURN // 3, TURN * 2 // 3])
+        self.assertGreater(len({row.angle for row in found[::3]}), 80)
+        self.assertEqual(grid_paths.rows(level, 16, 3, 1), found)
+        self.assertNotEqual(grid_paths.rows(level, 16, 3, 2), found)
 
 
 if __name__ == '__main__':
