@@ -13,7 +13,7 @@ import tempfile
 import typing
 import zlib
 
-from . import levels, original, paths, weapons
+from . import beside_vectors, levels, original, paths, weapons
 from .doom import EVERY_SKILL
 from .frames import SIZE
 from .trouble import Trouble
@@ -31,7 +31,7 @@ HELD = [PISTOL, (weapons.raised_layer('PUNG'),), (weapons.raised_layer('SHTG', '
         (weapons.raised_layer('PISG', 'B'), weapons.raised_layer('PISF', 'A', 1)),
         (weapons.raised_layer('MISG', 'B'), weapons.raised_layer('MISF', 'B', 1)),
         (weapons.Layer('CHGG', 'A', 0, -700000, 40 * weapons.UNIT + 12345),)]
-WADS, WADS_HEAD = 'wads.csv', 'vectors,wad,version,sha256'  # beside the vectors: which WADs they are of
+WADS, WADS_HEAD = 'wads.csv', ['vectors', 'wad', 'version', 'sha256', 'lumps']  # beside the vectors: the WADs of each
 NONE = '-'  # the sum where a run ends without the frame
 
 
@@ -154,15 +154,22 @@ def text(vectors: typing.Iterable[Vector]) -> str:
 
 def wads_text(folder: str, name: str, wad: str) -> str:
     """The text of a folder's table of WADs with the WAD of the vectors of a name, in the place of an older line."""
-    try:
-        with open(os.path.join(folder, WADS), encoding='utf-8') as file:
-            lines = file.read().splitlines()[1:]
-    except OSError:
-        lines = []
-    with open(wad, 'rb') as file:
-        own = f'{name},{os.path.basename(wad)},,{hashlib.sha256(file.read()).hexdigest()}'
-    kept = [line for line in lines if line.split(',')[0] != name]
-    return '\n'.join([WADS_HEAD, *kept, own]) + '\n'
+    rows = beside_vectors.asked('games', 'known', folder)
+    own = {'vectors': name, 'wad': os.path.basename(wad), 'sha256': beside_vectors.asked('games', 'sum_of', wad),
+           'lumps': beside_vectors.asked('games', 'sum_of_lumps', wad)}
+    same: typing.Dict[str, str] = next((row for row in rows if (row['vectors'], row['sha256']) == (name, own['sha256'])), {})
+    out = io.StringIO()
+    table = csv.DictWriter(out, WADS_HEAD, restval='', extrasaction='ignore', lineterminator='\n')
+    table.writeheader()
+    table.writerows([*(row for row in rows if row['vectors'] != name), {**same, **own}])
+    return out.getvalue()
+
+
+def check_wad(path: str, wad: str) -> None:
+    """A Trouble where the vectors of a file are of another WAD, with both sums."""
+    sentence, is_right = beside_vectors.asked('games', 'told', wad, path)
+    if not is_right:
+        raise Trouble(sentence)
 
 
 def vector_of(record: typing.Dict[str, str]) -> Vector:

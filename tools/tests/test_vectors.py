@@ -9,8 +9,8 @@ import tempfile
 import unittest
 
 import pages_shown
-from made_files import TOP, Tools
-from doomview_tools import original, vectors, wads, weapons
+from made_files import TOP, Tools, wad
+from doomview_tools import beside_vectors, original, vectors, wads, weapons
 from test_original import DOOMVIEW
 
 # Draws what the stand-in for doomview does, but view 1 of many without zeros behind memory, and with packed spans
@@ -28,8 +28,10 @@ with open(word['-out'], 'wb') as out, open(word['-counts'], 'w') as counts:
 '''
 CHECK, CI = (os.path.join(TOP, 'vectors', name) for name in ('check', 'ci'))
 TESTED = os.environ.get('DOOMVIEW_TESTED', '')
-FREEDOOM = {'freedoom1': ['E1M1', 'E4M2'], 'freedoom2': ['MAP01', 'MAP26']}  # files of vectors, and maps to draw again
-MOST_BYTES = 500000
+GAMES = {'freedoom1': ['E1M1', 'E4M2'], 'freedoom2': ['MAP01', 'MAP26']}
+# Files of vectors, and maps to draw again.
+FREEDOOM = {game + version: maps for version in ('', '-0.13.0') for game, maps in GAMES.items()}
+MOST_BYTES = 800000
 FRAME = 64000
 HEAD = ','.join(vectors.Vector._fields)
 
@@ -56,6 +58,8 @@ class Made(Tools):
     def setUp(self):
         super().setUp()
         self.clone()
+        left_out = shutil.ignore_patterns('*.csv', '__pycache__')
+        shutil.copytree(os.path.dirname(CHECK), self.at('clone/vectors'), ignore=left_out)
         self.doomview = self.stand_in('doomview', DOOMVIEW.replace('PYTHON', sys.executable))
         self.write('room.wad', self.run_tool('room')[1])
 
@@ -85,8 +89,22 @@ class Made(Tools):
         status, output, error = self.run_command(CHECK, 'out/room.csv', 'ours', '--wad', 'room.wad')
         self.assertEqual((status, output), (0, b'MAP01 near same 20 departs 1\nall same 20 departs 1\n'), error)
         self.vectors('make', 'room.wad', '-o', 'out', '--jobs', '2')
-        self.assertEqual(self.read('out/wads.csv').splitlines(), ['vectors,wad,version,sha256', 'room.csv,room.wad,,'
-                         + hashlib.sha256(self.run_tool('room')[1]).hexdigest()])
+        lumps = beside_vectors.asked('games', 'sum_of_lumps', self.at('room.wad'))
+        self.assertEqual(self.read('out/wads.csv').splitlines(), ['vectors,wad,version,sha256,lumps', 'room.csv,room.wad,,'
+                         + f'{hashlib.sha256(self.run_tool("room")[1]).hexdigest()},{lumps}'])
+        self.vectors('make', 'room.wad', '-o', 'out', '--jobs', '2', '--name', 'other')
+        self.assertEqual([line.split(',')[:2] for line in self.read('out/wads.csv').splitlines()[1:]],
+                         [['room.csv', 'room.wad'], ['other.csv', 'room.wad']])
+        self.assertEqual(self.read('out/other.csv'), self.read('out/room.csv'))
+        self.other_wad()
+
+    def other_wad(self):
+        """draw refuses a WAD that the vectors are not of, with both sums."""
+        self.write('other.wad', wad([('PLAYPAL', bytes(768))]))
+        status, output, error = self.vectors('draw', 'out/room.csv', 'other.wad', '-o', 'ours')
+        self.assertEqual((status, output), (2, b''))
+        for name in ('other.wad', 'room.wad'):
+            self.assertIn(beside_vectors.asked('games', 'sum_of', self.at(name)), error)
 
     def test_spans(self):
         """draw draws with the spans that are named, with the WAD and the vectors in either order."""
@@ -153,8 +171,17 @@ class Compare(Tools):
 
 
 def game(name):
-    """The WAD of a file of vectors, or None."""
-    return wads.find_or_none(f'{name}.wad')
+    """The WAD of a file of vectors, or None where it is not installed, or another version is."""
+    path = wads.find_or_none(f'{name.partition("-")[0]}.wad')
+    return path if path and beside_vectors.asked('games', 'vectors_of', path) == f'{name}.csv' else None
+
+
+def games():
+    """The files of vectors whose WAD is there, and their maps to draw again."""
+    there = {name: maps for name, maps in FREEDOOM.items() if game(name)}
+    if not there:
+        raise unittest.SkipTest('no WAD of these vectors is there (package: freedoom)')
+    return there
 
 
 class Freedoom(unittest.TestCase):
@@ -167,7 +194,7 @@ class Freedoom(unittest.TestCase):
         """All maps, each with its places and the player start, in the order of the numbers; none unexplained."""
         folder = os.path.join(TOP, 'vectors')
         self.assertLess(sum(os.path.getsize(os.path.join(folder, name)) for name in os.listdir(folder)), MOST_BYTES)
-        for name, count in (('freedoom1', 36), ('freedoom2', 32)):
+        for name, count in zip(FREEDOOM, (36, 32, 36, 32)):
             found = self.files()[name]
             maps = list(dict.fromkeys(it.map for it in found))
             self.assertEqual((len(maps), sorted(maps)), (count, maps))
@@ -191,9 +218,7 @@ class Freedoom(unittest.TestCase):
 
     @unittest.skipUnless(TESTED, 'the program is not built')
     def test_drawn_again(self):
-        for name, maps in FREEDOOM.items():
-            if not game(name):
-                self.skipTest(f'{name}.wad is not there (package: freedoom)')
+        for name, maps in games().items():
             folder = tempfile.mkdtemp()
             self.addCleanup(shutil.rmtree, folder)
             self.draw(name, folder, maps)
@@ -248,9 +273,7 @@ class Freedoom(unittest.TestCase):
     def test_originals(self):
         """The original's frames of all views, with full and with packed spans, are right where they are asked for, and
         wrong where the others are, on each map; and rows with a pixel changed are named."""
-        for name in FREEDOOM:
-            if not game(name):
-                self.skipTest(f'{name}.wad is not there (package: freedoom)')
+        for name in games():
             for spans, words, other in (('full', '', 'packed'), ('packed', '-dosspan', 'full')):
                 folder = tempfile.mkdtemp()
                 self.addCleanup(shutil.rmtree, folder)

@@ -15,8 +15,8 @@ Makes the vectors of a WAD, or draws doomview's own frames of them.
 
 make WAD writes FOLDER/NAME.csv: for viewpoints of each map the sums of doomview's frame, of the original's with packed
 spans, and in one word whether the original with full spans draws the same, or which rule explains that it does not. It
-writes the WAD's own sum into FOLDER/wads.csv, by which vectors/check knows the WAD. It needs the programs that
-tools/original/build makes of Debian's source package of chocolate-doom.
+writes the WAD's own sum into FOLDER/wads.csv, by which vectors/check knows the WAD; NAME is that of the WAD, or --name. It
+needs the programs that tools/original/build makes of Debian's source package of chocolate-doom.
 
 draw VECTORS.csv WAD draws the frames of the vectors into FOLDER, a file for each map and set, as a port has to write
 them: MAP01.bin has those of the set near, MAP01-sizes.bin those of the set sizes. So doomview compare can show where a
@@ -26,7 +26,7 @@ $ doomview vectors make freedoom2.wad -o vectors
 $ doomview vectors draw vectors/freedoom2.csv freedoom2.wad -o ours --maps MAP01,MAP07
 $ vectors/check vectors/freedoom2.csv ours --maps MAP01,MAP07
 ''', 'the program; for make the programs of tools/original', usage=(
-        'make WAD [-o FOLDER] [--maps NAMES] [--jobs N]',
+        'make WAD [-o FOLDER] [--name NAME] [--maps NAMES] [--jobs N]',
         'draw VECTORS.csv WAD [-o FOLDER] [--maps NAMES] [--sets NAMES] [--spans S] [--jobs N]'),
     forms=('make WAD', 'draw VECTORS.csv WAD'), more='VECTORS.md')
 
@@ -39,6 +39,7 @@ def add_words(parser: argparse.ArgumentParser) -> None:
     parser.add_argument('--maps', metavar='NAMES', type=names, help='these maps alone, with commas between them')
     parser.add_argument('--sets', metavar='NAMES', type=names, default=vectors.SETS, help='these sets alone, of '
                         + ','.join(vectors.SETS))
+    parser.add_argument('--name', metavar='NAME', help="of make: the name of the vectors, else that of the WAD")
     parser.add_argument('--spans', metavar='S', choices=list(original.SPANS), help='of draw: full or packed; else full')
     parser.add_argument('--jobs', metavar='N', type=cli.number(1, 1000), default=system.processors(),
                         help='how many maps at a time; else one a processor')
@@ -92,7 +93,7 @@ def make(options: argparse.Namespace) -> None:
     check_originals()
     program.ready()
     found = all_of(lambda name: vectors.of_map(wad, name), maps, options.jobs)
-    name = os.path.splitext(os.path.basename(wad))[0]
+    name = options.name or os.path.splitext(os.path.basename(wad))[0]
     folder = folder_of(options)
     text = vectors.text(vector for of_map in found for vector in of_map)
     write_whole(os.path.join(folder, f'{name}.csv'), text.encode())
@@ -104,6 +105,7 @@ def draw(options: argparse.Namespace) -> None:
         raise Trouble('draw takes a file of vectors and a WAD; doomview vectors --help shows its words')
     table, wad = options.files[::-1] if options.files[1].lower().endswith('.csv') else options.files
     rows, wad = vectors.read(table), wads.find(wad)
+    vectors.check_wad(table, wad)
     maps = chosen(list(dict.fromkeys(row.map for row in rows)), options.maps, 'map')
     sets = chosen(vectors.SETS, options.sets, 'set')
     program.ready()
