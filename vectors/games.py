@@ -8,6 +8,19 @@ from pictures import Refused
 TABLE = 'wads.csv'
 CHUNK = 1 << 20
 HERE = os.path.dirname(os.path.abspath(__file__))
+FOLDERS = ['/usr/local/share/games/doom', '/usr/share/games/doom', '/usr/local/share/doom', '/usr/share/doom',
+           '/usr/share/games/freedoom']  # of the packages of Linux
+
+
+def found(name: str) -> str:
+    """The path of a WAD: as it is named, or else where ports look for one; the name where there is none."""
+    data = os.environ.get('XDG_DATA_HOME') or os.path.join(os.path.expanduser('~'), '.local', 'share')
+    own = [os.environ.get('DOOMWADDIR', ''), *os.environ.get('DOOMWADPATH', '').split(os.pathsep)]
+    folders = [folder for folder in [*own, os.path.join(data, 'games', 'doom'), *FOLDERS] if folder]
+    files = [name, f'{name}.wad', name.lower(), f'{name.lower()}.wad']
+    paths = [] if os.path.dirname(name) or os.path.exists(name) else \
+        [os.path.join(folder, file) for folder in folders for file in files]
+    return next((path for path in paths if os.path.isfile(path)), name)
 
 
 def sum_of(path: str) -> str:
