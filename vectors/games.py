@@ -19,19 +19,15 @@ FOLDERS = ['/usr/local/share/games/doom', '/usr/share/games/doom', '/usr/local/s
 Row = typing.Dict[str, str]
 
 
-def folders() -> typing.List[str]:
-    """The folders in which ports look for a WAD."""
+def found(name: str) -> str:
+    """The path of a WAD: as it is named, or else where ports look for one; the name where there is none."""
     data = os.environ.get('XDG_DATA_HOME') or os.path.join(os.path.expanduser('~'), '.local', 'share')
-    named = [os.environ.get('DOOMWADDIR', ''), *os.environ.get('DOOMWADPATH', '').split(os.pathsep)]
-    return [folder for folder in [*named, os.path.join(data, 'games', 'doom'), *FOLDERS] if folder]
-
-
-def find(name: str) -> typing.Optional[str]:
-    """The path of a WAD, as it is named or where ports look for it; None where it is not there."""
-    if os.path.dirname(name) or os.path.exists(name):
-        return name if os.path.isfile(name) else None
-    paths = (os.path.join(folder, name + ending) for folder in folders() for ending in ('', '.wad'))
-    return next((path for path in paths if os.path.isfile(path)), None)
+    own = [os.environ.get('DOOMWADDIR', ''), *os.environ.get('DOOMWADPATH', '').split(os.pathsep)]
+    folders = [folder for folder in [*own, os.path.join(data, 'games', 'doom'), *FOLDERS] if folder]
+    files = [name, f'{name}.wad', name.lower(), f'{name.lower()}.wad']
+    paths = [] if os.path.dirname(name) or os.path.exists(name) else \
+        [os.path.join(folder, file) for folder in folders for file in files]
+    return next((path for path in paths if os.path.isfile(path)), name)
 
 
 def sum_of(path: str) -> str:

@@ -242,6 +242,19 @@ class Check(Tools):
         self.assertEqual((status, error), (2, 'check: game.wad is no WAD with a PLAYPAL\n'))
         self.assertEqual(self.run_command(CHECK, '--wad', 'absent.wad')[0], 2)
 
+    def test_wads_are_found_where_ports_look(self):
+        os.makedirs(self.at('wads', 'more'))
+        self.write('wads/game.wad', b'IWAD' + bytes(9))
+        self.write('wads.csv', b'vectors,wad,version,sha256\n')
+        self.write('made.csv', vectors.text([vector(0, frame(1), frame(2))]).encode())
+        for name, place in (('game.wad', {'DOOMWADDIR': self.at('wads')}), ('GAME', {'DOOMWADPATH': f':{self.at("wads")}'})):
+            status, output, error = self.run_command(CHECK, '--wad', name, **place)
+            self.assertEqual((status, output), (3, b''))
+            self.assertTrue(error.startswith(f'check: {self.at("wads", "game.wad")} is another WAD, with the SHA-256'), error)
+        for name, place in (('game.wad', {}), ('more/game.wad', {'DOOMWADDIR': self.at('wads')})):
+            status, output, error = self.run_command(CHECK, '--wad', name, **place)
+            self.assertEqual((status, error), (2, f'check: cannot read {name}: No such file or directory\n'))
+
     def test_trouble(self):
         self.write('other.csv', b'x,y\n1,2\n')
         for part, words in [('cannot read absent.csv', ['absent.csv', 'port']),
