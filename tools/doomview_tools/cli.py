@@ -198,7 +198,8 @@ def add_help(parser: argparse.ArgumentParser) -> None:
 
 def job_page(job: jobs.Job) -> str:
     """The help page of a job, by the table of options."""
-    ends = '\n'.join(f'{number:2}  {": ".join(filter(None, status))}' for number, status in jobs.STATUSES.items())
+    ends = '\n'.join(f'{number:2}  {": ".join(filter(None, status))}' for number, status in jobs.STATUSES.items()
+                     if number != jobs.NO_SUCH_WORD)
     parser = Parser(Page(job.name, job.summary, job.text, job.examples, 'the program; it is built at the first call',
                          ends))
     for metavar, meaning in job.words:
