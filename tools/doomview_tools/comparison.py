@@ -8,7 +8,8 @@ import itertools
 import signal
 import typing
 
-from . import cli, diagnoses, differences, frame_files, lights, lists, shares, silhouettes, system, traces, vectors, wads
+from . import (cli, diagnoses, differences, frame_files, lights, lists, setup_trials, shares, silhouettes, system, traces,
+               vectors, wads)
 from .frames import SIZE, WIDTH
 from .progress import Progress
 from .trouble import Trouble
@@ -52,6 +53,21 @@ def kinds_of(options: argparse.Namespace) -> typing.Optional[typing.Set[int]]:
     return named if options.only else {*traces.KINDS} - named
 
 
+def run_of(options: argparse.Namespace, files: typing.List[str], count: int) -> typing.Optional[setup_trials.Run]:
+    """How our side was drawn, where the path is named; a Trouble where other words of the run are missing."""
+    words = cli.job_words(options)
+    if not options.path:
+        if words:
+            raise Trouble(f'{words[0]} is a word of the run whose path is named by --path FILE')
+        return None
+    if not (options.map and files):
+        raise Trouble('--path needs --map and --wad too, so that our side can be drawn again')
+    run = setup_trials.Run(options.map, files, options.path, words)
+    if len(run.rows) != count:
+        raise Trouble(f'{options.path} has {len(run.rows)} rows, and {options.ours} {count} views; name the path of the run')
+    return run
+
+
 class Files:
     """The files of a comparison."""
 
@@ -65,7 +81,8 @@ class Files:
         self.known = vectors.of_frames(options.vectors, options.port) if options.vectors else []
         if options.trace and traces.count_views(options.trace) != self.counts[0]:
             raise Trouble(f'{options.trace} is not the trace of {self.counts[0]} views, as {options.ours} has them')
-        self.placing = lists.placing_of(options, files, self.counts[0], self.names)
+        self.placing = lists.placing_of(options, files, self.counts[0], self.names, bool(options.path))
+        self.run = run_of(options, files, self.counts[0])
         self.views = cli.views_of(options.views, min(self.counts)) if options.views is not None else \
             range(min(self.counts))
 

@@ -478,10 +478,11 @@ def add_words(parser: argparse.ArgumentParser) -> None:
 
 
 def placing_of(options: argparse.Namespace, files: typing.List[str], count: int,
-               names: Names) -> typing.Optional[Placing]:
-    """The list that the words of a tool name, or None; its trace has a number of views."""
+               names: Names, has_map: bool = False) -> typing.Optional[Placing]:
+    """The list that the words of a tool name, or None; its trace has a number of views. Where `has_map` holds a map may be
+    named without a list."""
     if not options.list:
-        if options.map:
+        if options.map and not has_map:
             raise Trouble('--map is the map of a list; name that by --list FILE')
         return None
     if not options.trace:

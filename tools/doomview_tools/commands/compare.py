@@ -4,7 +4,7 @@ import os
 import sys
 import typing
 
-from .. import cli, compare_reports, diagnoses, differences, frame_files, frames, lists, png, traces
+from .. import cli, compare_reports, diagnoses, differences, frame_files, frames, jobs, lists, png, setup_trials, traces
 from ..compare_page import MOST_VIEWS, ComparePage
 from ..comparison import Both, Files, Tasks, View, entries_of, lines_of
 from ..files import check_target, write_whole
@@ -33,6 +33,11 @@ which light.
 
 With --list, what doomview list wrote for the same words, the lines under those say where in the map that is: the pixels
 of each line, side and part of a wall, of each sector's floor or ceiling, and of each thing.
+
+With --path, --map and --wad, and what else the run was given (--skill, --size, --spans, --weapon), our side is drawn
+again with what ports get wrong: where more than half of the pixels of more than half of the views differ with another
+eye, angle, place, light, size or two of these, and always with other things (skill), floors (spans) or no weapon. A
+sentence says which of these makes our frames the port's.
 
 With --vectors a line ends with what is known of the port's frame there: that it has packed spans, or is the original's
 where doomview departs from it (docs/VECTORS.md). PORT is named by the map then, as MAP01.bin or MAP01-sizes.bin.
@@ -65,7 +70,7 @@ $ doomview compare ours.bin shots --wad freedoom2.wad --trace trace.bin --html c
  0  all views are the same
  1  some differ
  2  the files cannot be compared
-''', more='PORT.md#reading-a-comparison')
+''', needs='Python alone; for --path the program', more='PORT.md#reading-a-comparison')
 
 
 def add_words(parser: argparse.ArgumentParser) -> None:
@@ -83,6 +88,9 @@ def add_words(parser: argparse.ArgumentParser) -> None:
     parser.add_argument('--vectors', metavar='FILE', help='the vectors whose views the files have')
     parser.add_argument('--png', metavar='FOLDER', help='writes a picture of each view that differs into FOLDER')
     parser.add_argument('--html', metavar='OUT.html', help='writes a page of the views that differ')
+    parser.add_argument('--path', metavar='FILE', help='the camera path of the run: tries other set-ups where much differs; '
+                        'needs --map, --wad and the words of the run that are not usual')
+    cli.add_job_options(parser, 'render', [name for name in jobs.options() if name not in setup_trials.WORDS])
     parser.add_argument('--views', metavar='VIEWS', help='compares these views alone, as 3,7-9')
     parser.add_argument('--json', metavar='FILE', help='writes what was found of all views that differ as JSON')
     parser.add_argument('--junit', metavar='FILE', help='writes a test of each view, as JUnit does')
@@ -142,12 +150,19 @@ class Comparison:
         shares = self.summary.shares
         if shares.all:
             yield shares.line()
-        mistakes = diagnoses.whole_frames(self.case()) if self.files.kinds is None else []
+        mistakes = diagnoses.whole_frames(self.case()) or self.set_ups() if self.files.kinds is None else []
         yield from mistakes
         if not mistakes:
             by_rows = shares.share_of('plane') < PLANES_ALONE
             yield from self.summary.everywhere.sentences(len(self.files.views), by_rows)
             yield from self.summary.of_every_view(self.files.names)
+
+    def set_ups(self) -> typing.List[str]:
+        """A sentence on another set-up that makes our frames the port's, where the path is named."""
+        if not self.files.run:
+            return []
+        trials = setup_trials.Trials(self.files.run, self.files.both, [found.view for found in self.found])
+        return trials.sentences(2 * self.summary.far > len(self.found))
 
     def count_line(self) -> str:
         """A line on the pixels that count, where not all do."""
