@@ -164,6 +164,20 @@ def number(least: int, greatest: int) -> typing.Callable[[str], int]:
     return read
 
 
+def views_of(text: str, count: int) -> typing.List[int]:
+    """The numbers of the views that a word names, as 3,7-9, in ascending order; a Trouble where there are none."""
+    found: typing.Set[int] = set()
+    for part in text.split(','):
+        first, dash, last = part.partition('-')
+        if not first.isdecimal() or dash and not last.isdecimal():
+            raise Trouble(f'--views are numbers and ranges of views, as 3,7-9, and not {text}')
+        numbers = range(int(first), int(last or first) + 1)
+        if not numbers or numbers[-1] >= count:
+            raise Trouble(f'--views {part}: there are {count} views, from 0 to {count - 1}')
+        found.update(numbers)
+    return sorted(found)
+
+
 def forms_of(tool: types.ModuleType) -> typing.List[str]:
     """A tool with its plain words and those that it needs, once for each way of calling it."""
     needed = [argument.form for argument in parser_of(tool).arguments if not argument.names or argument.is_needed]
@@ -198,7 +212,8 @@ def add_help(parser: argparse.ArgumentParser) -> None:
 
 def job_page(job: jobs.Job) -> str:
     """The help page of a job, by the table of options."""
-    ends = '\n'.join(f'{number:2}  {": ".join(filter(None, status))}' for number, status in jobs.STATUSES.items())
+    ends = '\n'.join(f'{number:2}  {": ".join(filter(None, status))}' for number, status in jobs.STATUSES.items()
+                     if number != jobs.NO_SUCH_WORD)
     parser = Parser(Page(job.name, job.summary, job.text, job.examples, 'the program; it is built at the first call',
                          ends))
     for metavar, meaning in job.words:
