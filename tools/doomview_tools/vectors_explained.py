@@ -43,7 +43,7 @@ def renumbered(text: str, first: int) -> str:
 def draw_all(test: Test, views: typing.Sequence[View], folder: str) -> Drawn:
     """The same of any views, in their order."""
     frames, traces, lists, at = [], [], [], 0
-    for _, part in itertools.groupby(views, lambda view: (view.vector.map, vectors.key_of(view.vector))):
+    for _, part in itertools.groupby(views, run_of):
         of_run = list(part)
         drawn = draw(test, of_run, folder)
         frames.append(drawn[0])
@@ -69,10 +69,11 @@ class Compared:
     def __init__(self, test: Test, views: typing.List[View], folder: str) -> None:
         self.test, self.views, self.folder = test, views, folder
         frames, traces, lists = draw_all(test, views, folder)
-        port = test.frames(views)
+        layers = [weapons.of_word(view.vector.weapon) for view in views]
         for name, data in (('ours.bin', frames), ('trace.bin', traces), ('list.txt', lists.encode()),
-                           ('port.bin', b''.join(frame or bytes(SIZE) for frame in port)),
-                           ('rows.csv', paths.text([vectors.row_of(view.vector) for view in views]).encode())):
+                           ('port.bin', b''.join(frame or bytes(SIZE) for frame in test.frames(views))),
+                           ('rows.csv', paths.text([vectors.row_of(view.vector) for view in views]).encode()),
+                           ('weapon.csv', weapons.text(layers).encode())):
             write_whole(os.path.join(folder, name), data)
 
     def named(self, text: str) -> str:
@@ -83,6 +84,13 @@ class Compared:
         """What compare says of the views."""
         wad = self.test.wad_of(self.views[0].vector)
         return self.named(compare(['ours.bin', 'port.bin', '--wad', wad, '--trace', 'trace.bin', *words], self.folder))
+
+    def text_of_run(self) -> str:
+        """The same of views of one run, with lines, sectors and things; and where much differs, with other set-ups."""
+        first = self.views[0].vector
+        weapon = ['--weapon', 'weapon.csv'] if first.weapon else []
+        return self.text('--list', 'list.txt', '--map', first.map, '--path', 'rows.csv', '--spans', self.test.spans,
+                         '--skill', str(first.skill), '--size', str(first.size), *weapon)
 
     def page(self) -> typing.Tuple[str, str]:
         """What compare says of all views in short, and its page."""
@@ -96,6 +104,10 @@ def counted(views: typing.Iterable[View], all_of: typing.Sequence[View]) -> str:
     """How many views of each set are among some."""
     sets, whole = (collections.Counter(view.vector.set for view in some) for some in (views, all_of))
     return ', '.join(f'{name} {sets[name]} of {count}' for name, count in whole.items())
+
+
+def of_count(count: int) -> str:
+    return f'{count} view is' if count == 1 else f'{count} views are'
 
 
 def some_names(names: typing.Iterable[str]) -> str:
@@ -117,7 +129,7 @@ def head(test: Test) -> typing.Iterator[str]:
     for word, spans in OTHER_SPANS.items():
         others = test.of_word(word)
         if others:
-            yield (f'{len(others)} views are right but for their spans, which are {spans} (--spans {spans} takes them as '
+            yield (f'{of_count(len(others))} right but for the spans, which are {spans} (--spans {spans} takes them as '
                    f'right): {counted(others, test.views)}')
     yield from told_missing(test)
     none = test.of_word(NO_VERDICT)
@@ -130,18 +142,23 @@ def told_missing(test: Test) -> typing.Iterator[str]:
     """Lines on the views that the port did not draw, with the last that it said there."""
     missing = test.of_word(MISSING)
     if missing:
-        yield f'{len(missing)} views are missing: {some_names(view.name for view in missing)}'
+        yield f'{of_count(len(missing))} missing: {some_names(view.name for view in missing)}'
     said = {base: test.said(base) for base in dict.fromkeys(view.file for view in missing)}
     for base, text in list((pair for pair in said.items() if pair[1]))[:SHOWN]:
         yield f'at {base} the port said: {text.splitlines()[-1]}'
 
 
+def run_of(view: View) -> typing.Tuple[str, tuple]:
+    """What the views of one run have in common."""
+    return view.vector.map, vectors.key_of(view.vector)
+
+
 def parts_of(views: typing.List[View]) -> typing.List[typing.List[View]]:
-    """The views of some maps and sets: of each set by turns, so that none is left out."""
-    parts = [list(part) for _, part in itertools.groupby(views, lambda view: (view.vector.map, view.vector.set))]
+    """The views of some runs: of each set by turns, so that none is left out."""
     of_set = collections.defaultdict(list)
-    for part in parts:
-        of_set[part[0].vector.set].append(part)
+    for _, part in itertools.groupby(views, run_of):
+        of_run = list(part)
+        of_set[of_run[0].vector.set].append(of_run)
     turns = itertools.zip_longest(*of_set.values())
     return [part for turn in turns for part in turn if part][:MOST_PARTS]
 
@@ -157,7 +174,7 @@ def explain(test: Test, most: int, folder: str) -> typing.Tuple[str, str]:
     for part in parts_of(chosen):
         first = part[0].vector
         lines += ['', f'{first.map}, set {first.set}, with lines, sectors and things:',
-                  Compared(test, part, folder).text('--list', 'list.txt', '--map', first.map).rstrip()]
+                  Compared(test, part, folder).text_of_run().rstrip()]
     return '\n'.join(lines) + '\n', page
 
 
