@@ -82,7 +82,7 @@ class Compared:
 
     def text(self, *words: str) -> str:
         """What compare says of the views."""
-        wad = self.test.wad_of(self.views[0].vector)
+        wad = self.test.wad_of(self.views[-1].vector)
         return self.named(compare(['ours.bin', 'port.bin', '--wad', wad, '--trace', 'trace.bin', *words], self.folder))
 
     def text_of_run(self) -> str:

@@ -92,8 +92,12 @@ class Test:
         return [found.get(view, b'') for view in views]
 
     def wad_of(self, vector: Vector) -> str:
-        """The WAD that a vector is of."""
-        return self.wad
+        """The WAD that a vector is of: of the made map the one that ci wrote, or the same anew."""
+        if vector.set != vectors.MADE:
+            return self.wad
+        folder = os.path.join(self.folder, vectors.MADE)
+        path = os.path.join(folder, os.path.basename(self.wad))
+        return path if os.path.isfile(path) else beside_vectors.asked('made', 'write', self.wad, folder)
 
     def said(self, base: str) -> str:
         """What the port said in a run, or an empty text."""

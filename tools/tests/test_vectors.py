@@ -10,7 +10,7 @@ import unittest
 
 import pages_shown
 from made_files import TOP, Tools, wad
-from doomview_tools import beside_vectors, original, vectors, wads, weapons
+from doomview_tools import beside_vectors, original, vectors, vectors_map, wads, weapons
 from test_original import DOOMVIEW
 
 # Draws what the stand-in for doomview does, but view 1 of many without zeros behind memory, and with packed spans
@@ -31,7 +31,7 @@ TESTED = os.environ.get('DOOMVIEW_TESTED', '')
 GAMES = {'freedoom1': ['E1M1', 'E4M2'], 'freedoom2': ['MAP01', 'MAP26']}
 # Files of vectors, and maps to draw again.
 FREEDOOM = {game + version: maps for version in ('', '-0.13.0') for game, maps in GAMES.items()}
-MOST_BYTES = 800000
+MOST_BYTES = 850000
 FRAME = 64000
 HEAD = ','.join(vectors.Vector._fields)
 
@@ -75,7 +75,7 @@ class Made(Tools):
         self.assertEqual(self.vectors('make', 'room.wad', '-o', 'out', '--jobs', '2'), (0, b'', ''))
         found = vectors.read(self.at('out/room.csv'))
         self.assertEqual({kind: sum(it.set == kind for it in found) for kind in vectors.SETS},
-                         {'near': 21, 'sizes': 24, 'skills': 12, 'light': 16, 'weapons': 12})
+                         {'near': 21, 'sizes': 24, 'skills': 12, 'light': 16, 'weapons': 26, 'made': 0})
         near = found[:21]
         self.assertEqual([it.answer for it in near[:5]], ['same', 'memory', 'same', 'ended', 'same'])
         self.assertEqual([bool(it.original) for it in near[:5]], [False, True, False, True, False])
@@ -202,7 +202,8 @@ class Freedoom(unittest.TestCase):
                 for kind in vectors.SETS:
                     views = [it.view for it in found if (it.map, it.set) == (of_map, kind)]
                     self.assertEqual(views, list(range(len(views))))
-                    self.assertEqual(bool(views), kind == 'near' or of_map in vectors.MORE)
+                    self.assertEqual(bool(views), of_map in ('E1M1', 'MAP01') if kind == vectors.MADE else
+                                     kind == 'near' or of_map in vectors.MORE)
             self.assertLessEqual({it.answer for it in found}, {'same', 'memory', 'mark', 'tangent', 'back', 'several',
                                                                'ranges', 'ended'})
 
@@ -224,7 +225,7 @@ class Freedoom(unittest.TestCase):
             self.draw(name, folder, maps)
             status, lines = self.check(name, folder, maps)
             self.assertEqual((status, lines[-1]), (0, 'all same 42'))
-            self.assertEqual(self.check(name, folder, maps[:1], '--sets', 'weapons')[1][-1], 'all same 12')
+            self.assertEqual(self.check(name, folder, maps[:1], '--sets', 'weapons')[1][-1], 'all same 26')
             self.wrong_pixel(name, folder, maps)
 
     def wrong_pixel(self, name, folder, maps):
@@ -262,12 +263,39 @@ class Freedoom(unittest.TestCase):
         port = (f'"{os.path.join(TOP, "doomview")}" render "$MAP" "$WAD" --path "$ROWS" -o "$OUT" --skill "$SKILL" '
                 '--size "$SIZE" ${WEAPON:+--weapon "$WEAPON"}')
         maps = ['--maps', 'MAP07']
-        self.assertEqual(self.ci(game('freedoom2'), port, *maps)[:2], (0, 'all same 85'))
+        self.assertEqual(self.ci(game('freedoom2'), port, *maps)[:2], (0, 'all same 99'))
         near = [*maps, '--sets', 'near', '--spans']
         self.assertEqual(self.ci(game('freedoom2'), port + ' --spans packed', *near, 'packed')[:2], (0, 'all packed 21'))
         self.assertEqual(self.ci(game('freedoom2'), port, *near, 'packed')[0], 1)
         damaged = port + '; printf x | dd of="$OUT" bs=1 seek=70000 conv=notrunc'
         self.assertEqual(self.ci(game('freedoom2'), damaged, *near, 'full')[:2], (1, 'all same 20 wrong 1'))
+
+    def test_made(self):
+        """The made map of the repository is the one that its module makes, and over a game's WAD it is whole."""
+        with open(os.path.join(TOP, 'vectors', 'made.wad'), 'rb') as file:
+            self.assertEqual(file.read(), vectors_map.pwad())
+        for name in games():
+            folder = tempfile.mkdtemp()
+            self.addCleanup(shutil.rmtree, folder)
+            path = beside_vectors.asked('made', 'write', game(name), folder)
+            own, more = ({lump.name: lump.data for lump in wads.read(it)} for it in (game(name), path))
+            changed = {label for label in own if own[label] != more[label]}
+            self.assertEqual(changed, {'TEXTURE1', 'PNAMES', *wads.MAP_LUMPS, 'REJECT', 'BLOCKMAP'})
+            self.assertEqual(set(more) - set(own), {'MADEP48', 'MADEP32'})
+            self.assertEqual(more['PNAMES'][4:4 + len(own['PNAMES']) - 4], own['PNAMES'][4:])
+
+    @unittest.skipUnless(TESTED and game('freedoom2'), 'the program or freedoom2.wad (package: freedoom) is not there')
+    def test_made_drawn(self):
+        """doomview draws the made map as the vectors have it, and a port sees its WAD in WAD."""
+        folder = tempfile.mkdtemp()
+        self.addCleanup(shutil.rmtree, folder)
+        words = [os.path.join(TOP, 'doomview'), 'vectors', 'draw', os.path.join(TOP, 'vectors', 'freedoom2.csv'),
+                 game('freedoom2'), '-o', folder, '--maps', 'MAP01', '--sets', 'made', '--spans', 'packed']
+        subprocess.run(words, check=True, env={**os.environ, 'DOOMVIEW': TESTED})
+        self.assertEqual(self.check('freedoom2', folder, ['MAP01'], '--sets', 'made', '--spans', 'packed'),
+                         (0, ['MAP01 made packed 16', 'all packed 16']))
+        port = (f'"{os.path.join(TOP, "doomview")}" render "$MAP" "$WAD" --path "$ROWS" -o "$OUT" --spans packed')
+        self.assertEqual(self.ci(game('freedoom2'), port, '--sets', 'made', '--spans', 'packed')[:2], (0, 'all packed 16'))
 
     @unittest.skipIf(original.missing(), 'tools/original/build has not been run')
     def test_originals(self):

@@ -107,6 +107,8 @@ def make(options: argparse.Namespace) -> None:
     check_originals()
     program.ready()
     found = all_of(lambda name: vectors.of_map(wad, name), maps, options.jobs)
+    if not options.maps:
+        found.append(vectors.of_made(wad))
     name = options.name or os.path.splitext(os.path.basename(wad))[0]
     folder = folder_of(options)
     text = vectors.text(vector for of_map in found for vector in of_map)
