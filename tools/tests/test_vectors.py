@@ -281,7 +281,7 @@ class Freedoom(unittest.TestCase):
             own, more = ({lump.name: lump.data for lump in wads.read(it)} for it in (game(name), path))
             changed = {label for label in own if own[label] != more[label]}
             self.assertEqual(changed, {'TEXTURE1', 'PNAMES', *wads.MAP_LUMPS, 'REJECT', 'BLOCKMAP'})
-            self.assertEqual(set(more) - set(own), {'MADEP48', 'MADEP32'})
+            self.assertEqual(set(more) - set(own), {'MADEP48', 'MADEP32', 'MADEP16'})
             self.assertEqual(more['PNAMES'][4:4 + len(own['PNAMES']) - 4], own['PNAMES'][4:])
 
     @unittest.skipUnless(TESTED and game('freedoom2'), 'the program or freedoom2.wad (package: freedoom) is not there')
@@ -293,9 +293,9 @@ class Freedoom(unittest.TestCase):
                  game('freedoom2'), '-o', folder, '--maps', 'MAP01', '--sets', 'made', '--spans', 'packed']
         subprocess.run(words, check=True, env={**os.environ, 'DOOMVIEW': TESTED})
         self.assertEqual(self.check('freedoom2', folder, ['MAP01'], '--sets', 'made', '--spans', 'packed'),
-                         (0, ['MAP01 made packed 16', 'all packed 16']))
+                         (0, ['MAP01 made packed 20', 'all packed 20']))
         port = (f'"{os.path.join(TOP, "doomview")}" render "$MAP" "$WAD" --path "$ROWS" -o "$OUT" --spans packed')
-        self.assertEqual(self.ci(game('freedoom2'), port, '--sets', 'made', '--spans', 'packed')[:2], (0, 'all packed 16'))
+        self.assertEqual(self.ci(game('freedoom2'), port, '--sets', 'made', '--spans', 'packed')[:2], (0, 'all packed 20'))
 
     @unittest.skipIf(original.missing(), 'tools/original/build has not been run')
     def test_originals(self):
