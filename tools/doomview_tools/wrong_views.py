@@ -46,10 +46,10 @@ class Test:
     """What ci left of the test of a WAD."""
 
     def __init__(self, folder: str) -> None:
-        self.folder = folder
+        self.folder = os.path.abspath(folder)
         found = read_json(os.path.join(folder, FOUND))
         self.spans: str = 'full' if found['spans'] == 'either' else found['spans']
-        self.wad, self.vectors_name = wad_of_found(found), found['vectors']
+        self.wad, self.vectors_name = os.path.abspath(wad_of_found(found)), found['vectors']
         rows = vectors.read(os.path.join(folder, VECTORS))
         by_key = {(it['map'], it['set'], it['view']): it for it in found['views']}
         self.runs = read_runs(os.path.join(folder, RUNS))
