@@ -103,6 +103,7 @@ class Original(Tools):
         self.assertEqual((status, error), (0, ''))
         lines = output.decode().splitlines()
         self.assertEqual(lines[0], 'grid MAP01 view 1: memory, pixels 64000')
+        self.assertEqual(lines[2], 'grid MAP01: views 16 ended 1 same 13 memory 1 tangent 1')
         self.assertEqual(lines[-1], '| grid | 16 | 1 | 13 | 1 | 0 | 1 | 0 | 0 | 0 | 0 | 128000 |')
         self.refuses('--step and --directions are 1 or more', 'room.wad', '--step', '0',
                      command=self.at(ORIGINAL, 'measure'), doomview=self.doomview)

@@ -125,7 +125,7 @@ class Explained(unittest.TestCase):
     def test_green(self):
         status, text = self.run_port('--skill "$SKILL"')
         self.assertEqual((status, text.splitlines()[0]),
-                         (0, 'freedoom2.wad by freedoom2.csv, packed spans: 0 of 136 views are wrong'))
+                         (0, 'freedoom2.wad by freedoom2.csv, packed spans: 0 of 140 views are wrong'))
 
 
 if __name__ == '__main__':
