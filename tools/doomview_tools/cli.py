@@ -174,6 +174,20 @@ def number(least: int, greatest: int) -> typing.Callable[[str], int]:
     return read
 
 
+def views_of(text: str, count: int) -> typing.List[int]:
+    """The numbers of the views that a word names, as 3,7-9, in ascending order; a Trouble where there are none."""
+    found: typing.Set[int] = set()
+    for part in text.split(','):
+        first, dash, last = part.partition('-')
+        if not first.isdecimal() or dash and not last.isdecimal():
+            raise Trouble(f'--views are numbers and ranges of views, as 3,7-9, and not {text}')
+        numbers = range(int(first), int(last or first) + 1)
+        if not numbers or numbers[-1] >= count:
+            raise Trouble(f'--views {part}: there are {count} views, from 0 to {count - 1}')
+        found.update(numbers)
+    return sorted(found)
+
+
 def forms_of(tool: types.ModuleType) -> typing.List[str]:
     """A tool with its plain words and those that it needs, once for each way of calling it."""
     needed = [argument.form for argument in parser_of(tool).arguments if not argument.names or argument.is_needed]
@@ -206,7 +220,7 @@ def add_help(parser: argparse.ArgumentParser) -> None:
     parser.add_argument('--help', '-h', action='help', help='prints this page')
 
 
-def job_page(job: jobs.Job, needs: str = BUILT, without: typing.Container[object] = ()) -> str:
+def job_page(job: jobs.Job, needs: str = BUILT, without: typing.Container[object] = (jobs.NO_SUCH_WORD,)) -> str:
     """The help page of a job, by the table of options: what it needs, and without some statuses or own options."""
     ends = '\n'.join(f'{number:2}  {": ".join(filter(None, status))}' for number, status in jobs.STATUSES.items()
                      if number not in without)

@@ -74,7 +74,7 @@ def run_job(words: typing.List[str]) -> int:
     sys.stderr.write(done.said)
     if done.status:
         say_why(done, words, is_job)
-    return done.status
+    return jobs.NO_SUCH_WORD if done.status == jobs.USAGE and not is_job else done.status
 
 
 def warn(words: typing.List[str]) -> None:
@@ -129,7 +129,7 @@ def stop(number: int, _: typing.Optional[types.FrameType]) -> typing.NoReturn:
 def usage(words: typing.Sequence[str] = ()) -> int:
     """What the program says of words that are no job, and what would be some."""
     print('doomview: usage', overview(), *([f'explain: {no_such(words)}'] if words else []), sep='\n', file=sys.stderr)
-    return jobs.USAGE
+    return jobs.NO_SUCH_WORD
 
 
 def help_of(words: typing.List[str]) -> int:
@@ -141,7 +141,7 @@ def help_of(words: typing.List[str]) -> int:
     elif words[0] in TOOLS:
         print(cli.parser_of(tool(words[0])).format_help(), end='')
     else:
-        raise Trouble(no_such(words), jobs.USAGE)
+        raise Trouble(no_such(words), jobs.NO_SUCH_WORD)
     return 0
 
 

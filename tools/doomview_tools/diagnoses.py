@@ -8,15 +8,18 @@ import itertools
 import statistics
 import typing
 
+from . import differences
 from .doom import COLORMAP_SIZE
-from .frames import HEIGHT, SIZE, WIDTH, window
+from .frames import HEIGHT, ROWS_ABOVE_BAR, SIZE, WIDTH, window
 
 SAMPLES = 8  # of the views that differ
 FARTHEST_VIEW, FARTHEST_SHIFT = 32, 32  # views, and pixels
+MOST_SEARCHED = 1000  # views among which a frame is looked for
 LEAST_PART = 50  # a mistake of whole frames changes one pixel of so many
 MOST_LINES, MOST_RANGES = 40, 3  # of rows or columns that differ in every view
 FAR_MORE = 8  # times the pixels of the usual row or column
-FULL_SIZE = 11
+FULL_SIZE, FULL_WIDTH_SIZE = 11, 10  # view sizes: of the whole frame, and of a window as wide as it
+HALF_BAR = 16  # rows: the middle of a view is higher by so many where a status bar is below it
 
 
 class Pair(typing.NamedTuple):
@@ -87,6 +90,25 @@ def one_colour(case: Case) -> str:
     return f'each of the port\'s frames is all of colour {min(colours)}{name}: nothing was drawn into what it wrote'
 
 
+def low_detail(case: Case) -> str:
+    """Frames in which each column is there twice."""
+    is_doubled = [all(frame[::2] == frame[1::2] for frame in frames) for frames in zip(*(pair[1:] for pair in case.pairs))]
+    if is_doubled != [False, True]:
+        return ''
+    return 'the port draws in low detail: each of its columns is there twice (detailLevel of the original; 0 is high)'
+
+
+def repeated(case: Case) -> str:
+    """One frame in the place of several views."""
+    frame = case.pairs[0].port
+    if len({pair.ours for pair in case.pairs}) == 1 or any(pair.port != frame for pair in case.pairs):
+        return ''
+    view = next((view for view in range(min(case.count, MOST_SEARCHED)) if case.ours(view) == frame), None)
+    what = 'none of ours' if view is None else f'our view {view}'
+    return (f'each of the port\'s frames that differ is the same one, {what}: it draws one row again and again, or '
+            'writes one frame for all')
+
+
 def nearest_view(case: Case, pair: Pair) -> typing.Tuple[int, int]:
     """The number of doomview's view that is nearest to a port's frame, and the pixels that differ from it."""
     near = range(max(0, pair.view - FARTHEST_VIEW), min(case.count, pair.view + FARTHEST_VIEW + 1))
@@ -142,10 +164,20 @@ def shift(case: Case) -> str:
     left = count_shifted(case, rows, columns)
     if not is_cause(left, before(case)):
         return ''
+    if (rows, columns) == (-HALF_BAR, 0) and has_other_bottom(case):
+        return (f'the port has view size {FULL_WIDTH_SIZE} (screenblocks of the original), and below that a status bar or '
+                f'the like: its rows 0 to {ROWS_ABOVE_BAR - 1} are our rows {HALF_BAR} to {ROWS_ABOVE_BAR + HALF_BAR - 1}')
     step, word, late, early = (rows, 'row', 'late (lower)', 'early (higher)') if rows else \
         (columns, 'column', 'late (to the right)', 'early (to the left)')
     return (f'the port\'s picture is {abs(step)} {word}{"s" if abs(step) > 1 else ""} {late if step > 0 else early}'
             f'{beside(left)}')
+
+
+def has_other_bottom(case: Case) -> bool:
+    """Whether the rows of a status bar have something else than our picture, also where that is moved."""
+    first, last = WIDTH * ROWS_ABOVE_BAR, WIDTH * (ROWS_ABOVE_BAR + HALF_BAR)
+    different = sum(count(pair.ours[last:], pair.port[first:last]) for pair in case.pairs)
+    return 2 * different > (last - first) * len(case.pairs)
 
 
 def is_within(frame: bytes, size: int) -> bool:
@@ -162,19 +194,37 @@ def size_of(frames: typing.Sequence[bytes]) -> int:
     return next(size for size in range(3, FULL_SIZE + 1) if all(is_within(frame, size) for frame in frames))
 
 
-def view_size(case: Case) -> str:
-    """Frames of another view size."""
-    ours, port = size_of([pair.ours for pair in case.pairs]), size_of([pair.port for pair in case.pairs])
-    if ours == port:
-        return ''
-    left, top, width, height = window(min(ours, port))
-    inside = sum(count(*(part_of(part_of(frame, top, left), top + height - HEIGHT, left + width - WIDTH)
-                         for frame in pair[1:])) for pair in case.pairs)
-    if ours < port and is_cause(inside, before(case)):
-        return (f'the port paints outside the window of view size {ours}, which doomview leaves at 0: a status bar, a '
-                'border or messages')
+def other_size(case: Case) -> str:
+    ours, port = sizes(case)
     return (f'the port has another view size: its frames are within the window of size {port}, and doomview has size '
             f'{ours} (--size; screenblocks of the original)')
+
+
+def sizes(case: Case) -> typing.Tuple[int, int]:
+    """The view sizes of doomview's frames and of the port's, as far as their windows show them."""
+    return size_of([pair.ours for pair in case.pairs]), size_of([pair.port for pair in case.pairs])
+
+
+def smaller_view(case: Case) -> str:
+    """Frames of a smaller view size. A picture that is as many rows early as a status bar has is in such a window too."""
+    ours, port = sizes(case)
+    if port >= ours or port == FULL_WIDTH_SIZE and is_cause(count_shifted(case, ROWS_ABOVE_BAR - HEIGHT, 0), before(case)):
+        return ''
+    return other_size(case)
+
+
+def larger_view(case: Case) -> str:
+    """Frames of a larger view size, or with something outside the window of ours."""
+    ours, port = sizes(case)
+    if ours >= port:
+        return ''
+    left, top, width, height = window(ours)
+    inside = sum(count(*(part_of(part_of(frame, top, left), top + height - HEIGHT, left + width - WIDTH)
+                         for frame in pair[1:])) for pair in case.pairs)
+    if is_cause(inside, before(case)):
+        return (f'the port paints outside the window of view size {ours}, which doomview leaves at 0: a status bar, a '
+                'border or messages')
+    return other_size(case)
 
 
 def colour_map(case: Case) -> typing.Tuple[typing.Dict[int, int], int]:
@@ -224,11 +274,14 @@ def of_picture(ours: bytes, found: typing.List[typing.Tuple[int, ...]], palette:
     return 'each colour is always the same other one: the port has another palette'
 
 
+MISTAKES = (one_colour, repeated, low_detail, order, layout, smaller_view, shift, larger_view, colours)
+
+
 def whole_frames(case: Case) -> typing.List[str]:
     """The mistake that all frames have, as a sentence, or none."""
     if LEAST_PART * before(case) < SIZE * len(case.pairs):
         return []
-    found = (find(case) for find in (one_colour, order, layout, shift, view_size, colours))
+    found = (find(case) for find in MISTAKES)
     return list(itertools.islice(filter(None, found), 1))
 
 
@@ -242,16 +295,23 @@ class Everywhere:
         self.in_rows: typing.Counter[int] = collections.Counter()  # pixels
         self.in_columns: typing.Counter[int] = collections.Counter()
 
-    def add(self, places: typing.List[int]) -> None:
-        """Takes the places at which a view differs."""
+    def add(self, marks: bytes, pixels: int) -> None:
+        """Takes the marks of a view that differs in some pixels."""
         self.different += 1
-        self.pixels += len(places)
-        rows = collections.Counter(place // WIDTH for place in places)
-        columns = collections.Counter(place % WIDTH for place in places)
-        self.rows.update(rows.keys())
-        self.columns.update(columns.keys())
-        self.in_rows.update(rows)
-        self.in_columns.update(columns)
+        self.pixels += pixels
+        for views, counts, found in ((self.rows, self.in_rows, differences.in_rows(marks)),
+                                     (self.columns, self.in_columns, differences.in_columns(marks))):
+            own = {line: number for line, number in enumerate(found) if number}
+            views.update(own.keys())
+            counts.update(own)
+
+    def update(self, other: 'Everywhere') -> None:
+        """Takes what was found of other views."""
+        self.different += other.different
+        self.pixels += other.pixels
+        for own, more in ((self.rows, other.rows), (self.columns, other.columns), (self.in_rows, other.in_rows),
+                          (self.in_columns, other.in_columns)):
+            own.update(more)
 
     def lines(self, views: typing.Dict[int, int], pixels: typing.Dict[int, int], count: int) -> typing.List[int]:
         """The rows or columns that differ in nine of ten views and far more than most, if they are few and have a tenth
@@ -262,10 +322,11 @@ class Everywhere:
         is_much = 10 * sum(pixels[line] for line in found) >= self.pixels
         return found if is_much and len(found) <= MOST_LINES and ranges(found).count(',') < MOST_RANGES else []
 
-    def sentences(self, count: int) -> typing.List[str]:
-        """A sentence on the rows or columns that differ in every view, of so many views, or none."""
+    def sentences(self, count: int, by_rows: bool = True) -> typing.List[str]:
+        """A sentence on the rows or columns that differ in every view, of so many views, or none. Without `by_rows` rows
+        are not told: what is painted row by row, as planes are, differs in rows whatever is wrong with it."""
         for word, views, pixels, lines in (('column', self.columns, self.in_columns, WIDTH),
-                                           ('row', self.rows, self.in_rows, HEIGHT)):
+                                           ('row', self.rows, self.in_rows, HEIGHT))[:1 + by_rows]:
             found = self.lines(views, pixels, lines) if self.different > 1 else []
             if found:
                 number, some = min(views[line] for line in found), sum(pixels[line] for line in found)

@@ -11,7 +11,8 @@ from .trouble import Trouble
 
 MOST_WADS, MOST_LETTERS = 16, 8
 # Statuses of the program, and where there is none of it.
-USAGE, REFUSED, READ_FAULT, WRITE_FAULT, LIMIT, ZONE_FULL, OUT_OF_MEMORY, NO_PROGRAM = 1, 2, 3, 4, 5, 6, 7, 70
+USAGE, REFUSED, READ_FAULT, WRITE_FAULT, LIMIT, ZONE_FULL, OUT_OF_MEMORY = 1, 2, 3, 4, 5, 6, 7
+NO_SUCH_WORD, NO_PROGRAM = 64, 70  # EX_USAGE and EX_SOFTWARE of sysexits.h
 CHOICES = {'--format': ['index', 'ppm'], '--spans': ['full', 'packed']}
 LIKENESS = 0.7  # of a word that may be meant, as difflib has it
 MAP_NAME = re.compile('E[1-9]M[1-9]|MAP[0-9]{2}')
@@ -168,6 +169,7 @@ STATUSES = {
     LIMIT: Status('limit view V planes N', 'view V, counted from 0, has more planes (or openings N) than its limit'),
     ZONE_FULL: Status('zone full wanted W widest X', 'the zone has no room for a block of W bytes; every gap is smaller'),
     OUT_OF_MEMORY: Status('out of memory', 'memory ran out'),
+    NO_SUCH_WORD: Status('usage', 'the first word is no job and no tool, so nothing was done'),
     NO_PROGRAM: Status('', 'the program could not be built or is not there'),
 }
 OUTPUT, PLACES = '-o', '--places'

@@ -14,8 +14,9 @@ from .frames import WIDTH
 from .traces import MIDDLE, PLANE, SPRITE, WALL, WEAPON
 
 STEP = 4  # how many colormaps are one step of light
-LIGHT, MOST_STEPS = 16, 15  # of a step, and the most steps
+LIGHT, LIGHTS, MOST_STEPS = 16, 256, 15  # of a step, all lights, and the most steps
 LEAST_PAIRS = 8  # of colours that differ: doomview's and the port's
+MOST_SAMPLED = 2000  # places of a view by which most painters are ruled out
 LIT = (WALL, PLANE, MIDDLE, SPRITE, WEAPON)  # kinds of painters: all but the sky
 
 Pairs = typing.Set[typing.Tuple[int, int]]  # of doomview's colour and the port's
@@ -24,6 +25,7 @@ Key = typing.Tuple[int, int, int]  # of a painter: its kind, and its number as t
 ByPainter = typing.Dict[Key, Groups]
 Found = typing.Dict[Key, typing.Set[int]]  # of painters the steps that there may be
 LightOf = typing.Callable[[int, int], typing.Optional[int]]  # the light of a painter by its kind and number, if it is known
+IsBright = typing.Callable[[int, int], bool]  # whether a painter is full bright, as far as it is known
 
 
 def nearest_map(number: int) -> int:
@@ -52,10 +54,10 @@ def line_of(kind: int, place: int) -> int:
     return {WALL: column, MIDDLE: column, PLANE: row}.get(kind, 0)
 
 
-def keys_of(records: bytes) -> typing.List[Key]:
-    """The painter of each pixel."""
-    size = traces.RECORD.size
-    return list(zip(records[::size], records[2::size], records[3::size]))
+def key_at(records: bytes, place: int) -> Key:
+    """The painter of a pixel."""
+    at = traces.RECORD.size * place
+    return records[at], records[at + 2], records[at + 3]
 
 
 class Lights:
@@ -87,29 +89,41 @@ class Lights:
             ways = -1
             for both in pairs:
                 ways &= self.ways(*both)
+                if not ways:
+                    return []
             found = [steps for steps in found if ways & STEPS[steps]]
         return found
 
-    def painters(self, keys: typing.List[Key], places: typing.List[int], ours: bytes, port: bytes) -> Found:
+    def likely(self, records: bytes, places: typing.List[int], ours: bytes, port: bytes) -> ByPainter:
+        """The groups of the painters that may differ by their light, by the places at which a view differs."""
+        some = places[::len(places) // MOST_SAMPLED + 1]
+        keys = {key for key, groups in groups_of(records, some, ours, port).items() if self.steps(groups)}
+        own = [place for place in places if key_at(records, place) in keys] if keys else []
+        return {key: groups for key, groups in groups_of(records, own, ours, port).items()
+                if len(set().union(*groups.values())) >= LEAST_PAIRS and self.steps(groups)}
+
+    def painters(self, records: bytes, places: typing.List[int], ours: bytes, port: bytes) -> Found:
         """Of a view the painters whose pixels differ as under another light, each in whole columns or rows, with the steps
         of which it may be any."""
-        differing = groups_of(keys, places, ours, port)
-        likely = {key for key, groups in differing.items()
-                  if len(set().union(*groups.values())) >= LEAST_PAIRS and self.steps(groups)}
-        whole = [place for place, key in enumerate(keys) if key in likely] if likely else []
+        likely = self.likely(records, places, ours, port)
+        whole = [place for place in range(len(ours)) if key_at(records, place) in likely] if likely else []
         found = {}
-        for key, groups in groups_of(keys, whole, ours, port).items():
-            steps = self.steps({line: groups[line] for line in differing[key]})
+        for key, groups in groups_of(records, whole, ours, port).items():
+            steps = self.steps({line: groups[line] for line in likely[key]})
             if steps and min(steps) * max(steps) > 0:
                 found[key] = set(steps)
         return found
 
     def lines(self, records: bytes, places: typing.List[int], both: typing.Tuple[bytes, bytes],
-              light_of: LightOf = lambda kind, number: None) -> typing.List[str]:
+              light_of: LightOf = lambda kind, number: None,
+              is_bright: IsBright = lambda kind, number: False) -> typing.List[str]:
         """Lines on what differs by its light alone, in a view that differs at some places: that of most pixels first."""
-        keys, lines = keys_of(records), []
-        found = self.painters(keys, places, *both)
-        pixels = collections.Counter(keys[place] for place in places)
+        lines, found = [], self.painters(records, places, *both)
+        pixels = collections.Counter(key_at(records, place) for place in places if found)
+        bright = {key for key in found if is_bright(key[0], key[1] + 256 * key[2])}
+        if bright and all(min(found[key]) > 0 for key in bright):
+            lines.append(dimmed(sum(pixels[key] for key in bright), bright, light_of))
+            found = {key: them for key, them in found.items() if key not in bright}
         while found:
             counts = collections.Counter({step: sum(pixels[key] for key in found if step in found[key])
                                           for step in STEPS})
@@ -120,21 +134,33 @@ class Lights:
         return lines
 
 
+def lights_of(keys: typing.Set[Key], light_of: LightOf) -> typing.Set[typing.Optional[int]]:
+    return {light_of(kind, low + 256 * high) for kind, low, high in keys}
+
+
+def dimmed(pixels: int, keys: typing.Set[Key], light_of: LightOf) -> str:
+    """The line on painters that are full bright, and are not in the port."""
+    own = lights_of(keys, light_of)
+    light = f', the sector there has light {min(filter(None, own), default=0)}' if len(own) == 1 else ''
+    return f'  darker   not full bright, as it is here{light}: all {pixels} pixels that differ of {names_of(keys)}'
+
+
 def sentence(pixels: int, steps: int, keys: typing.Set[Key], light_of: LightOf) -> str:
     """The line on painters of which the port has the light by some steps other."""
     word, much = ('darker', 'less') if steps > 0 else ('lighter', 'more')
-    lights = {light_of(kind, low + 256 * high) for kind, low, high in keys}
+    lights = lights_of(keys, light_of)
     own = lights.pop() if len(lights) == 1 else None
-    step = abs(steps) * LIGHT
-    light = f'a light of {step} {much}' if own is None else f'light {own - LIGHT * steps} in the place of {own}'
+    step, other = abs(steps) * LIGHT, None if own is None else own - LIGHT * steps
+    is_known = other is not None and 0 <= other < LIGHTS
+    light = f'light {other} in the place of {own}' if is_known else f'a light of {step} {much}'
     return f'  {word:8} as under {light}: all {pixels} pixels that differ of {names_of(keys)}'
 
 
-def groups_of(keys: typing.List[Key], places: typing.Iterable[int], ours: bytes, port: bytes) -> ByPainter:
+def groups_of(records: bytes, places: typing.Iterable[int], ours: bytes, port: bytes) -> ByPainter:
     """The pairs of colours at some places of a view, of each painter that is lit by its columns or rows."""
     found: ByPainter = collections.defaultdict(lambda: collections.defaultdict(set))
     for place in places:
-        key = keys[place]
+        key = key_at(records, place)
         if key[0] in LIT:
             found[key][line_of(key[0], place)].add((ours[place], port[place]))
     return found

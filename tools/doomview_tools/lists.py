@@ -4,11 +4,12 @@
 numbers of a trace. `Places` says of an item which line, sector or thing of the map it is."""
 import argparse
 import collections
+import csv
 import functools
 import re
 import typing
 
-from . import levels, wads
+from . import home, levels, wads
 from .doom import FRONT_AND_BACK, SKY, TWO_SIDED
 from .files import Source, check_source
 from .frames import WIDTH
@@ -370,6 +371,19 @@ class Places:
             return self.level.sectors[self.lit_by(self.item(view.fragments, 'fragment', number), kind)].light
         return None
 
+    @functools.cached_property
+    def bright_types(self) -> typing.Set[int]:
+        """The types of things that are full bright in the frame in which they are placed, by the tools' own table."""
+        with open(home.data('things.csv'), newline='', encoding='utf-8') as file:
+            return {int(row['type']) for row in csv.DictReader(file) if row['bright'] == '1'}
+
+    def is_bright(self, view: View, kind: int, number: int) -> bool:
+        """Whether an item of a view is a thing that is full bright."""
+        if kind != SPRITE:
+            return False
+        thing = self.item(view.sprites, 'sprite', number).thing
+        return thing < len(self.level.things) and self.level.things[thing].type in self.bright_types
+
     def wall(self, view: View, painter: Painter, number: int) -> Position:
         fragment = self.item(view.fragments, 'fragment', number)
         source = self.names.source(painter)
@@ -464,10 +478,11 @@ def add_words(parser: argparse.ArgumentParser) -> None:
 
 
 def placing_of(options: argparse.Namespace, files: typing.List[str], count: int,
-               names: Names) -> typing.Optional[Placing]:
-    """The list that the words of a tool name, or None; its trace has a number of views."""
+               names: Names, has_map: bool = False) -> typing.Optional[Placing]:
+    """The list that the words of a tool name, or None; its trace has a number of views. Where `has_map` holds a map may be
+    named without a list."""
     if not options.list:
-        if options.map:
+        if options.map and not has_map:
             raise Trouble('--map is the map of a list; name that by --list FILE')
         return None
     if not options.trace:

@@ -4,6 +4,7 @@ import functools
 import struct
 import typing
 
+from . import differences
 from .art import between_marks, palette_of, patch_names, starts, textures_of
 from .frames import HEIGHT, SIZE, WIDTH, count_parts
 from .trouble import Trouble, WadError
@@ -31,6 +32,9 @@ class Painter(typing.NamedTuple):
     kind: int
     source_kind: int
     source: int
+
+
+Pixels = typing.Dict[Painter, typing.Counter[int]]  # of painters, by their numbers in the view
 
 
 class Source(typing.NamedTuple):
@@ -67,6 +71,7 @@ class Names:
         except WadError as error:
             raise Trouble('the lists of textures in the WADs are damaged; leave the WADs out') from error
         self.palette, self.colormaps = palette_of(newest), newest.get('COLORMAP', b'')
+        self.checked: typing.Set[Painter] = set()  # that the WADs have
 
     def add_textures(self, lumps: typing.Dict[str, bytes]) -> None:
         """Takes the textures of both lists, each with its patches."""
@@ -76,9 +81,9 @@ class Names:
             for patch in sorted({patches[number] for _, number in texture.patches if number < len(patches)}):
                 self.with_patch[patch].append(texture.name)
 
-    def check(self, record: bytes, path: str) -> None:
-        """A Trouble where a record names a lump or a texture that the WADs do not have, or a lump of another kind."""
-        kind, source_kind, _, source, _, _ = RECORD.unpack(record)
+    def check(self, painter: 'Painter', path: str) -> None:
+        """A Trouble where a painter names a lump or a texture that the WADs do not have, or a lump of another kind."""
+        kind, source_kind, source = painter
         if not self.lumps or not source_kind:
             return
         names, word = (self.textures, 'texture') if source_kind == COMPOSITE else (self.lumps, 'lump')
@@ -87,6 +92,13 @@ class Names:
         if source_kind == LUMP and source in self.unlike.get(GROUP_OF.get(kind, ''), ()):
             raise self.other(path, f'lump {source} of the WADs is {names[source]}, which is no {GROUP_OF[kind]}, and a '
                                    f'{KINDS[kind][0]} has it')
+
+    def check_all(self, painters: typing.Iterable['Painter'], path: str) -> None:
+        """A Trouble where one of some painters is none of these WADs."""
+        for painter in painters:
+            if painter not in self.checked:
+                self.check(painter, path)
+                self.checked.add(painter)
 
     def other(self, path: str, what: str) -> Trouble:
         return Trouble(f'{path} is a trace of other WADs: {what}; name the WADs of the run, in their order')
@@ -167,32 +179,30 @@ def mask(records: bytes, kinds: typing.Collection[int], without: typing.Collecti
     return (int.from_bytes(found, 'big') & ~(sprites & numbers)).to_bytes(len(found), 'big')
 
 
-def check_records(records: bytes, places: typing.List[int], ours: bytes, names: Names, path: str) -> None:
-    """A Trouble where the records of a view are not those of doomview's frame, or not over these WADs."""
-    for record in {records[RECORD.size * place:RECORD.size * place + RECORD.size] for place in places}:
-        names.check(record, path)
-    for place in places:
-        colour = records[RECORD.size * place + 6]
-        if colour != ours[place]:
-            row, column = divmod(place, WIDTH)
-            raise Trouble(f'{path} is not the trace of these frames: at row {row} column {column} it has colour '
-                          f'{colour} and the frame {ours[place]}; name what doomview trace wrote for the same words')
+def check_records(records: bytes, marks: bytes, ours: bytes, path: str) -> None:
+    """A Trouble where the records of a view are not those of doomview's frame, at the places that are marked."""
+    place = differences.other_colour(records, ours, marks)
+    if place is not None:
+        row, column = divmod(place, WIDTH)
+        raise Trouble(f'{path} is not the trace of these frames: at row {row} column {column} it has colour '
+                      f'{records[RECORD.size * place + differences.COLOUR]} and the frame {ours[place]}; name what doomview '
+                      'trace wrote for the same words')
 
 
-def pixels_of(records: bytes, places: typing.List[int]) -> typing.Dict[Painter, typing.Counter[int]]:
-    """Of each painter of some places of a view how many pixels each of its numbers has."""
-    pixels: typing.Dict[Painter, typing.Counter[int]] = collections.defaultdict(collections.Counter)
-    for record, count in collections.Counter(records[8 * place:8 * place + 8] for place in places).items():
-        kind, source_kind, number, source, _, _ = RECORD.unpack(record)
+def pixels_of(records: bytes, marks: bytes) -> Pixels:
+    """Of each painter of the places of a view that are marked how many pixels each of its numbers has."""
+    pixels: Pixels = collections.defaultdict(collections.Counter)
+    for key, count in differences.painted(records, marks).items():
+        kind, source_kind, number, source, _, _ = RECORD.unpack(key + bytes(RECORD.size - len(key)))
         pixels[Painter(kind, source_kind, source)][number] += count
     return pixels
 
 
-def painters(records: bytes, places: typing.List[int], names: Names,
+def painters(pixels: Pixels, names: Names,
              place_of: typing.Optional[typing.Callable[[Painter, int], str]] = None) -> typing.Iterator[str]:
-    """Lines on the painters of some places of a view: the most pixels first. `place_of` says of a painter and its
+    """Lines on the painters of a view that have some pixels: the most pixels first. `place_of` says of a painter and its
     number where in the map that is; then the lines under a painter have the pixels of each."""
-    for painter, numbers in sorted(pixels_of(records, places).items(), key=lambda pair: -sum(pair[1].values())):
+    for painter, numbers in sorted(pixels.items(), key=lambda pair: -sum(pair[1].values())):
         word, thing = KINDS.get(painter.kind, (f'kind {painter.kind}', 'number'))
         known = names.source_of(painter)
         more = f'patch {known.more}' if known.word == 'patch' else known.more

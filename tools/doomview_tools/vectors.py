@@ -13,14 +13,15 @@ import tempfile
 import typing
 import zlib
 
-from . import levels, original, paths, weapons
+from . import beside_vectors, levels, original, paths, vectors_map, wads, weapons
 from .doom import EVERY_SKILL
 from .frames import SIZE
 from .trouble import Trouble
 
 DIGITS, BANDS, BAND_DIGITS = 16, 10, 4  # of SHA-256; a band is 20 rows of pixels, with digits of its CRC-32
 PLACES, SEED = 20, 1
-SETS = ['near', 'sizes', 'skills', 'light', 'weapons']
+MADE = 'made'  # the set of the made map
+SETS = ['near', 'sizes', 'skills', 'light', 'weapons', MADE]
 MORE = ['E1M1', 'E2M4', 'E4M2', 'MAP01', 'MAP07', 'MAP19']  # the maps that have all sets
 SOME = 3  # places of each size and skill
 LIT = 16
@@ -31,7 +32,9 @@ HELD = [PISTOL, (weapons.raised_layer('PUNG'),), (weapons.raised_layer('SHTG', '
         (weapons.raised_layer('PISG', 'B'), weapons.raised_layer('PISF', 'A', 1)),
         (weapons.raised_layer('MISG', 'B'), weapons.raised_layer('MISF', 'B', 1)),
         (weapons.Layer('CHGG', 'A', 0, -700000, 40 * weapons.UNIT + 12345),)]
-WADS, WADS_HEAD = 'wads.csv', 'vectors,wad,version,sha256'  # beside the vectors: which WADs they are of
+COLORMAPS, EXTRA_LIGHTS = [1, 32, 16, 8, 24, 31], [1, 2, 3, 5, 8, 15]  # under which weapons are held too
+SMALLER = 7  # a size of the view, at which a weapon is held too
+WADS, WADS_HEAD = 'wads.csv', ['vectors', 'wad', 'version', 'sha256', 'lumps']  # beside the vectors: the WADs of each
 NONE = '-'  # the sum where a run ends without the frame
 
 
@@ -93,8 +96,17 @@ def groups(level: levels.Level, rows: typing.List[paths.Row]) -> typing.Iterator
     lit = [row._replace(extralight=i) if i % 2 else row._replace(colormap=2 * i)
            for i, row in enumerate(rows[:LIT + 1])]
     yield Group('light', SKILL, SIZE_OF_VIEW, (), lit[1:])
+    yield from held(rows)
+
+
+def held(rows: typing.List[paths.Row]) -> typing.Iterator[Group]:
+    """The runs with weapons: as it is, under a fixed colormap and extra light, and at a smaller size."""
     for i, layers in enumerate(HELD):
         yield Group('weapons', SKILL, SIZE_OF_VIEW, layers, rows[i:i + 2])
+    for i, layers in enumerate(HELD):
+        lit = [rows[i]._replace(colormap=COLORMAPS[i]), rows[i + 1]._replace(extralight=EXTRA_LIGHTS[i])]
+        yield Group('weapons', SKILL, SIZE_OF_VIEW, layers, lit)
+    yield Group('weapons', SKILL, SMALLER, PISTOL, rows[:2])
 
 
 def sum_of(frame: bytes) -> str:
@@ -143,6 +155,24 @@ def of_map(wad: str, name: str, places: int = PLACES) -> typing.List[Vector]:
     return found
 
 
+def label_of_made(wad: str) -> str:
+    """The name of the made map over a game's WAD; an empty text where the WAD lacks what the map needs."""
+    lumps = [(lump.name.encode('latin-1'), lump.data) for lump in wads.read(wad)]
+    is_game = vectors_map.NEEDED <= {name.decode('latin-1') for name, _ in lumps}
+    return beside_vectors.asked('made', 'label_of', lumps) if is_game else ''
+
+
+def of_made(wad: str) -> typing.List[Vector]:
+    """The vectors of the made map over a game's WAD; none where it lacks what the map needs."""
+    label = label_of_made(wad)
+    if not label:
+        return []
+    group = Group(MADE, SKILL, SIZE_OF_VIEW, (), vectors_map.rows())
+    with tempfile.TemporaryDirectory(prefix='doomview-') as folder:
+        made = beside_vectors.asked('made', 'write', wad, os.path.join(folder, MADE))
+        return list(vectors_of(run_of(folder, made, label, group), group, 0))
+
+
 def text(vectors: typing.Iterable[Vector]) -> str:
     """The text of a file of vectors."""
     out = io.StringIO()
@@ -154,15 +184,22 @@ def text(vectors: typing.Iterable[Vector]) -> str:
 
 def wads_text(folder: str, name: str, wad: str) -> str:
     """The text of a folder's table of WADs with the WAD of the vectors of a name, in the place of an older line."""
-    try:
-        with open(os.path.join(folder, WADS), encoding='utf-8') as file:
-            lines = file.read().splitlines()[1:]
-    except OSError:
-        lines = []
-    with open(wad, 'rb') as file:
-        own = f'{name},{os.path.basename(wad)},,{hashlib.sha256(file.read()).hexdigest()}'
-    kept = [line for line in lines if line.split(',')[0] != name]
-    return '\n'.join([WADS_HEAD, *kept, own]) + '\n'
+    rows = beside_vectors.asked('games', 'known', folder)
+    own = {'vectors': name, 'wad': os.path.basename(wad), 'sha256': beside_vectors.asked('games', 'sum_of', wad),
+           'lumps': beside_vectors.asked('games', 'sum_of_lumps', wad)}
+    same: typing.Dict[str, str] = next((row for row in rows if (row['vectors'], row['sha256']) == (name, own['sha256'])), {})
+    out = io.StringIO()
+    table = csv.DictWriter(out, WADS_HEAD, restval='', extrasaction='ignore', lineterminator='\n')
+    table.writeheader()
+    table.writerows([*(row for row in rows if row['vectors'] != name), {**same, **own}])
+    return out.getvalue()
+
+
+def check_wad(path: str, wad: str) -> None:
+    """A Trouble where the vectors of a file are of another WAD, with both sums."""
+    sentence, is_right = beside_vectors.asked('games', 'told', wad, path)
+    if not is_right:
+        raise Trouble(sentence)
 
 
 def vector_of(record: typing.Dict[str, str]) -> Vector:
@@ -209,7 +246,8 @@ def frames(wad: str, vectors: typing.Iterable[Vector], spans: str = 'full') -> b
     for key, part in itertools.groupby(vectors, key_of):
         of_run = list(part)
         with tempfile.TemporaryDirectory(prefix='doomview-') as folder:
-            run = run_of(folder, os.path.abspath(wad), of_run[0].map, Group(*key, [row_of(row) for row in of_run]),
+            of_set = wad if key[0] != MADE else beside_vectors.asked('made', 'write', wad, os.path.join(folder, MADE))
+            run = run_of(folder, os.path.abspath(of_set), of_run[0].map, Group(*key, [row_of(row) for row in of_run]),
                          spans)
             run.draw({i for i, vector in enumerate(of_run) if vector.frame == NONE})
             drawn += [run.ours.get(i, bytes(SIZE)) for i in range(len(of_run))]

@@ -322,10 +322,10 @@ class Build(unittest.TestCase):
         """The table of jobs and whether it is built without a build, a build without a job."""
         status, output, error = self.runs('--help')
         self.assertEqual((status, error), (0, ''))
-        self.assertEqual(self.runs(), (1, '', 'doomview: usage\n' + output))
+        self.assertEqual(self.runs(), (64, '', 'doomview: usage\n' + output))
         self.assertEqual(self.runs('--built')[:2], (1, ''))
         why = 'explain: there is no job or tool paint; doomview --help has them all\n'
-        self.assertEqual(self.runs('paint', 'it'), (1, '', 'doomview: usage\n' + output + why))
+        self.assertEqual(self.runs('paint', 'it'), (64, '', 'doomview: usage\n' + output + why))
         self.assertEqual(self.calls(), [])
         self.assertEqual(self.runs('--build', FAILS='left')[0], 70)
         self.assertEqual(self.runs('--build')[:2], (0, ''))

@@ -60,7 +60,7 @@ class Help(Command):
                 self.assertRegex(part, f'(?m)^  {name} ')
         self.assertTrue(os.path.isfile(re.search('man -l (.*)', text)[1]))
         self.assertEqual(self.runs('-h')[1], output)
-        self.assertEqual(self.runs(), (1, b'', 'doomview: usage\n' + text))
+        self.assertEqual(self.runs(), (64, b'', 'doomview: usage\n' + text))
         self.assertFalse(os.path.exists(self.at('words')))
 
     def test_modules(self):

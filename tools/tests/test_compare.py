@@ -1,12 +1,16 @@
 """Tests the tools compare and pixel on frames, traces and WADs that are made here."""
+import json
 import os
+import pty
 import struct
+import subprocess
 import unittest
+import xml.etree.ElementTree as xml
 import zlib
 
 import pages_shown
-from made_files import Tools, name, pixels_of, wad
-from doomview_tools import compare_page, png, traces
+from made_files import COMMAND, Tools, name, pixels_of, wad
+from doomview_tools import compare_page, png, progress, traces
 
 FRAME, WIDTH = 64000, 320
 
@@ -67,6 +71,90 @@ class Compare(Tools):
         most = self.run_tool('compare', 'ours.bin', 'port.bin', '--most', '1')[1].decode().splitlines()
         self.assertEqual([most[1][:6], most[2:]], ['view 1', ['views 3 same 1 different 2 pixels 3']])
 
+    def test_some_views(self):
+        """--views compares some views alone; -q prints nothing."""
+        self.write('ours.bin', painted() * 12)
+        self.write('port.bin', painted() + painted((1, 1, 9)) + painted() * 5 + painted((2, 2, 8)) * 2 + painted() * 3)
+        words = ['compare', 'ours.bin', 'port.bin']
+        status, output, error = self.run_tool(*words, '--views', '0,3,7-10', '--most', '0')
+        self.assertEqual((status, error), (1, ''))
+        self.assertEqual(output.decode().splitlines()[0], '2 of 6 views differ')
+        self.assertEqual(output.decode().splitlines()[-1], 'views 6 same 4 different 2 pixels 2')
+        self.assertEqual(self.run_tool(*words, '--views', '3,9-11,3'), (0, b'views 4 same 4 different 0 pixels 0\n', ''))
+        self.assertEqual(self.run_tool(*words, '-q'), (1, b'', ''))
+        self.assertEqual(self.run_tool(*words, '--quiet', '--views', '0'), (0, b'', ''))
+        for views, part in (('12', '--views 12: there are 12 views, from 0 to 11'), ('3-', 'and not 3-'), ('a', 'and not a'),
+                            ('5-12', '--views 5-12: there are 12 views'), ('9-3', '--views 9-3: there are 12'),
+                            ('', '--views are numbers and ranges of views, as 3,7-9')):
+            self.refuses(part, *words, '--views', views)
+
+    def test_reports(self):
+        """What was found as JSON and as JUnit has it: all views that differ, also those that are not listed."""
+        self.write('ours.bin', painted() + painted((3, 7, 9), (60, 2, 1)) + painted((199, 319, 200)))
+        self.write('port.bin', painted() + painted((60, 2, 4)) + painted())
+        self.write('trace.bin', traced() + traced((3, 7, (1, 2, 4, 0, 9, 0)), (60, 2, (5, 1, 2, 3, 1, 0)))
+                   + traced((199, 319, (2, 1, 6, 3, 200, 0))))
+        words = ['compare', 'ours.bin', 'port.bin', '--trace', 'trace.bin', '--most', '0', '--json', 'a.json', '--junit', 'a.xml']
+        self.assertEqual(self.run_tool(*words)[0], 1)
+        found = json.loads(self.read('a.json'))
+        self.assertEqual((found['views'], found['same'], found['different'], found['pixels']), (3, 1, 2, 3))
+        self.assertEqual(found['sentences'][0], '2 of 3 views differ')
+        self.assertEqual({(it['kind'], it['pixels']) for it in found['shares']}, {('wall', 1), ('sprite', 1), ('plane', 1)})
+        view = found['differing'][0]
+        self.assertEqual((view['view'], view['pixels'], view['rows'], view['columns']), (1, 2, [3, 60], [2, 7]))
+        self.assertEqual(view['first'], {'row': 3, 'column': 7, 'ours': 9, 'port': 5})
+        self.assertEqual([(it['kind'], it['name'], it['pixels'], it['numbers']) for it in view['painters']],
+                         [('wall', 'texture 0', 1, [4]), ('sprite', 'lump 3', 1, [2])])
+        suite = xml.parse(self.at('a.xml')).getroot()
+        self.assertEqual((suite.get('tests'), suite.get('failures')), ('3', '2'))
+        cases = {case.get('name'): case.find('failure') for case in suite}
+        self.assertIsNone(cases['view 0'])
+        self.assertEqual(cases['view 2'].get('message'), 'view 2 pixels 1 rows 199 to 199 columns 319 to 319 first at row 199 '
+                                                         'column 319: 200, port 5')
+        self.assertIn('  plane    lump 3         1  plane 6', cases['view 2'].text)
+        self.write('port.bin', painted())
+        self.assertEqual(self.run_tool(*words)[0], 1)
+        suite = xml.parse(self.at('a.xml')).getroot()
+        self.assertEqual([case.find('failure').get('message') for case in suite if case.find('failure') is not None],
+                         ['ours.bin has 3 views, port.bin 1'])
+        self.refuses('there is no folder absent', *words[:3], '--json', 'absent/a.json')
+
+    def test_many_views(self):
+        """Many views are compared in parts, by several processes where there are several: in their order, and as few are."""
+        count = 230
+        self.write('ours.bin', painted() * count)
+        self.write('port.bin', b''.join(painted(*[(view % 200, view, 9)] * (view % 3 > 0)) for view in range(count)))
+        traces = [traced((view % 200, view, (0, 0, 0, 0, 5, 0))) for view in range(count)]
+        self.write('trace.bin', b''.join(traces))
+        status, output, error = self.run_tool('compare', 'ours.bin', 'port.bin', '--trace', 'trace.bin')
+        self.assertEqual((status, error), (1, ''))
+        lines = output.decode().splitlines()
+        self.assertEqual(lines[:2], ['153 of 230 views differ', 'of the pixels that differ: 100 % nothing'])
+        views = [line for line in lines if line.startswith('view ')]
+        self.assertEqual(views, [f'view {view} pixels 1 rows {view % 200} to {view % 200} columns {view} to {view} first at row '
+                                 f'{view % 200} column {view}: 5, port 9' for view in range(count) if view % 3])
+        self.assertEqual(lines[-1], 'views 230 same 77 different 153 pixels 153')
+        traces[229] = traced((29, 229, (1, 2, 4, 1, 6, 0)))
+        self.write('trace.bin', b''.join(traces))
+        self.refuses('trace.bin is not the trace of these frames: at row 29 column 229 it has colour 6 and the frame 5', 'compare',
+                     'ours.bin', 'port.bin', '--trace', 'trace.bin')
+
+    def test_progress(self):
+        """A terminal shows how far a comparison is; the line goes at the end."""
+        self.write('ours.bin', painted() * 60)
+        main, other = pty.openpty()
+        env = self.surroundings()
+        run = subprocess.Popen([COMMAND, 'compare', 'ours.bin', 'ours.bin'], cwd=self.folder, env=env, stdout=subprocess.PIPE,
+                               stderr=other)
+        output = run.communicate()[0]
+        os.close(other)
+        shown = os.read(main, 10000).decode()
+        os.close(main)
+        self.assertEqual(output, b'views 60 same 60 different 0 pixels 0\n')
+        self.assertIn('60 of 60 views, 0 s left', shown)
+        self.assertEqual(shown[-1], '\r')
+        self.assertEqual(progress.in_words(61.6), '1 min 2 s')
+
     def test_fewer_views(self):
         self.write('ours.bin', painted() * 3)
         self.write('port.bin', painted() * 2)
@@ -85,7 +173,9 @@ class Compare(Tools):
         words = ['compare', 'ours.bin', 'port.bin', '--trace', 'trace.bin']
         status, output, error = self.run_tool(*words, '--wad', 'names.wad')
         self.assertEqual((status, error), (1, ''))
-        self.assertEqual(output.decode().splitlines()[2:-1], ['  wall     STONE          2  fragment 4',
+        self.assertEqual(output.decode().splitlines()[1], 'of the pixels that differ: 50 % wall (STONE), 25 % sprite (TROO), '
+                                                          '25 % nothing')
+        self.assertEqual(output.decode().splitlines()[3:-1], ['  wall     STONE          2  fragment 4',
                                                               '  sprite   TROOA1         1  sprite 2',
                                                               '  nothing  -              1'])
         self.assertIn('  wall     texture 1      2  fragment 4\n', self.run_tool(*words)[1].decode())
@@ -128,7 +218,7 @@ class Compare(Tools):
             done = self.run_tool('pixel', '0', str(x), '0', 'trace.bin', 'names.wad')
             self.assertEqual(done, (0, f'view 0 column {x} row 0: {told}, colour 6\n'.encode(), ''))
         words = ['compare', 'ours.bin', 'port.bin', '--trace', 'trace.bin', '--wad', 'names.wad']
-        self.assertEqual(self.run_tool(*words)[1].decode().splitlines()[2:-1], [
+        self.assertEqual(self.run_tool(*words)[1].decode().splitlines()[3:-1], [
             '  wall     FIREBLU2       1  fragment 4  patch W65B_2',
             '  wall     SHARED         1  fragment 4  patch of ONE, TWO',
             '  wall     SAME           1  fragment 4', '  wall     MANY           1  fragment 4  patch of A, B, C ..',
@@ -158,7 +248,7 @@ class Compare(Tools):
                          (0, b'of sprite, weapon alone: 2 of 128000 pixels\nviews 2 same 2 different 0 pixels 0\n', ''))
         status, output, _ = self.run_tool(*words, '--but', 'plane', '--png', 'out')
         self.assertEqual((status, output.decode().splitlines()[0]), (1, '1 of 2 views differ'))
-        self.assertEqual(output.decode().splitlines()[1:3], [
+        self.assertEqual(output.decode().splitlines()[2:4], [
             'of nothing, wall, sky, middle, sprite, weapon alone: 127999 of 128000 pixels',
             'view 0 pixels 1 rows 1 to 1 columns 1 to 1 first at row 1 column 1: 6, port 1'])
         self.assertEqual(os.listdir(self.at('out')), ['view00000.png'])
@@ -190,7 +280,7 @@ class Compare(Tools):
         self.write('trace.bin', b''.join(traced((row, 100, wall), (row, 7, other)) for row in range(20, 23)))
         output = self.run_tool('compare', 'ours.bin', 'port.bin', '--trace', 'trace.bin', '--most', '0')[1]
         self.assertEqual(output.decode().splitlines(), [
-            '3 of 3 views differ', 'column 100 in 3 of 3 views: 3 of the 5 pixels that differ',
+            '3 of 3 views differ', 'of the pixels that differ: 100 % wall (texture 1 60 %, texture 0 40 %)', 'column 100 in 3 of 3 views: 3 of the 5 pixels that differ',
             'in each of these 3 views: wall texture 1, 3 pixels', 'views 3 same 0 different 3 pixels 5'])
 
     def test_other_traces(self):

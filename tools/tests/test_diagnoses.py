@@ -1,4 +1,5 @@
 """Tests what compare says of mistakes of whole frames: each is made here of frames that are right."""
+import os
 import unittest
 
 from made_files import Tools, wad
@@ -20,6 +21,14 @@ def within(frame, size):
 
 def rows_of(frame):
     return [frame[at:at + 320] for at in range(0, FRAME, 320)]
+
+
+def doubled(frame, finer=9):
+    """A frame of 640 by 400, of which each pixel is there four times; or but for one of so many in both directions, which
+    is another one where a port draws finer."""
+    wide = [bytes(colour for colour in row for _ in 'ab') for row in rows_of(frame)]
+    rows = [bytes(colour ^ (x % finer == 1) for x, colour in enumerate(row)) for row in wide for _ in 'ab']
+    return b''.join(rows)
 
 
 PALETTE = bytes(part for i in range(256) for part in (i, i * 5 % 256, 255 - i))
@@ -48,6 +57,21 @@ DAMAGES = {
     'a smaller view': (lambda views: [within(it, 9) for it in views],
                        'the port has another view size: its frames are within the window of size 9, and doomview has '
                        'size 11'),
+    'view size 10': (lambda views: [it[320 * 16:320 * 184] + bytes(320 * 32) for it in views],
+                     'the port has another view size: its frames are within the window of size 10, and doomview has size 11'),
+    'view size 10 with a bar': (lambda views: [it[320 * 16:320 * 184] + textured(99)[:320 * 32] for it in views],
+                                'the port has view size 10 (screenblocks of the original), and below that a status bar or the '
+                                'like: its rows 0 to 167 are our rows 16 to 183'),
+    'rows early without a bar': (lambda views: [it[320 * 16:] + bytes(320 * 16) for it in views],
+                                 "the port's picture is 16 rows early (higher)"),
+    'as many rows early as a bar has': (lambda views: [it[320 * 32:] + bytes(320 * 32) for it in views],
+                                        "the port's picture is 32 rows early (higher)"),
+    'one frame again and again': (lambda views: [views[1]] * 6, "each of the port's frames that differ is the same one, our "
+                                  'view 1: it draws one row again and again, or writes one frame for all'),
+    'one frame that is none': (lambda views: [textured(70)] * 6, "each of the port's frames that differ is the same one, none "
+                               'of ours: it draws'),
+    'low detail': (lambda views: [bytes(colour for colour in it[::2] for _ in 'ab') for it in views],
+                   'the port draws in low detail: each of its columns is there twice (detailLevel of the original; 0 is high)'),
     'a colormap': (lambda views: [it.translate(COLORMAP[256 * 5:256 * 6]) for it in views],
                    'the port has other colours, always in the same way (1 is 25, 2 is 26, 3 is 27, 4 is 28 ..): colormap 5 '
                    'of COLORMAP'),
@@ -66,6 +90,16 @@ NO_FRAMES = {
             'port.bin has 3 times as many views: it has three bytes a pixel (RGB)'),
     'BGRA': (lambda views: [bytes(part for colour in it for part in (*PALETTE[3 * colour:3 * colour + 3][::-1], 255))
                             for it in views], 'port.bin has 4 times as many views: it has four bytes a pixel (RGBA or BGRA)'),
+    '640 by 400': (lambda views: [doubled(it) for it in views], 'port.bin has 4 times as many views: its frames are of 640 by '
+                   '400; let the port draw 320 by 200\n'),
+    '640 by 400, drawn finer': (lambda views: [doubled(it, 2) for it in views], 'port.bin has 4 times as many views: its frames '
+                                'are of 640 by 400'),
+    '320 by 240': (lambda views: [it + bytes(320 * 40) for it in views], 'port.bin has 460800 bytes, 76800 for each of the 6 '
+                   'views of ours, as frames of 320 by 240 have; let the port draw 320 by 200\n'),
+    'a BMP': (lambda views: [b'BM' + bytes(1076) + views[0]], 'port.bin is a BMP, which is not read here: write each frame as '
+              'PNG, PCX or PPM, or as palette indices\n'),
+    'a JPEG': (lambda views: [b'\xff\xd8\xff' + bytes(99)], 'port.bin is a JPEG, which is not read here: write each frame'),
+    'a PNG without its name': (lambda views: [b'\x89PNG' + bytes(99)], 'port.bin is a PNG, and its name has to end in .png\n'),
     'a trace': (lambda views: [traced(*[(y, x, (1, 2, 3, 4, 5, 0)) for y in range(200) for x in range(320)])] * 6,
                 'port.bin is a trace, which has eight bytes a pixel'),
     'a list': (lambda views: [b'view 0 fragment 0 seg 240 first 0 last 319\n'],
@@ -94,7 +128,7 @@ class WholeFrames(Tools):
             status, output, error = self.compare(damage(self.views))
             self.assertEqual((status, error), (1, ''), name)
             head, said, first = output.decode().splitlines()[:3]
-            self.assertRegex(head, '^[456] of 6 views differ$')
+            self.assertRegex(head, '^[456] of 6 views differ$', name)
             self.assertTrue(said.startswith(sentence), f'{name}: {said}')
             self.assertTrue(first.startswith('view '), f'{name}: {first}')
 
@@ -135,6 +169,23 @@ class WholeFrames(Tools):
         self.write('ours.bin', b''.join(self.views))
         output = self.compare([textured(i) for i in range(18)])[1].decode()
         self.assertTrue(output.startswith('port.bin has 3 times as many views: RGB?\nviews 6 same 6 '), output)
+
+    def test_numbers_that_are_missing(self):
+        """A folder of 0, 1 and 3 has its third frame for the view of number 2, which is said."""
+        os.mkdir(self.at('theirs'))
+        for number in (0, 1, 3):
+            self.write(f'theirs/{number}.bin', self.views[number])
+        self.write('ours.bin', b''.join(self.views[:4]))
+        status, output, error = self.run_tool('compare', 'ours.bin', 'theirs', '--most', '0')
+        self.assertEqual((status, error), (1, ''))
+        lines = output.decode().splitlines()
+        self.assertEqual(lines[:2] + lines[-1:], [
+            'theirs lacks number 2 between 0.bin and 3.bin: its files are views 0, 1, 2 .. in their order, so 3.bin is view 2',
+            '1 of 3 views differ', 'ours.bin has 4 views, theirs 3'])
+        os.rename(self.at('theirs/1.bin'), self.at('theirs/6.bin'))
+        self.assertIn(b'lacks number 1 to 2, 4 to 5 between', self.run_tool('compare', 'ours.bin', 'theirs')[1])
+        os.rename(self.at('theirs/3.bin'), self.at('theirs/12.bin'))
+        self.assertNotIn(b'lacks', self.run_tool('compare', 'ours.bin', 'theirs')[1])
 
     def test_few_pixels(self):
         """Where little differs nothing is said of whole frames."""

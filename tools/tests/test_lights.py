@@ -122,6 +122,20 @@ class OtherLights(Tools):
             found += [line.partition(': ')[0] for line in told]
         self.assertEqual(found, ['  darker   as under light 144 in the place of 160', '  darker   as under a light of 16 less'])
 
+    def test_full_bright(self):
+        """What is full bright here, and has some light in the port, is said so, and never a light below 0."""
+        bright = [(SPRITE, range(70, 100), range(100, 130), lambda row, column: 0)]
+        ours, port = (drawn(texel_of=lambda row, column: 8 * (row + column) % 256, painted=[(*bright[0][:3], lambda row, column: it)])
+                      for it in (0, 13))
+        places = [place for place in range(FRAME) if ours[place] != port[place]]
+        records = traced(*((row, column, (*SPRITE, ours[WIDTH * row + column], 0)) for row in bright[0][1] for column in bright[0][2]))
+        words = lights.Lights(colormaps()), records, places, (ours, port), lambda kind, number: 32
+        self.assertEqual(words[0].lines(*words[1:], lambda kind, number: True), [
+            f'  darker   not full bright, as it is here, the sector there has light 32: all {len(places)} pixels that differ of '
+            'sprite 2'])
+        self.assertEqual(words[0].lines(*words[1:]), [
+            f'  darker   as under a light of 64 less: all {len(places)} pixels that differ of sprite 2'])
+
     def test_steps(self):
         """From which colormap to which a step of light may lead: both are cut at their ends."""
         for pair, found in (((20, 24), {1}), ((20, 12), {-2}), ((20, 21), set()), ((31, 31), set(lights.STEPS)),

@@ -15,7 +15,8 @@ from doomview_tools import levels, wads
 FREEDOOM = '/usr/share/games/doom/freedoom2.wad'
 MISTAKE = 'NOTHERE'  # a texture that is in no list
 PORT = '''#!/bin/sh
-exec doomview/doomview render "$(basename "$2" .csv)" "$1" --path "$2" -o "$3" --spans packed {more}
+exec doomview/doomview render "$2" "$1" --path "$3" -o "$4" --skill {skill} --size "$8" ${{10:+--weapon "${{10}}"}} \\
+    --spans packed
 '''
 
 
@@ -27,7 +28,7 @@ def page():
 def job(name):
     """The variables of a job and the lines of its steps, each a name, its condition and a script."""
     text = next(block for block in re.findall(r'^```yaml\n(.*?)^```', page(), re.M | re.S) if f'name: {name}\n' in block)
-    variables = dict(re.findall(r'^      ([A-Z]+): (\S+)$', text, re.M))
+    variables = dict(re.findall(r'^      ([A-Z]+): (\S.*)$', text, re.M))
     steps = re.findall(r'^      - name: ([^\n]*)\n(?:        if: ([^\n]*)\n)?        run: \|\n((?:          [^\n]*\n)+)', text, re.M)
     return variables, [(head, condition, re.sub(r'^ {10}', '', script, flags=re.M)) for head, condition, script in steps]
 
@@ -39,8 +40,9 @@ class Pipeline(Packing):
         shutil.copy(self.pack()[1].decode().strip(), self.at('doomview-2.1.tar.gz'))
         shutil.rmtree(self.at('clone'))
 
-    def run_job(self, name, **others):
-        """The name of the step at which a job ends red, or None; what follows a failure alone is run then."""
+    def run_job(self, name, some=(), **others):
+        """The name of the step at which a job ends red, or None; what follows a failure alone is run then. `some` are
+        words of a step and what takes their place, so that it is not run over all maps."""
         variables, steps = job(name)
         env = {'PATH': os.environ['PATH'], 'HOME': self.folder, 'XDG_CACHE_HOME': self.at('cache'), **variables,
                'RELEASE': 'doomview-2.1.tar.gz', **others}
@@ -50,6 +52,8 @@ class Pipeline(Packing):
             if condition and (condition == 'failure()') != bool(red) or red and not condition:
                 continue
             script = re.sub(r'^sudo .*$', '', script, flags=re.M)
+            for words, others_of in some:
+                script = script.replace(words, others_of)
             done = subprocess.run(['bash', '-e', '-c', script], cwd=self.folder, env=env, stdin=subprocess.DEVNULL,
                                   capture_output=True, text=True)
             self.said = done.stdout + done.stderr
@@ -66,12 +70,16 @@ class Pipeline(Packing):
 
     @unittest.skipUnless(os.path.exists(FREEDOOM), 'Freedoom is not installed')
     def test_port(self):
-        self.stand_in('port-views', PORT.format(more=''))
-        self.assertIsNone(self.run_job('frames', MAPS='MAP01,MAP26'), getattr(self, 'said', ''))
-        shutil.rmtree(self.at('frames'))
-        self.stand_in('port-views', PORT.format(more='--skill 1'))
-        self.assertEqual(self.run_job('frames', MAPS='MAP01'), 'frames are right')
-        self.assertTrue(os.path.getsize(self.at('MAP01.html')))
+        some = [('freedoom1.wad freedoom2.wad -- --spans packed', 'freedoom2.wad -- --spans packed --maps MAP01,MAP26')]
+        self.assertIn(some[0][0], job('frames')[1][1][2])
+        self.stand_in('port-views', PORT.format(skill='"$6"'))
+        self.assertIsNone(self.run_job('frames', some), getattr(self, 'said', ''))
+        self.assertEqual(sorted(os.listdir(self.at('reports'))), ['freedoom2.json', 'freedoom2.xml'])
+        self.stand_in('port-views', PORT.format(skill='1'))
+        self.assertEqual(self.run_job('frames', some), 'frames are right')
+        self.assertIn('thing 66 of type 3004 at 416,176', self.said)
+        for name in ('explained.html', 'explained.txt'):
+            self.assertTrue(os.path.getsize(self.at('work', name)))
 
     def made_map(self, mistake):
         """A small map, in whose first wall a texture may be in no list."""

@@ -9,8 +9,8 @@ import tempfile
 import unittest
 
 import pages_shown
-from made_files import TOP, Tools
-from doomview_tools import original, vectors, wads, weapons
+from made_files import TOP, Tools, wad
+from doomview_tools import beside_vectors, original, vectors, vectors_map, wads, weapons
 from test_original import DOOMVIEW
 
 # Draws what the stand-in for doomview does, but view 1 of many without zeros behind memory, and with packed spans
@@ -28,8 +28,10 @@ with open(word['-out'], 'wb') as out, open(word['-counts'], 'w') as counts:
 '''
 CHECK, CI = (os.path.join(TOP, 'vectors', name) for name in ('check', 'ci'))
 TESTED = os.environ.get('DOOMVIEW_TESTED', '')
-FREEDOOM = {'freedoom1': ['E1M1', 'E4M2'], 'freedoom2': ['MAP01', 'MAP26']}  # files of vectors, and maps to draw again
-MOST_BYTES = 500000
+GAMES = {'freedoom1': ['E1M1', 'E4M2'], 'freedoom2': ['MAP01', 'MAP26']}
+# Files of vectors, and maps to draw again.
+FREEDOOM = {game + version: maps for version in ('', '-0.13.0') for game, maps in GAMES.items()}
+MOST_BYTES = 850000
 FRAME = 64000
 HEAD = ','.join(vectors.Vector._fields)
 
@@ -56,6 +58,8 @@ class Made(Tools):
     def setUp(self):
         super().setUp()
         self.clone()
+        left_out = shutil.ignore_patterns('*.csv', '__pycache__')
+        shutil.copytree(os.path.dirname(CHECK), self.at('clone/vectors'), ignore=left_out)
         self.doomview = self.stand_in('doomview', DOOMVIEW.replace('PYTHON', sys.executable))
         self.write('room.wad', self.run_tool('room')[1])
 
@@ -71,7 +75,7 @@ class Made(Tools):
         self.assertEqual(self.vectors('make', 'room.wad', '-o', 'out', '--jobs', '2'), (0, b'', ''))
         found = vectors.read(self.at('out/room.csv'))
         self.assertEqual({kind: sum(it.set == kind for it in found) for kind in vectors.SETS},
-                         {'near': 21, 'sizes': 24, 'skills': 12, 'light': 16, 'weapons': 12})
+                         {'near': 21, 'sizes': 24, 'skills': 12, 'light': 16, 'weapons': 26, 'made': 0})
         near = found[:21]
         self.assertEqual([it.answer for it in near[:5]], ['same', 'memory', 'same', 'ended', 'same'])
         self.assertEqual([bool(it.original) for it in near[:5]], [False, True, False, True, False])
@@ -85,8 +89,22 @@ class Made(Tools):
         status, output, error = self.run_command(CHECK, 'out/room.csv', 'ours', '--wad', 'room.wad')
         self.assertEqual((status, output), (0, b'MAP01 near same 20 departs 1\nall same 20 departs 1\n'), error)
         self.vectors('make', 'room.wad', '-o', 'out', '--jobs', '2')
-        self.assertEqual(self.read('out/wads.csv').splitlines(), ['vectors,wad,version,sha256', 'room.csv,room.wad,,'
-                         + hashlib.sha256(self.run_tool('room')[1]).hexdigest()])
+        lumps = beside_vectors.asked('games', 'sum_of_lumps', self.at('room.wad'))
+        self.assertEqual(self.read('out/wads.csv').splitlines(), ['vectors,wad,version,sha256,lumps', 'room.csv,room.wad,,'
+                         + f'{hashlib.sha256(self.run_tool("room")[1]).hexdigest()},{lumps}'])
+        self.vectors('make', 'room.wad', '-o', 'out', '--jobs', '2', '--name', 'other')
+        self.assertEqual([line.split(',')[:2] for line in self.read('out/wads.csv').splitlines()[1:]],
+                         [['room.csv', 'room.wad'], ['other.csv', 'room.wad']])
+        self.assertEqual(self.read('out/other.csv'), self.read('out/room.csv'))
+        self.other_wad()
+
+    def other_wad(self):
+        """draw refuses a WAD that the vectors are not of, with both sums."""
+        self.write('other.wad', wad([('PLAYPAL', bytes(768))]))
+        status, output, error = self.vectors('draw', 'out/room.csv', 'other.wad', '-o', 'ours')
+        self.assertEqual((status, output), (2, b''))
+        for name in ('other.wad', 'room.wad'):
+            self.assertIn(beside_vectors.asked('games', 'sum_of', self.at(name)), error)
 
     def test_spans(self):
         """draw draws with the spans that are named, with the WAD and the vectors in either order."""
@@ -153,8 +171,17 @@ class Compare(Tools):
 
 
 def game(name):
-    """The WAD of a file of vectors, or None."""
-    return wads.find_or_none(f'{name}.wad')
+    """The WAD of a file of vectors, or None where it is not installed, or another version is."""
+    path = wads.find_or_none(f'{name.partition("-")[0]}.wad')
+    return path if path and beside_vectors.asked('games', 'vectors_of', path) == f'{name}.csv' else None
+
+
+def games():
+    """The files of vectors whose WAD is there, and their maps to draw again."""
+    there = {name: maps for name, maps in FREEDOOM.items() if game(name)}
+    if not there:
+        raise unittest.SkipTest('no WAD of these vectors is there (package: freedoom)')
+    return there
 
 
 class Freedoom(unittest.TestCase):
@@ -167,7 +194,7 @@ class Freedoom(unittest.TestCase):
         """All maps, each with its places and the player start, in the order of the numbers; none unexplained."""
         folder = os.path.join(TOP, 'vectors')
         self.assertLess(sum(os.path.getsize(os.path.join(folder, name)) for name in os.listdir(folder)), MOST_BYTES)
-        for name, count in (('freedoom1', 36), ('freedoom2', 32)):
+        for name, count in zip(FREEDOOM, (36, 32, 36, 32)):
             found = self.files()[name]
             maps = list(dict.fromkeys(it.map for it in found))
             self.assertEqual((len(maps), sorted(maps)), (count, maps))
@@ -175,7 +202,8 @@ class Freedoom(unittest.TestCase):
                 for kind in vectors.SETS:
                     views = [it.view for it in found if (it.map, it.set) == (of_map, kind)]
                     self.assertEqual(views, list(range(len(views))))
-                    self.assertEqual(bool(views), kind == 'near' or of_map in vectors.MORE)
+                    self.assertEqual(bool(views), of_map in ('E1M1', 'MAP01') if kind == vectors.MADE else
+                                     kind == 'near' or of_map in vectors.MORE)
             self.assertLessEqual({it.answer for it in found}, {'same', 'memory', 'mark', 'tangent', 'back', 'several',
                                                                'ranges', 'ended'})
 
@@ -191,15 +219,13 @@ class Freedoom(unittest.TestCase):
 
     @unittest.skipUnless(TESTED, 'the program is not built')
     def test_drawn_again(self):
-        for name, maps in FREEDOOM.items():
-            if not game(name):
-                self.skipTest(f'{name}.wad is not there (package: freedoom)')
+        for name, maps in games().items():
             folder = tempfile.mkdtemp()
             self.addCleanup(shutil.rmtree, folder)
             self.draw(name, folder, maps)
             status, lines = self.check(name, folder, maps)
             self.assertEqual((status, lines[-1]), (0, 'all same 42'))
-            self.assertEqual(self.check(name, folder, maps[:1], '--sets', 'weapons')[1][-1], 'all same 12')
+            self.assertEqual(self.check(name, folder, maps[:1], '--sets', 'weapons')[1][-1], 'all same 26')
             self.wrong_pixel(name, folder, maps)
 
     def wrong_pixel(self, name, folder, maps):
@@ -237,20 +263,45 @@ class Freedoom(unittest.TestCase):
         port = (f'"{os.path.join(TOP, "doomview")}" render "$MAP" "$WAD" --path "$ROWS" -o "$OUT" --skill "$SKILL" '
                 '--size "$SIZE" ${WEAPON:+--weapon "$WEAPON"}')
         maps = ['--maps', 'MAP07']
-        self.assertEqual(self.ci(game('freedoom2'), port, *maps)[:2], (0, 'all same 85'))
+        self.assertEqual(self.ci(game('freedoom2'), port, *maps)[:2], (0, 'all same 99'))
         near = [*maps, '--sets', 'near', '--spans']
         self.assertEqual(self.ci(game('freedoom2'), port + ' --spans packed', *near, 'packed')[:2], (0, 'all packed 21'))
         self.assertEqual(self.ci(game('freedoom2'), port, *near, 'packed')[0], 1)
         damaged = port + '; printf x | dd of="$OUT" bs=1 seek=70000 conv=notrunc'
         self.assertEqual(self.ci(game('freedoom2'), damaged, *near, 'full')[:2], (1, 'all same 20 wrong 1'))
 
+    def test_made(self):
+        """The made map of the repository is the one that its module makes, and over a game's WAD it is whole."""
+        with open(os.path.join(TOP, 'vectors', 'made.wad'), 'rb') as file:
+            self.assertEqual(file.read(), vectors_map.pwad())
+        for name in games():
+            folder = tempfile.mkdtemp()
+            self.addCleanup(shutil.rmtree, folder)
+            path = beside_vectors.asked('made', 'write', game(name), folder)
+            own, more = ({lump.name: lump.data for lump in wads.read(it)} for it in (game(name), path))
+            changed = {label for label in own if own[label] != more[label]}
+            self.assertEqual(changed, {'TEXTURE1', 'PNAMES', *wads.MAP_LUMPS, 'REJECT', 'BLOCKMAP'})
+            self.assertEqual(set(more) - set(own), {'MADEP48', 'MADEP32', 'MADEP16'})
+            self.assertEqual(more['PNAMES'][4:4 + len(own['PNAMES']) - 4], own['PNAMES'][4:])
+
+    @unittest.skipUnless(TESTED and game('freedoom2'), 'the program or freedoom2.wad (package: freedoom) is not there')
+    def test_made_drawn(self):
+        """doomview draws the made map as the vectors have it, and a port sees its WAD in WAD."""
+        folder = tempfile.mkdtemp()
+        self.addCleanup(shutil.rmtree, folder)
+        words = [os.path.join(TOP, 'doomview'), 'vectors', 'draw', os.path.join(TOP, 'vectors', 'freedoom2.csv'),
+                 game('freedoom2'), '-o', folder, '--maps', 'MAP01', '--sets', 'made', '--spans', 'packed']
+        subprocess.run(words, check=True, env={**os.environ, 'DOOMVIEW': TESTED})
+        self.assertEqual(self.check('freedoom2', folder, ['MAP01'], '--sets', 'made', '--spans', 'packed'),
+                         (0, ['MAP01 made packed 20', 'all packed 20']))
+        port = (f'"{os.path.join(TOP, "doomview")}" render "$MAP" "$WAD" --path "$ROWS" -o "$OUT" --spans packed')
+        self.assertEqual(self.ci(game('freedoom2'), port, '--sets', 'made', '--spans', 'packed')[:2], (0, 'all packed 20'))
+
     @unittest.skipIf(original.missing(), 'tools/original/build has not been run')
     def test_originals(self):
         """The original's frames of all views, with full and with packed spans, are right where they are asked for, and
         wrong where the others are, on each map; and rows with a pixel changed are named."""
-        for name in FREEDOOM:
-            if not game(name):
-                self.skipTest(f'{name}.wad is not there (package: freedoom)')
+        for name in games():
             for spans, words, other in (('full', '', 'packed'), ('packed', '-dosspan', 'full')):
                 folder = tempfile.mkdtemp()
                 self.addCleanup(shutil.rmtree, folder)

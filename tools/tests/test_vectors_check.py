@@ -5,15 +5,18 @@ import os
 import shutil
 import signal
 import sys
+import time
 import unittest
 import xml.etree.ElementTree as xml
 
 from made_files import TOOLS, Tools, wad
 from test_vectors import CHECK, FRAME, changed, frame, vector
-from doomview_tools import png, vectors
+from doomview_tools import beside_vectors, png, vectors
 
-# Draws views of one colour: of the size, of the number of the row's x, of whether there are weapon layers. SKILL 9
-# ends it with an error.
+games = beside_vectors.module('games')
+
+# Draws views of one colour: of the size, of the number of the row's x, of whether there are weapon layers. With skill 2
+# it ends with an error and draws nothing; with skill 4 it crashes once all is drawn, and with 5 it goes on for long.
 PORT = '''#!PYTHON
 import os, sys
 env = os.environ
@@ -34,6 +37,12 @@ else:
                 out.write(b'P6\\n320 200\\n255\\n' + bytes(part for _ in view for part in (view[0], 0, 0)))
             else:
                 out.write(view)
+if env['SKILL'] == '4':
+    os.abort()
+if env['SKILL'] == '5':
+    import subprocess
+    print('still here', flush=True)
+    subprocess.run([sys.executable, '-c', 'import time; time.sleep(600)'])
 '''
 
 
@@ -208,7 +217,7 @@ class Check(Tools):
         self.write('made.csv', vectors.text(rows).encode())
         status, output, _ = self.run_command(CHECK, 'made.csv', '--paths', 'out')
         self.assertEqual((status, output.decode().splitlines()), (0, [
-            'MAP01 near 3 11 1 MAP01-0', 'MAP01 near 3 11 1 MAP01-1', 'MAP01 near 3 11 1 MAP01-2']))
+            'MAP01 near 3 11 1 MAP01-0', 'MAP01 near 3 11 1 MAP01-1 ends', 'MAP01 near 3 11 1 MAP01-2']))
         self.write('port/MAP01-0.bin', frame(1))
         right = (0, ['MAP01 near same 2 departs 1', 'all same 2 departs 1'])
         self.assertEqual(self.check(frame(3), place='port/MAP01-2.bin'), right)
@@ -232,6 +241,19 @@ class Check(Tools):
         status, _, error = self.run_command(CHECK, *words)
         self.assertEqual((status, error), (2, 'check: game.wad is no WAD with a PLAYPAL\n'))
         self.assertEqual(self.run_command(CHECK, '--wad', 'absent.wad')[0], 2)
+
+    def test_wads_are_found_where_ports_look(self):
+        os.makedirs(self.at('wads', 'more'))
+        self.write('wads/game.wad', b'IWAD' + bytes(9))
+        self.write('wads.csv', b'vectors,wad,version,sha256\n')
+        self.write('made.csv', vectors.text([vector(0, frame(1), frame(2))]).encode())
+        for name, place in (('game.wad', {'DOOMWADDIR': self.at('wads')}), ('GAME', {'DOOMWADPATH': f':{self.at("wads")}'})):
+            status, output, error = self.run_command(CHECK, '--wad', name, **place)
+            self.assertEqual((status, output), (3, b''))
+            self.assertTrue(error.startswith(f'check: {self.at("wads", "game.wad")} is another WAD, with the SHA-256'), error)
+        for name, place in (('game.wad', {}), ('more/game.wad', {'DOOMWADDIR': self.at('wads')})):
+            status, output, error = self.run_command(CHECK, '--wad', name, **place)
+            self.assertEqual((status, error), (2, f'check: cannot read {name}: No such file or directory\n'))
 
     def test_trouble(self):
         self.write('other.csv', b'x,y\n1,2\n')
@@ -305,8 +327,6 @@ class Ci(Tools):
 
     def setUp(self):
         super().setUp()
-        for command in ('rm', 'mkdir', 'mktemp', 'mv', 'head', 'tail', 'sed'):
-            os.symlink(shutil.which(command), self.at('bin', command))
         left_out = shutil.ignore_patterns('*.csv', '__pycache__')
         shutil.copytree(os.path.dirname(CHECK), self.at('vectors'), ignore=left_out)
         self.write('game.wad', wad([('PLAYPAL', bytes(part for i in range(256) for part in (i, 0, 0)))]))
@@ -342,6 +362,8 @@ class Ci(Tools):
         """WORK keeps the paths and the frames, REPORTS gets the reports."""
         self.assertEqual(self.ci('game.wad', WORK=self.at('work'), REPORTS=self.at('reports'))[0], 0)
         self.assertEqual(sorted(os.listdir(self.at('reports'))), ['made.json', 'made.xml'])
+        self.assertEqual(self.read('work/made/found.json'), self.read('reports/made.json'))
+        self.assertEqual(self.read('work/made/vectors.csv'), self.read('vectors/made.csv'))
         self.assertEqual(os.path.getsize(self.at('work/made/MAP01.bin')), 2 * FRAME)
         self.assertEqual(os.path.getsize(self.at('work/made/MAP01-sizes-1.bin')), FRAME)
         self.assertTrue(os.path.isfile(self.at('work/made/paths/MAP01-weapons.weapon.csv')))
@@ -354,13 +376,102 @@ class Ci(Tools):
         self.put([self.rows[0]._replace(skill=2), *self.rows[1:]])
         status, lines = self.ci('game.wad')
         self.assertEqual((status, lines[0]), (1, 'MAP01 near same 1 missing 1'))
-        said = 'ci: the port ended with 1 at MAP01, set near, skill 2, size 11; it said:\nno such skill'
+        said = 'ci: the port ended with the status 1 at MAP01, set near, skill 2, size 11; it said:\nno such skill'
         self.assertIn(said, self.error)
+
+    def test_crash(self):
+        """A port that crashes is red though all its frames are right; but not where the original ends too."""
+        self.put([row._replace(skill=4) for row in self.rows])
+        status, lines = self.ci('game.wad', '--', '--sets', 'near', GITHUB_ACTIONS='true')
+        self.assertEqual((status, lines[1:]), (1, ['MAP01 near same 2', 'all same 2']))
+        told = 'the port crashed (signal 6, SIGABRT) at MAP01, set near, skill 4, size 11'
+        self.assertIn(f'ci: {told}', self.error)
+        self.assertTrue(lines[0].startswith(f'::error title=the port::{told}.'), lines[0])
+        ended = vector(2, frame(1), frame(1), 'ended')._replace(frame='-', packed='-', original='-', bands='-', skill=4)
+        self.put([*self.rows[:2], ended])
+        self.assertEqual(self.ci('game.wad'), (0, ['MAP01 near same 2 departs 1', 'all same 2 departs 1']))
+        self.assertNotIn('crashed', self.error)
+
+    def test_time(self):
+        """A port that goes on for too long is ended with what it started, and red; after the third no more are drawn."""
+        self.put([row._replace(skill=5) for row in self.rows])
+        begun = time.monotonic()
+        status, lines = self.ci('game.wad', TIMEOUT='1.5', PORT='./port; true')
+        self.assertEqual((status, lines), (1, ['MAP01 near same 2', 'MAP01 sizes same 2', 'MAP01 weapons missing 2',
+                                              'all same 4 missing 2']))
+        self.assertLess(time.monotonic() - begun, 60)
+        self.assertIn('ci: the port took more than 1.5 seconds and was ended at MAP01, set sizes, skill 5, size 4; it said:'
+                      '\nstill here\n', self.error)
+        self.assertIn('ci: 3 runs of the port took more than 1.5 seconds, so no more were drawn; TIMEOUT', self.error)
+        for seconds in ('0', 'long', 'inf'):
+            self.assertEqual(self.ci('game.wad', TIMEOUT=seconds)[0], 2)
+            self.assertIn(f'TIMEOUT is a number of seconds, such as 300, and {seconds} is none', self.error)
+
+    def test_versions(self):
+        """The vectors are chosen by the WAD: by its own sum, or by that of all lumps but the version and the title."""
+        def built(version, title, more=b''):
+            return wad([('PLAYPAL', bytes(768)), ('FREEDOOM', version), ('TITLEPIC', title), ('OTHER', more)])
+        for name, data in (('one.wad', built(b'1-1', b'A')), ('again.wad', built(b'1-2', b'BB')),
+                           ('two.wad', built(b'2-1', b'A', b'more'))):
+            self.write(name, data)
+        self.put(self.rows[:1])
+        sums = [(games.sum_of(self.at(name)), games.sum_of_lumps(self.at(name))) for name in ('one.wad', 'game.wad')]
+        self.write('vectors/one.csv', vectors.text([vector(0, frame(11), frame(99))._replace(x=0)]).encode())
+        self.write('vectors/wads.csv', '\n'.join([
+            'vectors,wad,version,sha256,lumps', f'one.csv,one.wad,Game 1,{",".join(sums[0])}',
+            f'made.csv,game.wad,Game 2,{",".join(sums[1])}']).encode())
+        for name, sentence in (('one.wad', 'one.wad is one.wad of Game 1; its vectors are in one.csv\n'),
+                               ('again.wad', 'again.wad is another build of one.wad of Game 1; its vectors are in one.csv\n'),
+                               ('game.wad', 'game.wad is game.wad of Game 2; its vectors are in made.csv\n')):
+            done = self.ci(name)
+            self.assertEqual((done, self.error), ((0, ['MAP01 near same 1', 'all same 1']), sentence))
+        self.assertEqual(self.ci('two.wad')[0], 3)
+        self.assertIn(f'the vectors here are of one.wad of Game 1 (SHA-256 {sums[0][0]}) or game.wad of Game 2 '
+                      f'(SHA-256 {sums[1][0]})', self.error)
+        check = self.at('vectors/check')
+        status, _, error = self.run_command(check, 'vectors/made.csv', 'vectors', '--wad', 'again.wad')
+        self.assertEqual(status, 3)
+        self.assertTrue(error.endswith('; the vectors of again.wad are in one.csv\n'), error)
+        status, output, _ = self.run_command(check, '--wad', 'again.wad', '--path', 'MAP01')
+        self.assertEqual((status, output), (0, b'x,y,z,angle\n0,0,2686976,0\n'))
+        os.mkdir(self.at('drawn'))
+        self.write('drawn/MAP01.bin', frame(11))
+        status, output, _ = self.run_command(check, 'drawn', '--wad', 'again.wad')
+        self.assertEqual((status, output), (0, b'MAP01 near same 1\nall same 1\n'))
+
+    def test_found(self):
+        """A WAD is found where ports look for it."""
+        os.mkdir(self.at('wads'))
+        os.rename(self.at('game.wad'), self.at('wads/game.wad'))
+        self.assertEqual(self.ci('game.wad', DOOMWADDIR=self.at('wads'))[0], 0)
+        self.assertEqual(self.ci('game.wad')[0], 2)
+        self.assertIn('there is no WAD game.wad', self.error)
+        status, output, _ = self.run_command(self.at('vectors/check'), '--wad', 'game.wad', DOOMWADDIR=self.at('wads'))
+        self.assertEqual((status, output.decode()), (0, f'{self.at("wads/game.wad")} is game.wad of Game 1.0; its vectors '
+                                                        'are in made.csv\n'))
+
+    def test_errors(self):
+        """In a workflow of GitHub a line for each map and set that is red, of which it shows ten."""
+        def lines(count):
+            wrong = [vector(0, frame(1), frame(1), name=f'MAP{i:02}')._replace(x=3) for i in range(1, count + 1)]
+            self.put(wrong)
+            return [line for line in self.ci('game.wad', GITHUB_ACTIONS='true')[1] if line.startswith('::')]
+        rows = ' '.join(f'{20 * i}-{20 * i + 19}' for i in range(10))
+        self.assertEqual(lines(1), ['::error title=made.csv MAP01 near::1 of 1 views are wrong; view 0 wrong at '
+                                    f'3,0,2686976,0: rows {rows}'])
+        self.assertEqual(len(lines(10)), 10)
+        found = lines(13)
+        self.assertEqual((len(found), found[-1]), (10, '::error title=made.csv::4 more maps and sets have wrong views'))
+
+    def test_help(self):
+        status, output, error = self.run_command(self.at('vectors/ci'), '--help')
+        self.assertEqual((status, error), (0, ''))
+        self.assertIn('TIMEOUT is how many seconds', output.decode())
 
     def test_trouble(self):
         """Nothing is drawn where it cannot begin, or where a WAD is another."""
         self.assertEqual(self.ci('game.wad', 'made.wad'), (3, []))
-        self.assertIn('check: made.wad is another WAD', self.error)
+        self.assertIn('ci: made.wad is another WAD', self.error)
         for part, words, more in (('PORT is the command', ['game.wad'], {'PORT': ''}), ('name a WAD', [], {}),
                                   ('there is no WAD absent.wad', ['absent.wad'], {}),
                                   ('the command of PORT is not there', ['game.wad'], {'PORT': './absent'}),

@@ -29,11 +29,11 @@ class Why(Tools):
         self.write('path.csv', f'{PATH}{64 * UNIT},0,{65 * UNIT},{QUARTER}\n'.encode())
         self.words = [*LEVEL, '--tables', 'tables.bin', '--things', 'things.csv']
 
-    def ends(self, line, status, *words):
-        """The sentences behind the line of a run that ends so."""
+    def ends(self, line, status, *words, ended=None):
+        """The sentences behind the line of a run that ends so; the command ends so too, or with another status."""
         more = {'SAID': line, 'ENDS': str(status), 'WORDS': self.at('words')}
         done = self.run_command(COMMAND, *words, doomview=self.program, **more)
-        self.assertEqual(done[:2], (status, b'' if '-o' in words else b'written\n'))
+        self.assertEqual(done[:2], (ended or status, b'' if '-o' in words else b'written\n'))
         self.assertEqual(len(self.read('words').splitlines()), 1)
         os.remove(self.at('words'))
         first, *said = done[2].splitlines()
@@ -65,7 +65,7 @@ class Why(Tools):
         for word, part in [('rendr', 'there is no job or tool rendr; did you mean render?'),
                            ('compair', 'there is no job or tool compair; did you mean compare?'),
                            ('xyz', 'there is no job or tool xyz; doomview --help has them all')]:
-            self.assertEqual(self.ends('usage', 1, word, 'it'), [f'explain: {part}'])
+            self.assertEqual(self.ends('usage', 1, word, 'it', ended=64), [f'explain: {part}'])
         said = self.ends('usage', 1, 'render', *self.words[:2], '--pth', 'path.csv')
         self.assertEqual(said[0], 'explain: render takes no --pth; did you mean --path?')
         self.refuses('unrecognized arguments: --trcae x; did you mean --trace?; doomview compare --help', 'compare', 'a',
@@ -75,7 +75,7 @@ class Why(Tools):
     def test_not_built(self):
         """Where nothing is built an unknown word builds nothing, and is answered too."""
         status, _, error = self.run_command(self.clone(), 'rendr', doomview='')
-        self.assertEqual(status, 1)
+        self.assertEqual(status, 64)
         self.assertTrue(error.startswith('doomview: usage\n'))
         self.assertTrue(error.endswith('explain: there is no job or tool rendr; did you mean render?\n'))
 
@@ -118,7 +118,7 @@ class Orders(Command):
             self.assertEqual(self.runs('help', name), self.runs(name, '--help'))
         self.assertEqual(self.runs('help'), self.runs('--help'))
         self.assertEqual(self.runs('help', 'rendr'),
-                         (1, b'', 'doomview: there is no job or tool rendr; did you mean render?\n'))
+                         (64, b'', 'doomview: there is no job or tool rendr; did you mean render?\n'))
 
 
 class Warnings(Command):

@@ -56,7 +56,7 @@ def run(options: argparse.Namespace) -> None:
     record = traces.record_at(options.trace, options.view, options.x, options.y)
     files = [wads.find(name) for name in options.wads]
     names = traces.Names(files)
-    names.check(traces.RECORD.pack(*record), options.trace)
+    names.check(traces.Painter(record[0], record[1], record[3]), options.trace)
     placing = lists.placing_of(options, files, count, names)
     told = traces.in_words(record, names)
     if placing:
