@@ -49,12 +49,13 @@ class Formatter(argparse.RawDescriptionHelpFormatter):
 
 class Argument(typing.NamedTuple):
     """A word or an option of a tool: the names of an option, none of a plain word; its value as a help page has it; how
-    many values there are, as argparse says it; and whether it has to be there."""
+    many values there are, as argparse says it; whether it has to be there; and the values that it may have, none if any."""
 
     names: typing.Sequence[str]
     value: str
     many: typing.Union[int, str, None]
     is_needed: bool
+    choices: typing.Tuple[str, ...] = ()
 
     @property
     def form(self) -> str:
@@ -76,7 +77,8 @@ class Parser(argparse.ArgumentParser):
 
     def add_argument(self, *names: str, **more: typing.Any) -> argparse.Action:
         action = (self.options if names[0].startswith('-') else self.plain).add_argument(*names, **more)
-        self.arguments.append(Argument(action.option_strings, str(action.metavar or ''), action.nargs, action.required))
+        self.arguments.append(Argument(action.option_strings, str(action.metavar or ''), action.nargs, action.required,
+                                       tuple(map(str, action.choices or ()))))
         return action
 
     def error(self, message: str) -> typing.NoReturn:
