@@ -4,7 +4,7 @@ import os
 import sys
 import typing
 
-from .. import cli, compare_reports, diagnoses, differences, frame_files, frames, jobs, lists, png, setup_trials, traces
+from .. import cli, compare_reports, diagnoses, differences, frame_files, frames, jobs, lists, png, setup_trials, shapes, symptoms, texels, traces
 from ..compare_page import MOST_VIEWS, ComparePage
 from ..comparison import Both, Files, Tasks, View, entries_of, lines_of
 from ..files import check_target, write_whole
@@ -30,6 +30,9 @@ painter's kind, the lump or texture, the pixels, and the numbers of the fragment
 need the WADs of the run. A texture of one patch is named where no other texture has the patch. Where the port has a
 fragment, a plane or a sprite as under another light, a line says how much lighter or darker that is, and with a list
 which light.
+
+Where the shape of what differs is certain, a line names the symptom and the functions of the original where one looks:
+the last pixel of columns, other texels of the same flat, sprites that are moved, and so on (docs/PORT.md has all).
 
 With --list, what doomview list wrote for the same words, the lines under those say where in the map that is: the pixels
 of each line, side and part of a wall, of each sector's floor or ceiling, and of each thing.
@@ -156,6 +159,21 @@ class Comparison:
             by_rows = shares.share_of('plane') < PLANES_ALONE
             yield from self.summary.everywhere.sentences(len(self.files.views), by_rows)
             yield from self.summary.of_every_view(self.files.names)
+            yield from self.symptoms() if shares.all and self.options.wad else []
+
+    def symptoms(self) -> typing.List[str]:
+        """A line on the function of the original where one looks, if the shape of what differs is certain."""
+        files, samples = self.files, []
+        most = sorted(self.found, key=lambda found: -found.pixels)[:symptoms.SAMPLES]
+        for view in (files.view(found.view) for found in most):
+            marks = differences.marks_of(view.ours, view.port, view.mask)
+            items = files.placing.view(view.number) if files.placing else None
+            samples.append(shapes.Sample(view.ours, view.port, view.records, marks,
+                                         traces.pixels_of(view.records, marks), items))
+        shares = {word: self.summary.shares.share_of(word) for word, _ in traces.KINDS.values()}
+        return symptoms.sentences(symptoms.Evidence(
+            samples, shares, [found.view for found in self.found], files.run.rows if files.run else [],
+            texels.Texels(files.wads), files.lights, files.names.colormaps))
 
     def set_ups(self) -> typing.List[str]:
         """A sentence on another set-up that makes our frames the port's, where the path is named."""
