@@ -4,7 +4,8 @@ import os
 import sys
 import typing
 
-from .. import cli, compare_reports, diagnoses, differences, frame_files, frames, jobs, lists, png, setup_trials, shapes, symptoms, texels, traces
+from .. import (cli, compare_reports, diagnoses, differences, frame_files, frames, jobs, lists, png, program, setup_trials,
+                shapes, symptoms, texels, traces)
 from ..compare_page import MOST_VIEWS, ComparePage
 from ..comparison import Both, Files, Tasks, View, entries_of, lines_of
 from ..files import check_target, write_whole
@@ -38,9 +39,8 @@ With --list, what doomview list wrote for the same words, the lines under those 
 of each line, side and part of a wall, of each sector's floor or ceiling, and of each thing.
 
 With --path, --map and --wad, and what else the run was given (--skill, --size, --spans, --weapon), our side is drawn
-again with what ports get wrong: where more than half of the pixels of more than half of the views differ with another
-eye, angle, place, light, size or two of these, and always with other things (skill), floors (spans) or no weapon. A
-sentence says which of these makes our frames the port's.
+again with what ports get wrong: another eye, angle, place or light, things of another skill, other floors, no weapon,
+where most differs another size, and two of these at once. A sentence says what makes our frames the port's.
 
 With --vectors a line ends with what is known of the port's frame there: that it has packed spans, or is the original's
 where doomview departs from it (docs/VECTORS.md). PORT is named by the map then, as MAP01.bin or MAP01-sizes.bin.
@@ -91,7 +91,7 @@ def add_words(parser: argparse.ArgumentParser) -> None:
     parser.add_argument('--vectors', metavar='FILE', help='the vectors whose views the files have')
     parser.add_argument('--png', metavar='FOLDER', help='writes a picture of each view that differs into FOLDER')
     parser.add_argument('--html', metavar='OUT.html', help='writes a page of the views that differ')
-    parser.add_argument('--path', metavar='FILE', help='the camera path of the run: tries other set-ups where much differs; '
+    parser.add_argument('--path', metavar='FILE', help='the camera path of the run: tries other set-ups; '
                         'needs --map, --wad and the words of the run that are not usual')
     cli.add_job_options(parser, 'render', [name for name in jobs.options() if name not in setup_trials.WORDS])
     parser.add_argument('--views', metavar='VIEWS', help='compares these views alone, as 3,7-9')
@@ -179,6 +179,8 @@ class Comparison:
         """A sentence on another set-up that makes our frames the port's, where the path is named."""
         if not self.files.run:
             return []
+        if not program.is_built():
+            return ['set-up: not tried, since the program is not built; doomview --build builds it']
         trials = setup_trials.Trials(self.files.run, self.files.both, [found.view for found in self.found])
         return trials.sentences(2 * self.summary.far > len(self.found))
 
