@@ -4,14 +4,15 @@ import collections
 import typing
 
 from . import differences, lights, lists, traces
-from .doom import COLORMAP_SIZE, COLORMAPS
+from .doom import COLORMAP_SIZE
 from .frames import HEIGHT, SIZE, WIDTH
 from .texels import Texels
-from .traces import MIDDLE, PLANE, WALL, Pixels
+from .traces import MIDDLE, PLANE, SKY, WALL, Pixels
 
 MOST_PLACES = 160  # of an item by which it is looked for elsewhere
-FARTHEST = 14  # pixels
-LEAST_ALIKE, MOST_ALIKE = 0.85, 0.6  # of its pixels that are the same where it was moved to, and where it was
+FARTHEST, NEAR = 40, 8  # pixels, along rows or columns, and in both directions
+LEAST_ALIKE, LESS = 0.7, 0.2  # of its pixels that are the same where it was moved to, and how many less where it was
+LEAST_MIRRORED = 0.5  # of its pixels, which are other texels where it is small
 LEAST_PIXELS, LEAST_COLOURS = 24, 3  # of an item, and of a line of it
 MOST = 0.9  # of what is looked at
 
@@ -68,43 +69,57 @@ def alike(sample: Sample, places: typing.List[int], step: Step) -> float:
 def moved(sample: Sample, places: typing.List[int], rows: int = FARTHEST, columns: int = FARTHEST) -> typing.Optional[Step]:
     """How far the port has what we have at some places, or None where that is nowhere near, or where it is."""
     some = places[::len(places) // MOST_PLACES + 1]
-    if len(some) < LEAST_PIXELS or alike(sample, some, (0, 0)) > MOST_ALIKE:
+    if len(some) < LEAST_PIXELS:
         return None
-    steps = [(row, column) for row in range(-rows, rows + 1) for column in range(-columns, columns + 1)]
-    best = max(steps, key=lambda step: (alike(sample, some, step), -abs(step[0]) - abs(step[1])))
-    return best if alike(sample, some, best) >= LEAST_ALIKE else None
+    near = range(-NEAR, NEAR + 1)
+    steps = {*((row, 0) for row in range(-rows, rows + 1)), *((0, column) for column in range(-columns, columns + 1)),
+             *((row, column) for row in near for column in near if abs(row) <= rows and abs(column) <= columns)}
+    shares = {step: alike(sample, some, step) for step in steps}
+    best = max(sorted(steps), key=lambda step: (shares[step], -abs(step[0]) - abs(step[1])))
+    return best if shares[best] >= max(LEAST_ALIKE, shares[0, 0] + LESS) else None
 
 
 def directions(steps: typing.Iterable[typing.Optional[Step]]) -> str:
-    """The direction in which most things are moved, in words, or an empty text."""
+    """The direction in which most things are moved, if half of them at least are, in words, or an empty text."""
     found = list(steps)
     words: typing.Counter[str] = collections.Counter()
-    for step in found:
-        if step:
-            row, column = step
-            words[' and '.join(filter(None, ['lower' if row > 0 else 'higher' if row else '',
-                                             'to the right' if column > 0 else 'to the left' if column else '']))] += 1
+    for row, column in filter(None, found):
+        words[' and '.join(filter(None, ['lower' if row > 0 else 'higher' if row else '',
+                                         'to the right' if column > 0 else 'to the left' if column else '']))] += 1
     word, count = words.most_common(1)[0] if words else ('', 0)
-    return word if found and count >= LEAST_ALIKE * len(found) else ''
+    is_most = 2 * sum(words.values()) >= len(found) and count >= LEAST_ALIKE * sum(words.values())
+    return word if found and is_most else ''
 
 
-def is_mirrored(sample: Sample, places: typing.List[int]) -> bool:
-    """Whether the port has an item mirrored, left for right, within its columns."""
+def is_mirrored(sample: Sample, places: typing.List[int], number: int) -> bool:
+    """Whether the port has a sprite mirrored, left for right, within the columns that the list has, or near."""
     columns = [place % WIDTH for place in places]
-    both = min(columns) + max(columns)
+    own = sample.items.sprites[number] if sample.items and number < len(sample.items.sprites) else None
+    middle = own.first + own.last if own else min(columns) + max(columns)
     some = places[::len(places) // MOST_PLACES + 1]
-    same = sum(sample.port[place - place % WIDTH + both - place % WIDTH] == sample.ours[place] for place in some)
-    return same >= LEAST_ALIKE * len(some) and alike(sample, some, (0, 0)) <= MOST_ALIKE
+    best = max(mirrored(sample, some, both) for both in range(middle - NEAR, middle + NEAR + 1))
+    return best >= max(LEAST_MIRRORED, alike(sample, some, (0, 0)) + LESS)
+
+
+def mirrored(sample: Sample, places: typing.List[int], both: int) -> float:
+    """The share of the places at which the port has what we have, mirrored; `both` is the sum of two columns."""
+    pairs = [(place, both - place % WIDTH) for place in places if 0 <= both - place % WIDTH < WIDTH]
+    same = sum(sample.port[place - place % WIDTH + column] == sample.ours[place] for place, column in pairs)
+    return same / len(places)
 
 
 def lines_in(sample: Sample, kinds: typing.Collection[int]) -> typing.Iterator[typing.Tuple[Item, lights.Pairs]]:
-    """The pairs of colours of each line that differs: of a column of a wall, of a row of a plane, of a whole sprite."""
+    """The pairs of colours of each line that differs: of a column of a wall or of the sky, of a row of a plane, of a whole
+    sprite."""
     kept = kinds_in(sample).translate(bytes(kind in kinds for kind in range(256)))
     marks = differences.bytes_of(differences.number_of(kept) & differences.number_of(sample.marks))
-    groups = lights.groups_of(sample.records, differences.places_of(marks), sample.ours, sample.port)
-    for (kind, low, high), own in groups.items():
-        for pairs in own.values():
-            yield (kind, low + 256 * high), pairs
+    found: typing.Dict[typing.Tuple[Item, int], lights.Pairs] = collections.defaultdict(set)
+    for place in differences.places_of(marks):
+        kind, low, high = lights.key_at(sample.records, place)
+        line = place % WIDTH if kind == SKY else lights.line_of(kind, place)
+        found[(kind, low + 256 * high), line].add((sample.ours[place], sample.port[place]))
+    for (item, _), pairs in found.items():
+        yield item, pairs
 
 
 def is_lit(samples: typing.List[Sample], kinds: typing.Collection[int], known: lights.Lights) -> bool:
@@ -122,7 +137,7 @@ def is_lit(samples: typing.List[Sample], kinds: typing.Collection[int], known: l
 
 
 def has_same_texels(samples: typing.List[Sample], kinds: typing.Collection[int], texels: Texels, colormaps: bytes) -> bool:
-    """Whether each line has other texels than ours, but of the same flat or texture and under our colormap, or one near."""
+    """Whether each line has texels of the same flat or texture, under one colormap."""
     same = whole = 0
     for sample in samples:
         painters = {(painter.kind, number): painter for painter, numbers in sample.pixels.items() for number in numbers}
@@ -131,14 +146,69 @@ def has_same_texels(samples: typing.List[Sample], kinds: typing.Collection[int],
             if len(port) >= LEAST_COLOURS and item in painters:
                 whole += 1
                 own = texels.colours(painters[item], item[0] == PLANE)
-                same += any(port <= mapped(colormaps, number, own) for number in range(COLORMAPS))
+                same += any(port <= mapped(colormaps, number, own) for number in range(len(colormaps) // COLORMAP_SIZE))
     return whole > 0 and same >= MOST * whole
+
+
+def is_recoloured(samples: typing.List[Sample], kind: int) -> bool:
+    """Whether each of our colours of a kind that differs is always the same other one."""
+    found: typing.Dict[int, typing.Counter[int]] = collections.defaultdict(collections.Counter)
+    for sample in samples:
+        for _, pairs in lines_in(sample, (kind,)):
+            for ours, port in pairs:
+                found[ours][port] += 1
+    whole = sum(sum(counts.values()) for counts in found.values())
+    return sum(max(counts.values()) for counts in found.values()) >= MOST * whole > 0
 
 
 def mapped(colormaps: bytes, number: int, texels: typing.FrozenSet[int]) -> typing.Set[int]:
     """Texels through a colormap."""
     own = colormaps[COLORMAP_SIZE * number:COLORMAP_SIZE * (number + 1)]
     return {own[texel] for texel in texels} if own else set()
+
+
+def columns_of(sample: Sample, places: typing.List[int]) -> typing.Dict[int, typing.List[int]]:
+    """The places of an item by their columns, those alone that are long enough, without a gap."""
+    found: typing.Dict[int, typing.List[int]] = collections.defaultdict(list)
+    for place in places:
+        found[place % WIDTH].append(place)
+    return {column: own for column, own in found.items()
+            if len(own) >= LEAST_PIXELS and own[-1] - own[0] == WIDTH * (len(own) - 1)}
+
+
+def part_alike(ours: bytes, port: bytes, step: int) -> float:
+    """The share of a column that is ours, some rows on, of the part that both have; 0 where that is small."""
+    first, second = (ours[step:], port) if step >= 0 else (ours, port[-step:])
+    size = min(len(first), len(second))
+    if 3 * size < len(ours) or size < LEAST_PIXELS // 2:
+        return 0.0
+    return sum(map(int.__eq__, first[:size], second[:size])) / size
+
+
+def is_column_moved(ours: bytes, port: bytes) -> bool:
+    """Whether the port has a column of ours higher or lower."""
+    shares = [part_alike(ours, port, step) for step in range(-len(ours) + 1, len(ours)) if step]
+    return max(shares) >= max(LEAST_ALIKE, part_alike(ours, port, 0) + LESS)
+
+
+def directions_of_columns(sample: Sample, item: Item) -> typing.Tuple[int, int, int]:
+    """How many of some columns of a wall were looked at, and how many of these the port has higher or lower, or from another
+    column of ours that is near."""
+    columns = columns_of(sample, places_of(sample, *item))
+    some = sorted(columns)[len(columns) // 6::len(columns) // 3 + 1]
+    rows = sides = 0
+    for column in some:
+        own = columns[column]
+        ours, port = (frame[own[0]:own[-1] + 1:WIDTH] for frame in (sample.ours, sample.port))
+        if ours == port:
+            continue
+        is_moved = is_column_moved(ours, port)
+        near = [sample.ours[own[0] + step:own[-1] + step + 1:WIDTH] for step in range(-FARTHEST, FARTHEST + 1)
+                if step and column + step in columns]
+        is_beside = any(part_alike(other, port, 0) >= max(LEAST_ALIKE, part_alike(ours, port, 0) + LESS) for other in near)
+        rows += is_moved and not is_beside
+        sides += is_beside and not is_moved
+    return len(some), rows, sides
 
 
 def is_end_of_columns(samples: typing.List[Sample]) -> bool:
@@ -188,7 +258,7 @@ def pixels_of_planes(sample: Sample) -> typing.Tuple[typing.Counter[int], typing
     for marks in (sample.marks, bytes([1]) * SIZE):
         found: typing.Counter[int] = collections.Counter()
         for painter, numbers in traces.pixels_of(sample.records, marks).items():
-            if painter.kind == PLANE:
+            if painter.kind in (PLANE, SKY):
                 found.update(numbers)
         both.append(found)
     return both[0], both[1]
@@ -216,3 +286,12 @@ def like_planes(sample: Sample) -> typing.Set[int]:
     keys = planes_by_key(sample)
     return {number for (height, flat, light), numbers in keys.items() for number in numbers
             if any((height, flat, light) != key and flat == key[1] and (height == key[0] or light == key[2]) for key in keys)}
+
+
+def wholly_differing(sample: Sample, kind: int) -> typing.List[bool]:
+    """Of each item of a kind whether nearly all of its pixels differ."""
+    found = []
+    for item in differing_items(sample, kind):
+        places = places_of(sample, *item)
+        found.append(sum(sample.marks[place] for place in places) >= LEAST_ALIKE * len(places))
+    return found

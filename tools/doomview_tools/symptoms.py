@@ -4,6 +4,7 @@ where none is, there is none."""
 import typing
 
 from . import shapes
+from .doom import COLORMAP_SIZE
 from .lights import Lights
 from .paths import Row
 from .shapes import Sample
@@ -40,8 +41,10 @@ TABLE = [
             'rw_scale >> LIGHTSCALESHIFT'),
     Symptom('texture middle', 'walls alone: the same columns, higher or lower', 'R_StoreWallRange', 'dc_texturemid: '
             'ML_DONTPEGTOP, ML_DONTPEGBOTTOM, rowoffset, and the ceiling that both sides have under sky'),
-    Symptom('texture column', 'walls alone: other texels of the same texture', 'R_StoreWallRange, R_RenderSegLoop, R_GetColumn',
+    Symptom('texture column', 'walls alone: other columns of the same texture', 'R_StoreWallRange, R_RenderSegLoop, R_GetColumn',
             'rw_offset (textureoffset of the side and offset of the seg), rw_centerangle'),
+    Symptom('texture place', 'walls alone: other texels of the same texture, higher or lower, or to a side', 'R_StoreWallRange, '
+            'R_DrawColumn', 'both of the rows above: dc_texturemid and rw_offset; (frac >> FRACBITS) & 127'),
     Symptom('split planes', 'planes alone, and none but those of which a view has several', 'R_CheckPlane', 'a plane whose '
             'columns are taken is followed by a new one of the same height, flat and light'),
     Symptom('planes as one', 'planes alone, and none but those that have one like them, but for its height or its light',
@@ -50,6 +53,8 @@ TABLE = [
             'R_InitLightTables', 'planezlight by the light of the sector and extralight, and in it distance >> LIGHTZSHIFT'),
     Symptom('yslope', 'planes alone: other texels of the same flat', 'R_ExecuteSetViewSize, R_MapPlane, R_DrawSpan',
             'yslope and distscale, basexscale and baseyscale, ds_xfrac and ds_yfrac; or the other spans (--spans)'),
+    Symptom('walls in the sky', 'the sky alone, where the port has something else', 'R_StoreWallRange', 'worldtop is worldhigh '
+            'where the ceilings of both sides are sky'),
     Symptom('sky', 'the sky alone: higher or lower, to a side, or under a colormap', 'R_DrawPlanes', 'skytexturemid, '
             'ANGLETOSKYSHIFT, and colormaps, the first of all'),
     Symptom('middle textures', 'middle textures alone', 'R_RenderMaskedSegRange, R_DrawMaskedColumn', 'dc_texturemid by the '
@@ -60,6 +65,10 @@ TABLE = [
             'spritetopoffset, thing->z; what hangs is at the ceiling'),
     Symptom('sprite mirrored', 'sprites alone, which are mirrored', 'R_InstallSpriteLump, R_ProjectSprite', 'flip of the '
             'rotation: vis->startfrac and vis->xiscale'),
+    Symptom('sprites missing', 'whole sprites alone, and nothing beside them', 'R_AddSprites, R_ProjectSprite, R_DrawSprite',
+            'tz < MINZ, abs(tx) > tz << 2, x1 > viewwidth, x2 < 0; validcount of the sector; the things of the skill'),
+    Symptom('sprite clip', 'parts of sprites alone, and nothing beside them', 'R_DrawSprite', 'clipbot and cliptop by the '
+            'drawsegs that are nearer: scale, R_PointOnSegSide, silhouette, bsilheight and tsilheight'),
     Symptom('sprite rotation', 'sprites and what is behind them: other pictures', 'R_ProjectSprite', 'rot is (ang - '
             'thing->angle + 9 * (ANG45 / 2)) >> 29; frame and state of the thing'),
     Symptom('psprites', 'weapons alone: moved, or under another colormap', 'R_DrawPSprite, R_DrawPlayerSprites', 'BASEYCENTER, '
@@ -90,18 +99,6 @@ class Evidence(typing.NamedTuple):
         return [shapes.moved(sample, shapes.places_of(sample, *item)) for sample in self.samples
                 for item in shapes.differing_items(sample, kind)[:MOST_ITEMS]]
 
-    def column_steps(self) -> typing.List[typing.Optional[shapes.Step]]:
-        """How far columns of walls are moved: of each item the one in its middle."""
-        found = []
-        for sample in self.samples:
-            for item in shapes.differing_items(sample, WALL)[:MOST_ITEMS]:
-                places = shapes.places_of(sample, *item)
-                middle = sorted(place % shapes.WIDTH for place in places)[len(places) // 2]
-                column = [place for place in places if place % shapes.WIDTH == middle]
-                if len(column) >= shapes.LEAST_PIXELS:
-                    found.append(shapes.moved(sample, column, columns=0))
-        return found
-
 
 def by_light_of_rows(evidence: Evidence) -> str:
     """Whether the views that differ are those with light in their rows, but for one in ten, and there are others."""
@@ -119,24 +116,35 @@ def of_walls(evidence: Evidence) -> typing.Tuple[str, str]:
         return 'texture width', ''
     if shapes.is_lit(samples, (WALL,), evidence.lights):
         return 'wall light', ''
-    steps = evidence.column_steps()
-    if len([step for step in steps if step]) >= shapes.MOST * len(steps) > 0:
-        return 'texture middle', shapes.directions(steps)
-    return ('texture column', '') if has_same(evidence, WALL) else ('', '')
+    return (of_columns(evidence), '') if has_same(evidence, WALL) else ('', '')
+
+
+def of_columns(evidence: Evidence) -> str:
+    """The name of the row for walls with other texels of their textures."""
+    counts = [shapes.directions_of_columns(sample, item) for sample in evidence.samples
+              for item in shapes.differing_items(sample, WALL)[:MOST_ITEMS]]
+    whole, rows, sides = map(sum, zip(*counts)) if counts else (0, 0, 0)
+    if 3 * rows >= whole > 0 and rows > 2 * sides:
+        return 'texture middle'
+    return 'texture column' if 3 * sides >= whole > 0 and sides > 2 * rows else 'texture place'
 
 
 def has_same(evidence: Evidence, kind: int) -> bool:
     return shapes.has_same_texels(evidence.samples, (kind,), evidence.texels, evidence.colormaps)
 
 
-def of_planes(evidence: Evidence) -> typing.Tuple[str, str]:
+def by_list(evidence: Evidence) -> str:
+    """The name of the row on planes, skies among them, that the lists tell, or an empty text."""
     samples = evidence.samples
-    if all(sample.items for sample in samples):
-        if shapes.differ_where(samples, shapes.split_planes):
-            return 'split planes', ''
-        if shapes.differ_where(samples, shapes.like_planes):
-            return 'planes as one', ''
-    if shapes.is_lit(samples, (PLANE,), evidence.lights):
+    if not all(sample.items for sample in samples) or not evidence.is_alone(PLANE, SKY) or evidence.is_alone(SKY):
+        return ''
+    if shapes.differ_where(samples, shapes.split_planes):
+        return 'split planes'
+    return 'planes as one' if shapes.differ_where(samples, shapes.like_planes) else ''
+
+
+def of_planes(evidence: Evidence) -> typing.Tuple[str, str]:
+    if shapes.is_lit(evidence.samples, (PLANE,), evidence.lights):
         return 'plane light', ''
     return ('yslope', '') if has_same(evidence, PLANE) else ('', '')
 
@@ -148,18 +156,26 @@ def of_sprites(evidence: Evidence) -> typing.Tuple[str, str]:
     direction = shapes.directions(evidence.steps(SPRITE))
     if direction:
         return 'sprite offset', direction
-    mirrored = [shapes.is_mirrored(sample, shapes.places_of(sample, *item)) for sample in samples
+    mirrored = [shapes.is_mirrored(sample, shapes.places_of(sample, *item), item[1]) for sample in samples
                 for item in shapes.differing_items(sample, SPRITE)[:MOST_ITEMS]]
-    if mirrored and sum(mirrored) >= shapes.LEAST_ALIKE * len(mirrored):
+    if mirrored and sum(mirrored) >= shapes.MOST * len(mirrored):
         return 'sprite mirrored', ''
     beside = sum(sum(numbers.values()) for sample in samples for painter, numbers in sample.pixels.items()
                  if painter.kind != SPRITE)
-    return ('sprite rotation', '') if beside else ('', '')
+    if beside:
+        return 'sprite rotation', ''
+    whole = [is_whole for sample in samples for is_whole in shapes.wholly_differing(sample, SPRITE)]
+    return ('sprites missing' if whole and sum(whole) >= shapes.MOST * len(whole) else 'sprite clip'), ''
 
 
 def of_sky(evidence: Evidence) -> typing.Tuple[str, str]:
-    steps = [shapes.moved(sample, shapes.places_of(sample, SKY)) for sample in evidence.samples]
-    return 'sky', shapes.directions(steps)
+    places = [(sample, shapes.places_of(sample, SKY)) for sample in evidence.samples]
+    direction = shapes.directions([shapes.moved(*pair) for pair in places])
+    first = evidence.colormaps[:COLORMAP_SIZE]
+    if direction or shapes.is_recoloured(evidence.samples, SKY) or \
+            shapes.has_same_texels(evidence.samples, (SKY,), evidence.texels, first):
+        return 'sky', direction
+    return 'walls in the sky', ''
 
 
 def of_weapons(evidence: Evidence) -> typing.Tuple[str, str]:
@@ -179,9 +195,11 @@ def name_of(evidence: Evidence) -> typing.Tuple[str, str]:
         return 'fixed colormap', by_rows
     if shapes.is_end_of_columns(evidence.samples):
         return 'column count', ''
-    name, more = next((find(evidence) for kind, find in KNOWN_BY_KIND if evidence.is_alone(kind)), ('', ''))
-    if not name and shapes.is_unpainted(evidence.samples):
+    if by_list(evidence):
+        return by_list(evidence), ''
+    if shapes.is_unpainted(evidence.samples):
         return 'holes', ''
+    name, more = next((find(evidence) for kind, find in KNOWN_BY_KIND if evidence.is_alone(kind)), ('', ''))
     return name, more
 
 

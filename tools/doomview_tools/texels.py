@@ -13,17 +13,21 @@ FLAT = 4096
 
 
 def colours_of_patch(data: bytes) -> typing.FrozenSet[int]:
-    """The colours of the posts of a patch; none where it is damaged."""
-    found: typing.Set[int] = set()
+    """The colours of a patch; none where it is damaged."""
     try:
         width, = struct.unpack_from('<h', data)
-        for at in struct.unpack_from(f'<{width}I', data, 8):
-            while data[at] != END_OF_COLUMN:
-                size = data[at + 1]
-                found.update(data[at + 3:at + 3 + size])
-                at += size + 4
+        return frozenset().union(*(colours_of_column(data, at) for at in struct.unpack_from(f'<{width}I', data, 8)))
     except (struct.error, IndexError):
         return frozenset()
+
+
+def colours_of_column(data: bytes, at: int) -> typing.FrozenSet[int]:
+    """The colours of the posts at a place."""
+    found: typing.Set[int] = set()
+    while data[at] != END_OF_COLUMN:
+        size = data[at + 1]
+        found.update(data[at + 3:at + 3 + size])
+        at += size + 4
     return frozenset(found)
 
 

@@ -10,7 +10,7 @@ from doomview_tools import lists, shapes, symptoms, texels, traces
 from doomview_tools.frames import SIZE
 
 WALL, PLANE, SKY, MIDDLE, SPRITE, WEAPON = 1, 2, 3, 4, 5, 6
-COLOURS = [random.Random(7).sample(range(1, 256), 60) for _ in 'ab']  # of the texels of STONE, and of FLAT1
+COLOURS = [random.Random(seed).sample(range(1, 256), 60) for seed in (7, 8)]  # of the texels of STONE, and of FLAT1
 
 
 def colormaps():
@@ -105,7 +105,15 @@ FAULTS = {
                       lambda block, row, column: block.texel(row, column + 5 * block.number), ''),
     'wall light': ([wall(), plane()], lambda block, row, column: MAPS[256 * (block.kind == WALL) * (1 + column % 30)
                                                                         + block.texel(row, column)], ''),
-    'texture middle': ([wall(), plane()], lambda block, row, column: block.texel(row + 4 * (block.kind == WALL), column), ' (higher)'),
+    'texture middle': ([wall(), plane()], lambda block, row, column: block.texel(row + 4 * (block.kind == WALL), column), ''),
+    'texture place': ([wall(), plane()], lambda block, row, column: block.texel(row * 3, column * 5) if block.kind == WALL
+                      else block.texel(row, column), ''),
+    'walls in the sky': ([wall(), Block(SKY, range(0, 40), range(320), (2, 0))],
+                         lambda block, row, column: texel(column, row, COLOURS[1]) if block.kind == SKY else block.texel(row, column), ''),
+    'sprites missing': ([wall(columns=range(80, 220), rows=range(30, 120)), sprite()],
+                        lambda block, row, column: None if block.kind == SPRITE else block.texel(row, column), ''),
+    'sprite clip': ([wall(columns=range(80, 220), rows=range(30, 120)), sprite()],
+                    lambda block, row, column: None if block.kind == SPRITE and row > 80 else block.texel(row, column), ''),
     'texture column': ([wall(), plane()], lambda block, row, column: block.texel(row, column + 5 * (block.kind == WALL)), ''),
     'plane light': ([wall(), plane()], lambda block, row, column: MAPS[256 * (block.kind == PLANE) * (1 + row % 30)
                                                                          + block.texel(row, column)], ''),

@@ -13,7 +13,7 @@ from ..frames import HEIGHT, SIZE, WIDTH
 from ..trouble import FOUND
 
 RED = b'\xff\x00\x00'
-PLANES_ALONE = 0.9  # the share of planes from which rows say nothing
+ALONE = 0.9  # the share of a kind from which rows say nothing
 PAGE = cli.Page(
     'compare', 'which views of two files of frames differ, where, and with a trace in what; as lines or as a page', '''
 Compares two files of frames, and says of each view that differs how, where and in what.
@@ -156,7 +156,7 @@ class Comparison:
         mistakes = diagnoses.whole_frames(self.case()) or self.set_ups() if self.files.kinds is None else []
         yield from mistakes
         if not mistakes:
-            by_rows = shares.share_of('plane') < PLANES_ALONE
+            by_rows = all(shares.share_of(word) < ALONE for word, _ in shares.of_kinds())
             yield from self.summary.everywhere.sentences(len(self.files.views), by_rows)
             yield from self.summary.of_every_view(self.files.names)
             yield from self.symptoms() if shares.all and self.options.wad else []
