@@ -57,13 +57,15 @@ class Formatter(argparse.RawDescriptionHelpFormatter):
 
 class Argument(typing.NamedTuple):
     """A word or an option of a tool: the names of an option, none of a plain word; its value as a help page has it; how
-    many values there are, as argparse says it; whether it has to be there; and the type of its values."""
+    many values there are, as argparse says it; whether it has to be there; the type of its values; and those that it
+    may have, none if any."""
 
     names: typing.Sequence[str]
     value: str
     many: typing.Union[int, str, None]
     is_needed: bool
     type: typing.Any
+    choices: typing.Tuple[str, ...] = ()
 
     @property
     def form(self) -> str:
@@ -86,7 +88,7 @@ class Parser(argparse.ArgumentParser):
     def add_argument(self, *names: str, **more: typing.Any) -> argparse.Action:
         action = (self.options if names[0].startswith('-') else self.plain).add_argument(*names, **more)
         self.arguments.append(Argument(action.option_strings, str(action.metavar or ''), action.nargs, action.required,
-                                       action.type))
+                                       action.type, tuple(map(str, action.choices or ()))))
         return action
 
     def error(self, message: str) -> typing.NoReturn:

@@ -173,6 +173,9 @@ def answer(words: typing.List[str]) -> int:
     if words in (['--help'], ['-h'], ['--version']):
         print(version() if words == ['--version'] else overview())
         return 0
+    if words == ['--completion']:
+        print(importlib.import_module('.completion', __package__).script(), end='')
+        return 0
     if words[0] == 'help':
         return help_of(words[1:])
     if words == ['--built']:

@@ -324,7 +324,7 @@ class Everywhere:
 
     def sentences(self, count: int, by_rows: bool = True) -> typing.List[str]:
         """A sentence on the rows or columns that differ in every view, of so many views, or none. Without `by_rows` rows
-        are not told: what is painted row by row, as planes are, differs in rows whatever is wrong with it."""
+        are not told: what is of one kind is in some rows more than in others, whatever is wrong with it."""
         for word, views, pixels, lines in (('column', self.columns, self.in_columns, WIDTH),
                                            ('row', self.rows, self.in_rows, HEIGHT))[:1 + by_rows]:
             found = self.lines(views, pixels, lines) if self.different > 1 else []

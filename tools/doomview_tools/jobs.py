@@ -178,6 +178,7 @@ OWN_OPTIONS = [
     OwnOption(PLACES, '', 'limits', 'adds to each line where the view is, as an editor shows it and as its row of the path'),
     OwnOption('--help', '', '', 'prints the jobs and tools; behind one of them its page, as help before it does'),
     OwnOption('--version', '', '', 'prints the version, and the logic that the program is proved in'),
+    OwnOption('--completion', '', '', 'prints completions for bash: source <(doomview --completion)'),
     OwnOption('--build', '', '', 'builds the program, if that is needed; every job does so too'),
     OwnOption('--built', '', '', 'ends with 0 where the program is built and no older than its sources, else with 1'),
 ]

@@ -180,8 +180,8 @@ class Trials:
         return sum(self.left(view, self.frames[view][0]) for view in self.some)
 
     def best(self, is_far: bool) -> Tried:
-        """The changes with which least is left over some views: of words alone where little differs."""
-        rows = self.tried(self.some, OF_ROWS)[0] if is_far else Tried((), self.before())
+        """The changes with which least is left over some views; another size is tried where most differs alone."""
+        rows = self.tried(self.some, OF_ROWS)[0]
         found = [rows]
         for change in self.run.of_words():
             if is_far or change.words[0] != '--size':

@@ -85,7 +85,8 @@ class Shares:
         shown, rest = found[:most], found[most:]
         yield from (f'{name} {percent(pixels, self.all)}' for name, pixels in shown)
         if rest:
-            yield f'{len(rest)} {others} {percent(sum(pixels for _, pixels in rest), self.all)}'
+            word = others if len(rest) > 1 else others[:-1]
+            yield f'{len(rest)} {word} {percent(sum(pixels for _, pixels in rest), self.all)}'
 
     def line(self) -> str:
         """The line on what differs most, or an empty text where no painter is known."""

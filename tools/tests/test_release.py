@@ -20,7 +20,7 @@ from systems import static
 TESTED = os.environ.get('DOOMVIEW_TESTED', '')
 HEADING = '## 2.1, 2026\n'
 PLACES = ['README.md', 'CHANGELOG.md', 'doomview', 'doomview.cmd', 'out/doomview', 'bin/doomview', 'share/man/man1/doomview.1',
-          'docs/REFUSALS.md', 'docs/FREEDOOM.txt', 'docs/doomview.1', 'vectors/check',
+          'share/bash-completion/completions/doomview', 'docs/REFUSALS.md', 'docs/FREEDOOM.txt', 'docs/doomview.1', 'vectors/check',
           'tools/doomview_tools/__main__.py', 'tools/data/things.csv', 'tools/data/version', 'tools/original/build',
           'crates/doom_run/src/top.rt']
 

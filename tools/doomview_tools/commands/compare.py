@@ -4,15 +4,16 @@ import os
 import sys
 import typing
 
-from .. import cli, compare_reports, diagnoses, differences, frame_files, frames, jobs, lists, png, setup_trials, traces
+from .. import (cli, compare_reports, diagnoses, differences, frame_files, frames, jobs, lists, png, program, setup_trials,
+                shapes, symptoms, texels, traces)
 from ..compare_page import MOST_VIEWS, ComparePage
 from ..comparison import Both, Files, Tasks, View, entries_of, lines_of
-from ..files import check_target, write_whole
+from ..files import Folder, Output, Source, check_target, write_whole
 from ..frames import HEIGHT, SIZE, WIDTH
 from ..trouble import FOUND
 
 RED = b'\xff\x00\x00'
-PLANES_ALONE = 0.9  # the share of planes from which rows say nothing
+ALONE = 0.9  # the share of a kind from which rows say nothing
 PAGE = cli.Page(
     'compare', 'which views of two files of frames differ, where, and with a trace in what; as lines or as a page', '''
 Compares two files of frames, and says of each view that differs how, where and in what.
@@ -31,13 +32,15 @@ need the WADs of the run. A texture of one patch is named where no other texture
 fragment, a plane or a sprite as under another light, a line says how much lighter or darker that is, and with a list
 which light.
 
+Where the shape of what differs is certain, a line names the symptom and the functions of the original where one looks:
+the last pixel of columns, other texels of the same flat, sprites that are moved, and so on (docs/PORT.md has all).
+
 With --list, what doomview list wrote for the same words, the lines under those say where in the map that is: the pixels
 of each line, side and part of a wall, of each sector's floor or ceiling, and of each thing.
 
 With --path, --map and --wad, and what else the run was given (--skill, --size, --spans, --weapon), our side is drawn
-again with what ports get wrong: where more than half of the pixels of more than half of the views differ with another
-eye, angle, place, light, size or two of these, and always with other things (skill), floors (spans) or no weapon. A
-sentence says which of these makes our frames the port's.
+again with what ports get wrong: another eye, angle, place or light, things of another skill, other floors, no weapon,
+where most differs another size, and two of these at once. A sentence says what makes our frames the port's.
 
 With --vectors a line ends with what is known of the port's frame there: that it has packed spans, or is the original's
 where doomview departs from it (docs/VECTORS.md). PORT is named by the map then, as MAP01.bin or MAP01-sizes.bin.
@@ -74,26 +77,28 @@ $ doomview compare ours.bin shots --wad freedoom2.wad --trace trace.bin --html c
 
 
 def add_words(parser: argparse.ArgumentParser) -> None:
-    parser.add_argument('ours', metavar='OURS', help='the frames that doomview drew')
-    parser.add_argument('port', metavar='PORT', help='the frames that the port drew, or its pictures')
-    parser.add_argument('--trace', metavar='FILE', help='what doomview trace wrote: names what painted the pixels')
-    parser.add_argument('--wad', metavar='WAD', action='append', default=[], help='a WAD of the run; once for each, in '
-                        'their order')
+    parser.add_argument('ours', metavar='OURS', type=Source, help='the frames that doomview drew')
+    parser.add_argument('port', metavar='PORT', type=Source, help='the frames that the port drew, or its pictures')
+    parser.add_argument('--trace', metavar='FILE', type=Source, help='what doomview trace wrote: names what painted the '
+                        'pixels')
+    parser.add_argument('--wad', metavar='WAD', type=cli.Wad, action='append', default=[], help='a WAD of the run; once '
+                        'for each, in their order')
     lists.add_words(parser)
     parser.add_argument('--only', metavar='KINDS', help='counts pixels of these painters alone, of '
                         + ','.join(word for word, _ in traces.KINDS.values()))
     parser.add_argument('--but', metavar='KINDS', help='counts no pixels of these painters')
     parser.add_argument('--least-width', metavar='N', type=cli.number(1, WIDTH), default=1, help='counts no pixels of '
                         'sprites that have fewer columns; needs --list')
-    parser.add_argument('--vectors', metavar='FILE', help='the vectors whose views the files have')
-    parser.add_argument('--png', metavar='FOLDER', help='writes a picture of each view that differs into FOLDER')
-    parser.add_argument('--html', metavar='OUT.html', help='writes a page of the views that differ')
-    parser.add_argument('--path', metavar='FILE', help='the camera path of the run: tries other set-ups where much differs; '
+    parser.add_argument('--vectors', metavar='FILE', type=Source, help='the vectors whose views the files have')
+    parser.add_argument('--png', metavar='FOLDER', type=Folder, help='writes a picture of each view that differs into '
+                        'FOLDER')
+    parser.add_argument('--html', metavar='OUT.html', type=Output, help='writes a page of the views that differ')
+    parser.add_argument('--path', metavar='FILE', type=Source, help='the camera path of the run: tries other set-ups; '
                         'needs --map, --wad and the words of the run that are not usual')
     cli.add_job_options(parser, 'render', [name for name in jobs.options() if name not in setup_trials.WORDS])
     parser.add_argument('--views', metavar='VIEWS', help='compares these views alone, as 3,7-9')
-    parser.add_argument('--json', metavar='FILE', help='writes what was found of all views that differ as JSON')
-    parser.add_argument('--junit', metavar='FILE', help='writes a test of each view, as JUnit does')
+    parser.add_argument('--json', metavar='FILE', type=Output, help='writes what was found of all views that differ as JSON')
+    parser.add_argument('--junit', metavar='FILE', type=Output, help='writes a test of each view, as JUnit does')
     parser.add_argument('-q', '--quiet', action='store_true', help='prints nothing; the status says whether views differ')
     parser.add_argument('--most', metavar='N', type=cli.number(0, sys.maxsize), default=sys.maxsize,
                         help='lists N views that differ, and counts the others')
@@ -153,14 +158,31 @@ class Comparison:
         mistakes = diagnoses.whole_frames(self.case()) or self.set_ups() if self.files.kinds is None else []
         yield from mistakes
         if not mistakes:
-            by_rows = shares.share_of('plane') < PLANES_ALONE
+            by_rows = all(shares.share_of(word) < ALONE for word, _ in shares.of_kinds())
             yield from self.summary.everywhere.sentences(len(self.files.views), by_rows)
             yield from self.summary.of_every_view(self.files.names)
+            yield from self.symptoms() if shares.all and self.options.wad else []
+
+    def symptoms(self) -> typing.List[str]:
+        """A line on the function of the original where one looks, if the shape of what differs is certain."""
+        files, samples = self.files, []
+        most = sorted(self.found, key=lambda found: -found.pixels)[:symptoms.SAMPLES]
+        for view in (files.view(found.view) for found in most):
+            marks = differences.marks_of(view.ours, view.port, view.mask)
+            items = files.placing.view(view.number) if files.placing else None
+            samples.append(shapes.Sample(view.ours, view.port, view.records, marks,
+                                         traces.pixels_of(view.records, marks), items))
+        shares = {word: self.summary.shares.share_of(word) for word, _ in traces.KINDS.values()}
+        return symptoms.sentences(symptoms.Evidence(
+            samples, shares, [found.view for found in self.found], files.run.rows if files.run else [],
+            texels.Texels(files.wads), files.lights, files.names.colormaps))
 
     def set_ups(self) -> typing.List[str]:
         """A sentence on another set-up that makes our frames the port's, where the path is named."""
         if not self.files.run:
             return []
+        if not program.is_built():
+            return ['set-up: not tried, since the program is not built; doomview --build builds it']
         trials = setup_trials.Trials(self.files.run, self.files.both, [found.view for found in self.found])
         return trials.sentences(2 * self.summary.far > len(self.found))
 

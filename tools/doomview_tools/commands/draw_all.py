@@ -1,6 +1,7 @@
-"""doomview draw-all: a picture of every map of a WAD."""
+"""doomview draw-all: a picture of every map of a WAD, or the frames of many camera paths."""
 import argparse
 import concurrent.futures
+import hashlib
 import os
 import shlex
 import shutil
@@ -8,24 +9,36 @@ import subprocess
 import sys
 import typing
 
-from .. import cli, home, program, system, wads
-from ..files import Folder
+from .. import cli, home, path_drawing, paths, program, system, wads
+from ..files import Folder, Source, write_whole
+from ..progress import Progress
 from ..trouble import FOUND, Trouble
 
 WITHOUT = ('--tables', '--things', '--path', '--format')
+TABLE = 'drawn.csv'
+POLL = 0.5  # seconds between two looks at how far it is
 PAGE = cli.Page(
-    'draw-all', 'draws every map of a WAD, several at a time', '''
+    'draw-all', 'draws every map of a WAD, or many camera paths, several at a time', '''
 Draws every map of a WAD from its player start to FOLDER/MAP.png, several at a time.
 
+With --paths it draws the frames of camera paths, several at a time: of each path in a folder, or of one file. The name
+of a path is that of its map, as MAP01.csv, or begins so, as MAP01-any.csv, and its frames are in FOLDER/MAP01-any.bin.
+A view over a limit (more than 128 planes, or 20,480 openings) has a frame of 0, the views behind it are drawn, and it is
+marked: in a line, and in the table FOLDER/drawn.csv, with a line for each path. A call that is interrupted goes on where
+it was when it is given again, in the middle of a path too; what is drawn already, of the same WADs, path, program and
+words, is left as it is. A terminal shows how far it is.
+
 With --machines they are drawn by GNU parallel on other machines, which are reached by ssh: 8/one,8/two draws eight at a
-time on each of the machines one and two. The folder of doomview, the WADs and FOLDER must have the same paths there, as
-on a shared disk.
+time on each of the machines one and two. The folder of doomview, the WADs, the paths and FOLDER must have the same paths
+there, as on a shared disk. Of paths FOLDER has the log of GNU parallel, by which a call that is given again leaves out
+what was done.
 ''', '''
 $ doomview draw-all freedoom2.wad out --jobs 8
+$ doomview draw-all freedoom2.wad out --paths paths --spans packed
 $ doomview draw-all freedoom2.wad out --machines 8/one,8/two
 ''', 'the program; for --machines GNU parallel (package: parallel)', '''
- 0  all maps are drawn
- 1  some are not; a sentence on each says why
+ 0  all maps are drawn, or all views of all paths
+ 1  some are not; a sentence on each map or path says why, and the table has the views over a limit
  2  the tool could not begin
 ''')
 
@@ -34,9 +47,11 @@ def add_words(parser: argparse.ArgumentParser) -> None:
     parser.add_argument('wad', metavar='WAD', type=cli.Wad, help=cli.WAD)
     parser.add_argument('folder', metavar='FOLDER', type=Folder, help='where the pictures go; it is made')
     cli.add_base(parser)
+    parser.add_argument('--paths', metavar='PATHS', type=Source, help='draws these camera paths: a folder of them, or one')
     parser.add_argument('--jobs', metavar='N', type=cli.number(1, 1000), default=system.processors(),
                         help='how many maps at a time; else one a processor')
     parser.add_argument('--machines', metavar='LIST', help='machines to draw on, as GNU parallel takes --sshlogin')
+    parser.add_argument('--no-table', action='store_true', help='writes no table of the paths, as one of several calls')
     cli.add_job_options(parser, 'render', WITHOUT)
 
 
@@ -62,14 +77,71 @@ def draw_here(commands: typing.List[typing.List[str]], jobs: int) -> int:
     return failed
 
 
-def draw_there(commands: typing.List[typing.List[str]], options: argparse.Namespace) -> int:
-    """The same by GNU parallel on other machines."""
+def check_parallel() -> None:
+    """A Trouble where there is no GNU parallel."""
     version = subprocess.run(['parallel', '--version'], stdout=subprocess.PIPE, stderr=subprocess.DEVNULL, text=True)
     if not version.stdout.startswith('GNU parallel'):
         raise Trouble('this parallel is not GNU parallel (package: parallel)')
+
+
+def draw_there(commands: typing.List[typing.List[str]], options: argparse.Namespace, more: typing.Sequence[str] = ()) -> int:
+    """The same by GNU parallel on other machines."""
+    check_parallel()
     lines = [shlex.join(['env', f'DOOMVIEW={program.path()}', *words]) for words in commands]
-    words = ['parallel', '--jobs', str(options.jobs), '--sshlogin', options.machines]
+    words = ['parallel', '--jobs', str(options.jobs), '--sshlogin', options.machines, *more]
     return subprocess.run(words, input='\n'.join(lines), text=True).returncode
+
+
+def paths_there(drawing: path_drawing.Drawing, found: typing.List[path_drawing.Path], options: argparse.Namespace,
+                files: typing.List[str]) -> None:
+    """Draws paths by GNU parallel on other machines, each by a call of this tool. Its log is that of these calls alone."""
+    base = [part for file in files[1:-1] for part in ('--file', file)] + (['--iwad', files[0]] if len(files) > 1 else [])
+    commands = [[home.COMMAND, 'draw-all', *base, files[-1], path.folder, '--paths', os.path.abspath(path.file), '--jobs', '1',
+                 '--no-table', *cli.job_words(options)] for path in found]
+    inputs = ' '.join(drawing.inputs(path) for path in found)
+    log = os.path.join(options.folder, f'parallel-{hashlib.sha256(inputs.encode()).hexdigest()[:16]}.log')
+    draw_there(commands, options, ['--joblog', log, '--resume-failed' if os.path.exists(log) else '--resume'])
+
+
+def paths_here(drawing: path_drawing.Drawing, found: typing.List[path_drawing.Path], jobs: int) \
+        -> typing.List[path_drawing.Drawn]:
+    """Draws paths, several at a time, and shows how far that is."""
+    views = sum(len(paths.rows(path.file)) for path in found)
+    with concurrent.futures.ThreadPoolExecutor(jobs) as pool, Progress(views, 'views') as progress:
+        tasks = [pool.submit(drawing.draw, path) for path in found]
+        try:
+            left = set(tasks)
+            while left:
+                left = concurrent.futures.wait(left, POLL).not_done
+                done = sum(path_drawing.views_drawn(path) for path in found) if progress.is_shown else 0
+                progress.add(done - progress.done)
+        except BaseException:
+            drawing.end()
+            pool.shutdown(cancel_futures=True)
+            raise
+    return [task.result() for task in tasks]
+
+
+def draw_paths(options: argparse.Namespace, files: typing.List[str], maps: typing.List[str]) -> int:
+    """Draws camera paths, and says of each what is not as it should be; the status."""
+    found = path_drawing.in_folder(options.paths, maps, os.path.abspath(options.folder))
+    drawing = path_drawing.Drawing(files, cli.job_words(options))
+    if options.machines:
+        paths_there(drawing, found, options, files)
+        drawn = [drawing.known(path) for path in found]
+    else:
+        drawn = paths_here(drawing, found, options.jobs)
+    for one in drawn:
+        if one.trouble:
+            print(f'doomview draw-all: {one.path.name}: {one.trouble}', file=sys.stderr)
+        elif one.over:
+            print(f'{one.path.name} views {one.views} over {len(one.over)}: {path_drawing.over_in_words(one.over)}')
+    if not options.no_table:
+        write_whole(os.path.join(options.folder, TABLE), path_drawing.table(drawn).encode())
+    good, over = [one for one in drawn if not one.trouble], sum(len(one.over) for one in drawn)
+    print(f'paths {len(good)} views {sum(one.views for one in good)} over a limit {over} drawn before '
+          f'{sum(one.views for one in good if one.is_old)}')
+    return FOUND if over or len(good) < len(drawn) else 0
 
 
 def run(options: argparse.Namespace) -> int:
@@ -78,11 +150,14 @@ def run(options: argparse.Namespace) -> int:
         raise Trouble(f'{options.folder} is no folder; name one, or a new one')
     if options.machines and not shutil.which('parallel'):
         raise Trouble('parallel is not installed (package: parallel)')
-    commands = [command(options, files, name) for name in wads.maps_of([wads.find(options.wad)])]
+    maps = wads.maps_of([wads.find(options.wad)])
     program.ready()
     try:
         os.makedirs(options.folder, exist_ok=True)
     except OSError as error:
         raise Trouble(f'cannot make the folder {options.folder}: {error.strerror}') from error
+    if options.paths:
+        return draw_paths(options, files, maps)
+    commands = [command(options, files, name) for name in maps]
     failed = draw_there(commands, options) if options.machines else draw_here(commands, options.jobs)
     return FOUND if failed else 0

@@ -1,0 +1,297 @@
+"""The shapes of what differs, by which a symptom is known: whether one picture is another one moved, mirrored, under another
+light, or of the same texels; whether it is the last pixel of columns; and the like. Each looks at some views."""
+import collections
+import typing
+
+from . import differences, lights, lists, traces
+from .doom import COLORMAP_SIZE
+from .frames import HEIGHT, SIZE, WIDTH
+from .texels import Texels
+from .traces import MIDDLE, PLANE, SKY, WALL, Pixels
+
+MOST_PLACES = 160  # of an item by which it is looked for elsewhere
+FARTHEST, NEAR = 40, 8  # pixels, along rows or columns, and in both directions
+LEAST_ALIKE, LESS = 0.7, 0.2  # of its pixels that are the same where it was moved to, and how many less where it was
+LEAST_MIRRORED = 0.5  # of its pixels, which are other texels where it is small
+LEAST_PIXELS, LEAST_COLOURS = 24, 3  # of an item, and of a line of it
+MOST = 0.9  # of what is looked at
+
+
+class Sample(typing.NamedTuple):
+    """A view that differs, with its trace, and what it is made of, where there is a list."""
+
+    ours: bytes
+    port: bytes
+    records: bytes
+    marks: bytes
+    pixels: Pixels
+    items: typing.Optional[lists.View]
+
+
+Step = typing.Tuple[int, int]  # rows and columns
+Item = typing.Tuple[int, int]  # a kind and a number
+
+
+def kinds_in(sample: Sample) -> bytes:
+    return sample.records[differences.KIND::differences.RECORD]
+
+
+def places_of(sample: Sample, kind: int, number: typing.Optional[int] = None) -> typing.List[int]:
+    """The places of an item of a view, or of a whole kind."""
+    kinds = kinds_in(sample)
+    if number is None:
+        return [place for place, own in enumerate(kinds) if own == kind]
+    low = sample.records[differences.NUMBER::differences.RECORD]
+    return [place for place, own in enumerate(kinds) if own == kind and low[place] == number & 255]
+
+
+def differing_items(sample: Sample, kind: int) -> typing.List[Item]:
+    """The items of a kind of which enough differs, by their numbers."""
+    found: typing.Counter[int] = collections.Counter()
+    for painter, numbers in sample.pixels.items():
+        if painter.kind == kind:
+            found.update(numbers)
+    return [(kind, number) for number, count in found.items() if count >= LEAST_PIXELS]
+
+
+def alike(sample: Sample, places: typing.List[int], step: Step) -> float:
+    """The share of the places at which the port has, some rows and columns on, what we have."""
+    rows, columns = step
+    same = whole = 0
+    for place in places:
+        row, column = divmod(place, WIDTH)
+        if 0 <= row + rows < HEIGHT and 0 <= column + columns < WIDTH:
+            whole += 1
+            same += sample.port[place + WIDTH * rows + columns] == sample.ours[place]
+    return same / whole if 2 * whole > len(places) else 0.0
+
+
+def moved(sample: Sample, places: typing.List[int], rows: int = FARTHEST, columns: int = FARTHEST) -> typing.Optional[Step]:
+    """How far the port has what we have at some places, or None where that is nowhere near, or where it is."""
+    some = places[::len(places) // MOST_PLACES + 1]
+    if len(some) < LEAST_PIXELS:
+        return None
+    near = range(-NEAR, NEAR + 1)
+    steps = {*((row, 0) for row in range(-rows, rows + 1)), *((0, column) for column in range(-columns, columns + 1)),
+             *((row, column) for row in near for column in near if abs(row) <= rows and abs(column) <= columns)}
+    shares = {step: alike(sample, some, step) for step in steps}
+    best = max(sorted(steps), key=lambda step: (shares[step], -abs(step[0]) - abs(step[1])))
+    return best if shares[best] >= max(LEAST_ALIKE, shares[0, 0] + LESS) else None
+
+
+def directions(steps: typing.Iterable[typing.Optional[Step]]) -> str:
+    """The direction in which most things are moved, if half of them at least are, in words, or an empty text."""
+    found = list(steps)
+    words: typing.Counter[str] = collections.Counter()
+    for row, column in filter(None, found):
+        words[' and '.join(filter(None, ['lower' if row > 0 else 'higher' if row else '',
+                                         'to the right' if column > 0 else 'to the left' if column else '']))] += 1
+    word, count = words.most_common(1)[0] if words else ('', 0)
+    is_most = 2 * sum(words.values()) >= len(found) and count >= LEAST_ALIKE * sum(words.values())
+    return word if found and is_most else ''
+
+
+def is_mirrored(sample: Sample, places: typing.List[int], number: int) -> bool:
+    """Whether the port has a sprite mirrored, left for right, within the columns that the list has, or near."""
+    columns = [place % WIDTH for place in places]
+    own = sample.items.sprites[number] if sample.items and number < len(sample.items.sprites) else None
+    middle = own.first + own.last if own else min(columns) + max(columns)
+    some = places[::len(places) // MOST_PLACES + 1]
+    best = max(mirrored(sample, some, both) for both in range(middle - NEAR, middle + NEAR + 1))
+    return best >= max(LEAST_MIRRORED, alike(sample, some, (0, 0)) + LESS)
+
+
+def mirrored(sample: Sample, places: typing.List[int], both: int) -> float:
+    """The share of the places at which the port has what we have, mirrored; `both` is the sum of two columns."""
+    pairs = [(place, both - place % WIDTH) for place in places if 0 <= both - place % WIDTH < WIDTH]
+    same = sum(sample.port[place - place % WIDTH + column] == sample.ours[place] for place, column in pairs)
+    return same / len(places)
+
+
+def lines_in(sample: Sample, kinds: typing.Collection[int]) -> typing.Iterator[typing.Tuple[Item, lights.Pairs]]:
+    """The pairs of colours of each line that differs: of a column of a wall or of the sky, of a row of a plane, of a whole
+    sprite."""
+    kept = kinds_in(sample).translate(bytes(kind in kinds for kind in range(256)))
+    marks = differences.bytes_of(differences.number_of(kept) & differences.number_of(sample.marks))
+    found: typing.Dict[typing.Tuple[Item, int], lights.Pairs] = collections.defaultdict(set)
+    for place in differences.places_of(marks):
+        kind, low, high = lights.key_at(sample.records, place)
+        line = place % WIDTH if kind == SKY else lights.line_of(kind, place)
+        found[(kind, low + 256 * high), line].add((sample.ours[place], sample.port[place]))
+    for (item, _), pairs in found.items():
+        yield item, pairs
+
+
+def is_lit(samples: typing.List[Sample], kinds: typing.Collection[int], known: lights.Lights) -> bool:
+    """Whether each line has the same texels as ours, under another colormap."""
+    lit = whole = 0
+    for sample in samples:
+        for _, pairs in lines_in(sample, kinds):
+            if len(pairs) >= LEAST_COLOURS:
+                ways = -1
+                for pair in pairs:
+                    ways &= known.ways(*pair)
+                whole += 1
+                lit += ways != 0
+    return whole > 0 and lit >= MOST * whole
+
+
+def has_same_texels(samples: typing.List[Sample], kinds: typing.Collection[int], texels: Texels, colormaps: bytes) -> bool:
+    """Whether each line has texels of the same flat or texture, under one colormap."""
+    same = whole = 0
+    for sample in samples:
+        painters = {(painter.kind, number): painter for painter, numbers in sample.pixels.items() for number in numbers}
+        for item, pairs in lines_in(sample, kinds):
+            port = {colour for _, colour in pairs}
+            if len(port) >= LEAST_COLOURS and item in painters:
+                whole += 1
+                own = texels.colours(painters[item], item[0] == PLANE)
+                same += any(port <= mapped(colormaps, number, own) for number in range(len(colormaps) // COLORMAP_SIZE))
+    return whole > 0 and same >= MOST * whole
+
+
+def is_recoloured(samples: typing.List[Sample], kind: int) -> bool:
+    """Whether each of our colours of a kind that differs is always the same other one."""
+    found: typing.Dict[int, typing.Counter[int]] = collections.defaultdict(collections.Counter)
+    for sample in samples:
+        for _, pairs in lines_in(sample, (kind,)):
+            for ours, port in pairs:
+                found[ours][port] += 1
+    whole = sum(sum(counts.values()) for counts in found.values())
+    return sum(max(counts.values()) for counts in found.values()) >= MOST * whole > 0
+
+
+def mapped(colormaps: bytes, number: int, texels: typing.FrozenSet[int]) -> typing.Set[int]:
+    """Texels through a colormap."""
+    own = colormaps[COLORMAP_SIZE * number:COLORMAP_SIZE * (number + 1)]
+    return {own[texel] for texel in texels} if own else set()
+
+
+def columns_of(sample: Sample, places: typing.List[int]) -> typing.Dict[int, typing.List[int]]:
+    """The places of an item by their columns, those alone that are long enough, without a gap."""
+    found: typing.Dict[int, typing.List[int]] = collections.defaultdict(list)
+    for place in places:
+        found[place % WIDTH].append(place)
+    return {column: own for column, own in found.items()
+            if len(own) >= LEAST_PIXELS and own[-1] - own[0] == WIDTH * (len(own) - 1)}
+
+
+def part_alike(ours: bytes, port: bytes, step: int) -> float:
+    """The share of a column that is ours, some rows on, of the part that both have; 0 where that is small."""
+    first, second = (ours[step:], port) if step >= 0 else (ours, port[-step:])
+    size = min(len(first), len(second))
+    if 3 * size < len(ours) or size < LEAST_PIXELS // 2:
+        return 0.0
+    return sum(map(int.__eq__, first[:size], second[:size])) / size
+
+
+def is_column_moved(ours: bytes, port: bytes) -> bool:
+    """Whether the port has a column of ours higher or lower."""
+    shares = [part_alike(ours, port, step) for step in range(-len(ours) + 1, len(ours)) if step]
+    return max(shares) >= max(LEAST_ALIKE, part_alike(ours, port, 0) + LESS)
+
+
+def directions_of_columns(sample: Sample, item: Item) -> typing.Tuple[int, int, int]:
+    """How many of some columns of a wall were looked at, and how many of these the port has higher or lower, or from another
+    column of ours that is near."""
+    columns = columns_of(sample, places_of(sample, *item))
+    some = sorted(columns)[len(columns) // 6::len(columns) // 3 + 1]
+    rows = sides = 0
+    for column in some:
+        own = columns[column]
+        ours, port = (frame[own[0]:own[-1] + 1:WIDTH] for frame in (sample.ours, sample.port))
+        if ours == port:
+            continue
+        is_moved = is_column_moved(ours, port)
+        near = [sample.ours[own[0] + step:own[-1] + step + 1:WIDTH] for step in range(-FARTHEST, FARTHEST + 1)
+                if step and column + step in columns]
+        is_beside = any(part_alike(other, port, 0) >= max(LEAST_ALIKE, part_alike(ours, port, 0) + LESS) for other in near)
+        rows += is_moved and not is_beside
+        sides += is_beside and not is_moved
+    return len(some), rows, sides
+
+
+def is_end_of_columns(samples: typing.List[Sample]) -> bool:
+    """Whether what differs is the last pixel of columns alone: the one above is the same, the one below another item's."""
+    ends = whole = 0
+    for sample in samples:
+        for place in differences.places_of(sample.marks):
+            key, below = lights.key_at(sample.records, place), place + WIDTH
+            whole += 1
+            ends += (place < WIDTH or not sample.marks[place - WIDTH]) and (
+                below >= SIZE or lights.key_at(sample.records, below) != key)
+    return whole > 0 and ends >= MOST * whole
+
+
+def is_unpainted(samples: typing.List[Sample]) -> bool:
+    """Whether the port has 0, as where nothing is painted, wherever it differs."""
+    whole = sum(sample.marks.count(1) for sample in samples)
+    zeros = sum(differences.count_of(bytes(map(lambda mark, colour: mark and not colour, sample.marks, sample.port)))
+                for sample in samples)
+    return zeros >= MOST * whole
+
+
+def differ_by(samples: typing.List[Sample], texels: Texels, is_usual: typing.Callable[[typing.Any], bool]) -> bool:
+    """Whether walls differ where their texture is not as usual, and where it is they do not."""
+    differing: typing.Counter[bool] = collections.Counter()
+    whole: typing.Counter[bool] = collections.Counter()
+    for sample in samples:
+        for marks, counts in ((sample.marks, differing), (bytes([1]) * SIZE, whole)):
+            for painter, numbers in traces.pixels_of(sample.records, marks).items():
+                texture = texels.texture_of(painter) if painter.kind in (WALL, MIDDLE) else None
+                if texture:
+                    counts[is_usual(texture)] += sum(numbers.values())
+    return whole[True] > 500 and differing[True] * 50 < whole[True] and differing[False] * 5 > whole[False] > 100
+
+
+def planes_by_key(sample: Sample) -> typing.Dict[typing.Tuple[int, typing.Optional[int], int], typing.List[int]]:
+    """The planes of a view by height, flat and light."""
+    found: typing.Dict[typing.Tuple[int, typing.Optional[int], int], typing.List[int]] = collections.defaultdict(list)
+    for number, plane in enumerate(sample.items.planes if sample.items else []):
+        found[plane.height, plane.flat, plane.light].append(number)
+    return found
+
+
+def pixels_of_planes(sample: Sample) -> typing.Tuple[typing.Counter[int], typing.Counter[int]]:
+    """The pixels of each plane of a view: those that differ, and all."""
+    both: typing.List[typing.Counter[int]] = []
+    for marks in (sample.marks, bytes([1]) * SIZE):
+        found: typing.Counter[int] = collections.Counter()
+        for painter, numbers in traces.pixels_of(sample.records, marks).items():
+            if painter.kind in (PLANE, SKY):
+                found.update(numbers)
+        both.append(found)
+    return both[0], both[1]
+
+
+def differ_where(samples: typing.List[Sample], chosen: typing.Callable[[Sample], typing.Set[int]]) -> bool:
+    """Whether some planes of each view have all that differs, and the others are there and do not differ."""
+    own = other = others = 0
+    for sample in samples:
+        differing, whole = pixels_of_planes(sample)
+        numbers = chosen(sample)
+        own += sum(count for number, count in differing.items() if number in numbers)
+        other += sum(count for number, count in differing.items() if number not in numbers)
+        others += sum(count for number, count in whole.items() if number not in numbers)
+    return own > 0 and 50 * other < own and others > own // 4
+
+
+def split_planes(sample: Sample) -> typing.Set[int]:
+    """The planes of a view that R_CheckPlane split: of one height, flat and light."""
+    return {number for numbers in planes_by_key(sample).values() if len(numbers) > 1 for number in numbers}
+
+
+def like_planes(sample: Sample) -> typing.Set[int]:
+    """The planes of a view that have one like them, but for the height, or for the light."""
+    keys = planes_by_key(sample)
+    return {number for (height, flat, light), numbers in keys.items() for number in numbers
+            if any((height, flat, light) != key and flat == key[1] and (height == key[0] or light == key[2]) for key in keys)}
+
+
+def wholly_differing(sample: Sample, kind: int) -> typing.List[bool]:
+    """Of each item of a kind whether nearly all of its pixels differ."""
+    found = []
+    for item in differing_items(sample, kind):
+        places = places_of(sample, *item)
+        found.append(sum(sample.marks[place] for place in places) >= LEAST_ALIKE * len(places))
+    return found
