@@ -81,7 +81,7 @@ class Why(Shown):
             for x in range(320):
                 record = traces.record_at(trace, 0, x, y)
                 if record[0] in (traces.PLANE, traces.SKY):
-                    painted[places.group(view, view.planes[record.number]).key] += 1
+                    painted[places.group(view, view.planes[record[2]]).key] += 1
         here = self.value("Object.values([...why.found.pixels.planes.rows].reduce((sums, row) => { if (row >= 0) sums[row] = (sums[row] || 0) + 1; return sums; }, {}))")
         self.assertEqual(sorted(here), sorted(painted.values()))
         self.value("document.querySelector('#why table tr.link').click(); 0")
@@ -100,7 +100,7 @@ class Why(Shown):
         self.browser.wait(f'!walker.isBusy && why.key !== {json.dumps(before)} && JSON.parse(why.key).row.join() === walker.view.row.join()')
         self.assertEqual(self.value('why.found.tables.planes.reduce((sum, [count]) => sum + Number(count), 0)'), self.value('walker.view.counts.planes'))
         self.browser.press('y')
-        self.assertTrue(self.value("find('colours').hidden || isShown('whyPanel')"))
+        self.assertEqual(self.value("[find('colours').hidden, isShown('whyPanel')]"), [True, False])
 
 
 if __name__ == '__main__':

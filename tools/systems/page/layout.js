@@ -16,7 +16,7 @@ function showPanel(id, isOn = find(id).hidden) {
   for (const panel of find('panels').children) panel.hidden = panel.id !== id || !isOn;
   find('panels').hidden = !isOn;
   document.querySelectorAll('[data-panel]').forEach(tab => press(tab, isOn && tab.dataset.panel === id));
-  if (isOn) find(id).dispatchEvent(new Event('shown'));
+  find('panels').dispatchEvent(new Event('changed'));
 }
 const isShown = id => !find('panels').hidden && !find(id).hidden;
 // The border of map and picture: dragged, or by arrows.

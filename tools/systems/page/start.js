@@ -42,7 +42,7 @@ function listen() {
   find('picture').onpointermove = find('picture').onpointerdown = point;
   Object.entries(onClicks()).forEach(([id, act]) => { find(id).onclick = () => act(); });
   document.querySelectorAll('[data-panel]').forEach(tab => { press(tab, false); tab.onclick = () => showPanel(tab.dataset.panel); });
-  find('whyPanel').addEventListener('shown', () => why.follow()); find('countPanel').addEventListener('shown', () => earlier.show());
+  find('panels').addEventListener('changed', () => { why.follow(); if (isShown('countPanel')) earlier.show(); });
   document.querySelectorAll('#pads button').forEach(pad => {
     pad.onpointerdown = () => walker.press(pad.dataset.key);
     pad.onpointerup = pad.onpointerleave = pad.onpointercancel = () => walker.release(pad.dataset.key);
