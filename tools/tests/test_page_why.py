@@ -88,6 +88,7 @@ class Why(Shown):
         shown = self.value("[...find('colours').getContext('2d').getImageData(0, 0, 320, 200).data].filter((part, i) => i % 4 === 3 && part).length")
         self.assertIn(shown, here)
         self.assertEqual(shown, self.value("why.found.pixels.planes.rows.filter(row => row === 0).length"))
+        self.value("[...document.querySelectorAll('#why button')].at(-1).click(); 0")
         self.assertEqual(self.value("document.querySelectorAll('#why .saving').length"), min(8, len(self.here(','.join(map(str, row[:4])))['savings'])))
 
     def test_follows(self):

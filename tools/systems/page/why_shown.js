@@ -1,5 +1,5 @@
 /* Why a view has its counts: the tables of why-limit in a panel, and what each row is of in colours over the picture. */
-const SHOWN_ROWS = 20, COLOURED = ['planes', 'fragments', 'sprites'], GOLDEN = 137.508; // degrees between two hues
+const SAVINGS = 'savings', SHOWN_ROWS = 20, COLOURED = ['planes', 'fragments', 'sprites'], GOLDEN = 137.508; // degrees between two hues
 const TABLES_OF_WHY = { planes: ['visplanes', ['planes', 'splits', 'columns', 'flat', 'of', 'height', 'light', 'sectors']],
   splits: ['splits, by line', ['splits', 'line', 'side', 'sectors', 'what differs', 'of']], fragments: ['drawsegs', ['drawsegs', 'sector', 'lines']],
   sprites: ['vissprites', ['sprites', 'type', 'what', 'places']], solids: ['solidsegs', ['solid range of line', 'columns']] };
@@ -28,14 +28,16 @@ class Why {
     if (turn === this.asked) { this.savings = savings; this.show(); }
   }
   show() {
-    const panel = find('why'), choices = add(document.createElement('div'), 'div', '', { className: 'line' });
-    panel.replaceChildren(choices, ...this.savingsShown());
-    for (const [name, [word, heads]] of Object.entries(TABLES_OF_WHY)) {
-      const rows = this.found.tables[name], chooser = button(`${word} ${this.sumTold(name, rows)}`, () => { this.shown = name; this.row = null; this.show(); });
+    const panel = find('why'), choices = add(document.createElement('div'), 'div', '', { className: 'line' }), told = document.createElement('div');
+    const choice = (name, words) => {
+      const chooser = button(words, () => { this.shown = name; this.row = null; this.show(); });
       press(chooser, name === this.shown); choices.append(chooser);
-      if (name === this.shown) panel.append(this.table(heads, rows, COLOURED.includes(name)));
-    }
-    this.colour();
+    };
+    for (const [name, [word]] of Object.entries(TABLES_OF_WHY)) choice(name, `${word} ${this.sumTold(name, this.found.tables[name])}`);
+    choice(SAVINGS, 'what would save most');
+    if (this.shown === SAVINGS) told.append(...this.savingsShown());
+    else told.append(this.table(TABLES_OF_WHY[this.shown][1], this.found.tables[this.shown], COLOURED.includes(this.shown)));
+    panel.replaceChildren(choices, told); this.colour();
   }
   sumTold(name, rows) { return name === 'solids' ? '' : rows.reduce((sum, [count]) => sum + Number(count), 0); }
   table(heads, rows, isColoured) {
@@ -65,11 +67,11 @@ class Why {
     }
   }
   savingsShown() {
-    const head = Object.assign(document.createElement('h2'), { textContent: 'What would save most?' });
-    if (!this.savings) return [head, document.createTextNode('trying ..')];
-    if (!this.savings.length) return [head, document.createTextNode('No change that was tried saves visplanes or drawsegs.')];
-    return [head, ...this.savings.slice(0, FACTS.SHOWN_CHANGES).map(([planes, left, fragments, leftFragments, told]) => Object.assign(document.createElement('p'),
-      { textContent: `${planes} visplanes (${left} are left), ${fragments} drawsegs (${leftFragments}): ${told}`, className: 'saving' }))];
+    const told = words => Object.assign(document.createElement('p'), { textContent: words });
+    if (!this.savings) return [told('trying ..')];
+    if (!this.savings.length) return [told('No change that was tried saves visplanes or drawsegs.')];
+    return this.savings.slice(0, FACTS.SHOWN_CHANGES).map(([planes, left, fragments, leftFragments, words]) => Object.assign(
+      told(`saves ${planes} visplanes (${left} are left) and ${fragments} drawsegs (${leftFragments} are left): ${words}`), { className: 'saving' }));
   }
   // Draws the colours over the picture.
   colour() {
