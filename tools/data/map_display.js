@@ -8,6 +8,8 @@ the picking of a place by mouse, keys and fingers. It needs nothing but the canv
     point      a function of a place or null, and of the marks near it: the pointer is over it, or an arrow key went to it
     pick       a function of a place or null: it was clicked, or Enter was pressed on it
     choose     a function of x and y in map units and the event: a click anywhere; may be left out
+    isFilling  whether the canvas is as large as its page makes it, and not as high as the map needs; may be left out
+    theme      light, which is taken where none is named, or dark: the colours, a name of MapDisplay.THEMES
 
 A place is { x, y, size, isReached }: the middle of a square and its side in map units, and whether a way leads there. A
 page may give its places other fields. show() adds isCut: whether smaller places lie over its quarters.
@@ -25,6 +27,8 @@ page may give its places other fields. show() adds isCut: whether smaller places
     cursor     a place or null: it gets a frame
   display.fit()               takes the size of its canvas anew, as after a change of the window, and draws
   display.whole()             shows the whole map, and draws
+  display.near(x, y)          shows the map around a point in map units from near, and draws
+  display.colour(theme)       takes the colours of a theme, and draws
   display.zoom(factor)        comes nearer for a factor above 1, and draws
   display.walk(dx, dy)        puts the cursor on the next place in a direction: (1, 0) is east, (0, 1) north
   display.placeAt(x, y)       the place that is drawn at a point in map units, or null
@@ -33,23 +37,30 @@ page may give its places other fields. show() adds isCut: whether smaller places
   display.keys                by the name of a key what it does: + - = 0
   display.walkKeys            the same for the arrows and Enter, which a button of a page may want for itself
   MapDisplay.KEYS             what these keys do, in HTML
-  MapDisplay.shade(share)     the colour of a count that is a share of its limit, up to 1
+  MapDisplay.shade(share, theme)  the colour of a count that is a share of its limit, up to 1
   MapDisplay.core(share)      of a count over its limit how wide the light core of its black square is, from 0 at the limit
                               to .6 of the square at four times the limit and more
-  MapDisplay.drawScale(canvas)  fills a canvas with the shades from 0 to the limit, and then cores up to four times it */
+  MapDisplay.drawScale(canvas, theme)  fills a canvas with the shades from 0 to the limit, and then cores up to four times it */
 class MapDisplay {
   static KEYS = 'arrows walk from place to place · <kbd>Enter</kbd> picture there · <kbd>+</kbd> <kbd>-</kbd> <kbd>0</kbd> ' +
     'zoom (wheel, drag, two fingers)';
-  // Lighter to darker throughout, so that it reads in black and white too; the lightest is darker than white.
-  static STOPS = [[226, 235, 243], [196, 217, 236], [150, 187, 220], [222, 126, 40], [140, 52, 0]];
+  // The shades go from the paper's to the opposite throughout, so that they read in black and white too; the first is not the paper's own.
+  static THEMES = {
+    light: { stops: [[226, 235, 243], [196, 217, 236], [150, 187, 220], [222, 126, 40], [140, 52, 0]], over: '#000', core: '#f9f', cross: '#fff', wall: '#000',
+      edge: 'rgba(255,255,255,.7)', thin: '#777', struck: '#555', chosen: '#06c', low: '#000', high: '#fff' },
+    dark: { stops: [[32, 42, 54], [42, 66, 92], [62, 104, 146], [214, 122, 42], [255, 196, 120]], over: '#fff', core: '#b0189a', cross: '#000', wall: '#e8edf2',
+      edge: 'rgba(16,19,23,.75)', thin: '#7b8794', struck: '#9aa4b1', chosen: '#4a90f0', low: '#fff', high: '#000' },
+  };
 
-  static CORE = '#f9f';
+  static NEAR = 800; // map units that are seen of a place from near
+  static BELOW = 44; // pixels at the foot of a canvas that is filled, which its page has for words
+
   static OVER = ['dots', 'rings', 'marks', 'eye', 'cursor']; // parts that are drawn over places and lines
 
   static UP = [[0, -6], [6, 5], [-6, 5]]; static DOWN = [[0, 6], [-6, -5], [6, -5]]; static DIAMOND = [[0, -8], [8, 0], [0, 8], [-8, 0]];
 
-  constructor(canvas, { vertexes, lines, point, pick, choose = () => {} }) {
-    Object.assign(this, { canvas, vertexes, lines, point, pick, choose });
+  constructor(canvas, { vertexes, lines, point, pick, choose = () => {}, isFilling = false, theme = 'light' }) {
+    Object.assign(this, { canvas, vertexes, lines, point, pick, choose, isFilling, theme });
     this.pen = canvas.getContext('2d');
     this.shown = { places: [], numberOf: () => 0, limit: 1, isOver: () => false, dots: [], rings: [], marks: [], eye: null, cursor: null };
     this.scale = 1; this.centre = [0, 0]; this.drag = null; this.fingers = new Map(); // pointers that are down, where they are
@@ -63,19 +74,19 @@ class MapDisplay {
     this.measure(); this.whole();
   }
 
-  static shade(share) {
-    const reach = Math.min(Math.max(share, 0), .9999) * 4, i = Math.floor(reach), rest = reach - i;
-    const [low, high] = [MapDisplay.STOPS[i], MapDisplay.STOPS[i + 1]];
+  static shade(share, theme = 'light') {
+    const reach = Math.min(Math.max(share, 0), .9999) * 4, i = Math.floor(reach), rest = reach - i, { stops } = MapDisplay.THEMES[theme];
+    const [low, high] = [stops[i], stops[i + 1]];
     return 'rgb(' + low.map((v, k) => Math.round(v + (high[k] - v) * rest)) + ')';
   }
   static core(share) { return .6 * Math.min(1, Math.max(0, Math.log2(share) / 2)); }
-  static drawScale(canvas) {
-    const pen = canvas.getContext('2d'), { width, height } = canvas, limit = Math.round(width * .65);
-    for (let x = 0; x < limit; x++) { pen.fillStyle = MapDisplay.shade(x / limit); pen.fillRect(x, 0, 1, height); }
-    pen.fillStyle = '#000'; pen.fillRect(limit, 0, width - limit, height);
+  static drawScale(canvas, theme = 'light') {
+    const pen = canvas.getContext('2d'), { width, height } = canvas, limit = Math.round(width * .65), colours = MapDisplay.THEMES[theme];
+    for (let x = 0; x < limit; x++) { pen.fillStyle = MapDisplay.shade(x / limit, theme); pen.fillRect(x, 0, 1, height); }
+    pen.fillStyle = colours.over; pen.fillRect(limit, 0, width - limit, height);
     for (let x = limit; x + height <= width; x += height) {
       const core = height * MapDisplay.core(4 ** ((x - limit) / (width - limit - height)));
-      pen.fillStyle = MapDisplay.CORE; pen.fillRect(x + (height - core) / 2, (height - core) / 2, core, core);
+      pen.fillStyle = colours.core; pen.fillRect(x + (height - core) / 2, (height - core) / 2, core, core);
     }
   }
 
@@ -96,19 +107,25 @@ class MapDisplay {
   }
   // As wide as its room on the page, and no higher than the map needs or than the window, or half of one that is narrow.
   measure() {
-    const ratio = devicePixelRatio || 1, canvas = this.canvas, most = innerWidth > 700 ? innerHeight - 230 : innerHeight / 2;
+    const ratio = devicePixelRatio || 1, canvas = this.canvas, most = this.isFilling ? 0 : innerWidth > 700 ? innerHeight - 230 : innerHeight / 2;
     this.width = canvas.clientWidth || 800;
-    this.height = Math.round(Math.max(340, Math.min(most, 1000, this.width * this.sizes[1] / this.sizes[0])));
-    canvas.style.height = this.height + 'px';
+    this.height = this.isFilling ? canvas.clientHeight || 600 : Math.round(Math.max(340, Math.min(most, 1000, this.width * this.sizes[1] / this.sizes[0])));
+    if (!this.isFilling) canvas.style.height = this.height + 'px';
     canvas.width = this.width * ratio; canvas.height = this.height * ratio; this.pen.setTransform(ratio, 0, 0, ratio, 0, 0);
   }
-  fit() { this.measure(); this.draw(); }
+  fit() { this.measure(); if (this.isFilling && this.isWhole) this.whole(); else this.draw(); }
+  near(x, y) {
+    this.scale = Math.max(this.scale, Math.min(this.width, this.height) / MapDisplay.NEAR); this.centre = [x, y]; this.isWhole = false; this.draw();
+  }
+  colour(theme) { this.theme = theme; this.draw(); }
+  get colours() { return MapDisplay.THEMES[this.theme]; }
   whole() {
-    this.scale = Math.min(this.width / this.sizes[0], this.height / this.sizes[1]);
-    this.centre = this.box.map(([low, high]) => (low + high) / 2); this.draw();
+    const below = this.isFilling ? MapDisplay.BELOW : 0;
+    this.scale = Math.min(this.width / this.sizes[0], Math.max(40, this.height - below) / this.sizes[1]);
+    this.centre = this.box.map(([low, high], k) => (low + high) / 2 - (k ? below / 2 / this.scale : 0)); this.isWhole = true; this.draw();
   }
   zoom(factor, point = [this.width / 2, this.height / 2]) {
-    const before = this.from(...point); this.scale *= factor; const after = this.from(...point);
+    const before = this.from(...point); this.scale *= factor; this.isWhole = false; const after = this.from(...point);
     this.centre = this.centre.map((v, k) => v + before[k] - after[k]); this.draw();
   }
   // Pixels of the canvas of a point in map units, and the point of some pixels.
@@ -125,7 +142,7 @@ class MapDisplay {
     pen.drawImage(this.below, 0, 0, this.width, this.height);
     rings.forEach(([x, y]) => this.circle(...this.at(x, y), 2.2, '#fff'));
     marks.forEach(mark => this.drawMark(mark));
-    if (cursor) { const [x, y, size] = this.square(cursor); pen.strokeStyle = '#06c'; pen.lineWidth = 3; pen.strokeRect(x, y, size, size); }
+    if (cursor) { const [x, y, size] = this.square(cursor); pen.strokeStyle = this.colours.chosen; pen.lineWidth = 3; pen.strokeRect(x, y, size, size); }
     if (eye) this.cone(eye);
     dots.filter(dot => !dot.isChosen).concat(dots.filter(dot => dot.isChosen)).forEach(dot => this.drawDot(dot));
   }
@@ -146,30 +163,32 @@ class MapDisplay {
   }
   drawPlace(place) {
     const [x, y, size] = this.square(place), n = this.shown.numberOf(place), isOver = this.shown.isOver(n);
-    this.pen.fillStyle = isOver ? '#000' : MapDisplay.shade(n / this.shown.limit);
+    const { colours } = this;
+    this.pen.fillStyle = isOver ? colours.over : MapDisplay.shade(n / this.shown.limit, this.theme);
     this.pen.fillRect(x, y, size + .6, size + .6);
-    if (!place.isReached) this.stroke(isOver ? '#fff' : '#555', 1, [[[x, y + size], [x + size, y]]]);
+    if (!place.isReached) this.stroke(isOver ? colours.cross : colours.struck, 1, [[[x, y + size], [x + size, y]]]);
     if (isOver && size >= 8) this.cross(x, y, size);
     if (isOver) this.drawCore(x, y, size, MapDisplay.core(n / this.shown.limit) * size);
-    if (size > (isOver ? 48 : 34)) this.label(n, x + size / 2, y + size * (isOver ? .87 : .5), n > this.shown.limit * .7 ? '#fff' : '#000');
+    if (size > (isOver ? 48 : 34)) this.label(n, x + size / 2, y + size * (isOver ? .87 : .5), n > this.shown.limit * .7 ? colours.high : colours.low);
   }
   drawCore(x, y, size, core) {
-    this.pen.fillStyle = MapDisplay.CORE; this.pen.fillRect(x + (size - core) / 2, y + (size - core) / 2, core, core);
+    this.pen.fillStyle = this.colours.core; this.pen.fillRect(x + (size - core) / 2, y + (size - core) / 2, core, core);
   }
   cross(x, y, size) {
     const a = size * .25, b = size * .75;
-    this.stroke('#fff', 1.5, [[[x + a, y + a], [x + b, y + b]], [[x + a, y + b], [x + b, y + a]]]);
+    this.stroke(this.colours.cross, 1.5, [[[x + a, y + a], [x + b, y + b]], [[x + a, y + b], [x + b, y + a]]]);
   }
-  // Walls with a light edge, so that they show on black places too.
+  // Walls with an edge of the paper's colour, so that they show on places over a limit too.
   drawLines() {
     const drawn = isWall => this.lines.filter(line => Boolean(line[2]) === isWall)
       .map(line => [this.at(...this.vertexes[line[0]]), this.at(...this.vertexes[line[1]])]);
     const walls = drawn(true);
-    this.stroke('#777', .6, drawn(false)); this.stroke('rgba(255,255,255,.7)', 2.6, walls); this.stroke('#000', 1.4, walls);
+    const { thin, edge, wall } = this.colours;
+    this.stroke(thin, .6, drawn(false)); this.stroke(edge, 2.6, walls); this.stroke(wall, 1.4, walls);
   }
   drawDot({ x, y, text, isChosen }) {
     const middle = this.at(x, y);
-    this.circle(...middle, 9, isChosen ? '#06c' : '#fff'); this.label(text, ...middle, isChosen ? '#fff' : '#000');
+    this.circle(...middle, 9, isChosen ? this.colours.chosen : '#fff'); this.label(text, ...middle, isChosen ? '#fff' : '#000');
   }
   drawMark({ x, y, letter, colour, corners }) {
     const [px, py] = this.at(x, y), pen = this.pen, size = corners ? Math.min(1, Math.max(.5, 3 * this.scale)) : 1;
@@ -183,7 +202,7 @@ class MapDisplay {
   cone({ x, y, angle }) {
     const [px, py] = this.at(x, y), a = -angle * Math.PI / 180;
     const ends = [-1, 1].map(k => [px + 60 * Math.cos(a + k * Math.PI / 4), py + 60 * Math.sin(a + k * Math.PI / 4)]);
-    this.stroke('#06c', 2.5, ends.map(end => [[px, py], end]));
+    this.stroke(this.colours.chosen, 2.5, ends.map(end => [[px, py], end]));
   }
   stroke(colour, width, lines) {
     const pen = this.pen; pen.strokeStyle = colour; pen.lineWidth = width; pen.beginPath();
@@ -205,7 +224,7 @@ class MapDisplay {
   }
   pointed(event) {
     const box = this.canvas.getBoundingClientRect();
-    return [event.clientX - box.left - 1, event.clientY - box.top - 1];
+    return [event.clientX - box.left - this.canvas.clientLeft, event.clientY - box.top - this.canvas.clientTop];
   }
   listen() {
     const canvas = this.canvas;
@@ -245,6 +264,7 @@ class MapDisplay {
     if (!drag || !event.buttons) return this.point(this.placeAt(...this.from(...p)), this.marksNear(...p));
     drag.isMoved ||= Math.hypot(p[0] - drag.start[0], p[1] - drag.start[1]) > 5;
     if (!drag.isMoved) return;
+    this.isWhole = false;
     this.centre = [drag.centre[0] - (p[0] - drag.start[0]) / this.scale, drag.centre[1] + (p[1] - drag.start[1]) / this.scale];
     this.draw();
   }

@@ -9,17 +9,21 @@ import typing
 
 from . import ground, levels, program, ways
 from .art import Art, Texture
-from .doom import EVERY_SKILL, FRONT_AND_BACK, LOWER_UNPEGGED, PLACES, PLAYER_1, SKY, SPECTRE, TWO_SIDED, UPPER_UNPEGGED
+from .doom import (EVERY_SKILL, FRONT_AND_BACK, LOWER_UNPEGGED, PLACES, PLAYER_1, SKY, SPECTRE, THINGS, TWO_SIDED,
+                   UPPER_UNPEGGED)
 from .findings import ERROR, FAULT, HOLE, ODD, Finding, lines, sectors, several, some
 from .game_checks import GameCheck
 
 TALL = 128  # rows of a wall after which its texture begins anew
 PARTS = ('upper', 'lower', 'middle')
-UNDRAWN = {*PLACES, SPECTRE, 87, 89}  # and two of the last boss, which the thing table leaves out
-NO_THING = 0  # a type for which ports place nothing
+UNDRAWN = {*PLACES, SPECTRE, *THINGS['last_boss']}  # and two of the last boss, which the thing table leaves out
+NO_THING: int = THINGS['none']  # a type for which ports place nothing
 
 
 Findings = typing.Iterator[Finding]
+Vertexes = typing.Set[levels.Vertex]
+# A line with one sector on both sides, or none: the sector, and both ends.
+OwnLine = typing.Tuple[typing.Optional[int], levels.Vertex, levels.Vertex]
 # Which side of a line it is, the side, and the sectors in front of it and behind it.
 Beside = typing.Tuple[int, levels.Side, levels.Sector, typing.Optional[levels.Sector]]
 # A type of things with its row, and the numbers of the things of that type.
@@ -299,20 +303,41 @@ class Check:
 
     def unclosed_sectors(self) -> Findings:
         """Sectors whose lines do not close: at a vertex where an odd number of them end, and no line that has one
-        sector on both sides, as of deep water."""
-        ends: typing.Counter[typing.Tuple[int, levels.Vertex]] = collections.Counter()
-        tricks: typing.Set[levels.Vertex] = set()
+        sector on both sides, as of deep water. Where such a line alone closes the gap of another sector, it has the
+        wrong one on a side."""
+        gaps, tricks = self.gaps(), self.own_lines()
+        closing = gap_lines(gaps, tricks)
+        exempt = {vertex for _, start, end in tricks for vertex in (start, end)}
+        for sector, open_ends in sorted(gaps.items()):
+            found = sorted({*(open_ends - exempt), *(closing[sector] & open_ends)})
+            if found:
+                some_here = ' and '.join(f'{vertex.x}, {vertex.y}' for vertex in found[:2])
+                yield Finding(FAULT, 'sector', sectors([sector]), f'is not closed: its lines end at {some_here}')
+
+    def gaps(self) -> typing.Dict[int, Vertexes]:
+        """The vertexes at which an odd number of a sector's lines end, by sector."""
+        found: typing.Dict[int, Vertexes] = collections.defaultdict(set)
         for number, line in enumerate(self.level.lines):
-            front, back = self.plan.beside[number]
-            vertexes = [self.level.vertexes[vertex] for vertex in line[:2]]
-            if front == back:
-                tricks.update(vertexes)
-            else:
-                ends.update((sector, vertex) for sector in {front, back} if sector is not None for vertex in vertexes)
-        found = collections.defaultdict(list)
-        for (sector, vertex), count in ends.items():
-            if count % 2 and vertex not in tricks:
-                found[sector].append(vertex)
-        for sector, vertexes in sorted(found.items()):
-            some_here = ' and '.join(f'{vertex.x}, {vertex.y}' for vertex in sorted(vertexes)[:2])
-            yield Finding(FAULT, 'sector', sectors([sector]), f'is not closed: its lines end at {some_here}')
+            pair = self.plan.beside[number]
+            for sector in set(pair) - {None} if pair[0] != pair[1] else ():
+                for vertex in line[:2]:
+                    found[typing.cast(int, sector)] ^= {self.level.vertexes[vertex]}
+        return found
+
+    def own_lines(self) -> typing.List[OwnLine]:
+        """The lines that have one sector on both sides, or none: the sector, and both ends."""
+        return [(front, *self.plan.ends(number)) for number, (front, back) in enumerate(self.plan.beside) if front == back]
+
+
+def gap_lines(gaps: typing.Dict[int, Vertexes], tricks: typing.List[OwnLine]) -> typing.Dict[int, Vertexes]:
+    """Of each sector the ends of lines that close its gap, and have on both sides one other sector that closes none
+    elsewhere: one that does is a bridge or the like."""
+    closed: typing.Dict[typing.Optional[int], typing.List[typing.Tuple[int, Vertexes]]] = collections.defaultdict(list)
+    for sector, open_ends in gaps.items():
+        for own, start, end in tricks:
+            if own not in (sector, None) and start != end and {start, end} <= open_ends:
+                closed[own].append((sector, {start, end}))
+    found: typing.Dict[int, Vertexes] = collections.defaultdict(set)
+    for sector, ends in (pairs[0] for pairs in closed.values() if len(pairs) == 1):
+        found[sector] |= ends
+    return found

@@ -1,5 +1,13 @@
 """Facts of Doom that several tools need, each said once: lumps of a map and their records, flags, types of things, art,
-limits."""
+limits. The tables of specials, things and limits are data/game.json, which the page for a browser reads too."""
+import json
+import typing
+
+from . import home
+
+with open(home.data('game.json'), encoding='utf-8') as file:
+    GAME: typing.Dict[str, typing.Any] = json.load(file)
+LINES, SECTORS, THINGS = GAME['lines'], GAME['sectors'], GAME['things']  # specials of lines and sectors; types of things
 
 # The lumps of a map behind its label, in their order; those that a builder of nodes makes; and the two behind them.
 MAP_LUMPS = ['THINGS', 'LINEDEFS', 'SIDEDEFS', 'VERTEXES', 'SEGS', 'SSECTORS', 'NODES', 'SECTORS']
@@ -11,13 +19,13 @@ LEAF = 0x8000  # the bit of a child of a node that is a leaf
 NO_SIDE = 0xffff  # where a line has no side
 FRONT_AND_BACK = ('front', 'back')  # the sides of a line
 BLOCKS, TWO_SIDED, UPPER_UNPEGGED, LOWER_UNPEGGED = 1, 4, 8, 16  # flags of a line; BLOCKS: nobody passes
-TELEPORTS = {39, 97, 125, 126}  # specials of lines
-EVERY_SKILL = 7  # the bits of a thing's options that say in which skills it is
+TELEPORTS = set(LINES['teleports'])  # specials of lines
+EVERY_SKILL: int = THINGS['every_skill']  # the bits of a thing's options that say in which skills it is
 
 # Types of things.
-PLAYER_1, SPECTRE, DEMON = 1, 58, 3002
-STARTS = {PLAYER_1, 2, 3, 4, 11}  # of players and of a deathmatch
-DESTINATION = 14  # the end of a teleport
+PLAYER_1, SPECTRE, DEMON = (THINGS[name] for name in ('player_1', 'spectre', 'demon'))
+STARTS = set(THINGS['starts'])  # of players and of a deathmatch
+DESTINATION: int = THINGS['destination']  # the end of a teleport
 PLACES = {*STARTS, DESTINATION}  # they have no picture
 
 SKY = 'F_SKY1'  # the flat of the sky
@@ -25,4 +33,4 @@ PALETTE_SIZE, COLORMAP_SIZE = 768, 256  # bytes
 COLORMAPS = 32  # of lights, from bright to dark
 
 # What a view has at most: MAXVISPLANES, MAXOPENINGS, MAXDRAWSEGS, MAXVISSPRITES, MAXSEGS.
-LIMITS = {'planes': 128, 'openings': 20480, 'fragments': 256, 'sprites': 128, 'solids': 32}
+LIMITS: typing.Dict[str, int] = {name: of['limit'] for name, of in GAME['limits'].items()}

@@ -5,18 +5,18 @@ import collections
 import typing
 
 from . import ground
-from .doom import DESTINATION, TELEPORTS
+from .doom import DESTINATION, GAME, LINES, SECTORS, TELEPORTS
 from .findings import ERROR, FAULT, ODD, Finding, lines, sectors
 from .levels import Level, Line
 
 Findings = typing.Iterator[Finding]
 # Specials of the original, by what they need.
-DOORS = {1, 26, 27, 28, 31, 32, 33, 34, 117, 118}  # of lines: open the sector behind the line
-SCROLLS = 48
-WITHOUT_TAG = {*DOORS, SCROLLS, 11, 51, 52, 124, 78, 85}  # exits, and two that there are not
-TAGGED = set(range(2, 142)) - WITHOUT_TAG
-OF_SECTORS = {*range(6), *range(7, 15), 16, 17}
-MOST_SCROLLING = 64
+DOORS = set(LINES['doors'])  # of lines: open the sector behind the line
+SCROLLS, = LINES['scrolls']
+WITHOUT_TAG = {*DOORS, SCROLLS, *LINES['exits'], *LINES['unused']}
+TAGGED = set(range(2, LINES['last'] + 1)) - WITHOUT_TAG
+OF_SECTORS = set(SECTORS['specials'])
+MOST_SCROLLING: int = GAME['most_scrolling']
 LEAST_BLOCKMAP = 8  # bytes: its head
 
 
@@ -86,12 +86,12 @@ class GameCheck:
     def tables(self) -> Findings:
         """What is wrong with REJECT and BLOCKMAP, which doomview does not need."""
         needed = (len(self.level.sectors) ** 2 + 7) // 8
-        for name, least, wrong in (('REJECT', needed, f'the original reads past its end; {len(self.level.sectors)} '
-                                    f'sectors need {needed} bytes'),
-                                   ('BLOCKMAP', LEAST_BLOCKMAP, 'nothing stops a player, and the original reads past '
-                                    'its end')):
+        for name, least, grade, wrong in (
+                ('REJECT', needed, FAULT, 'what monsters see is by chance in the original, and Chocolate Doom fills it up; '
+                 f'{len(self.level.sectors)} sectors need {needed} bytes'),
+                ('BLOCKMAP', LEAST_BLOCKMAP, ERROR, 'nothing stops a player, and the original reads past its end')):
             size = len(self.level.lumps.get(name, b''))
             if name not in self.level.lumps:
                 yield Finding(ERROR, 'table', 'map', f'has no {name}: the original ends there; build it with the nodes')
             elif size < least:
-                yield Finding(ERROR, 'table', 'map', f'its {name} has {size} bytes: {wrong}; build it with the nodes')
+                yield Finding(grade, 'table', 'map', f'its {name} has {size} bytes: {wrong}; build it with the nodes')

@@ -6,11 +6,11 @@ import collections
 import struct
 import typing
 
-from .doom import BLOCKS, LAYOUTS, SKY
+from .doom import BLOCKS, LAYOUTS, SECTORS, SKY
 from .levels import Level, Sector, Vertex, alone
 
 HEIGHT, RADIUS, STEP_UP = 56, 16, 24  # of a player, in map units
-BOSS_TAGS = {666, 667}
+BOSS_TAGS = set(SECTORS['boss_tags'])
 LINTEL = 4  # what a door that is open keeps of its height below the ceiling beside it
 SQUARE, BAND = 128, 16
 STEPS = (64, 32, 16, 8)  # of grids on which a place in a sector is looked for

@@ -9,24 +9,17 @@ import itertools
 import typing
 
 from . import ground
-from .doom import DESTINATION, EVERY_SKILL, STARTS, TELEPORTS
+from .doom import DESTINATION, EVERY_SKILL, LINES, STARTS, TELEPORTS, THINGS
 from .ground import HEIGHT, RADIUS, STEP_UP, Box, Plan
 from .levels import Line, Sector, Vertex
 
 SPEED = 30  # of a player in a tic: the original lets none be faster along an axis (MAXMOVE)
 THING_RADIUS = 20  # of what a player picks up
-TO_THINGS = {*TELEPORTS, 174, 195, 207, 208, 209, 210}  # specials of teleports that end at a thing, with those of Boom
-TO_LINES = {243, 244, 262, 263}  # those that end at a line of their tag
-STAIRS, DONUT = {7, 8, 100, 127}, {9}  # specials that move sectors without a tag too
+TO_THINGS = {*TELEPORTS, *LINES['to_things']}  # specials of teleports that end at a thing, with those of Boom
+TO_LINES = set(LINES['to_lines'])  # those that end at a line of their tag
+STAIRS, DONUT = set(LINES['stairs']), set(LINES['donut'])  # specials that move sectors without a tag too
 AREA = 256  # the side of the squares by which lines are looked for
-WANTED = {5: 'blue keycard', 6: 'yellow keycard', 13: 'red keycard', 38: 'red skull key', 39: 'yellow skull key',
-          40: 'blue skull key', 82: 'super shotgun', 2001: 'shotgun', 2002: 'chaingun', 2003: 'rocket launcher',
-          2004: 'plasma gun', 2005: 'chainsaw', 2006: 'BFG 9000', 8: 'backpack', 17: 'cell pack', 2007: 'clip',
-          2008: 'shells', 2010: 'rocket', 2046: 'box of rockets', 2047: 'cell', 2048: 'box of bullets',
-          2049: 'box of shells', 83: 'megasphere', 2011: 'stimpack', 2012: 'medikit', 2013: 'soulsphere',
-          2014: 'health bonus', 2015: 'armor bonus', 2018: 'green armor', 2019: 'blue armor', 2022: 'invulnerability',
-          2023: 'berserk', 2024: 'partial invisibility', 2025: 'radiation suit', 2026: 'computer area map',
-          2045: 'light amplification visor'}  # types of things that a player picks up
+WANTED: typing.Dict[int, str] = {int(kind): word for kind, word in THINGS['wanted'].items()}  # what a player picks up
 
 
 Sectors = typing.Set[int]  # their numbers

@@ -211,7 +211,7 @@ def say(text: str):
 
 def status_of_tests(test: str, part: str, path: str) -> int:
     """How a part of the tests of what is made ends; they find it by a variable. What they say is shown at their end."""
-    variable = {'test_exe': 'DOOMVIEW_EXE', 'test_page': 'DOOMVIEW_PAGE'}[test]
+    variable = 'DOOMVIEW_EXE' if test == 'test_exe' else 'DOOMVIEW_PAGE'
     words = [sys.executable, '-B', '-m', 'unittest', 'discover', '-s', os.path.join(home.TOOLS, 'tests'), '-p', f'{test}.py', '-k', part]
     done = subprocess.run(words, env={**os.environ, variable: path, 'DOOMVIEW_TESTED': native()}, stdin=subprocess.DEVNULL,
                           stdout=subprocess.PIPE, stderr=subprocess.STDOUT, errors='replace')

@@ -87,7 +87,9 @@ class Kinds(Tools):
                    'fault teleport: line ', 'leads to tag 7, and no sector of that has a destination')
 
     def test_tables(self):
-        self.finds(with_lumps(Map('.abc'), REJECT=b'\0'), 'error table: map: its REJECT has 1 bytes', '4 sectors need 2')
+        for reject in (b'', b'\0'):
+            self.finds(with_lumps(Map('.abc'), REJECT=reject), f'fault table: map: its REJECT has {len(reject)} bytes',
+                       '4 sectors need 2')
         self.finds(with_lumps(Map('....'), BLOCKMAP=b''), 'error table: map: its BLOCKMAP has 0 bytes: nothing stops')
         self.finds(with_lumps(Map('....'), REJECT=None, BLOCKMAP=None), 'error table: map: has no ', count=2)
 
@@ -96,6 +98,17 @@ class Kinds(Tools):
         made = Map('..x')
         made.change('SIDEDEFS', made.records('LINEDEFS')[made.lines('.')[0]]['front'], sector=1)
         self.finds(made, 'fault sector: sector', 'is not closed: its lines end at', count=2)
+
+    def test_closing_line(self):
+        """A sector is named whose gap a line closes that has one other sector on both sides, and no bridge."""
+        for rows in (['....', '.xx.', '.xx.', '....'], ['..x', '...', '...']):
+            made = Map(*rows)
+            line = made.records('LINEDEFS')[made.lines('.', 'x')[0]]
+            sides = made.records('SIDEDEFS')
+            for side in (line['front'], line['back']):
+                if sides[side]['sector'] == made.letters.index('x'):
+                    made.change('SIDEDEFS', side, sector=made.letters.index('.'))
+            self.finds(made, f'fault sector: sector {made.letters.index("x")}: is not closed: its lines end at')
 
     def test_lists(self):
         """A PNAMES that hides the game's, and a patch that there is not."""

@@ -3,25 +3,20 @@ the tools say. tools/portable --check makes a page and runs these tests; a page 
 
     DOOMVIEW_PAGE=out/doomview.html DOOMVIEW_TESTED=out/doomview python3 tools/tests/test_page.py"""
 import base64
-import contextlib
 import hashlib
 import json
 import os
 import random
 import re
-import shutil
 import subprocess
-import tempfile
 import unittest
-from unittest import mock
 
 import pages_shown
 from made_files import COMMAND, TOP
-from doomview_tools import counting, explanations, levels, list_counts, lists, paths, png, program, traces, wads, walls
-from systems import check, chromium
+from page_driven import BASE64, GAMES, PAGE, READY, SAID, TESTED, Shown, run
+from doomview_tools import counting, explanations, levels, list_counts, lists, paths, png, traces, wads, walls
+from systems import check
 
-PAGE, TESTED = os.environ.get('DOOMVIEW_PAGE', ''), os.environ.get('DOOMVIEW_TESTED', '')
-GAMES = [path for path in ('/usr/share/games/doom/freedoom1.wad', '/usr/share/games/doom/freedoom2.wad') if os.path.exists(path)]
 COUNTED = [('freedoom2.wad', name) for name in ('MAP01', 'MAP02', 'MAP07')] + [('freedoom1.wad', name) for name in ('E1M1', 'E1M6')]
 STEP = os.environ.get('DOOMVIEW_STEP', '128')
 RAISED = ['--planes', '1024', '--openings', '245760']
@@ -31,84 +26,12 @@ OF_WADS = r'doomview: refused (4..|5..|6..|7..|90[135])( |$)'
 # Gives the worker that reads levels another thing table.
 TAKE_THINGS = '''(async () => crew.first('setUp', { module: await WebAssembly.compile(bytesOf(BUILT.program)),
 tables: bytesOf(BUILT.tables), things: new TextEncoder().encode(%s) }))()'''
+DRAWN = (901, 903)  # refusals of missing textures and flats, for which the page has stand-ins
 NO_WADS = (401, 402, 403)  # refusals of a file that is no whole WAD, which the page says when it is chosen
-SAID, READY = "find('said').textContent", "document.body.dataset.ready === 'yes'"
-BASE64 = '''(bytes => { let s = ''; for (let i = 0; i < bytes.length; i += 4096) s += String.fromCharCode(...bytes.subarray(i, i + 4096));
-return btoa(s); })'''
 # Drops a path, and as its frames the view that is shown.
 DROP = '''(() => { const dataTransfer = new DataTransfer(); dataTransfer.items.add(new File([%s], 'own.csv'));
 dataTransfer.items.add(new File([walker.view.frame], 'own.bin')); dispatchEvent(new DragEvent('drop', { dataTransfer })); })()'''
 KEYS = {'ArrowUp': 38, 'ArrowLeft': 37, 'ArrowRight': 39, 'ArrowDown': 40}
-
-
-def run(*words, folder=None, status=0):
-    """What the command prints."""
-    env = {**os.environ, 'DOOMVIEW': TESTED}
-    done = subprocess.run([COMMAND, *words], cwd=folder, env=env, stdin=subprocess.DEVNULL, capture_output=True)
-    if done.returncode != status:
-        raise AssertionError(f'{words}: {done.returncode}, {done.stderr.decode()}')
-    return done.stdout
-
-
-@unittest.skipUnless(PAGE and TESTED and chromium.command(), 'there is no page, no program or no Chromium')
-class Shown(unittest.TestCase):
-    """A page in Chromium, with the made room."""
-
-    @classmethod
-    def setUpClass(cls):
-        cls.folder = tempfile.mkdtemp()
-        cls.addClassCleanup(shutil.rmtree, cls.folder)
-        cls.room = cls.at('room.wad')
-        run('room', '-o', cls.room)
-
-    @classmethod
-    def at(cls, name):
-        return os.path.join(cls.folder, name)
-
-    def setUp(self):
-        self.browser = self.enterContext(chromium.Chromium()) if hasattr(self, 'enterContext') else self.entered()
-        self.browser.show(PAGE)
-        self.browser.wait(READY)
-
-    def entered(self):
-        stack = contextlib.ExitStack()
-        self.addCleanup(stack.close)
-        return stack.enter_context(chromium.Chromium())
-
-    def tearDown(self):
-        self.assertEqual(self.browser.errors, [])
-        asked = [address for address in self.browser.requests if not address.startswith(('blob:null/', 'data:', 'about:'))]
-        self.assertEqual(asked, ['file://' + os.path.abspath(PAGE)])
-
-    def value(self, code):
-        return self.browser.value(code)
-
-    def take(self, *files):
-        """Chooses files, and waits for the view from the start of the first map."""
-        self.value('walker.view = null; level = null; 0')
-        self.browser.choose('#files', list(files))
-        self.browser.wait('walker.view && level && !walker.isBusy')
-
-    def choose(self, name):
-        self.value(f"walker.view = null; find('chosen').value = {name!r}; find('chosen').onchange(); 0")
-        self.browser.wait(f"level && level.map === {name!r} && walker.view && !walker.isBusy || {SAID}")
-
-    def frame(self):
-        return base64.b64decode(self.value(f'{BASE64}(walker.view.frame)'))
-
-    def go(self, row):
-        self.value(f'walker.go({json.dumps(list(row[:4]))}); 0')
-        self.browser.wait('!walker.isBusy')
-
-    def native(self, job, wad, name, rows, *more):
-        """What the program writes for rows."""
-        path = self.at('path.csv')
-        with open(path, 'w', encoding='utf-8') as file:
-            file.write(paths.text(rows))
-        with mock.patch.dict(os.environ, DOOMVIEW=TESTED):
-            done = program.run([job, name, *([wad] if isinstance(wad, str) else wad), '--path', path, *more])
-        self.assertEqual((done.status, done.line), (0, ''))
-        return done.output
 
 
 class Starts(Shown):
@@ -154,13 +77,13 @@ class Views(Shown):
         self.assertEqual(len(set(map(tuple, seen))), len(seen))
         box = self.value("(({ left, top, width, height }) => [left, top, width, height])(find('map').getBoundingClientRect())")
         x, y = self.value('display.at(480, 300)')
-        self.browser.click(box[0] + 1 + x, box[1] + 1 + y)
+        self.browser.click(box[0] + x, box[1] + y)
         self.browser.wait('!walker.isBusy')
         place = self.value('walker.view.row.map(v => v / 65536)')
         self.assertAlmostEqual(place[0], 480, delta=4)
         self.assertAlmostEqual(place[1], 300, delta=4)
         x, y = self.value('display.at(480, 800)')
-        self.browser.click(box[0] + 1 + x, box[1] + 1 + y, 8)
+        self.browser.click(box[0] + x, box[1] + y, 8)
         self.browser.wait('!walker.isBusy')
         self.assertAlmostEqual(self.value('walker.view.row[3]'), 2 ** 30, delta=2 ** 24)
         row = self.value('walker.view.row')
@@ -294,7 +217,7 @@ class Counts(Shown):
         self.value("find('start').click(); 0")
         self.browser.wait('whole.found && !walker.isBusy')
         self.assertGreater(len(set(self.value('grown'))), 2)
-        self.assertEqual(self.value("document.querySelectorAll('#most button').length"), len(counting.COUNTS))
+        self.assertEqual(self.value("document.querySelectorAll('#counts button').length"), len(counting.COUNTS))
         worst = self.value('whole.worst().map(view => view[1])')
         self.assertEqual(self.value('walker.view.row'), worst[0])
         self.browser.press('n')
@@ -341,13 +264,18 @@ class Wrong(Shown):
         for case in chosen:
             words = explanations.Words(case.arguments())
             sentences = list(explanations.explain(case.expected.line, case.arguments()))
-            if int(case.expected.line.split()[2]) in NO_WADS:
+            code = int(case.expected.line.split()[2])
+            if code in NO_WADS:
                 self.value('list.files = []; list.changed([]); 0')
                 self.browser.choose('#files', words.wads)
                 self.browser.wait(SAID)
                 self.assertIn(os.path.basename(words.wads[0]), self.value(SAID), case.words)
                 continue
-            self.assertEqual(self.sentences(words.wads, words.map_name)[0], sentences[0], case.words)
+            here = self.sentences(words.wads, words.map_name)
+            if code in DRAWN and not here[0]:
+                self.browser.wait(f"{SAID}.includes('Squares are drawn in their place')")
+                continue
+            self.assertEqual(here[0], sentences[0], case.words)
 
     def test_no_wad(self):
         """A file that is no WAD is named, and the page goes on with the others."""
@@ -406,7 +334,7 @@ class Wrong(Shown):
         self.browser.requests.remove('file://' + os.path.abspath(self.at('old.html')))
 
 
-class Looks(Shown):
+class Saved(Shown):
     def test_saved(self):
         """What is saved: the kept views as a path, the picture, a small WAD that draws the same, the numbers."""
         self.take(self.room)
@@ -416,14 +344,14 @@ class Looks(Shown):
         self.value("['path', 'trim', 'png'].forEach(id => find(id).click()); 0")
         self.browser.wait("Object.keys(saved).length === 3")
         row = self.value('walker.view.row')
-        self.assertEqual(self.value("saved['path.csv']"), paths.text([paths.Row(*row)]))
-        small = base64.b64decode(self.value(f"{BASE64}(saved['map01.wad'])"))
+        self.assertEqual(self.value("saved['room-map01-views-doors-shut.csv']"), paths.text([paths.Row(*row)]))
+        small = base64.b64decode(self.value(f"{BASE64}(saved['room-map01-small.wad'])"))
         with open(self.at('small.wad'), 'wb') as file:
             file.write(small)
         self.assertEqual(small, self.native('trim', self.room, 'MAP01', []))
         rows = [paths.Row(*row)]
         self.assertEqual(self.native('render', self.at('small.wad'), 'MAP01', rows), self.native('render', self.room, 'MAP01', rows))
-        self.assertEqual(self.value("saved['map01.png'].type"), 'image/png')
+        self.assertEqual(self.value("saved['room-map01.png'].type"), 'image/png')
 
     def test_touch(self):
         """Two fingers bring the map nearer, and what is below them stays there; one finger moves it, and a tap stands there."""
@@ -435,7 +363,7 @@ class Looks(Shown):
 
         def touch(kind, *points):
             self.browser.call('Input.dispatchTouchEvent', type=kind, touchPoints=[
-                {'x': left + 1 + x, 'y': top + 1 + y, 'id': number} for number, (x, y) in enumerate(points)])
+                {'x': left + x, 'y': top + y, 'id': number} for number, (x, y) in enumerate(points)])
 
         touch('touchStart', (100, 150))
         touch('touchStart', (100, 150), (200, 150))

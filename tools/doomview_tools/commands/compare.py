@@ -8,7 +8,7 @@ from .. import (cli, compare_reports, diagnoses, differences, frame_files, frame
                 shapes, symptoms, texels, traces)
 from ..compare_page import MOST_VIEWS, ComparePage
 from ..comparison import Both, Files, Tasks, View, entries_of, lines_of
-from ..files import Folder, Output, Source, check_target, write_whole
+from ..files import Folder, Output, Source, write_whole
 from ..frames import HEIGHT, SIZE, WIDTH
 from ..trouble import FOUND
 
@@ -254,9 +254,6 @@ class Comparison:
 
 
 def run(options: argparse.Namespace) -> int:
-    for path in (options.html, options.json, options.junit):
-        if path:
-            check_target(path)
     files = Files(options)
     if options.png:
         os.makedirs(options.png, exist_ok=True)

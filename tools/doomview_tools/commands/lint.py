@@ -22,13 +22,14 @@ error, status 1: doomview refuses the map, or the original ends there or reads p
 and patches that there are not, with what may be meant; flats that the original does not find between the last F_START
 and the last F_END; a TEXTURE1 or PNAMES that hides the game's; two-sided middle textures of several patches (Medusa);
 lines without a front side; doors without a back side; things of unknown types, or without their picture; unknown specials
-of sectors that a player enters; more than 64 lines that scroll; a short REJECT, an empty BLOCKMAP; no start of player 1.
+of sectors that a player enters; more than 64 lines that scroll; an empty BLOCKMAP; no BLOCKMAP or REJECT; no start of
+player 1.
 
 hole, status 1: a part of a wall that a player can see has no texture.
 
 fault, status 1: the map does not do there what it was made for. Sectors that are not closed; things outside the level;
 lines that are two-sided and have no back side; a special whose tag no sector has, or without a tag; a teleport without
-a destination.
+a destination; an empty or short REJECT.
 
 odd, status 0, with --strict 1: walls higher than their texture, where rows of other pictures show (tutti-frutti); parts
 without a texture that are seen from afar at most; lines without length, or with two sides that are not two-sided; a

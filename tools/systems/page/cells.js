@@ -72,11 +72,11 @@ class Look {
 }
 
 /* The cells of a level. `look` is a function of the numbers of places that gives what is found there, in time; `options` has step,
-directions, and whether it is looked at everywhere. */
+directions, whether it is looked at everywhere, and `start`, a place of the grid where it is to be that of an earlier run. */
 class Grid {
   constructor(ground, look, reach, options) {
     Object.assign(this, { ground, look, reached: reach.sectors, wanted: reach.wanted, everywhere: options.everywhere });
-    this.directions = 2 * options.directions; this.firstStep = options.step;
+    this.directions = 2 * options.directions; this.start = options.start; this.firstStep = options.start?.step ?? options.step;
     this.views = 0; this.over = COUNTS.map(() => 0); this.cells = [];
   }
   async counted() {
@@ -96,9 +96,9 @@ class Grid {
     }
   }
   placesOf([lowX, lowY, highX, highY], step) {
-    const places = [], half = Math.floor(step / 2);
-    for (let y = lowY + half; y < highY; y += step)
-      for (let x = lowX + half; x < highX; x += step) places.push(...this.place(x, y + .5, step));
+    const places = [], half = Math.floor(step / 2), first = (low, at) => low + (at === undefined ? half : ((at - low) % step + step) % step);
+    for (let y = first(lowY, this.start?.y); y < highY; y += step)
+      for (let x = first(lowX, this.start?.x); x < highX; x += step) places.push(...this.place(x, y + .5, step));
     return places;
   }
   // A cell in each sector that is looked at and has none on the grid, if a player can stand there.

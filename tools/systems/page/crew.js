@@ -29,6 +29,7 @@ class Crew {
     return new Promise((done, fail) => this.waiting.set(id, { done, fail, worker }));
   }
   answered(worker, { id, value, wrong, stack }) {
+    if (!this.waiting.has(id)) return; // its worker failed before
     const { done, fail } = this.waiting.get(id);
     this.waiting.delete(id); worker.load--;
     if (wrong === undefined) done(value);

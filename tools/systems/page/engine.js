@@ -2,7 +2,7 @@
 page never freezes. A message is { id, name, words }: the answer is { id, value } or { id, wrong }, a sentence. While a map is
 counted the worker asks the page what is found at places, { id, places }, which the page has its other workers find. */
 const { RAISED, STATUS_LIMIT, WORST_VIEWS, ZONE } = FACTS;
-const PATH = 'path.csv', TRIMMED = 'level.wad', OPENED = 'open.wad', WALLS = 'walls.wad';
+const PATH = 'path.csv', TRIMMED = 'level.wad', OPENED = 'open.wad', WALLS = 'walls.wad', MARKED = 'stand-ins.wad', CHANGED_WAD = 'changed.wad';
 const state = { program: null, base: new Map(), files: [], wads: [], shut: null, open: null, map: '', words: [], asked: new Map(), questions: 0 };
 
 const bytesOfText = words => new TextEncoder().encode(words);
@@ -33,20 +33,21 @@ function jobOutput(name, path, more, wads) {
 const textOf = bytes => new TextDecoder('latin1').decode(bytes);
 
 // A file as it was chosen: its name, its source, and its WAD or what is wrong with it.
-function opened(file, number, files) {
-  const isTwice = files.findIndex(other => other.name === file.name) < number;
-  const name = isTwice ? `${number}-${file.name}` : file.name, source = new FileSource(file);
+function opened(file) {
+  const { name } = file, source = new FileSource(file);
   try {
     return { name, source, wad: new Wad(name, source), wrong: '' };
   } catch (error) {
     const wrong = error instanceof Wrong ? error.message : `${name} cannot be read; choose it anew`;
-    return { name, source, wad: null, wrong: isPacked(source) ? `${wrong}: it is a packed file, which is to be unpacked first` : wrong };
+    return { name, source, wad: null, wrong: !source.hasChanged && isPacked(source) ? `${wrong}: it is a packed file, which is to be unpacked first` : wrong };
   }
 }
-// What a user sees of the maps of some files that may be none.
+// What a user sees of the maps of some files that may be none: of each its name, its file, and why it is no map that can be read, or ''.
 function mapsOf(files) {
-  const lumps = files.flatMap(file => file.wad.lumps), labels = mapLabels(lumps);
-  return inOrder(labels.keys()).map(name => ({ name, file: lumps[labels.get(name)].wad.name }));
+  const lumps = files.flatMap(file => file.wad.lumps), labels = mapLabels(lumps), last = new Map(lumps.map(lump => [lump.name, lump.wad]));
+  const broken = brokenLabels(lumps).map(name => ({ name, file: last.get(name).name, isGame: last.get(name).isGame, wrong: noMap(name, lumps, []) }));
+  const whole = [...labels].map(([name, place]) => ({ name, file: lumps[place].wad.name, isGame: lumps[place].wad.isGame, wrong: '' }));
+  return [...whole, ...broken].sort((one, other) => compareKeys(one.name, other.name));
 }
 function gameBehind(files) {
   return files.slice(1).filter(file => file.wad.isGame).map(file =>
@@ -68,14 +69,21 @@ const calls = {
   // Reads a map: what the page draws of it, and the row at which it begins. What keeps it from being drawn is a Wrong.
   level({ map, skill }) {
     Object.assign(state, { map, words: ['--skill', String(skill)], wads: state.files });
+    const whole = readLevel(state.files.map(file => file.wad), map), marked = markedOf(whole);
+    if (marked) state.wads = [...state.files, wadOfBytes(MARKED, marked.bytes)];
     jobOutput('audit', rowText([]), state.words);
-    readLevel(state.files.map(file => file.wad), map).checkWhole();
+    whole.checkWhole();
     const small = jobOutput('trim', rowText([]), state.words);
     this.take({ map, skill, small });
     const { level, plan } = state, lumps = state.files.flatMap(file => file.wad.lumps);
-    return { vertexes: level.vertexes, lines: level.lines.map((line, i) => [line.start, line.end, plan.isWall(i) ? 1 : 0]),
-      row: startOr(level, plan), palette: lumpBytes(lumps.findLast(lump => lump.name === 'PLAYPAL')).slice(0, 768), small,
-      sectors: level.sectors.length, wad: lumps[mapLabels(lumps).get(map)].wad.name };
+    return { ...outlineOf(level, plan), row: startOr(level, plan), palette: lumpBytes(lumps.findLast(lump => lump.name === 'PLAYPAL')).slice(0, 768), small,
+      remark: marked ? marked.told : '', sectors: level.sectors.length, wad: lumps[mapLabels(lumps).get(map)].wad.name };
+  },
+  // What the page draws of a map that has to be drawn without the program, and all that looks like a mistake in it, with its places.
+  lint({ map }) {
+    const wads = state.files.map(file => file.wad), level = readLevel(wads, map).checkWhole(), plan = new Plan(level);
+    const found = findingsOf(level, wads, framesOf(state.base.get('things.csv').bytes));
+    return { findings: found.map(one => ({ ...one, places: placesOf(one, level) })), ...outlineOf(level, plan) };
   },
   // Takes a level as `trim` wrote it: each run over it reads only what its frames need.
   take({ map, skill, small }) {
@@ -114,8 +122,38 @@ const calls = {
     }
     return state.seen.pixel(x, y);
   },
+  // The bytes of a WAD of the map with its doors open, which the page saves.
+  openWad() { return withCeilings(state.level, state.plan.doors()); },
+  // Why a view has its counts: the tables of why-limit, and of three of them the rows and hues of all pixels.
+  why({ row, spans, isOpen }) {
+    const runs = runsOf(isOpen), more = [...wordsOf(runs, 'roomy'), '--spans', spans], listed = of => textOf(jobOutput('list', rowText([row]), wordsOf(of, 'enough'), of.wads));
+    const list = listed(runs), over = / over (\w+) (\d+)/.exec(list);
+    if (over) throw new Wrong(`this view has more than ${over[2] - 1} ${over[1]}, the most that doomview counts`);
+    const reasons = new Reasons(runs.level, state.names, jobOutput('trace', rowText([row]), more, runs.wads), list, listed(runs.walls));
+    const tables = Object.fromEntries(['planes', 'splits', 'fragments', 'sprites', 'solids'].map(name => [name, reasons[name]()]));
+    return { tables, pixels: Object.fromEntries(Object.keys(KINDS_OF_TABLES).map(name => [name, reasons.pixels(name)])) };
+  },
+  // What a view would count after changes: rows of the last table.
+  savings({ row, isOpen }) {
+    const runs = runsOf(isOpen), list = textOf(jobOutput('list', rowText([row]), wordsOf(runs, 'enough'), runs.wads));
+    const reasons = new Reasons(runs.level, state.names, null, list, ''), now = numbersOfList(list);
+    return savings(runs.level, reasons.planesOfSectors(), now, bytes => {
+      const wads = [...runs.wads, wadOfBytes(CHANGED_WAD, bytes)], done = job('list', rowText([row]), wordsOf(runs, 'enough'), wads);
+      return done.status ? null : numbersOfList(textOf(done.output));
+    });
+  },
+  // A place near another from which that is seen.
+  beside({ x, y }) {
+    const far = [64, 32, 16, 8], turns = Array.from({ length: 8 }, (_, i) => i * Math.PI / 4);
+    for (const away of far)
+      for (const turn of turns) {
+        const at = [x + away * Math.cos(turn), y + away * Math.sin(turn)];
+        if (!state.ground.isVoid(at[0], Math.floor(at[1]) + .5)) return { x: at[0], y: at[1], angle: (turn * 180 / Math.PI + 180) % 360 };
+      }
+    return null;
+  },
   // Counts the whole map, with its doors shut and open; asks the page to have its places looked at.
-  async grid({ everywhere, step, directions, wad }) {
+  async grid({ everywhere, step, directions, wad, starts }) {
     const { level, plan } = state, doors = plan.doors(), reach = reachOf(plan), options = { everywhere, step, directions };
     if (!reach.sectors.size && !everywhere) throw level.error('has no start of a player; it can be counted from all places');
     const plans = [['shut', plan]];
@@ -127,7 +165,7 @@ const calls = {
     }
     const states = await Promise.all(plans.map(async ([label, of]) => {
       const look = places => ask('look', { ...places, isOpen: label === 'open' });
-      return { label, grid: await new Grid(new Ground(of), look, reach, options).counted() };
+      return { label, grid: await new Grid(new Ground(of), look, reach, { ...options, start: starts?.[label] }).counted() };
     }));
     if (!states.some(one => one.grid.cells.length)) throw level.error('has no place with room for a player');
     return { numbers: { ...numbersOf(plan, states, directions), wad }, states: states.map(stateOf) };
@@ -135,6 +173,18 @@ const calls = {
   // The frames of a path beside those of a port, as the page of `compare` has them.
   compare(words) { return comparison(words); },
 };
+// The planes and fragments of the one view of a list; none of one over a raised limit.
+function numbersOfList(list) {
+  const [, fragments, planes] = / fragments \d+ of (\d+) planes (\d+)/.exec(list) || [];
+  return planes === undefined ? null : { planes: Number(planes), fragments: Number(fragments) };
+}
+// What stands in for the art that a level lacks; null where it lacks none, or the lists are damaged, which the program says.
+function markedOf(level) {
+  try { return standIns(level, state.files.map(file => file.wad)); } catch { return null; }
+}
+const outlineOf = (level, plan) => ({ vertexes: level.vertexes, lines: level.lines.map((line, i) => [line.start, line.end, plan.isWall(i) ? 1 : 0]) });
+// Of each type of things in the thing table its sprite and frame.
+const framesOf = bytes => new Map(textOf(bytes).trim().split('\n').slice(1).map(row => row.split(',')).map(([type, sprite, frame]) => [Number(type), sprite + frame]));
 // The zones that suffice for some WADs, as the job `audit` says: the smaller one begins a run sooner.
 function zonesOf(wads) {
   const [, enough, roomy] = /enough (\d+) roomy (\d+)/.exec(textOf(jobOutput('audit', rowText([]), [...state.words, ...RAISED], wads)));

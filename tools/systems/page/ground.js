@@ -4,11 +4,6 @@ const { HEIGHT, RADIUS, STEP_UP, STARTS, BLOCKS, SKY, LINTEL, SQUARE, BOSS_TAGS,
 const SECTOR_SIZE = 26, CEILING_PLACE = 2; // of a record of SECTORS
 const squareOf = v => Math.floor(v / SQUARE);
 
-// A list by a key, which is empty at first.
-class Lists extends Map {
-  at(key) { if (!this.has(key)) this.set(key, []); return this.get(key); }
-}
-
 // A level with what its lines say: the sectors beside each, or null.
 class Plan {
   constructor(level) {

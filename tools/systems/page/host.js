@@ -14,7 +14,8 @@ class MemorySource {
   constructor(bytes) { this.bytes = bytes; this.size = bytes.length; }
   read(at, count) { return this.bytes.subarray(at, at + count); }
 }
-// A file of the user, read piece by piece in a worker, so that one that is larger than memory can be read.
+// A file of the user, read piece by piece in a worker, so that one that is larger than memory can be read. One that has changed on disk since
+// it was chosen is named, and not read: what it has is of another state than what was read before.
 class FileSource {
   static PIECE = 1 << 20;
   constructor(file) { this.file = file; this.size = file.size; this.pieces = new Map(); }
@@ -22,16 +23,20 @@ class FileSource {
     if (!this.pieces.has(number)) {
       if (this.pieces.size >= 64) this.pieces.delete(this.pieces.keys().next().value);
       const from = number * FileSource.PIECE, part = this.file.slice(from, from + FileSource.PIECE);
-      this.pieces.set(number, new Uint8Array(new FileReaderSync().readAsArrayBuffer(part)));
+      this.pieces.set(number, this.bytesOf(part));
     }
     return this.pieces.get(number);
   }
+  bytesOf(part) {
+    try { return new Uint8Array(new FileReaderSync().readAsArrayBuffer(part)); } catch { return this.changed(); }
+  }
+  changed() { this.hasChanged = true; throw new Wrong(`${this.file.name} has changed on disk, or cannot be read; choose it again, or drop it`); }
   read(at, count) {
     const found = new Uint8Array(Math.max(0, Math.min(count, this.size - at)));
     for (let done = 0; done < found.length;) {
       const place = at + done, piece = this.piece(Math.floor(place / FileSource.PIECE));
       const from = place % FileSource.PIECE, part = piece.subarray(from, from + found.length - done);
-      if (!part.length) throw new Error('the file has become shorter');
+      if (!part.length) this.changed();
       found.set(part, done); done += part.length;
     }
     return found;

@@ -176,6 +176,8 @@ function sentencesOn(scene, line) {
   const numbers = rest.trim().split(' ').filter(word => /^\d+$/.test(word)).map(Number);
   if (what === 'refused') return refused(scene, numbers[0], numbers.slice(1));
   if (what === 'limit') return [`this view needs more than ${numbers[1] - 1} ${rest.trim().split(' ')[2]}, the limit of the original.`];
+  const changed = scene.files.filter(({ source }) => source.hasChanged).map(file => file.name);
+  if (what === 'read fault' && changed.length) return changed.map(name => `${name} has changed on disk, or cannot be read; choose it again, or drop it.`);
   return [{ 'read fault': 'a file could not be read to its end; choose it anew.', 'out of memory': 'memory ran out: close other pages.',
     'zone full': 'the zone is too small for this map.' }[what] || line || 'the program ended without a word.'];
 }

@@ -1,5 +1,5 @@
 /* What the page and its workers share. FACTS are those of the tools in Python, put in where the page is made. */
-const { UNIT, TURN, EYE_HEIGHT, COUNTS, LIMITS, WIDTH, FRAME_HEIGHT } = FACTS;
+const { WORDS, UNIT, TURN, EYE_HEIGHT, COUNTS, LIMITS, WIDTH, FRAME_HEIGHT } = FACTS;
 class Wrong extends Error {} // a sentence for the user
 const isOver = (name, count) => count > LIMITS[name];
 const COMMAS = new Intl.NumberFormat('en'), withCommas = number => COMMAS.format(number);
@@ -9,3 +9,7 @@ there FOUND: a count and its direction for each of COUNTS, and such directions f
 const PLACE = 7, LISTED = 6, FOUND = 2 * COUNTS.length + 1, LIKELY = 2 * COUNTS.length;
 // Of a place by its number its pairs of a count and a direction.
 const pairsOf = (found, number) => COUNTS.map((_, i) => [found[FOUND * number + 2 * i], found[FOUND * number + 2 * i + 1]]);
+// A list by a key, which is empty at first.
+class Lists extends Map {
+  at(key) { if (!this.has(key)) this.set(key, []); return this.get(key); }
+}

@@ -1,6 +1,6 @@
 /* WADs and the levels in them, by the rules of docs/FORMATS.md, as tools/doomview_tools/wads.py and levels.py have them: a
 test compares what both say. Nothing here is proved. */
-const { MAP_LUMPS, BEHIND_MAP, BUILT_LUMPS, EXTENDED, LEAF, NO_SIDE, PLAYER_1 } = FACTS;
+const { MAP_LUMPS, MAP_TABLES, BEHIND_MAP, BUILT_LUMPS, EXTENDED, LEAF, NO_SIDE, PLAYER_1 } = FACTS;
 const HEADER = 12, ENTRY = 16;
 
 const text = bytes => String.fromCharCode(...bytes);
@@ -66,7 +66,7 @@ class Level {
     this.things = records('THINGS').map(([x, y, angle, type, options]) => ({ x, y, angle, type, options }));
     this.lines = records('LINEDEFS').map(([start, end, flags, special, tag, front, back]) =>
       ({ start, end, flags, special, tag, sides: [side(front), side(back)] }));
-    this.sides = records('SIDEDEFS').map(([, , upper, lower, middle, sector]) => ({ upper, lower, middle, sector }));
+    this.sides = records('SIDEDEFS').map(([, yOffset, upper, lower, middle, sector]) => ({ yOffset, upper, lower, middle, sector }));
     this.vertexes = records('VERTEXES');
     this.segs = records('SEGS').map(([, , , line, side]) => ({ line, side }));
     this.leaves = records('SSECTORS').map(([count, first]) => ({ count, first }));
@@ -102,6 +102,7 @@ class Level {
     const reached = [...found].filter(child => child & LEAF).length;
     if (reached < this.leaves.length || !reached)
       throw this.damage(`is damaged: its nodes lead to ${reached} of its ${this.leaves.length} leaves (SSECTORS); build them anew`);
+    return this;
   }
   root() { return this.nodes.length ? this.nodes.length - 1 : LEAF; }
   // The number of the sector at a point in map units, by the nodes (R_PointInSubsector).
@@ -142,6 +143,13 @@ function isBehind([nodeX, nodeY, lineX, lineY], x, y) {
   return lineY * (x - nodeX) <= lineX * (y - nodeY);
 }
 
+// The names of labels that look like those of maps and are of none: the last of a name, with a map's name, or with lumps of a map behind it.
+function brokenLabels(lumps) {
+  const labels = mapLabels(lumps), own = new Set([...MAP_LUMPS, ...MAP_TABLES]), heads = new Set([...MAP_LUMPS, 'TEXTMAP']);
+  const last = new Map(lumps.map((lump, i) => [lump.name, i])), isNamed = name => /^(MAP\d\d|E\dM\d)$/.test(name);
+  const isLabel = (name, place) => isNamed(name) || heads.has(lumps[place + 1]?.name) && !name.startsWith('GL_') && !lumps[place].size;
+  return inOrder([...last].filter(([name, place]) => !labels.has(name) && !own.has(name) && isLabel(name, place)).map(([name]) => name));
+}
 // Why there is no map of a name in some lumps.
 function noMap(name, lumps, wads) {
   const label = lumps.findLastIndex(lump => lump.name === name);
@@ -164,6 +172,7 @@ function whyNoMap(behind) {
 function readLevel(wads, name) {
   const lumps = wads.flatMap(wad => wad.lumps), label = mapLabels(lumps).get(name);
   if (label === undefined) throw new Wrong(noMap(name, lumps, wads));
-  const here = lumps.slice(label + 1, label + 1 + MAP_LUMPS.length);
+  const behind = label + 1 + MAP_LUMPS.length, tables = lumps.slice(behind, behind + MAP_TABLES.length).filter(({ name: table }, i) => table === MAP_TABLES[i]);
+  const here = [...lumps.slice(label + 1, behind), ...tables];
   return new Level(name, lumps[label].wad, Object.fromEntries(here.map(lump => [lump.name, lumpBytes(lump)])));
 }

@@ -3,15 +3,21 @@ views are drawn the newest place waits; those between are left out, so that walk
 const DEEP = 2; // views that are drawn at a time, each by workers of its own
 const WALK = 360, TURNS = 150, RISE = 200; // map units and degrees a second
 const TAP = .05; // seconds that a key counts as at least
+const keyOf = name => name.length === 1 ? name.toLowerCase() : name; // a letter in either case is one key
 const MOVES = { ArrowUp: ['ahead', 1], w: ['ahead', 1], ArrowDown: ['ahead', -1], s: ['ahead', -1], ArrowLeft: ['turn', 1],
   ArrowRight: ['turn', -1], a: ['aside', -1], d: ['aside', 1], PageUp: ['rise', 1], PageDown: ['rise', -1] };
 
 class Walker {
-  // `draw` gives in time the view of a place ({ row, frame, counts } or null); `shown` takes each view that is drawn.
-  constructor(draw, shown, wrong) {
-    Object.assign(this, { draw, shown, wrong, held: new Map(), last: 0 });
+  // `draw` gives in time the view of a place ({ row, frame, counts } or null); `shown` takes each view that is drawn; `outside` a place
+  // from which nothing is seen.
+  constructor(draw, shown, wrong, outside = () => {}) {
+    Object.assign(this, { draw, shown, wrong, outside, held: new Map(), last: 0 });
+    this.asked = this.seen = this.running = this.era = 0; this.leave();
+  }
+  // Forgets where the eye is, as of a map that is no longer shown: what is still drawn of that is not shown.
+  leave() {
     Object.assign(this, { place: null, view: null, ahead: null, wanted: null }); // of the view that is shown; newest, waiting
-    this.asked = this.seen = this.running = 0;
+    this.era++; this.held.clear();
   }
   get isBusy() { return this.running > 0; }
   // Goes to a row of a path; its place is followed from there on the floor.
@@ -23,12 +29,12 @@ class Walker {
   again() { if (this.place) this.want({ ...this.place }); }
   want(place) { this.wanted = this.ahead = place; if (this.running < DEEP) this.next(); }
   async next() {
-    const place = this.wanted, angle = Math.round(place.angle / 360 * TURN) % TURN, number = ++this.asked;
+    const place = this.wanted, angle = Math.round(place.angle / 360 * TURN) % TURN, number = ++this.asked, { era } = this;
     this.wanted = null; this.running++;
     try {
       const view = await this.draw({ ...place, angle });
-      if (!view) this.stay(place); else if (number > this.seen) this.see(view, place, number);
-    } catch (error) { this.ahead = this.place; this.wrong(error.message); }
+      if (era !== this.era) this.seen = number; else if (!view) this.stay(place); else if (number > this.seen) this.see(view, place, number);
+    } catch (error) { if (era === this.era) { this.ahead = this.place; this.wrong(error.message); } }
     this.running--;
     if (this.wanted) this.next();
   }
@@ -42,14 +48,16 @@ class Walker {
     const isTurned = this.place && place.angle !== this.place.angle;
     this.ahead = this.place; this.wanted = null;
     if (isTurned) this.wanted = this.ahead = { ...this.place, angle: place.angle };
+    this.outside(place);
   }
   /* Keys that are held, and buttons. */
-  press(key) {
+  press(name) {
+    const key = keyOf(name);
     if (!MOVES[key] || !this.place) return false;
     if (!this.held.has(key)) { this.held.set(key, true); this.step(TAP, [MOVES[key]]); if (this.held.size === 1) { this.last = performance.now(); requestAnimationFrame(now => this.tick(now)); } }
     return true;
   }
-  release(key) { this.held.delete(key); }
+  release(name) { this.held.delete(keyOf(name)); }
   tick(now) {
     if (!this.held.size) return;
     const seconds = Math.min((now - this.last) / 1000, .25);
@@ -74,22 +82,4 @@ function drawFrame(canvas, frame, palette) {
   const colours = Array.from({ length: 256 }, (_, i) => (palette[3 * i] << 24 | palette[3 * i + 1] << 16 | palette[3 * i + 2] << 8 | 255) >>> 0);
   for (let i = 0; i < frame.length; i++) pixels.setUint32(4 * i, colours[frame[i]]);
   pen.putImageData(image, 0, 0);
-}
-// The counts of a view beside their limits, in a table with a row for each.
-class CountTable {
-  constructor(table) {
-    this.rows = COUNTS.map(name => {
-      const row = add(table, 'tr', ''), cells = [add(row, 'th', name), add(row, 'td', ''), add(row, 'td', '')];
-      const bar = add(add(row, 'td', ''), 'meter', '', { max: LIMITS[name], high: LIMITS[name] * .9 });
-      bar.ariaLabel = `${name} of their limit`;
-      return { name, cells, bar };
-    });
-  }
-  show(counts) {
-    for (const { name, cells, bar } of this.rows) {
-      const count = counts[name], over = count !== undefined && isOver(name, count);
-      cells[1].textContent = count === undefined ? '-' : withCommas(count); cells[1].className = over ? 'over' : '';
-      cells[2].textContent = `of ${withCommas(LIMITS[name])}${over ? ', OVER' : ''}`; bar.value = count || 0;
-    }
-  }
 }

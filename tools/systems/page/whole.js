@@ -34,21 +34,31 @@ class WholeMap {
     this.rank = (this.rank + by + worst.length) % worst.length;
     this.go(worst[this.rank][1], this.isOpen);
   }
-  // The worst views of all counts as rows, each once.
-  rows() {
-    const rows = this.states().flatMap(state => COUNTS.flatMap(name => state.worst[name].map(([, row]) => row)));
+  // The worst views of all counts as rows, each once, with the doors shut or open.
+  rows(label) {
+    const rows = this.states().filter(state => state.label === label).flatMap(state => COUNTS.flatMap(name => state.worst[name].map(([, row]) => row)));
     return [...new Map(rows.map(row => [row.join(), row])).values()];
+  }
+  // Whether the map is over a limit with its doors open alone, of one count or of any.
+  isOverOpenAlone(name) {
+    const [shut, open] = ['shut', 'open'].map(doors => this.found?.numbers.states.find(state => state.doors === doors)), isOverIn = state => state && state.counts[name].over > 0;
+    return name ? Boolean(isOverIn(open) && !isOverIn(shut)) : COUNTS.some(one => this.isOverOpenAlone(one)) && !COUNTS.some(one => shut?.counts[one].over);
+  }
+  // The counts that are over with the doors open alone, in words.
+  openAloneTold() {
+    const names = COUNTS.filter(name => this.isOverOpenAlone(name)).map(name => WORDS[name].word);
+    return names.length ? ` Over a limit with the doors open alone: ${names.join(', ')}.` : '';
   }
   summary(wads) {
     const { numbers } = this.found, state = numbers.states[this.state];
-    return `${wads.join(' + ')}: ${withCommas(state.views)} views from ${withCommas(state.places)} places, ${state.step} units apart; a player ` +
+    return `${wads.join(' + ')}, doors ${state.doors}: ${withCommas(state.views)} views from ${withCommas(state.places)} places, ${state.step} units apart; a player ` +
       `reaches ${withCommas(numbers.reached)} of ${withCommas(numbers.sectors)} sectors. Views over a limit: ` +
-      COUNTS.map(name => `${name} ${withCommas(state.counts[name].over)}`).join(', ') + numbers.no_way.map(({ sector, things }) =>
-      `. No way was found to sector ${sector}, which is looked at all the same: ${things.map(({ what, thing }) => `${what} (thing ${thing})`).join(', ')}`).join('');
+      `${COUNTS.map(name => `${WORDS[name].word} ${withCommas(state.counts[name].over)}`).join(', ')}.${this.openAloneTold()}` + numbers.no_way.map(({ sector, things }) =>
+      ` No way was found to sector ${sector}, which is looked at all the same: ${things.map(({ what, thing }) => `${what} (thing ${thing})`).join(', ')}.`).join('');
   }
   told(place) {
     const degrees = i => Math.round(place.most[i][1] / this.now().directions * 3600) / 10;
     return `x ${place.x} y ${place.y} floor ${place.floor} sector ${place.sector}${place.isReached ? '' : ' (no way leads here)'}: ` +
-      COUNTS.map((name, i) => `${name} ${withCommas(place.most[i][0])}${isOver(name, place.most[i][0]) ? ' OVER' : ''} at ${degrees(i)}°`).join(', ');
+      COUNTS.map((name, i) => `${WORDS[name].word} ${withCommas(place.most[i][0])}${isOver(name, place.most[i][0]) ? ' OVER' : ''} at ${degrees(i)}°`).join(', ');
   }
 }
