@@ -13,7 +13,7 @@ import threading
 import typing
 
 from . import paths, program
-from .files import write_whole
+from .files import check_target, write_whole
 from .frames import SIZE
 from .jobs import LIMIT
 from .trouble import Trouble
@@ -118,6 +118,8 @@ class Drawing:
             known = self.known(path)
             if not known.trouble:
                 return known
+            check_target(path.target(FRAMES))
+            check_target(path.part(FRAMES))
             over = self.begin(path, inputs)
             trouble = self.go_on(path, rows, over)
             if trouble:

@@ -16,9 +16,9 @@ READ = 'read; name another one to write'
 # what its file is for.
 PLAIN = {'MAP': 'MAP01', 'NAME': 'MAP01', 'COUNT': '3', 'VIEWS': '3', 'VIEW': '0', 'X': '0', 'Y': '0', 'PLACE': '0,0,0', 'N': '1',
          'X,Y,DEGREES': '0,0,0', 'KINDS': 'sprite', 'NAMES': 'MAP01', 'S': 'full', 'F': 'index', 'LIST': '1/one', 'WORDS..': 'audit',
-         'make|draw': 'make', '': None}
+         'make|draw|explain': 'make', '': None}
 # The modules in which a file is opened to be written by another way than WholeFile: those that nothing else names.
-OF_THEIR_OWN = {'build', 'commands/why_limit', 'counting', 'files', 'original', 'program'}
+OF_THEIR_OWN = {'build', 'commands/why_limit', 'counting', 'files', 'original', 'path_drawing', 'program', 'setup_trials'}
 FILE_TYPES = files.Source, files.Output, files.Folder
 
 
