@@ -16,7 +16,7 @@ from .frames import SIZE
 from .trouble import FOUND, Trouble
 from .wrong_views import MISSING, NO_VERDICT, OTHER_SPANS, WRONG, Test, View
 
-MOST_PARTS = 12  # maps and sets that are compared with their lists
+MOST_PARTS = 6  # maps and sets that are compared with their lists
 SHOWN = 12  # names in a line
 VIEW = re.compile(r'^view (\d+)\b', re.M)
 TOLD = re.compile(r'("told":")view (\d+)\b')

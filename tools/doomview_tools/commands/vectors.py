@@ -44,11 +44,11 @@ $ doomview vectors explain work
 def add_words(parser: argparse.ArgumentParser) -> None:
     parser.add_argument('job', metavar='make|draw|explain', choices=[MAKE, DRAW, EXPLAIN],
                         help='makes vectors, draws their frames, or explains wrong views')
-    parser.add_argument('files', metavar='FILE', type=cli.Wad, nargs='+', help='WAD, found as ports find it, for draw the vectors '
-                        'before it; for explain the folder WORK of vectors/ci')
+    parser.add_argument('files', metavar='FILE', type=cli.Wad, nargs='+', help='WAD, found as ports find it, for draw '
+                        'the vectors before it; for explain the folder WORK of vectors/ci')
     parser.add_argument('-o', dest='output', metavar='FOLDER', type=Folder, help='where the files go; it is made')
-    parser.add_argument('--most', metavar='N', type=cli.number(1, 2000), default=100,
-                        help='of explain: how many wrong views of a WAD are compared; else 100')
+    parser.add_argument('--most', metavar='N', type=cli.number(1, 2000), default=60,
+                        help='of explain: how many wrong views of a WAD are compared; else 60')
     parser.add_argument('--maps', metavar='NAMES', type=names, help='these maps alone, with commas between them')
     parser.add_argument('--sets', metavar='NAMES', type=names, default=vectors.SETS, help='these sets alone, of '
                         + ','.join(vectors.SETS))
