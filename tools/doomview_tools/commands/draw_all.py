@@ -1,10 +1,12 @@
 """doomview draw-all: a picture of every map of a WAD, or the frames of many camera paths."""
 import argparse
 import concurrent.futures
+import contextlib
 import hashlib
 import os
 import shlex
 import shutil
+import signal
 import subprocess
 import sys
 import typing
@@ -116,6 +118,9 @@ def paths_here(drawing: path_drawing.Drawing, found: typing.List[path_drawing.Pa
                 done = sum(path_drawing.views_drawn(path) for path in found) if progress.is_shown else 0
                 progress.add(done - progress.done)
         except BaseException:
+            with contextlib.suppress(KeyboardInterrupt, SystemExit):  # a second signal, as timeout sends, does not hinder it
+                for number in system.signals('SIGINT', 'SIGTERM', 'SIGHUP'):
+                    signal.signal(number, signal.SIG_IGN)
             drawing.end()
             pool.shutdown(cancel_futures=True)
             raise
