@@ -1,10 +1,12 @@
 """doomview draw-all: a picture of every map of a WAD, or the frames of many camera paths."""
 import argparse
 import concurrent.futures
+import contextlib
 import hashlib
 import os
 import shlex
 import shutil
+import signal
 import subprocess
 import sys
 import typing
@@ -15,7 +17,7 @@ from ..progress import Progress
 from ..trouble import FOUND, Trouble
 
 WITHOUT = ('--tables', '--things', '--path', '--format')
-TABLE = 'drawn.csv'
+TABLE, SHOWN = 'drawn.csv', 6  # the table, and the views over a limit that a line has
 POLL = 0.5  # seconds between two looks at how far it is
 PAGE = cli.Page(
     'draw-all', 'draws every map of a WAD, or many camera paths, several at a time', '''
@@ -116,6 +118,9 @@ def paths_here(drawing: path_drawing.Drawing, found: typing.List[path_drawing.Pa
                 done = sum(path_drawing.views_drawn(path) for path in found) if progress.is_shown else 0
                 progress.add(done - progress.done)
         except BaseException:
+            with contextlib.suppress(KeyboardInterrupt, SystemExit):  # a second signal, as timeout sends, does not hinder it
+                for number in system.signals('SIGINT', 'SIGTERM', 'SIGHUP'):
+                    signal.signal(number, signal.SIG_IGN)
             drawing.end()
             pool.shutdown(cancel_futures=True)
             raise
@@ -135,7 +140,9 @@ def draw_paths(options: argparse.Namespace, files: typing.List[str], maps: typin
         if one.trouble:
             print(f'doomview draw-all: {one.path.name}: {one.trouble}', file=sys.stderr)
         elif one.over:
-            print(f'{one.path.name} views {one.views} over {len(one.over)}: {path_drawing.over_in_words(one.over)}')
+            more = ' ..' if len(one.over) > SHOWN else ''
+            print(f'{one.path.name} views {one.views} over {len(one.over)}: '
+                  f'{path_drawing.over_in_words(one.over[:SHOWN])}{more}')
     if not options.no_table:
         write_whole(os.path.join(options.folder, TABLE), path_drawing.table(drawn).encode())
     good, over = [one for one in drawn if not one.trouble], sum(len(one.over) for one in drawn)
