@@ -239,10 +239,10 @@ class Counts(Shown):
 class Wrong(Shown):
     def sentences(self, files, name):
         """What the page says of a map of files: lines."""
-        self.value('list.files = []; list.changed([]); walker.view = null; 0')
+        self.value("list.files = []; list.changed([]).then(() => { walker.view = null; say(''); })")
         self.browser.choose('#files', files)
         self.browser.wait(f"!find('chosen').disabled || {SAID}")
-        return self.value(f"crew.first('level', {{ map: {name!r}, skill: 3 }}).then(() => '', error => error.message)").split('\n')
+        return self.value(f"crew.first('level', {{ map: {name!r}, skill: 3 }}).then(({{ remark }}) => remark, error => error.message)").split('\n')
 
     def test_refusals(self):
         """Of each golden case that is refused for its WADs the page says what explain says, but for lists of all its kind."""
@@ -272,8 +272,7 @@ class Wrong(Shown):
                 self.assertIn(os.path.basename(words.wads[0]), self.value(SAID), case.words)
                 continue
             here = self.sentences(words.wads, words.map_name)
-            if code in DRAWN and not here[0]:
-                self.browser.wait(f"{SAID}.includes('Squares are drawn in their place')")
+            if code in DRAWN and 'Squares are drawn in their place' in here[0]:
                 continue
             self.assertEqual(here[0], sentences[0], case.words)
 

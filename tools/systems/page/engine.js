@@ -69,10 +69,10 @@ const calls = {
   // Reads a map: what the page draws of it, and the row at which it begins. What keeps it from being drawn is a Wrong.
   level({ map, skill }) {
     Object.assign(state, { map, words: ['--skill', String(skill)], wads: state.files });
-    const whole = readLevel(state.files.map(file => file.wad), map), marked = markedOf(whole);
+    const of = state.files.map(file => file.wad), marked = markedOf(of, map);
     if (marked) state.wads = [...state.files, wadOfBytes(MARKED, marked.bytes)];
     jobOutput('audit', rowText([]), state.words);
-    whole.checkWhole();
+    readLevel(of, map).checkWhole();
     const small = jobOutput('trim', rowText([]), state.words);
     this.take({ map, skill, small });
     const { level, plan } = state, lumps = state.files.flatMap(file => file.wad.lumps);
@@ -178,9 +178,9 @@ function numbersOfList(list) {
   const [, fragments, planes] = / fragments \d+ of (\d+) planes (\d+)/.exec(list) || [];
   return planes === undefined ? null : { planes: Number(planes), fragments: Number(fragments) };
 }
-// What stands in for the art that a level lacks; null where it lacks none, or the lists are damaged, which the program says.
-function markedOf(level) {
-  try { return standIns(level, state.files.map(file => file.wad)); } catch { return null; }
+// What stands in for the art that a map lacks; null where it lacks none, or map or lists cannot be read, which the program says.
+function markedOf(wads, map) {
+  try { return standIns(readLevel(wads, map), wads); } catch { return null; }
 }
 const outlineOf = (level, plan) => ({ vertexes: level.vertexes, lines: level.lines.map((line, i) => [line.start, line.end, plan.isWall(i) ? 1 : 0]) });
 // Of each type of things in the thing table its sprite and frame.

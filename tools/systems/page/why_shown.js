@@ -47,7 +47,7 @@ class Why {
       const row = add(table, 'tr', '', { className: 'link', tabIndex: 0 });
       row.setAttribute('aria-selected', i === this.row);
       row.onclick = () => this.choose(i, cells); row.onkeydown = event => { if (event.key === 'Enter') this.choose(i, cells); };
-      cells.forEach((cell, k) => add(row, 'td', cell, { className: isNumber(cell) ? 'number' : '' }));
+      cells.forEach((cell, k) => add(row, 'td', heads[k] === 'sectors' ? cell.replace(/^sectors? /, '') : cell, { className: isNumber(cell) ? 'number' : '' }));
       if (isColoured && this.shown !== 'fragments') { const swatch = document.createElement('span'); swatch.className = 'swatch'; swatch.style.background = this.rowColour(i); row.firstChild.prepend(swatch); }
     });
     if (rows.length > SHOWN_ROWS) add(add(table, 'tr', ''), 'td', `and ${rows.length - SHOWN_ROWS} more`, { colSpan: heads.length });
