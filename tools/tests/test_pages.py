@@ -221,7 +221,7 @@ class Pages(unittest.TestCase):
 class Tables(Tools):
     """page_tables: the tables that are made of the data of jobs, options, statuses and tools."""
 
-    PAGES = ['README.md', 'docs/JOBS.md', 'docs/TOOLS.md', 'docs/doomview.1']
+    PAGES = ['README.md', 'docs/JOBS.md', 'docs/TOOLS.md', 'docs/PORT.md', 'docs/doomview.1']
 
     def runs(self, top, *words):
         status, output, error = self.run_command(os.path.join(top, 'tools', 'page_tables'), *words)
@@ -245,6 +245,7 @@ class Tables(Tools):
                    ('docs/JOBS.md', '| Option of the command | Jobs | |', 'whole or not at all'),
                    ('docs/JOBS.md', '| Status | Line on standard error | When |', 'memory ran out'),
                    ('docs/TOOLS.md', '| Tool | What it does | Needs |', 'ffmpeg (package'),
+                   ('docs/PORT.md', '| Name | What differs | In the original | What to look at |', 'the last pixel of columns'),
                    ('docs/doomview.1', '.SH JOBS', 'Draws a frame for each row'),
                    ('docs/doomview.1', '.SH TOOLS', 'what would save most'),
                    ('docs/doomview.1', '.BR \\-\\-zone=65536 .', '128 to 1024'),
