@@ -212,15 +212,17 @@ def directions_of_columns(sample: Sample, item: Item) -> typing.Tuple[int, int, 
 
 
 def is_end_of_columns(samples: typing.List[Sample]) -> bool:
-    """Whether what differs is the last pixel of columns alone: the one above is the same, the one below another item's."""
-    ends = whole = 0
+    """Whether what differs is the last pixel of columns alone, the one below another item's: mostly columns of several pixels,
+    of which those above are the same."""
+    ends = longer = whole = 0
     for sample in samples:
         for place in differences.places_of(sample.marks):
-            key, below = lights.key_at(sample.records, place), place + WIDTH
+            key, above, below = lights.key_at(sample.records, place), place - WIDTH, place + WIDTH
+            is_first = above < 0 or not sample.marks[above]
             whole += 1
-            ends += (place < WIDTH or not sample.marks[place - WIDTH]) and (
-                below >= SIZE or lights.key_at(sample.records, below) != key)
-    return whole > 0 and ends >= MOST * whole
+            ends += is_first and (below >= SIZE or lights.key_at(sample.records, below) != key)
+            longer += is_first and above >= 0 and lights.key_at(sample.records, above) == key
+    return whole > 0 and ends >= MOST * whole and longer * 2 > whole
 
 
 def is_unpainted(samples: typing.List[Sample]) -> bool:

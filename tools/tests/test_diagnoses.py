@@ -182,9 +182,9 @@ class WholeFrames(Tools):
         self.assertEqual(lines[:2] + lines[-1:], [
             'theirs lacks number 2 between 0.bin and 3.bin: its files are views 0, 1, 2 .. in their order, so 3.bin is view 2',
             '1 of 3 views differ', 'ours.bin has 4 views, theirs 3'])
-        os.rename(self.at('theirs/1.bin'), self.at('theirs/6.bin'))
-        self.assertIn(b'lacks number 1 to 2, 4 to 5 between', self.run_tool('compare', 'ours.bin', 'theirs')[1])
-        os.rename(self.at('theirs/3.bin'), self.at('theirs/12.bin'))
+        os.rename(self.at('theirs/1.bin'), self.at('theirs/7.bin'))
+        self.assertIn(b'lacks number 1 to 2, 4 to 6 between', self.run_tool('compare', 'ours.bin', 'theirs')[1])
+        os.rename(self.at('theirs/3.bin'), self.at('theirs/14.bin'))
         self.assertNotIn(b'lacks', self.run_tool('compare', 'ours.bin', 'theirs')[1])
 
     def test_few_pixels(self):

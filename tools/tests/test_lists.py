@@ -150,7 +150,7 @@ class Lists(Tools):
         places = ['line 1, front side, middle texture WALL, sector 0, light 160',
                   'line 0, front side, lower texture LOW, sector 0, light 160', floors,
                   'thing 1 of type 2028 at 64,-32, lump COLUA0']
-        self.assertEqual(output.decode().splitlines()[2:-1], [
+        self.assertEqual(output.decode().splitlines()[3:-1], [
             '  wall     P2             3  fragment 0 1  patch of LOW, WALL',
             f'                          2  {places[0]} (fragment 1)',
             f'                          1  {places[1]} (fragment 0)',
@@ -159,6 +159,8 @@ class Lists(Tools):
         view, = pages_shown.data_of(self.at('page.html'))['views']
         self.assertEqual([it[4] for it in view['painters'][:6]], [*places[:2], floors, floors, places[3], ''])
         plain = [line for line in output.decode().splitlines() if not line.startswith(' ' * 12)]
+        self.assertIn('; by light: 160 100 %', plain[1])  # of the list alone
+        plain[1] = plain[1].partition(';')[0]
         self.assertEqual(self.run_tool(*words)[1].decode().splitlines(), plain)
         if pages_shown.BROWSER:
             found = pages_shown.shown(self.at('page.html'), '''
