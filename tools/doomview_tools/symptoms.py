@@ -73,8 +73,9 @@ TABLE = [
             'thing->angle + 9 * (ANG45 / 2)) >> 29; frame and state of the thing'),
     Symptom('psprites', 'weapons alone: moved, or under another colormap', 'R_DrawPSprite, R_DrawPlayerSprites', 'BASEYCENTER, '
             'sx and sy of the layer, pspritescale; spritelights[MAXLIGHTSCALE - 1] of the sector in which the player is'),
-    Symptom('holes', 'the port has 0 there, as where nothing is painted', 'R_MakeSpans, R_StoreWallRange, R_ClipSolidWallSegment',
-            'markfloor and markceiling, the columns of a plane, solidsegs, worldtop under sky'),
+    Symptom('holes', 'the port has 0 there, as where nothing is painted', 'R_MakeSpans, R_StoreWallRange, R_ClipSolidWallSegment, '
+            'R_GenerateComposite', 'markfloor and markceiling, the columns of a plane, solidsegs, worldtop under sky; where walls '
+            'alone differ, the places of the patches of a texture'),
 ]
 BY_NAME = {symptom.name: symptom for symptom in TABLE}
 
