@@ -26,7 +26,6 @@ LOST = 'err:virtual:'  # in what Wine says where it cannot map what Windows has 
 NO_BROWSER = 'what a shell does with streams, readers that go, words that are no text, files without content'
 NO_WINDOWS = 'words that are no UTF-8, which no word of Windows can be'
 DIFFERENT, UNTRIED = 1, 2  # statuses: it writes or says something else; it could not be tried to its end
-NO_STACK = 'Maximum call stack size exceeded'  # what a browser says that ends a run for want of stack
 NO_FILES = '/dev/'  # in the words of a case: a file that a page has not
 # In the page: gives each of some workers the program and the files of the cases, and has them run cases side by side.
 READ = '''(async () => { const files = [...document.getElementById('golden').files], given = [];
@@ -230,6 +229,4 @@ def report(where: str, found: Result, reason: str, began: float) -> int:
         say(f'{where}: {line}')
     say(f'{where}: {found.tried - len(found.wrong)} of {found.tried} golden cases are well, in {time.monotonic() - began:.0f} seconds'
         + (f'; {found.every - found.tried} are left out: {reason}' if found.every > found.tried else ''))
-    if all(NO_STACK in line for line in found.wrong):
-        return UNTRIED if found.wrong else 0
-    return DIFFERENT
+    return DIFFERENT if found.wrong else 0
