@@ -36,7 +36,7 @@ unfoldable pub use Rattle.picture_rules.specs.sprite.Sprites.{picture_column, sp
 pub use Rattle.picture_rules.specs.sprite.Weapons.{WeaponLayer}
 unfoldable pub use Rattle.picture_rules.specs.sprite.Weapons.{weapon_column, weapon_dots, weapon_first, weapon_iscale, weapon_last, weapon_left, weapon_map, weapon_masked, weapon_mid, weapon_right, weapon_scale, weapon_within}
 unfoldable pub use Rattle.picture_rules.specs.wall.Clips.{above_clip, below_clip, bottom_first, bottom_rows, ceiling_after, ceiling_past_none, ceiling_past_top, ceiling_rows, clip_after, floor_after, floor_past_bottom, floor_past_none, floor_rows, middle_rows, narrowed_clip, open_clip, row_from, row_to, shut_clip, top_last, top_rows, wall_first, wall_last}
-unfoldable pub use Rattle.picture_rules.specs.wall.Columns.{column_tangent, quarter_of, texture_column, texture_offset}
+unfoldable pub use Rattle.picture_rules.specs.wall.Columns.{column_tangent, line_column, quarter_of, texture_column, texture_offset}
 unfoldable pub use Rattle.picture_rules.specs.wall.Edges.{centre_edge, edge_at, edge_first, edge_step, edges_at, edges_first, edges_plus, edges_step}
 unfoldable pub use Rattle.picture_rules.specs.wall.Heights.{both_sky, world_bottom, world_high, world_low, world_top}
 unfoldable pub use Rattle.picture_rules.specs.wall.Marks.{ceiling_mark, ceiling_shows, ceilings_differ, floor_mark, floor_shows, floors_differ}

@@ -1,6 +1,6 @@
 -- Lists that come number by number: those of the first n numbers, one after the other.
-use Rattle.word_rules.proofs.Common.{[], ap, append-nil, append_assoc, arith, cases_lt, Contains, Contains-append_cases, Contains-append_left, Contains-append_right, inl, inr, List, refl, subst, suc, sym, zero, ℕ, ◌++◌, ◌+◌, ◌-◌, ◌<◌, ◌∙◌, ◌∷◌, ◌≡◌, ◌≤◌}
-use Rattle.word_rules.specs.Listed.{joined_lists, listed}
+use Rattle.word_rules.proofs.Common.{[], ap, append-nil, append_assoc, arith, cases_lt, Contains, Contains-append_cases, Contains-append_left, Contains-append_right, inl, inr, List, map, map-range_with_len_more, range_with_len, refl, subst, suc, sym, zero, ℕ, ◌++◌, ◌+◌, ◌-◌, ◌<◌, ◌∙◌, ◌∷◌, ◌≡◌, ◌≤◌}
+use Rattle.word_rules.specs.Listed.{joined_lists, listed, listed_from}
 use Rattle.word_rules.proofs.ListedLemmas.{joined_lists-append, joined_lists-one, listed-more}
 
 -- the lists of the first n numbers
@@ -105,3 +105,30 @@ unfolding joined_lists
 joined-joined g f [] = refl
 joined-joined {Z = Z} g f (x ∷ xs) =
     joined_lists-append g (f x) (joined_lists f xs) ∙ ap (λ (zs : List Z). joined_lists g (f x) ++ zs) (joined-joined g f xs)
+
+-- the lists of the numbers from a first one on
+from_first : {X : Type 0} (f : ℕ → List X) (first n : ℕ) → first_lists (λ k. f (first + k)) n ≡ joined_lists f (map (λ (x : ℕ). x) (range_with_len first n))
+unfolding joined_lists listed
+from_first f first zero = refl
+from_first {X} f first (suc n) =
+    let next : n + 1 ≡ suc n = omega arith in
+    ap (first_lists (λ k. f (first + k))) (sym next) ∙ sym (first-more (λ k. f (first + k)) n)
+    ∙ ap (λ (xs : List X). xs ++ f (first + n)) (from_first f first n)
+    ∙ ap (λ (xs : List X). joined_lists f (map (λ (x : ℕ). x) (range_with_len first n)) ++ xs) (sym (joined_lists-one f (first + n)))
+    ∙ sym (joined_lists-append f (map (λ (x : ℕ). x) (range_with_len first n)) ((first + n) ∷ []))
+    ∙ ap (joined_lists f) (sym (map-range_with_len_more (λ (x : ℕ). x) first n (first + n) refl))
+    ∙ ap (λ (k : ℕ). joined_lists f (map (λ (x : ℕ). x) (range_with_len first k))) next
+
+pub first-from : {X : Type 0} (f : ℕ → List X) (first last : ℕ) → first_lists (λ k. f (first + k)) (last + 1 - first) ≡ joined_lists f (listed_from (λ x. x) first last)
+unfolding listed_from
+first-from f first last = from_first f first (last + 1 - first)
+
+-- an item of joined lists is one of the list of some item
+pub joined-cases : {X Y : Type 0} (f : X → List Y) (xs : List X) (y : Y) → Contains (joined_lists f xs) y → (x : X) × (Contains xs x × Contains (f x) y)
+unfolding joined_lists
+joined-cases f [] y h = absurd (omega (arith, h.1))
+joined-cases f (x ∷ xs) y h =
+    elim (Contains-append_cases (f x) (joined_lists f xs) y h) [
+      | inl here ↦ (x, ((0, omega arith, refl), here))
+      | inr later ↦ (let found = joined-cases f xs y later in (found.0, (Contains-append_right (x ∷ []) xs found.0 found.1.0, found.1.1)))
+    ]

@@ -2,10 +2,7 @@
 use Rattle.picture_rules.proofs.Common.{[], AllByRecursion, ap, Bool, cond, false, inl, inr, int_lt, List, not, refl, subst, sym, true, ℕ, ◌&&◌, ◌++◌, ◌∙◌, ◌∷◌, ◌≡◌}
 use Rattle.wall_columns.specs.Rules.{Art, ColumnClip, Dot, Edges, FragmentNumbers, RowRange, ViewShape, WallStrip, has_texture, joined_lists}
 use Rattle.wall_columns.specs.declared.clips.ColumnPlan.{ColumnPlan}
-use Rattle.wall_columns.specs.declared.paint.ColumnLook.{ColumnLook}
-use Rattle.wall_columns.specs.Painted.{look_dots, strips_dots}
 use Rattle.wall_columns.specs.Plans.{HasRowsOf, IsPlanTexture, IsStripTexture, bottom_strip, first_strip, has_second, middle_strip, no_rows, plan_of, rows_if, strips_by, top_strip}
-use Rattle.wall_columns.proofs.PaintedLemmas.{look-none}
 
 -- the plan of a fragment has rows of its parts alone
 if_none : (is_there : Bool) (rows : RowRange) → is_there ≡ false →
@@ -44,31 +41,19 @@ first-in P n plan all = go (has_texture n.middle_part) (has_texture n.top_part) 
   go false true = all.1.0
   go false false = all.1.1.0
 
--- so a texture of the first is one of the plan
-pub first-texture : (n : FragmentNumbers) (plan : ColumnPlan) (s : WallStrip) → s ≡ first_strip n plan →
-    (number : ℕ) → IsStripTexture s number → IsPlanTexture n plan number
-first-texture n plan s is number =
-    let StripTextureOfPlan : WallStrip → Type 0 = λ s. IsStripTexture s number → IsPlanTexture n plan number in
-    subst StripTextureOfPlan (sym is) (first-in StripTextureOfPlan n plan (λ h. inl h, (λ h. inr (inl h), (λ h. inr (inr h), tt))))
+module _ {X : Type 0} (f : WallStrip → List X) (none : (s : WallStrip) → int_lt s.rows.last s.rows.first ≡ true → f s ≡ []) where
+  -- a strip without rows in front of others, and the same strip in front of others that give the same
+  pub skip : (s : WallStrip) (ss : List WallStrip) → int_lt s.rows.last s.rows.first ≡ true → joined_lists f (s ∷ ss) ≡ joined_lists f ss
+  unfolding joined_lists
+  skip s ss no_rows = ap (λ (xs : List X). xs ++ joined_lists f ss) (none s no_rows)
 
-module _ (shape : ViewShape) (art : Art) (look : ColumnLook) where
-  -- a strip without rows in front of others, and the same strip in front of the same dots
-  skip : (s : WallStrip) (ss : List WallStrip) → int_lt s.rows.last s.rows.first ≡ true →
-      strips_dots shape art look (s ∷ ss) ≡ strips_dots shape art look ss
-  unfolding strips_dots joined_lists
-  skip s ss none = ap (λ (xs : List Dot). xs ++ strips_dots shape art look ss)
-      (sym (look-none shape art look s.part s.rows none))
+  behind : (s : WallStrip) (xs ys : List WallStrip) → joined_lists f xs ≡ joined_lists f ys → joined_lists f (s ∷ xs) ≡ joined_lists f (s ∷ ys)
+  unfolding joined_lists
+  behind s xs ys same = ap (λ (zs : List X). f s ++ zs) same
 
-  behind : (s : WallStrip) (xs ys : List WallStrip) →
-      strips_dots shape art look xs ≡ strips_dots shape art look ys →
-      strips_dots shape art look (s ∷ xs) ≡ strips_dots shape art look (s ∷ ys)
-  unfolding strips_dots joined_lists
-  behind s xs ys same = ap (λ (ds : List Dot). look_dots shape art look s ++ ds) same
-
-  -- the dots of a plan are those of its first strip, and of the second where it is painted
+  -- what a plan gives its first strip gives, and the second where it is painted
   strips_painted : (n : FragmentNumbers) (plan : ColumnPlan) → HasRowsOf n plan →
-      strips_dots shape art look (first_strip n plan ∷ cond (has_second n plan) (bottom_strip n plan ∷ []) [])
-      ≡ strips_dots shape art look (strips_by n plan)
+      joined_lists f (first_strip n plan ∷ cond (has_second n plan) (bottom_strip n plan ∷ []) []) ≡ joined_lists f (strips_by n plan)
   unfolding first_strip has_second
   strips_painted n plan rows =
       go (has_texture n.middle_part) (has_texture n.top_part) (int_lt plan.bottom.last plan.bottom.first) refl refl refl where
@@ -83,18 +68,17 @@ module _ (shape : ViewShape) (art : Art) (look : ColumnLook) where
 
         go : (is_middle is_top none : Bool) → has_texture n.middle_part ≡ is_middle → has_texture n.top_part ≡ is_top →
             int_lt plan.bottom.last plan.bottom.first ≡ none →
-            strips_dots shape art look (cond is_middle m (cond is_top t b) ∷ cond ((not is_middle && is_top) && not none) (b ∷ []) [])
-            ≡ strips_dots shape art look (m ∷ (t ∷ (b ∷ [])))
-        go true is_top none e f g = behind m [] (t ∷ (b ∷ [])) (sym (skip t (b ∷ []) (rows.beside_top e) ∙ skip b [] (rows.beside_bottom e)))
-        go false true true e f g = behind t [] (b ∷ []) (sym (skip b [] g)) ∙ sym (skip m (t ∷ (b ∷ [])) (rows.middle e))
-        go false true false e f g = sym (skip m (t ∷ (b ∷ [])) (rows.middle e))
-        go false false none e f g = sym (skip m (t ∷ (b ∷ [])) (rows.middle e) ∙ skip t (b ∷ []) (rows.top f))
+            joined_lists f (cond is_middle m (cond is_top t b) ∷ cond ((not is_middle && is_top) && not none) (b ∷ []) []) ≡ joined_lists f (m ∷ (t ∷ (b ∷ [])))
+        go true is_top none_below e same g = behind m [] (t ∷ (b ∷ [])) (sym (skip t (b ∷ []) (rows.beside_top e) ∙ skip b [] (rows.beside_bottom e)))
+        go false true true e same g = behind t [] (b ∷ []) (sym (skip b [] g)) ∙ sym (skip m (t ∷ (b ∷ [])) (rows.middle e))
+        go false true false e same g = sym (skip m (t ∷ (b ∷ [])) (rows.middle e))
+        go false false none_below e same g = sym (skip m (t ∷ (b ∷ [])) (rows.middle e) ∙ skip t (b ∷ []) (rows.top same))
 
   -- by the strip that is painted first, and whether there is a second
   pub first-painted : (n : FragmentNumbers) (plan : ColumnPlan) (s : WallStrip) (second : Bool) → s ≡ first_strip n plan →
       HasRowsOf n plan → has_second n plan ≡ second →
-      strips_dots shape art look (s ∷ cond second (bottom_strip n plan ∷ []) []) ≡ strips_dots shape art look (strips_by n plan)
+      joined_lists f (s ∷ cond second (bottom_strip n plan ∷ []) []) ≡ joined_lists f (strips_by n plan)
   first-painted n plan s second is rows on =
-      ap (λ (s : WallStrip). strips_dots shape art look (s ∷ cond second (bottom_strip n plan ∷ []) [])) is
-      ∙ ap (λ (b : Bool). strips_dots shape art look (first_strip n plan ∷ cond b (bottom_strip n plan ∷ []) [])) (sym on)
+      ap (λ (s : WallStrip). joined_lists f (s ∷ cond second (bottom_strip n plan ∷ []) [])) is
+      ∙ ap (λ (b : Bool). joined_lists f (first_strip n plan ∷ cond b (bottom_strip n plan ∷ []) [])) (sym on)
       ∙ strips_painted n plan rows

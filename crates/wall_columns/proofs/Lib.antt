@@ -1,10 +1,8 @@
-pub mod ToolLemmas
-pub mod PaintedLemmas
 pub mod FirstLemmas
-pub mod PlannedLemmas
 pub mod ClipLemmas
 pub mod PartLemmas
 pub mod PlanLemmas
+pub mod StripLemmas
 pub mod SavedLemmas
 pub mod SightLemmas
 pub mod NoteLemmas
@@ -12,5 +10,5 @@ pub mod LeafLemmas
 pub mod MarkLemmas
 pub mod BuiltLemmas
 pub mod OverLemmas
-pub mod DrawnLemmas
+pub mod RangeLemmas
 pub mod NotedLemmas

@@ -1,5 +1,4 @@
--- Laws of the plan of a column: its strips are rows of the view, of parts that are there, and have
--- the dots of the fragment's strips.
+-- Laws of the plan of a column and of a fragment's strips there: they are rows of the view, of parts that are there.
 use Rattle.picture_rules.proofs.Common.{[], All, All-cons, All-nil, ap, append-nil, arith, Bool, cond, false, inl, inr, ints, List, nat_tests, not, pos, refl, subst, sym, true, ℕ, ℤ, ◌++◌, ◌<ℤ◌, ◌==◌, ◌∙◌, ◌∷◌, ◌≡◌, ◌≢◌, ◌≤ℤ◌, ◌≤◌, AllByRecursion, All-contains, All-from_recursion, Contains, ◌⊎◌}
 use Rattle.wall_columns.specs.Rules.{Art, ColumnClip, Dot, Edges, FRAME_HEIGHT, FragmentNumbers, Part, RowRange, ViewValue, WallStrip, bottom_rows, ceiling_rows, column_dots, floor_rows, has_texture, joined_lists, middle_rows, rows_between, strip_dots, strip_of, top_rows, wall_strips, minus_one}
 use Rattle.picture_rules.proofs.Laws.{joined_lists-append}
@@ -37,76 +36,44 @@ plan_strips-in height n clip e s i w =
     (unless_in height (has_texture n.middle_part) (rows_if (has_texture n.top_part) (top_rows clip e)) (if_in height (has_texture n.top_part) (top_rows clip e) (top_rows-in height clip e s i w)))
     (unless_in height (has_texture n.middle_part) (rows_if (has_texture n.bottom_part) (bottom_rows n clip e)) (if_in height (has_texture n.bottom_part) (bottom_rows n clip e) (bottom_rows-in height n clip e s i w)))
 
--- a strip with rows is of a part that is there
-abbrev IsThere : Part → RowRange → Type 0
-IsThere part rows = rows.first ≤ℤ rows.last → part.number ≢ 0
-
 number_there : (part : Part) → has_texture part ≡ true → part.number ≢ 0
 unfolding has_texture
 number_there part h = λ e. let number_is_zero : not (part.number == 0) ≡ false = grind (arith, nat_tests) in cc
 
-there_if : (part : Part) (rows : RowRange) (b : Bool) → has_texture part ≡ b → IsThere part (rows_if b rows)
-there_if part rows true e = λ h. number_there part e
-there_if part rows false e = λ h. absurd (omega (arith, ints))
+module _ {X : Type 0} (f : WallStrip → List X) (none : (part : Part) → f (strip part no_rows) ≡ []) where
+  one_strip : (part : Part) (rows : RowRange) (b : Bool) → f (strip part (rows_if b rows)) ≡ joined_lists f (cond b (strip part rows ∷ []) [])
+  unfolding joined_lists
+  one_strip part rows true = sym (append-nil (f (strip part rows)))
+  one_strip part rows false = none part
 
-there_unless : (part : Part) (rows : RowRange) (b : Bool) → IsThere part rows → IsThere part (cond b no_rows rows)
-there_unless part rows true h = λ h. absurd (omega (arith, ints))
-there_unless part rows false h = h
+  three_lists : (a b c : WallStrip) → joined_lists f (a ∷ (b ∷ (c ∷ []))) ≡ f a ++ (f b ++ f c)
+  unfolding joined_lists
+  three_lists a b c = ap (λ (xs : List X). f a ++ (f b ++ xs)) (append-nil (f c))
 
-pub plan_strips-there : (P : ℕ → Type 0) (height : ℕ) (n : FragmentNumbers) (clip : ColumnClip) (e : Edges) →
-    ((number : ℕ) → number ≢ 0 → IsPartTexture n number → P number) →
-    All (λ (s : WallStrip). HasRows s → P s.part.number) (strips_by n (plan_of height n clip e))
-unfolding plan_of
-plan_strips-there P height n clip e h =
-    all_three (λ (s : WallStrip). HasRows s → P s.part.number)
-    (strip n.middle_part (rows_if (has_texture n.middle_part) (middle_rows clip e)))
-    (strip n.top_part (cond (has_texture n.middle_part) no_rows (rows_if (has_texture n.top_part) (top_rows clip e))))
-    (strip n.bottom_part (cond (has_texture n.middle_part) no_rows (rows_if (has_texture n.bottom_part) (bottom_rows n clip e))))
-    (λ r. h n.middle_part.number (there_if n.middle_part (middle_rows clip e) (has_texture n.middle_part) refl r) (inl refl))
-    (λ r. h n.top_part.number (there_unless n.top_part (rows_if (has_texture n.top_part) (top_rows clip e)) (has_texture n.middle_part) (there_if n.top_part (top_rows clip e) (has_texture n.top_part) refl) r) (inr (inl refl)))
-    (λ r. h n.bottom_part.number (there_unless n.bottom_part (rows_if (has_texture n.bottom_part) (bottom_rows n clip e)) (has_texture n.middle_part) (there_if n.bottom_part (bottom_rows n clip e) (has_texture n.bottom_part) refl) r) (inr (inr refl)))
+  by_middle : (m t b : Part) (ms ts bs : RowRange) (has_m has_t has_b : Bool) →
+      f (strip m (rows_if has_m ms)) ++ (f (strip t (cond has_m no_rows (rows_if has_t ts))) ++ f (strip b (cond has_m no_rows (rows_if has_b bs))))
+      ≡ joined_lists f (cond has_m (cond has_m (strip m ms ∷ []) []) (cond has_t (strip t ts ∷ []) [] ++ cond has_b (strip b bs ∷ []) []))
+  by_middle m t b ms ts bs true has_t has_b =
+      ap (λ (xs : List X). f (strip m ms) ++ (xs ++ f (strip b no_rows))) (none t)
+      ∙ ap (λ (xs : List X). f (strip m ms) ++ xs) (none b)
+      ∙ append-nil (f (strip m ms)) ∙ one_strip m ms true
+  by_middle m t b ms ts bs false has_t has_b =
+      ap (λ (xs : List X). xs ++ (f (strip t (rows_if has_t ts)) ++ f (strip b (rows_if has_b bs)))) (none m)
+      ∙ ap (λ (xs : List X). xs ++ f (strip b (rows_if has_b bs))) (one_strip t ts has_t)
+      ∙ ap (λ (xs : List X). joined_lists f (cond has_t (strip t ts ∷ []) []) ++ xs) (one_strip b bs has_b)
+      ∙ sym (joined_lists-append f (cond has_t (strip t ts ∷ []) []) (cond has_b (strip b bs ∷ []) []))
 
-none_dots : (v : ViewValue) (art : Art) (k x light : ℕ) (column scale : ℤ) (part : Part) →
-    strip_dots v art k x light column scale (record { part = part; rows = no_rows }) ≡ []
-unfolding strip_dots rows_between column_dots
-none_dots v art k x light column scale part = refl
-
-one_strip : (f : WallStrip → List Dot) (part : Part) (rows : RowRange) (b : Bool) → f (strip part no_rows) ≡ [] →
-    f (strip part (rows_if b rows)) ≡ joined_lists f (cond b (strip part rows ∷ []) [])
-unfolding joined_lists
-one_strip f part rows true e = sym (append-nil (f (strip part rows)))
-one_strip f part rows false e = e
-
-three_lists : (f : WallStrip → List Dot) (a b c : WallStrip) → joined_lists f (a ∷ (b ∷ (c ∷ []))) ≡ f a ++ (f b ++ f c)
-unfolding joined_lists
-three_lists f a b c = ap (λ (ds : List Dot). f a ++ (f b ++ ds)) (append-nil (f c))
-
-by_middle : (f : WallStrip → List Dot) (m t b : Part) (ms ts bs : RowRange) (has_m has_t has_b : Bool) → ((part : Part) → f (strip part no_rows) ≡ []) →
-    f (strip m (rows_if has_m ms)) ++ (f (strip t (cond has_m no_rows (rows_if has_t ts))) ++ f (strip b (cond has_m no_rows (rows_if has_b bs))))
-    ≡ joined_lists f (cond has_m (cond has_m (strip m ms ∷ []) []) (cond has_t (strip t ts ∷ []) [] ++ cond has_b (strip b bs ∷ []) []))
-by_middle f m t b ms ts bs true has_t has_b none =
-    ap (λ (ds : List Dot). f (strip m ms) ++ (ds ++ f (strip b no_rows))) (none t)
-    ∙ ap (λ (ds : List Dot). f (strip m ms) ++ ds) (none b)
-    ∙ append-nil (f (strip m ms)) ∙ one_strip f m ms true (none m)
-by_middle f m t b ms ts bs false has_t has_b none =
-    ap (λ (ds : List Dot). ds ++ (f (strip t (rows_if has_t ts)) ++ f (strip b (rows_if has_b bs)))) (none m)
-    ∙ ap (λ (ds : List Dot). ds ++ f (strip b (rows_if has_b bs))) (one_strip f t ts has_t (none t))
-    ∙ ap (λ (ds : List Dot). joined_lists f (cond has_t (strip t ts ∷ []) []) ++ ds) (one_strip f b bs has_b (none b))
-    ∙ sym (joined_lists-append f (cond has_t (strip t ts ∷ []) []) (cond has_b (strip b bs ∷ []) []))
-
--- the dots of a plan's strips are those of the fragment's
-pub plan_strips-dots : (v : ViewValue) (art : Art) (k x light : ℕ) (column scale : ℤ) (height : ℕ) (n : FragmentNumbers) (clip : ColumnClip) (e : Edges) →
-    joined_lists (strip_dots v art k x light column scale) (strips_by n (plan_of height n clip e))
-    ≡ joined_lists (strip_dots v art k x light column scale) (wall_strips n clip e)
-unfolding plan_of wall_strips strip_of
-plan_strips-dots v art k x light column scale height n clip e =
-    let dots_of_strip : WallStrip → List Dot = strip_dots v art k x light column scale in
-    three_lists dots_of_strip
-    (strip n.middle_part (rows_if (has_texture n.middle_part) (middle_rows clip e)))
-    (strip n.top_part (cond (has_texture n.middle_part) no_rows (rows_if (has_texture n.top_part) (top_rows clip e))))
-    (strip n.bottom_part (cond (has_texture n.middle_part) no_rows (rows_if (has_texture n.bottom_part) (bottom_rows n clip e))))
-    ∙ by_middle dots_of_strip n.middle_part n.top_part n.bottom_part (middle_rows clip e) (top_rows clip e) (bottom_rows n clip e)
-    (has_texture n.middle_part) (has_texture n.top_part) (has_texture n.bottom_part) (none_dots v art k x light column scale)
+  -- what a plan's strips give, where one without rows gives nothing, the fragment's strips give
+  pub plan_strips-same : (height : ℕ) (n : FragmentNumbers) (clip : ColumnClip) (e : Edges) →
+      joined_lists f (strips_by n (plan_of height n clip e)) ≡ joined_lists f (wall_strips n clip e)
+  unfolding plan_of wall_strips strip_of
+  plan_strips-same height n clip e =
+      three_lists
+      (strip n.middle_part (rows_if (has_texture n.middle_part) (middle_rows clip e)))
+      (strip n.top_part (cond (has_texture n.middle_part) no_rows (rows_if (has_texture n.top_part) (top_rows clip e))))
+      (strip n.bottom_part (cond (has_texture n.middle_part) no_rows (rows_if (has_texture n.bottom_part) (bottom_rows n clip e))))
+      ∙ by_middle n.middle_part n.top_part n.bottom_part (middle_rows clip e) (top_rows clip e) (bottom_rows n clip e)
+      (has_texture n.middle_part) (has_texture n.top_part) (has_texture n.bottom_part)
 
 -- rows of a view are rows of a frame
 wider : (height : ℕ) (rows : RowRange) → height ≤ FRAME_HEIGHT → AreRowsIn height rows → AreRowsIn FRAME_HEIGHT rows
@@ -123,30 +90,7 @@ plan-in {own} {height} n clip e p same s i w =
     subst (IsPlanIn height) (sym (p ∙ ap (λ (h : ℕ). plan_of h n clip e) same))
     (wider height (ceiling_rows clip e) s (ceiling_rows-in height clip e s i w), (wider height (floor_rows clip e) s (floor_rows-in height clip e s i w), clip_after-in height n clip e s i w))
 
--- a strip of a plan that has rows is one of the fragment's
-shown_by : (m t b : Part) (ms ts bs : RowRange) (has_m has_t has_b : Bool) (number : ℕ) →
-    IsStripTexture (strip m (rows_if has_m ms)) number ⊎ (IsStripTexture (strip t (cond has_m no_rows (rows_if has_t ts))) number
-    ⊎ IsStripTexture (strip b (cond has_m no_rows (rows_if has_b bs))) number) →
-    (s : WallStrip) × (Contains (cond has_m (cond has_m (strip m ms ∷ []) []) (cond has_t (strip t ts ∷ []) [] ++ cond has_b (strip b bs ∷ []) [])) s × IsStripTexture s number)
-shown_by m t b ms ts bs true has_t has_b number (inl k) = (strip m ms, ((0, omega arith, refl), k))
-shown_by m t b ms ts bs true has_t has_b number (inr (inl k)) = absurd (let rows : pos 0 ≤ℤ minus_one = k.0 in omega (arith, ints))
-shown_by m t b ms ts bs true has_t has_b number (inr (inr k)) = absurd (let rows : pos 0 ≤ℤ minus_one = k.0 in omega (arith, ints))
-shown_by m t b ms ts bs false has_t has_b number (inl k) = absurd (let rows : pos 0 ≤ℤ minus_one = k.0 in omega (arith, ints))
-shown_by m t b ms ts bs false true true number (inr (inl k)) = (strip t ts, ((0, omega arith, refl), k))
-shown_by m t b ms ts bs false true false number (inr (inl k)) = (strip t ts, ((0, omega arith, refl), k))
-shown_by m t b ms ts bs false false has_b number (inr (inl k)) = absurd (let rows : pos 0 ≤ℤ minus_one = k.0 in omega (arith, ints))
-shown_by m t b ms ts bs false true true number (inr (inr k)) = (strip b bs, ((1, omega arith, refl), k))
-shown_by m t b ms ts bs false false true number (inr (inr k)) = (strip b bs, ((0, omega arith, refl), k))
-shown_by m t b ms ts bs false has_t false number (inr (inr k)) = absurd (let rows : pos 0 ≤ℤ minus_one = k.0 in omega (arith, ints))
-
-pub plan-shown : (height : ℕ) (n : FragmentNumbers) (clip : ColumnClip) (e : Edges) (number : ℕ) → IsPlanTexture n (plan_of height n clip e) number →
-    (s : WallStrip) × (Contains (wall_strips n clip e) s × IsStripTexture s number)
-unfolding plan_of wall_strips strip_of
-plan-shown height n clip e number h =
-    shown_by n.middle_part n.top_part n.bottom_part (middle_rows clip e) (top_rows clip e) (bottom_rows n clip e)
-    (has_texture n.middle_part) (has_texture n.top_part) (has_texture n.bottom_part) number h
-
--- and its texture is of a part that is there
+-- the texture of a strip of a fragment is of a part that is there
 abbrev IsOfPart : FragmentNumbers → WallStrip → Type 0
 IsOfPart n s = (s.part.number ≢ 0) × IsPartTexture n s.part.number
 
@@ -165,3 +109,21 @@ wall_strips-there n clip e s among =
     All-contains (IsOfPart n) (wall_strips n clip e) s
     (All-from_recursion (IsOfPart n) (wall_strips n clip e)
     (of_parts n (middle_rows clip e) (top_rows clip e) (bottom_rows n clip e) (has_texture n.middle_part) (has_texture n.top_part) (has_texture n.bottom_part) refl refl refl)) among
+
+-- and its rows, where it has some, are in the view
+in_parts : (height : ℕ) (m t b : Part) (ms ts bs : RowRange) (has_m has_t has_b : Bool) → AreRowsIn height ms → AreRowsIn height ts → AreRowsIn height bs →
+    AllByRecursion (IsInRows height) (cond has_m (cond has_m (strip m ms ∷ []) []) (cond has_t (strip t ts ∷ []) [] ++ cond has_b (strip b bs ∷ []) []))
+in_parts height m t b ms ts bs true has_t has_b middle top bottom = (middle, tt)
+in_parts height m t b ms ts bs false true true middle top bottom = (top, (bottom, tt))
+in_parts height m t b ms ts bs false true false middle top bottom = (top, tt)
+in_parts height m t b ms ts bs false false true middle top bottom = (bottom, tt)
+in_parts height m t b ms ts bs false false false middle top bottom = tt
+
+pub wall_strips-in : (height : ℕ) (n : FragmentNumbers) (clip : ColumnClip) (e : Edges) (s : WallStrip) → height ≤ FRAME_HEIGHT → IsClipIn height clip → AreEdgeWords e →
+    Contains (wall_strips n clip e) s → IsInRows height s
+unfolding wall_strips strip_of
+wall_strips-in height n clip e s fits inside words among =
+    All-contains (IsInRows height) (wall_strips n clip e) s
+    (All-from_recursion (IsInRows height) (wall_strips n clip e)
+    (in_parts height n.middle_part n.top_part n.bottom_part (middle_rows clip e) (top_rows clip e) (bottom_rows n clip e) (has_texture n.middle_part) (has_texture n.top_part) (has_texture n.bottom_part)
+    (middle_rows-in height clip e fits inside words) (top_rows-in height clip e fits inside words) (bottom_rows-in height n clip e fits inside words))) among

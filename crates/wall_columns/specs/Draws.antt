@@ -1,5 +1,5 @@
 -- Which textures a fragment is painted with, and what is left as it was where it is not drawn.
-use Rattle.std.specs.Prelude.{◌≡◌, ◌≢◌, ◌≤◌, ◌⊎◌, ℕ, ℤ, Contains}
+use Rattle.std.specs.Prelude.{◌≡◌, ◌≢◌, ◌≤◌, ◌⊎◌, ℕ, ℤ, Contains, Result, Ok}
 use Rattle.wall_columns.specs.Rules.{ShelfView, ViewValue, Wall, WallFacts, WallStrip, texture_column, wall_edges, wall_of, wall_strips}
 use Rattle.texture_build.specs.Zones.{Heap}
 use Rattle.pixel_strips.specs.Canvases.{CanvasView}
@@ -35,3 +35,11 @@ pub record IsUntouched (planes next_planes : PlanesView) (cache next_cache : Hea
   pub same_cache : next_cache ≡ cache
   pub same_shelf : next_shelf ≡ shelf
   pub same_canvas : next_canvas ≡ canvas
+
+-- a fragment that has no room for a note: nothing is done
+pub record IsPast {B E : Type 0} (state next_state : WallsView) (planes next_planes : PlanesView) (brush next_brush : B)
+    (result : Result (Unit {0}) E) : Type 0 where
+  pub done : result ≡ Ok tt
+  pub same_state : next_state ≡ state
+  pub same_planes : next_planes ≡ planes
+  pub same_brush : next_brush ≡ brush

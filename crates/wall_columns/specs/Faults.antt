@@ -1,9 +1,14 @@
--- The faults of drawing as those of any layer, which refuses what passes a limit.
-use Rattle.std.specs.Prelude.{Option, Some, None, Result, Ok, Err, ⊤}
+-- The faults of drawing as those of any layer, which refuses what passes a limit, and what ends a view that a brush paints.
+use Rattle.std.specs.Prelude.{◌≡◌, ℕ, List, Option, Some, None, Result, Ok, Err, ⊤}
 use Rattle.wall_columns.specs.Rules.{Fault, OverLimit, openings_count, planes_count}
 use Rattle.art_rules.specs.Fault.TheVariants as fault
 use Rattle.wall_columns.specs.declared.fault.DrawFault.{DrawFault}
 use Rattle.wall_columns.specs.declared.fault.DrawFault.TheVariants.{Planes, Openings, ZoneFull, ReadFault}
+use Rattle.wall_columns.specs.declared.fault.WallStop.{WallStop}
+use Rattle.wall_columns.specs.declared.fault.WallStop.TheVariants.{Brush, Over}
+use Rattle.picture_rules.specs.declared.LimitKind.{LimitKind}
+use Rattle.picture_rules.specs.declared.LimitKind.TheVariants as limit
+use Rattle.receiver_rules.specs.Receivers.{Receives}
 use Rattle.texture_build.specs.CacheFault.{CacheFault}
 use Rattle.texture_build.specs.CacheFault.TheVariants as cache
 
@@ -11,6 +16,19 @@ use Rattle.texture_build.specs.CacheFault.TheVariants as cache
 abbrev pub from_cache_fault : CacheFault → DrawFault
 from_cache_fault (cache.ZoneFull wanted widest) = ZoneFull wanted widest
 from_cache_fault cache.ReadFault = ReadFault
+
+-- the fault of a limit
+abbrev pub fault_of_kind : LimitKind → ℕ → DrawFault
+fault_of_kind limit.Planes count = Planes count
+fault_of_kind limit.Openings count = Openings count
+
+abbrev pub from_over : OverLimit → DrawFault
+from_over over = fault_of_kind over.kind over.count
+
+-- and of what ends a view that is painted on a canvas
+abbrev pub from_stop : WallStop CacheFault → DrawFault
+from_stop (Over over) = from_over over
+from_stop (Brush fault) = from_cache_fault fault
 
 abbrev pub draw_fault : DrawFault → Fault OverLimit
 draw_fault (Planes count) = fault.Refused (planes_count count)
@@ -29,6 +47,23 @@ limit_of_fault ReadFault = None
 abbrev pub limit_of_result : {A : Type 0} → Result A DrawFault → Option OverLimit
 limit_of_result (Ok value) = None
 limit_of_result (Err fault) = limit_of_fault fault
+
+-- the limit that an answer of a count tells, and that of a view that a brush paints
+abbrev pub over_of : {A : Type 0} → Result A OverLimit → Option OverLimit
+over_of (Ok value) = None
+over_of (Err over) = Some over
+
+abbrev pub over_of_stop : {A E : Type 0} → Result A (WallStop E) → Option OverLimit
+over_of_stop (Ok value) = None
+over_of_stop (Err (Over over)) = Some over
+over_of_stop (Err (Brush stop)) = None
+
+-- A receiver was given these items, unless a limit was passed: then it is as it was.
+abbrev pub ReceivesUnlessOver : {S I A E : Type 0} → (S → I → Type 0) → (S → A → List I → Type 0) → (S → A → List I → E → Type 0) →
+    S → S → List I → Result (Unit {0}) (WallStop E) → Type 0
+ReceivesUnlessOver takes stands stopped old new items (Ok value) = Receives takes stands stopped old new items (Ok tt)
+ReceivesUnlessOver takes stands stopped old new items (Err (Over over)) = new ≡ old
+ReceivesUnlessOver takes stands stopped old new items (Err (Brush stop)) = Receives takes stands stopped old new items (Err stop)
 
 -- planes alone are told
 abbrev pub IsPlanesFault : DrawFault → Type 0

@@ -10,7 +10,6 @@ pub mod Columns
 pub mod Leaves
 pub mod Places
 pub mod States
-pub mod Painted
-pub mod Drawn
+pub mod Strips
 pub mod Tools
 pub mod Rules

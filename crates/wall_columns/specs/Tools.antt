@@ -30,13 +30,3 @@ AreSameWallTools old new = (new.view ≡ old.view) × ((new.textures ≡ old.tex
     × ((new.cache.ghost_name ≡ old.cache.ghost_name) × ((new.shelf.ghost_name ≡ old.shelf.ghost_name)
     × ((new.planes.ghost_name ≡ old.planes.ghost_name)
     × (new.canvas.ghost_name ≡ old.canvas.ghost_name)))))))
-
--- a column of a view that lies on a canvas
-abbrev pub IsColumnOn : CanvasView → ViewValue → ℕ → Type 0
-IsColumnOn canvas v x = (x < v.shape.width) × StandsInFrame v.shape canvas
-
--- the strips of a plan that have rows are in the view, and their textures may be drawn
-abbrev pub CanPaintPlan : {S C : Type 0} → WallTools S C → FragmentNumbers → ColumnPlan → Type 0
-CanPaintPlan t n plan = All (IsInRows t.view.now.shape.height) (strips_by n plan)
-    × All (λ s. HasRows s → CanDraw t.dir.now.lumps t.textures.now t.cache.now s.part.number)
-    (strips_by n plan)

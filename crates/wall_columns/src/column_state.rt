@@ -4,7 +4,8 @@
 ghost use Rattle.std.specs.Prelude.{◌≡◌, ◌≢◌, ◌<◌, ◌≤◌, ◌+◌, ◌-◌, ℕ, [], None, Some, IfOk, IfErr, OnOk, length};
 ghost use Rattle.wall_columns.specs.Rules.{FRAME_HEIGHT, FRAME_WIDTH, MOST_OPENINGS, PlanesNow, ceiling_found, ceiling_rows, floor_found, floor_rows, marked_rows, open_clip, set_run};
 ghost use Rattle.visplanes.specs.Planes.{with_planes};
-ghost use Rattle.wall_columns.specs.Faults.{limit_of_result, IsPlanesFault, IsLimitFault};
+ghost use Rattle.picture_rules.specs.declared.LimitKind.TheVariants.{Planes};
+ghost use Rattle.wall_columns.specs.Faults.{over_of};
 ghost use Rattle.wall_columns.specs.Windows.{window_at, with_window, IsClipIn};
 ghost use Rattle.wall_columns.specs.Plans.{plan_of, AreEdgeWords};
 ghost use Rattle.wall_columns.specs.Places.{places_of};
@@ -13,12 +14,11 @@ ghost use Rattle.wall_columns.specs.Leaves.{now_of, both_checks, openings_over, 
 
 use crate::clips::{ColumnPlan, column_plan};
 use crate::columns::{MarkedPlanes, mark_rows, marked_plane};
-use crate::fault::DrawFault;
 use crate::leaf::{LeafPlanes, check_plane, find_plane};
 use crate::notes::{SavePlaces, save_places};
 use crate::openings::Openings;
 use crate::windows::Windows;
-use picture_rules::{Edges, FragmentNumbers};
+use picture_rules::{Edges, FragmentNumbers, OverLimit};
 use std::alloc::{AllocError, Global};
 use view_frame::View;
 use visplanes::{PlaneNo, Planes};
@@ -69,14 +69,14 @@ impl ColumnState {
 
     /// Finds the planes of a leaf, first its floor's.
     ///
-    /// Errors: `Planes` exactly where one of the two is a new plane past the room, with the count.
-    pub fn enter(&mut self, planes: &mut Planes, leaf: LeafPlanes) -> Result<(), DrawFault>
+    /// Errors: the count of planes, exactly where one of the two is a new plane past the room.
+    pub fn enter(&mut self, planes: &mut Planes, leaf: LeafPlanes) -> Result<(), OverLimit>
         ensures ok { (s : PlanesNow) → s ≡ now_of self.old planes.old →
             OnOk result (now_of self.new planes.new
             ≡ ceiling_found leaf.ceiling (floor_found leaf.floor s)) }
         ensures limit { (s : PlanesNow) → s ≡ now_of self.old planes.old →
-            limit_of_result result ≡ leaf_over planes.old.room s leaf.floor leaf.ceiling }
-        ensures faults { IfErr result IsPlanesFault }
+            over_of result ≡ leaf_over planes.old.room s leaf.floor leaf.ceiling }
+        ensures kind { IfErr result (λ over. over.kind ≡ Planes) }
         ensures leaf { OnOk result (AreLeafPlanes planes.new.planes self.new) }
         ensures windows { self.new.windows ≡ self.old.windows }
         ensures openings { self.new.openings ≡ self.old.openings }
@@ -89,19 +89,18 @@ impl ColumnState {
 
     /// Takes the openings of a fragment's lists.
     ///
-    /// Errors: `Openings` exactly where they pass the room, with their sum.
+    /// Errors: the count of openings, exactly where they pass the room.
     pub fn take_openings(
         &mut self,
         numbers: &FragmentNumbers,
         first: u16,
         last: u16,
-    ) -> Result<SavePlaces, DrawFault>
+    ) -> Result<SavePlaces, OverLimit>
         requires { first ≤ last }
         ensures taken { IfOk result
             (HasTaken numbers.now (last + 1 - first) self.old.openings self.new.openings) }
-        ensures limit { limit_of_result result ≡ openings_over self.old.openings.room
+        ensures limit { over_of result ≡ openings_over self.old.openings.room
             (places_of numbers.now (length self.old.openings.saved) (last + 1 - first)).end None }
-        ensures faults { IfErr result IsLimitFault }
         ensures room { self.new.openings.room ≡ self.old.openings.room }
         ensures windows { self.new.windows ≡ self.old.windows }
         ensures floor { self.new.floor ≡ self.old.floor }
@@ -115,22 +114,21 @@ impl ColumnState {
 
     /// Checks the planes of the leaf that the fragment marks, first the ceiling's.
     ///
-    /// Errors: `Planes` exactly where a check makes a new plane past the room, with the count.
+    /// Errors: the count of planes, exactly where a check makes a new plane past the room.
     pub fn check_planes(
         &mut self,
         planes: &mut Planes,
         numbers: &FragmentNumbers,
         first: u16,
         last: u16,
-    ) -> Result<(), DrawFault>
+    ) -> Result<(), OverLimit>
         requires ordered { first ≤ last }
         requires within { last < FRAME_WIDTH }
         requires leaf { AreLeafPlanes planes.old.planes self.old }
         ensures ok { (s : PlanesNow) → s ≡ now_of self.old planes.old →
             OnOk result (now_of self.new planes.new ≡ both_checks numbers.now first last s) }
         ensures limit { (s : PlanesNow) → s ≡ now_of self.old planes.old →
-            limit_of_result result ≡ checks_over planes.old.room numbers.now first last s }
-        ensures faults { IfErr result IsPlanesFault }
+            over_of result ≡ checks_over planes.old.room numbers.now first last s }
         ensures leaf { OnOk result (AreLeafPlanes planes.new.planes self.new) }
         ensures windows { self.new.windows ≡ self.old.windows }
         ensures openings { self.new.openings ≡ self.old.openings }
@@ -143,14 +141,14 @@ impl ColumnState {
 
     /// Takes the openings of a fragment's lists, and then checks the planes of the leaf.
     ///
-    /// Errors: `Openings` and else `Planes`, as for the two.
+    /// Errors: that of the openings, and else that of the planes.
     pub fn begin(
         &mut self,
         planes: &mut Planes,
         numbers: &FragmentNumbers,
         first: u16,
         last: u16,
-    ) -> Result<SavePlaces, DrawFault>
+    ) -> Result<SavePlaces, OverLimit>
         requires ordered { first ≤ last }
         requires within { last < FRAME_WIDTH }
         requires leaf { AreLeafPlanes planes.old.planes self.old }
@@ -159,10 +157,9 @@ impl ColumnState {
         ensures taken { IfOk result
             (HasTaken numbers.now (last + 1 - first) self.old.openings self.new.openings) }
         ensures limit { (s : PlanesNow) → s ≡ now_of self.old planes.old →
-            limit_of_result result ≡ openings_over self.old.openings.room
+            over_of result ≡ openings_over self.old.openings.room
             (places_of numbers.now (length self.old.openings.saved) (last + 1 - first)).end
             (checks_over planes.old.room numbers.now first last s) }
-        ensures faults { IfErr result IsLimitFault }
         ensures leaf { OnOk result (AreLeafPlanes planes.new.planes self.new) }
         ensures windows { self.new.windows ≡ self.old.windows }
         ensures openings_room { self.new.openings.room ≡ self.old.openings.room }

@@ -1,7 +1,8 @@
 // What ends a view while its walls are drawn.
 ghost use Rattle.std.specs.Prelude.{◌≡◌};
-ghost use Rattle.wall_columns.specs.Faults.{from_cache_fault};
+ghost use Rattle.wall_columns.specs.Faults.{from_cache_fault, from_over, from_stop};
 
+use picture_rules::{LimitKind, OverLimit};
 use texture_build::CacheFault;
 use thiserror::Error;
 
@@ -29,6 +30,45 @@ impl From<CacheFault> for DrawFault {
         match fault {
             CacheFault::ZoneFull { wanted, widest } => DrawFault::ZoneFull { wanted, widest },
             CacheFault::ReadFault => DrawFault::ReadFault,
+        }
+    }
+}
+
+/// What ends a view while a brush paints its walls: a count past its limit, or the Stop of the brush.
+///
+/// This project's own.
+#[derive(Drop)]
+pub enum WallStop<E> {
+    Over(OverLimit),
+    Brush(E),
+}
+
+impl<E> From<OverLimit> for WallStop<E> {
+    ghost from_gives = { λ over stop. stop ≡ WallStop.Over over };
+
+    fn from(over: OverLimit) -> Self {
+        WallStop::Over(over)
+    }
+}
+
+impl From<OverLimit> for DrawFault {
+    ghost from_gives = { λ over fault. fault ≡ from_over over };
+
+    fn from(over: OverLimit) -> Self {
+        match over.kind {
+            LimitKind::Planes => DrawFault::Planes { count: over.count },
+            LimitKind::Openings => DrawFault::Openings { count: over.count },
+        }
+    }
+}
+
+impl From<WallStop<CacheFault>> for DrawFault {
+    ghost from_gives = { λ stop fault. fault ≡ from_stop stop };
+
+    fn from(stop: WallStop<CacheFault>) -> Self {
+        match stop {
+            WallStop::Over(over) => DrawFault::from(over),
+            WallStop::Brush(fault) => DrawFault::from(fault),
         }
     }
 }

@@ -1,12 +1,11 @@
 // The planes of a leaf: found where the leaf is entered, checked where a fragment marks them.
 ghost use Rattle.std.specs.Prelude.{◌≡◌, ◌<◌, ◌≤◌, ◌↔◌, IfOk, IfErr, IsErr, OnOk, length};
-ghost use Rattle.picture_rules.specs.Words.{checked_plane, FRAME_WIDTH, IsAmongPlanes};
+ghost use Rattle.picture_rules.specs.Words.{checked_plane, FRAME_WIDTH, IsAmongPlanes, planes_count};
 ghost use Rattle.visplanes.specs.Planes.{with_planes};
 ghost use Rattle.wall_columns.specs.Columns.{plane_number};
 ghost use Rattle.wall_columns.specs.Leaves.{planes_found, number_found, planes_checked, number_checked};
 
-use crate::fault::DrawFault;
-use picture_rules::PlaneKey;
+use picture_rules::{LimitKind, OverLimit, PlaneKey};
 use visplanes::{PlaneNo, Planes};
 
 /// The planes that a leaf finds: None where its floor or its ceiling is not seen.
@@ -16,11 +15,22 @@ pub struct LeafPlanes {
     pub ceiling: Option<PlaneKey>,
 }
 
+// So many planes, as the count that passes its limit.
+#[tactic(auto, unfolding(picture_rules::specs::Counts::planes_count))]
+fn planes_over(count: u32) -> OverLimit
+    ensures { result ≡ planes_count count }
+{
+    OverLimit {
+        kind: LimitKind::Planes,
+        count,
+    }
+}
+
 /// The plane of a key, or None without one.
 ///
-/// Errors: `Planes` exactly where a new plane is wanted and the room is full, with the count.
+/// Errors: the count of planes, exactly where a new plane is wanted and the room is full.
 #[tactic(auto, using(crate::proofs::PartLemmas::counts), unfolding(crate::specs::Leaves::planes_found, crate::specs::Leaves::number_found))]
-pub fn find_plane(planes: &mut Planes, key: Option<PlaneKey>) -> Result<Option<PlaneNo>, DrawFault>
+pub fn find_plane(planes: &mut Planes, key: Option<PlaneKey>) -> Result<Option<PlaneNo>, OverLimit>
     ensures ok { OnOk result
         (planes.new ≡ with_planes (planes_found planes.old.planes key) planes.old) }
     ensures number { IfOk result (λ plane.
@@ -28,8 +38,8 @@ pub fn find_plane(planes: &mut Planes, key: Option<PlaneKey>) -> Result<Option<P
     ensures among { IfOk result (λ plane. IsAmongPlanes planes.new.planes (plane_number plane)) }
     ensures full { IsErr result
         ↔ (planes.old.room < length (planes_found planes.old.planes key)) }
-    ensures fault { IfErr result (λ fault. fault
-        ≡ DrawFault.Planes (length (planes_found planes.old.planes key))) }
+    ensures over { IfErr result (λ over. over
+        ≡ planes_count (length (planes_found planes.old.planes key))) }
     ensures room { planes.new.room ≡ planes.old.room }
 {
     planes.count();
@@ -37,7 +47,7 @@ pub fn find_plane(planes: &mut Planes, key: Option<PlaneKey>) -> Result<Option<P
         None => Ok(None),
         Some(key) => match planes.find(key) {
             Ok(plane) => Ok(Some(plane)),
-            Err(full) => Err(DrawFault::Planes { count: full.count }),
+            Err(full) => Err(planes_over(full.count)),
         },
     }
 }
@@ -45,7 +55,7 @@ pub fn find_plane(planes: &mut Planes, key: Option<PlaneKey>) -> Result<Option<P
 /// The plane itself, or a new one of its key where a fragment marks it and it is marked in one of
 /// the fragment's columns.
 ///
-/// Errors: `Planes` exactly where a new plane is wanted and the room is full, with the count.
+/// Errors: the count of planes, exactly where a new plane is wanted and the room is full.
 #[tactic(auto, using(crate::proofs::PartLemmas::counts), unfolding(crate::specs::Leaves::planes_checked, crate::specs::Leaves::number_checked, picture_rules::specs::plane::Built::checked_plane))]
 pub fn check_plane(
     planes: &mut Planes,
@@ -53,7 +63,7 @@ pub fn check_plane(
     marks: bool,
     first: u16,
     last: u16,
-) -> Result<Option<PlaneNo>, DrawFault>
+) -> Result<Option<PlaneNo>, OverLimit>
     requires plane { IsAmongPlanes planes.old.planes (plane_number plane) }
     requires ordered { first ≤ last }
     requires within { last < FRAME_WIDTH }
@@ -66,8 +76,8 @@ pub fn check_plane(
         IsAmongPlanes planes.new.planes (plane_number checked)) }
     ensures full { IsErr result ↔ (planes.old.room < length (planes_checked planes.old.planes
         (checked_plane marks planes.old.planes (plane_number plane) first last))) }
-    ensures fault { IfErr result (λ fault. fault
-        ≡ DrawFault.Planes (length (planes_checked planes.old.planes
+    ensures over { IfErr result (λ over. over
+        ≡ planes_count (length (planes_checked planes.old.planes
         (checked_plane marks planes.old.planes (plane_number plane) first last)))) }
     ensures longer { length planes.old.planes ≤ length planes.new.planes }
     ensures room { planes.new.room ≡ planes.old.room }
@@ -80,7 +90,7 @@ pub fn check_plane(
         None => Ok(None),
         Some(plane) => match planes.check(plane, first, last) {
             Ok(plane) => Ok(Some(plane)),
-            Err(full) => Err(DrawFault::Planes { count: full.count }),
+            Err(full) => Err(planes_over(full.count)),
         },
     }
 }

@@ -3,9 +3,9 @@
 //!
 //! A drawn fragment is the field's drawseg. Rules: `picture_rules/wall`, Clips, Walls, Strips, Openings and
 //! Notes; `picture_rules/plane`, Built; `picture_rules`, Counts; what a state stands for in this crate's
-//! Built. Proved: after each call the state and the planes are those of the fragments drawn so far,
-//! a canvas is given exactly a fragment's strips, and planes and openings past a limit are told
-//! exactly where they come. Only `new` takes memory. The original: r_segs.c, and R_Subsector of
+//! Built; the strips of a fragment in this crate's Strips. Proved: after each call the state and the
+//! planes are those of the fragments drawn so far, a brush is asked for exactly a fragment's strips, in
+//! order, and planes and openings past a limit are told exactly where they come. Only `new` takes memory. The original: r_segs.c, and R_Subsector of
 //! r_bsp.c.
 //!
 //! `R_RenderSegLoop`, r_segs.c, and where each of its steps is here:
@@ -39,7 +39,7 @@ mod state;
 mod tools;
 mod windows;
 
-pub use fault::DrawFault;
+pub use fault::{DrawFault, WallStop};
 pub use leaf::LeafPlanes;
 pub use picture_rules::{Clip, FragmentNote, WallFacts};
 pub use state::WallState;

@@ -1,10 +1,10 @@
 // The openings of a view: this crate's Saved.
 ghost use Rattle.std.specs.Prelude.{◌≡◌, ◌<◌, ◌≤◌, ◌+◌, ◌-◌, ◌↔◌, [], IfOk, IfErr, IfSome, IsErr, OnOk, OnErr, length, take};
-ghost use Rattle.wall_columns.specs.Rules.{FRAME_WIDTH, MOST_OPENINGS, WallFacts, listed_from, texture_column};
+ghost use Rattle.wall_columns.specs.Rules.{FRAME_WIDTH, MOST_OPENINGS, WallFacts, listed_from, openings_count, texture_column};
 ghost use Rattle.wall_edges.specs.Fragments.{fragment_of};
 ghost use Rattle.wall_columns.specs.Saved.{with_list, with_saved};
 
-use crate::fault::DrawFault;
+use picture_rules::{LimitKind, OverLimit};
 use std::alloc::{AllocError, Global};
 use std::marker::Model;
 use view_frame::View;
@@ -72,11 +72,12 @@ impl Openings {
     /// Takes openings up to number `end`, which holds those that there are; what the new ones hold
     /// is not told.
     ///
-    /// Errors: `Openings` exactly where `end` passes the room. Nothing changes then.
-    pub fn extend(&mut self, end: u32) -> Result<(), DrawFault>
+    /// Errors: that count, exactly where `end` passes the room. Nothing changes then.
+    #[tactic(auto, unfolding(picture_rules::specs::Counts::openings_count))]
+    pub fn extend(&mut self, end: u32) -> Result<(), OverLimit>
         requires { length self.old.saved ≤ end }
         ensures full { IsErr result ↔ (self.old.room < end) }
-        ensures fault { IfErr result (λ fault. fault ≡ DrawFault.Openings end) }
+        ensures over { IfErr result (λ over. over ≡ openings_count end) }
         ensures length { OnOk result (length self.new.saved ≡ end) }
         ensures front { OnOk result
             (take (length self.old.saved) self.new.saved ≡ self.old.saved) }
@@ -84,7 +85,10 @@ impl Openings {
         ensures err { OnErr result (self.new ≡ self.old) }
     {
         if end as usize > self.list.len() {
-            return Err(DrawFault::Openings { count: end });
+            return Err(OverLimit {
+                kind: LimitKind::Openings,
+                count: end,
+            });
         }
         self.used = end;
         Ok(())

@@ -7,18 +7,21 @@ ghost use Rattle.texture_build.specs.Draws.{CanDraw};
 ghost use Rattle.texture_build.specs.Paints.{Paints};
 ghost use Rattle.wall_columns.specs.Walls.{WallsView};
 ghost use Rattle.wall_columns.specs.Built.{AreBehind, IsBuilt, with_wall, step_of_wall, step_of_leaf, limits_of, step_over};
-ghost use Rattle.wall_columns.specs.Faults.{draw_fault, limit_of_result, IsPlanesFault, IsLimitFault};
+ghost use Rattle.receiver_rules.specs.Receivers.{TakesEach};
+ghost use Rattle.wall_columns.specs.Faults.{draw_fault, limit_of_result, over_of_stop, IsPlanesFault, IsLimitFault, ReceivesUnlessOver};
 ghost use Rattle.pixel_strips.specs.Standing.{StandsInFrame};
-ghost use Rattle.wall_columns.specs.Draws.{IsNoPicture, IsSeenOf, IsUntouched, IsWallTexture};
+ghost use Rattle.wall_columns.specs.Draws.{IsNoPicture, IsPast, IsSeenOf, IsUntouched, IsWallTexture};
+ghost use Rattle.wall_columns.specs.Strips.{AreOpenIn, range_strips};
 ghost use Rattle.wall_columns.specs.Noted.{HaveBacks};
 ghost use Rattle.wall_columns.specs.Tools.{AreSameWallTools, range_dots, wall_state, wall_tools};
 
 use crate::column_state::ColumnState;
-use crate::fault::DrawFault;
+use crate::fault::{DrawFault, WallStop};
 use crate::leaf::LeafPlanes;
 use crate::notes::note_of;
 use crate::tools::WallTools;
 use art_rules::Shelf;
+use brush::{Brush, DryBrush, LiveBrush};
 use picture_rules::{FragmentNote, MAX_DRAWSEGS, WallFacts};
 use pixel_strips::Canvas;
 use std::alloc::{AllocError, Global};
@@ -156,7 +159,8 @@ impl WallState {
             { floor = self.new.floor; ceiling = self.new.ceiling } }
         ensures room { planes.new.room ≡ planes.old.room }
     {
-        self.columns.enter(planes, leaf)
+        self.columns.enter(planes, leaf)?;
+        Ok(())
     }
 
     /// Draws the fragment of a seg in columns `first` to `last` of the view: takes its openings,
@@ -222,20 +226,15 @@ impl WallState {
         ensures room { self.new.room ≡ self.old.room }
         ensures planes_room { tools.new.planes.now.room ≡ tools.old.planes.now.room }
     {
-        if self.is_full() {
-            return Ok(());
-        }
-        let shape = tools.view.shape();
-        let fragment = Fragment::new(tools.view, facts, first, last);
-        let numbers = fragment.numbers();
-        let places = self.columns.begin(tools.planes, &numbers, first, last)?;
-        let number = self.notes.len() as u16;
-        self.columns
-            .draw_columns(tools, number, &fragment, &numbers)?;
-        self.columns
-            .save_columns(tools.view, &fragment, first, last, places);
-        let note = note_of(facts.seg_no, &fragment, first, last, places, shape.height);
-        self.notes.push_reserved(note);
+        let mut brush = LiveBrush {
+            textures: tools.textures,
+            dir: tools.dir,
+            colormap: tools.colormap,
+            cache: &mut *tools.cache,
+            shelf: &mut *tools.shelf,
+            canvas: &mut *tools.canvas,
+        };
+        self.draw_range(tools.view, tools.planes, &mut brush, facts, first, last)?;
         Ok(())
     }
 
@@ -278,17 +277,73 @@ impl WallState {
         ensures room { self.new.room ≡ self.old.room }
         ensures planes_room { planes.new.room ≡ planes.old.room }
     {
+        match self.draw_range(view, planes, &mut DryBrush, facts, first, last) {
+            Ok(()) => Ok(()),
+            Err(WallStop::Over(over)) => Err(DrawFault::from(over)),
+            Err(WallStop::Brush(never)) => match never {},
+        }
+    }
+
+    /// Draws the fragment of a seg by a brush: what `store_range` and `count_range` do. The brush is
+    /// asked for its strips in order, for nothing where the openings or the planes pass their room.
+    ///
+    /// Errors: `Over` exactly where the openings, or else the planes, pass their room, with the
+    /// count; `Brush` with the Stop of the brush, at the strip where it was asked for, at once.
+    ///
+    /// The original: `R_StoreWallRange` and `R_RenderSegLoop`, r_segs.c.
+    pub fn draw_range<B: Brush>(
+        &mut self,
+        view: &View<'_>,
+        planes: &mut Planes,
+        brush: &mut B,
+        facts: &WallFacts,
+        first: u16,
+        last: u16,
+    ) -> Result<(), WallStop<B::Stop>>
+        requires ordered { first ≤ last }
+        requires within { last < view.now.shape.width }
+        requires height { self.old.height ≡ view.now.shape.height }
+        requires floor { IsAmongPlanes planes.old.planes self.old.floor }
+        requires ceiling { IsAmongPlanes planes.old.planes self.old.ceiling }
+        requires takes { AreOpenIn self.old → TakesEach B.takes brush.old
+            (range_strips view.now self.old facts.now first last) }
+        ensures built { (walls : List Wall) (s : PlanesNow) →
+            IsBuilt view.now walls s self.old planes.old.planes → length walls < MAX_DRAWSEGS →
+            let w = wall_of view.now facts.now first last in
+            OnOk result (IsBuilt view.now (with_wall walls w)
+            (after_event s (step_of_wall view.now walls w).event) self.new planes.new.planes) }
+        ensures limit { (walls : List Wall) (s : PlanesNow) →
+            IsBuilt view.now walls s self.old planes.old.planes → length walls < MAX_DRAWSEGS →
+            over_of_stop result ≡ step_over (limits_of self.old planes.old) s
+            (length self.old.openings)
+            (step_of_wall view.now walls (wall_of view.now facts.now first last)) }
+        ensures asks { ReceivesUnlessOver B.takes B.stands B.stopped brush.old brush.new
+            (range_strips view.now self.old facts.now first last) result }
+        ensures past { length self.old.notes ≡ MAX_DRAWSEGS →
+            IsPast self.old self.new planes.old planes.new brush.old brush.new result }
+        ensures floor { OnOk result (IsAmongPlanes planes.new.planes self.new.floor) }
+        ensures ceiling { OnOk result (IsAmongPlanes planes.new.planes self.new.ceiling) }
+        ensures stays { self.new.height ≡ self.old.height }
+        ensures room { self.new.room ≡ self.old.room }
+        ensures planes_room { planes.new.room ≡ planes.old.room }
+    {
+        let height = self.columns.windows.height();
         if self.is_full() {
             return Ok(());
         }
-        let shape = view.shape();
         let fragment = Fragment::new(view, facts, first, last);
         let numbers = fragment.numbers();
         let places = self.columns.begin(planes, &numbers, first, last)?;
-        self.columns.count_columns(planes, &fragment, &numbers);
+        let number = self.notes.len() as u16;
+        if let Err(stop) = self
+            .columns
+            .draw_columns(view, planes, brush, number, &fragment, &numbers)
+        {
+            return Err(WallStop::Brush(stop));
+        }
         self.columns
             .save_columns(view, &fragment, first, last, places);
-        let note = note_of(facts.seg_no, &fragment, first, last, places, shape.height);
+        let note = note_of(facts.seg_no, &fragment, first, last, places, height);
         self.notes.push_reserved(note);
         Ok(())
     }

@@ -51,9 +51,12 @@ impl Windows {
     }
 
     /// The rows of the view.
+    #[tactic(auto, using(crate::proofs::PartLemmas::narrowed), unfolding(crate::specs::Windows::window_at))]
     pub fn height(&self) -> u16
         ensures value { result ≡ self.now.height }
         ensures most { self.now.height ≤ FRAME_HEIGHT }
+        ensures clips { (x : ℕ) → x < FRAME_WIDTH →
+            IsClipIn self.now.height (window_at self.now x) }
     {
         self.height
     }

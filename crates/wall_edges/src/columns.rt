@@ -1,9 +1,8 @@
 // The angles at which columns look, and the texture columns of a line: rules `picture_rules/wall`, Columns.
 
 ghost use Rattle.std.specs.Prelude.{◌≡◌, ◌<◌};
-ghost use Rattle.picture_rules.specs.Words.{angle_of_column, column_tangent, Seg, seg_normal, tangent_at, TANGENTS, texture_column};
-ghost use Rattle.picture_rules.specs.declared.wall.WallFacts.{WallFacts};
-ghost use Rattle.wall_edges.specs.Lines.{seg_line_of};
+ghost use Rattle.picture_rules.specs.Words.{angle_of_column, column_tangent, tangent_at, TANGENTS};
+ghost use Rattle.wall_edges.specs.Lines.{column_of_line};
 
 use crate::line::SegLine;
 use picture_rules::{ANG90, FRACTION_BITS, TANGENTS};
@@ -32,7 +31,7 @@ fn tangent(view: &View<'_>, fine: usize) -> i32
 #[tactic(auto, unfolding(picture_rules::specs::wall::Columns::column_tangent))]
 fn column_tangent(view: &View<'_>, normal: u32, x: u16) -> usize
     requires { x < view.now.shape.width }
-    ensures value { (seg : Seg) → normal ≡ seg_normal seg → result ≡ column_tangent view.now seg x }
+    ensures value { result ≡ column_tangent view.now normal x }
     ensures bound { result < TANGENTS }
 {
     let ahead = turn_back(turn(ANG90, view.eye().angle), normal);
@@ -41,11 +40,10 @@ fn column_tangent(view: &View<'_>, normal: u32, x: u16) -> usize
 
 /// The texture column of a line at column `x`.
 #[inline(always)]
-#[tactic(auto, unfolding(picture_rules::specs::wall::Columns::texture_column))]
-pub fn texture_column(view: &View<'_>, line: SegLine, x: u16) -> i32
+#[tactic(auto, unfolding(picture_rules::specs::wall::Columns::line_column))]
+pub fn column_of_line(view: &View<'_>, line: SegLine, x: u16) -> i32
     requires { x < view.now.shape.width }
-    ensures { (facts : WallFacts) → line ≡ seg_line_of view.now facts →
-        result ≡ texture_column view.now facts x }
+    ensures { result ≡ column_of_line view.now line x }
 {
     let slope = tangent(view, column_tangent(view, line.normal, x));
     shr_word(minus(line.offset, mul(slope, line.distance)), FRACTION_BITS)

@@ -3,9 +3,9 @@
 ghost use Rattle.picture_rules.specs.declared.wall.WallFacts.{WallFacts};
 ghost use Rattle.picture_rules.specs.Words.{edges_at, texture_column};
 ghost use Rattle.std.specs.Prelude.{◌≡◌, ℕ, ◌-◌, ◌<◌, ◌≤◌};
-ghost use Rattle.wall_edges.specs.Fragments.{fragment_of};
+ghost use Rattle.wall_edges.specs.{Fragments.fragment_of, Lines.column_of_line};
 
-use crate::columns::texture_column;
+use crate::columns::column_of_line;
 use crate::edges::edges_at;
 use crate::line::{SegLine, seg_line_of};
 use crate::numbers::{fragment_numbers, silhouette_of};
@@ -137,10 +137,11 @@ impl Fragment {
     #[inline(always)]
     pub fn column_at(&self, view: &View<'_>, x: u16) -> i32
         requires { x < view.now.shape.width }
-        ensures { (facts : WallFacts) (first last : ℕ) →
+        ensures facts { (facts : WallFacts) (first last : ℕ) →
             self.now ≡ fragment_of view.now facts first last →
             result ≡ texture_column view.now facts x }
+        ensures line { result ≡ column_of_line view.now self.now.line x }
     {
-        texture_column(view, self.line, x)
+        column_of_line(view, self.line, x)
     }
 }

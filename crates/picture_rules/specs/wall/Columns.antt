@@ -19,11 +19,15 @@ signed_foot v seg = cond (nat_lt (normal_turn v seg) ang180) (neg_word (foot_off
 unfoldable pub texture_offset : ViewValue → WallFacts → ℤ
 texture_offset v facts = plus (plus (signed_foot v facts.seg) facts.x_offset) facts.seg.offset
 
--- the fine angle between the normal and the column's look, for the tangent
-unfoldable pub column_tangent : ViewValue → Seg → ℕ → ℕ
-column_tangent v seg x =
-    fine_angle (turn (turn_back (turn ang90 v.eye.angle) (seg_normal seg)) (angle_of_column v.tables v.shape x)) % TANGENTS
+-- the fine angle between the normal of a line and the look of column x, for the tangent
+unfoldable pub column_tangent : ViewValue → ℕ → ℕ → ℕ
+column_tangent v normal x =
+    fine_angle (turn (turn_back (turn ang90 v.eye.angle) normal) (angle_of_column v.tables v.shape x)) % TANGENTS
+
+-- the texture column at column x of a line, by its normal, the texture column at its foot (16.16) and its distance
+unfoldable pub line_column : ViewValue → ℕ → ℤ → ℤ → ℕ → ℤ
+line_column v normal offset distance x =
+    shr_word (minus offset (mul (tangent_at v.tables (column_tangent v normal x)) distance)) FRACTION_BITS
 
 unfoldable pub texture_column : ViewValue → WallFacts → ℕ → ℤ
-texture_column v facts x =
-    shr_word (minus (texture_offset v facts) (mul (tangent_at v.tables (column_tangent v facts.seg x)) (seg_distance v facts.seg))) FRACTION_BITS
+texture_column v facts x = line_column v (seg_normal facts.seg) (texture_offset v facts) (seg_distance v facts.seg) x
