@@ -5,7 +5,8 @@ use Rattle.std.specs.List.{range_with_len}
 use Rattle.word_rules.specs.{Least.or_else, Listed.listed, Listed.joined_lists, Words.natural}
 use Rattle.pixel_rules.specs.declared.Post.{Post}
 use Rattle.art_rules.specs.declared.PlacedPatch.{PlacedPatch}
-use Rattle.art_rules.specs.{declared.layout.TheConstants.POST_BYTES_AT, Bytes.byte_at}
+use Rattle.word_rules.specs.Bytes.{byte_at}
+use Rattle.art_rules.specs.declared.layout.TheConstants.{POST_BYTES_AT}
 use Rattle.art_rules.specs.Patches.{column_place, posts}
 
 -- a patch stands in column x of its texture

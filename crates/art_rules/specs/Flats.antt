@@ -1,7 +1,8 @@
 -- Flats and palettes. What a colormap makes of a colour is `shade` of `pixel_rules`.
 use Rattle.std.specs.Prelude.{ℕ, ◌+◌, ◌*◌, List, [], ◌∷◌}
 use Rattle.pixel_rules.specs.declared.TheConstants.{FLAT_SIDE}
-use Rattle.art_rules.specs.{declared.TheConstants.COLOUR_SIZE, Bytes.byte_at}
+use Rattle.word_rules.specs.Bytes.{byte_at}
+use Rattle.art_rules.specs.declared.TheConstants.{COLOUR_SIZE}
 
 -- the texel of a flat at column x and row y
 unfoldable pub flat_byte : List ℕ → ℕ → ℕ → ℕ

@@ -1,4 +1,3 @@
-pub mod Bytes
 pub mod Patches
 pub mod Flats
 pub mod Textures

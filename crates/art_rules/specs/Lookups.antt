@@ -4,7 +4,8 @@ use Rattle.std.specs.Prelude.{◌≡◌, ℕ, ◌+◌, ◌<◌, ℤ, pos, negsuc
 use Rattle.word_rules.specs.{Listed.listed, Listed.joined_lists, Words.bits_of}
 use Rattle.art_rules.specs.{declared.PlacedPatch.PlacedPatch, declared.ColumnLookup.ColumnLookup}
 use Rattle.art_rules.specs.declared.ColumnLookup.TheVariants.{Empty, Single, Composed}
-use Rattle.art_rules.specs.{declared.layout.TheConstants.POST_BYTES_AT, Bytes.byte_at}
+use Rattle.word_rules.specs.Bytes.{byte_at}
+use Rattle.art_rules.specs.declared.layout.TheConstants.{POST_BYTES_AT}
 use Rattle.art_rules.specs.Patches.{column_place}
 use Rattle.art_rules.specs.Columns.{patches_in, own_column, composed_columns, composed_column, composite_place}
 

@@ -3,7 +3,7 @@ use Rattle.std.specs.Prelude.{◌≡◌, ℕ, zero, suc, ◌+◌, ◌*◌, ◌==
 use Rattle.pixel_rules.specs.declared.Post.{Post}
 use Rattle.art_rules.specs.declared.patch.Patch.{Patch}
 use Rattle.art_rules.specs.declared.layout.TheConstants.{PATCH_HEADER_SIZE, LEFT_AT, TOP_AT, COLUMN_PLACES_AT, COLUMN_PLACE_SIZE, POST_LENGTH_AT, POST_BYTES_AT, POSTS_END}
-use Rattle.art_rules.specs.Bytes.{byte_at, half_at, signed_half_at, word_at}
+use Rattle.word_rules.specs.Bytes.{byte_at, half_at, signed_half_at, word_at}
 
 -- a lump is a patch where its header is whole, its width is at least 1, and its columns have places
 unfoldable pub is_patch : List ℕ → Bool

@@ -11,7 +11,7 @@ use Rattle.art_rules.specs.declared.refusal.TexRefusal.{TexRefusal}
 use Rattle.art_rules.specs.declared.refusal.TexRefusal.TheVariants.{Pnames, Lump, Entry}
 use Rattle.art_rules.specs.declared.TheConstants.{MAX_TEXTURES, NO_TEXTURE, FIRST_LIST, SECOND_LIST}
 use Rattle.art_rules.specs.declared.layout.TheConstants.{NAME_SIZE, COUNT_SIZE, PLACE_SIZE, TEXTURE_WIDTH_AT, TEXTURE_HEIGHT_AT, PATCH_COUNT_AT, TEXTURE_HEAD_SIZE, ENTRY_SIZE, ENTRY_Y_AT, ENTRY_NUMBER_AT}
-use Rattle.art_rules.specs.Bytes.{half_at, signed_half_at, word_at}
+use Rattle.word_rules.specs.Bytes.{half_at, signed_half_at, word_at}
 
 -- a texture of the lists: its name, its columns, its rows, and its patches in order
 pub record Texture : Type 0 where

@@ -9,6 +9,7 @@ pub use Rattle.outside.specs.TallySink.{IsTallyOf, Tally}
 pub use Rattle.outside.specs.declared.fault.Fault.{Fault}
 pub use Rattle.outside.specs.declared.fault.Fault.TheVariants.{OutOfMemory, ReadFault, Refused, ZoneFull}
 pub use Rattle.outside.specs.declared.{shelf.Failed.Failed, shelf.FileNo.FileNo}
+unfoldable pub use Rattle.word_rules.specs.Bytes.{byte_at, half_at, signed_half_at, word_at}
 pub use Rattle.word_rules.specs.Least.{or_else}
 unfoldable pub use Rattle.word_rules.specs.Least.{greatest, least}
 unfoldable pub use Rattle.word_rules.specs.Listed.{joined_lists, listed}
@@ -39,7 +40,6 @@ pub use Rattle.pixel_rules.specs.declared.{Painter.Painter, Post.Post, Source.So
 pub use Rattle.pixel_rules.specs.declared.TheConstants.{COMPOSITE, LUMP, NO_SOURCE}
 pub use Rattle.art_rules.specs.Books.{Outline}
 unfoldable pub use Rattle.art_rules.specs.Books.{book_lumps, book_of, each_of, first_needs, frame_in, frame_of, is_frame, last_mention, mention_outline, outline, outline_in, outline_of, outlines_of, patch_or_bad, picked, picture_or_missing, pictures_of, same_frame, shape_in, shape_lumps, shape_of, shape_outline}
-unfoldable pub use Rattle.art_rules.specs.Bytes.{byte_at, half_at, signed_half_at, word_at}
 pub use Rattle.art_rules.specs.Columns.{PlacedPost}
 unfoldable pub use Rattle.art_rules.specs.Columns.{column_posts, composed_byte, composed_column, composed_columns, composed_count, composite, composite_place, composite_size, first_row, is_composed, is_put_at, is_single, last_put, own_column, patch_texel, patches_in, placed_posts, put_byte, put_count, rows_above, stands_in, texel, texel_of}
 unfoldable pub use Rattle.art_rules.specs.Flats.{flat_byte, palette_colour}

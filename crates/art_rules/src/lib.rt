@@ -1,13 +1,13 @@
 //! What the bytes of art lumps mean: pictures and their posts, flats, colormaps and palettes, the
 //! lists of textures, the columns and composites of a texture, and the frames of a sprite.
 //!
-//! Rules: records and constants, and in `specs/` numbers and bytes (Bytes), patches and their posts
-//! (Patches), flats and palettes (Flats), the two lists of textures and the names of patches
-//! (Textures), the patches of a column and what is composed of them (Columns), what each column is
-//! read from (Lookups), what is prepared of a wanted texture or what refuses it (Wanted), the
-//! pictures of sprite frames (Frames), and the book of the frames that things need (Books). Code is
-//! only what reads bytes and numbers, and `Patch::read`, which is proved. A patch is the field's
-//! picture lump. The original: r_data.c, r_things.c, r_defs.h.
+//! Rules: records and constants, and in `specs/` patches and their posts (Patches), flats and
+//! palettes (Flats), the two lists of textures and the names of patches (Textures), the patches of a
+//! column and what is composed of them (Columns), what each column is read from (Lookups), what is
+//! prepared of a wanted texture or what refuses it (Wanted), the pictures of sprite frames (Frames),
+//! and the book of the frames that things need (Books). Code is only what reads bytes and numbers,
+//! and `Patch::read`, which is proved. A patch is the field's picture lump. The original: r_data.c,
+//! r_things.c, r_defs.h.
 #![tactic(auto)]
 
 mod bytes;

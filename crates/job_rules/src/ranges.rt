@@ -1,14 +1,15 @@
 // The ranges of the numbers of a command.
 
 use picture_rules::{MOST_OPENINGS as ROOM_OF_OPENINGS, MOST_VISPLANES};
-use zone_rules::{MAX_ZONE_SIZE, MIN_ZONE_SIZE, WORD_SIZE};
+use word_rules::WORD_SIZE;
+use zone_rules::{MAX_ZONE_SIZE, MIN_ZONE_SIZE};
 
 /// The size of a zone in bytes: the least and greatest, and what it is a multiple of.
 pub const MIN_ZONE: u32 = MIN_ZONE_SIZE;
 
 pub const MAX_ZONE: u32 = MAX_ZONE_SIZE;
 
-pub const ZONE_STEP: u32 = WORD_SIZE;
+pub const ZONE_STEP: u32 = WORD_SIZE as u32;
 
 /// The skill.
 pub const MIN_SKILL: u32 = 1;

@@ -3,11 +3,10 @@ use Rattle.std.specs.Prelude.{◌≡◌, refl, ℕ, suc, Bool, ◌+◌, ◌*◌,
 use Rattle.std.specs.List.{sum_by}
 use Rattle.std.specs.Option.{option_map}
 use Rattle.std.specs.Str.{bytes_eq}
-use Rattle.byteorder.specs.Endian.{little_number}
-use Rattle.word_rules.specs.{Least.or_else, Listed.listed}
+use Rattle.word_rules.specs.{Bytes.word_at, Least.or_else, Listed.listed}
 use Rattle.lump_rules.specs.declared.names.TheConstants.{IWAD, PWAD, LETTER_COUNT}
 use Rattle.lump_rules.specs.{declared.name.TheConstants.NAME_SIZE, declared.wad.Header.Header}
-use Rattle.lump_rules.specs.declared.wad.TheConstants.{HEADER_SIZE, COUNT_AT, PLACE_AT, ENTRY_SIZE, SIZE_AT, NAME_AT, WORD_SIZE, MAX_LUMPS}
+use Rattle.lump_rules.specs.declared.wad.TheConstants.{HEADER_SIZE, COUNT_AT, PLACE_AT, ENTRY_SIZE, SIZE_AT, NAME_AT, MAX_LUMPS}
 use Rattle.lump_rules.specs.{declared.wad.Lump.Lump, declared.wad.DirRefusal.DirRefusal}
 use Rattle.lump_rules.specs.declared.wad.DirRefusal.TheVariants.{NotWad, Short, Entry, TooMany}
 use Rattle.lump_rules.specs.Names.{name_of, filled}
@@ -22,10 +21,10 @@ header bytes = take HEADER_SIZE bytes
 
 -- what a header counts, and where it places the directory
 abbrev pub entry_count : List ℕ → ℕ
-entry_count head = little_number WORD_SIZE (drop COUNT_AT head)
+entry_count head = word_at head COUNT_AT
 
 abbrev pub directory_place : List ℕ → ℕ
-directory_place head = little_number WORD_SIZE (drop PLACE_AT head)
+directory_place head = word_at head PLACE_AT
 
 -- how many bytes the directory has
 abbrev pub directory_size : List ℕ → ℕ
@@ -53,8 +52,8 @@ header_refusal file before bytes =
 abbrev pub lump_in : ℕ → List ℕ → Lump
 lump_in file entry = record {
   file = file;
-  place = little_number WORD_SIZE entry;
-  size = little_number WORD_SIZE (drop SIZE_AT entry);
+  place = word_at entry 0;
+  size = word_at entry SIZE_AT;
   name = name_of (take NAME_SIZE (drop NAME_AT entry));
 }
 
@@ -118,10 +117,10 @@ listing_sizes contents = sum_by listing_size contents
 -- a file with one entry: no byte at 0, named AB
 pub directory_row : directory ((80 ∷ 87 ∷ 65 ∷ 68 ∷ 1 ∷ 0 ∷ 0 ∷ 0 ∷ 12 ∷ 0 ∷ 0 ∷ 0 ∷ 0 ∷ 0 ∷ 0 ∷ 0 ∷ 0 ∷ 0 ∷ 0 ∷ 0 ∷ 97 ∷ 66 ∷ 0 ∷ 0 ∷ 0 ∷ 0 ∷ 0 ∷ 0 ∷ []) ∷ [])
     ≡ Ok (record { file = 0; place = 0; size = 0; name = 65 ∷ 66 ∷ 0 ∷ 0 ∷ 0 ∷ 0 ∷ 0 ∷ 0 ∷ [] } ∷ [])
-unfolding whole_header_refusal entry_refusal lumps_in listed file_lumps refusal_from lumps_from filled
+unfolding whole_header_refusal entry_refusal lumps_in listed file_lumps refusal_from lumps_from filled word_at
 directory_row = refl
 
 -- the second file has no whole header
 pub directory_short_row : directory ((80 ∷ 87 ∷ 65 ∷ 68 ∷ 0 ∷ 0 ∷ 0 ∷ 0 ∷ 12 ∷ 0 ∷ 0 ∷ 0 ∷ []) ∷ (80 ∷ 87 ∷ []) ∷ []) ≡ Err (Short 1)
-unfolding whole_header_refusal entry_refusal lumps_in listed file_lumps refusal_from lumps_from
+unfolding whole_header_refusal entry_refusal lumps_in listed file_lumps refusal_from lumps_from word_at
 directory_short_row = refl

@@ -17,5 +17,5 @@ pub use names::{
 };
 pub use wad::{
     COUNT_AT, DirRefusal, ENTRY_SIZE, HEADER_SIZE, Header, Lump, LumpNo, MAX_LUMPS, NAME_AT,
-    PLACE_AT, SIZE_AT, WORD_SIZE,
+    PLACE_AT, SIZE_AT,
 };

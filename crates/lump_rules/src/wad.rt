@@ -64,8 +64,6 @@ pub const ENTRY_SIZE: usize = 16;
 pub const SIZE_AT: usize = 4;
 /// Where in an entry the name of its lump stands, in bytes.
 pub const NAME_AT: usize = 8;
-/// The bytes of a count, an offset or a size.
-pub const WORD_SIZE: usize = 4;
 
 /// The most lumps that all files together may have.
 pub const MAX_LUMPS: u32 = 65535;

@@ -1,4 +1,5 @@
 -- The words of this crate and of those below it that others cite, by the page that each comes from.
+pub use Rattle.word_rules.specs.declared.TheConstants.{WORD_SIZE}
 unfoldable pub use Rattle.level_rules.specs.Levels.{child_on}
 pub use Rattle.level_rules.specs.declared.{Child.Child, Child.TheVariants.Leaf, Child.TheVariants.Node}
 pub use Rattle.level_rules.specs.declared.{PlacedThing.PlacedThing, Sector.Sector, Seg.Seg}
@@ -19,7 +20,7 @@ pub use Rattle.zone_rules.specs.Orders.{AreDistinct, AreRoomy, IsInOrder, Item, 
 pub use Rattle.zone_rules.specs.Requests.{gaps}
 pub use Rattle.zone_rules.specs.Zones.{Block, Heap, Holding, IsLive, IsZoneSize, Owner, block_size, bytes_of, holding_of, owned_block, same_owner}
 pub use Rattle.zone_rules.specs.declared.Tag.TheVariants.{Static}
-pub use Rattle.zone_rules.specs.declared.TheConstants.{MIN_FRAGMENT, WORD_SIZE}
+pub use Rattle.zone_rules.specs.declared.TheConstants.{MIN_FRAGMENT}
 pub use Rattle.scene_rules.specs.Middles.{middle_of}
 unfoldable pub use Rattle.scene_rules.specs.Middles.{bad_middle, is_all_single, is_bad_middle, is_bad_side, is_seen_through}
 unfoldable pub use Rattle.scene_rules.specs.Numbered.{each_from, each_or}

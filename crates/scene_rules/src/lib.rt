@@ -22,7 +22,8 @@ pub use level_rules::{
 pub use lump_rules::{DirRefusal, Name8};
 pub use outside::{Failed, Fault, MemorySink, PutFault, Sink};
 pub use view_rules::{Spans, TablesRefusal};
-pub use zone_rules::{MIN_FRAGMENT, WORD_SIZE};
+pub use word_rules::WORD_SIZE;
+pub use zone_rules::MIN_FRAGMENT;
 
 /// The bytes of a name of a lump or a texture.
 pub const NAME_SIZE: usize = lump_rules::NAME_SIZE;

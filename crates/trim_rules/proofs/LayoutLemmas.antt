@@ -1,14 +1,14 @@
 -- A new file of lumps is a WAD whose directory lists them.
 use Rattle.art_rules.proofs.Common.{[], AllByRecursion, and-false_right, ap, append-nil, append_assoc, arith, codes, cond, drop, drop-append-add, drop-append_seam, drop-drop, false, from_le_bytes, from_le_bytes-to_le_bytes_4, get_or, length, length-append, List, lt-false, nat_lt, None, not, Ok, option_map, position_or_len, position_or_len_is, refl, Some, suc, sym, take, take-append_seam, take-length, to_le_bytes, true, w32, zero, ℕ, ◌*◌, ◌++◌, ◌+◌, ◌<◌, ◌==◌, ◌^◌, ◌∙◌, ◌∷◌, ◌≡◌, ◌≤◌}
-use Rattle.byteorder.specs.Endian.{little_number}
+use Rattle.word_rules.specs.Bytes.{word_at}
 use Rattle.art_rules.proofs.Laws.{listed-all}
 use Rattle.trim_rules.specs.Rules.{ENTRY_SIZE, Entry, HEADER_SIZE, HEAD_SIZE, LETTER_COUNT, Lump, MAX_LUMPS, contents, directory, directory_place, entries, entries_in, entry_at, entry_count, entry_refusal, file_lumps, file_of, header, header_refusal, is_wad, lump_in, lumps_from, lumps_in, name_of, no_lump, passes_end, refusal_from, wad_file, whole_header_refusal, word_bytes}
 use Rattle.made_rules.specs.Wads as made
 use Rattle.trim_rules.specs.Files.{stored_from, stored_lumps}
 
 -- the number that four bytes spell
-pub word_value : (n : ℕ) (xs : List ℕ) → n < 2 ^ 32 → little_number 4 (word_bytes n ++ xs) ≡ n
-unfolding word_bytes
+pub word_value : (n : ℕ) (xs : List ℕ) → n < 2 ^ 32 → word_at (word_bytes n ++ xs) 0 ≡ n
+unfolding word_bytes word_at
 word_value n xs lt = let same_word : from_le_bytes w32 (to_le_bytes w32 n) ≡ n = from_le_bytes-to_le_bytes_4 n lt in omega (arith, same_word)
 
 -- a name as a directory spells it
@@ -38,7 +38,7 @@ name_part place lump spelled =
 -- an entry spells its lump
 entry-lump : (place : ℕ) (lump : made.Lump) → IsSpelled lump → place < 2 ^ 32 → length lump.bytes < 2 ^ 32
     → lump_in 0 (entry place lump) ≡ record { file = 0; place = place; size = length lump.bytes; name = lump.name }
-unfolding entry word_bytes
+unfolding entry word_bytes word_at
 entry-lump place lump spelled p s =
     same_lump _ _ _ _ _ _ (word_value place (word_bytes (length lump.bytes) ++ lump.name) p) (word_value (length lump.bytes) lump.name s) (name_part place lump spelled)
 
@@ -161,11 +161,11 @@ file-header lumps =
     ∙ take-append_seam head (contents lumps ++ entries HEAD_SIZE lumps)
 
 front-count : (count place : ℕ) → count < 2 ^ 32 → entry_count (front count place) ≡ count
-unfolding front
+unfolding front word_at
 front-count count place lt = word_value count (word_bytes place) lt
 
 front-place : (count place : ℕ) → place < 2 ^ 32 → directory_place (front count place) ≡ place
-unfolding front word_bytes
+unfolding front word_bytes word_at
 front-place count place lt = word_value place [] lt
 
 front-wad : (count place : ℕ) → is_wad (take LETTER_COUNT (front count place)) ≡ true

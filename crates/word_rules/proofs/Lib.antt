@@ -1,4 +1,5 @@
 pub mod WordLemmas
+pub mod ByteLemmas
 pub mod LeastLemmas
 pub mod ListedLemmas
 pub mod StepLemmas

@@ -2,7 +2,8 @@
 use Rattle.std.specs.Prelude.{◌≡◌, ℕ, ◌+◌, ◌*◌, ◌/◌, ◌%◌, ◌<◌, ◌≤◌, ◌==◌, ◌&&◌, Bool, true, false, not, if◌then◌else◌, List, [], ◌∷◌, length, find, sum_by, Option, Some, None, is_none, IsSome, option_and_then, option_map, ⊤}
 use Rattle.zone_rules.specs.declared.Tag.{Tag}
 use Rattle.zone_rules.specs.declared.Tag.TheVariants.{Static, Level, Cache}
-use Rattle.zone_rules.specs.declared.TheConstants.{HEADER_SIZE, MIN_FRAGMENT, WORD_SIZE, MIN_ZONE_SIZE, MAX_ZONE_SIZE}
+use Rattle.zone_rules.specs.declared.TheConstants.{HEADER_SIZE, MIN_FRAGMENT, MIN_ZONE_SIZE, MAX_ZONE_SIZE}
+use Rattle.word_rules.specs.declared.TheConstants.{WORD_SIZE}
 
 -- who holds a block: the code of the slot's kind, and the slot's number
 pub record Owner : Type 0 where
@@ -57,7 +58,7 @@ is_pinned b = pins b.holding
 abbrev pub free_block : ℕ → ℕ → Block
 free_block place size = record { place = place; size = size; holding = None }
 
--- the size of a block for n bytes: n rounded up to a multiple of 4, and the header
+-- the size of a block for n bytes: n rounded up to whole words, and the header
 abbrev pub block_size : ℕ → ℕ
 block_size n = (n + 3) / WORD_SIZE * WORD_SIZE + HEADER_SIZE
 

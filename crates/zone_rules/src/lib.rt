@@ -13,9 +13,6 @@ pub const HEADER_SIZE: u32 = 24;
 /// A rest of at most this many bytes stays in the block before it. The original: `MINFRAGMENT`.
 pub const MIN_FRAGMENT: u32 = 64;
 
-/// Bytes of a word: sizes of blocks and of the zone are multiples of it.
-pub const WORD_SIZE: u32 = 4;
-
 /// The least size of a zone, in bytes.
 pub const MIN_ZONE_SIZE: u32 = 64;
 

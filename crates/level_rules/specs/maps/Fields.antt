@@ -1,11 +1,10 @@
--- The fields of a map record. A number has two bytes, the low one first, and a name has eight.
+-- The fields of a map record. A number is a half word, and a name has eight bytes.
 use Rattle.std.specs.Prelude.{◌≡◌, ℕ, ◌*◌, ◌/◌, ◌^◌, ℤ, negsuc, List, [], ◌∷◌, length, take, drop, refl}
-use Rattle.std.specs.Int.{w16, cast_signed, int_wrap}
-use Rattle.byteorder.specs.Endian.{little_number}
-use Rattle.word_rules.specs.{Words.fixed, Words.shl_word, Listed.listed}
+use Rattle.std.specs.Int.{int_wrap}
+use Rattle.word_rules.specs.{Bytes.half_at, Bytes.signed_half_at, Words.fixed, Words.shl_word, Listed.listed}
 use Rattle.lump_rules.specs.Names.{name_of}
 use Rattle.word_rules.specs.declared.TheConstants.{FRACTION_BITS}
-use Rattle.level_rules.specs.declared.maps.layout.TheConstants.{WORD_SIZE, NAME_SIZE}
+use Rattle.level_rules.specs.declared.maps.layout.TheConstants.{NAME_SIZE}
 
 -- the bytes of record n, where a record has `size` bytes
 unfoldable pub record_at : ℕ → List ℕ → ℕ → List ℕ
@@ -14,14 +13,6 @@ record_at size bytes n = take size (drop (size * n) bytes)
 -- the whole records of a lump, each read by `read`; bytes after the last of them count for nothing
 unfoldable pub records_in : {R : Type 0} → (List ℕ → R) → ℕ → List ℕ → List R
 records_in read size bytes = listed (λ n. read (record_at size bytes n)) (length bytes / size)
-
--- the unsigned number at `offset`
-unfoldable pub half_at : List ℕ → ℕ → ℕ
-half_at entry offset = little_number WORD_SIZE (drop offset entry)
-
--- the same two bytes with a sign
-unfoldable pub signed_half_at : List ℕ → ℕ → ℤ
-signed_half_at entry offset = cast_signed w16 (half_at entry offset)
 
 -- whole map units at `offset`, in 16.16 fixed point
 unfoldable pub fixed_at : List ℕ → ℕ → ℤ

@@ -10,7 +10,8 @@ use Rattle.level_rules.specs.declared.maps.records.MapSeg.{MapSeg}
 use Rattle.level_rules.specs.declared.maps.records.MapLeaf.{MapLeaf}
 use Rattle.level_rules.specs.declared.maps.layout.TheConstants as at
 use Rattle.level_rules.specs.declared.maps.lumps.TheConstants.{LEAF_BIT}
-use Rattle.level_rules.specs.maps.Fields.{half_at, signed_half_at, fixed_at, angle_field, name_field, records_in}
+use Rattle.word_rules.specs.Bytes.{half_at, signed_half_at}
+use Rattle.level_rules.specs.maps.Fields.{fixed_at, angle_field, name_field, records_in}
 
 unfoldable pub thing_in : List ℕ → Thing
 thing_in e = record {

@@ -1,9 +1,6 @@
 // Where the fields of a record of each map lump begin, in bytes of the record, and how many bytes
 // a record has.
 
-/// The bytes of a number, the low one first.
-pub const WORD_SIZE: usize = 2;
-
 /// The bytes of a name.
 pub const NAME_SIZE: usize = lump_rules::NAME_SIZE;
 
