@@ -4,8 +4,7 @@ use Rattle.picture_rules.proofs.Common.{ap, arith, Bool, Err, false, IsErr, IsEr
 use Rattle.wall_columns.specs.Rules.{FragmentNumbers, IsAmongPlanes, OverLimit, Plane, PlaneChoice, PlaneKey, PlanesNow, ceiling_found, checked_plane, find, floor_found, planes_count, with_ceiling, with_floor}
 use Rattle.picture_rules.proofs.plane.PlaneLemmas.{length-find}
 use Rattle.visplanes.specs.Planes.{PlanesView, with_planes}
-use Rattle.wall_columns.specs.declared.fault.DrawFault.{DrawFault}
-use Rattle.wall_columns.specs.Faults.{limit_of_fault, limit_of_result}
+use Rattle.wall_columns.specs.Faults.{over_of}
 use Rattle.wall_columns.specs.Leaves.{planes_found, number_found, planes_checked, number_checked, ceiling_check, floor_check, over_room, planes_over, leaf_over, checks_over}
 
 within_test : (room count : ℕ) (t : Bool) → nat_lt room count ≡ t → (room < count → false ≡ true) → t ≡ false
@@ -15,15 +14,15 @@ within_test room count false e h = refl
 within : (room count : ℕ) → (room < count → false ≡ true) → nat_lt room count ≡ false
 within room count h = within_test room count (nat_lt room count) refl h
 
--- an answer that passes on a fault tells its limit
-pub limit-passed_on : {A : Type 0} (r : Result A DrawFault) (fault : DrawFault) → IsErr r → IsErrAnd r (λ e. e ≡ fault) → limit_of_result r ≡ limit_of_fault fault
-limit-passed_on (Ok value) fault h g = absurd (let false_is_true : false ≡ true = h in cc)
-limit-passed_on (Err other) fault h g = ap limit_of_fault g
+-- an answer that passes on a count tells it
+pub limit-passed_on : {A : Type 0} (r : Result A OverLimit) (over : OverLimit) → IsErr r → IsErrAnd r (λ e. e ≡ over) → over_of r ≡ Some over
+limit-passed_on (Ok value) over h g = absurd (let false_is_true : false ≡ true = h in cc)
+limit-passed_on (Err other) over h g = ap (λ (o : OverLimit). Some o) g
 
--- and so the limit of its call, where that is what the fault is
-pub limit-told : {A : Type 0} {over : Option OverLimit} {told : DrawFault} (r : Result A DrawFault) (fault : DrawFault) → IsErr r →
-    IsErrAnd r (λ e. e ≡ fault) → fault ≡ told → over ≡ limit_of_fault told → limit_of_result r ≡ over
-limit-told r fault failed is e h = limit-passed_on r fault failed is ∙ ap limit_of_fault e ∙ sym h
+-- and so what its call tells, where that is what the count is
+pub limit-told : {A : Type 0} {found : Option OverLimit} {told : OverLimit} (r : Result A OverLimit) (over : OverLimit) → IsErr r →
+    IsErrAnd r (λ e. e ≡ over) → over ≡ told → found ≡ Some told → over_of r ≡ found
+limit-told r over failed is e h = limit-passed_on r over failed is ∙ ap (λ (o : OverLimit). Some o) e ∙ sym h
 
 -- a count past the room is told, and no other
 pub over_room-passed : (limit : ℕ → OverLimit) (room count : ℕ) (next : Option OverLimit) → room < count → over_room limit room count next ≡ Some (limit count)

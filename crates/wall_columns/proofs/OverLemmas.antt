@@ -1,11 +1,16 @@
 -- Laws of the first count of a step that passes its limit.
-use Rattle.picture_rules.proofs.Common.{ap, arith, Bool, cond, Err, false, length, List, nat_lt, None, Ok, OnOk, Option, refl, Result, Some, sym, true, ℕ, ◌+◌, ◌-◌, ◌∙◌, ◌≡◌}
+use Rattle.picture_rules.proofs.Common.{ap, arith, Bool, cond, Err, false, IsErr, IsErrAnd, length, List, nat_lt, None, Ok, OnOk, Option, refl, Result, Some, sym, true, ℕ, ◌+◌, ◌-◌, ◌∙◌, ◌≡◌}
 use Rattle.wall_columns.specs.Rules.{FragmentNote, FragmentNumbers, OverLimit, PlaneKey, PlanesNow, ViewValue, Wall, WallFacts, ceiling_checked, floor_checked, fragment_numbers, limit_of, openings_count, openings_counts, openings_of, passes_limit, plane_counts, plane_wall, planes_count, room_if, wall_of, wall_step}
 use Rattle.picture_rules.proofs.wall.NoteLemmas.{length-saved_by, length-saved_openings}
 use Rattle.visplanes.specs.{Planes.PlanesView, declared.planes.PlaneNo.PlaneNo}
-use Rattle.wall_columns.specs.{declared.fault.DrawFault.DrawFault, Walls.WallsView}
-use Rattle.wall_columns.specs.declared.fault.DrawFault.TheVariants.{Planes, Openings, ZoneFull, ReadFault}
-use Rattle.wall_columns.specs.{Places.places_of, Faults.limit_of_fault, Faults.IsLimitFault}
+use Rattle.picture_rules.specs.declared.LimitKind.{LimitKind}
+use Rattle.picture_rules.specs.declared.LimitKind.TheVariants.{Openings, Planes}
+use Rattle.wall_columns.specs.declared.fault.{DrawFault.DrawFault, WallStop.WallStop}
+use Rattle.wall_columns.specs.declared.fault.WallStop.TheVariants.{Brush, Over}
+use Rattle.wall_columns.specs.{Places.places_of, Walls.WallsView}
+use Rattle.wall_columns.specs.Faults.{from_cache_fault, from_over, from_stop, limit_of_fault, limit_of_result, over_of, over_of_stop}
+use Rattle.texture_build.specs.CacheFault.{CacheFault}
+use Rattle.texture_build.specs.CacheFault.TheVariants as cache
 use Rattle.wall_columns.specs.{declared.column_state.ColumnState.ColumnState, States.walls_view}
 use Rattle.wall_edges.specs.Fragments.{FragmentValue, fragment_of}
 use Rattle.wall_columns.specs.Columns.{plane_number}
@@ -50,13 +55,9 @@ some_over : (t : Bool) (o : OverLimit) (count : ℕ) (next : Option OverLimit) �
 some_over true o count next e = e
 some_over false o count next e = cc
 
-pub openings_over-stop : (fault : DrawFault) (room count : ℕ) (next : Option OverLimit) → IsLimitFault fault → limit_of_fault fault ≡ openings_over room count None →
-    limit_of_fault fault ≡ openings_over room count next
+pub openings_over-stop : (over : OverLimit) (room count : ℕ) (next : Option OverLimit) → Some over ≡ openings_over room count None → Some over ≡ openings_over room count next
 unfolding over_room
-openings_over-stop (Planes n) room count next h e = some_over (nat_lt room count) (planes_count n) count next e
-openings_over-stop (Openings n) room count next h e = some_over (nat_lt room count) (openings_count n) count next e
-openings_over-stop (ZoneFull wanted widest) room count next h e = absurd h
-openings_over-stop ReadFault room count next h e = absurd h
+openings_over-stop over room count next e = some_over (nat_lt room count) over count next e
 
 none_over : (t : Bool) (count : ℕ) (next : Option OverLimit) → None ≡ cond t (Some (openings_count count)) None → next ≡ cond t (Some (openings_count count)) next
 none_over true count next e = cc
@@ -85,3 +86,32 @@ limit-range v facts first last n f notes columns planes e g view is walls s h =
     ∙ ap (λ (n : FragmentNumbers). openings_over columns.openings.room (places_of n (length columns.openings.saved) (last + 1 - first)).end (checks_over planes.room n first last s)) numbers
     ∙ step_over_wall v walls facts first last (walls_view notes columns) planes s (length columns.openings.saved)
     ∙ ap (λ (w : WallsView). step_over (limits_of w planes) s (length w.openings) (step_of_wall v walls (wall_of v facts first last))) view
+
+-- the fault of a count tells the count
+kind_told : (kind : LimitKind) (count : ℕ) → limit_of_fault (from_over (record { kind = kind; count = count })) ≡ Some (record { kind = kind; count = count })
+unfolding planes_count openings_count
+kind_told Planes count = refl
+kind_told Openings count = refl
+
+pub over-told : (over : OverLimit) → limit_of_fault (from_over over) ≡ Some over
+over-told over = kind_told over.kind over.count
+
+-- so does a call that passes it on
+pub over-above : {A B : Type 0} (lower : Result A OverLimit) (over : OverLimit) (result : Result B DrawFault) → lower ≡ Err over → IsErr result → IsErrAnd result (λ e. e ≡ from_over over) →
+    limit_of_result result ≡ over_of lower
+over-above lower over (Ok value) was failed is = absurd (let false_is_true : false ≡ true = failed in cc)
+over-above lower over (Err fault) was failed is = ap limit_of_fault is ∙ over-told over ∙ sym (ap over_of was)
+
+-- and a stop tells the count that it has, if any
+cache_told : (fault : CacheFault) → limit_of_fault (from_cache_fault fault) ≡ None
+cache_told (cache.ZoneFull wanted widest) = refl
+cache_told cache.ReadFault = refl
+
+stop_told : (stop : WallStop CacheFault) → limit_of_fault (from_stop stop) ≡ over_of_stop (let answer : Result (Unit {0}) (WallStop CacheFault) = Err stop in answer)
+stop_told (Over over) = over-told over
+stop_told (Brush fault) = cache_told fault
+
+pub stop-above : {A B : Type 0} (lower : Result A (WallStop CacheFault)) (stop : WallStop CacheFault) (result : Result B DrawFault) → lower ≡ Err stop → IsErr result → IsErrAnd result (λ e. e ≡ from_stop stop) →
+    limit_of_result result ≡ over_of_stop lower
+stop-above lower stop (Ok value) was failed is = absurd (let false_is_true : false ≡ true = failed in cc)
+stop-above lower stop (Err fault) was failed is = ap limit_of_fault is ∙ stop_told stop ∙ sym (ap over_of_stop was)

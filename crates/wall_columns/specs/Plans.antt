@@ -78,11 +78,6 @@ IsInRows height s = HasRows s → (pos 0 ≤ℤ s.rows.first) × (s.rows.last <�
 abbrev pub IsStripTexture : WallStrip → ℕ → Type 0
 IsStripTexture s number = HasRows s × (number ≡ s.part.number)
 
--- a texture of one of the strips of a plan
-abbrev pub IsPlanTexture : FragmentNumbers → ColumnPlan → ℕ → Type 0
-IsPlanTexture n plan number = IsStripTexture (middle_strip n plan) number
-    ⊎ (IsStripTexture (top_strip n plan) number ⊎ IsStripTexture (bottom_strip n plan) number)
-
 -- a texture of one of the parts
 abbrev pub IsPartTexture : FragmentNumbers → ℕ → Type 0
 IsPartTexture n number = (number ≡ n.middle_part.number)

@@ -1,12 +1,11 @@
 -- What walls are drawn with, by the values of their tools.
-use Rattle.std.specs.Prelude.{◌≡◌, ◌<◌, ℕ, List, length, All}
-use Rattle.wall_columns.specs.Rules.{Dot, FragmentNumbers, ShelfView, ViewValue, Wall, WallFacts, lump_bytes, wall_dots, wall_of}
-use Rattle.pixel_strips.specs.{Canvases.CanvasView, Standing.StandsInFrame}
-use Rattle.texture_build.specs.{Arts.view_art, Draws.CanDraw}
+use Rattle.std.specs.Prelude.{◌≡◌, ℕ, List, length}
+use Rattle.wall_columns.specs.Rules.{Dot, ShelfView, ViewValue, Wall, WallFacts, lump_bytes, wall_dots, wall_of}
+use Rattle.pixel_strips.specs.Canvases.{CanvasView}
+use Rattle.texture_build.specs.Arts.{view_art}
 use Rattle.texture_build.specs.Paints.{PaintState, PaintTools, paint_state, paint_tools}
 use Rattle.wall_columns.specs.declared.tools.WallTools.{WallTools}
-use Rattle.wall_columns.specs.{declared.clips.ColumnPlan.ColumnPlan, Built.with_wall}
-use Rattle.wall_columns.specs.Plans.{HasRows, IsInRows, strips_by}
+use Rattle.wall_columns.specs.Built.{with_wall}
 
 -- what a call paints with, and what it writes
 abbrev pub wall_tools : {S C : Type 0} → WallTools S C → PaintTools

@@ -135,6 +135,7 @@ impl Fragment {
     ///
     /// The original: `texturecolumn`, r_segs.c.
     #[inline(always)]
+    #[tactic(auto, unfolding(picture_rules::specs::wall::Columns::texture_column))]
     pub fn column_at(&self, view: &View<'_>, x: u16) -> i32
         requires { x < view.now.shape.width }
         ensures facts { (facts : WallFacts) (first last : ℕ) →

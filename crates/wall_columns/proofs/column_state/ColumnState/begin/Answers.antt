@@ -11,7 +11,7 @@ returns-in_err-places-clause-limit c = λ s e.
     let end : ℕ = (places_of c.args.numbers.now (length c.args.self.now.openings.saved) (c.args.last + 1 - c.args.first)).end in
     limit-passed_on c.from_residual.result c.in_err-places.field-0.0 c.from_residual.ensures.0 c.from_residual.ensures.1
     ∙ openings_over-stop c.in_err-places.field-0.0 c.args.self.now.openings.room end (checks_over c.args.planes.now.room c.args.numbers.now c.args.first c.args.last s)
-    c.in_err-places.ensures.faults c.in_err-places.ensures.limit
+    c.in_err-places.ensures.limit
 
 pub returns-in_err-check_planes-clause-limit : goal.returns-in_err-check_planes-clause-limit
 returns-in_err-check_planes-clause-limit c = λ s e.

@@ -13,7 +13,7 @@ returns-in_err-self-clause-limit c = λ s e.
     let ceiling = plane_number c.args.self.now.ceiling in
     let counts = checks_over-counts planes.room s planes numbers c.args.first c.args.last (plane_number c.args.self.now.floor) ceiling e
     (with_planes (planes_checked planes.planes (checked_plane numbers.ceiling_mark planes.planes ceiling c.args.first c.args.last)) planes) refl in
-    limit-told c.from_residual.result _ c.from_residual.ensures.0 c.from_residual.ensures.1 c.in_err-self.ensures.fault (counts.first (c.in_err-self.ensures.full.0 refl))
+    limit-told c.from_residual.result _ c.from_residual.ensures.0 c.from_residual.ensures.1 c.in_err-self.ensures.over (counts.first (c.in_err-self.ensures.full.0 refl))
 
 pub returns-in_err-self-2-clause-limit : goal.returns-in_err-self-2-clause-limit
 returns-in_err-self-2-clause-limit c = λ s e.
@@ -25,7 +25,7 @@ returns-in_err-self-2-clause-limit c = λ s e.
     let room_same = c.in_ok-self.ensures.room in
     let room_below_length : c.check_plane.new.planes.room < length (planes_checked c.check_plane.new.planes.planes (checked_plane numbers.floor_mark c.check_plane.new.planes.planes floor c.args.first c.args.last)) =
     c.in_err-self-2.ensures.full.0 refl in
-    limit-told c.from_residual-in_err-self-2.result _ c.from_residual-in_err-self-2.ensures.0 c.from_residual-in_err-self-2.ensures.1 c.in_err-self-2.ensures.fault
+    limit-told c.from_residual-in_err-self-2.result _ c.from_residual-in_err-self-2.ensures.0 c.from_residual-in_err-self-2.ensures.1 c.in_err-self-2.ensures.over
     (counts.second c.in_ok-self.ensures.full.1 (omega arith))
 
 pub returns-clause-ok : goal.returns-clause-ok

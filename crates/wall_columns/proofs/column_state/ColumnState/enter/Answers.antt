@@ -10,7 +10,7 @@ returns-in_err-self-clause-limit c = λ s e.
     let planes = c.args.planes.now in
     let counts = leaf_over-counts planes.room s planes c.args.leaf.floor c.args.leaf.ceiling (plane_number c.args.self.now.floor) (plane_number c.args.self.now.ceiling) e
     (with_planes (planes_found planes.planes c.args.leaf.floor) planes) refl in
-    limit-told c.from_residual.result _ c.from_residual.ensures.0 c.from_residual.ensures.1 c.in_err-self.ensures.fault (counts.first (c.in_err-self.ensures.full.0 refl))
+    limit-told c.from_residual.result _ c.from_residual.ensures.0 c.from_residual.ensures.1 c.in_err-self.ensures.over (counts.first (c.in_err-self.ensures.full.0 refl))
 
 pub returns-in_err-self-2-clause-limit : goal.returns-in_err-self-2-clause-limit
 returns-in_err-self-2-clause-limit c = λ s e.
@@ -19,7 +19,7 @@ returns-in_err-self-2-clause-limit c = λ s e.
     c.find_plane.new.planes c.in_ok-self.ensures.ok in
     let room_same = c.in_ok-self.ensures.room in let room_below_length :
     c.find_plane.new.planes.room < length (planes_found c.find_plane.new.planes.planes c.args.leaf.ceiling) = c.in_err-self-2.ensures.full.0 refl in
-    limit-told c.from_residual-in_err-self-2.result _ c.from_residual-in_err-self-2.ensures.0 c.from_residual-in_err-self-2.ensures.1 c.in_err-self-2.ensures.fault
+    limit-told c.from_residual-in_err-self-2.result _ c.from_residual-in_err-self-2.ensures.0 c.from_residual-in_err-self-2.ensures.1 c.in_err-self-2.ensures.over
     (counts.second c.in_ok-self.ensures.full.1 (omega arith))
 
 pub returns-clause-ok : goal.returns-clause-ok

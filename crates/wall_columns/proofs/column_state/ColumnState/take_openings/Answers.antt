@@ -1,7 +1,7 @@
 -- The places end where the openings end, and their count is told where it passes the room.
 use Rattle.std.proofs.Common.{◌≡◌, ◌<◌, ◌+◌, ◌-◌, ℕ, Some, None, length, arith, refl, ap, sym, ◌∙◌}
-use Rattle.picture_rules.specs.Words.{openings_count}
-use Rattle.wall_columns.specs.{declared.notes.SavePlaces.SavePlaces, Faults.limit_of_fault}
+use Rattle.picture_rules.specs.{Words.openings_count, declared.OverLimit.OverLimit}
+use Rattle.wall_columns.specs.declared.notes.SavePlaces.{SavePlaces}
 use Rattle.wall_columns.specs.Places.{places_of}
 use Rattle.wall_columns.proofs.LeafLemmas.{limit-passed_on, over_room-passed, over_room-within}
 use Rattle.wall_columns.proofs.NoteLemmas.{places_of-end, places_of-within}
@@ -18,7 +18,7 @@ returns-in_err-extend-clause-limit c =
     let end_is : c.save_places-places.result.end ≡ (places_of c.args.numbers.now (length c.args.self.now.openings.saved) (c.args.last + 1 - c.args.first)).end =
     ap (λ (p : SavePlaces). p.end) c.save_places-places.ensures ∙ ap (λ (n : ℕ). (places_of c.args.numbers.now n (c.args.last + 1 - c.args.first)).end) c.count.ensures.value in
     limit-passed_on c.from_residual.result c.in_err-extend.field-0.0 c.from_residual.ensures.0 c.from_residual.ensures.1
-    ∙ ap limit_of_fault c.in_err-extend.ensures.fault
+    ∙ ap (λ (o : OverLimit). Some o) c.in_err-extend.ensures.over
     ∙ ap (λ (n : ℕ). Some (openings_count n)) end_is ∙ sym (over_room-passed openings_count room _ None
     (let end_past_room : room < c.save_places-places.result.end = c.in_err-extend.ensures.full.0 refl in omega arith))
 

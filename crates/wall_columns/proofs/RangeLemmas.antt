@@ -1,0 +1,199 @@
+-- A brush that is asked for the strips of the fragment of a seg draws it: which it takes, what they show, and their dots.
+use Rattle.picture_rules.proofs.Common.{[], ap, append-nil, arith, Bool, cond, Contains, Err, false, inl, inr, int_lt, IsErrAnd, ints, length, List, lt-true, map, nat_lt, nat_tests, negsuc, Ok, pos, refl, Result, subst, suc, sym, true, ℕ, ℤ, ◌++◌, ◌+◌, ◌-◌, ◌<ℤ◌, ◌<◌, ◌∙◌, ◌∷◌, ◌≡◌, ◌≢◌, ◌≤ℤ◌, ◌≤◌}
+use Rattle.wall_columns.specs.Rules.{Art, ColumnClip, Dot, Edges, FRAME_HEIGHT, FRAME_WIDTH, FragmentNumbers, MAX_DRAWSEGS, Painter, Plane, PlanesNow, ViewValue, WALL, Wall, WallFacts, WallStrip, clip_before, column_dots, edges_at, fault_above, fragment_numbers, joined_lists, listed_from, natural, painter_of, rows_between, strip_dots, texture_column, wall_colour, wall_column, wall_column_by, wall_dots, wall_edges, wall_of, wall_strips}
+use Rattle.picture_rules.proofs.Laws.{joined_lists-append}
+use Rattle.picture_rules.proofs.wall.WallLemmas.{clip_before-front}
+use Rattle.receiver_rules.proofs.FirstLemmas.{first-from, first-same, first_lists, joined-joined}
+use Rattle.wall_edges.specs.{Fragments.FragmentValue, Fragments.fragment_of, Lines.column_of_line}
+use Rattle.pixel_strips.specs.{Canvases.CanvasView, Standing.StandsInFrame}
+use Rattle.texture_build.specs.{CacheFault.CacheFault, Caches.cache_fault, Draws.CanDraw}
+use Rattle.texture_build.specs.CacheFault.TheVariants as cache
+use Rattle.texture_build.specs.Paints.{PaintState, PaintTools, Paints, painted_art}
+use Rattle.texture_build.specs.Strips.{IsTextureIn, texture_colour, texture_dots}
+use Rattle.texture_build.proofs.DrawLemmas.{IsMapped}
+use Rattle.texture_build.proofs.PaintLemmas.{paints-asked, paints-mapped, paints-same, paints-wider}
+use Rattle.brush.specs.Strips.{IsColumnOf, IsLumpOf, ShowsColumn, ShowsLump, Strip, Texture, strips_dots, strip_dots as dots_of_strip}
+use Rattle.brush.specs.Works.{BrushNames, BrushValue, CanTake, PaintsStrips}
+use Rattle.wall_columns.specs.declared.fault.DrawFault.{DrawFault}
+use Rattle.wall_columns.specs.declared.paint.ColumnLook.{ColumnLook}
+use Rattle.wall_columns.specs.{Built.AreBehind, Built.IsBuilt, Built.with_wall, Columns.column_edges, Columns.columns_of}
+use Rattle.wall_columns.specs.Draws.{IsNoPicture, IsSeenOf, IsWallTexture}
+use Rattle.wall_columns.specs.Faults.{draw_fault, from_cache_fault}
+use Rattle.wall_columns.specs.Plans.{IsPartTexture}
+use Rattle.wall_columns.specs.Strips.{AreOpenIn, CanShow, column_strips, fragment_strips, look_at, part_strip, part_strips, range_strips}
+use Rattle.wall_columns.specs.Walls.{WallsView, clip_at}
+use Rattle.wall_columns.proofs.{BuiltLemmas.built-count, ClipLemmas.edges_at-words}
+use Rattle.wall_columns.proofs.PlanLemmas.{wall_strips-in, wall_strips-there}
+use Rattle.wall_columns.proofs.SightLemmas.{numbers-light, numbers-scale, numbers-texture}
+use Rattle.wall_columns.proofs.StripLemmas.{IsPartOf, fragment-cases, strips-all, strips_along}
+
+scale_least : (z : ℤ) → pos 0 <ℤ z → pos 0 ≤ℤ z
+scale_least z h = omega (arith, ints)
+
+own_scale : (v : ViewValue) (facts : WallFacts) (first last k : ℕ) → k ≤ last - first → pos 0 ≤ℤ (edges_at v.shape (fragment_numbers v facts first last) k).scale
+unfolding edges_at
+own_scale v facts first last k l = scale_least _ (numbers-scale v facts first last k l)
+
+-- the fragment of a seg can be shown
+pub can_show-of : (v : ViewValue) (facts : WallFacts) (first last : ℕ) (f : FragmentValue) → f ≡ fragment_of v facts first last → last < v.shape.width → CanShow v f
+can_show-of v facts first last f is within =
+    subst (CanShow v) (sym is) (record {
+      within = within;
+      scales = λ k l. own_scale v facts first last k l;
+      light = numbers-light v facts first last;
+    })
+
+-- where there is room for a note the strips are the fragment's, else there are none
+if_room : (b : Bool) (strips : List Strip) (strip : Strip) → Contains (cond b strips []) strip → (b ≡ true) × Contains strips strip
+if_room true strips strip h = (refl, h)
+if_room false strips strip h = absurd (omega (arith, h.1))
+
+pub range-none : (v : ViewValue) (state : WallsView) (facts : WallFacts) (first last : ℕ) → nat_lt (length state.notes) MAX_DRAWSEGS ≡ false → [] ≡ range_strips v state facts first last
+unfolding range_strips
+range-none v state facts first last is = sym (ap (λ (b : Bool). cond b (fragment_strips v (length state.notes) (fragment_of v facts first last) (clip_at state)) []) is)
+
+pub range-some : (v : ViewValue) (state : WallsView) (facts : WallFacts) (first last : ℕ) → length state.notes < MAX_DRAWSEGS →
+    fragment_strips v (length state.notes) (fragment_of v facts first last) (clip_at state) ≡ range_strips v state facts first last
+unfolding range_strips
+range-some v state facts first last room =
+    sym (ap (λ (b : Bool). cond b (fragment_strips v (length state.notes) (fragment_of v facts first last) (clip_at state)) []) (lt-true (length state.notes) MAX_DRAWSEGS room))
+
+abbrev IsRangePart : ViewValue → WallsView → WallFacts → ℕ → ℕ → Strip → Type 0
+IsRangePart v state facts first last strip = IsPartOf v (length state.notes) (fragment_of v facts first last) (clip_at state) strip
+
+pub range-cases : (v : ViewValue) (state : WallsView) (facts : WallFacts) (first last : ℕ) (strip : Strip) → Contains (range_strips v state facts first last) strip → IsRangePart v state facts first last strip
+unfolding range_strips
+range-cases v state facts first last strip h =
+    fragment-cases v (length state.notes) (fragment_of v facts first last) (clip_at state) strip
+    (if_room (nat_lt (length state.notes) MAX_DRAWSEGS) (fragment_strips v (length state.notes) (fragment_of v facts first last) (clip_at state)) strip h).1
+
+-- a strip in the columns and rows of a view lies in its frame
+in_frame : (from to : ℤ) (x left top width height : ℕ) → from ≤ℤ to → pos 0 ≤ℤ from → to <ℤ pos height → x < width → left + width ≤ FRAME_WIDTH → top + height ≤ FRAME_HEIGHT →
+    (natural from ≤ natural to) × ((x + left < FRAME_WIDTH) × (natural to + top < FRAME_HEIGHT))
+unfolding natural
+in_frame (pos a) (pos b) x left top width height ordered least most column columns rows = (omega (arith, ints), (omega (arith, ints), omega (arith, ints)))
+in_frame (pos a) (negsuc b) x left top width height ordered least most column columns rows = absurd (omega (arith, ints))
+in_frame (negsuc a) to x left top width height ordered least most column columns rows = absurd (omega (arith, ints))
+
+-- a brush takes each of them
+pub record CanTakeRange (p : BrushValue) (v : ViewValue) (state : WallsView) (facts : WallFacts) (last : ℕ) : Type 0 where
+  pub within : last < v.shape.width
+  pub height : state.height ≡ v.shape.height
+  pub placed : StandsInFrame v.shape p.state.canvas
+  pub slots : length p.tools.dir.lumps ≤ p.state.cache.lumps
+  pub colormap : p.tools.colormap < length p.tools.dir.lumps
+  pub textures : (number : ℕ) → IsWallTexture facts number → CanDraw p.tools.dir.lumps p.tools.textures p.state.cache number
+
+pub range-taken : (p : BrushValue) (v : ViewValue) (state : WallsView) (facts : WallFacts) (first last : ℕ) → CanTakeRange p v state facts last → AreOpenIn state →
+    (strip : Strip) → Contains (range_strips v state facts first last) strip → CanTake p strip
+unfolding part_strip look_at column_edges
+range-taken p v state facts first last can open strip h =
+    let one = range-cases v state facts first last strip h in
+    let numbers = fragment_numbers v facts first last in
+    let edges = edges_at v.shape numbers (one.x - first) in
+    let rows_in_frame = can.placed.rows in
+    let width_in_frame = can.placed.columns in
+    let last_inside = can.within in
+    let rows = wall_strips-in state.height numbers (clip_at state one.x) edges one.part (omega (arith, can.height, rows_in_frame)) (open one.x (omega (arith, one.to, last_inside, width_in_frame))) (edges_at-words v.shape numbers (one.x - first)) one.among one.rows in
+    let below : one.part.rows.last <ℤ pos v.shape.height = subst (λ (m : ℕ). one.part.rows.last <ℤ pos m) can.height rows.1 in
+    let there = wall_strips-there numbers (clip_at state one.x) edges one.part one.among in
+    subst (CanTake p) one.is (record {
+      slots = record { lumps = can.slots; colormap = can.colormap };
+      texture = can.textures one.part.part.number (there.0, numbers-texture v facts first last one.part.part.number there.0 there.1);
+      within = in_frame one.part.rows.first one.part.rows.last one.x p.state.canvas.left p.state.canvas.top v.shape.width v.shape.height one.rows rows.0 below
+          (omega (arith, one.to, last_inside)) width_in_frame rows_in_frame;
+    })
+
+-- a column of a texture that they show is seen of the fragment
+columns-shown : (v : ViewValue) (state : WallsView) (facts : WallFacts) (first last number : ℕ) (own : ℤ) → ShowsColumn (range_strips v state facts first last) number own →
+    IsSeenOf v state facts first last number own
+unfolding part_strip look_at column_edges wall_of wall_edges texture_column
+columns-shown v state facts first last number own shows =
+    let one = range-cases v state facts first last shows.strip shows.among in
+    let same = subst (λ (s : Strip). IsColumnOf s number own) (sym one.is) shows.is in
+    record { x = one.x; from = one.from; to = one.to; strip = one.part; among = one.among; texture = (one.rows, same.0); is = same.1 }
+
+lumps-shown : (v : ViewValue) (state : WallsView) (facts : WallFacts) (first last lump : ℕ) → ShowsLump (range_strips v state facts first last) lump → IsNoPicture lump
+lumps-shown v state facts first last lump shows =
+    let one = range-cases v state facts first last shows.strip shows.among in
+    subst (λ (s : Strip). IsLumpOf s lump) (sym one.is) shows.is
+
+-- and its texture is one of the seg's
+pub seen-texture : (v : ViewValue) (state : WallsView) (facts : WallFacts) (first last number : ℕ) (own : ℤ) → IsSeenOf v state facts first last number own → IsWallTexture facts number
+unfolding wall_of
+seen-texture v state facts first last number own h =
+    let numbers = fragment_numbers v facts first last in
+    let part_there = wall_strips-there numbers (clip_at state h.x) (wall_edges v.shape (wall_of v facts first last) h.x) h.strip h.among in
+    let has_number = subst (λ (m : ℕ). m ≢ 0) (sym h.texture.1) part_there.0 in
+    (has_number, numbers-texture v facts first last number has_number (subst (IsPartTexture numbers) (sym h.texture.1) part_there.1))
+
+-- the dots of a part, with rows or without
+dots_by : (v : ViewValue) (art : Art) (k : ℕ) (f : FragmentValue) (x : ℕ) (e : Edges) (s : WallStrip) (b : Bool) →
+    strips_dots art (cond b [] (Texture (part_strip v.shape (look_at v k f x e) s) ∷ []))
+    ≡ column_dots (painter_of WALL k (art.texture_source s.part.number (column_of_line v f.line x))) x
+    (wall_colour v art s.part f.numbers.light (column_of_line v f.line x) e.scale) (cond b [] (listed_from (λ y. y) (natural s.rows.first) (natural s.rows.last)))
+unfolding strips_dots joined_lists column_dots texture_dots texture_colour part_strip look_at wall_colour
+dots_by v art k f x e s true = refl
+dots_by v art k f x e s false = append-nil (texture_dots art (part_strip v.shape (look_at v k f x e) s))
+
+part_dots : (v : ViewValue) (art : Art) (k : ℕ) (f : FragmentValue) (x : ℕ) (e : Edges) (s : WallStrip) →
+    strips_dots art (part_strips v.shape (look_at v k f x e) s) ≡ strip_dots v art k x f.numbers.light (column_of_line v f.line x) e.scale s
+unfolding part_strips strip_dots rows_between
+part_dots v art k f x e s = dots_by v art k f x e s (int_lt s.rows.last s.rows.first)
+
+-- those of a column
+column_dots_are : (v : ViewValue) (art : Art) (k : ℕ) (facts : WallFacts) (first last : ℕ) (before : ℕ → ColumnClip) (x : ℕ) →
+    strips_dots art (column_strips v k (fragment_of v facts first last) before x) ≡ wall_column_by v art k x (wall_of v facts first last) (before x) (wall_edges v.shape (wall_of v facts first last) x)
+unfolding strips_dots column_strips wall_column_by wall_edges column_edges wall_of texture_column
+column_dots_are v art k facts first last before x =
+    let f : FragmentValue = fragment_of v facts first last in
+    let e : Edges = edges_at v.shape (fragment_numbers v facts first last) (x - first) in
+    joined-joined (dots_of_strip art) (part_strips v.shape (look_at v k f x e)) (wall_strips f.numbers (before x) e)
+    ∙ ap (λ (g : WallStrip → List Dot). joined_lists g (wall_strips f.numbers (before x) e)) (λ i s. part_dots v art k f x e s i)
+
+column_wall : (v : ViewValue) (art : Art) (ws : List Wall) (k : ℕ) (facts : WallFacts) (first last : ℕ) (before : ℕ → ColumnClip) (x : ℕ) → before x ≡ clip_before v.shape ws k x →
+    strips_dots art (column_strips v k (fragment_of v facts first last) before x) ≡ wall_column v art ws k (wall_of v facts first last) x
+unfolding wall_column
+column_wall v art ws k facts first last before x same =
+    column_dots_are v art k facts first last before x
+    ∙ ap (λ (c : ColumnClip). wall_column_by v art k x (wall_of v facts first last) c (wall_edges v.shape (wall_of v facts first last) x)) same
+
+-- and those of a fragment
+fragment_dots : (v : ViewValue) (art : Art) (ws : List Wall) (k : ℕ) (facts : WallFacts) (first last : ℕ) (before : ℕ → ColumnClip) →
+    ((x : ℕ) → first ≤ x → x ≤ last → before x ≡ clip_before v.shape ws k x) →
+    strips_dots art (fragment_strips v k (fragment_of v facts first last) before) ≡ wall_dots v art ws k (wall_of v facts first last)
+unfolding strips_dots fragment_strips wall_dots wall_of
+fragment_dots v art ws k facts first last before same =
+    let f : FragmentValue = fragment_of v facts first last in
+    let columns : ℕ → List Dot = λ x. joined_lists (dots_of_strip art) (column_strips v k f before x) in
+    joined-joined (dots_of_strip art) (column_strips v k f before) (listed_from (λ x. x) first last)
+    ∙ sym (first-from columns first last)
+    ∙ first-same (λ n. columns (first + n)) (λ n. wall_column v art ws k (wall_of v facts first last) (first + n)) (last + 1 - first)
+    (λ n l. column_wall v art ws k facts first last before (first + n) (same (first + n) (omega arith) (omega (arith, l))))
+    ∙ first-from (wall_column v art ws k (wall_of v facts first last)) first last
+
+range_dots_are : (v : ViewValue) (art : Art) (state : WallsView) (facts : WallFacts) (first last : ℕ) (walls : List Wall) (s : PlanesNow) (planes : List Plane) → last < v.shape.width →
+    IsBuilt v walls s state planes → length walls < MAX_DRAWSEGS →
+    strips_dots art (range_strips v state facts first last) ≡ wall_dots v art (with_wall walls (wall_of v facts first last)) (length walls) (wall_of v facts first last)
+range_dots_are v art state facts first last walls s planes within built room =
+    let count = built-count v walls s state planes built in
+    let w : Wall = wall_of v facts first last in
+    ap (strips_dots art) (sym (range-some v state facts first last (omega arith)))
+    ∙ ap (λ (k : ℕ). strips_dots art (fragment_strips v k (fragment_of v facts first last) (clip_at state))) count
+    ∙ fragment_dots v art (with_wall walls w) (length walls) facts first last (clip_at state)
+    (λ x from to. built.clips x (omega (arith, to, within)) ∙ sym (clip_before-front v.shape walls (w ∷ []) (length walls) x (omega arith)))
+
+-- so a call that paints these strips draws the fragment
+pub range-drawn : {mark : Painter → ℕ → ℕ} {a b : PaintState} {result : Result (Unit {0}) CacheFault} (t : PaintTools) (v : ViewValue) (state : WallsView) (facts : WallFacts) (first last : ℕ) (planes : List Plane) → last < v.shape.width →
+    PaintsStrips mark t (range_strips v state facts first last) a b result →
+    Paints cache_fault mark t (IsSeenOf v state facts first last) IsNoPicture (AreBehind v state planes)
+    (λ contents behind. wall_dots v (painted_art contents t) (with_wall behind.0 (wall_of v facts first last)) (length behind.0) (wall_of v facts first last)) a b result
+range-drawn t v state facts first last planes within one =
+    paints-same _ (λ contents (behind : List Wall × PlanesNow) are. range_dots_are v (painted_art contents t) state facts first last behind.0 behind.1 planes within are.0 are.1)
+    (paints-asked {first = λ (q : Unit {0}). Unit {0}} (AreBehind v state planes) (λ behind. tt) (λ behind are. tt)
+    (paints-wider (columns-shown v state facts first last) (lumps-shown v state facts first last) one))
+
+-- a fault of the cache is the same fault here
+pub cache-above : (e : CacheFault) → draw_fault (from_cache_fault e) ≡ fault_above (λ (never : ⊥). absurd never) (cache_fault e)
+cache-above (cache.ZoneFull wanted widest) = refl
+cache-above cache.ReadFault = refl
