@@ -1,7 +1,6 @@
 -- What eight lumps give that are added one after the other.
-use Rattle.std.proofs.Common.{◌≡◌, refl}
-use Rattle.map_lumps.specs.Rules.{Linedefs, MapBytes, Nodes, Sectors, Segs, Sidedefs, Ssectors, Things, Vertexes, lump_no, records_of}
-use Rattle.map_lumps.specs.Builders.{BuilderValue, all_added, empty_builder, with_lump, with_records}
+use Rattle.map_lumps.specs.Rules.{Linedefs, MapBytes, Nodes, Sectors, Segs, Sidedefs, Ssectors, Things, Vertexes}
+use Rattle.map_lumps.specs.Builders.{BuilderValue, empty_builder, with_lump}
 
 -- a builder to which the lumps are added in their order
 abbrev pub with_lumps : MapBytes → BuilderValue

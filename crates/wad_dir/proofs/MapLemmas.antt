@@ -1,5 +1,5 @@
 -- The names of a map's lumps, one after the other.
-use Rattle.word_rules.proofs.Common.{[], add-one, add-suc, and_parts, arith, Bool, drop, drop-cons, drop_all, false, get_or, length, List, refl, slice_get_cases, suc, sym, true, ℕ, ⊎_elim, ◌&&◌, ◌+◌, ◌<◌, ◌∙◌, ◌∷◌, ◌≡◌, ◌≤◌}
+use Rattle.word_rules.proofs.Common.{[], add-one, add-suc, and_parts, arith, Bool, drop, drop-cons, drop_all, false, get_or, length, List, refl, slice_get_cases, suc, sym, true, ℕ, ⊎_elim, ◌+◌, ◌<◌, ◌∙◌, ◌∷◌, ◌≡◌, ◌≤◌}
 use Rattle.wad_dir.specs.Rules.{Lump, are_named, is_lump, is_named_in}
 
 -- one name more was found
