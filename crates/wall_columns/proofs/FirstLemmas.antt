@@ -2,7 +2,7 @@
 use Rattle.picture_rules.proofs.Common.{[], AllByRecursion, ap, Bool, cond, false, inl, inr, int_lt, List, not, refl, subst, sym, true, ℕ, ◌&&◌, ◌++◌, ◌∙◌, ◌∷◌, ◌≡◌}
 use Rattle.wall_columns.specs.Rules.{Art, ColumnClip, Dot, Edges, FragmentNumbers, RowRange, ViewShape, WallStrip, has_texture, joined_lists}
 use Rattle.wall_columns.specs.declared.clips.ColumnPlan.{ColumnPlan}
-use Rattle.wall_columns.specs.Plans.{HasRowsOf, IsPlanTexture, IsStripTexture, bottom_strip, first_strip, has_second, middle_strip, no_rows, plan_of, rows_if, strips_by, top_strip}
+use Rattle.wall_columns.specs.Plans.{HasRowsOf, bottom_strip, first_strip, has_second, middle_strip, no_rows, plan_of, rows_if, strips_by, top_strip}
 
 -- the plan of a fragment has rows of its parts alone
 if_none : (is_there : Bool) (rows : RowRange) → is_there ≡ false →

@@ -97,10 +97,9 @@ pub over-told : (over : OverLimit) → limit_of_fault (from_over over) ≡ Some 
 over-told over = kind_told over.kind over.count
 
 -- so does a call that passes it on
-pub over-above : {A B : Type 0} (lower : Result A OverLimit) (over : OverLimit) (result : Result B DrawFault) → lower ≡ Err over → IsErr result → IsErrAnd result (λ e. e ≡ from_over over) →
-    limit_of_result result ≡ over_of lower
-over-above lower over (Ok value) was failed is = absurd (let false_is_true : false ≡ true = failed in cc)
-over-above lower over (Err fault) was failed is = ap limit_of_fault is ∙ over-told over ∙ sym (ap over_of was)
+pub over-passed_on : {A : Type 0} (r : Result A DrawFault) (over : OverLimit) → IsErr r → IsErrAnd r (λ e. e ≡ from_over over) → limit_of_result r ≡ Some over
+over-passed_on (Ok value) over failed is = absurd (let false_is_true : false ≡ true = failed in cc)
+over-passed_on (Err fault) over failed is = ap limit_of_fault is ∙ over-told over
 
 -- and a stop tells the count that it has, if any
 cache_told : (fault : CacheFault) → limit_of_fault (from_cache_fault fault) ≡ None
@@ -111,7 +110,15 @@ stop_told : (stop : WallStop CacheFault) → limit_of_fault (from_stop stop) ≡
 stop_told (Over over) = over-told over
 stop_told (Brush fault) = cache_told fault
 
-pub stop-above : {A B : Type 0} (lower : Result A (WallStop CacheFault)) (stop : WallStop CacheFault) (result : Result B DrawFault) → lower ≡ Err stop → IsErr result → IsErrAnd result (λ e. e ≡ from_stop stop) →
-    limit_of_result result ≡ over_of_stop lower
-stop-above lower stop (Ok value) was failed is = absurd (let false_is_true : false ≡ true = failed in cc)
-stop-above lower stop (Err fault) was failed is = ap limit_of_fault is ∙ stop_told stop ∙ sym (ap over_of_stop was)
+pub stop-passed_on : {A : Type 0} (r : Result A DrawFault) (stop : WallStop CacheFault) → IsErr r → IsErrAnd r (λ e. e ≡ from_stop stop) →
+    limit_of_result r ≡ over_of_stop (let answer : Result (Unit {0}) (WallStop CacheFault) = Err stop in answer)
+stop-passed_on (Ok value) stop failed is = absurd (let false_is_true : false ≡ true = failed in cc)
+stop-passed_on (Err fault) stop failed is = ap limit_of_fault is ∙ stop_told stop
+
+-- a Stop of a count tells it
+pub stopped-over : {A E : Type 0} (result : Result A (WallStop E)) (over : OverLimit) → IsErr result → IsErrAnd result (λ e. e ≡ Over over) → over_of_stop result ≡ Some over
+stopped-over (Ok value) over failed is = absurd (let false_is_true : false ≡ true = failed in cc)
+stopped-over (Err stop) over failed is = told stop over is where
+  told : {E : Type 0} (stop : WallStop E) (over : OverLimit) → stop ≡ Over over → over_of_stop (let answer : Result (Unit {0}) (WallStop E) = Err stop in answer) ≡ Some over
+  told (Over found) over is = ap (λ (s : WallStop _). over_of_stop (let answer : Result (Unit {0}) (WallStop _) = Err s in answer)) is
+  told (Brush stop) over is = ap (λ (s : WallStop _). over_of_stop (let answer : Result (Unit {0}) (WallStop _) = Err s in answer)) is

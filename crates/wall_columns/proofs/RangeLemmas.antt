@@ -1,6 +1,6 @@
 -- A brush that is asked for the strips of the fragment of a seg draws it: which it takes, what they show, and their dots.
-use Rattle.picture_rules.proofs.Common.{[], ap, append-nil, arith, Bool, cond, Contains, Err, false, inl, inr, int_lt, IsErrAnd, ints, length, List, lt-true, map, nat_lt, nat_tests, negsuc, Ok, pos, refl, Result, subst, suc, sym, true, ℕ, ℤ, ◌++◌, ◌+◌, ◌-◌, ◌<ℤ◌, ◌<◌, ◌∙◌, ◌∷◌, ◌≡◌, ◌≢◌, ◌≤ℤ◌, ◌≤◌}
-use Rattle.wall_columns.specs.Rules.{Art, ColumnClip, Dot, Edges, FRAME_HEIGHT, FRAME_WIDTH, FragmentNumbers, MAX_DRAWSEGS, Painter, Plane, PlanesNow, ViewValue, WALL, Wall, WallFacts, WallStrip, clip_before, column_dots, edges_at, fault_above, fragment_numbers, joined_lists, listed_from, natural, painter_of, rows_between, strip_dots, texture_column, wall_colour, wall_column, wall_column_by, wall_dots, wall_edges, wall_of, wall_strips}
+use Rattle.picture_rules.proofs.Common.{[], ap, append-nil, arith, Bool, cases_lt, cond, Contains, Err, err_from_is_err_and, false, false≢true, inl, inr, int_lt, IsErrAnd, IsTrue, ints, length, List, lt-true, map, nat_lt, nat_tests, negsuc, Ok, pos, refl, Result, subst, suc, sym, true, ℕ, ℤ, ◌++◌, ◌+◌, ◌-◌, ◌<ℤ◌, ◌<◌, ◌∙◌, ◌∷◌, ◌≡◌, ◌≢◌, ◌≤ℤ◌, ◌≤◌}
+use Rattle.wall_columns.specs.Rules.{Art, ColumnClip, Dot, Edges, FRAME_HEIGHT, FRAME_WIDTH, FragmentNote, FragmentNumbers, MAX_DRAWSEGS, Painter, Plane, PlanesNow, ShelfView, ViewValue, WALL, Wall, WallFacts, WallStrip, clip_before, column_dots, edges_at, fault_above, fragment_numbers, joined_lists, listed_from, natural, painter_of, rows_between, strip_dots, texture_column, wall_colour, wall_column, wall_column_by, wall_dots, wall_edges, wall_of, wall_strips}
 use Rattle.picture_rules.proofs.Laws.{joined_lists-append}
 use Rattle.picture_rules.proofs.wall.WallLemmas.{clip_before-front}
 use Rattle.receiver_rules.proofs.FirstLemmas.{first-from, first-same, first_lists, joined-joined}
@@ -11,17 +11,26 @@ use Rattle.texture_build.specs.CacheFault.TheVariants as cache
 use Rattle.texture_build.specs.Paints.{PaintState, PaintTools, Paints, painted_art}
 use Rattle.texture_build.specs.Strips.{IsTextureIn, texture_colour, texture_dots}
 use Rattle.texture_build.proofs.DrawLemmas.{IsMapped}
-use Rattle.texture_build.proofs.PaintLemmas.{paints-asked, paints-mapped, paints-same, paints-wider}
+use Rattle.texture_build.proofs.PaintLemmas.{paints-asked, paints-mapped, paints-none, paints-same, paints-wider}
 use Rattle.brush.specs.Strips.{IsColumnOf, IsLumpOf, ShowsColumn, ShowsLump, Strip, Texture, strips_dots, strip_dots as dots_of_strip}
-use Rattle.brush.specs.Works.{BrushNames, BrushValue, CanTake, PaintsStrips}
-use Rattle.wall_columns.specs.declared.fault.DrawFault.{DrawFault}
+use Rattle.brush.specs.Works.{BrushValue, CanTake, HasWorked, PaintsStrips, brush_now}
+use Rattle.brush.specs.declared.live.LiveBrush.{LiveBrush}
+use Rattle.brush.proofs.WorkLemmas.{received-worked}
+use Rattle.receiver_rules.specs.Receivers.{Receives}
+use Rattle.receiver_rules.proofs.ReceiverLemmas.{receives-value}
+use Rattle.picture_rules.specs.declared.LimitKind.{LimitKind}
+use Rattle.picture_rules.specs.declared.LimitKind.TheVariants as limit
+use Rattle.wall_columns.specs.declared.fault.{DrawFault.DrawFault, WallStop.WallStop}
+use Rattle.wall_columns.specs.declared.fault.WallStop.TheVariants.{Brush, Over}
 use Rattle.wall_columns.specs.declared.paint.ColumnLook.{ColumnLook}
 use Rattle.wall_columns.specs.{Built.AreBehind, Built.IsBuilt, Built.with_wall, Columns.column_edges, Columns.columns_of}
 use Rattle.wall_columns.specs.Draws.{IsNoPicture, IsSeenOf, IsWallTexture}
-use Rattle.wall_columns.specs.Faults.{draw_fault, from_cache_fault}
+use Rattle.wall_columns.specs.Faults.{ReceivesUnlessOver, draw_fault, fault_of_kind, from_cache_fault, from_over, from_stop}
 use Rattle.wall_columns.specs.Plans.{IsPartTexture}
 use Rattle.wall_columns.specs.Strips.{AreOpenIn, CanShow, column_strips, fragment_strips, look_at, part_strip, part_strips, range_strips}
+use Rattle.wall_columns.specs.{declared.column_state.ColumnState.ColumnState, States.walls_view}
 use Rattle.wall_columns.specs.Walls.{WallsView, clip_at}
+use Rattle.wall_columns.specs.Windows.{IsClipIn, WindowsView, window_at}
 use Rattle.wall_columns.proofs.{BuiltLemmas.built-count, ClipLemmas.edges_at-words}
 use Rattle.wall_columns.proofs.PlanLemmas.{wall_strips-in, wall_strips-there}
 use Rattle.wall_columns.proofs.SightLemmas.{numbers-light, numbers-scale, numbers-texture}
@@ -67,6 +76,31 @@ range-cases v state facts first last strip h =
     fragment-cases v (length state.notes) (fragment_of v facts first last) (clip_at state) strip
     (if_room (nat_lt (length state.notes) MAX_DRAWSEGS) (fragment_strips v (length state.notes) (fragment_of v facts first last) (clip_at state)) strip h).1
 
+-- what is not told to be full has room
+pub room-of : (n most : ℕ) (full : Bool) → full ≡ false → (most ≤ n → IsTrue full) → n < most
+room-of n most full is says = elim (cases_lt n most) [
+  | inl room ↦ room
+  | inr none ↦ absurd (let told : full ≡ true = says none in false≢true (sym is ∙ told))
+]
+
+-- the same strips by the parts of a state
+pub range-is : (v : ViewValue) (facts : WallFacts) (first last number : ℕ) (f : FragmentValue) (notes : List FragmentNote) (columns : ColumnState) (windows : WindowsView) {state : WallsView} →
+    walls_view notes columns ≡ state → windows ≡ columns.windows → f ≡ fragment_of v facts first last → number ≡ length notes → length notes < MAX_DRAWSEGS →
+    fragment_strips v number f (window_at windows) ≡ range_strips v state facts first last
+unfolding clip_at window_at
+range-is v facts first last number f notes columns windows view same is count room =
+    ap (λ (k : ℕ). fragment_strips v k f (window_at windows)) count
+    ∙ ap (λ (f : FragmentValue). fragment_strips v (length notes) f (window_at windows)) is
+    ∙ ap (λ (w : WindowsView). fragment_strips v (length notes) (fragment_of v facts first last) (window_at w)) same
+    ∙ range-some v (walls_view notes columns) facts first last room
+    ∙ ap (λ (w : WallsView). range_strips v w facts first last) view
+
+-- and what is open of each column, by them
+pub open-of : (notes : List FragmentNote) (columns : ColumnState) {state : WallsView} → walls_view notes columns ≡ state →
+    ((x : ℕ) → x < FRAME_WIDTH → IsClipIn columns.windows.height (window_at columns.windows x)) → AreOpenIn state
+unfolding clip_at window_at
+open-of notes columns view clips = subst (λ (w : WallsView). AreOpenIn w) view (λ x l. clips x l)
+
 -- a strip in the columns and rows of a view lies in its frame
 in_frame : (from to : ℤ) (x left top width height : ℕ) → from ≤ℤ to → pos 0 ≤ℤ from → to <ℤ pos height → x < width → left + width ≤ FRAME_WIDTH → top + height ≤ FRAME_HEIGHT →
     (natural from ≤ natural to) × ((x + left < FRAME_WIDTH) × (natural to + top < FRAME_HEIGHT))
@@ -87,14 +121,14 @@ pub record CanTakeRange (p : BrushValue) (v : ViewValue) (state : WallsView) (fa
 pub range-taken : (p : BrushValue) (v : ViewValue) (state : WallsView) (facts : WallFacts) (first last : ℕ) → CanTakeRange p v state facts last → AreOpenIn state →
     (strip : Strip) → Contains (range_strips v state facts first last) strip → CanTake p strip
 unfolding part_strip look_at column_edges
-range-taken p v state facts first last can open strip h =
+range-taken p v state facts first last can rows_open strip h =
     let one = range-cases v state facts first last strip h in
     let numbers = fragment_numbers v facts first last in
     let edges = edges_at v.shape numbers (one.x - first) in
     let rows_in_frame = can.placed.rows in
     let width_in_frame = can.placed.columns in
     let last_inside = can.within in
-    let rows = wall_strips-in state.height numbers (clip_at state one.x) edges one.part (omega (arith, can.height, rows_in_frame)) (open one.x (omega (arith, one.to, last_inside, width_in_frame))) (edges_at-words v.shape numbers (one.x - first)) one.among one.rows in
+    let rows = wall_strips-in state.height numbers (clip_at state one.x) edges one.part (omega (arith, can.height, rows_in_frame)) (rows_open one.x (omega (arith, one.to, last_inside, width_in_frame))) (edges_at-words v.shape numbers (one.x - first)) one.among one.rows in
     let below : one.part.rows.last <ℤ pos v.shape.height = subst (λ (m : ℕ). one.part.rows.last <ℤ pos m) can.height rows.1 in
     let there = wall_strips-there numbers (clip_at state one.x) edges one.part one.among in
     subst (CanTake p) one.is (record {
@@ -197,3 +231,72 @@ range-drawn t v state facts first last planes within one =
 pub cache-above : (e : CacheFault) → draw_fault (from_cache_fault e) ≡ fault_above (λ (never : ⊥). absurd never) (cache_fault e)
 cache-above (cache.ZoneFull wanted widest) = refl
 cache-above cache.ReadFault = refl
+
+-- a count past its limit is told by a call that paints nothing
+refused_by : {mark : Painter → ℕ → ℕ} {t : PaintTools} {among : ℕ → ℤ → Type 0} {pictures : ℕ → Type 0} {Q : Type 0} {asked : Q → Type 0} (dots : List (List ℕ) → Q → List Dot) (st : PaintState) (kind : LimitKind) (count : ℕ) →
+    Paints draw_fault mark t among pictures asked dots st st (let answer : Result (Unit {0}) DrawFault = Err (fault_of_kind kind count) in answer)
+refused_by {mark} {t} {among} {pictures} {Q} {asked} dots st limit.Planes count =
+    let nothing : Paints draw_fault mark t among pictures asked (λ contents q. []) st st (let answer : Result (Unit {0}) DrawFault = Ok tt in answer) = paints-none st tt in
+    record {
+      painted = λ contents count q hold is. tt;
+      fits = λ contents count q hold is. tt;
+      draws = record { keeps = nothing.draws.keeps; causes = record { err = tt }; steady = λ contents stand within steady. tt; full = tt; order = λ items wanted all k. nothing.draws.order items wanted all k };
+      place = nothing.place;
+    }
+refused_by {mark} {t} {among} {pictures} {Q} {asked} dots st limit.Openings count =
+    let nothing : Paints draw_fault mark t among pictures asked (λ contents q. []) st st (let answer : Result (Unit {0}) DrawFault = Ok tt in answer) = paints-none st tt in
+    record {
+      painted = λ contents count q hold is. tt;
+      fits = λ contents count q hold is. tt;
+      draws = record { keeps = nothing.draws.keeps; causes = record { err = tt }; steady = λ contents stand within steady. tt; full = tt; order = λ items wanted all k. nothing.draws.order items wanted all k };
+      place = nothing.place;
+    }
+
+module _ {S C : Type 0} (shelf : S → ShelfView) (canvas : C → CanvasView) (mark : Painter → ℕ → ℕ) where
+  -- a brush over what is lent, and what it says of the strips that it was asked for
+  abbrev pub LentReceives : LiveBrush S C → LiveBrush S C → List Strip → Result (Unit {0}) (WallStop CacheFault) → Type 0
+  LentReceives old new strips result = ReceivesUnlessOver (λ (p : LiveBrush S C) strip. CanTake (brush_now shelf canvas p) strip)
+      (λ (p : LiveBrush S C) (start : BrushValue) strips. HasWorked mark start (brush_now shelf canvas p) strips (Ok tt))
+      (λ (p : LiveBrush S C) (start : BrushValue) strips stop. HasWorked mark start (brush_now shelf canvas p) strips (Err stop)) old new strips result
+
+  worked : (old new : LiveBrush S C) (strips : List Strip) (result : Result (Unit {0}) CacheFault) →
+      Receives (λ (p : LiveBrush S C) strip. CanTake (brush_now shelf canvas p) strip)
+      (λ (p : LiveBrush S C) (start : BrushValue) strips. HasWorked mark start (brush_now shelf canvas p) strips (Ok tt))
+      (λ (p : LiveBrush S C) (start : BrushValue) strips stop. HasWorked mark start (brush_now shelf canvas p) strips (Err stop)) old new strips result →
+      HasWorked mark (brush_now shelf canvas old) (brush_now shelf canvas new) strips result
+  worked old new strips result given = received-worked _ _ strips result (receives-value (brush_now shelf canvas) old new result given)
+
+  -- it is over the same references
+  pub names-kept : (old new : LiveBrush S C) (strips : List Strip) (result : Result (Unit {0}) (WallStop CacheFault)) → LentReceives old new strips result →
+      (brush_now shelf canvas new).names ≡ (brush_now shelf canvas old).names
+  names-kept old new strips (Ok value) given = (worked old new strips (Ok tt) given).names
+  names-kept old new strips (Err (Over over)) given = ap (λ (p : LiveBrush S C). (brush_now shelf canvas p).names) given
+  names-kept old new strips (Err (Brush stop)) given = (worked old new strips (Err stop) given).names
+
+  -- and where it was asked for the strips of a fragment, the fragment is drawn
+  pub range-painted : (old new : LiveBrush S C) (v : ViewValue) (state : WallsView) (facts : WallFacts) (first last : ℕ) (planes : List Plane) (value : Unit {0}) → last < v.shape.width →
+      LentReceives old new (range_strips v state facts first last) (Ok value) →
+      Paints draw_fault mark (brush_now shelf canvas old).tools (IsSeenOf v state facts first last) IsNoPicture (AreBehind v state planes)
+      (λ contents behind. wall_dots v (painted_art contents (brush_now shelf canvas old).tools) (with_wall behind.0 (wall_of v facts first last)) (length behind.0) (wall_of v facts first last))
+      (brush_now shelf canvas old).state (brush_now shelf canvas new).state (let answer : Result (Unit {0}) DrawFault = Ok tt in answer)
+  range-painted old new v state facts first last planes value within given =
+      paints-mapped (λ (never : ⊥). absurd never) from_cache_fault cache-above (Ok tt) (Ok tt) refl
+      (range-drawn (brush_now shelf canvas old).tools v state facts first last planes within (worked old new (range_strips v state facts first last) (Ok tt) given).works)
+
+  pub range-stopped : (old new : LiveBrush S C) (v : ViewValue) (state : WallsView) (facts : WallFacts) (first last : ℕ) (planes : List Plane) (stop : WallStop CacheFault) (result : Result (Unit {0}) DrawFault) → last < v.shape.width →
+      LentReceives old new (range_strips v state facts first last) (Err stop) → IsErrAnd result (λ e. e ≡ from_stop stop) →
+      Paints draw_fault mark (brush_now shelf canvas old).tools (IsSeenOf v state facts first last) IsNoPicture (AreBehind v state planes)
+      (λ contents behind. wall_dots v (painted_art contents (brush_now shelf canvas old).tools) (with_wall behind.0 (wall_of v facts first last)) (length behind.0) (wall_of v facts first last))
+      (brush_now shelf canvas old).state (brush_now shelf canvas new).state result
+  range-stopped old new v state facts first last planes (Over over) result within given is =
+      let told = err_from_is_err_and result is in
+      let told_is : result ≡ Err (from_over over) = told.1 ∙ ap Err told.2 in
+      subst (λ (p : LiveBrush S C). Paints draw_fault mark (brush_now shelf canvas old).tools (IsSeenOf v state facts first last) IsNoPicture (AreBehind v state planes)
+      (λ contents behind. wall_dots v (painted_art contents (brush_now shelf canvas old).tools) (with_wall behind.0 (wall_of v facts first last)) (length behind.0) (wall_of v facts first last))
+      (brush_now shelf canvas old).state (brush_now shelf canvas p).state result) (sym given)
+      (subst (λ (r : Result (Unit {0}) DrawFault). Paints draw_fault mark (brush_now shelf canvas old).tools (IsSeenOf v state facts first last) IsNoPicture (AreBehind v state planes)
+      (λ contents behind. wall_dots v (painted_art contents (brush_now shelf canvas old).tools) (with_wall behind.0 (wall_of v facts first last)) (length behind.0) (wall_of v facts first last))
+      (brush_now shelf canvas old).state (brush_now shelf canvas old).state r) (sym told_is) (refused_by _ (brush_now shelf canvas old).state over.kind over.count))
+  range-stopped old new v state facts first last planes (Brush fault) result within given is =
+      paints-mapped (λ (never : ⊥). absurd never) from_cache_fault cache-above (Err fault) result is
+      (range-drawn (brush_now shelf canvas old).tools v state facts first last planes within (worked old new (range_strips v state facts first last) (Err fault) given).works)

@@ -1,7 +1,7 @@
 -- Laws of the strips of a fragment: those of a part, of a plan, of a column, and of all its columns.
 use Rattle.picture_rules.proofs.Common.{[], All, AllByRecursion, ap, append-nil, arith, Bool, cond, Contains, Contains-append_left, false, inl, inr, int_lt, ints, List, pos, recursion_from_All, refl, subst, sym, true, ℕ, ℤ, ◌++◌, ◌+◌, ◌-◌, ◌<ℤ◌, ◌<◌, ◌||◌, ◌∙◌, ◌∷◌, ◌≡◌, ◌≤ℤ◌, ◌≤◌, or_parts}
 use Rattle.std.proofs.lemmas.List.Elements.{Contains-push, Contains-push_cases}
-use Rattle.wall_columns.specs.Rules.{ColumnClip, Edges, FragmentNumbers, RowRange, ViewShape, ViewValue, WallStrip, has_texture, joined_lists, listed_from, strip_of, wall_strips}
+use Rattle.wall_columns.specs.Rules.{ColumnClip, Edges, FRAME_HEIGHT, FragmentNumbers, RowRange, ViewShape, ViewValue, WallStrip, has_texture, joined_lists, listed_from, strip_of, wall_strips}
 use Rattle.picture_rules.proofs.Laws.{joined_lists-cons, joined_lists-one}
 use Rattle.receiver_rules.proofs.FirstLemmas.{IsInFirst, first-cases, first-from, first_lists, joined-cases}
 use Rattle.wall_edges.specs.Fragments.{FragmentValue}
@@ -9,14 +9,22 @@ use Rattle.brush.specs.Strips.{Strip, Texture}
 use Rattle.wall_columns.specs.declared.clips.ColumnPlan.{ColumnPlan}
 use Rattle.wall_columns.specs.declared.paint.ColumnLook.{ColumnLook}
 use Rattle.wall_columns.specs.Columns.{column_edges, columns_of}
-use Rattle.wall_columns.specs.Plans.{HasNoRows, HasRows, HasRowsOf, IsInRows, bottom_strip, first_strip, has_part, has_second, middle_strip, no_rows, plan_of, strips_by, top_strip}
+use Rattle.wall_columns.specs.Windows.{IsClipIn}
+use Rattle.wall_columns.specs.Plans.{AreEdgeWords, HasNoRows, HasRows, HasRowsOf, IsInRows, bottom_strip, first_strip, has_part, has_second, middle_strip, no_rows, plan_of, strips_by, top_strip}
 use Rattle.wall_columns.specs.Strips.{column_strips, fragment_strips, look_at, part_strip, part_strips, plan_strips}
-use Rattle.wall_columns.proofs.{FirstLemmas.first-painted, FirstLemmas.skip, PlanLemmas.plan_strips-same}
+use Rattle.wall_columns.proofs.{FirstLemmas.first-painted, FirstLemmas.skip, PlanLemmas.plan_strips-in, PlanLemmas.plan_strips-same}
 
 -- what holds of each strip of a plan, one by one
 pub plan-rows : (height : ℕ) (n : FragmentNumbers) (plan : ColumnPlan) →
     All (IsInRows height) (strips_by n plan) → AllByRecursion (IsInRows height) (strips_by n plan)
 plan-rows height n plan all = recursion_from_All (IsInRows height) (strips_by n plan) all
+
+-- the strips of a plan lie in the view
+pub strips-in : (height own : ℕ) (n : FragmentNumbers) (clip : ColumnClip) (e : Edges) (plan : ColumnPlan) → plan ≡ plan_of own n clip e → own ≡ height → own ≤ FRAME_HEIGHT →
+    IsClipIn own clip → AreEdgeWords e → All (IsInRows height) (strips_by n plan)
+strips-in height own n clip e plan is same fits inside words =
+    subst (λ (plan : ColumnPlan). All (IsInRows height) (strips_by n plan)) (sym is)
+    (subst (λ (rows : ℕ). All (IsInRows rows) (strips_by n (plan_of own n clip e))) same (plan_strips-in own n clip e fits inside words))
 
 module _ (shape : ViewShape) (look : ColumnLook) where
   -- a part without rows is no strip, and one with rows is one
@@ -43,9 +51,6 @@ module _ (shape : ViewShape) (look : ColumnLook) where
       ∙ skip (part_strips shape look) part-none (bottom_strip n plan) [] (past plan.bottom none.1.1))
 
   -- the strips of a plan are those of the part that is painted first, and of the second where it is painted
-  second_strips : FragmentNumbers → ColumnPlan → Bool → List Strip
-  second_strips n plan second = joined_lists (part_strips shape look) (cond second (bottom_strip n plan ∷ []) [])
-
   pub plan-split : (n : FragmentNumbers) (plan : ColumnPlan) (s : WallStrip) (second : Bool) → s ≡ first_strip n plan → HasRowsOf n plan → has_second n plan ≡ second →
       part_strips shape look s ++ joined_lists (part_strips shape look) (cond second (bottom_strip n plan ∷ []) []) ≡ plan_strips shape look n plan
   unfolding plan_strips

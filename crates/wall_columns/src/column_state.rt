@@ -4,7 +4,7 @@
 ghost use Rattle.std.specs.Prelude.{◌≡◌, ◌≢◌, ◌<◌, ◌≤◌, ◌+◌, ◌-◌, ℕ, [], None, Some, IfOk, IfErr, OnOk, length};
 ghost use Rattle.wall_columns.specs.Rules.{FRAME_HEIGHT, FRAME_WIDTH, MOST_OPENINGS, PlanesNow, ceiling_found, ceiling_rows, floor_found, floor_rows, marked_rows, open_clip, set_run};
 ghost use Rattle.visplanes.specs.Planes.{with_planes};
-ghost use Rattle.picture_rules.specs.declared.LimitKind.TheVariants.{Planes};
+ghost use Rattle.picture_rules.specs.declared.LimitKind.{LimitKind};
 ghost use Rattle.wall_columns.specs.Faults.{over_of};
 ghost use Rattle.wall_columns.specs.Windows.{window_at, with_window, IsClipIn};
 ghost use Rattle.wall_columns.specs.Plans.{plan_of, AreEdgeWords};
@@ -76,7 +76,7 @@ impl ColumnState {
             ≡ ceiling_found leaf.ceiling (floor_found leaf.floor s)) }
         ensures limit { (s : PlanesNow) → s ≡ now_of self.old planes.old →
             over_of result ≡ leaf_over planes.old.room s leaf.floor leaf.ceiling }
-        ensures kind { IfErr result (λ over. over.kind ≡ Planes) }
+        ensures kind { IfErr result (λ over. over.kind ≡ LimitKind.Planes) }
         ensures leaf { OnOk result (AreLeafPlanes planes.new.planes self.new) }
         ensures windows { self.new.windows ≡ self.old.windows }
         ensures openings { self.new.openings ≡ self.old.openings }

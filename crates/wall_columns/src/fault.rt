@@ -44,6 +44,8 @@ pub enum WallStop<E> {
 }
 
 impl<E> From<OverLimit> for WallStop<E> {
+    ghost use Rattle.wall_columns.specs.declared.fault.WallStop.{WallStop};
+
     ghost from_gives = { λ over stop. stop ≡ WallStop.Over over };
 
     fn from(over: OverLimit) -> Self {

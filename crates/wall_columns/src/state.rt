@@ -327,10 +327,11 @@ impl WallState {
         ensures room { self.new.room ≡ self.old.room }
         ensures planes_room { planes.new.room ≡ planes.old.room }
     {
-        let height = self.columns.windows.height();
         if self.is_full() {
             return Ok(());
         }
+        let (shape, height) = (view.shape(), self.columns.windows.height());
+        prove!(height == shape.height);
         let fragment = Fragment::new(view, facts, first, last);
         let numbers = fragment.numbers();
         let places = self.columns.begin(planes, &numbers, first, last)?;
@@ -343,7 +344,7 @@ impl WallState {
         }
         self.columns
             .save_columns(view, &fragment, first, last, places);
-        let note = note_of(facts.seg_no, &fragment, first, last, places, height);
+        let note = note_of(facts.seg_no, &fragment, first, last, places, shape.height);
         self.notes.push_reserved(note);
         Ok(())
     }

@@ -14,7 +14,7 @@ pub loop-x-preserved : goal.loop-x-preserved
 loop-x-preserved c = record {
   written = λ facts is.
       columns-more (texture_column c.args.view.now facts) c.args.xs.now c.loop-x.xs c.args.place c.args.first c.args.last c.loop-x.x c.column_at.result _
-      (omega arith) (omega arith) c.requires.room (search (rules, to_z-of_z)) (c.column_at.ensures facts c.args.first c.args.last is)
+      (omega arith) (omega arith) c.requires.room (search (rules, to_z-of_z)) (c.column_at.ensures.facts facts c.args.first c.args.last is)
       (c.loop-x.invariant.written facts is);
   count = length-set c.loop-x.xs _ _ ∙ c.loop-x.invariant.count;
 }

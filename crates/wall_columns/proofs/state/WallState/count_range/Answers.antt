@@ -1,0 +1,9 @@
+-- A count past its limit is told.
+use Rattle.std.proofs.Common.{ap, ◌∙◌}
+use Rattle.wall_columns.specs.Faults.{limit_of_fault}
+use Rattle.wall_columns.proofs.OverLemmas.{over-told}
+use Rattle.wall_columns.proofs.state.WallState.count_range.Goals as goal
+
+pub returns-in-Err-Over-clause-limit : goal.returns-in-Err-Over-clause-limit
+returns-in-Err-Over-clause-limit c = λ walls s h few.
+    ap limit_of_fault c.from.ensures ∙ over-told c.in-Err-Over.over ∙ c.in-Err-Over.ensures.limit walls s h few
