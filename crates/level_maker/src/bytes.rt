@@ -3,10 +3,7 @@ ghost use Rattle.std.specs.Prelude.{◌≡◌, ◌++◌, ◌+◌, ◌<◌, OnOk}
 ghost use Rattle.made_rules.specs.Bytes.{half, halves, word_bytes};
 
 use std::alloc::AllocError;
-
-const HALF_SIZE: usize = 2;
-
-const WORD_SIZE: usize = 4;
+use word_rules::{HALF_SIZE, WORD_SIZE};
 
 /// Puts the two low bytes of a number.
 #[tactic(auto, unfolding(made_rules::specs::Bytes::half))]

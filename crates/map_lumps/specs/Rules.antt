@@ -5,7 +5,8 @@ pub use Rattle.level_rules.specs.declared.maps.layout.TheConstants.{LEAF_SIZE, L
 pub use Rattle.level_rules.specs.declared.maps.lumps.MapLump.{MapLump}
 pub use Rattle.level_rules.specs.declared.maps.lumps.MapLump.TheVariants.{Linedefs, Nodes, Sectors, Segs, Sidedefs, Ssectors, Things, Vertexes}
 pub use Rattle.level_rules.specs.declared.{maps.records.MapLine.MapLine, maps.refusal.MapRefusal.MapRefusal}
-unfoldable pub use Rattle.level_rules.specs.maps.Fields.{angle_field, fixed_at, half_at, name_field, record_at, records_in, signed_half_at}
+unfoldable pub use Rattle.word_rules.specs.Bytes.{half_at, signed_half_at}
+unfoldable pub use Rattle.level_rules.specs.maps.Fields.{angle_field, fixed_at, name_field, record_at, records_in}
 unfoldable pub use Rattle.level_rules.specs.maps.Firsts.{first_refusal}
 pub use Rattle.level_rules.specs.maps.Levels.{LevelValue, MapBytes, MapRecords}
 unfoldable pub use Rattle.level_rules.specs.maps.Levels.{back_sector, has_back, joined_leaves, joined_level, joined_segs, leaf_of, level_from, no_leaf_refusal, range_refusal, records_of, records_refusal, sector_of, seg_between, seg_of, vertex_by}

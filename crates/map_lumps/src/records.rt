@@ -10,6 +10,7 @@ use level_rules::{
     Sector, Side, Thing,
 };
 use std::alloc::{AllocError, Global};
+use word_rules::HALF_SIZE;
 
 // A record of a map lump, which has `SIZE` bytes.
 pub(crate) trait MapRecord: Sized + Drop {
@@ -228,7 +229,7 @@ fn line_at(entry: &[u8]) -> Partition4
 // The box at `offset`.
 #[tactic(auto, unfolding(level_rules::specs::maps::Records::box_at))]
 fn box_at(entry: &[u8], offset: usize) -> Box4
-    requires { offset + BOX_RIGHT + WORD_SIZE ≤ length entry.now }
+    requires { offset + BOX_RIGHT + HALF_SIZE ≤ length entry.now }
     ensures { result ≡ box_at entry.now offset }
 {
     Box4 {
@@ -242,7 +243,7 @@ fn box_at(entry: &[u8], offset: usize) -> Box4
 // The child at `offset`.
 #[tactic(auto, unfolding(level_rules::specs::maps::Records::child_at))]
 fn child_at(entry: &[u8], offset: usize) -> Child
-    requires { offset + WORD_SIZE ≤ length entry.now }
+    requires { offset + HALF_SIZE ≤ length entry.now }
     ensures { result ≡ child_at entry.now offset }
 {
     child_of(half_at(entry, offset))

@@ -1,7 +1,7 @@
 -- Laws of the columns of a texture while its patches come one after the other.
 use Rattle.art_rules.proofs.Common.{[], ap, append-nil, arith, Bool, cases_lt, cond, false, filter-append, Fits, get_or, get_or-set_other, get_or-set_same, inl, inr, ints, length, List, pos, refl, sym, true, w8, ℕ, ◌++◌, ◌+◌, ◌-ℤ◌, ◌<ℤ◌, ◌<◌, ◌^◌, ◌∙◌, ◌∷◌, ◌≡◌, ◌≢◌, ◌≤ℤ◌, ◌≤◌, set}
-use Rattle.patch_columns.specs.Rules.{ColumnLookup, Empty, PlacedPatch, byte_at, column_place, half_at, listed, lookup_of, patches_in, stands_in, word_at}
-use Rattle.art_rules.proofs.Laws.{get_or-listed, length-listed, listed-all}
+use Rattle.patch_columns.specs.Rules.{ColumnLookup, Empty, PlacedPatch, byte_at, column_place, listed, lookup_of, patches_in, stands_in, word_at}
+use Rattle.art_rules.proofs.Laws.{get_or-listed, half_at-bytes, length-listed, listed-all, word_at-halves}
 use Rattle.patch_columns.specs.Seen.{columns_with, lookup_behind, lookup_with, seen_lookup, seen_lookups}
 
 -- a patch that stands in a column has a column of its own there
@@ -14,8 +14,11 @@ unfolding stands_in
 own_column-last x patch h = grind (arith, ints)
 
 word_at-fits : (bytes : List ℕ) (place : ℕ) → ((k : ℕ) → Fits w8 (get_or bytes k 0)) → word_at bytes place < 2 ^ 32
-unfolding word_at half_at byte_at
+unfolding byte_at
 word_at-fits bytes place each =
+    let halves = word_at-halves bytes place in
+    let low_half = half_at-bytes bytes place in
+    let high_half = half_at-bytes bytes (place + 2) in
     let first_byte_fits = each place in let second_byte_fits = each (place + 1) in
     let third_byte_fits = each (place + 2) in
     let fourth_byte_fits = each (place + 2 + 1) in

@@ -19,7 +19,7 @@ pub fn flat_byte(bytes: &[u8], x: u32, y: u32) -> u8
 /// The colour `index` through colormap `map` of the lump COLORMAP, 0 past the lump's end.
 ///
 /// The original: `dc_colormap`, r_draw.c.
-#[tactic(auto, unfolding(art_rules::specs::Words::shade, art_rules::specs::Bytes::byte_at))]
+#[tactic(auto, unfolding(art_rules::specs::Words::shade, art_rules::specs::Words::byte_at))]
 pub fn shade(colormap: &[u8], map: u8, index: u8) -> u8
     ensures { result ≡ shade colormap.now map index }
 {

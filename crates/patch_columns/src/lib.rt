@@ -1,7 +1,7 @@
 //! The bytes of art lumps: patches and their posts, flats, colormaps and palettes; the columns of a
 //! texture, what each is read from, and the composite of those in which several patches stand.
 //!
-//! Rules: `art_rules`, Bytes, Patches, Flats, Columns and Lookups, `shade` of `pixel_rules`, and
+//! Rules: `art_rules`, Patches, Flats, Columns and Lookups, `shade` of `pixel_rules`, and
 //! `specs/Seen` and `specs/Composites`. Proved: each call is its definition. Where numbers are
 //! places in bytes, they are below 2^63. No call takes memory. A patch is the field's picture lump.
 //! The original: `R_GenerateLookup`, `R_GenerateComposite`, `R_DrawColumnInCache`, r_data.c;

@@ -124,6 +124,6 @@ fn block_size(size: u32) -> u64
     ensures value { result ≡ block_size size }
     ensures fits { result < size + WORD_SIZE + HEADER_SIZE }
 {
-    let word = u64::from(WORD_SIZE);
+    let word = WORD_SIZE as u64;
     (u64::from(size) + word - 1) / word * word + u64::from(HEADER_SIZE)
 }

@@ -99,7 +99,7 @@ fn read_header<S: Shelf>(
 }
 
 // What a whole header says of a file of that size, or its first refusal.
-#[tactic(auto, unfolding(lump_rules::specs::Wads::whole_header_refusal))]
+#[tactic(auto, unfolding(lump_rules::specs::Wads::whole_header_refusal, word_rules::specs::Bytes::word_at))]
 fn check_header(number: u64, before: u64, size: u64, head: &[u8]) -> Result<Header, DirRefusal>
     requires whole { length head.now ≡ HEADER_SIZE }
     requires before { before ≤ MAX_LUMPS }
@@ -189,6 +189,7 @@ fn read_entries(
 }
 
 // The lump of an entry.
+#[tactic(auto, unfolding(word_rules::specs::Bytes::word_at))]
 fn read_entry(number: u64, entry: &[u8]) -> Lump
     requires { length entry.now ≡ ENTRY_SIZE }
     ensures { result ≡ lump_in number entry.now }

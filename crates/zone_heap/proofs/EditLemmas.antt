@@ -1,7 +1,7 @@
 -- Free neighbours joined, and blocks linked, as the bytes of their parts.
 use Rattle.zone_rules.proofs.Common.{◌≡◌, ℕ, ◌+◌, ◌<◌, ◌≤◌, ◌^◌, Bool, true, false, cond, ◌&&◌, List, [], ◌∷◌, ◌++◌, length, take, drop, Some, None, refl, sym, subst, ap, ◌∙◌, arith, inl, inr, ◌==◌, cond-true, cond-false, and_from, and_parts, length-append}
-use Rattle.zone_heap.specs.Rules.{Block, Holding, free_block, is_free, join_free, join_on, join_pair, HEADER_SIZE}
-use Rattle.zone_heap.specs.Headers.{FREE_OWNER, word_at, with_word, block_in, holding_in, live_in, owner_in, code_tag}
+use Rattle.zone_heap.specs.Rules.{Block, Holding, free_block, is_free, join_free, join_on, join_pair, HEADER_SIZE, word_at, WORD_SIZE}
+use Rattle.zone_heap.specs.Headers.{FREE_OWNER, with_word, block_in, holding_in, live_in, owner_in, code_tag, ASKED_AT, OWNER_AT, TAG_AT, NEXT_AT, PREVIOUS_AT}
 use Rattle.zone_heap.specs.Regions.{joined, blocks_in, blocks_from, AreLinked, last_place, ring_place, IsSplit}
 use Rattle.zone_heap.proofs.WordLemmas.{word_same, word_other, word_in_front, length-with_word, drop-with_word}
 
@@ -62,7 +62,7 @@ module _ (b c : Block) where
       step false e = cond-false (is_free b && is_free c) _ _ apart
 
 -- the bytes of a block say the same where its words and what is behind its header are the same
-pub same_block : (p : ℕ) (c d : List ℕ) → length d ≡ length c → word_at d 4 ≡ word_at c 4 → word_at d 8 ≡ word_at c 8 → word_at d 12 ≡ word_at c 12
+pub same_block : (p : ℕ) (c d : List ℕ) → length d ≡ length c → word_at d ASKED_AT ≡ word_at c ASKED_AT → word_at d OWNER_AT ≡ word_at c OWNER_AT → word_at d TAG_AT ≡ word_at c TAG_AT
     → drop HEADER_SIZE d ≡ drop HEADER_SIZE c → block_in p d ≡ block_in p c
 same_block p c d l a o t e = λ i. record {
   place = p;
@@ -85,13 +85,13 @@ module _ (c d : List ℕ) (large : HEADER_SIZE ≤ length c) where
   pub block-two : (p : ℕ) → is_free (block_in p c) ≡ true → block_in p (two_parts c d) ≡ free_block p (length c + length d)
   block-two p f =
       let joined_length = length-append c d in
-      let owner : word_at (two_parts c d) 8 ≡ word_at c 8 =
-      word_other (c ++ d) 0 (length c + length d) 8 (omega arith) (inr (omega arith)) ∙ word_in_front c d 8 (omega arith) in
-      let holds_nothing : holding_in (two_parts c d) ≡ None = nothing (two_parts c d) (ap (λ n. n == FREE_OWNER) owner ∙ told (word_at c 8 == FREE_OWNER) (live_in c) f) in
+      let owner : word_at (two_parts c d) OWNER_AT ≡ word_at c OWNER_AT =
+      word_other (c ++ d) 0 (length c + length d) OWNER_AT (omega arith) (inr (omega arith)) ∙ word_in_front c d OWNER_AT (omega arith) in
+      let holds_nothing : holding_in (two_parts c d) ≡ None = nothing (two_parts c d) (ap (λ n. n == FREE_OWNER) owner ∙ told (word_at c OWNER_AT == FREE_OWNER) (live_in c) f) in
       let size = length-two in
       λ i. record { place = p; size = size i; holding = holds_nothing i } where
-        nothing : (e : List ℕ) → (word_at e 8 == FREE_OWNER) ≡ true → holding_in e ≡ None
-        nothing e t = cond-true (word_at e 8 == FREE_OWNER) None (Some (live_in e)) t
+        nothing : (e : List ℕ) → (word_at e OWNER_AT == FREE_OWNER) ≡ true → holding_in e ≡ None
+        nothing e t = cond-true (word_at e OWNER_AT == FREE_OWNER) None (Some (live_in e)) t
 
         told : (t : Bool) (h : Holding) → is_free (record { place = p; size = length c; holding = cond t None (Some h) }) ≡ true → t ≡ true
         told true h e = refl
@@ -99,52 +99,52 @@ module _ (c d : List ℕ) (large : HEADER_SIZE ≤ length c) where
 
 -- a part with other links
 abbrev pub relinked : List ℕ → ℕ → ℕ → List ℕ
-relinked c next previous = with_word (with_word c 16 next) 20 previous
+relinked c next previous = with_word (with_word c NEXT_AT next) PREVIOUS_AT previous
 
 module _ (c : List ℕ) (next previous : ℕ) (large : HEADER_SIZE ≤ length c) where
   abbrev pub mid : List ℕ
-  mid = with_word c 16 next
+  mid = with_word c NEXT_AT next
 
   pub length-mid : length mid ≡ length c
-  length-mid = length-with_word c 16 next (omega arith)
+  length-mid = length-with_word c NEXT_AT next (omega arith)
 
   pub length-relinked : length (relinked c next previous) ≡ length c
-  length-relinked = let middle_length = length-mid in length-with_word mid 20 previous (omega arith) ∙ middle_length
+  length-relinked = let middle_length = length-mid in length-with_word mid PREVIOUS_AT previous (omega arith) ∙ middle_length
 
   -- the words before the links stay
-  pub word-relinked : (k : ℕ) → k + 4 ≤ 16 → word_at (relinked c next previous) k ≡ word_at c k
+  pub word-relinked : (k : ℕ) → k + WORD_SIZE ≤ NEXT_AT → word_at (relinked c next previous) k ≡ word_at c k
   word-relinked k h = let middle_length = length-mid in
-      word_other mid 20 previous k (omega arith) (inl (omega arith)) ∙ word_other c 16 next k (omega arith) (inl (omega arith))
+      word_other mid PREVIOUS_AT previous k (omega arith) (inl (omega arith)) ∙ word_other c NEXT_AT next k (omega arith) (inl (omega arith))
 
-  pub next-relinked : next < 2 ^ 32 → word_at (relinked c next previous) 16 ≡ next
-  next-relinked h = let middle_length = length-mid in word_other mid 20 previous 16 (omega arith) (inl (omega arith)) ∙ word_same c 16 next (omega arith) h
+  pub next-relinked : next < 2 ^ 32 → word_at (relinked c next previous) NEXT_AT ≡ next
+  next-relinked h = let middle_length = length-mid in word_other mid PREVIOUS_AT previous NEXT_AT (omega arith) (inl (omega arith)) ∙ word_same c NEXT_AT next (omega arith) h
 
-  pub previous-relinked : previous < 2 ^ 32 → word_at (relinked c next previous) 20 ≡ previous
-  previous-relinked h = let middle_length = length-mid in word_same mid 20 previous (omega arith) h
+  pub previous-relinked : previous < 2 ^ 32 → word_at (relinked c next previous) PREVIOUS_AT ≡ previous
+  previous-relinked h = let middle_length = length-mid in word_same mid PREVIOUS_AT previous (omega arith) h
 
   -- links are no part of what a block is
   pub block-relinked : (p : ℕ) → block_in p (relinked c next previous) ≡ block_in p c
   block-relinked p =
       let middle_length = length-mid in
-      same_block p c (relinked c next previous) length-relinked (word-relinked 4 (omega arith)) (word-relinked 8 (omega arith)) (word-relinked 12 (omega arith))
-      (drop-with_word mid 20 previous HEADER_SIZE (omega arith) (omega arith) ∙ drop-with_word c 16 next HEADER_SIZE (omega arith) (omega arith))
+      same_block p c (relinked c next previous) length-relinked (word-relinked ASKED_AT (omega arith)) (word-relinked OWNER_AT (omega arith)) (word-relinked TAG_AT (omega arith))
+      (drop-with_word mid PREVIOUS_AT previous HEADER_SIZE (omega arith) (omega arith) ∙ drop-with_word c NEXT_AT next HEADER_SIZE (omega arith) (omega arith))
 
 -- the first part with another previous place
 module _ (c : List ℕ) (previous : ℕ) (large : HEADER_SIZE ≤ length c) where
-  pub length-ringed : length (with_word c 20 previous) ≡ length c
-  length-ringed = length-with_word c 20 previous (omega arith)
+  pub length-ringed : length (with_word c PREVIOUS_AT previous) ≡ length c
+  length-ringed = length-with_word c PREVIOUS_AT previous (omega arith)
 
-  pub word-ringed : (k : ℕ) → k + 4 ≤ 20 → word_at (with_word c 20 previous) k ≡ word_at c k
-  word-ringed k h = word_other c 20 previous k (omega arith) (inl (omega arith))
+  pub word-ringed : (k : ℕ) → k + WORD_SIZE ≤ PREVIOUS_AT → word_at (with_word c PREVIOUS_AT previous) k ≡ word_at c k
+  word-ringed k h = word_other c PREVIOUS_AT previous k (omega arith) (inl (omega arith))
 
-  pub block-ringed : (p : ℕ) → block_in p (with_word c 20 previous) ≡ block_in p c
-  block-ringed p = same_block p c (with_word c 20 previous) length-ringed (word-ringed 4 (omega arith)) (word-ringed 8 (omega arith))
-      (word-ringed 12 (omega arith)) (drop-with_word c 20 previous HEADER_SIZE (omega arith) (omega arith))
+  pub block-ringed : (p : ℕ) → block_in p (with_word c PREVIOUS_AT previous) ≡ block_in p c
+  block-ringed p = same_block p c (with_word c PREVIOUS_AT previous) length-ringed (word-ringed ASKED_AT (omega arith)) (word-ringed OWNER_AT (omega arith))
+      (word-ringed TAG_AT (omega arith)) (drop-with_word c PREVIOUS_AT previous HEADER_SIZE (omega arith) (omega arith))
 
-  pub linked-ringed : (e p q : ℕ) (cs : List (List ℕ)) → previous < 2 ^ 32 → AreLinked e q p (c ∷ cs) → AreLinked e previous p (with_word c 20 previous ∷ cs)
+  pub linked-ringed : (e p q : ℕ) (cs : List (List ℕ)) → previous < 2 ^ 32 → AreLinked e q p (c ∷ cs) → AreLinked e previous p (with_word c PREVIOUS_AT previous ∷ cs)
   linked-ringed e p q cs h l =
       let length_kept = length-ringed in
-      (word-ringed 16 (omega arith) ∙ l.0 ∙ ap (λ k. ring_place (p + k) e) (sym length_kept), word_same c 20 previous (omega arith) h, subst (λ k. AreLinked e p (p + k) cs) (sym length_kept) l.2)
+      (word-ringed NEXT_AT (omega arith) ∙ l.0 ∙ ap (λ k. ring_place (p + k) e) (sym length_kept), word_same c PREVIOUS_AT previous (omega arith) h, subst (λ k. AreLinked e p (p + k) cs) (sym length_kept) l.2)
 
 -- linked parts behind linked parts are linked
 pub linked-append : (e q p : ℕ) (xs ys : List (List ℕ)) → AreLinked e q p xs → AreLinked e (last_place q p xs) (p + length (joined xs)) ys

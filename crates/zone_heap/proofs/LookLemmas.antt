@@ -1,7 +1,7 @@
 -- A slot's block, found at the slot's home.
 use Rattle.zone_rules.proofs.Common.{◌≡◌, ℕ, ◌+◌, ◌/◌, ◌%◌, ◌<◌, ◌≤◌, Bool, true, false, cond, List, [], ◌∷◌, ◌++◌, length, Option, Some, None, refl, sym, subst, ap, ap₂, ◌∙◌, arith, ◌==◌, IsSome, option_and_then, cond-false, false≢true, length-append}
-use Rattle.zone_heap.specs.Rules.{Block, Owner, Unique, free_block, free_owner, holding_of, holds_for, is_held_by, owned_block, HEADER_SIZE}
-use Rattle.zone_heap.specs.Headers.{FREE_OWNER, KIND_UNIT, owner_in, word_at, with_use, freed, block_in, live_in}
+use Rattle.zone_heap.specs.Rules.{Block, Owner, Unique, free_block, free_owner, holding_of, holds_for, is_held_by, owned_block, HEADER_SIZE, word_at, WORD_SIZE}
+use Rattle.zone_heap.specs.Headers.{FREE_OWNER, KIND_UNIT, owner_in, with_use, freed, block_in, live_in, OWNER_AT}
 use Rattle.zone_heap.specs.Regions.{joined, blocks_in, blocks_from, AllWhole, IsLaid, IsSplit}
 use Rattle.zone_heap.specs.declared.homes.Homes.{Homes}
 use Rattle.zone_heap.specs.Homes.{NO_HOME, home_index, home_in, home_of, AreHome, IsHomed, IsSet}
@@ -44,7 +44,7 @@ pub record IsFound (region : List ℕ) (o : Owner) (place : ℕ) : Type 0 where
   pub holds : block.holding ≡ Some (live_in part)
   pub large : HEADER_SIZE ≤ length part
   pub fits : place + length part ≤ length region
-  pub words : (k : ℕ) → k + 4 ≤ HEADER_SIZE → word_at region (place + k) ≡ word_at part k
+  pub words : (k : ℕ) → k + WORD_SIZE ≤ HEADER_SIZE → word_at region (place + k) ≡ word_at part k
 
 some_is : (o : Option Block) → IsSome o → (b : Block) × (o ≡ Some b)
 some_is None s = cc
@@ -82,8 +82,8 @@ look region laid o place live at =
       block_is = sym its_part.part_is ∙ ap (λ p. block_in p its_part.part) block_place_is;
       others_is = ap (λ p. blocks_from (p + length its_part.part) its_part.others) (sym block_place_is) ∙ its_part.others_is;
       holds = sym (ap (λ (x : Block). x.holding) its_part.part_is)
-          ∙ cond-false (word_at its_part.part 8 == FREE_OWNER) None (Some (live_in its_part.part))
-          (held_live o its_part.part (word_at its_part.part 8 == FREE_OWNER) part_is_held);
+          ∙ cond-false (word_at its_part.part OWNER_AT == FREE_OWNER) None (Some (live_in its_part.part))
+          (held_live o its_part.part (word_at its_part.part OWNER_AT == FREE_OWNER) part_is_held);
       large = whole.0;
       fits = omega arith;
       words = λ n h. let place_is : place + n ≡ length (joined its_part.split.front) + n = omega arith in ap (λ xs. word_at xs (place + n)) region_is
@@ -100,10 +100,10 @@ module _ (homes : Homes) (region : List ℕ) (o : Owner) (place : ℕ) (f : IsFo
   found_after = with_use region place 0 FREE_OWNER 0
 
   abbrev pub found_word : ℕ
-  found_word = word_at region (place + 8)
+  found_word = word_at region (place + OWNER_AT)
 
-  word_is : found_word ≡ word_at f.part 8
-  word_is = f.words 8 (omega arith)
+  word_is : found_word ≡ word_at f.part OWNER_AT
+  word_is = f.words OWNER_AT (omega arith)
 
   home_here : AreHome homes (f.front ++ (f.block ∷ f.rest))
   home_here = subst (AreHome homes) f.is home

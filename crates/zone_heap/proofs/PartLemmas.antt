@@ -1,10 +1,10 @@
 -- The parts of a region, one for each block, and the blocks that they are.
 use Rattle.zone_rules.proofs.Common.{◌≡◌, ℕ, zero, suc, ◌+◌, ◌-◌, ◌<◌, ◌≤◌, Bool, true, false, cond, ◌&&◌, List, [], ◌∷◌, ◌++◌, length, take, drop, Some, None, refl, sym, subst, ap, ap₂, ◌∙◌, arith, ◌==◌, ◌||◌, not, is_none, nat_le, position_or_len, cond-true, cond-false, length-append, take_at, drop_at, append_assoc, append-nil}
 use Rattle.zone_heap.specs.{Walks.starts_at, declared.headers.Header.Header}
-use Rattle.zone_heap.specs.Headers.{FREE_OWNER, word_at, header_in, block_in, live_in, code_tag, is_free_header, is_pinned_header, is_purgeable_header, keeps_tag}
+use Rattle.zone_heap.specs.Headers.{FREE_OWNER, header_in, block_in, live_in, code_tag, is_free_header, is_pinned_header, is_purgeable_header, keeps_tag, ASKED_AT, OWNER_AT, TAG_AT}
 use Rattle.zone_heap.specs.Regions.{joined, parts_in, blocks_from, blocks_in, AllWhole, IsLaid, IsSplit}
 use Rattle.zone_heap.proofs.WordLemmas.{word_in_front, word_from}
-use Rattle.zone_heap.specs.Rules.{Tag, Tiles, is_free, is_pinned, is_purgeable, is_purgeable_tag, HEADER_SIZE}
+use Rattle.zone_heap.specs.Rules.{Tag, Tiles, is_free, is_pinned, is_purgeable, is_purgeable_tag, HEADER_SIZE, word_at}
 
 -- of two lists of parts: the bytes, whether all are whole, and the blocks
 pub joined-append : (xs ys : List (List ℕ)) → joined (xs ++ ys) ≡ joined xs ++ joined ys
@@ -66,8 +66,8 @@ module _ (region : List ℕ) where
 -- a header is read from the part in front
 header_front : (c b : List ℕ) → HEADER_SIZE ≤ length c → header_in (c ++ b) ≡ header_in c
 header_front c b h =
-    let size_kept = word_in_front c b 0 (omega arith) in let asked_kept = word_in_front c b 4 (omega arith) in
-    let owner_kept = word_in_front c b 8 (omega arith) in let tag_kept = word_in_front c b 12 (omega arith) in
+    let size_kept = word_in_front c b 0 (omega arith) in let asked_kept = word_in_front c b ASKED_AT (omega arith) in
+    let owner_kept = word_in_front c b OWNER_AT (omega arith) in let tag_kept = word_in_front c b TAG_AT (omega arith) in
     λ i. record { size = size_kept i; asked = asked_kept i; owner = owner_kept i; tag = tag_kept i }
 
 -- at a place before the end stands a block, as long as its first word says
@@ -139,7 +139,7 @@ split_le region at s = let region_length = ap length s.is ∙ length-append (joi
 -- what a header tells, its block is
 module _ (p : ℕ) (c : List ℕ) where
   pub free_told : is_free (block_in p c) ≡ is_free_header (header_in c)
-  free_told = go (word_at c 8 == FREE_OWNER) where
+  free_told = go (word_at c OWNER_AT == FREE_OWNER) where
     go : (t : Bool) → is_none (cond t None (Some (live_in c))) ≡ t
     go true = refl
     go false = refl
@@ -153,19 +153,19 @@ module _ (p : ℕ) (c : List ℕ) where
     go false false = refl
 
   pub pinned_told : is_pinned (block_in p c) ≡ is_pinned_header (header_in c)
-  pinned_told = go (word_at c 8 == FREE_OWNER) where
-    go : (t : Bool) → is_pinned (record { place = p; size = length c; holding = cond t None (Some (live_in c)) }) ≡ (not t && keeps_tag (word_at c 12))
+  pinned_told = go (word_at c OWNER_AT == FREE_OWNER) where
+    go : (t : Bool) → is_pinned (record { place = p; size = length c; holding = cond t None (Some (live_in c)) }) ≡ (not t && keeps_tag (word_at c TAG_AT))
     go true = refl
-    go false = ap not (tag_told (word_at c 12)) ∙ twice (keeps_tag (word_at c 12)) where
+    go false = ap not (tag_told (word_at c TAG_AT)) ∙ twice (keeps_tag (word_at c TAG_AT)) where
       twice : (t : Bool) → not (not t) ≡ t
       twice true = refl
       twice false = refl
 
   pub purgeable_told : is_purgeable (block_in p c) ≡ is_purgeable_header (header_in c)
-  purgeable_told = go (word_at c 8 == FREE_OWNER) where
-    go : (t : Bool) → is_purgeable (record { place = p; size = length c; holding = cond t None (Some (live_in c)) }) ≡ (not t && not (keeps_tag (word_at c 12)))
+  purgeable_told = go (word_at c OWNER_AT == FREE_OWNER) where
+    go : (t : Bool) → is_purgeable (record { place = p; size = length c; holding = cond t None (Some (live_in c)) }) ≡ (not t && not (keeps_tag (word_at c TAG_AT)))
     go true = refl
-    go false = tag_told (word_at c 12)
+    go false = tag_told (word_at c TAG_AT)
 
 module _ (region : List ℕ) (at : ℕ) (s : IsSplit region at) (n : ℕ) (o : Opened region at s n) (h : Header) (e : h ≡ header_in (drop at region)) where
   pub free_at : is_free_header h ≡ is_free (block_in at o.part)

@@ -1,7 +1,7 @@
 -- A pass over the region that frees purgeable blocks.
 use Rattle.zone_rules.proofs.Common.{◌≡◌, ℕ, zero, suc, ◌+◌, ◌/◌, ◌%◌, ◌<◌, ◌≤◌, Bool, true, false, cond, List, [], ◌∷◌, ◌++◌, length, take, drop, map, count_by, Some, None, refl, sym, subst, ap, ap₂, ◌∙◌, arith, inl, ◌==◌, cond-true, cond-false, false≢true, append_assoc, map-append, sum_by-append, sum_by-cons}
-use Rattle.zone_heap.specs.Rules.{Block, free_block, is_purgeable, purge_block, HEADER_SIZE}
-use Rattle.zone_heap.specs.Headers.{FREE_OWNER, KIND_UNIT, owner_in, word_at, with_word, with_use, block_in, holding_in, live_in, freed}
+use Rattle.zone_heap.specs.Rules.{Block, free_block, is_purgeable, purge_block, HEADER_SIZE, word_at}
+use Rattle.zone_heap.specs.Headers.{FREE_OWNER, KIND_UNIT, owner_in, with_word, with_use, block_in, holding_in, live_in, freed, ASKED_AT, OWNER_AT, TAG_AT}
 use Rattle.zone_heap.specs.Regions.{joined, blocks_in, blocks_from, IsSplit}
 use Rattle.zone_heap.specs.declared.homes.Homes.{Homes}
 use Rattle.zone_heap.specs.Homes.{NO_HOME, home_index, AreHome, AreAlike, IsSet}
@@ -14,27 +14,27 @@ module _ (c : List ℕ) (large : HEADER_SIZE ≤ length c) where
   length-freed = length-with_use c 0 0 FREE_OWNER 0 (omega arith)
 
   abbrev asked_emptied : List ℕ
-  asked_emptied = with_word c 4 0
+  asked_emptied = with_word c ASKED_AT 0
 
   abbrev owner_freed : List ℕ
-  owner_freed = with_word asked_emptied 8 FREE_OWNER
+  owner_freed = with_word asked_emptied OWNER_AT FREE_OWNER
 
   -- a freed part tells its size as before, and is a free block
   pub told-freed : word_at (freed c) 0 ≡ word_at c 0
   told-freed =
-      let asked_kept = length-with_word c 4 0 (omega arith) in let owner_kept = length-with_word asked_emptied 8 FREE_OWNER (omega arith) in
-      word_other owner_freed 12 0 0 (omega arith) (inl (omega arith)) ∙ word_other asked_emptied 8 FREE_OWNER 0 (omega arith) (inl (omega arith))
-      ∙ word_other c 4 0 0 (omega arith) (inl (omega arith))
+      let asked_kept = length-with_word c ASKED_AT 0 (omega arith) in let owner_kept = length-with_word asked_emptied OWNER_AT FREE_OWNER (omega arith) in
+      word_other owner_freed TAG_AT 0 0 (omega arith) (inl (omega arith)) ∙ word_other asked_emptied OWNER_AT FREE_OWNER 0 (omega arith) (inl (omega arith))
+      ∙ word_other c ASKED_AT 0 0 (omega arith) (inl (omega arith))
 
   pub block-freed : (p : ℕ) → block_in p (freed c) ≡ free_block p (length c)
   block-freed p =
-      let asked_kept = length-with_word c 4 0 (omega arith) in let owner_kept = length-with_word asked_emptied 8 FREE_OWNER (omega arith) in
-      let owner : word_at (freed c) 8 ≡ FREE_OWNER =
-      word_other owner_freed 12 0 8 (omega arith) (inl (omega arith)) ∙ word_same asked_emptied 8 FREE_OWNER (omega arith) (omega arith) in
+      let asked_kept = length-with_word c ASKED_AT 0 (omega arith) in let owner_kept = length-with_word asked_emptied OWNER_AT FREE_OWNER (omega arith) in
+      let owner : word_at (freed c) OWNER_AT ≡ FREE_OWNER =
+      word_other owner_freed TAG_AT 0 OWNER_AT (omega arith) (inl (omega arith)) ∙ word_same asked_emptied OWNER_AT FREE_OWNER (omega arith) (omega arith) in
       let holds_nothing = nothing (freed c) (ap (λ n. n == FREE_OWNER) owner) in let size = length-freed in
       λ i. record { place = p; size = size i; holding = holds_nothing i } where
-        nothing : (e : List ℕ) → (word_at e 8 == FREE_OWNER) ≡ true → holding_in e ≡ None
-        nothing e t = cond-true (word_at e 8 == FREE_OWNER) None (Some (live_in e)) t
+        nothing : (e : List ℕ) → (word_at e OWNER_AT == FREE_OWNER) ≡ true → holding_in e ≡ None
+        nothing e t = cond-true (word_at e OWNER_AT == FREE_OWNER) None (Some (live_in e)) t
 
 -- a block more of a list
 pub take_next : (bs : List Block) (k : ℕ) (b : Block) (rest : List Block) → drop k bs ≡ b ∷ rest → take (k + 1) bs ≡ take k bs ++ (b ∷ [])
@@ -117,17 +117,17 @@ module _ (old : List ℕ) (all : Homes) (region : List ℕ) (homes : Homes) (fro
     large : HEADER_SIZE ≤ length o.part
     large = let part_length = o.len in let block_large = o.large in omega arith
 
-    live : (word_at o.part 8 == FREE_OWNER) ≡ false
-    live = go (word_at o.part 8 == FREE_OWNER) on where
+    live : (word_at o.part OWNER_AT == FREE_OWNER) ≡ false
+    live = go (word_at o.part OWNER_AT == FREE_OWNER) on where
       go : (t : Bool) → is_purgeable (record { place = at; size = length o.part; holding = cond t None (Some (live_in o.part)) }) ≡ true → t ≡ false
       go true e = absurd (false≢true e)
       go false e = refl
 
     holds : here.holding ≡ Some (live_in o.part)
-    holds = cond-false (word_at o.part 8 == FREE_OWNER) None (Some (live_in o.part)) live
+    holds = cond-false (word_at o.part OWNER_AT == FREE_OWNER) None (Some (live_in o.part)) live
 
-    word_is : word_at region (at + 8) ≡ word_at o.part 8
-    word_is = sym (word_from region at 8) ∙ ap (λ (x : Rattle.zone_heap.specs.declared.headers.Header.Header). x.owner) o.header
+    word_is : word_at region (at + OWNER_AT) ≡ word_at o.part OWNER_AT
+    word_is = sym (word_from region at OWNER_AT) ∙ ap (λ (x : Rattle.zone_heap.specs.declared.headers.Header.Header). x.owner) o.header
 
     same : length part ≡ n
     same = length-freed o.part large ∙ o.len
@@ -148,7 +148,7 @@ module _ (old : List ℕ) (all : Homes) (region : List ℕ) (homes : Homes) (fro
     next = split_next region at n p.split o part same told after after_is
 
     abbrev index : ℕ
-    index = home_index homes.lumps (word_at region (at + 8) / KIND_UNIT) (word_at region (at + 8) % KIND_UNIT)
+    index = home_index homes.lumps (word_at region (at + OWNER_AT) / KIND_UNIT) (word_at region (at + OWNER_AT) % KIND_UNIT)
 
     home_here : AreHome homes (blocks_from 0 p.split.front ++ (here ∷ blocks_from (at + n) o.next.rest))
     home_here = subst (AreHome homes) (blocks_split region at p.split ∙ ap (λ bs. blocks_from 0 p.split.front ++ bs) o.blocks) p.home
@@ -166,7 +166,7 @@ module _ (old : List ℕ) (all : Homes) (region : List ℕ) (homes : Homes) (fro
     front_is = blocks_next region at n p.split o part same told after after_is ∙ ap (λ b. blocks_from 0 p.split.front ++ (b ∷ [])) free_here
 
     -- the pass goes on over a purgeable block, which is freed
-    pub freed_step : (new : Homes) → IsSet homes new (owner_in (word_at region (at + 8))) NO_HOME
+    pub freed_step : (new : Homes) → IsSet homes new (owner_in (word_at region (at + OWNER_AT))) NO_HOME
         → PurgedTo old all after new from (at + n) (passed + 1) (count + 1)
     freed_step new set =
         let block_large = o.large in let passed_low = p.low in let count_few = p.few in

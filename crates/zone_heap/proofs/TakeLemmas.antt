@@ -1,9 +1,9 @@
 -- A free block given to a slot, as the bytes of its parts.
 use Rattle.zone_rules.proofs.Common.{◌≡◌, ℕ, zero, suc, ◌+◌, ◌-◌, ◌<◌, ◌≤◌, ◌^◌, Bool, true, false, cond, List, [], ◌∷◌, ◌++◌, length, take, drop, Some, None, refl, sym, subst, ap, ap₂, ◌∙◌, arith, inl, ◌==◌, nat_lt, cond-true, cond-false, eq-eqb, ne_eqb, le-ltb, lt-ltb, length-append, length-take, length-drop, drop_at, drop-drop}
-use Rattle.zone_heap.specs.Rules.{Block, Holding, RoomAt, Tiles, cut_block, free_block, place_after, take_at, HEADER_SIZE, MIN_FRAGMENT}
+use Rattle.zone_heap.specs.Rules.{Block, Holding, RoomAt, Tiles, cut_block, free_block, place_after, take_at, HEADER_SIZE, MIN_FRAGMENT, word_at}
 use Rattle.zone_rules.proofs.TakeLemmas.{take_at_is}
 use Rattle.zone_heap.specs.declared.headers.Used.{Used}
-use Rattle.zone_heap.specs.Headers.{FREE_OWNER, word_at, with_word, with_use, block_in, holding_in, live_in, owner_in, code_tag, first_part, second_part, used_holding}
+use Rattle.zone_heap.specs.Headers.{FREE_OWNER, with_word, with_use, block_in, holding_in, live_in, owner_in, code_tag, first_part, second_part, used_holding, ASKED_AT, OWNER_AT, TAG_AT}
 use Rattle.zone_heap.specs.Regions.{joined, blocks_in, blocks_from, AllWhole, IsLaid, IsSplit}
 use Rattle.zone_heap.proofs.WordLemmas.{word_same, word_other, length-with_word, length-with_use, drop-with_word, used_within, word_within}
 use Rattle.zone_heap.proofs.PartLemmas.{blocks_laid, blocks-append, joined-append, whole-append, tiles_laid}
@@ -94,38 +94,38 @@ module _ (c : List ℕ) (u : Used) (large : HEADER_SIZE ≤ length c) (asked_sma
   given = with_use c 0 u.asked u.owner u.tag
 
   abbrev asked_written : List ℕ
-  asked_written = with_word c 4 u.asked
+  asked_written = with_word c ASKED_AT u.asked
 
   abbrev owner_written : List ℕ
-  owner_written = with_word asked_written 8 u.owner
+  owner_written = with_word asked_written OWNER_AT u.owner
 
   asked_written_len : length asked_written ≡ length c
-  asked_written_len = length-with_word c 4 u.asked (omega arith)
+  asked_written_len = length-with_word c ASKED_AT u.asked (omega arith)
 
   owner_written_len : length owner_written ≡ length c
-  owner_written_len = let asked_kept = asked_written_len in length-with_word asked_written 8 u.owner (omega arith) ∙ asked_kept
+  owner_written_len = let asked_kept = asked_written_len in length-with_word asked_written OWNER_AT u.owner (omega arith) ∙ asked_kept
 
   -- it keeps its length, and tells the same size
   pub length-given : length given ≡ length c
   length-given = length-with_use c 0 u.asked u.owner u.tag (omega arith)
 
   pub told-given : word_at given 0 ≡ word_at c 0
-  told-given = let asked_kept = asked_written_len in let owner_kept = owner_written_len in word_other owner_written 12 u.tag 0 (omega arith) (inl (omega arith)) ∙ word_other asked_written 8 u.owner 0 (omega arith) (inl (omega arith)) ∙ word_other c 4 u.asked 0 (omega arith) (inl (omega arith))
+  told-given = let asked_kept = asked_written_len in let owner_kept = owner_written_len in word_other owner_written TAG_AT u.tag 0 (omega arith) (inl (omega arith)) ∙ word_other asked_written OWNER_AT u.owner 0 (omega arith) (inl (omega arith)) ∙ word_other c ASKED_AT u.asked 0 (omega arith) (inl (omega arith))
 
   -- as a block it holds what was given
   pub block-given : (p : ℕ) → (u.owner == FREE_OWNER) ≡ false
       → block_in p given ≡ record { place = p; size = length c; holding = Some (used_holding u (drop HEADER_SIZE c)) }
   block-given p live =
       let asked_kept = asked_written_len in let owner_kept = owner_written_len in
-      let tag : word_at given 12 ≡ u.tag = word_same owner_written 12 u.tag (omega arith) tag_small in
-      let owner : word_at given 8 ≡ u.owner = word_other owner_written 12 u.tag 8 (omega arith) (inl (omega arith)) ∙ word_same asked_written 8 u.owner (omega arith) owner_small in
-      let asked_stays : word_at given 4 ≡ u.asked = word_other owner_written 12 u.tag 4 (omega arith) (inl (omega arith))
-      ∙ word_other asked_written 8 u.owner 4 (omega arith) (inl (omega arith)) ∙ word_same c 4 u.asked (omega arith) asked_small in
-      let bytes_stay : drop HEADER_SIZE given ≡ drop HEADER_SIZE c = drop-with_word owner_written 12 u.tag HEADER_SIZE (omega arith) (omega arith)
-      ∙ drop-with_word asked_written 8 u.owner HEADER_SIZE (omega arith) (omega arith) ∙ drop-with_word c 4 u.asked HEADER_SIZE (omega arith) (omega arith) in
+      let tag : word_at given TAG_AT ≡ u.tag = word_same owner_written TAG_AT u.tag (omega arith) tag_small in
+      let owner : word_at given OWNER_AT ≡ u.owner = word_other owner_written TAG_AT u.tag OWNER_AT (omega arith) (inl (omega arith)) ∙ word_same asked_written OWNER_AT u.owner (omega arith) owner_small in
+      let asked_stays : word_at given ASKED_AT ≡ u.asked = word_other owner_written TAG_AT u.tag ASKED_AT (omega arith) (inl (omega arith))
+      ∙ word_other asked_written OWNER_AT u.owner ASKED_AT (omega arith) (inl (omega arith)) ∙ word_same c ASKED_AT u.asked (omega arith) asked_small in
+      let bytes_stay : drop HEADER_SIZE given ≡ drop HEADER_SIZE c = drop-with_word owner_written TAG_AT u.tag HEADER_SIZE (omega arith) (omega arith)
+      ∙ drop-with_word asked_written OWNER_AT u.owner HEADER_SIZE (omega arith) (omega arith) ∙ drop-with_word c ASKED_AT u.asked HEADER_SIZE (omega arith) (omega arith) in
       let size = length-given in
       let given_holds_live : holding_in given ≡ Some (live_in given) =
-      cond-false (word_at given 8 == FREE_OWNER) None (Some (live_in given)) (ap (λ n. n == FREE_OWNER) owner ∙ live) in
+      cond-false (word_at given OWNER_AT == FREE_OWNER) None (Some (live_in given)) (ap (λ n. n == FREE_OWNER) owner ∙ live) in
       let live_is : live_in given ≡ used_holding u (drop HEADER_SIZE c) =
       λ i. record { owner = owner_in (owner i); tag = code_tag (tag i); asked = asked_stays i; bytes = take (asked_stays i) (bytes_stay i) } in
       λ i. record { place = p; size = size i; holding = (given_holds_live ∙ ap Some live_is) i }

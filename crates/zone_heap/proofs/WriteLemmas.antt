@@ -1,7 +1,7 @@
 -- A live slot's block with other bytes.
 use Rattle.zone_rules.proofs.Common.{◌≡◌, ℕ, zero, suc, ◌+◌, ◌≤◌, List, [], ◌∷◌, ◌++◌, length, take, drop, map, refl, sym, subst, ap, ap₂, ◌∙◌, arith, cond-true, cond-false, length-append, length-take, length-drop, append_assoc, take_at, drop_at, get_or_append_left, get_or-take}
-use Rattle.zone_heap.specs.Rules.{Owner, Unique, is_held_by, write_block, write_holding, HEADER_SIZE}
-use Rattle.zone_heap.specs.Headers.{word_at, block_in, live_in, owner_in, code_tag}
+use Rattle.zone_heap.specs.Rules.{Owner, Unique, is_held_by, write_block, write_holding, HEADER_SIZE, word_at, WORD_SIZE}
+use Rattle.zone_heap.specs.Headers.{block_in, live_in, owner_in, code_tag, ASKED_AT, OWNER_AT, TAG_AT, NEXT_AT, PREVIOUS_AT}
 use Rattle.zone_heap.specs.Regions.{joined, blocks_in, IsRing}
 use Rattle.zone_heap.proofs.{WordLemmas.same_word, LookLemmas.IsFound}
 use Rattle.zone_heap.proofs.ChangeLemmas.{changed_ring, changed_len, changed_blocks, changed_block, map_one}
@@ -25,9 +25,9 @@ drop_in [] c b k h = ap (λ n. drop n (c ++ b)) (let sum_is : 0 + k ≡ k = omeg
 drop_in (y ∷ a) c b k h = ap (λ n. drop n (y ∷ (a ++ (c ++ b)))) (let sum_is : suc (length a) + k ≡ suc (length a + k) = omega arith in sum_is) ∙ drop_in a c b k h
 
 -- other bytes
-module _ (region : List ℕ) (o : Owner) (place : ℕ) (f : IsFound region o place) (ring : IsRing region) (unique : Unique (blocks_in region)) (w after : List ℕ) (len : length w ≡ word_at f.part 4) (fits : word_at f.part 4 + HEADER_SIZE ≤ length f.part) (is : after ≡ take (place + HEADER_SIZE) region ++ (w ++ drop (place + HEADER_SIZE + word_at f.part 4) region)) where
+module _ (region : List ℕ) (o : Owner) (place : ℕ) (f : IsFound region o place) (ring : IsRing region) (unique : Unique (blocks_in region)) (w after : List ℕ) (len : length w ≡ word_at f.part ASKED_AT) (fits : word_at f.part ASKED_AT + HEADER_SIZE ≤ length f.part) (is : after ≡ take (place + HEADER_SIZE) region ++ (w ++ drop (place + HEADER_SIZE + word_at f.part ASKED_AT) region)) where
   abbrev asked : ℕ
-  asked = word_at f.part 4
+  asked = word_at f.part ASKED_AT
 
   abbrev part : List ℕ
   part = take HEADER_SIZE f.part ++ (w ++ drop (HEADER_SIZE + asked) f.part)
@@ -42,7 +42,7 @@ module _ (region : List ℕ) (o : Owner) (place : ℕ) (f : IsFound region o pla
       let bytes_and_behind = length-append w (drop (HEADER_SIZE + asked) f.part) in
       let behind_length = length-drop (HEADER_SIZE + asked) f.part in let header_length = front_len in omega arith
 
-  word : (k : ℕ) → k + 4 ≤ HEADER_SIZE → word_at part k ≡ word_at f.part k
+  word : (k : ℕ) → k + WORD_SIZE ≤ HEADER_SIZE → word_at part k ≡ word_at f.part k
   word k h = let header_length = front_len in same_word part f.part k (λ j a b. get_or_append_left (take HEADER_SIZE f.part) (w ++ drop (HEADER_SIZE + asked) f.part) 0 j (omega arith) ∙ get_or-take HEADER_SIZE f.part j 0 (omega arith))
 
   parts : after ≡ joined f.split.front ++ (part ++ joined f.others)
@@ -56,25 +56,25 @@ module _ (region : List ℕ) (o : Owner) (place : ℕ) (f : IsFound region o pla
       ∙ ap (λ x. front ++ x) (ap (λ x. take HEADER_SIZE f.part ++ x) (sym (append_assoc w (drop (HEADER_SIZE + asked) f.part) other_parts)) ∙ sym (append_assoc (take HEADER_SIZE f.part) (w ++ drop (HEADER_SIZE + asked) f.part) other_parts))
 
   pub written_ring : IsRing after
-  written_ring = changed_ring region o place f ring part after same (word 0 (omega arith)) (word 16 (omega arith)) (word 20 (omega arith)) parts
+  written_ring = changed_ring region o place f ring part after same (word 0 (omega arith)) (word NEXT_AT (omega arith)) (word PREVIOUS_AT (omega arith)) parts
 
   pub written_len : length after ≡ length region
-  written_len = changed_len region o place f ring part after same (word 0 (omega arith)) (word 16 (omega arith)) (word 20 (omega arith)) parts
+  written_len = changed_len region o place f ring part after same (word 0 (omega arith)) (word NEXT_AT (omega arith)) (word PREVIOUS_AT (omega arith)) parts
 
   -- as a block it holds the other bytes
   block_is : block_in place part ≡ write_block o w f.block
   block_is =
-      let asked_same = word 4 (omega arith) in let owner_same = word 8 (omega arith) in let tag_same = word 12 (omega arith) in
+      let asked_same = word ASKED_AT (omega arith) in let owner_same = word OWNER_AT (omega arith) in let tag_same = word TAG_AT (omega arith) in
       let body_is : drop HEADER_SIZE part ≡ w ++ drop (HEADER_SIZE + asked) f.part =
       drop_at (take HEADER_SIZE f.part) (w ++ drop (HEADER_SIZE + asked) f.part) HEADER_SIZE front_len in
-      let bytes : take (word_at part 4) (drop HEADER_SIZE part) ≡ w = ap₂ take asked_same body_is ∙ take_at w (drop (HEADER_SIZE + asked) f.part) asked len in
-      let live_is : live_in part ≡ record { owner = owner_in (word_at f.part 8); tag = code_tag (word_at f.part 12); asked = word_at f.part 4; bytes = w } =
+      let bytes : take (word_at part ASKED_AT) (drop HEADER_SIZE part) ≡ w = ap₂ take asked_same body_is ∙ take_at w (drop (HEADER_SIZE + asked) f.part) asked len in
+      let live_is : live_in part ≡ record { owner = owner_in (word_at f.part OWNER_AT); tag = code_tag (word_at f.part TAG_AT); asked = word_at f.part ASKED_AT; bytes = w } =
       λ i. record { owner = owner_in (owner_same i); tag = code_tag (tag_same i); asked = asked_same i; bytes = bytes i } in
-      changed_block region o place f ring part after same (word 0 (omega arith)) (word 16 (omega arith)) (word 20 (omega arith)) parts _ owner_same live_is
+      changed_block region o place f ring part after same (word 0 (omega arith)) (word NEXT_AT (omega arith)) (word PREVIOUS_AT (omega arith)) parts _ owner_same live_is
       ∙ sym (cond-true (is_held_by o f.block) _ _ f.held ∙ ap (λ x. record { place = f.block.place; size = f.block.size; holding = write_holding w x }) f.holds)
 
   pub written_blocks : blocks_in after ≡ map (write_block o w) (blocks_in region)
   written_blocks =
-      changed_blocks region o place f ring part after same (word 0 (omega arith)) (word 16 (omega arith)) (word 20 (omega arith)) parts
+      changed_blocks region o place f ring part after same (word 0 (omega arith)) (word NEXT_AT (omega arith)) (word PREVIOUS_AT (omega arith)) parts
       ∙ ap (λ b. f.front ++ (b ∷ f.rest)) block_is
       ∙ sym (ap (map (write_block o w)) f.is ∙ map_one o (write_block o w) (λ b e. cond-false (is_held_by o b) _ _ e) f.front f.rest f.block f.held (subst Unique f.is unique))

@@ -1,13 +1,13 @@
 -- The zone's fields, and what its calls need and give back.
 use Rattle.zone_rules.proofs.Common.{◌≡◌, ℕ, ◌+◌, ◌-◌, ◌*◌, ◌/◌, ◌%◌, ◌<◌, ◌≤◌, false, List, length, map, take, drop, ◌++◌, Global, Option, Some, None, refl, sym, subst, ap, ap₂, ◌∙◌, arith, option_map, inl, inr, ◌==◌, ◌⊎◌, slice_range, IsSome, option_and_then, vec_len, is_some, not, cases_eq, eq-eqb, ne_eqb, length-take, length-drop}
 use Rattle.std.specs.declared.vec.Vec.{Vec}
-use Rattle.zone_heap.specs.Rules.{AllFit, Block, Heap, Holding, IsLive, IsSound, Owner, Tag, bytes_of, holding_of, is_held_by, owned_block, owner_at, retag_block, same_owner, slot_count, with_bytes, write_block, HEADER_SIZE}
+use Rattle.zone_heap.specs.Rules.{AllFit, Block, Heap, Holding, IsLive, IsSound, Owner, Tag, bytes_of, holding_of, is_held_by, owned_block, owner_at, retag_block, same_owner, slot_count, with_bytes, write_block, HEADER_SIZE, word_at}
 use Rattle.zone_rules.proofs.{OwnerLemmas.owned_apart, SoundLemmas.in_range_of}
 use Rattle.zone_rules.proofs.ChangeLemmas.{retag_keeps, with_bytes_sound, write_keeps}
 use Rattle.zone_heap.specs.{declared.homes.Homes.Homes, declared.look.Span.Span}
 use Rattle.zone_rules.proofs.OwnerLemmas.{owned_block-map, retag_held, write_held}
 use Rattle.zone_heap.specs.{declared.zone.Zone.TheInside.Inside, View.heap_of, View.IsZone}
-use Rattle.zone_heap.specs.Headers.{KIND_UNIT, owner_in, word_at, live_in}
+use Rattle.zone_heap.specs.Headers.{KIND_UNIT, owner_in, live_in, ASKED_AT}
 use Rattle.zone_heap.specs.Regions.{blocks_in, IsRing}
 use Rattle.zone_heap.specs.Homes.{NO_HOME, home_in, home_of, composites_in, IsSlot, AreExact, AreHome, AreAlike}
 use Rattle.zone_heap.proofs.LookLemmas.{IsFound, look, holding_found}
@@ -49,12 +49,12 @@ pub record IsSpan (i : Inside) (z : Heap) (kind number : ℕ) (s : Span) : Type 
   pub inside : number < slot_count (heap_of i) kind
   pub live : IsLive (heap_of i) (owner_at kind number)
   pub from_is : s.from ≡ home_in i.homes kind number + HEADER_SIZE
-  pub to_is : s.to ≡ s.from + word_at i.region.items (home_in i.homes kind number + 4)
+  pub to_is : s.to ≡ s.from + word_at i.region.items (home_in i.homes kind number + ASKED_AT)
 
 -- what a look-up of a live slot's bytes answers is their span
 pub span_is : (i : Inside) (z : Heap) → heap_of i ≡ z → (kind number : ℕ) → kind ≤ 1 → number < slot_count z kind → IsLive z (owner_at kind number)
     → (region : List ℕ) → region ≡ i.region.items → (k n : ℕ) → k ≡ kind → n ≡ number
-    → (s : Span) → s.from ≡ home_in i.homes k n + HEADER_SIZE → s.to ≡ s.from + word_at region (home_in i.homes k n + 4) → IsSpan i z kind number s
+    → (s : Span) → s.from ≡ home_in i.homes k n + HEADER_SIZE → s.to ≡ s.from + word_at region (home_in i.homes k n + ASKED_AT) → IsSpan i z kind number s
 span_is i z view kind number known inside live region region_is k n k_is n_is s from to =
     let home = ap₂ (home_in i.homes) k_is n_is in
     record {
@@ -63,7 +63,7 @@ span_is i z view kind number known inside live region region_is k n k_is n_is s 
       inside = subst (λ (y : Heap). number < slot_count y kind) (sym view) inside;
       live = subst (λ (y : Heap). IsLive y (owner_at kind number)) (sym view) live;
       from_is = from ∙ ap (λ at. at + HEADER_SIZE) home;
-      to_is = to ∙ ap₂ (λ xs at. s.from + word_at xs (at + 4)) region_is home;
+      to_is = to ∙ ap₂ (λ xs at. s.from + word_at xs (at + ASKED_AT)) region_is home;
     }
 
 -- what a call that wrote the bytes of a slot left
@@ -157,11 +157,11 @@ module _ (i : Inside) (zone : IsZone i) where
     abbrev there : IsFound i.region.items (owner_at kind number) home
     there = found kind number p.known p.inside p.live
 
-    fits : word_at there.part 4 + HEADER_SIZE ≤ length there.part
+    fits : word_at there.part ASKED_AT + HEADER_SIZE ≤ length there.part
     fits = asked_fits i.region.items (owner_at kind number) home there i.homes.lumps i.composites zone.sound.fits
 
-    to_word : s.to ≡ home + HEADER_SIZE + word_at there.part 4
-    to_word = let asked_kept = there.words 4 (omega arith) in let start_is = p.from_is in let end_is = p.to_is in omega arith
+    to_word : s.to ≡ home + HEADER_SIZE + word_at there.part ASKED_AT
+    to_word = let asked_kept = there.words ASKED_AT (omega arith) in let start_is = p.from_is in let end_is = p.to_is in omega arith
 
     -- it lies within the region, and has the bytes of the slot
     pub span_bound : s.to ≤ vec_len i.region
@@ -170,7 +170,7 @@ module _ (i : Inside) (zone : IsZone i) where
 
     pub span_bytes : bytes_of (owner_at kind number) z.blocks ≡ Some (slice_range i.region.items s.from s.to)
     span_bytes =
-        let end_is = to_word in let start_is = p.from_is in let asked_is : word_at there.part 4 ≡ s.to - s.from = omega arith in
+        let end_is = to_word in let start_is = p.from_is in let asked_is : word_at there.part ASKED_AT ≡ s.to - s.from = omega arith in
         ap (λ (y : Heap). bytes_of (owner_at kind number) y.blocks) (sym p.view) ∙ bytes_found i.region.items (owner_at kind number) home there i.homes.lumps i.composites zone.sound.fits ∙ ap₂ (λ k q. Some (take k (drop q i.region.items))) asked_is (sym p.from_is)
 
     span_len : length (slice_range i.region.items s.from s.to) ≡ s.to - s.from
@@ -186,10 +186,10 @@ module _ (i : Inside) (zone : IsZone i) where
     -- other bytes there
     module _ (w : List ℕ) (len : length w ≡ s.to - s.from) (v : Vec ℕ Global) (is : v.items ≡ take s.from i.region.items ++ (w ++ drop s.to i.region.items))
         (same : vec_len v ≡ vec_len i.region) where
-      w_len : length w ≡ word_at there.part 4
+      w_len : length w ≡ word_at there.part ASKED_AT
       w_len = let end_is = to_word in let start_is = p.from_is in omega arith
 
-      items : v.items ≡ take (home + HEADER_SIZE) i.region.items ++ (w ++ drop (home + HEADER_SIZE + word_at there.part 4) i.region.items)
+      items : v.items ≡ take (home + HEADER_SIZE) i.region.items ++ (w ++ drop (home + HEADER_SIZE + word_at there.part ASKED_AT) i.region.items)
       items = is ∙ ap₂ (λ m n. take m i.region.items ++ (w ++ drop n i.region.items)) p.from_is to_word
 
       blocks : blocks_in v.items ≡ map (write_block (owner_at kind number) w) (blocks_in i.region.items)

@@ -1,16 +1,13 @@
 -- The header of a block, and the block that its bytes are.
 use Rattle.std.specs.Prelude.{ℕ, ◌+◌, ◌-◌, ◌*◌, ◌/◌, ◌%◌, ◌==◌, ◌&&◌, ◌||◌, Bool, not, if◌then◌else◌, List, ◌++◌, length, take, drop, Option, Some, None}
-use Rattle.byteorder.specs.Endian.{little_number, little_bytes}
+use Rattle.byteorder.specs.Endian.{little_bytes}
 use Rattle.zone_heap.specs.{declared.headers.Header.Header, declared.headers.Used.Used}
-pub use Rattle.zone_heap.specs.declared.headers.TheConstants.{FREE_OWNER, KIND_UNIT, STATIC_CODE, LEVEL_CODE, CACHE_CODE, ASKED_AT, OWNER_AT, TAG_AT}
-use Rattle.zone_heap.specs.Rules.{Block, Cache, HEADER_SIZE, Holding, Level, Owner, Static, Tag}
+pub use Rattle.zone_heap.specs.declared.headers.TheConstants.{FREE_OWNER, KIND_UNIT, STATIC_CODE, LEVEL_CODE, CACHE_CODE, ASKED_AT, OWNER_AT, TAG_AT, NEXT_AT, PREVIOUS_AT}
+use Rattle.zone_heap.specs.Rules.{Block, Cache, HEADER_SIZE, Holding, Level, Owner, Static, Tag, WORD_SIZE, word_at}
 
--- the word at a place of some bytes, and the bytes with another word there
-unfoldable pub word_at : List ℕ → ℕ → ℕ
-word_at xs at = little_number 4 (drop at xs)
-
+-- some bytes with another word at a place
 unfoldable pub with_word : List ℕ → ℕ → ℕ → List ℕ
-with_word xs at x = take at xs ++ (little_bytes 4 x ++ drop 4 (drop at xs))
+with_word xs at x = take at xs ++ (little_bytes WORD_SIZE x ++ drop WORD_SIZE (drop at xs))
 
 -- the first words of a block's bytes
 abbrev pub header_in : List ℕ → Header

@@ -1,6 +1,6 @@
 -- A region as its headers lay it out: the bytes of one block after the other, linked into a ring.
 use Rattle.std.specs.Prelude.{◌≡◌, ℕ, zero, suc, ◌+◌, ◌≤◌, ◌==◌, if◌then◌else◌, List, [], ◌∷◌, ◌++◌, length, take, drop, ⊤}
-use Rattle.zone_heap.specs.{Rules.Block, Rules.HEADER_SIZE, Headers.word_at, Headers.block_in}
+use Rattle.zone_heap.specs.{Rules.Block, Rules.HEADER_SIZE, Rules.word_at, Headers.block_in}
 use Rattle.zone_heap.specs.declared.headers.TheConstants.{NEXT_AT, PREVIOUS_AT}
 
 -- the bytes of all blocks

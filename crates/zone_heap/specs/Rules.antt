@@ -1,4 +1,6 @@
 -- The words of the rules below that this crate cites, by the page that each comes from.
+unfoldable pub use Rattle.word_rules.specs.Bytes.{word_at}
+pub use Rattle.word_rules.specs.declared.TheConstants.{WORD_SIZE}
 pub use Rattle.zone_rules.specs.Frees.{free_owner, retag_block, set_tag, with_bytes, with_tag, without_block, write_block, write_holding}
 pub use Rattle.zone_rules.specs.Requests.{TakesBlock, after_search, block_left, blocks_from, cap_count, count_among, cut_block, ends_free_at, first_place, first_room, gaps, holds, in_front, join_free, join_on, join_pair, least_front, opens, passed_blocks, place_after, place_around, place_or, purge_among, purge_block, purge_count, start_in, stretches, take_at, total, widest, with_block, without_room}
 pub use Rattle.zone_rules.specs.Rooms.{RoomAt}

@@ -1,7 +1,7 @@
 // Changes of the blocks: joined, split, and linked into the ring.
 ghost use Rattle.std.specs.Prelude.{◌≡◌, ◌<◌, ◌≤◌, ◌^◌, ◌+◌, ◌++◌, ◌&&◌, ◌==◌, ℕ, List, [], ◌∷◌, length, drop, false, nat_lt};
-ghost use Rattle.zone_heap.specs.Rules.{RoomAt, free_block, join_free, place_after, place_around, take_at};
-ghost use Rattle.zone_heap.specs.Headers.{header_in, is_free_header, word_at, first_part, second_part, used_holding};
+ghost use Rattle.zone_heap.specs.Rules.{RoomAt, free_block, join_free, place_after, place_around, take_at, word_at};
+ghost use Rattle.zone_heap.specs.Headers.{header_in, is_free_header, first_part, second_part, used_holding};
 ghost use Rattle.zone_heap.specs.Regions.{blocks_in, IsLaid, IsRing, ring_place};
 
 use crate::headers::{

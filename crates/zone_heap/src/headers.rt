@@ -6,7 +6,8 @@
 // sizes up. It is kept because a header of 24 bytes is a rule of the zone: it is part of the size
 // of each request (`block_size`), and so of every size that `ZoneFull` tells and `audit` prints.
 ghost use Rattle.std.specs.Prelude.{◌≡◌, ◌≤◌, ◌<◌, ◌+◌, ◌*◌, ◌^◌, length, drop, ◌==◌, ◌&&◌, ◌||◌, nat_le};
-ghost use Rattle.zone_heap.specs.Headers.{word_at, with_word, header_in, with_use, code_tag, tag_code, owner_word, is_free_header, is_pinned_header, is_purgeable_header};
+ghost use Rattle.zone_heap.specs.Headers.{with_word, header_in, with_use, code_tag, tag_code, owner_word, is_free_header, is_pinned_header, is_purgeable_header};
+ghost use Rattle.zone_heap.specs.Rules.{word_at};
 
 use byteorder::{ByteOrder, LittleEndian};
 use zone_rules::{HEADER_SIZE, Tag};
@@ -127,7 +128,7 @@ impl Header {
 
 /// The word at a place of the region.
 #[inline(always)]
-#[tactic(auto, unfolding(crate::specs::Headers::word_at))]
+#[tactic(auto, unfolding(word_rules::specs::Bytes::word_at))]
 pub fn word_at(region: &[u8], at: usize) -> u32
     requires { at + 4 ≤ length region.now }
     ensures { result ≡ word_at region.now at }

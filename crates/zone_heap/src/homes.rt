@@ -1,6 +1,7 @@
 // Where a slot's block stands: a slot's home is the place of its block, or none.
 ghost use Rattle.std.specs.Prelude.{◌≡◌, ◌<◌, ◌≤◌, ◌+◌, ◌/◌, ◌%◌, ℕ, length, vec_len, slice_index, IfOk};
-ghost use Rattle.zone_heap.specs.Headers.{word_at, with_use, owner_in};
+ghost use Rattle.zone_heap.specs.Headers.{with_use, owner_in};
+ghost use Rattle.zone_heap.specs.Rules.{word_at};
 ghost use Rattle.zone_heap.specs.Homes.{home_index, home_in, IsSet};
 
 use crate::headers::{FREE_OWNER, KIND_UNIT, OWNER_AT, set_free, word_at};

@@ -1,9 +1,8 @@
 // A slot's block, looked up at the slot's home.
 ghost use Rattle.std.specs.Prelude.{◌≡◌, ◌<◌, ◌≤◌, ◌+◌, ◌-◌, ◌==◌, length, slice_index, slice_range, map, Some, IsSome, IfSome, option_map};
-ghost use Rattle.zone_heap.specs.Headers.{word_at};
 ghost use Rattle.zone_heap.specs.Homes.{home_in, composites_in, IsHomed};
 ghost use Rattle.zone_heap.specs.Regions.{blocks_in, IsLaid, IsRing};
-ghost use Rattle.zone_heap.specs.Rules.{AllFit, Unique, bytes_of, holding_of, owned_block, owner_at, retag_block};
+ghost use Rattle.zone_heap.specs.Rules.{AllFit, Unique, bytes_of, holding_of, owned_block, owner_at, retag_block, word_at};
 
 use crate::headers::{ASKED_AT, TAG_AT, code_tag, set_word, tag_code, word_at};
 use crate::homes::{Homes, NO_HOME};

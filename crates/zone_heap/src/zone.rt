@@ -17,7 +17,8 @@ use crate::{edits, figures, pair};
 use std::alloc::{AllocError, Global};
 use std::marker::Model;
 use thiserror::Error;
-use zone_rules::{HEADER_SIZE, MAX_ZONE_SIZE, MIN_ZONE_SIZE, SLOT_LIMIT, Tag, WORD_SIZE};
+use word_rules::WORD_SIZE;
+use zone_rules::{HEADER_SIZE, MAX_ZONE_SIZE, MIN_ZONE_SIZE, SLOT_LIMIT, Tag};
 
 /// Why a zone was not made.
 #[derive(Debug, Drop, Error)]
@@ -98,7 +99,7 @@ impl Zone {
         ensures fresh { IfOk result (λ z. z ≡ fresh_heap size lumps composites) }
         ensures sound { IfOk result IsSound }
     {
-        if size < MIN_ZONE_SIZE || size > MAX_ZONE_SIZE || size % WORD_SIZE != 0 {
+        if size < MIN_ZONE_SIZE || size > MAX_ZONE_SIZE || size % WORD_SIZE as u32 != 0 {
             return Err(ZoneMake::BadSize);
         }
         match make_parts(alloc, size, lumps, composites) {
@@ -324,7 +325,7 @@ pub fn block_size(size: u32) -> u64
     ensures value { result ≡ block_size size }
     ensures least { HEADER_SIZE ≤ result }
 {
-    let word = u64::from(WORD_SIZE);
+    let word = WORD_SIZE as u64;
     (u64::from(size) + word - 1) / word * word + u64::from(HEADER_SIZE)
 }
 

@@ -1,6 +1,6 @@
 use Rattle.zone_rules.proofs.Common.{arith, rules, ◌≡◌, ◌<◌, ◌≤◌, ◌+◌, ◌-◌, ◌++◌, ◌∷◌, [], ◌&&◌, ◌∙◌, ap, ap₂, sym, subst, refl, length, drop, true, false, ℕ, List, and_parts, append_assoc, length-append}
-use Rattle.zone_heap.specs.Rules.{is_free, join_free, HEADER_SIZE}
-use Rattle.zone_heap.specs.Headers.{word_at, with_word, header_in, block_in, is_free_header}
+use Rattle.zone_heap.specs.Rules.{is_free, join_free, HEADER_SIZE, word_at}
+use Rattle.zone_heap.specs.Headers.{with_word, header_in, block_in, is_free_header}
 use Rattle.zone_heap.specs.Regions.{joined, blocks_from, IsSplit}
 use Rattle.zone_heap.proofs.WordLemmas.{written_within, length-with_word, word_same}
 use Rattle.zone_heap.proofs.PartLemmas.{Opened, opened_word, head_fits, nothing_left, split_first, split_laid, blocks_laid, blocks_split, blocks-append, opened_is, whole_rest, free_told}

@@ -1,5 +1,5 @@
 use Rattle.zone_rules.proofs.Common.{arith, rules, ◌≡◌, ◌<◌, ◌≤◌, ◌+◌, ◌++◌, ◌∷◌, [], ◌∙◌, ap, ap₂, sym, subst, refl, length, ℕ, List, append-nil, append_assoc, length-append}
-use Rattle.zone_heap.specs.{Headers.word_at, Headers.with_word, Headers.block_in, Rules.HEADER_SIZE}
+use Rattle.zone_heap.specs.{Rules.word_at, Headers.with_word, Headers.block_in, Rules.HEADER_SIZE, Headers.NEXT_AT, Headers.PREVIOUS_AT}
 use Rattle.zone_heap.specs.Regions.{joined, blocks_from, blocks_in, AllWhole, AreLinked, last_place, ring_place, IsSplit, IsLaid, IsRing}
 use Rattle.zone_heap.proofs.WordLemmas.{written_within, written_in_front, length-with_word}
 use Rattle.zone_heap.proofs.PartLemmas.{split_le, Opened, opened_word, head_fits, nothing_left, split_first, blocks_laid, blocks_split, opened_is, whole_rest, split_next, blocks_next, length_after}
@@ -24,7 +24,7 @@ set_word-requires c = let header_fits = head_fits c.loop-at.region c.loop-at.at 
 pub set_word-requires-in-loop-at : goal.set_word-requires-in-loop-at
 set_word-requires-in-loop-at c =
     let header_fits = head_fits c.loop-at.region c.loop-at.at c.loop-at.invariant.split c.loop-at-test.true in
-    let length_kept = ap length c.set_word.ensures ∙ length-with_word c.loop-at.region (c.loop-at.at + 16) c.ring_place.result (omega arith) in
+    let length_kept = ap length c.set_word.ensures ∙ length-with_word c.loop-at.region (c.loop-at.at + NEXT_AT) c.ring_place.result (omega arith) in
     omega arith
 
 -- one block more linked
@@ -42,15 +42,15 @@ module _ (region : List ℕ) (at n : ℕ) (s : IsSplit region at) (o : Opened re
   told = word-relinked o.part (ring_place (at + n) end') previous large 0 (omega arith) ∙ (whole_rest region at n s o).1 ∙ o.len
 
   abbrev after : List ℕ
-  after = with_word (with_word region (at + 16) (ring_place (at + n) end')) (at + 20) previous
+  after = with_word (with_word region (at + NEXT_AT) (ring_place (at + n) end')) (at + PREVIOUS_AT) previous
 
   after_is : after ≡ joined s.front ++ (part ++ joined o.next.rest)
   after_is =
       let front_length = s.at_is in let part_large = large in
       let middle_length = length-mid o.part (ring_place (at + n) end') previous large in
-      ap (λ xs. with_word (with_word xs (at + 16) (ring_place (at + n) end')) (at + 20) previous) (opened_is region at n s o)
-      ∙ ap (λ xs. with_word xs (at + 20) previous) (written_within (joined s.front) o.part (joined o.next.rest) 16 (at + 16) (ring_place (at + n) end') (omega arith) (omega arith))
-      ∙ written_within (joined s.front) (with_word o.part 16 (ring_place (at + n) end')) (joined o.next.rest) 20 (at + 20) previous (omega arith) (omega arith)
+      ap (λ xs. with_word (with_word xs (at + NEXT_AT) (ring_place (at + n) end')) (at + PREVIOUS_AT) previous) (opened_is region at n s o)
+      ∙ ap (λ xs. with_word xs (at + PREVIOUS_AT) previous) (written_within (joined s.front) o.part (joined o.next.rest) NEXT_AT (at + NEXT_AT) (ring_place (at + n) end') (omega arith) (omega arith))
+      ∙ written_within (joined s.front) (with_word o.part NEXT_AT (ring_place (at + n) end')) (joined o.next.rest) PREVIOUS_AT (at + PREVIOUS_AT) previous (omega arith) (omega arith)
 
   abbrev next : IsSplit after (at + n)
   next = split_next region at n s o part same told after after_is
@@ -81,9 +81,9 @@ module _ (region : List ℕ) (at n : ℕ) (s : IsSplit region at) (o : Opened re
 
 -- the ring closed
 record Closed (region : List ℕ) (previous : ℕ) : Type 0 where
-  ring : IsRing (with_word region 20 previous)
-  blocks : blocks_in (with_word region 20 previous) ≡ blocks_in region
-  len : length (with_word region 20 previous) ≡ length region
+  ring : IsRing (with_word region PREVIOUS_AT previous)
+  blocks : blocks_in (with_word region PREVIOUS_AT previous) ≡ blocks_in region
+  len : length (with_word region PREVIOUS_AT previous) ≡ length region
 
 closed : (region : List ℕ) (at previous : ℕ) (s : IsSplit region at) → s.rest ≡ [] → 0 < at → previous < 4294967296 → AreLinked (length region) 0 0 s.front
     → last_place 0 0 s.front ≡ previous → Closed region previous
@@ -93,18 +93,18 @@ closed region at previous s none pos low linked last = go s.front refl s.front_w
   go (c ∷ cs) e w l m =
       let large : HEADER_SIZE ≤ length c = w.0 in
       let region_is : region ≡ c ++ joined cs = s.is ∙ ap₂ (λ xs ys. joined xs ++ joined ys) e none ∙ append-nil (c ++ joined cs) in
-      let ringed_part = with_word c 20 previous in let length_same = length-ringed c previous large in
-      let parts_are : with_word region 20 previous ≡ ringed_part ++ joined cs =
-      ap (λ xs. with_word xs 20 previous) region_is ∙ written_in_front c (joined cs) 20 previous (omega arith) in
-      let laid_after_write : IsLaid (with_word region 20 previous) =
+      let ringed_part = with_word c PREVIOUS_AT previous in let length_same = length-ringed c previous large in
+      let parts_are : with_word region PREVIOUS_AT previous ≡ ringed_part ++ joined cs =
+      ap (λ xs. with_word xs PREVIOUS_AT previous) region_is ∙ written_in_front c (joined cs) PREVIOUS_AT previous (omega arith) in
+      let laid_after_write : IsLaid (with_word region PREVIOUS_AT previous) =
       record { parts = ringed_part ∷ cs; is = parts_are; whole = (omega arith, word-ringed c previous large 0 (omega arith) ∙ w.1 ∙ sym length_same, w.2) } in
-      let len = length-with_word region 20 previous (let region_length = ap length region_is ∙ length-append c (joined cs) in omega arith) in
+      let len = length-with_word region PREVIOUS_AT previous (let region_length = ap length region_is ∙ length-append c (joined cs) in omega arith) in
       record {
         ring = record {
           laid = laid_after_write;
           linked = subst (λ n. AreLinked n (last_place 0 0 (ringed_part ∷ cs)) 0 (ringed_part ∷ cs)) (sym len) (subst (λ n. AreLinked (length region) n 0 (ringed_part ∷ cs)) (sym m ∙ last-any 0 0 0 c ringed_part cs (sym length_same)) (linked-ringed c previous large (length region) 0 0 cs low l));
         };
-        blocks = blocks_laid (with_word region 20 previous) laid_after_write
+        blocks = blocks_laid (with_word region PREVIOUS_AT previous) laid_after_write
             ∙ ap₂ (λ b n. b ∷ blocks_from (0 + n) cs) (block-ringed c previous large 0) length_same
             ∙ sym (blocks_laid region (record { parts = c ∷ cs; is = region_is; whole = w }));
         len = len;
@@ -116,9 +116,9 @@ loop-at-smaller c =
     let block = opened_word c.loop-at.region c.loop-at.at so_far.split c.loop-at-test.true c.word_at.result c.word_at.ensures in
     let block_large = block.large in let block_fits = block.fits in
     let header_fits = head_fits c.loop-at.region c.loop-at.at so_far.split c.loop-at-test.true in
-    let next_written_length = ap length c.set_word.ensures ∙ length-with_word c.loop-at.region (c.loop-at.at + 16) c.ring_place.result (omega arith) in
+    let next_written_length = ap length c.set_word.ensures ∙ length-with_word c.loop-at.region (c.loop-at.at + NEXT_AT) c.ring_place.result (omega arith) in
     let previous_written_length = ap length c.set_word-in-loop-at.ensures
-    ∙ length-with_word c.set_word.new.region (c.loop-at.at + 20) c.loop-at.previous (omega arith) in
+    ∙ length-with_word c.set_word.new.region (c.loop-at.at + PREVIOUS_AT) c.loop-at.previous (omega arith) in
     omega arith
 
 pub set_word-requires-2 : goal.set_word-requires-2
@@ -131,8 +131,8 @@ loop-at-preserved c =
     let end' = length region in let block = opened_word region place so_far.split c.loop-at-test.true size c.word_at.ensures in
     let block_fits = block.fits in let low = so_far.low in let len = so_far.len in
     let region_written : c.set_word-in-loop-at.new.region
-    ≡ with_word (with_word region (place + 16) (ring_place (place + size) end')) (place + 20) c.loop-at.previous = c.set_word-in-loop-at.ensures
-    ∙ ap (λ xs. with_word xs (place + 20) c.loop-at.previous) (c.set_word.ensures ∙ ap (with_word region (place + 16)) c.ring_place.ensures.value) in
+    ≡ with_word (with_word region (place + NEXT_AT) (ring_place (place + size) end')) (place + PREVIOUS_AT) c.loop-at.previous = c.set_word-in-loop-at.ensures
+    ∙ ap (λ xs. with_word xs (place + PREVIOUS_AT) c.loop-at.previous) (c.set_word.ensures ∙ ap (with_word region (place + NEXT_AT)) c.ring_place.ensures.value) in
     let ring : ring_place (place + size) end' < 4294967296 =
     subst (λ k. k < 4294967296) c.ring_place.ensures.value (let ring_bound = c.ring_place.ensures.bound in omega arith) in
     let end_small : end' < 4294967296 = omega arith in let lower : c.loop-at.previous < 4294967296 = omega arith in

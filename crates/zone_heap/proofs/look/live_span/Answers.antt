@@ -1,5 +1,5 @@
 use Rattle.std.proofs.Common.{arith, ◌+◌, ap}
-use Rattle.zone_heap.specs.{Rules.owner_at, Headers.word_at}
+use Rattle.zone_heap.specs.{Rules.owner_at, Rules.word_at, Headers.ASKED_AT}
 use Rattle.zone_heap.proofs.LookLemmas.{homed_live}
 use Rattle.zone_heap.proofs.look.live_span.Goals as goal
 
@@ -10,5 +10,5 @@ span_at-requires c =
 
 pub returns-clause-to : goal.returns-clause-to
 returns-clause-to c =
-    let word_same = ap (λ n. word_at c.args.region.now (n + 4)) c.of-home.ensures in
+    let word_same = ap (λ n. word_at c.args.region.now (n + ASKED_AT)) c.of-home.ensures in
     let start_is = c.span_at.ensures.from in let end_is = c.span_at.ensures.to in omega arith

@@ -1,5 +1,5 @@
 use Rattle.zone_rules.proofs.Common.{arith, ◌∙◌, ap, sym, option_map, Some, option_and_then}
-use Rattle.zone_heap.specs.{Rules.Block, Rules.Holding, Rules.owner_at, Headers.code_tag}
+use Rattle.zone_heap.specs.{Rules.Block, Rules.Holding, Rules.owner_at, Headers.code_tag, Headers.TAG_AT}
 use Rattle.zone_heap.proofs.LookLemmas.{IsFound, homed_found, homed_none, holding_found}
 use Rattle.zone_heap.proofs.look.slot_tag.Goals.{Else-home}
 use Rattle.zone_heap.proofs.look.slot_tag.Goals as goal
@@ -18,5 +18,5 @@ returns-then-home c =
 pub returns-else-home : goal.returns-else-home
 returns-else-home c =
     let found_there = it (goal.at.returns-else-home c).Else-home in
-    ap Some (c.code_tag.ensures ∙ ap code_tag (c.word_at.ensures ∙ found_there.words 12 (omega arith)))
+    ap Some (c.code_tag.ensures ∙ ap code_tag (c.word_at.ensures ∙ found_there.words TAG_AT (omega arith)))
     ∙ sym (ap (option_map (λ (h : Holding). h.tag)) (holding_found c.args.region.now (owner_at c.args.kind c.args.number) c.of-home.result found_there))

@@ -1,5 +1,5 @@
 use Rattle.zone_rules.proofs.Common.{arith, rules, ◌≡◌, ◌+◌, ◌*◌, ◌/◌, ◌<◌, ◌≤◌, ◌++◌, ◌∙◌, ap, ap₂, sym, subst, length, take, drop, ℕ, length-take, length-drop}
-use Rattle.zone_heap.specs.Rules.{Heap, Holding, Lacks, RoomAt, Tiles, cut_block, free_block, place_after, take_at, HEADER_SIZE}
+use Rattle.zone_heap.specs.Rules.{Heap, Holding, Lacks, RoomAt, Tiles, cut_block, free_block, place_after, take_at, HEADER_SIZE, WORD_SIZE}
 use Rattle.zone_rules.proofs.SoundLemmas.{room_end, searched_lacks, searched_tiles}
 use Rattle.zone_rules.proofs.TakeLemmas.{take_at_is}
 use Rattle.zone_heap.specs.Headers.{owner_in, used_holding}
@@ -21,7 +21,7 @@ tiles_is c = subst (Tiles 0 (length c.args.region.now)) (sym c.search-room.ensur
 ends : (c : In-Ok) → c.in-Ok.place + c.args.request.wanted ≤ length c.args.region.now
 ends c = room_end c.in-Ok.place c.args.request.wanted (length c.args.region.now) (blocks_in c.search-room.new.region) (room_is c) (tiles_is c)
 
-asked_fits : (n : ℕ) → n + HEADER_SIZE ≤ (n + 3) / 4 * 4 + HEADER_SIZE
+asked_fits : (n : ℕ) → n + HEADER_SIZE ≤ (n + 3) / WORD_SIZE * WORD_SIZE + HEADER_SIZE
 asked_fits n = omega arith
 
 pub overflow_cast-request : goal.overflow_cast-request
