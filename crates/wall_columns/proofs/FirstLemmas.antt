@@ -1,6 +1,6 @@
 -- Laws of the strip of a plan that is painted first, and of the one below it.
-use Rattle.picture_rules.proofs.Common.{[], AllByRecursion, ap, Bool, cond, false, inl, inr, int_lt, List, not, refl, subst, sym, true, ℕ, ◌&&◌, ◌++◌, ◌∙◌, ◌∷◌, ◌≡◌}
-use Rattle.wall_columns.specs.Rules.{Art, ColumnClip, Dot, Edges, FragmentNumbers, RowRange, ViewShape, WallStrip, has_texture, joined_lists}
+use Rattle.picture_rules.proofs.Common.{[], AllByRecursion, ap, Bool, cond, false, int_lt, List, not, refl, subst, sym, true, ℕ, ◌&&◌, ◌++◌, ◌∙◌, ◌∷◌, ◌≡◌}
+use Rattle.wall_columns.specs.Rules.{ColumnClip, Edges, FragmentNumbers, RowRange, WallStrip, has_texture, joined_lists}
 use Rattle.wall_columns.specs.declared.clips.ColumnPlan.{ColumnPlan}
 use Rattle.wall_columns.specs.Plans.{HasRowsOf, bottom_strip, first_strip, has_second, middle_strip, no_rows, plan_of, rows_if, strips_by, top_strip}
 

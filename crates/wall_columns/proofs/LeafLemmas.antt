@@ -1,10 +1,11 @@
 -- Laws of the planes of a leaf: what finding and checking them one after the other comes to, and what
 -- is told where one passes its room.
-use Rattle.picture_rules.proofs.Common.{ap, arith, Bool, Err, false, IsErr, IsErrAnd, length, List, lt-true, nat_lt, nat_tests, None, Ok, Option, refl, Result, Some, sym, true, ℕ, ◌<◌, ◌∙◌, ◌≡◌, ◌≤◌}
+use Rattle.picture_rules.proofs.Common.{ap, arith, Bool, Err, false, IfErr, IsErr, IsErrAnd, length, List, lt-true, nat_lt, nat_tests, None, Ok, Option, refl, Result, Some, sym, true, ℕ, ◌<◌, ◌∙◌, ◌≡◌, ◌≤◌}
 use Rattle.wall_columns.specs.Rules.{FragmentNumbers, IsAmongPlanes, OverLimit, Plane, PlaneChoice, PlaneKey, PlanesNow, ceiling_found, checked_plane, find, floor_found, planes_count, with_ceiling, with_floor}
 use Rattle.picture_rules.proofs.plane.PlaneLemmas.{length-find}
 use Rattle.visplanes.specs.Planes.{PlanesView, with_planes}
 use Rattle.wall_columns.specs.Faults.{over_of}
+use Rattle.picture_rules.specs.declared.LimitKind.TheVariants.{Planes}
 use Rattle.wall_columns.specs.Leaves.{planes_found, number_found, planes_checked, number_checked, ceiling_check, floor_check, over_room, planes_over, leaf_over, checks_over}
 
 within_test : (room count : ℕ) (t : Bool) → nat_lt room count ≡ t → (room < count → false ≡ true) → t ≡ false
@@ -23,6 +24,12 @@ limit-passed_on (Err other) over h g = ap (λ (o : OverLimit). Some o) g
 pub limit-told : {A : Type 0} {found : Option OverLimit} {told : OverLimit} (r : Result A OverLimit) (over : OverLimit) → IsErr r →
     IsErrAnd r (λ e. e ≡ over) → over ≡ told → found ≡ Some told → over_of r ≡ found
 limit-told r over failed is e h = limit-passed_on r over failed is ∙ ap (λ (o : OverLimit). Some o) e ∙ sym h
+
+-- a count of planes is one of planes
+pub planes-told : {A : Type 0} (r : Result A OverLimit) (over : OverLimit) (count : ℕ) → IsErrAnd r (λ e. e ≡ over) → over ≡ planes_count count → IfErr r (λ told. told.kind ≡ Planes)
+unfolding planes_count
+planes-told (Ok value) over count is e = tt
+planes-told (Err told) over count is e = ap (λ (o : OverLimit). o.kind) (is ∙ e)
 
 -- a count past the room is told, and no other
 pub over_room-passed : (limit : ℕ → OverLimit) (room count : ℕ) (next : Option OverLimit) → room < count → over_room limit room count next ≡ Some (limit count)

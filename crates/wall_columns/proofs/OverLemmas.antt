@@ -8,7 +8,7 @@ use Rattle.picture_rules.specs.declared.LimitKind.TheVariants.{Openings, Planes}
 use Rattle.wall_columns.specs.declared.fault.{DrawFault.DrawFault, WallStop.WallStop}
 use Rattle.wall_columns.specs.declared.fault.WallStop.TheVariants.{Brush, Over}
 use Rattle.wall_columns.specs.{Places.places_of, Walls.WallsView}
-use Rattle.wall_columns.specs.Faults.{from_cache_fault, from_over, from_stop, limit_of_fault, limit_of_result, over_of, over_of_stop}
+use Rattle.wall_columns.specs.Faults.{from_cache_fault, from_over, from_stop, limit_of_fault, limit_of_result, over_in, over_of_stop}
 use Rattle.texture_build.specs.CacheFault.{CacheFault}
 use Rattle.texture_build.specs.CacheFault.TheVariants as cache
 use Rattle.wall_columns.specs.{declared.column_state.ColumnState.ColumnState, States.walls_view}
@@ -106,19 +106,19 @@ cache_told : (fault : CacheFault) → limit_of_fault (from_cache_fault fault) �
 cache_told (cache.ZoneFull wanted widest) = refl
 cache_told cache.ReadFault = refl
 
-stop_told : (stop : WallStop CacheFault) → limit_of_fault (from_stop stop) ≡ over_of_stop (let answer : Result (Unit {0}) (WallStop CacheFault) = Err stop in answer)
+stop_told : (stop : WallStop CacheFault) → limit_of_fault (from_stop stop) ≡ over_in stop
 stop_told (Over over) = over-told over
 stop_told (Brush fault) = cache_told fault
 
 pub stop-passed_on : {A : Type 0} (r : Result A DrawFault) (stop : WallStop CacheFault) → IsErr r → IsErrAnd r (λ e. e ≡ from_stop stop) →
-    limit_of_result r ≡ over_of_stop (let answer : Result (Unit {0}) (WallStop CacheFault) = Err stop in answer)
+    limit_of_result r ≡ over_in stop
 stop-passed_on (Ok value) stop failed is = absurd (let false_is_true : false ≡ true = failed in cc)
 stop-passed_on (Err fault) stop failed is = ap limit_of_fault is ∙ stop_told stop
 
 -- a Stop of a count tells it
+pub over-in : {E : Type 0} (stop : WallStop E) (over : OverLimit) → stop ≡ Over over → over_in stop ≡ Some over
+over-in stop over is = ap over_in is
+
 pub stopped-over : {A E : Type 0} (result : Result A (WallStop E)) (over : OverLimit) → IsErr result → IsErrAnd result (λ e. e ≡ Over over) → over_of_stop result ≡ Some over
 stopped-over (Ok value) over failed is = absurd (let false_is_true : false ≡ true = failed in cc)
-stopped-over (Err stop) over failed is = told stop over is where
-  told : {E : Type 0} (stop : WallStop E) (over : OverLimit) → stop ≡ Over over → over_of_stop (let answer : Result (Unit {0}) (WallStop E) = Err stop in answer) ≡ Some over
-  told (Over found) over is = ap (λ (s : WallStop _). over_of_stop (let answer : Result (Unit {0}) (WallStop _) = Err s in answer)) is
-  told (Brush stop) over is = ap (λ (s : WallStop _). over_of_stop (let answer : Result (Unit {0}) (WallStop _) = Err s in answer)) is
+stopped-over (Err stop) over failed is = ap over_in is

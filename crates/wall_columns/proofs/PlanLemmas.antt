@@ -1,9 +1,9 @@
 -- Laws of the plan of a column and of a fragment's strips there: they are rows of the view, of parts that are there.
-use Rattle.picture_rules.proofs.Common.{[], All, All-cons, All-nil, ap, append-nil, arith, Bool, cond, false, inl, inr, ints, List, nat_tests, not, pos, refl, subst, sym, true, ℕ, ℤ, ◌++◌, ◌<ℤ◌, ◌==◌, ◌∙◌, ◌∷◌, ◌≡◌, ◌≢◌, ◌≤ℤ◌, ◌≤◌, AllByRecursion, All-contains, All-from_recursion, Contains, ◌⊎◌}
-use Rattle.wall_columns.specs.Rules.{Art, ColumnClip, Dot, Edges, FRAME_HEIGHT, FragmentNumbers, Part, RowRange, ViewValue, WallStrip, bottom_rows, ceiling_rows, column_dots, floor_rows, has_texture, joined_lists, middle_rows, rows_between, strip_dots, strip_of, top_rows, wall_strips, minus_one}
+use Rattle.picture_rules.proofs.Common.{[], All, All-cons, All-nil, ap, append-nil, arith, Bool, cond, false, inl, inr, ints, List, nat_tests, not, pos, refl, subst, sym, true, ℕ, ◌++◌, ◌<ℤ◌, ◌==◌, ◌∙◌, ◌∷◌, ◌≡◌, ◌≢◌, ◌≤◌, AllByRecursion, All-contains, All-from_recursion, Contains}
+use Rattle.wall_columns.specs.Rules.{ColumnClip, Edges, FRAME_HEIGHT, FragmentNumbers, Part, RowRange, WallStrip, bottom_rows, ceiling_rows, floor_rows, has_texture, joined_lists, middle_rows, strip_of, top_rows, wall_strips}
 use Rattle.picture_rules.proofs.Laws.{joined_lists-append}
 use Rattle.wall_columns.specs.{Windows.IsClipIn, declared.clips.ColumnPlan.ColumnPlan}
-use Rattle.wall_columns.specs.Plans.{no_rows, rows_if, plan_of, strips_by, HasRows, AreRowsIn, IsInRows, IsPartTexture, AreEdgeWords}
+use Rattle.wall_columns.specs.Plans.{no_rows, rows_if, plan_of, strips_by, AreRowsIn, IsInRows, IsPartTexture, AreEdgeWords}
 use Rattle.wall_columns.proofs.ClipLemmas.{middle_rows-in, top_rows-in, bottom_rows-in, ceiling_rows-in, floor_rows-in, clip_after-in}
 
 none_in : (height : ℕ) → AreRowsIn height no_rows

@@ -1,16 +1,14 @@
 -- A brush that is asked for the strips of the fragment of a seg draws it: which it takes, what they show, and their dots.
-use Rattle.picture_rules.proofs.Common.{[], ap, append-nil, arith, Bool, cases_lt, cond, Contains, Err, err_from_is_err_and, false, false≢true, inl, inr, int_lt, IsErrAnd, IsTrue, ints, length, List, lt-true, map, nat_lt, nat_tests, negsuc, Ok, pos, refl, Result, subst, suc, sym, true, ℕ, ℤ, ◌++◌, ◌+◌, ◌-◌, ◌<ℤ◌, ◌<◌, ◌∙◌, ◌∷◌, ◌≡◌, ◌≢◌, ◌≤ℤ◌, ◌≤◌}
-use Rattle.wall_columns.specs.Rules.{Art, ColumnClip, Dot, Edges, FRAME_HEIGHT, FRAME_WIDTH, FragmentNote, FragmentNumbers, MAX_DRAWSEGS, Painter, Plane, PlanesNow, ShelfView, ViewValue, WALL, Wall, WallFacts, WallStrip, clip_before, column_dots, edges_at, fault_above, fragment_numbers, joined_lists, listed_from, natural, painter_of, rows_between, strip_dots, texture_column, wall_colour, wall_column, wall_column_by, wall_dots, wall_edges, wall_of, wall_strips}
-use Rattle.picture_rules.proofs.Laws.{joined_lists-append}
+use Rattle.picture_rules.proofs.Common.{[], ap, append-nil, arith, Bool, cases_lt, cond, Contains, Err, err_from_is_err_and, false, false≢true, inl, inr, int_lt, IsErrAnd, IsTrue, ints, length, List, lt-true, nat_lt, negsuc, Ok, pos, refl, Result, subst, sym, true, ℕ, ℤ, ◌+◌, ◌-◌, ◌<ℤ◌, ◌<◌, ◌∙◌, ◌∷◌, ◌≡◌, ◌≢◌, ◌≤ℤ◌, ◌≤◌}
+use Rattle.wall_columns.specs.Rules.{Art, ColumnClip, Dot, Edges, FRAME_HEIGHT, FRAME_WIDTH, FragmentNote, MAX_DRAWSEGS, Painter, Plane, PlanesNow, ShelfView, ViewValue, WALL, Wall, WallFacts, WallStrip, clip_before, column_dots, edges_at, fault_above, fragment_numbers, joined_lists, listed_from, natural, painter_of, rows_between, strip_dots, texture_column, wall_colour, wall_column, wall_column_by, wall_dots, wall_edges, wall_of, wall_strips}
 use Rattle.picture_rules.proofs.wall.WallLemmas.{clip_before-front}
-use Rattle.receiver_rules.proofs.FirstLemmas.{first-from, first-same, first_lists, joined-joined}
+use Rattle.receiver_rules.proofs.FirstLemmas.{first-from, first-same, joined-joined}
 use Rattle.wall_edges.specs.{Fragments.FragmentValue, Fragments.fragment_of, Lines.column_of_line}
 use Rattle.pixel_strips.specs.{Canvases.CanvasView, Standing.StandsInFrame}
 use Rattle.texture_build.specs.{CacheFault.CacheFault, Caches.cache_fault, Draws.CanDraw}
 use Rattle.texture_build.specs.CacheFault.TheVariants as cache
 use Rattle.texture_build.specs.Paints.{PaintState, PaintTools, Paints, painted_art}
-use Rattle.texture_build.specs.Strips.{IsTextureIn, texture_colour, texture_dots}
-use Rattle.texture_build.proofs.DrawLemmas.{IsMapped}
+use Rattle.texture_build.specs.Strips.{texture_colour, texture_dots}
 use Rattle.texture_build.proofs.PaintLemmas.{paints-asked, paints-mapped, paints-none, paints-same, paints-wider}
 use Rattle.brush.specs.Strips.{IsColumnOf, IsLumpOf, ShowsColumn, ShowsLump, Strip, Texture, strips_dots, strip_dots as dots_of_strip}
 use Rattle.brush.specs.Works.{BrushValue, CanTake, HasWorked, PaintsStrips, brush_now}
@@ -22,8 +20,7 @@ use Rattle.picture_rules.specs.declared.LimitKind.{LimitKind}
 use Rattle.picture_rules.specs.declared.LimitKind.TheVariants as limit
 use Rattle.wall_columns.specs.declared.fault.{DrawFault.DrawFault, WallStop.WallStop}
 use Rattle.wall_columns.specs.declared.fault.WallStop.TheVariants.{Brush, Over}
-use Rattle.wall_columns.specs.declared.paint.ColumnLook.{ColumnLook}
-use Rattle.wall_columns.specs.{Built.AreBehind, Built.IsBuilt, Built.with_wall, Columns.column_edges, Columns.columns_of}
+use Rattle.wall_columns.specs.{Built.AreBehind, Built.IsBuilt, Built.with_wall, Columns.column_edges}
 use Rattle.wall_columns.specs.Draws.{IsNoPicture, IsSeenOf, IsWallTexture}
 use Rattle.wall_columns.specs.Faults.{ReceivesUnlessOver, draw_fault, fault_of_kind, from_cache_fault, from_over, from_stop}
 use Rattle.wall_columns.specs.Plans.{IsPartTexture}
@@ -34,7 +31,7 @@ use Rattle.wall_columns.specs.Windows.{IsClipIn, WindowsView, window_at}
 use Rattle.wall_columns.proofs.{BuiltLemmas.built-count, ClipLemmas.edges_at-words}
 use Rattle.wall_columns.proofs.PlanLemmas.{wall_strips-in, wall_strips-there}
 use Rattle.wall_columns.proofs.SightLemmas.{numbers-light, numbers-scale, numbers-texture}
-use Rattle.wall_columns.proofs.StripLemmas.{IsPartOf, fragment-cases, strips-all, strips_along}
+use Rattle.wall_columns.proofs.StripLemmas.{IsPartOf, fragment-cases}
 
 scale_least : (z : ℤ) → pos 0 <ℤ z → pos 0 ≤ℤ z
 scale_least z h = omega (arith, ints)

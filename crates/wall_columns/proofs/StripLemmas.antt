@@ -1,5 +1,5 @@
 -- Laws of the strips of a fragment: those of a part, of a plan, of a column, and of all its columns.
-use Rattle.picture_rules.proofs.Common.{[], All, AllByRecursion, ap, append-nil, arith, Bool, cond, Contains, Contains-append_left, false, inl, inr, int_lt, ints, List, pos, recursion_from_All, refl, subst, sym, true, ℕ, ℤ, ◌++◌, ◌+◌, ◌-◌, ◌<ℤ◌, ◌<◌, ◌||◌, ◌∙◌, ◌∷◌, ◌≡◌, ◌≤ℤ◌, ◌≤◌, or_parts}
+use Rattle.picture_rules.proofs.Common.{[], All, AllByRecursion, ap, append-nil, arith, Bool, cond, Contains, false, inl, inr, int_lt, ints, List, recursion_from_All, refl, subst, sym, true, ℕ, ℤ, ◌++◌, ◌+◌, ◌<ℤ◌, ◌||◌, ◌∙◌, ◌∷◌, ◌≡◌, ◌≤ℤ◌, ◌≤◌, or_parts}
 use Rattle.std.proofs.lemmas.List.Elements.{Contains-push, Contains-push_cases}
 use Rattle.wall_columns.specs.Rules.{ColumnClip, Edges, FRAME_HEIGHT, FragmentNumbers, RowRange, ViewShape, ViewValue, WallStrip, has_texture, joined_lists, listed_from, strip_of, wall_strips}
 use Rattle.picture_rules.proofs.Laws.{joined_lists-cons, joined_lists-one}

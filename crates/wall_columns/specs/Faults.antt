@@ -53,10 +53,13 @@ abbrev pub over_of : {A : Type 0} → Result A OverLimit → Option OverLimit
 over_of (Ok value) = None
 over_of (Err over) = Some over
 
+abbrev pub over_in : {E : Type 0} → WallStop E → Option OverLimit
+over_in (Over over) = Some over
+over_in (Brush stop) = None
+
 abbrev pub over_of_stop : {A E : Type 0} → Result A (WallStop E) → Option OverLimit
 over_of_stop (Ok value) = None
-over_of_stop (Err (Over over)) = Some over
-over_of_stop (Err (Brush stop)) = None
+over_of_stop (Err stop) = over_in stop
 
 -- A receiver was given these items, unless a limit was passed: then it is as it was.
 abbrev pub ReceivesUnlessOver : {S I A E : Type 0} → (S → I → Type 0) → (S → A → List I → Type 0) → (S → A → List I → E → Type 0) →

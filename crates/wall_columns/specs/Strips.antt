@@ -1,5 +1,5 @@
 -- The strips of a fragment, for which a brush is asked: column by column, the upper one of a column first.
-use Rattle.std.specs.Prelude.{◌≡◌, ◌<◌, ◌≤◌, ◌≤ℤ◌, ◌-◌, ℕ, pos, nat_lt, int_lt, cond, List, [], ◌∷◌, length}
+use Rattle.std.specs.Prelude.{◌<◌, ◌≤◌, ◌≤ℤ◌, ◌-◌, ℕ, pos, nat_lt, int_lt, cond, List, [], ◌∷◌, length}
 use Rattle.wall_columns.specs.Rules.{ColumnClip, Edges, FRAME_WIDTH, FragmentNumbers, LIGHT_LEVELS, MAX_DRAWSEGS, Part, RowRange, ViewShape, ViewValue, WALL, WallFacts, WallStrip, edges_at, inverse_word, joined_lists, listed_from, natural, scale_map, wall_strips}
 use Rattle.wall_edges.specs.{Fragments.FragmentValue, Fragments.fragment_of, Lines.column_of_line}
 use Rattle.texture_build.specs.declared.strip.TextureStrip.{TextureStrip}

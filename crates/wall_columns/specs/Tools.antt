@@ -1,6 +1,6 @@
 -- What walls are drawn with, by the values of their tools.
 use Rattle.std.specs.Prelude.{◌≡◌, ℕ, List, length}
-use Rattle.wall_columns.specs.Rules.{Dot, ShelfView, ViewValue, Wall, WallFacts, lump_bytes, wall_dots, wall_of}
+use Rattle.wall_columns.specs.Rules.{Dot, ShelfView, Wall, WallFacts, lump_bytes, wall_dots, wall_of}
 use Rattle.pixel_strips.specs.Canvases.{CanvasView}
 use Rattle.texture_build.specs.Arts.{view_art}
 use Rattle.texture_build.specs.Paints.{PaintState, PaintTools, paint_state, paint_tools}

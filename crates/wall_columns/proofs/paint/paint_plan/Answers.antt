@@ -1,5 +1,5 @@
 -- No strip has rows, or the first is asked for, and the lower wall below an upper one.
-use Rattle.std.proofs.Common.{◌≡◌, ◌++◌, ◌∙◌, ◌∷◌, [], Err, List, ap, cond, false, refl, subst, sym, true}
+use Rattle.std.proofs.Common.{◌∙◌, ◌∷◌, [], Err, List, ap, cond, refl, subst, sym}
 use Rattle.picture_rules.proofs.Common.{err_from_is_err_and}
 use Rattle.wall_columns.specs.Rules.{WallStrip, joined_lists}
 use Rattle.receiver_rules.specs.Receivers.{TakesEach}

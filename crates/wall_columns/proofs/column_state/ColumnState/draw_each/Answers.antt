@@ -8,7 +8,7 @@ use Rattle.wall_edges.specs.Fragments.{FragmentValue}
 use Rattle.brush.specs.Strips.{Strip}
 use Rattle.wall_columns.specs.declared.column_state.ColumnState.{ColumnState}
 use Rattle.wall_columns.specs.{Columns.columns_of, Plans.AreEdgeWords, Windows.window_at}
-use Rattle.wall_columns.specs.Strips.{column_strips, look_at, plan_strips}
+use Rattle.wall_columns.specs.Strips.{column_strips}
 use Rattle.wall_columns.proofs.{ClipLemmas.edges_at-words, FirstLemmas.rows-of}
 use Rattle.wall_columns.proofs.MarkLemmas.{HasPassed, edges_are, height_of, passed-all, passed-more, passed-none, passed_columns, passes-column, window_is}
 use Rattle.wall_columns.proofs.StripLemmas.{column-by, strips-all, strips-in, strips_along}

@@ -2,7 +2,7 @@
 use Rattle.std.proofs.Common.{◌<◌, length, ap, sym, refl, arith}
 use Rattle.visplanes.specs.Planes.{PlanesView, with_planes}
 use Rattle.wall_columns.specs.{Columns.plane_number, Leaves.planes_found}
-use Rattle.wall_columns.proofs.LeafLemmas.{limit-told, leaf_over-counts, enter-floor, enter-ceiling, among-longer, longer_found}
+use Rattle.wall_columns.proofs.LeafLemmas.{limit-told, leaf_over-counts, planes-told, enter-floor, enter-ceiling, among-longer, longer_found}
 use Rattle.wall_columns.proofs.column_state.ColumnState.enter.Goals as goal
 
 pub returns-in_err-self-clause-limit : goal.returns-in_err-self-clause-limit
@@ -42,3 +42,9 @@ returns-clause-leaf c =
     let planes_longer = longer_found c.find_plane.new.planes.planes c.args.leaf.ceiling in
     let length_is = ap (λ (ps : PlanesView). length ps.planes) c.in_ok-self-2.ensures.ok in
     (among-longer (plane_number c.in_ok-self.field-0) c.find_plane.new.planes.planes c.find_plane-2.new.planes.planes c.in_ok-self.ensures.among (omega arith), c.in_ok-self-2.ensures.among)
+
+pub returns-in_err-self-clause-kind : goal.returns-in_err-self-clause-kind
+returns-in_err-self-clause-kind c = planes-told c.from_residual.result _ _ c.from_residual.ensures.1 c.in_err-self.ensures.over
+
+pub returns-in_err-self-2-clause-kind : goal.returns-in_err-self-2-clause-kind
+returns-in_err-self-2-clause-kind c = planes-told c.from_residual-in_err-self-2.result _ _ c.from_residual-in_err-self-2.ensures.1 c.in_err-self-2.ensures.over

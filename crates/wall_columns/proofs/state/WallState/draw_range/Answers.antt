@@ -1,5 +1,5 @@
 -- A fragment is drawn by a brush: what is built, what is told, and which strips it is asked for.
-use Rattle.std.proofs.Common.{◌≡◌, ◌<◌, ◌≤◌, List, ap, arith, false, length, nat_lt, refl, subst, sym, ◌∙◌}
+use Rattle.std.proofs.Common.{◌≡◌, ◌≤◌, List, ap, arith, false, length, nat_lt, refl, subst, sym, ◌∙◌}
 use Rattle.picture_rules.proofs.Common.{nat_tests}
 use Rattle.picture_rules.specs.Words.{FRAME_WIDTH, ViewShape}
 use Rattle.receiver_rules.specs.Receivers.{TakesEach}
