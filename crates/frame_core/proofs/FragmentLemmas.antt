@@ -12,7 +12,7 @@ use Rattle.wall_columns.specs.declared.fault.DrawFault.TheVariants.{Planes, Open
 use Rattle.wall_columns.specs.Draws.{IsNoPicture, IsSeenOf, IsUntouched, IsWallTexture}
 use Rattle.wall_columns.specs.Faults.{draw_fault, limit_of_fault, limit_of_result}
 use Rattle.wall_columns.specs.Walls.{WallsView}
-use Rattle.wall_columns.proofs.DrawnLemmas.{seen-texture}
+use Rattle.wall_columns.proofs.RangeLemmas.{seen-texture}
 use Rattle.frame_core.specs.{declared.bench.Bench.Bench, declared.fault.ViewFault.ViewFault}
 use Rattle.frame_core.specs.Faults.{from_draw, limit_of_view, view_fault}
 use Rattle.frame_core.specs.Views.{CanDrawView, PaintsView, ViewScene, held_scene, view_tools}
