@@ -9,9 +9,9 @@ unfoldable pub use Rattle.view_rules.specs.Tables.{angle_dist_scale, angle_of_co
 pub use Rattle.view_rules.specs.View.{TablesValue}
 pub use Rattle.view_rules.specs.declared.{Spans.TheVariants.Full, TablesRefusal.TablesRefusal}
 pub use Rattle.view_rules.specs.declared.TablesRefusal.TheVariants.{Angle, Sine, Tangent}
-pub use Rattle.view_rules.specs.declared.TheConstants.{COLORMAPS, COSINE_START, DISTANCE_STEPS, FRAME_HEIGHT, FRAME_WIDTH, LIGHT_LEVELS, MAX_SIZE, MIN_SIZE, ROWS_ABOVE_BAR, SCALE_STEPS, SINES, SLOPE_ANGLES, TABLES_BYTES, TANGENTS, WORD_BYTES}
+pub use Rattle.view_rules.specs.declared.TheConstants.{COLORMAPS, COSINE_START, DISTANCE_STEPS, FRAME_HEIGHT, FRAME_WIDTH, LIGHT_LEVELS, MAX_SIZE, MIN_SIZE, ROWS_ABOVE_BAR, SCALE_STEPS, SINES, SLOPE_ANGLES, TABLES_BYTES, TANGENTS}
 pub use Rattle.view_rules.specs.declared.ViewShape.{ViewShape}
 unfoldable pub use Rattle.word_rules.specs.Least.{least}
 unfoldable pub use Rattle.word_rules.specs.Listed.{listed}
 pub use Rattle.word_rules.specs.Words.{ang90, turn_back}
-pub use Rattle.word_rules.specs.declared.TheConstants.{FINE_SHIFT}
+pub use Rattle.word_rules.specs.declared.TheConstants.{FINE_SHIFT, WORD_SIZE}

@@ -2,12 +2,13 @@
 
 ghost use Rattle.std.specs.Prelude.{◌≡◌, ℕ, List, ◌+◌, ◌*◌, ◌<◌, ◌≤◌, length, IfOk};
 ghost use Rattle.angle_tables.specs.Lists.{angles_of, HasLengths};
-ghost use Rattle.angle_tables.specs.Rules.{Angles, SINES, SLOPE_ANGLES, TABLES_BYTES, TANGENTS, WORD_BYTES, angle_at, angles_in, cosine_at, listed, signed_in, sine_at, tangent_at, word_in};
+ghost use Rattle.angle_tables.specs.Rules.{Angles, SINES, SLOPE_ANGLES, TABLES_BYTES, TANGENTS, WORD_SIZE, angle_at, angles_in, cosine_at, listed, signed_in, sine_at, tangent_at, word_in};
 
 use byteorder::{ByteOrder, LittleEndian};
 use std::alloc::{AllocError, Global};
 use std::marker::Model;
-use view_rules::{COSINE_START, SINES, SLOPE_ANGLES, TANGENTS, WORD_BYTES};
+use view_rules::{COSINE_START, SINES, SLOPE_ANGLES, TANGENTS};
+use word_rules::WORD_SIZE;
 
 /// One of the three tables.
 #[derive(Clone, Copy)]
@@ -106,7 +107,7 @@ trait Entry: Drop {
 
     /// Word `i` of a file.
     fn read(bytes: &[u8], i: usize) -> Self
-        requires { WORD_BYTES * i + WORD_BYTES ≤ length bytes.now }
+        requires { WORD_SIZE * i + WORD_SIZE ≤ length bytes.now }
         ensures { result ≡ entry_in bytes.now i };
 }
 
@@ -127,18 +128,18 @@ impl Entry for i32 {
 }
 
 /// Word `i` of a file.
-#[tactic(auto, unfolding(view_rules::specs::Refusals::word_in))]
+#[tactic(auto, unfolding(view_rules::specs::Refusals::word_in, word_rules::specs::Bytes::word_at))]
 fn word_in(bytes: &[u8], i: usize) -> u32
-    requires { WORD_BYTES * i + WORD_BYTES ≤ length bytes.now }
+    requires { WORD_SIZE * i + WORD_SIZE ≤ length bytes.now }
     ensures { result ≡ word_in bytes.now i }
 {
-    LittleEndian::read_u32(&bytes[WORD_BYTES * i..])
+    LittleEndian::read_u32(&bytes[WORD_SIZE * i..])
 }
 
 /// Word `i` of a file, with a sign.
 #[tactic(auto, unfolding(view_rules::specs::Refusals::signed_in))]
 fn signed_in(bytes: &[u8], i: usize) -> i32
-    requires { WORD_BYTES * i + WORD_BYTES ≤ length bytes.now }
+    requires { WORD_SIZE * i + WORD_SIZE ≤ length bytes.now }
     ensures { result ≡ signed_in bytes.now i }
 {
     fx_words::signed_of(word_in(bytes, i))
@@ -152,7 +153,7 @@ fn list_from<E: Entry>(
     first: usize,
     n: usize,
 ) -> Result<Vec<E>, AllocError>
-    requires { WORD_BYTES * (first + n) ≤ length bytes.now }
+    requires { WORD_SIZE * (first + n) ≤ length bytes.now }
     ensures items { IfOk result (λ v. v.items ≡ listed (λ i. E.entry_in bytes.now (first + i)) n) }
     ensures len { IfOk result (λ v. length v.items ≡ n) }
 {

@@ -38,5 +38,6 @@ pub trait Visitor {
     /// The original: `R_StoreWallRange`, r_segs.c, as r_bsp.c calls it.
     fn fragment(&mut self, seg: u16, first: u16, last: u16) -> Result<(), Self::Stop>
         requires { takes self.old (FragmentEvent seg first last) }
-        ensures { Receives takes stands stopped self.old self.new (FragmentEvent seg first last ∷ []) result };
+        ensures { Receives takes stands stopped self.old self.new
+            (FragmentEvent seg first last ∷ []) result };
 }

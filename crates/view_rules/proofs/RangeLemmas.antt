@@ -1,8 +1,8 @@
 -- Laws of `column_range`: its columns are in order and within the view.
 use Rattle.word_rules.proofs.Common.{arith, Bool, cond, false, inl, inr, nat_le, nat_lt, nat_tests, None, Option, refl, Some, true, ℕ, ◌/◌, ◌<◌, ◌^◌, ◌≡◌, ◌≤◌, ◌⊎◌}
-use Rattle.word_rules.specs.Words.{turn, turn_back, ang90, ang180, fine_angle}
-use Rattle.view_rules.specs.{declared.ColumnRange.ColumnRange, View.ViewValue}
-use Rattle.view_rules.specs.declared.ColumnRange.TheVariants.{Behind, Columns}
+use Rattle.word_rules.specs.Words.{turn, turn_back, ang90, fine_angle}
+use Rattle.view_rules.specs.{View.ViewValue}
+use Rattle.view_rules.specs.declared.ColumnRange.TheVariants.{Columns}
 use Rattle.view_rules.specs.{Tables.clip_angle, Tables.column_of_angle, Sound.IsSound}
 use Rattle.view_rules.specs.Ranges.{clipped_end, clipped_left, clipped_right, column_at_angle, range_between, range_in_front}
 use Rattle.view_rules.proofs.ColumnLemmas.{within_view-bound}

@@ -1,9 +1,8 @@
 -- The tables file: 10240 sines, 4096 tangents and 2049 angles in words of 32 bits, the lowest byte
 -- first; and the first thing that is wrong with it. That these are refused is this project's own.
-use Rattle.std.specs.Prelude.{ℕ, ◌+◌, ◌-◌, ◌*◌, ℤ, pos, neg_ℤ, Bool, ◌||◌, ◌&&◌, true, cond, int_lt, nat_lt, ◌==◌, Option, Some, None, List, length, drop, slice_index, slice_index_or}
-use Rattle.byteorder.specs.Endian.{little_number}
-use Rattle.word_rules.specs.{Words.signed_of, Least.least, Least.or_else, Listed.listed}
-use Rattle.view_rules.specs.declared.TheConstants.{SINES, TANGENTS, SLOPE_ANGLES, WORD_BYTES, TABLES_BYTES, MAX_SINE, MAX_SLOPE_ANGLE, FINE_AHEAD, EDGE_TANGENT, MIN_EDGE_TANGENT, MAX_EDGE_TANGENT}
+use Rattle.std.specs.Prelude.{ℕ, ◌+◌, ◌-◌, ◌*◌, ℤ, pos, neg_ℤ, Bool, ◌||◌, ◌&&◌, true, cond, int_lt, nat_lt, ◌==◌, Option, Some, None, List, length, slice_index, slice_index_or}
+use Rattle.word_rules.specs.{declared.TheConstants.WORD_SIZE, Bytes.word_at, Words.signed_of, Least.least, Least.or_else, Listed.listed}
+use Rattle.view_rules.specs.declared.TheConstants.{SINES, TANGENTS, SLOPE_ANGLES, TABLES_BYTES, MAX_SINE, MAX_SLOPE_ANGLE, FINE_AHEAD, EDGE_TANGENT, MIN_EDGE_TANGENT, MAX_EDGE_TANGENT}
 use Rattle.view_rules.specs.{declared.TablesRefusal.TablesRefusal, declared.ViewShape.ViewShape}
 use Rattle.view_rules.specs.declared.TablesRefusal.TheVariants.{Length, Sine, Tangent, Angle, FieldOfView}
 use Rattle.view_rules.specs.{Angles.Angles, Angles.tangent_at, Shape.shape_of_size}
@@ -11,7 +10,7 @@ use Rattle.view_rules.specs.Tables.{first_seen_by}
 
 -- word i of a file, unsigned and signed
 unfoldable pub word_in : List ℕ → ℕ → ℕ
-word_in bytes i = little_number WORD_BYTES (drop (WORD_BYTES * i) bytes)
+word_in bytes i = word_at bytes (WORD_SIZE * i)
 
 unfoldable pub signed_in : List ℕ → ℕ → ℤ
 signed_in bytes i = signed_of (word_in bytes i)
