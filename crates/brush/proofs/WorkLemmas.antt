@@ -1,9 +1,9 @@
 -- Laws of a brush that works: nothing yet, a strip after others, and all that it was given.
 use Rattle.picture_rules.proofs.Common.{[], ap, arith, Contains, Contains-append_left, drop, Err, List, Ok, refl, Result, subst, sym, take, take-append-drop, ℕ, ℤ, ◌++◌, ◌<◌, ◌∙◌, ◌∷◌, ◌≡◌}
 use Rattle.std.proofs.lemmas.List.Elements.{Contains-push}
-use Rattle.std.specs.Prelude.{◌+◌}
+use Rattle.std.specs.Prelude.{◌+◌, ◌≤◌}
 use Rattle.picture_rules.proofs.Laws.{joined_lists-append, joined_lists-one}
-use Rattle.picture_rules.specs.Words.{Art, Dot, FRAME_HEIGHT, FRAME_WIDTH, Painter, joined_lists}
+use Rattle.picture_rules.specs.Words.{Art, Dot, FRAME_HEIGHT, FRAME_WIDTH, Painter, ViewShape, joined_lists}
 use Rattle.pixel_strips.specs.{Canvases.CanvasView, Dotted.PlacedAlike}
 use Rattle.visplanes.specs.Spans.{IsSeen}
 use Rattle.texture_build.specs.CacheFault.{CacheFault}
@@ -12,7 +12,8 @@ use Rattle.texture_build.specs.Strips.{IsTextureIn}
 use Rattle.texture_build.specs.declared.strip.TextureStrip.{TextureStrip}
 use Rattle.texture_build.proofs.PaintLemmas.{can_draw-later, paints-none, paints-same, paints-stop, paints-then, paints-wider, slots-later}
 use Rattle.receiver_rules.specs.Receivers.{Receives}
-use Rattle.brush.specs.Strips.{Floor, FloorValue, IsColumnOf, IsLumpOf, ShowsColumn, ShowsLump, Strip, Texture, strip_dots, strips_dots}
+use Rattle.brush.specs.{Posts.IsColumnInFrame}
+use Rattle.brush.specs.Strips.{Floor, FloorValue, IsStripColumn, IsStripLump, Middle, Picture, ShowsColumn, ShowsLump, Strip, Texture, dots_of_strip, strips_dots}
 use Rattle.brush.specs.Works.{BrushValue, CanTake, HasSlots, HasWorked, PaintsStrip}
 
 -- what some strips show the whole list shows
@@ -22,21 +23,21 @@ columns-left xs ys number column h = record { strip = h.strip; among = Contains-
 lumps-left : (xs ys : List Strip) (lump : ℕ) → ShowsLump xs lump → ShowsLump (xs ++ ys) lump
 lumps-left xs ys lump h = record { strip = h.strip; among = Contains-append_left xs ys h.strip h.among; is = h.is }
 
-columns-last : (xs : List Strip) (strip : Strip) (number : ℕ) (column : ℤ) → IsColumnOf strip number column → ShowsColumn (xs ++ strip ∷ []) number column
+columns-last : (xs : List Strip) (strip : Strip) (number : ℕ) (column : ℤ) → IsStripColumn strip number column → ShowsColumn (xs ++ strip ∷ []) number column
 columns-last xs strip number column h = record { strip = strip; among = Contains-push xs strip; is = h }
 
-lumps-last : (xs : List Strip) (strip : Strip) (lump : ℕ) → IsLumpOf strip lump → ShowsLump (xs ++ strip ∷ []) lump
+lumps-last : (xs : List Strip) (strip : Strip) (lump : ℕ) → IsStripLump strip lump → ShowsLump (xs ++ strip ∷ []) lump
 lumps-last xs strip lump h = record { strip = strip; among = Contains-push xs strip; is = h }
 
 dots-none : (art : Art) → [] ≡ strips_dots art []
 unfolding strips_dots joined_lists
 dots-none art = refl
 
-pub dots-more : (art : Art) (xs : List Strip) (strip : Strip) → strips_dots art xs ++ strip_dots art strip ≡ strips_dots art (xs ++ strip ∷ [])
+pub dots-more : (art : Art) (xs : List Strip) (strip : Strip) → strips_dots art xs ++ dots_of_strip art strip ≡ strips_dots art (xs ++ strip ∷ [])
 unfolding strips_dots
 dots-more art xs strip =
-    ap (λ (ys : List Dot). strips_dots art xs ++ ys) (sym (joined_lists-one (strip_dots art) strip))
-    ∙ sym (joined_lists-append (strip_dots art) xs (strip ∷ []))
+    ap (λ (ys : List Dot). strips_dots art xs ++ ys) (sym (joined_lists-one (dots_of_strip art) strip))
+    ∙ sym (joined_lists-append (dots_of_strip art) xs (strip ∷ []))
 
 -- a brush that was asked for nothing
 worked-none : (mark : Painter → ℕ → ℕ) (p : BrushValue) → HasWorked mark p p [] (Ok tt)
@@ -73,6 +74,10 @@ seen-still : (s : FloorValue) (a b : CanvasView) → PlacedAlike a b → IsSeen 
 seen-still s a b place h =
     subst (λ (n : ℕ). IsSeen s.view.shape n b.top s.plane) (sym place.left) (subst (λ (n : ℕ). IsSeen s.view.shape a.left n s.plane) (sym place.top) h)
 
+column_in-still : (shape : ViewShape) (x : ℕ) (a b : CanvasView) → PlacedAlike a b → IsColumnInFrame a shape x → IsColumnInFrame b shape x
+column_in-still shape x a b place h =
+    (subst (λ (n : ℕ). x + n < FRAME_WIDTH) (sym place.left) h.0, subst (λ (n : ℕ). n + shape.height ≤ FRAME_HEIGHT) (sym place.top) h.1)
+
 takes-same : {mark : Painter → ℕ → ℕ} {result : Result (Unit {0}) CacheFault} (old new : BrushValue) (strip : Strip) →
     new.tools ≡ old.tools → PaintsStrip mark old.tools strip old.state new.state result → (next : Strip) → CanTake old next → CanTake (record new { tools = old.tools }) next
 takes-same old new strip tools paints (Texture s) h = record {
@@ -85,6 +90,19 @@ takes-same old new strip tools paints (Floor s) h = record {
   lump = h.lump;
   flat = h.flat;
   seen = seen-still s old.state.canvas new.state.canvas paints.place h.seen;
+}
+
+takes-same old new strip tools paints (Middle s) h = record {
+  slots = slots_still old new strip tools paints h.slots;
+  texture = can_draw-later paints h.texture;
+  single = h.single;
+  column = column_in-still s.shape s.x old.state.canvas new.state.canvas paints.place h.column;
+  clips = h.clips;
+}
+takes-same old new strip tools paints (Picture s) h = record {
+  slots = slots_still old new strip tools paints h.slots;
+  lump = h.lump;
+  columns = record { ordered = h.columns.ordered; last = column_in-still s.shape s.last old.state.canvas new.state.canvas paints.place h.columns.last; clips = h.columns.clips };
 }
 
 takes-still : {mark : Painter → ℕ → ℕ} {result : Result (Unit {0}) CacheFault} (old new : BrushValue) (strip : Strip) →

@@ -6,10 +6,10 @@ use Rattle.pixel_strips.specs.{Canvases.CanvasView, Dotted.HasDots}
 use Rattle.texture_build.specs.{Arts.own_posts, CacheFault.CacheFault, Caches.cache_fault, Zones.Heap}
 use Rattle.texture_build.specs.Paints.{FitIn, HoldsLumps, PaintState, PaintTools, Paints, painted_art}
 use Rattle.brush.specs.{Posts.HasClipsIn, Posts.IsColumnInFrame}
-use Rattle.brush.specs.Strips.{PictureValue, picture_dots, picture_masked}
+use Rattle.brush.specs.Strips.{PictureStripValue, picture_dots, picture_masked}
 
 -- It shows its lump, and no texture.
-abbrev pub PaintsPicture : (Painter → ℕ → ℕ) → PaintTools → PictureValue → PaintState → PaintState →
+abbrev pub PaintsPicture : (Painter → ℕ → ℕ) → PaintTools → PictureStripValue → PaintState → PaintState →
     Result (Unit {0}) CacheFault → Type 0
 PaintsPicture mark t s old new result = Paints cache_fault mark t
     (λ number column. ⊥) (λ lump. lump ≡ s.lump)
@@ -17,18 +17,18 @@ PaintsPicture mark t s old new result = Paints cache_fault mark t
     old new result
 
 -- its columns are in order and in the frame, and each is clipped to the view
-pub record ArePictureColumns (canvas : CanvasView) (s : PictureValue) : Type 0 where
+pub record ArePictureColumns (canvas : CanvasView) (s : PictureStripValue) : Type 0 where
   pub ordered : s.first ≤ s.last
   pub last : IsColumnInFrame canvas s.shape s.last
   pub clips : (x : ℕ) → s.first ≤ x → x ≤ s.last → HasClipsIn s.shape.height (picture_masked s x)
 
 -- a column by the bytes of the picture and of the colormap, and those from the first on, before `end`
-unfoldable pub read_column : PictureValue → List ℕ → List ℕ → Painter → ℕ → List Dot
+unfoldable pub read_column : PictureStripValue → List ℕ → List ℕ → Painter → ℕ → List Dot
 read_column s bytes colormap painter x =
     posts_dots s.shape painter x (picture_masked s x) (byte_at bytes) (shade colormap s.map)
     (own_posts bytes (picture_column s.flip s.width s.left s.masked.iscale x))
 
-unfoldable pub read_columns : PictureValue → List ℕ → List ℕ → Painter → ℕ → List Dot
+unfoldable pub read_columns : PictureStripValue → List ℕ → List ℕ → Painter → ℕ → List Dot
 read_columns s bytes colormap painter end =
     joined_lists (read_column s bytes colormap painter) (map (λ x. x) (range_with_len s.first (end - s.first)))
 

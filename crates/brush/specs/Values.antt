@@ -1,7 +1,7 @@
 -- The descriptions that a brush is given, by their values.
 use Rattle.brush.specs.declared.brush.FloorStrip.{FloorStrip}
 use Rattle.brush.specs.declared.brush.PictureStrip.{PictureStrip}
-use Rattle.brush.specs.Strips.{FloorValue, PictureValue}
+use Rattle.brush.specs.Strips.{FloorValue, PictureStripValue}
 use Rattle.visplanes.specs.Planes.{plane_at}
 
 abbrev pub floor_value : FloorStrip → FloorValue
@@ -12,7 +12,7 @@ floor_value s = record {
   lump = s.lump.0;
 }
 
-abbrev pub picture_value : PictureStrip → PictureValue
+abbrev pub picture_value : PictureStrip → PictureStripValue
 picture_value s = record {
   kind = s.kind;
   number = s.number;

@@ -9,7 +9,10 @@ use Rattle.texture_build.specs.Paints.{PaintState, PaintTools, Paints, paint_sta
 use Rattle.texture_build.specs.Strips.{IsTextureIn}
 use Rattle.texture_build.specs.declared.strip.TextureStrip.{TextureStrip}
 use Rattle.visplanes.specs.Spans.{IsSeen}
-use Rattle.brush.specs.Strips.{Floor, FloorValue, IsColumnOf, IsLumpOf, ShowsColumn, ShowsLump, Strip, Texture, strip_dots, strips_dots}
+use Rattle.texture_build.specs.Views.{prepared_texture}
+use Rattle.brush.specs.{Middles.IsSingle, Pictures.ArePictureColumns, Posts.HasClipsIn, Posts.IsColumnInFrame}
+use Rattle.brush.specs.declared.brush.MiddleStrip.{MiddleStrip}
+use Rattle.brush.specs.Strips.{Floor, FloorValue, IsStripColumn, IsStripLump, Middle, Picture, PictureStripValue, ShowsColumn, ShowsLump, Strip, Texture, dots_of_strip, strips_dots}
 use Rattle.brush.specs.declared.live.LiveBrush.{LiveBrush}
 
 -- a brush: what it paints with, what it writes, and the names of its references
@@ -39,8 +42,8 @@ PaintsStrips mark t strips old new result = Paints cache_fault mark t (ShowsColu
 -- and one that paints one strip
 abbrev pub PaintsStrip : (Painter → ℕ → ℕ) → PaintTools → Strip → PaintState → PaintState →
     Result (Unit {0}) CacheFault → Type 0
-PaintsStrip mark t strip old new result = Paints cache_fault mark t (IsColumnOf strip) (IsLumpOf strip)
-    (λ (q : Unit {0}). Unit {0}) (λ contents q. strip_dots (painted_art contents t) strip) old new result
+PaintsStrip mark t strip old new result = Paints cache_fault mark t (IsStripColumn strip) (IsStripLump strip)
+    (λ (q : Unit {0}). Unit {0}) (λ contents q. dots_of_strip (painted_art contents t) strip) old new result
 
 -- From that start on a brush was asked for the strips, and answered the last of them so.
 pub record HasWorked (mark : Painter → ℕ → ℕ) (start now : BrushValue) (strips : List Strip)
@@ -65,7 +68,21 @@ pub record CanTakeFloor (p : BrushValue) (s : FloorValue) : Type 0 where
   pub flat : s.plane.key.flat ≡ Lump s.lump
   pub seen : IsSeen s.view.shape p.state.canvas.left p.state.canvas.top s.plane
 
+pub record CanTakeMiddle (p : BrushValue) (s : MiddleStrip) : Type 0 where
+  pub slots : HasSlots p
+  pub texture : CanDraw p.tools.dir.lumps p.tools.textures p.state.cache s.tex.0
+  pub single : IsSingle (prepared_texture p.tools.textures s.tex.0)
+  pub column : IsColumnInFrame p.state.canvas s.shape s.x
+  pub clips : HasClipsIn s.shape.height s.masked
+
+pub record CanTakePicture (p : BrushValue) (s : PictureStripValue) : Type 0 where
+  pub slots : HasSlots p
+  pub lump : s.lump < length p.tools.dir.lumps
+  pub columns : ArePictureColumns p.state.canvas s
+
 -- what it asks before a strip
 abbrev pub CanTake : BrushValue → Strip → Type 0
 CanTake p (Texture s) = CanTakeTexture p s
 CanTake p (Floor s) = CanTakeFloor p s
+CanTake p (Middle s) = CanTakeMiddle p s
+CanTake p (Picture s) = CanTakePicture p s

@@ -2,12 +2,12 @@
 //!
 //! Rules: `receiver_rules`; `specs/Strips`.
 ghost use Rattle.std.specs.Prelude.{List, [], ◌∷◌, ◌<◌, length};
-ghost use Rattle.brush.specs.Strips.{Floor, Strip, Texture};
-ghost use Rattle.brush.specs.Values.{floor_value};
+ghost use Rattle.brush.specs.Strips.{Floor, Middle, Picture, Strip, Texture};
+ghost use Rattle.brush.specs.Values.{floor_value, picture_value};
 ghost use Rattle.receiver_rules.specs.Receivers.{Receives};
 
 use picture_rules::{MaskedColumn, ViewShape};
-use texture_build::{LumpNo, TextureStrip};
+use texture_build::{LumpNo, TexNo, TextureStrip};
 use view_frame::View;
 use visplanes::{PlaneNo, Planes};
 
@@ -20,6 +20,21 @@ pub struct FloorStrip<'a> {
     pub planes: &'a Planes,
     pub plane: PlaneNo,
     pub lump: LumpNo,
+}
+
+/// Column `x` of a view of shape `shape`, with the masked column of a texture that texture column
+/// `column` stands for. `number` is the fragment's, `map` is a colormap (0 bright to 31 dark).
+///
+/// The original: what `R_RenderMaskedSegRange` sets before it calls `R_DrawMaskedColumn`, r_segs.c.
+#[derive(Clone, Copy)]
+pub struct MiddleStrip {
+    pub number: u16,
+    pub tex: TexNo,
+    pub column: i32,
+    pub shape: ViewShape,
+    pub x: u16,
+    pub masked: MaskedColumn,
+    pub map: u8,
 }
 
 /// Columns `first` to `last` of a view of shape `shape`, with the picture of lump `lump`, `width`
@@ -83,4 +98,19 @@ pub trait Brush {
         requires there { strip.now.plane.0 < length strip.now.planes.now.planes }
         ensures { Receives takes stands stopped self.old self.new
             (Floor (floor_value strip.now) ∷ []) result };
+
+    /// Paints the posts of a masked column of a texture.
+    ///
+    /// The original: `R_GetColumn`, r_data.c, and `R_DrawMaskedColumn`, r_things.c.
+    fn middle(&mut self, strip: &MiddleStrip) -> Result<(), Self::Stop>
+        requires { takes self.old (Middle strip.now) }
+        ensures { Receives takes stands stopped self.old self.new (Middle strip.now ∷ []) result };
+
+    /// Paints columns of the view with a picture.
+    ///
+    /// The original: `R_DrawVisSprite`, r_things.c.
+    fn picture(&mut self, strip: &PictureStrip<'_>) -> Result<(), Self::Stop>
+        requires { takes self.old (Picture (picture_value strip.now)) }
+        ensures { Receives takes stands stopped self.old self.new
+            (Picture (picture_value strip.now) ∷ []) result };
 }

@@ -1,6 +1,6 @@
 //! A brush that leaves nothing.
 
-use crate::brush::{Brush, FloorStrip};
+use crate::brush::{Brush, FloorStrip, MiddleStrip, PictureStrip};
 use std::convert::Infallible;
 use texture_build::TextureStrip;
 
@@ -24,6 +24,16 @@ impl Brush for DryBrush {
 
     #[inline(always)]
     fn floor(&mut self, _: &FloorStrip<'_>) -> Result<(), Infallible> {
+        Ok(())
+    }
+
+    #[inline(always)]
+    fn middle(&mut self, _: &MiddleStrip) -> Result<(), Infallible> {
+        Ok(())
+    }
+
+    #[inline(always)]
+    fn picture(&mut self, _: &PictureStrip<'_>) -> Result<(), Infallible> {
         Ok(())
     }
 }

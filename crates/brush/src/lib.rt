@@ -13,10 +13,11 @@ mod dry;
 mod floors;
 mod layers;
 mod live;
+mod middles;
 mod pictures;
 mod posts;
 
-pub use brush::{Brush, FloorStrip, PictureStrip};
+pub use brush::{Brush, FloorStrip, MiddleStrip, PictureStrip};
 pub use dry::DryBrush;
 pub use layers::paint_picture;
 pub use live::LiveBrush;

@@ -2,8 +2,10 @@
 //!
 //! Rules: `specs/Works`.
 
-use crate::brush::{Brush, FloorStrip};
+use crate::brush::{Brush, FloorStrip, MiddleStrip, PictureStrip};
 use crate::floors::paint_floor;
+use crate::layers::paint_picture;
+use crate::middles::paint_middle;
 use art_rules::Shelf;
 use pixel_strips::Canvas;
 use texture_build::{
@@ -66,5 +68,30 @@ impl<'t, 'a, S: Shelf, C: Canvas> Brush for LiveBrush<'t, 'a, S, C> {
             canvas: &mut *self.canvas,
         };
         paint_floor(&art, &mut hands, strip)
+    }
+
+    fn middle(&mut self, strip: &MiddleStrip) -> Result<(), CacheFault> {
+        let art = TextureArt {
+            textures: self.textures,
+            dir: self.dir,
+            colormap: self.colormap,
+        };
+        let mut hands = Hands {
+            cache: &mut *self.cache,
+            shelf: &mut *self.shelf,
+            canvas: &mut *self.canvas,
+        };
+        paint_middle(&art, &mut hands, strip)
+    }
+
+    fn picture(&mut self, strip: &PictureStrip<'_>) -> Result<(), CacheFault> {
+        paint_picture(
+            self.dir,
+            self.colormap,
+            self.cache,
+            self.shelf,
+            self.canvas,
+            strip,
+        )
     }
 }

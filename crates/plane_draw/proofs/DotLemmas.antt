@@ -6,9 +6,9 @@ use Rattle.picture_rules.specs.declared.plane.Flat4.TheVariants as flat
 use Rattle.visplanes.specs.Planes.{plane_at}
 use Rattle.texture_build.specs.{Strips.texture_colour, Strips.texture_dots, TexNo.TexNo}
 use Rattle.receiver_rules.proofs.FirstLemmas.{first_lists, first-same, joined-joined}
-use Rattle.brush.specs.Strips.{Floor, Texture, floor_strip_dots, strip_dots, strips_dots}
+use Rattle.brush.specs.Strips.{Floor, Texture, floor_strip_dots, dots_of_strip, strips_dots}
 use Rattle.plane_draw.specs.Planes.{HasFlat}
-use Rattle.plane_draw.specs.Strips.{floor_strips, is_marked, plane_strips, plane_strips_by, planes_strips, run_strips, sky_strip, sky_strips}
+use Rattle.plane_draw.specs.Strips.{floor_strips, has_run, plane_strips, plane_strips_by, planes_strips, run_strips, sky_strip, sky_strips}
 use Rattle.plane_draw.proofs.{MarkLemmas.unmarked-none, StripLemmas.floor_of}
 
 -- the dots of a column of sky plane number n, which has this run there
@@ -48,7 +48,7 @@ run-dots v art n tex x (Some run) = run_by v art n tex x run (nat_lt run.1 run.0
 some-dots : (v : ViewValue) (art : Art) (sky n : ℕ) (tex : TexNo) (p : Plane) → sky ≡ tex.0 → strips_dots art (sky_strips v (Some tex) n p) ≡ sky_dots v art n sky p
 unfolding strips_dots sky_strips sky_dots sky_run
 some-dots v art sky n tex p same =
-    joined-joined (strip_dots art) (λ x. run_strips v n tex x (column p x)) (listed (λ x. x) v.shape.width)
+    joined-joined (dots_of_strip art) (λ x. run_strips v n tex x (column p x)) (listed (λ x. x) v.shape.width)
     ∙ first-same (λ x. strips_dots art (run_strips v n tex x (column p x))) (λ x. sky_run v art n tex.0 x (column p x)) v.shape.width (λ x l. run-dots v art n tex x (column p x))
     ∙ ap (λ (t : ℕ). sky_dots v art n t p) (sym same)
 
@@ -71,7 +71,7 @@ floor_empty : (v : ViewValue) (art : Art) (n lump : ℕ) (p : Plane) → ((x : �
 unfolding floor_dots
 floor_empty v art n lump p none = sym (joined_none _ _ (λ x. run_none _ x (floor_colour v art lump p x) (column p x) (none x)))
 
-floor_by : (v : ViewValue) (art : Art) (n lump : ℕ) (p : Plane) (b : Bool) → is_marked p ≡ b → strips_dots art (cond b (Floor (floor_of v n p lump) ∷ []) []) ≡ floor_dots v art n lump p
+floor_by : (v : ViewValue) (art : Art) (n lump : ℕ) (p : Plane) (b : Bool) → has_run p ≡ b → strips_dots art (cond b (Floor (floor_of v n p lump) ∷ []) []) ≡ floor_dots v art n lump p
 unfolding strips_dots joined_lists floor_strip_dots
 floor_by v art n lump p true is = append-nil (floor_dots v art n lump p)
 floor_by v art n lump p false is = floor_empty v art n lump p (unmarked-none p is)
@@ -80,7 +80,7 @@ by_dots : (v : ViewValue) (art : Art) (sky n lumps : ℕ) (o : Option TexNo) (p 
     strips_dots art (plane_strips_by v o n p f) ≡ plane_dots_by v art sky n p f
 unfolding plane_strips_by floor_strips plane_dots_by
 by_dots v art sky n lumps o p flat.Sky there same = sky-all v art sky n o p there same
-by_dots v art sky n lumps o p (flat.Lump lump) there same = floor_by v art n lump p (is_marked p) refl
+by_dots v art sky n lumps o p (flat.Lump lump) there same = floor_by v art n lump p (has_run p) refl
 
 -- the strips of plane number n have its dots
 plane-dots : (v : ViewValue) (art : Art) (sky n lumps : ℕ) (o : Option TexNo) (p : Plane) → HasFlat lumps o p.key.flat → IfSome o (λ tex. sky ≡ tex.0) →
@@ -121,7 +121,7 @@ pub planes-dots : (v : ViewValue) (scene : Scene) (lumps : ℕ) (o : Option TexN
     strips_dots scene.art (planes_strips v o planes) ≡ planes_dots v scene planes
 unfolding strips_dots planes_strips
 planes-dots v scene lumps o planes there same =
-    joined-joined (strip_dots scene.art) (λ k. plane_strips v o k (plane_at planes k)) (listed (λ k. k) (length planes))
+    joined-joined (dots_of_strip scene.art) (λ k. plane_strips v o k (plane_at planes k)) (listed (λ k. k) (length planes))
     ∙ first-same (λ k. strips_dots scene.art (plane_strips v o k (plane_at planes k))) (λ k. plane_dots v scene.art scene.sky k (plane_at planes k)) (length planes)
     (λ k l. plane-dots v scene.art scene.sky k lumps o (plane_at planes k) (there k l) same)
     ∙ planes-end v scene planes

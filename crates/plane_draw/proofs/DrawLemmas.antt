@@ -6,7 +6,7 @@ use Rattle.visplanes.specs.{Planes.no_plane, Planes.plane_at}
 use Rattle.texture_build.specs.{CacheFault.CacheFault, Caches.cache_fault, TexNo.TexNo}
 use Rattle.texture_build.specs.Paints.{PaintState, Paints}
 use Rattle.texture_build.proofs.PaintLemmas.{paints-asked, paints-same, paints-wider}
-use Rattle.brush.specs.Strips.{IsColumnOf, IsLumpOf, ShowsColumn, ShowsLump, Strip}
+use Rattle.brush.specs.Strips.{IsStripColumn, IsStripLump, ShowsColumn, ShowsLump, Strip}
 use Rattle.brush.specs.Works.{BrushNames, BrushValue, CanTake, HasSlots, PaintsStrips}
 use Rattle.plane_draw.specs.declared.scene.PlaneScene.{PlaneScene}
 use Rattle.plane_draw.specs.Planes.{IsFlatOf, IsSkyColumn}
@@ -56,10 +56,10 @@ planes-taken s st names can strip h =
 
 -- a column of a texture that they show is one of the sky's that is seen
 sky-column : (v : ViewValue) (sky : Option TexNo) (planes : List Plane) (n : ℕ) (strip : Strip) (number : ℕ) (own : ℤ) → n < length planes →
-    IsSkyRows v sky n (plane_at planes n) strip → IsColumnOf strip number own → IsSkyColumn v sky planes number own
+    IsSkyRows v sky n (plane_at planes n) strip → IsStripColumn strip number own → IsSkyColumn v sky planes number own
 unfolding sky_strip
 sky-column v sky planes n strip number own inside rows is =
-    let same = subst (λ (s : Strip). IsColumnOf s number own) (sym rows.is) is in
+    let same = subst (λ (s : Strip). IsStripColumn s number own) (sym rows.is) is in
     record {
       some = subst (λ (o : Option TexNo). IsSome o) (sym rows.some) refl;
       texture = subst (λ (o : Option TexNo). IfSome o (λ tex. number ≡ tex.0)) (sym rows.some) same.0;
@@ -75,8 +75,8 @@ sky-column v sky planes n strip number own inside rows is =
       is = same.1;
     }
 
-floor-column : (v : ViewValue) (n : ℕ) (p : Plane) (strip : Strip) (number : ℕ) (own : ℤ) → IsFloorOf v n p strip → IsColumnOf strip number own → ⊥
-floor-column v n p strip number own floor is = subst (λ (s : Strip). IsColumnOf s number own) (sym floor.is) is
+floor-column : (v : ViewValue) (n : ℕ) (p : Plane) (strip : Strip) (number : ℕ) (own : ℤ) → IsFloorOf v n p strip → IsStripColumn strip number own → ⊥
+floor-column v n p strip number own floor is = subst (λ (s : Strip). IsStripColumn s number own) (sym floor.is) is
 
 columns-shown : (v : ViewValue) (sky : Option TexNo) (planes : List Plane) (number : ℕ) (own : ℤ) → ShowsColumn (planes_strips v sky planes) number own → IsSkyColumn v sky planes number own
 columns-shown v sky planes number own shows =
@@ -87,12 +87,12 @@ columns-shown v sky planes number own shows =
     ]
 
 -- and a lump the flat of one that has a run
-sky-lump : (v : ViewValue) (sky : Option TexNo) (n : ℕ) (p : Plane) (strip : Strip) (lump : ℕ) → IsSkyRows v sky n p strip → IsLumpOf strip lump → ⊥
-sky-lump v sky n p strip lump rows is = subst (λ (s : Strip). IsLumpOf s lump) (sym rows.is) is
+sky-lump : (v : ViewValue) (sky : Option TexNo) (n : ℕ) (p : Plane) (strip : Strip) (lump : ℕ) → IsSkyRows v sky n p strip → IsStripLump strip lump → ⊥
+sky-lump v sky n p strip lump rows is = subst (λ (s : Strip). IsStripLump s lump) (sym rows.is) is
 
-floor-lump : (v : ViewValue) (planes : List Plane) (n : ℕ) (strip : Strip) (lump : ℕ) → n < length planes → IsFloorOf v n (plane_at planes n) strip → IsLumpOf strip lump → IsFlatOf planes lump
+floor-lump : (v : ViewValue) (planes : List Plane) (n : ℕ) (strip : Strip) (lump : ℕ) → n < length planes → IsFloorOf v n (plane_at planes n) strip → IsStripLump strip lump → IsFlatOf planes lump
 floor-lump v planes n strip lump inside floor is =
-    let same = subst (λ (s : Strip). IsLumpOf s lump) (sym floor.is) is in
+    let same = subst (λ (s : Strip). IsStripLump s lump) (sym floor.is) is in
     record {
       plane = plane_at planes n;
       among = Contains-get_or planes n no_plane inside;

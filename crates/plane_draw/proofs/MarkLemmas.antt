@@ -3,7 +3,7 @@ use Rattle.picture_rules.proofs.Common.{[], Bool, false, false≢true, IsSome, L
 use Rattle.std.specs.Prelude.{is_some}
 use Rattle.std.specs.List.{list_any}
 use Rattle.plane_draw.specs.Rules.{Plane, column}
-use Rattle.plane_draw.specs.{Planes.IsMarked, Strips.is_marked}
+use Rattle.plane_draw.specs.{Planes.IsMarked, Strips.has_run}
 
 abbrev run_at : List (Option (ℕ × ℕ)) → ℕ → Option (ℕ × ℕ)
 run_at runs x = slice_index_or runs x None
@@ -35,26 +35,26 @@ some_any (None ∷ runs) e = let found = some_any runs e in (suc found.0, found.
 some_any (Some run ∷ runs) e = (0, refl)
 
 -- a plane without a run has none at any column, and the other way round
-pub unmarked-none : (p : Plane) → is_marked p ≡ false → (x : ℕ) → column p x ≡ None
-unfolding is_marked column
+pub unmarked-none : (p : Plane) → has_run p ≡ false → (x : ℕ) → column p x ≡ None
+unfolding has_run column
 unmarked-none p e = none_any p.runs e
 
-pub none-unmarked : (p : Plane) → ((x : ℕ) → column p x ≡ None) → is_marked p ≡ false
-unfolding is_marked column
+pub none-unmarked : (p : Plane) → ((x : ℕ) → column p x ≡ None) → has_run p ≡ false
+unfolding has_run column
 none-unmarked p none = any_none p.runs none
 
 -- and one that has a run has it at some column
-pub marked-some : (p : Plane) → is_marked p ≡ true → IsMarked p
-unfolding is_marked column
+pub marked-some : (p : Plane) → has_run p ≡ true → IsMarked p
+unfolding has_run column
 marked-some p e = some_any p.runs e
 
 -- what is told to be empty has no run, and what is not has one
-pub empty-unmarked : (p : Plane) (empty : Bool) → ((empty ≡ true) ↔ ((x : ℕ) → column p x ≡ None)) → empty ≡ true → is_marked p ≡ false
+pub empty-unmarked : (p : Plane) (empty : Bool) → ((empty ≡ true) ↔ ((x : ℕ) → column p x ≡ None)) → empty ≡ true → has_run p ≡ false
 empty-unmarked p empty says is = none-unmarked p (says.0 is)
 
-filled_by : (p : Plane) (empty marked : Bool) → is_marked p ≡ marked → ((empty ≡ true) ↔ ((x : ℕ) → column p x ≡ None)) → empty ≡ false → marked ≡ true
+filled_by : (p : Plane) (empty marked : Bool) → has_run p ≡ marked → ((empty ≡ true) ↔ ((x : ℕ) → column p x ≡ None)) → empty ≡ false → marked ≡ true
 filled_by p empty true is says filled = refl
 filled_by p empty false is says filled = absurd (false≢true (sym filled ∙ says.1 (unmarked-none p is)))
 
-pub filled-marked : (p : Plane) (empty : Bool) → ((empty ≡ true) ↔ ((x : ℕ) → column p x ≡ None)) → empty ≡ false → is_marked p ≡ true
-filled-marked p empty says filled = filled_by p empty (is_marked p) refl says filled
+pub filled-marked : (p : Plane) (empty : Bool) → ((empty ≡ true) ↔ ((x : ℕ) → column p x ≡ None)) → empty ≡ false → has_run p ≡ true
+filled-marked p empty says filled = filled_by p empty (has_run p) refl says filled

@@ -8,7 +8,7 @@ use Rattle.texture_build.specs.TexNo.{TexNo}
 use Rattle.brush.specs.Strips.{Floor, FloorValue, Strip, Texture}
 use Rattle.receiver_rules.proofs.FirstLemmas.{IsInFirst, first-cases}
 use Rattle.plane_draw.specs.Planes.{IsMarked}
-use Rattle.plane_draw.specs.Strips.{floor_strips, is_marked, plane_strips, plane_strips_by, planes_strips, run_strips, sky_strip, sky_strips}
+use Rattle.plane_draw.specs.Strips.{floor_strips, has_run, plane_strips, plane_strips_by, planes_strips, run_strips, sky_strip, sky_strips}
 use Rattle.plane_draw.proofs.MarkLemmas.{marked-some}
 
 -- rows of a column of the sky's texture, where a sky plane has them
@@ -69,7 +69,7 @@ by_cases : (v : ViewValue) (sky : Option TexNo) (n : ℕ) (p : Plane) (f : Flat4
 unfolding plane_strips_by floor_strips
 by_cases v sky n p flat.Sky strip is h = inl (sky_cases v sky sky n p strip refl is h)
 by_cases v sky n p (flat.Lump lump) strip is h =
-    let one = if_one (is_marked p) (Floor (floor_of v n p lump)) strip h in
+    let one = if_one (has_run p) (Floor (floor_of v n p lump)) strip h in
     inr (record { lump = lump; flat = is; marked = marked-some p one.0; is = one.1 })
 
 -- a strip of a plane
@@ -84,12 +84,12 @@ unfolding planes_strips
 planes-cases v sky planes strip h = first-cases (λ k. plane_strips v sky k (plane_at planes k)) (length planes) strip h
 
 -- a plane with a flat that has no run has no strip, and one that has a run is one
-pub floor-none : (v : ViewValue) (sky : Option TexNo) (n lump : ℕ) (p : Plane) → p.key.flat ≡ flat.Lump lump → is_marked p ≡ false → plane_strips v sky n p ≡ []
+pub floor-none : (v : ViewValue) (sky : Option TexNo) (n lump : ℕ) (p : Plane) → p.key.flat ≡ flat.Lump lump → has_run p ≡ false → plane_strips v sky n p ≡ []
 unfolding plane_strips plane_strips_by floor_strips
 floor-none v sky n lump p is none =
     ap (plane_strips_by v sky n p) is ∙ ap (λ (b : Bool). cond b (Floor (floor_of v n p lump) ∷ []) []) none
 
-pub floor-one : (v : ViewValue) (sky : Option TexNo) (n lump : ℕ) (p : Plane) → p.key.flat ≡ flat.Lump lump → is_marked p ≡ true → plane_strips v sky n p ≡ Floor (floor_of v n p lump) ∷ []
+pub floor-one : (v : ViewValue) (sky : Option TexNo) (n lump : ℕ) (p : Plane) → p.key.flat ≡ flat.Lump lump → has_run p ≡ true → plane_strips v sky n p ≡ Floor (floor_of v n p lump) ∷ []
 unfolding plane_strips plane_strips_by floor_strips
 floor-one v sky n lump p is marked =
     ap (plane_strips_by v sky n p) is ∙ ap (λ (b : Bool). cond b (Floor (floor_of v n p lump) ∷ []) []) marked

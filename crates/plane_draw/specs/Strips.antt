@@ -36,12 +36,12 @@ sky_strips v None n p = []
 sky_strips v (Some tex) n p = joined_lists (λ x. run_strips v n tex x (column p x)) (listed (λ x. x) v.shape.width)
 
 -- a plane has a run of rows at some column
-unfoldable pub is_marked : Plane → Bool
-is_marked p = list_any is_some p.runs
+unfoldable pub has_run : Plane → Bool
+has_run p = list_any is_some p.runs
 
 -- a plane with its flat is one strip, and none where it has no run
 unfoldable pub floor_strips : ViewValue → ℕ → Plane → ℕ → List Strip
-floor_strips v n p lump = cond (is_marked p) (Floor (record { view = v; plane = p; number = n; lump = lump }) ∷ []) []
+floor_strips v n p lump = cond (has_run p) (Floor (record { view = v; plane = p; number = n; lump = lump }) ∷ []) []
 
 unfoldable pub plane_strips_by : ViewValue → Option TexNo → ℕ → Plane → Flat4 → List Strip
 plane_strips_by v sky n p flat.Sky = sky_strips v sky n p

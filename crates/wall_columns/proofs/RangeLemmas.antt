@@ -10,7 +10,7 @@ use Rattle.texture_build.specs.CacheFault.TheVariants as cache
 use Rattle.texture_build.specs.Paints.{PaintState, PaintTools, Paints, painted_art}
 use Rattle.texture_build.specs.Strips.{texture_colour, texture_dots}
 use Rattle.texture_build.proofs.PaintLemmas.{paints-asked, paints-mapped, paints-none, paints-same, paints-wider}
-use Rattle.brush.specs.Strips.{IsColumnOf, IsLumpOf, ShowsColumn, ShowsLump, Strip, Texture, strips_dots, strip_dots as dots_of_strip}
+use Rattle.brush.specs.Strips.{IsStripColumn, IsStripLump, ShowsColumn, ShowsLump, Strip, Texture, strips_dots, dots_of_strip}
 use Rattle.brush.specs.Works.{BrushValue, CanTake, HasWorked, PaintsStrips, brush_now}
 use Rattle.brush.specs.declared.live.LiveBrush.{LiveBrush}
 use Rattle.brush.proofs.WorkLemmas.{received-worked}
@@ -141,13 +141,13 @@ columns-shown : (v : ViewValue) (state : WallsView) (facts : WallFacts) (first l
 unfolding part_strip look_at column_edges wall_of wall_edges texture_column
 columns-shown v state facts first last number own shows =
     let one = range-cases v state facts first last shows.strip shows.among in
-    let same = subst (λ (s : Strip). IsColumnOf s number own) (sym one.is) shows.is in
+    let same = subst (λ (s : Strip). IsStripColumn s number own) (sym one.is) shows.is in
     record { x = one.x; from = one.from; to = one.to; strip = one.part; among = one.among; texture = (one.rows, same.0); is = same.1 }
 
 lumps-shown : (v : ViewValue) (state : WallsView) (facts : WallFacts) (first last lump : ℕ) → ShowsLump (range_strips v state facts first last) lump → IsNoPicture lump
 lumps-shown v state facts first last lump shows =
     let one = range-cases v state facts first last shows.strip shows.among in
-    subst (λ (s : Strip). IsLumpOf s lump) (sym one.is) shows.is
+    subst (λ (s : Strip). IsStripLump s lump) (sym one.is) shows.is
 
 -- and its texture is one of the seg's
 pub seen-texture : (v : ViewValue) (state : WallsView) (facts : WallFacts) (first last number : ℕ) (own : ℤ) → IsSeenOf v state facts first last number own → IsWallTexture facts number

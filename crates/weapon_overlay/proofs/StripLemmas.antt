@@ -6,7 +6,7 @@ use Rattle.texture_build.specs.{CacheFault.CacheFault, Caches.cache_fault, Direc
 use Rattle.texture_build.specs.Paints.{PaintState, Paints, painted_art}
 use Rattle.texture_build.proofs.PaintLemmas.{paints-same, paints-wider}
 use Rattle.brush.specs.{Pictures.ArePictureColumns, Pictures.PaintsPicture, Posts.HasClipsIn}
-use Rattle.brush.specs.Strips.{PictureValue, column_of_picture, picture_dots, picture_masked}
+use Rattle.brush.specs.Strips.{PictureStripValue, column_of_picture, picture_dots, picture_masked}
 use Rattle.weapon_overlay.specs.Layers.{layer_tools, seen_dots, weapon_strip}
 use Rattle.weapon_overlay.specs.Seen.{IsPictureOf, IsSeenIn}
 use Rattle.weapon_overlay.proofs.InViewLemmas.{masked_clips}
@@ -17,9 +17,9 @@ lists_same f g [] h = refl
 lists_same f g (x ∷ xs) h = ap (λ (ys : List Dot). ys ++ joined_lists f xs) (h x) ∙ ap (λ (ys : List Dot). g x ++ ys) (lists_same f g xs h)
 
 -- its lump is that of the layer's picture
-pub strip-lump : (v : ViewValue) (l : WeaponLayer) (left : ℤ) (first last lumps : ℕ) (s : PictureValue) → s ≡ weapon_strip v l left first last → l.shape.lump < lumps → s.lump < lumps
+pub strip-lump : (v : ViewValue) (l : WeaponLayer) (left : ℤ) (first last lumps : ℕ) (s : PictureStripValue) → s ≡ weapon_strip v l left first last → l.shape.lump < lumps → s.lump < lumps
 unfolding weapon_strip
-strip-lump v l left first last lumps s is there = subst (λ (p : PictureValue). p.lump < lumps) (sym is) there
+strip-lump v l left first last lumps s is there = subst (λ (p : PictureStripValue). p.lump < lumps) (sym is) there
 
 -- nothing but the view clips a layer
 no_clip : (x : ℕ) → slice_index_or {A = Option ℤ} [] x None ≡ None
@@ -55,13 +55,13 @@ strip-dots v art l left first last = lists_same (column_of_picture art (weapon_s
 
 -- So a call that paints its strip paints the layer, of which the first of these columns is seen.
 pub layer-painted : {mark : Painter → ℕ → ℕ} (v : ViewValue) (l : WeaponLayer) (left : ℤ) (first last : ℕ) (dir : DirectoryView) (colormap : ℕ) (textures : TexturesView) {a b : PaintState} {result : Result (Unit {0}) CacheFault} →
-    ((art : Art) → seen_dots v art l left first last ≡ weapon_dots v art l) → IsSeenIn v l first → (s : PictureValue) → s ≡ weapon_strip v l left first last →
+    ((art : Art) → seen_dots v art l left first last ≡ weapon_dots v art l) → IsSeenIn v l first → (s : PictureStripValue) → s ≡ weapon_strip v l left first last →
     PaintsPicture mark (layer_tools dir colormap textures) s a b result →
     Paints cache_fault mark (layer_tools dir colormap textures) (λ (n : ℕ) (own : ℤ). ⊥) (IsPictureOf v l) (λ (q : Unit {0}). ⊤)
     (λ contents q. weapon_dots v (painted_art contents (layer_tools dir colormap textures)) l) a b result
 unfolding weapon_strip
 layer-painted {mark} v l left first last dir colormap textures {a} {b} {result} are_seen seen s is one =
     let by_strip : PaintsPicture mark (layer_tools dir colormap textures) (weapon_strip v l left first last) a b result =
-    subst (λ (p : PictureValue). PaintsPicture mark (layer_tools dir colormap textures) p a b result) is one in
+    subst (λ (p : PictureStripValue). PaintsPicture mark (layer_tools dir colormap textures) p a b result) is one in
     paints-same _ (λ contents q is. strip-dots v (painted_art contents (layer_tools dir colormap textures)) l left first last ∙ are_seen (painted_art contents (layer_tools dir colormap textures)))
     (paints-wider (λ n own is. is) (λ lump is. record { is = is; x = first; seen = seen }) by_strip)
