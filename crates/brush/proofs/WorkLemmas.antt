@@ -91,7 +91,6 @@ takes-same old new strip tools paints (Floor s) h = record {
   flat = h.flat;
   seen = seen-still s old.state.canvas new.state.canvas paints.place h.seen;
 }
-
 takes-same old new strip tools paints (Middle s) h = record {
   slots = slots_still old new strip tools paints h.slots;
   texture = can_draw-later paints h.texture;

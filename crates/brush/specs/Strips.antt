@@ -1,5 +1,5 @@
 -- What a view shows, strip by strip: what each is painted from, and its dots.
-use Rattle.std.specs.Prelude.{◌≡◌, ℕ, ℤ, Bool, List, Contains, None, Option, slice_index_or, unwrap_or}
+use Rattle.std.specs.Prelude.{◌≡◌, ◌-◌, ℕ, ℤ, Bool, List, Contains, None, Option, slice_index_or, unwrap_or}
 use Rattle.picture_rules.specs.Words.{Art, Dot, MIDDLE, MaskedColumn, Plane, ViewShape, ViewValue, floor_dots, joined_lists, listed_from, lump_source, painter_of, picture_column, posts_dots}
 use Rattle.texture_build.specs.Strips.{texture_dots}
 use Rattle.texture_build.specs.declared.strip.TextureStrip.{TextureStrip}
@@ -52,8 +52,8 @@ middle_dots art s =
 -- how column x of a picture is drawn
 unfoldable pub picture_masked : PictureStripValue → ℕ → MaskedColumn
 picture_masked s x = record s.masked {
-  top_clip = unwrap_or (slice_index_or s.tops x None) s.masked.top_clip;
-  bottom_clip = unwrap_or (slice_index_or s.bottoms x None) s.masked.bottom_clip;
+  top_clip = unwrap_or (slice_index_or s.tops (x - s.first) None) s.masked.top_clip;
+  bottom_clip = unwrap_or (slice_index_or s.bottoms (x - s.first) None) s.masked.bottom_clip;
 }
 
 unfoldable pub column_of_picture : Art → PictureStripValue → ℕ → List Dot

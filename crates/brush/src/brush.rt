@@ -42,7 +42,7 @@ pub struct MiddleStrip {
 ///
 /// `kind` and `number` are the painter's, `map` is a colormap (0 bright to 31 dark). Each column is
 /// drawn as `masked` says, but for the clips that were taken in it: `tops` and `bottoms` have those
-/// of column x at index x, None where none was taken, and none past their end.
+/// of column `first` at index 0, None where none was taken, and none past their end.
 ///
 /// The original: `vissprite_t`, r_defs.h, with mfloorclip and mceilingclip, r_things.c.
 #[derive(Clone, Copy)]

@@ -60,7 +60,8 @@ fn fill_picture<C: Canvas>(
     requires live { IsLive cache.now (lump_owner strip.now.lump.0) }
     requires columns { ArePictureColumns (C.view canvas.old) (picture_value strip.now) }
     ensures painted { GivesDots C.mark colormap.0 strip.now.lump.0 cache.now
-        (λ art. picture_dots art (picture_value strip.now)) (C.view canvas.old) (C.view canvas.new) }
+        (λ art. picture_dots art (picture_value strip.now))
+        (C.view canvas.old) (C.view canvas.new) }
     ensures fits { FitsDots colormap.0 strip.now.lump.0 cache.now
         (λ art. picture_dots art (picture_value strip.now)) }
     ensures place { PlacedAlike (C.view canvas.old) (C.view canvas.new) }
@@ -94,22 +95,23 @@ fn fill_columns<C: Canvas>(canvas: &mut C, strip: &PictureStrip<'_>, art: &Colum
 // How column `x` of a picture is drawn.
 #[tactic(auto, unfolding(crate::specs::Strips::picture_masked))]
 fn picture_masked(strip: &PictureStrip<'_>, x: u16) -> MaskedColumn
+    requires { strip.now.first ≤ x }
     ensures { result ≡ picture_masked (picture_value strip.now) x }
 {
     MaskedColumn {
         scale: strip.masked.scale,
         mid: strip.masked.mid,
         iscale: strip.masked.iscale,
-        top_clip: clip_or(strip.tops, x, strip.masked.top_clip),
-        bottom_clip: clip_or(strip.bottoms, x, strip.masked.bottom_clip),
+        top_clip: clip_or(strip.tops, x - strip.first, strip.masked.top_clip),
+        bottom_clip: clip_or(strip.bottoms, x - strip.first, strip.masked.bottom_clip),
     }
 }
 
-// The clip that was taken in column `x`, or else another row.
-fn clip_or(clips: &[Option<i32>], x: u16, row: i32) -> i32
-    ensures { result ≡ unwrap_or (slice_index_or clips.now x None) row }
+// The clip at an index, where one was taken, or else another row.
+fn clip_or(clips: &[Option<i32>], index: u16, row: i32) -> i32
+    ensures { result ≡ unwrap_or (slice_index_or clips.now index None) row }
 {
-    match clips.get(x as usize) {
+    match clips.get(index as usize) {
         Some(clip) => clip.unwrap_or(row),
         None => row,
     }

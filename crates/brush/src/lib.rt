@@ -21,6 +21,6 @@ pub use brush::{Brush, FloorStrip, MiddleStrip, PictureStrip};
 pub use dry::DryBrush;
 pub use layers::paint_picture;
 pub use live::LiveBrush;
-pub use pictures::{column_of, paint_own, picture_column};
-pub use posts::{ColumnArt, PostLook, lend_art, paint_posts};
+pub use middles::paint_middle;
+pub use pictures::column_of;
 pub use texture_build::TextureStrip;

@@ -25,7 +25,9 @@ use texture_build::{CacheFault, Hands, TextureArt};
 /// Makes the column live, and paints its posts. One patch is in each column of the texture.
 ///
 /// Errors: those of `Textures::ready`. Nothing is painted then.
-pub(crate) fn paint_middle<S: Shelf, C: Canvas>(
+///
+/// The original: `R_RenderMaskedSegRange`, r_segs.c.
+pub fn paint_middle<S: Shelf, C: Canvas>(
     art: &TextureArt<'_>,
     hands: &mut Hands<'_, S, C>,
     strip: &MiddleStrip,
@@ -42,13 +44,7 @@ pub(crate) fn paint_middle<S: Shelf, C: Canvas>(
         (hands_state S.view C.view hands.old) (hands_state S.view C.view hands.new) result }
 {
     let textures = art.textures;
-    textures.ready(
-        hands.cache,
-        art.dir,
-        hands.shelf,
-        strip.tex,
-        strip.column,
-    )?;
+    textures.ready(hands.cache, art.dir, hands.shelf, strip.tex, strip.column)?;
     fill_middle(art, hands, strip);
     Ok(())
 }

@@ -10,4 +10,3 @@ pub mod LoopLemmas
 pub mod SpriteLemmas
 pub mod MiddleLemmas
 pub mod PassLemmas
-pub mod PictureLemmas

@@ -1,8 +1,6 @@
--- How far a sprite is seen by the clips that were taken, and what is painted of it and of a masked column.
-use Rattle.std.specs.Prelude.{◌≡◌, ◌<◌, ◌⊎◌, ◌+◌, ◌-◌, ◌≤ℤ◌, ◌==◌, ◌&&◌, ℕ, ℤ, pos, bit_and, int_lt, not, Bool, cond, List, length, map, ⊤, Option, Some, None, unwrap_or, slice_index_or}
-use Rattle.masked_draw.specs.Rules.{Absent, Art, Clip, Constant, Dot, Drawseg, FragmentNote, MaskedColumn, Painter, SIL_BOTTOM, SIL_TOP, SPRITE, Saved, SpriteEntry, ViewShape, ViewValue, byte_at, gives_bottom, gives_top, greatest_clip, joined_lists, least_clip, lump_source, minus_one, painter_of, picture_column, posts_dots, rows_between, shade, sprite_bottom, sprite_top}
-use Rattle.std.specs.List.{range_with_len}
-use Rattle.texture_build.specs.Arts.{own_posts}
+-- How far a sprite is seen by the clips that were taken, and what the masked columns of a fragment have in common.
+use Rattle.std.specs.Prelude.{◌≡◌, ◌<◌, ◌⊎◌, ◌+◌, ◌-◌, ◌≤ℤ◌, ◌==◌, ◌&&◌, ℕ, ℤ, pos, bit_and, int_lt, not, Bool, cond, List, length, ⊤, Option, Some, None, unwrap_or, slice_index_or}
+use Rattle.masked_draw.specs.Rules.{Absent, Clip, Constant, Drawseg, FragmentNote, SIL_BOTTOM, SIL_TOP, Saved, SpriteEntry, gives_bottom, gives_top, greatest_clip, least_clip, minus_one, sprite_bottom, sprite_top}
 use Rattle.masked_draw.specs.declared.clips.SpriteClips.{SpriteClips}
 use Rattle.masked_draw.specs.declared.middles.Middle.{Middle}
 use Rattle.masked_draw.specs.{declared.scene.MaskScene.MaskScene, Lists.middle_by}
@@ -58,36 +56,6 @@ pub record AreSpriteRows (s : MaskScene) (ds : List Drawseg) (e : SpriteEntry) (
 pub record TakesRows (e : SpriteEntry) (d : Drawseg) (old new : SpriteClips) (x : ℕ) : Type 0 where
   pub top : row_in new.tops x ≡ row_after (gives_top e x d) (d.top_clip x) (row_in old.tops x)
   pub bottom : row_in new.bottoms x ≡ row_after (gives_bottom e x d) (d.bottom_clip x) (row_in old.bottoms x)
-
--- a column of a sprite by the clips that were taken, as `sprite_column` by those of the fragments
-unfoldable pub clipped_masked : ℕ → SpriteClips → SpriteEntry → ℕ → MaskedColumn
-clipped_masked height clips e x = record {
-  scale = e.scale;
-  mid = e.mid;
-  iscale = e.iscale;
-  top_clip = top_at clips x;
-  bottom_clip = bottom_at clips height x;
-}
-
-unfoldable pub clipped_column : ViewValue → Art → SpriteClips → SpriteEntry → ℕ → List Dot
-clipped_column v art clips e x =
-    posts_dots v.shape (painter_of SPRITE e.number (lump_source e.lump)) x
-    (clipped_masked v.shape.height clips e x) (art.byte e.lump) (art.shade e.map)
-    (art.picture_posts e.lump (picture_column e.flip e.width e.a1 e.iscale x))
-
-unfoldable pub clipped_dots : ViewValue → Art → SpriteClips → SpriteEntry → List Dot
-clipped_dots v art clips e = joined_lists (clipped_column v art clips e) (rows_between e.first e.last)
-
--- a column by the bytes of its picture and of the colormap
-unfoldable pub read_column : ViewShape → Painter → List ℕ → List ℕ → SpriteClips → SpriteEntry → ℕ → List Dot
-read_column shape painter bytes colormap clips e x =
-    posts_dots shape painter x (clipped_masked shape.height clips e x) (byte_at bytes)
-    (shade colormap e.map) (own_posts bytes (picture_column e.flip e.width e.a1 e.iscale x))
-
--- the columns from first on, those before end
-unfoldable pub read_columns : ViewShape → Painter → List ℕ → List ℕ → SpriteClips → SpriteEntry → ℕ → ℕ → List Dot
-read_columns shape painter bytes colormap clips e first end =
-    joined_lists (read_column shape painter bytes colormap clips e) (map (λ x. x) (range_with_len first (end - first)))
 
 -- what the masked columns of fragment `number` have in common
 pub record IsMiddleOf (s : MaskScene) (d : FragmentNote) (number : ℕ) (middle : Middle) : Type 0 where

@@ -1,13 +1,10 @@
 -- What the masked pass asks of the lists, the textures and the sprites, and which bytes it paints with.
 use Rattle.std.specs.Prelude.{◌≡◌, ◌<◌, ◌≤◌, ◌≤ℤ◌, ℕ, ℤ, List, Contains, length, IfSome, IsSome}
-use Rattle.masked_draw.specs.Rules.{FragmentNote, Lump, PreparedTexture, SpriteEntry, mask_of, single_place}
+use Rattle.masked_draw.specs.Rules.{FragmentNote, Lump, SpriteEntry}
 use Rattle.texture_build.specs.{Zones.Heap, Views.TexturesView, Views.prepared_texture}
-use Rattle.texture_build.specs.{Sources.own_lookup, Draws.CanDraw}
+use Rattle.texture_build.specs.Draws.{CanDraw}
+use Rattle.brush.specs.Middles.{IsSingle}
 use Rattle.masked_draw.specs.Lists.{MaskedLists, note_seg, middle_by, saved_column}
-
--- exactly one patch stands in each column that a texture column can stand for
-abbrev pub IsSingle : PreparedTexture → Type 0
-IsSingle t = (x : ℕ) → x ≤ mask_of (length t.columns) → IsSome (single_place (own_lookup t x))
 
 -- the middle texture of a masked note may be drawn
 pub record CanDrawMiddle (lumps : List Lump) (textures : TexturesView) (z : Heap) (lists : MaskedLists)

@@ -2,8 +2,8 @@
 use Rattle.std.specs.Prelude.{◌≡◌, ◌≤◌, ◌<◌, ℕ, ℤ, Bool, List, All, length, Result, ⊤}
 use Rattle.masked_draw.specs.Rules.{AreNoted, Art, Dot, Drawseg, FragmentNote, IsWholeNote, Painter, ShelfView}
 use Rattle.texture_build.specs.{CacheFault.CacheFault, Caches.cache_fault}
-use Rattle.pixel_strips.specs.{Canvases.CanvasView, Dotted.HasDots, Standing.StandsInFrame}
-use Rattle.texture_build.specs.Paints.{FitIn, Holds, PaintState, PaintTools, Paints, paint_state, paint_tools, painted_art}
+use Rattle.pixel_strips.specs.{Canvases.CanvasView, Standing.StandsInFrame}
+use Rattle.texture_build.specs.Paints.{PaintState, PaintTools, Paints, paint_state, paint_tools, painted_art}
 use Rattle.masked_draw.specs.declared.scene.MaskHands.{MaskHands}
 use Rattle.masked_draw.specs.{declared.scene.MaskScene.MaskScene, Ready.IsListed}
 use Rattle.masked_draw.specs.Lists.{MaskedLists, lists_of, noted_drawseg, noted_drawsegs}
@@ -62,15 +62,3 @@ abbrev pub PaintsDots : {A : Type 0} → (Painter → ℕ → ℕ) → MaskScene
 PaintsDots mark s among pictures dots old new result =
     Paints cache_fault mark (scene_tools s) among pictures (λ (q : ⊤). ⊤)
     (λ contents q. dots (scene_art contents s)) old new result
-
--- Dots of art that the cache holds, whatever its files: a canvas is given them, and each source fits
--- beside the colormap.
-abbrev pub PaintsLive : (Painter → ℕ → ℕ) → MaskScene → (Art → List Dot) → PaintState → PaintState → Type 0
-PaintsLive mark s dots old new = (view : ShelfView) (contents : List (List ℕ)) (count : ℕ) →
-    Holds (scene_tools s) contents count view old.cache →
-    HasDots mark (dots (scene_art contents s)) old.canvas new.canvas
-
-abbrev pub FitsLive : MaskScene → (Art → List Dot) → PaintState → Type 0
-FitsLive s dots old = (view : ShelfView) (contents : List (List ℕ)) (count : ℕ) →
-    Holds (scene_tools s) contents count view old.cache →
-    FitIn (scene_tools s) count old.cache.size (dots (scene_art contents s))

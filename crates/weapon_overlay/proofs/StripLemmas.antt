@@ -1,5 +1,5 @@
 -- Laws of the strip that a layer shows.
-use Rattle.picture_rules.proofs.Common.{[], ap, arith, List, None, Option, refl, Result, ⊤, slice_index_or, subst, suc, sym, unwrap_or, zero, ℕ, ℤ, ◌++◌, ◌<◌, ◌∙◌, ◌∷◌, ◌≡◌, ◌≤◌}
+use Rattle.picture_rules.proofs.Common.{[], ap, arith, List, None, Option, refl, Result, ⊤, slice_index_or, subst, suc, sym, unwrap_or, zero, ℕ, ℤ, ◌++◌, ◌-◌, ◌<◌, ◌∙◌, ◌∷◌, ◌≡◌, ◌≤◌}
 use Rattle.picture_rules.specs.Words.{Art, Dot, joined_lists, listed_from, lump_source, MaskedColumn, Painter, painter_of, picture_column, posts_dots, ViewValue, WEAPON, weapon_column, weapon_dots, weapon_iscale, weapon_map, weapon_masked, WeaponLayer}
 use Rattle.pixel_strips.specs.{Canvases.CanvasView, Standing.StandsInFrame}
 use Rattle.texture_build.specs.{CacheFault.CacheFault, Caches.cache_fault, DirectoryView.DirectoryView, Views.TexturesView}
@@ -30,7 +30,7 @@ strip-masked : (v : ViewValue) (l : WeaponLayer) (left : ℤ) (first last x : �
 unfolding picture_masked weapon_strip
 strip-masked v l left first last x =
     let with_rows : Option ℤ → MaskedColumn = λ row. record (weapon_masked v l) { top_clip = unwrap_or row (weapon_masked v l).top_clip; bottom_clip = unwrap_or row (weapon_masked v l).bottom_clip } in
-    ap with_rows (no_clip x)
+    ap with_rows (no_clip (x - first))
 
 -- the columns of its picture are in the frame and clipped to the view
 pub strip-columns : (v : ViewValue) (l : WeaponLayer) (left : ℤ) (first last : ℕ) (canvas : CanvasView) → first ≤ last → last < v.shape.width → StandsInFrame v.shape canvas →

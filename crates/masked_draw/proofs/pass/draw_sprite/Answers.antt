@@ -1,6 +1,7 @@
 -- A sprite without a column, and one behind which the masked columns come first.
 use Rattle.picture_rules.proofs.Common.{and_parts, ap, arith, false, int_lt, ints, leb-true, length, List, ltb-true, nat_le, nat_lt, None, Option, pos, refl, rules, subst, sym, true, w32, ℕ, ℤ, ◌+◌, ◌-◌, ◌<ℤ◌, ◌<◌, ◌^◌, ◌∙◌, ◌≡◌, ◌≤ℤ◌, ◌≤◌, to_z-of_z}
 use Rattle.masked_draw.specs.{Rules.SpriteEntry, Rules.entry_has, Clipped.row_in}
+use Rattle.masked_draw.specs.Scenes.{scene_drawsegs}
 use Rattle.masked_draw.proofs.EntryLemmas.{entry-between, entry-numbers, entry-within}
 use Rattle.masked_draw.proofs.KeptLemmas.{keeps-more, keeps-start}
 use Rattle.masked_draw.proofs.LoopLemmas.{clips-end, clips-more, clips-start, note-get, passes-end, passes-more, passes-start, passes-stop}
@@ -101,5 +102,5 @@ returns-clause-sprite g c = λ es i l f h.
     let first_is = sym (to_z-of_z w32 entry.first (search rules)) ∙ c.column_of-first.ensures in
     let last_is = sym (to_z-of_z w32 entry.last (search rules)) ∙ c.column_of-last.ensures in
     let is_span = ordered_by _ _ entry.first entry.last (to_z-of_z w32 entry.first (search rules)) (to_z-of_z w32 entry.last (search rules)) c.if-entry.false in
-    sprite-then c.args.scene.now c.args.notes.now es i entry c.loop-k.clips _ _ _ _ first_is last_is is_span (clips-end c.args.scene.now c.args.notes.now entry c.loop-k.k c.loop-k.clips (omega arith) c.loop-k.invariant.clips)
-    c.paint_sprite.ensures.marks (passes-end c.args.scene.now c.args.notes.now es i c.loop-k.k _ (omega arith) (c.loop-k.invariant.passes es i l f h)) c.paint_sprite.ensures.paints
+    sprite-then c.args.scene.now c.args.notes.now es i entry _ _ is_span c.paint_sprite.ensures.marks (passes-end c.args.scene.now c.args.notes.now es i c.loop-k.k _ (omega arith) (c.loop-k.invariant.passes es i l f h))
+    (c.paint_sprite.ensures.paints (scene_drawsegs c.args.scene.now c.args.notes.now) (λ x from to. clips-end c.args.scene.now c.args.notes.now entry c.loop-k.k c.loop-k.clips (omega arith) c.loop-k.invariant.clips x (has-column entry _ _ x first_is last_is from to)))

@@ -1,39 +1,36 @@
--- The picture is made live, and painted by the bytes that are lent: those of the picture and of the colormap.
-use Rattle.std.proofs.Common.{refl, rules, sym}
-use Rattle.masked_draw.specs.Rules.{SPRITE, lump_bytes, lump_source}
-use Rattle.texture_build.proofs.{LentLemmas.fits-lump, LiveLemmas.draws-fetch}
-use Rattle.texture_build.proofs.PaintLemmas.{paints-live, paints-missed}
-use Rattle.texture_build.proofs.StaticLemmas.{rest_static}
-use Rattle.brush.proofs.LendLemmas.{art-lent, lent_lump}
-use Rattle.masked_draw.proofs.PictureLemmas.{fit-columns, picture-painted}
+-- The strip of the sprite is painted.
+use Rattle.picture_rules.proofs.Common.{◌<◌, ◌∙◌, ap, length, refl, subst, sym}
+use Rattle.brush.specs.{Pictures.ArePictureColumns, Strips.PictureStripValue, Strips.picture_dots}
+use Rattle.texture_build.proofs.PaintLemmas.{paints-same, paints-wider}
+use Rattle.masked_draw.specs.Rules.{ViewShape}
+use Rattle.masked_draw.specs.Scenes.{scene_art, scene_tools}
+use Rattle.masked_draw.specs.Strips.{sprite_strip}
+use Rattle.masked_draw.proofs.SpriteLemmas.{HasTaken, strip-columns, strip-sprite}
 use Rattle.masked_draw.proofs.sprites.paint_sprite.Goals as goal
 
-pub returns-in_err-fetch-clause-paints : goal.returns-in_err-fetch-clause-paints
-returns-in_err-fetch-clause-paints g c =
-    paints-missed _ _ _ _ _ c.in_err-fetch.was c.from_residual.ensures.1 (draws-fetch c.args.entry.now.lump c.requires.lump c.fetch.ensures.fetches)
+pub paint_picture-requires-clause-lump : goal.paint_picture-requires-clause-lump
+unfolding sprite_strip
+paint_picture-requires-clause-lump g c =
+    subst (λ (s : PictureStripValue). s.lump < length c.args.scene.now.dir.now.lumps) (sym c.sprite_strip-strip.ensures.value) c.requires.lump
 
--- what is live is lent
-pub returns-in_default-clause-paints : goal.returns-in_default-clause-paints
-returns-in_default-clause-paints g c =
-    paints-live tt (draws-fetch c.args.entry.now.lump c.requires.lump c.in_ok-fetch.ensures.fetches)
-    (λ view contents count q hold is. art-lent _ _ c.lend_art.result hold.rest c.in_ok-fetch.ensures.live c.in_default.is c.lend_art.ensures.live)
-    (λ view contents count q hold is. art-lent _ _ c.lend_art.result hold.rest c.in_ok-fetch.ensures.live c.in_default.is c.lend_art.ensures.live)
-    (search rules) refl refl
+pub paint_picture-requires-clause-columns : goal.paint_picture-requires-clause-columns
+paint_picture-requires-clause-columns g c =
+    let scene = c.args.scene.now in
+    let strip = c.sprite_strip-strip.result in
+    let taken : HasTaken c.args.clips.now c.args.first c.args.last strip.tops.now strip.bottoms.now = record { top = c.sprite_strip-strip.ensures.tops; bottom = c.sprite_strip-strip.ensures.bottoms } in
+    subst (ArePictureColumns (g.C.Canvas.view c.args.hands.now.canvas.now))
+    (sym (c.sprite_strip-strip.ensures.value ∙ ap (λ (shape : ViewShape). sprite_strip shape c.args.entry.now c.args.first c.args.last strip.tops.now strip.bottoms.now) c.shape.ensures.value))
+    (strip-columns scene.view.now.shape c.args.entry.now c.args.clips.now (g.C.Canvas.view c.args.hands.now.canvas.now) c.args.first c.args.last strip.tops.now strip.bottoms.now
+    c.requires.ordered c.requires.within c.requires.ready.placed taken c.requires.rows)
 
 pub returns-clause-paints : goal.returns-clause-paints
-unfolding lump_source
-returns-clause-paints g c =
+unfolding sprite_strip
+returns-clause-paints g c = λ ds rows.
     let scene = c.args.scene.now in
     let entry = c.args.entry.now in
-    let lent = c.in-Some.ensures in
-    paints-live tt (draws-fetch entry.lump c.requires.lump c.in_ok-fetch.ensures.fetches)
-    (λ view contents count q hold is.
-    let lump_is_lent = lent_lump contents scene.dir.now.lumps _ entry.lump c.in-Some.art.bytes.now hold.files.faithful c.requires.lump lent.bytes in
-    let shades =
-    lent_lump contents scene.dir.now.lumps _ scene.colormap.0 c.in-Some.art.colormap.now hold.files.faithful c.requires.ready.colormap lent.colormap in
-    picture-painted scene.view.now (lump_bytes contents scene.dir.now.lumps) scene.textures.now scene.colormap.0 c.args.clips.now entry c.args.first c.args.last c.shape-shape.result _ _ _ _ _
-    c.requires.begins c.requires.ends c.requires.ordered c.shape-shape.ensures.value lump_is_lent shades c.begin.ensures c.paint_columns.ensures)
-    (λ view contents count q hold is.
-    fit-columns scene.dir.now.lumps scene.textures.now scene.colormap.0 count _ scene.view.now (lump_bytes contents scene.dir.now.lumps) c.args.clips.now entry c.args.first c.args.last c.requires.begins c.requires.ends c.requires.ordered
-    (fits-lump hold SPRITE entry.number entry.lump c.in-Some.art.bytes.now c.requires.lump (sym lent.bytes) (λ apart. lent.fits scene.colormap.0 count (rest_static hold.rest) apart)))
-    (search rules) refl refl
+    let strip = c.sprite_strip-strip.result in
+    let taken : HasTaken c.args.clips.now c.args.first c.args.last strip.tops.now strip.bottoms.now = record { top = c.sprite_strip-strip.ensures.tops; bottom = c.sprite_strip-strip.ensures.bottoms } in
+    let value = c.sprite_strip-strip.ensures.value ∙ ap (λ (shape : ViewShape). sprite_strip shape entry c.args.first c.args.last strip.tops.now strip.bottoms.now) c.shape.ensures.value in
+    paints-same _ (λ contents q is. ap (picture_dots (scene_art contents scene)) value
+    ∙ strip-sprite scene (scene_art contents scene) ds entry c.args.clips.now c.args.first c.args.last strip.tops.now strip.bottoms.now c.requires.begins c.requires.ends c.requires.ordered taken rows)
+    (paints-wider (λ n own k. k) (λ lump h. h ∙ ap (λ (s : PictureStripValue). s.lump) value) (c.paint_picture.ensures (scene_tools scene) refl refl))
