@@ -103,6 +103,19 @@ class Pages(unittest.TestCase):
                         place = '/'.join(it for it in ('crates', crate, kind, folder, f'{file}.{ending}') if it)
                         self.assertTrue(os.path.exists(os.path.join(TOP, place)), f'{question}: {place}')
 
+    def test_excerpts(self):
+        """Each excerpt of code is in the file that is linked last before it; a line of two dots leaves something out."""
+        count = 0
+        for page in pages():
+            text = read(page)
+            for block in re.finditer(r'^```(?:antt|rust)\n(.*?)^```', text, re.M | re.S):
+                place = re.findall(r'\]\(\.\./(crates/[^)]+\.(?:antt|rt))\)', text[:block.start()])[-1]
+                whole = ' '.join(read(place).split())
+                for part in re.split(r'^\.\.$', block[1], flags=re.M):
+                    self.assertIn(' '.join(part.split()), whole, f'{page}: {place}')
+                    count += 1
+        self.assertGreater(count, 15)
+
     def test_refusals(self):
         """REFUSALS has each code of the code, and no other, each with the variant in the file that it names."""
         text = read('crates/refusals/src/codes.rt')
