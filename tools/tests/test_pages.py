@@ -116,12 +116,13 @@ class Pages(unittest.TestCase):
                         self.assertTrue(os.path.exists(os.path.join(TOP, place)), f'{question}: {place}')
 
     def test_excerpts(self):
-        """Each excerpt of code is in the file that is linked last before it; a line of two dots leaves something out."""
+        """Each excerpt of code is in the file that is named last before it; a line of two dots leaves something out."""
         count = 0
         for page in pages():
             text = read(page)
             for block in re.finditer(r'^```(?:antt|rust)\n(.*?)^```', text, re.M | re.S):
-                place = re.findall(r'\]\(\.\./(crates/[^)]+\.(?:antt|rt))\)', text[:block.start()])[-1]
+                named = re.findall(r'\]\(\.\./(crates/[^)]+\.(?:antt|rt))\)|`([a-z_]+/proofs/[^`]+)`', text[:block.start()])[-1]
+                place = named[0] or f'crates/{named[1]}.antt'
                 whole = ' '.join(read(place).split())
                 for part in re.split(r'^\.\.$', block[1], flags=re.M):
                     self.assertIn(' '.join(part.split()), whole, f'{page}: {place}')
@@ -248,7 +249,7 @@ class Tables(Tools):
 
     PAGES = ['README.md', 'docs/JOBS.md', 'docs/TOOLS.md', 'docs/PORT.md', 'docs/ARCHITECTURE.md', 'docs/MAP.md',
              'docs/WHERE.md', 'docs/doomview.1']
-    MADE = '<!-- made by tools/page_tables from here on -->'
+    MADE = '`tools/page_tables --write` makes the tables below.'
 
     def runs(self, top, *words):
         status, output, error = self.run_command(os.path.join(top, 'tools', 'page_tables'), *words)
