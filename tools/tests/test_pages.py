@@ -87,11 +87,23 @@ class Pages(unittest.TestCase):
         """MAP names each edit, and no other."""
         there = sorted(os.path.basename(path)[:-len('.edit')]
                        for path in glob.glob(os.path.join(TOP, 'crates', '*', 'must-fail', '*.edit')))
-        named = re.findall(r'\b[a-z0-9]+(?:_[a-z0-9]+)+\b', read('docs/MAP.md'))
-        self.assertEqual([edit for edit in there if edit not in named], [], 'MAP does not name these')
-        told = {edit for *_, cell in rows('docs/MAP.md', '| Original | Rule | Call | Edits |')
-                for edit in cell.split(', ')}
-        self.assertEqual([edit for edit in told if re.fullmatch('[a-z0-9_]+', edit) and edit not in there], [])
+        named = [edit for _, cell in rows('docs/MAP.md', '| File | Function, and its edits |')
+                 for names in re.findall(r'`: ([a-z0-9_, ]+)', cell) for edit in names.split(', ')]
+        self.assertEqual(sorted(named), there)
+
+    def test_ways(self):
+        """Each call of the ways that ARCHITECTURE shows is in the file that it names."""
+        count = 0
+        for head, at in (('| Step | Call | What it does |', 1), ('| What | Leaves | Goes on by |', 2)):
+            for cells in rows('docs/ARCHITECTURE.md', head):
+                for word, place in pointers(cells[at], 'src'):
+                    self.has(word, place, cells[0])
+                    count += 1
+        self.assertGreater(count, 50)
+
+    def test_long_lines(self):
+        """No line of ARCHITECTURE has over 400 characters."""
+        self.assertEqual([line for line in read('docs/ARCHITECTURE.md').splitlines() if len(line) > 400], [])
 
     def test_rendering(self):
         for question, rule, code, _ in rows('docs/RENDERING.md', '| Question | Rules | Code |'):
@@ -102,6 +114,20 @@ class Pages(unittest.TestCase):
                     for file in files.split(', '):
                         place = '/'.join(it for it in ('crates', crate, kind, folder, f'{file}.{ending}') if it)
                         self.assertTrue(os.path.exists(os.path.join(TOP, place)), f'{question}: {place}')
+
+    def test_excerpts(self):
+        """Each excerpt of code is in the file that is named last before it; a line of two dots leaves something out."""
+        count = 0
+        for page in pages():
+            text = read(page)
+            for block in re.finditer(r'^```(?:antt|rust)\n(.*?)^```', text, re.M | re.S):
+                named = re.findall(r'\]\(\.\./(crates/[^)]+\.(?:antt|rt))\)|`([a-z_]+/proofs/[^`]+)`', text[:block.start()])[-1]
+                place = named[0] or f'crates/{named[1]}.antt'
+                whole = ' '.join(read(place).split())
+                for part in re.split(r'^\.\.$', block[1], flags=re.M):
+                    self.assertIn(' '.join(part.split()), whole, f'{page}: {place}')
+                    count += 1
+        self.assertGreater(count, 15)
 
     def test_refusals(self):
         """REFUSALS has each code of the code, and no other, each with the variant in the file that it names."""
@@ -219,9 +245,11 @@ class Pages(unittest.TestCase):
 
 
 class Tables(Tools):
-    """page_tables: the tables that are made of the data of jobs, options, statuses and tools."""
+    """page_tables: the tables that are made of the data of jobs, options, statuses and tools, and of the sources."""
 
-    PAGES = ['README.md', 'docs/JOBS.md', 'docs/TOOLS.md', 'docs/PORT.md', 'docs/doomview.1']
+    PAGES = ['README.md', 'docs/JOBS.md', 'docs/TOOLS.md', 'docs/PORT.md', 'docs/ARCHITECTURE.md', 'docs/MAP.md',
+             'docs/WHERE.md', 'docs/doomview.1']
+    MADE = '`tools/page_tables --write` makes the tables below.'
 
     def runs(self, top, *words):
         status, output, error = self.run_command(os.path.join(top, 'tools', 'page_tables'), *words)
@@ -233,8 +261,30 @@ class Tables(Tools):
 
     def clone_with_pages(self):
         self.clone()
-        for page in self.PAGES:
+        shutil.copytree(os.path.join(TOP, 'crates'), self.at('clone/crates'), dirs_exist_ok=True,
+                        ignore=shutil.ignore_patterns('out', 'proofs'))
+        for page in ['crates.txt', *self.PAGES]:
             shutil.copy(os.path.join(TOP, page), self.at('clone', page))
+
+    def test_sources(self):
+        """A crate that says something else of itself, a new name of the original and a rule that moved change the tables."""
+        changes = [('plane_draw/src/lib.rt', 'floors and ceilings by their flats', 'by their flats', 'docs/ARCHITECTURE.md'),
+                   ('plane_draw/src/planes.rt', 'The original: `R_DrawPlanes`, r', 'The original: `R_Draw`, r', 'docs/MAP.md'),
+                   ('level_rules/specs/walk/Boxes.antt', 'unfoldable pub box_passes :', 'unfoldable pub passes_box :', '')]
+        self.clone_with_pages()
+        self.assertEqual(self.runs(self.at('clone')), (0, '', ''))
+        for file, old, new, page in changes:
+            place = self.at('clone/crates', file)
+            with open(place, encoding='utf-8') as source:
+                text = source.read()
+            self.assertIn(old, text)
+            self.write(f'clone/crates/{file}', text.replace(old, new).encode())
+            status, output, error = self.runs(self.at('clone'))
+            self.assertEqual(status, 1 if page else 2)
+            self.assertTrue(output.startswith(f'{page}, under ') if page else 'has no rule box_passes' in error, output + error)
+            if page:
+                self.runs(self.at('clone'), '--write')
+                self.assertEqual(self.runs(self.at('clone')), (0, '', ''))
 
     def test_damaged(self):
         """A word that differs is named by its page and its table, in each of them, and --write mends it."""
@@ -246,6 +296,9 @@ class Tables(Tools):
                    ('docs/JOBS.md', '| Status | Line on standard error | When |', 'memory ran out'),
                    ('docs/TOOLS.md', '| Tool | What it does | Needs |', 'ffmpeg (package'),
                    ('docs/PORT.md', '| Name | What differs | In the original | What to look at |', 'the last pixel of columns'),
+                   ('docs/ARCHITECTURE.md', '| Crate | What it is | The original |', 'drawn column by column'),
+                   ('docs/MAP.md', self.MADE, '`R_ClipPassWallSegment`'),
+                   ('docs/WHERE.md', self.MADE, 'Who pins COLORMAP?'),
                    ('docs/doomview.1', '.SH JOBS', 'Draws a frame for each row'),
                    ('docs/doomview.1', '.SH TOOLS', 'what would save most'),
                    ('docs/doomview.1', '.BR \\-\\-zone=65536 .', '128 to 1024'),
