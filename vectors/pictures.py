@@ -1,7 +1,7 @@
 """Pictures that ports write, PNG, PCX and PPM, as pixels: for `check` beside it, and for the tools of doomview.
 
 `read(path)` gives the picture of a file, `of_ppm(data)` that of a PPM; a Refused says what is wrong with one. Needs
-Python 3 alone."""
+Python 3.9 alone."""
 import collections
 import operator
 import os

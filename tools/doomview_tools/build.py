@@ -67,7 +67,7 @@ class Build:
 
     def __init__(self) -> None:
         self.began = self.told = time.time()
-        self.stops: typing.List[int] = []
+        self.stops: list[int] = []
 
     def tell(self) -> None:
         """Says once a minute how long the build has been going."""

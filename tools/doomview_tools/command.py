@@ -5,6 +5,7 @@ import signal
 import sys
 import types
 import typing
+from collections.abc import Iterable, Sequence
 
 from . import cli, explanations, home, jobs, notes, paths, program, system
 from .files import write_output
@@ -42,7 +43,7 @@ def tool(name: str) -> types.ModuleType:
     return importlib.import_module('.commands.' + name.replace('-', '_'), __package__)
 
 
-def table(lines: typing.Iterable[typing.Tuple[str, str]]) -> str:
+def table(lines: Iterable[tuple[str, str]]) -> str:
     return '\n'.join(f'  {left:18} {right}' for left, right in lines)
 
 
@@ -59,7 +60,7 @@ def version() -> str:
     return f'doomview {known["version"]}\nlogic {known["logic"]}'
 
 
-def run_job(words: typing.List[str]) -> int:
+def run_job(words: list[str]) -> int:
     """Runs a job, and says why where it fails; or hands words to the program that are none of this command's. For words
     that are no job nothing is built, since the program's answer is known."""
     plain = [word for word in words if word != jobs.PLACES]
@@ -77,13 +78,13 @@ def run_job(words: typing.List[str]) -> int:
     return jobs.NO_SUCH_WORD if done.status == jobs.USAGE and not is_job else done.status
 
 
-def warn(words: typing.List[str]) -> None:
+def warn(words: list[str]) -> None:
     """Says what will be accepted, and may be a mistake."""
     for sentence in notes.of_words(jobs.Words(program.complete(words))):
         print(f'doomview: warning: {sentence}', file=sys.stderr, flush=True)
 
 
-def say_why(done: program.Run, words: typing.List[str], is_job: bool = True) -> None:
+def say_why(done: program.Run, words: list[str], is_job: bool = True) -> None:
     """Says why a run failed, by the line that it ended with."""
     if is_job:
         explanations.tell(done.line, words, explanations.on_line)
@@ -91,14 +92,14 @@ def say_why(done: program.Run, words: typing.List[str], is_job: bool = True) -> 
         print(f'explain: {no_such(words)}', file=sys.stderr)
 
 
-def no_such(words: typing.Sequence[str]) -> str:
+def no_such(words: Sequence[str]) -> str:
     """The sentence on words of which the first is no job and no tool."""
     first = jobs.Words(words).job or words[0]
     near = jobs.guess(first, [*jobs.JOBS, *TOOLS])
     return f'there is no job or tool {first}{near or "; doomview --help has them all"}'
 
 
-def limits_with_places(words: typing.List[str]) -> int:
+def limits_with_places(words: list[str]) -> int:
     """Prints what the job limits does, and behind each line where the view is; its status."""
     given = jobs.Words(words)
     program.check_output(words)
@@ -126,13 +127,13 @@ def stop(number: int, _: typing.Optional[types.FrameType]) -> typing.NoReturn:
     raise SystemExit(128 + number)
 
 
-def usage(words: typing.Sequence[str] = ()) -> int:
+def usage(words: Sequence[str] = ()) -> int:
     """What the program says of words that are no job, and what would be some."""
     print('doomview: usage', overview(), *([f'explain: {no_such(words)}'] if words else []), sep='\n', file=sys.stderr)
     return jobs.NO_SUCH_WORD
 
 
-def help_of(words: typing.List[str]) -> int:
+def help_of(words: list[str]) -> int:
     """Prints the page of a job or a tool, or of the command; the status."""
     if not words:
         print(overview())
@@ -145,7 +146,7 @@ def help_of(words: typing.List[str]) -> int:
     return 0
 
 
-def main(words: typing.List[str]) -> int:
+def main(words: list[str]) -> int:
     """Runs the command; its status."""
     for number in system.signals('SIGTERM', 'SIGHUP'):
         signal.signal(number, stop)
@@ -166,7 +167,7 @@ def main(words: typing.List[str]) -> int:
         return TROUBLE
 
 
-def answer(words: typing.List[str]) -> int:
+def answer(words: list[str]) -> int:
     """What the command does with its words; its status."""
     if not words:
         return usage()

@@ -7,6 +7,7 @@ import functools
 import itertools
 import signal
 import typing
+from collections.abc import Callable, Iterator, Sequence
 
 from . import (cli, diagnoses, differences, frame_files, lights, lists, setup_trials, shares, silhouettes, system, traces,
                vectors, wads)
@@ -16,8 +17,8 @@ from .trouble import Trouble
 
 MANY_VIEWS, PART = 200, 50  # views for which several processes are worth their start, and the views of a task
 MOST_PAINTERS = 5  # that are named because they differ in every view
-Both = typing.Tuple[bytes, bytes]  # doomview's frame of a view, and the port's
-PlaceOf = typing.Callable[[traces.Painter, int], str]
+Both = tuple[bytes, bytes]  # doomview's frame of a view, and the port's
+PlaceOf = Callable[[traces.Painter, int], str]
 Result = typing.TypeVar('Result')
 
 
@@ -39,7 +40,7 @@ class Found(typing.NamedTuple):
     known: str
 
 
-def kinds_of(options: argparse.Namespace) -> typing.Optional[typing.Set[int]]:
+def kinds_of(options: argparse.Namespace) -> typing.Optional[set[int]]:
     """The kinds of painters whose pixels count, or None for all."""
     if options.least_width > 1 and not options.list:
         raise Trouble('--least-width needs the list of the same words; name it by --list FILE')
@@ -53,7 +54,7 @@ def kinds_of(options: argparse.Namespace) -> typing.Optional[typing.Set[int]]:
     return named if options.only else {*traces.KINDS} - named
 
 
-def run_of(options: argparse.Namespace, files: typing.List[str], count: int) -> typing.Optional[setup_trials.Run]:
+def run_of(options: argparse.Namespace, files: list[str], count: int) -> typing.Optional[setup_trials.Run]:
     """How our side was drawn, where the path is named; a Trouble where other words of the run are missing."""
     words = cli.job_words(options)
     if not options.path:
@@ -98,7 +99,7 @@ class Files:
         mask = traces.mask(records, self.kinds, self.left_out(number)) if self.kinds else b''
         return View(number, ours, port, records, mask)
 
-    def left_out(self, number: int) -> typing.Set[int]:
+    def left_out(self, number: int) -> set[int]:
         """The numbers of a view's sprites that do not count."""
         least = self.options.least_width
         return lists.narrow(self.placing.view(number), least) if self.placing and least > 1 else set()
@@ -116,14 +117,14 @@ class Files:
         """What is known of the port's frame of a view, by the vectors."""
         return vectors.rule_of(self.known[view.number], view.ours, view.port) if view.number < len(self.known) else ''
 
-    def lines(self, found: Found) -> typing.List[str]:
+    def lines(self, found: Found) -> list[str]:
         """What is said of a view that differs."""
         view = self.view(found.view)
         marks = differences.marks_of(view.ours, view.port, view.mask)
         line = line_of(view, marks, found)
         return [line, *(self.of_painters(view, marks) if view.records else [])]
 
-    def entry(self, found: Found) -> typing.Dict[str, typing.Any]:
+    def entry(self, found: Found) -> dict[str, typing.Any]:
         """What is found of a view that differs, for other programs."""
         view = self.view(found.view)
         marks = differences.marks_of(view.ours, view.port, view.mask)
@@ -135,12 +136,12 @@ class Files:
                                                     'port': view.port[WIDTH * row + column]},
                 'painters': [self.painter_entry(painter, numbers) for painter, numbers in pixels.items()]}
 
-    def painter_entry(self, painter: traces.Painter, numbers: typing.Counter[int]) -> typing.Dict[str, typing.Any]:
+    def painter_entry(self, painter: traces.Painter, numbers: collections.Counter[int]) -> dict[str, typing.Any]:
         kind = traces.KINDS.get(painter.kind, ('nothing', ''))[0]
         return {'kind': kind, 'name': self.names.source_of(painter).name, 'pixels': sum(numbers.values()),
                 'numbers': sorted(numbers)}
 
-    def of_painters(self, view: View, marks: bytes) -> typing.Iterator[str]:
+    def of_painters(self, view: View, marks: bytes) -> Iterator[str]:
         """Lines on what doomview painted where a view differs, on what differs beside sprites, and on what differs by its
         light alone."""
         pixels = traces.pixels_of(view.records, marks)
@@ -149,7 +150,7 @@ class Files:
             words = ' and '.join(traces.KINDS[kind][0] for kind in sorted({other.kind for other in others}))
             count = sum(sum(numbers.values()) for numbers in others.values())
             yield f'  sprite   {self.names.source(painter):9} {count:6}  more beside it, of {words}: another picture, or moved'
-        known: typing.List[typing.Any] = []
+        known: list[typing.Any] = []
         if self.placing:
             known = [functools.partial(of, self.placing.view(view.number))
                      for of in (self.placing.places.light, self.placing.places.is_bright)]
@@ -170,8 +171,8 @@ class Summary:
 
     def __init__(self) -> None:
         self.everywhere, self.shares = diagnoses.Everywhere(), shares.Shares()
-        self.painters: typing.Dict[traces.Painter, typing.Counter[str]] = collections.defaultdict(collections.Counter)
-        self.found: typing.List[Found] = []
+        self.painters: dict[traces.Painter, collections.Counter[str]] = collections.defaultdict(collections.Counter)
+        self.found: list[Found] = []
         self.counted = self.far = 0  # pixels that count; views of which more than half differ
 
     def add(self, files: Files, number: int) -> None:
@@ -223,7 +224,7 @@ class Summary:
     def pixels(self) -> int:
         return self.everywhere.pixels
 
-    def of_every_view(self, names: traces.Names) -> typing.Iterator[str]:
+    def of_every_view(self, names: traces.Names) -> Iterator[str]:
         """Lines on the painters that differ in every view."""
         whole = len(self.found)
         found = [pair for pair in self.painters.items() if pair[1]['views'] == whole] if whole > 1 else []
@@ -233,7 +234,7 @@ class Summary:
 
 
 # What a process of several has: the files of its own.
-own_files: typing.List[Files] = []
+own_files: list[Files] = []
 
 
 def begin(options: argparse.Namespace) -> None:
@@ -242,7 +243,7 @@ def begin(options: argparse.Namespace) -> None:
     own_files.append(Files(options))
 
 
-def summary_of(files: Files, views: typing.Sequence[int]) -> Summary:
+def summary_of(files: Files, views: Sequence[int]) -> Summary:
     """What is found of some views."""
     summary = Summary()
     for number in views:
@@ -250,17 +251,17 @@ def summary_of(files: Files, views: typing.Sequence[int]) -> Summary:
     return summary
 
 
-def lines_of(files: Files, found: typing.Sequence[Found]) -> typing.List[typing.List[str]]:
+def lines_of(files: Files, found: Sequence[Found]) -> list[list[str]]:
     """What is said of some views that differ."""
     return [files.lines(view) for view in found]
 
 
-def entries_of(files: Files, found: typing.Sequence[Found]) -> typing.List[typing.Dict[str, typing.Any]]:
+def entries_of(files: Files, found: Sequence[Found]) -> list[dict[str, typing.Any]]:
     """What is found of some views that differ, for other programs."""
     return [files.entry(view) for view in found]
 
 
-Task = typing.Callable[[Files, typing.Any], Result]
+Task = Callable[[Files, typing.Any], Result]
 
 
 def by_own_files(task: Task, part: typing.Any) -> typing.Any:
@@ -285,11 +286,11 @@ class Tasks:
         if self.pool:
             self.pool.shutdown(cancel_futures=kind is not None)
 
-    def run(self, task: typing.Callable[[Files, typing.Any], Result], items: typing.Sequence[typing.Any],
-            is_shown: bool = True) -> typing.Iterator[Result]:
+    def run(self, task: Callable[[Files, typing.Any], Result], items: Sequence[typing.Any],
+            is_shown: bool = True) -> Iterator[Result]:
         """What a task gives for each part of some items, in their order."""
         parts = [items[at:at + PART] for at in range(0, len(items), PART)]
-        tasks: typing.Iterator[Result] = self.pool.map(by_own_files, itertools.repeat(task), parts) if self.pool else \
+        tasks: Iterator[Result] = self.pool.map(by_own_files, itertools.repeat(task), parts) if self.pool else \
             (task(self.files, part) for part in parts)
         with Progress(len(items), 'views') as progress:
             for part, done in zip(parts, tasks):

@@ -1,5 +1,5 @@
 """Completions for bash, made of the words of the jobs and tools, so that each option is there and no other."""
-import typing
+from collections.abc import Iterator
 
 from . import cli, command, jobs
 
@@ -28,13 +28,13 @@ complete -o bashdefault -o default -F _doomview doomview
 '''
 
 
-def names() -> typing.List[str]:
+def names() -> list[str]:
     """All first words: jobs, tools, and the options of the command itself."""
     own = [option.name for option in jobs.OWN_OPTIONS if not option.jobs]
     return [*jobs.JOBS, *command.TOOLS, 'help', *own]
 
 
-def options_of(name: str) -> typing.List[str]:
+def options_of(name: str) -> list[str]:
     """The options of a job or a tool."""
     if name in jobs.JOBS:
         own = [option.name for option in jobs.OWN_OPTIONS if option.jobs in ('all', name)]
@@ -42,14 +42,14 @@ def options_of(name: str) -> typing.List[str]:
     return [option for argument in cli.parser_of(command.tool(name)).arguments for option in argument.names]
 
 
-def values_of(option: jobs.Option) -> typing.List[str]:
+def values_of(option: jobs.Option) -> list[str]:
     """The values of an option of the program, where they are few."""
     if option.least is not None and option.greatest is not None and option.greatest - option.least < MOST_VALUES:
         return [str(value) for value in range(option.least, option.greatest + 1)]
     return jobs.CHOICES.get(option.name, [])
 
 
-def values() -> typing.Iterator[typing.Tuple[typing.List[str], typing.List[str]]]:
+def values() -> Iterator[tuple[list[str], list[str]]]:
     """Pairs of a name with a word before, of which there may be several, and the words that may follow."""
     everything = [*jobs.JOBS, *command.TOOLS]
     yield ['help help', 'explain explain'], everything

@@ -5,6 +5,7 @@ import difflib
 import functools
 import re
 import typing
+from collections.abc import Iterable
 
 from . import home, system, wads
 from .trouble import Trouble
@@ -24,7 +25,7 @@ class Option(typing.NamedTuple):
 
     name: str
     value: str
-    jobs: typing.List[str]
+    jobs: list[str]
     is_needed: bool
     least: typing.Optional[int]
     greatest: typing.Optional[int]
@@ -46,7 +47,7 @@ class Job(typing.NamedTuple):
     """A job of the proved program: its words with what each is, and the parts of its page."""
 
     name: str
-    words: typing.List[typing.Tuple[str, str]]
+    words: list[tuple[str, str]]
     summary: str
     is_binary: bool
     text: str
@@ -185,7 +186,7 @@ OWN_OPTIONS = [
 
 
 @functools.lru_cache(maxsize=None)
-def options() -> typing.Dict[str, Option]:
+def options() -> dict[str, Option]:
     """The options by name, in their order."""
     path = home.data('options.csv')
 
@@ -208,17 +209,17 @@ def damage_of(path: str) -> Trouble:
     return Trouble(f'{path} is missing or damaged; take the whole folder of doomview anew')
 
 
-def options_of(job: str) -> typing.List[Option]:
+def options_of(job: str) -> list[Option]:
     """The options that a job takes."""
     return [option for option in options().values() if job in option.jobs]
 
 
-def needed_options() -> typing.List[str]:
+def needed_options() -> list[str]:
     """The names of the options that a job over a level needs."""
     return [option.name for option in options().values() if option.is_needed]
 
 
-def take_output(words: typing.List[str]) -> typing.Tuple[typing.List[str], typing.Optional[str]]:
+def take_output(words: list[str]) -> tuple[list[str], typing.Optional[str]]:
     """The words without `-o FILE`, and FILE or None."""
     end = words.index('--') if '--' in words else len(words)
     at = [place for place, word in enumerate(words[:end]) if word == OUTPUT]
@@ -234,11 +235,11 @@ class Words:
     and the file `output` that `-o` names, which is none of the program's `words`. As the program does it takes
     `--zone 64` and `--zone=64`, and all behind `--` as plain words."""
 
-    def __init__(self, words: typing.Iterable[str]):
+    def __init__(self, words: Iterable[str]):
         self.words, self.output = take_output(list(words)) if {*words} & {*JOBS} else (list(words), None)
-        self.plain: typing.List[str] = []
-        self.places: typing.List[int] = []
-        self.given: typing.Dict[str, typing.List[typing.Optional[str]]] = {}
+        self.plain: list[str] = []
+        self.places: list[int] = []
+        self.given: dict[str, list[typing.Optional[str]]] = {}
         words, at, are_plain = self.words, 0, False
         while at < len(words):
             word = words[at]
@@ -262,11 +263,11 @@ class Words:
         return self.plain[1] if self.job in LEVEL_JOBS and len(self.plain) > 1 else ''
 
     @property
-    def wads(self) -> typing.List[str]:
+    def wads(self) -> list[str]:
         return self.plain[2:] if self.job in LEVEL_JOBS or self.job == 'flat' else []
 
     @property
-    def files(self) -> typing.List[str]:
+    def files(self) -> list[str]:
         """The files that a call reads: those of its options, and its WADs."""
         named = [self.value(name) for name in (*needed_options(), '--weapon')]
         return [name for name in named if name] + self.wads
@@ -281,7 +282,7 @@ class Words:
         """The first value of an option, or None."""
         return self.given.get(name, [None])[0]
 
-    def with_wads_found(self) -> typing.List[str]:
+    def with_wads_found(self) -> list[str]:
         """The words, each WAD by its path where ports find it; a name that is found nowhere stays as it is."""
         words = list(self.words)
         for place in self.places[2:] if self.wads else []:
@@ -289,7 +290,7 @@ class Words:
         return words
 
 
-def guess(word: str, known: typing.Iterable[str]) -> str:
+def guess(word: str, known: Iterable[str]) -> str:
     """What may be meant by a word that is not known, as the end of a sentence, or an empty text."""
     near = difflib.get_close_matches(word, list(known), 1, LIKENESS)
     return f'; did you mean {near[0]}?' if near else ''
@@ -301,7 +302,7 @@ def is_wad(word: str) -> bool:
     return not is_map and (word.lower().endswith('.wad') or system.has_folder(word) or wads.find_or_none(word) is not None)
 
 
-def in_order(words: typing.List[str]) -> typing.List[str]:
+def in_order(words: list[str]) -> list[str]:
     """The words of a job with the map, or the flat, before the WADs, where it stands behind one and the words tell."""
     given = Words(words)
     others = [word for word in given.plain[1:] if not is_wad(word)]
@@ -314,7 +315,7 @@ def in_order(words: typing.List[str]) -> typing.List[str]:
     return own if given.output is None else [OUTPUT, given.output, *own]
 
 
-def wrong_option(job: str, name: str, values: typing.List[typing.Optional[str]]) -> typing.Optional[str]:
+def wrong_option(job: str, name: str, values: list[typing.Optional[str]]) -> typing.Optional[str]:
     """What is wrong with an option of a job, or None."""
     known = [option.name for option in options_of(job)]
     if job in JOBS and name not in known:
@@ -341,7 +342,7 @@ def wrong_value(option: Option, value: str) -> typing.Optional[str]:
     return None
 
 
-def wrong_words(words: Words) -> typing.List[str]:
+def wrong_words(words: Words) -> list[str]:
     """Sentences on what is wrong with the words of a call, as far as it can be told."""
     tried = (wrong_option(words.job, name, values) for name, values in words.given.items())
     found = [sentence for sentence in tried if sentence]
@@ -350,7 +351,7 @@ def wrong_words(words: Words) -> typing.List[str]:
     return found + (wrong_level(words) if words.job in LEVEL_JOBS else [])
 
 
-def wrong_level(words: Words) -> typing.List[str]:
+def wrong_level(words: Words) -> list[str]:
     """The same of a job over a level."""
     job, count = words.job, len(words.plain)
     near = {guess(name, needed_options()) for name in words.given if name not in options()}

@@ -8,6 +8,7 @@ import csv
 import functools
 import re
 import typing
+from collections.abc import Sequence
 
 from . import home, levels, wads
 from .doom import FRONT_AND_BACK, SKY, TWO_SIDED
@@ -64,11 +65,11 @@ class Sums(typing.NamedTuple):
 class View(typing.NamedTuple):
     """What a view is made of. One over a limit has the name and the number of that, and nothing else."""
 
-    fragments: typing.List[Fragment]
-    planes: typing.List[Plane]
-    sprites: typing.List[Sprite]
+    fragments: list[Fragment]
+    planes: list[Plane]
+    sprites: list[Sprite]
     sums: typing.Optional[Sums]
-    over: typing.Optional[typing.Tuple[str, int]]
+    over: typing.Optional[tuple[str, int]]
 
 
 class Key(typing.NamedTuple):
@@ -84,7 +85,7 @@ class Group(typing.NamedTuple):
 
     key: Key
     sides: str
-    sectors: typing.List[int]
+    sectors: list[int]
 
 
 class Position(typing.NamedTuple):
@@ -97,8 +98,8 @@ class Position(typing.NamedTuple):
 
 
 Item = typing.TypeVar('Item', Fragment, Plane, Sprite)
-Items = typing.Dict[str, typing.List[typing.Any]]  # of a view, by their kinds
-Sides = typing.Set[str]  # floor, ceiling
+Items = dict[str, list[typing.Any]]  # of a view, by their kinds
+Sides = set[str]  # floor, ceiling
 
 # The name of the group that a line has is the kind of the line.
 LINE = re.compile(r'view (\d+) (?:'
@@ -111,7 +112,7 @@ LINE = re.compile(r'view (\d+) (?:'
 ITEMS = ['fragment', 'plane', 'sprite']  # in the order of their lines
 
 
-def item(kind: str, values: typing.Sequence[str]) -> typing.Union[Fragment, Plane, Sprite]:
+def item(kind: str, values: Sequence[str]) -> typing.Union[Fragment, Plane, Sprite]:
     """A fragment, a plane or a sprite by the words of its line."""
     if kind == 'plane':
         height, flat, light, maker, number, columns = values
@@ -125,7 +126,7 @@ class ListFile:
     def __init__(self, path: str) -> None:
         check_source(path)
         self.path, self.line = path, 0
-        self.places: typing.List[typing.Tuple[int, int]] = []  # of the views in the file: bytes and lines before each
+        self.places: list[tuple[int, int]] = []  # of the views in the file: bytes and lines before each
         with open(path, 'rb') as file:
             while True:
                 place = file.tell(), self.line
@@ -177,7 +178,7 @@ class ListFile:
         if number != len(items[kind]) or any(items[later] for later in ITEMS[ITEMS.index(kind) + 1:]):
             raise self.wrong(f'{kind} {number} stands where {kind} {len(items[kind])} or a later item should')
 
-    def whole_view(self, number: int, items: Items, kind: str, values: typing.Sequence[str]) -> View:
+    def whole_view(self, number: int, items: Items, kind: str, values: Sequence[str]) -> View:
         """A view by its last line."""
         fragments, planes, sprites = (items[kind] for kind in ITEMS)
         if kind == 'over':
@@ -190,19 +191,19 @@ class ListFile:
         return View(fragments, planes, sprites, sums, None)
 
 
-def narrow(view: View, least: int) -> typing.Set[int]:
+def narrow(view: View, least: int) -> set[int]:
     """The numbers of a view's sprites that have fewer columns than the least, and are not cut by an edge of the screen."""
     return {number for number, sprite in enumerate(view.sprites)
             if 0 < sprite.first <= sprite.last < WIDTH - 1 and sprite.last - sprite.first + 1 < least}
 
 
-def some_of(words: typing.Sequence[object], most: int) -> str:
+def some_of(words: Sequence[object], most: int) -> str:
     """Words in a row, of which some are shown at most."""
     more = f' and {len(words) - most} more' if len(words) > most else ''
     return ', '.join(map(str, words[:most])) + more
 
 
-def sectors_in_words(sectors: typing.Sequence[int], most: int = SHOWN_SECTORS) -> str:
+def sectors_in_words(sectors: Sequence[int], most: int = SHOWN_SECTORS) -> str:
     return ('sector ' if len(sectors) == 1 else 'sectors ') + some_of(sectors, most)
 
 
@@ -211,14 +212,14 @@ class Places:
 
     def __init__(self, level: Level, names: Names, path: str) -> None:
         self.level, self.names, self.path = level, names, path
-        self.known: typing.Tuple[typing.Optional[View], typing.Dict[Key, str]] = (None, {})  # sides of planes of a view
-        self.having: typing.Dict[str, typing.Dict[Key, typing.List[int]]] = {
+        self.known: tuple[typing.Optional[View], dict[Key, str]] = (None, {})  # sides of planes of a view
+        self.having: dict[str, dict[Key, list[int]]] = {
             'floor': collections.defaultdict(list), 'ceiling': collections.defaultdict(list)}
         for number in range(len(level.sectors)):
             for side, key in self.keys_of(number).items():
                 self.having[side][key].append(number)
 
-    def keys_of(self, number: int) -> typing.Dict[str, Key]:
+    def keys_of(self, number: int) -> dict[str, Key]:
         """The planes of a sector: of its floor and of its ceiling."""
         sector = self.level.sectors[number]
         pairs = {'floor': (sector.floor, sector.floor_flat), 'ceiling': (sector.ceiling, sector.ceiling_flat)}
@@ -231,7 +232,7 @@ class Places:
                        'words')
 
     @functools.cached_property
-    def leaf_of_seg(self) -> typing.Dict[int, int]:
+    def leaf_of_seg(self) -> dict[int, int]:
         return {seg: number for number, leaf in enumerate(self.level.leaves)
                 for seg in range(leaf.first, leaf.first + leaf.count)}
 
@@ -277,7 +278,7 @@ class Places:
             raise self.other(f'{self.level.name} has no leaf with seg {fragment.seg}')
         return self.sector_of_leaf(self.leaf_of_seg[fragment.seg])
 
-    def maker_of(self, view: View, plane: Plane) -> typing.Tuple[int, str]:
+    def maker_of(self, view: View, plane: Plane) -> tuple[int, str]:
         """The sector that made a plane, and how, in words."""
         if plane.maker == 'leaf':
             sector = self.sector_of_leaf(plane.number)
@@ -294,13 +295,13 @@ class Places:
             raise self.other(f'the WADs have no lump {plane.flat}')
         return Key(plane.height / UNIT, self.names.lumps[plane.flat], plane.light)
 
-    def sides_of(self, view: View) -> typing.Dict[Key, str]:
+    def sides_of(self, view: View) -> dict[Key, str]:
         """Of each plane's key whether it is a floor's or a ceiling's, or both in words where nothing tells.
 
         The list does not say it. The sector that made a plane does, unless its floor and ceiling are the same, as of a
         door that is shut; then another plane of the view may, since floors are below the eye and ceilings above it."""
         if self.known[0] is not view:
-            found: typing.Dict[Key, Sides] = collections.defaultdict(set)
+            found: dict[Key, Sides] = collections.defaultdict(set)
             for plane in view.planes:
                 key, sector = self.key_of(plane), self.maker_of(view, plane)[0]
                 sides = {side for side, own in self.keys_of(sector).items() if own == key}
@@ -310,7 +311,7 @@ class Places:
             self.known = view, self.words_of_sides(found)
         return self.known[1]
 
-    def words_of_sides(self, found: typing.Dict[Key, Sides]) -> typing.Dict[Key, str]:
+    def words_of_sides(self, found: dict[Key, Sides]) -> dict[Key, str]:
         """The sides of keys, which are more than one of some, in words."""
         plain = {key: sides for key, sides in found.items() if key.flat != SKY}
         floors = [key.height for key, sides in plain.items() if sides == {'floor'}]
@@ -336,7 +337,7 @@ class Places:
         having = [side for side in self.having if side in sides or sides == 'sky']
         return Group(key, sides, sorted({number for side in having for number in self.having[side][key]}))
 
-    def parts(self, fragment: Fragment, kind: int) -> typing.List[typing.Tuple[str, str]]:
+    def parts(self, fragment: Fragment, kind: int) -> list[tuple[str, str]]:
         """The parts of a wall that a fragment may show: pairs of the part and the name of its texture."""
         seg, side = self.seg(fragment.seg), self.side_of(fragment)
         line = self.level.lines[seg.line]
@@ -372,7 +373,7 @@ class Places:
         return None
 
     @functools.cached_property
-    def bright_types(self) -> typing.Set[int]:
+    def bright_types(self) -> set[int]:
         """The types of things that are full bright in the frame in which they are placed, by the tools' own table."""
         with open(home.data('things.csv'), newline='', encoding='utf-8') as file:
             return {int(row['type']) for row in csv.DictReader(file) if row['bright'] == '1'}
@@ -420,7 +421,7 @@ class Places:
         return Position(f'thing {sprite.thing} of type {thing.type} at {thing.x},{thing.y}',
                         f'lump {self.names.source(painter)}', f'sprite {number}', '')
 
-    def item(self, items: typing.Sequence[Item], word: str, number: int) -> Item:
+    def item(self, items: Sequence[Item], word: str, number: int) -> Item:
         if number >= len(items):
             raise self.other(f'the trace has {word} {number}, and the list has {len(items)} of them in the view')
         return items[number]
@@ -449,7 +450,7 @@ class Places:
 class Placing:
     """The list of a trace, with the map that it is of."""
 
-    def __init__(self, path: str, count: int, files: typing.List[str], name: typing.Optional[str], names: Names,
+    def __init__(self, path: str, count: int, files: list[str], name: typing.Optional[str], names: Names,
                  trace: str) -> None:
         self.list = ListFile(path)
         if self.list.count != count:
@@ -462,7 +463,7 @@ class Placing:
         return self.list.view(number)
 
 
-def only_map(files: typing.List[str]) -> str:
+def only_map(files: list[str]) -> str:
     """The name of the map of some WADs that have one alone."""
     found = wads.map_labels([lump for file in files for lump in wads.read(file)])
     if len(found) != 1:
@@ -477,8 +478,8 @@ def add_words(parser: argparse.ArgumentParser) -> None:
     parser.add_argument('--map', metavar='NAME', help='the map of the list, where the WADs have more than one')
 
 
-def placing_of(options: argparse.Namespace, files: typing.List[str], count: int,
-               names: Names, has_map: bool = False) -> typing.Optional[Placing]:
+def placing_of(options: argparse.Namespace, files: list[str], count: int, names: Names,
+               has_map: bool = False) -> typing.Optional[Placing]:
     """The list that the words of a tool name, or None; its trace has a number of views. Where `has_map` holds a map may be
     named without a list."""
     if not options.list:

@@ -3,7 +3,7 @@ import base64
 import html
 import json
 import re
-import typing
+from collections.abc import Iterable, Sequence
 
 from . import home
 from .frames import HEIGHT, WIDTH
@@ -21,13 +21,13 @@ def json_of(data: object) -> str:
     return json.dumps(data, separators=(',', ':')).replace('</', '<\\/')
 
 
-def columns(rows: typing.Iterable[typing.Sequence[int]]) -> typing.List[list]:
+def columns(rows: Iterable[Sequence[int]]) -> list[list]:
     """Rows of whole numbers as a page has them: of each column the least number, the digits of a number, and the
     digits of all numbers without the least."""
     return [column(numbers) for numbers in zip(*rows)]
 
 
-def column(numbers: typing.Sequence[int]) -> list:
+def column(numbers: Sequence[int]) -> list:
     least, width = min(numbers), 1
     while len(DIGITS) ** width <= max(numbers) - least:
         width += 1

@@ -9,6 +9,7 @@ import shutil
 import subprocess
 import tempfile
 import typing
+from collections.abc import Iterable
 
 from . import home, tables
 from .files import WholeFile, check_outputs, is_terminal, write_whole
@@ -132,7 +133,7 @@ def things_file() -> str:
     return home.data('things.csv')
 
 
-def complete(words: typing.Iterable[str]) -> list[str]:
+def complete(words: Iterable[str]) -> list[str]:
     """The words of a job as the program takes them: WADs found, and the tools' own tables where none are named."""
     given = Words(words)
     if given.job not in LEVEL_JOBS:
@@ -152,7 +153,7 @@ def run_of(status: int, output: typing.Optional[bytes], said: bytes) -> Run:
     return Run(status if status >= 0 else 128 - status, output or b'', last, ''.join(lines))
 
 
-def run(words: typing.Iterable[str], output: Output = None, unproved: bool = False) -> Run:
+def run(words: Iterable[str], output: Output = None, unproved: bool = False) -> Run:
     """Runs the program to its end: its status, its output where `output` is no file for it, the last line of what it
     said, and all of it. `unproved` runs the sources without a proof, by `rt try`, where the program is not built."""
     words = complete(words)
@@ -161,7 +162,7 @@ def run(words: typing.Iterable[str], output: Output = None, unproved: bool = Fal
     return run_of(*call([ready(), *words], output))
 
 
-def guard_terminal(words: typing.Iterable[str]) -> None:
+def guard_terminal(words: Iterable[str]) -> None:
     """A Trouble where a job would write to a terminal what is no text. Where its words are wrong it may run, since it
     writes nothing then."""
     given = Words(words)
@@ -173,7 +174,7 @@ def guard_terminal(words: typing.Iterable[str]) -> None:
     os.dup2(os.open(os.devnull, os.O_WRONLY), 1)
 
 
-def check_output(words: typing.Iterable[str]) -> None:
+def check_output(words: Iterable[str]) -> None:
     """A Trouble where the file that `-o` names cannot be written, or is one that the job reads."""
     words = list(words)
     output, files = Words(words).output, Words(complete(words)).files
@@ -206,7 +207,7 @@ def call(command: list[str], output: Output, folder: typing.Optional[str] = None
     return done.returncode, done.stdout, done.stderr
 
 
-def start(words: typing.Iterable[str], **more: typing.Any) -> subprocess.Popen:
+def start(words: Iterable[str], **more: typing.Any) -> subprocess.Popen:
     """Starts the program."""
     try:
         return subprocess.Popen([ready(), *complete(words)], env=environment(), **more)

@@ -10,7 +10,7 @@ import shutil
 import struct
 import subprocess
 import time
-import typing
+from collections.abc import Iterator, Mapping
 
 import screens
 from doomview_tools import paths, rest
@@ -71,7 +71,7 @@ class Missed(Trouble):
     """A view that no two screenshots show: the machine was too slow."""
 
 
-def missing(port: str, environment: typing.Mapping[str, str] = os.environ) -> typing.List[str]:
+def missing(port: str, environment: Mapping[str, str] = os.environ) -> list[str]:
     """What is not installed of what a port needs."""
     path = environment.get('PATH', '') + ':/usr/games'
     wanted = [port] + ([] if port == 'dsda-doom' else ['Xvfb', 'xdotool'])
@@ -79,7 +79,7 @@ def missing(port: str, environment: typing.Mapping[str, str] = os.environ) -> ty
 
 
 @contextlib.contextmanager
-def screen() -> typing.Iterator[str]:
+def screen() -> Iterator[str]:
     """A screen of Xvfb; its name."""
     read, write = os.pipe()
     server = subprocess.Popen(['Xvfb', '-displayfd', str(write), '-screen', '0', '640x480x24', '-nolisten', 'tcp'],
@@ -112,7 +112,7 @@ class Game:
         return os.path.join(self.folder, name)
 
     @contextlib.contextmanager
-    def running(self, *words: str) -> typing.Iterator[subprocess.Popen]:
+    def running(self, *words: str) -> Iterator[subprocess.Popen]:
         """The port while it runs."""
         with open(self.at('port.log'), 'a') as log:
             game = subprocess.Popen([*self.words, *words], cwd=self.folder, env=self.environment, stdout=log,
@@ -131,7 +131,7 @@ class Game:
             except subprocess.TimeoutExpired as error:
                 raise Missed(f'{self.port} does not come to the end of the demo') from error
 
-    def press(self, *words: str) -> typing.List[str]:
+    def press(self, *words: str) -> list[str]:
         """What xdotool says."""
         done = subprocess.run(['xdotool', *words], env=self.environment, stdout=subprocess.PIPE,
                               stderr=subprocess.DEVNULL, text=True)
@@ -144,7 +144,7 @@ class Game:
             self.press('windowfocus', windows[-1])
         return bool(windows)
 
-    def shots(self) -> typing.List[bytes]:
+    def shots(self) -> list[bytes]:
         """The screenshots so far, in their order."""
         found = []
         for name in sorted(filter(SHOTS.fullmatch, os.listdir(self.folder))):
@@ -160,7 +160,7 @@ class Game:
         """The pixels of a screenshot: indices, or bytes red, green, blue."""
         return screens.sampled(*screens.png_pixels(shot)) if shot[:4] == b'\x89PNG' else screens.pcx_indices(shot)
 
-    def demo_frames(self, views: int, tics: int) -> typing.List[bytes]:
+    def demo_frames(self, views: int, tics: int) -> list[bytes]:
         """The views of the demo still.lmp, which pauses for so many tics at each."""
         if self.port == 'dsda-doom':
             return self.video_frames(views)
@@ -181,7 +181,7 @@ class Game:
                 self.press('key', self.key)
             time.sleep(seconds)
 
-    def video_frames(self, views: int) -> typing.List[bytes]:
+    def video_frames(self, views: int) -> list[bytes]:
         """The views of the demo in the video that dsda-doom writes."""
         self.environment['SDL_VIDEODRIVER'] = 'dummy'
         self.run_to_end('-timedemo', 'still.lmp', '-viddump', 'video')
@@ -195,7 +195,7 @@ class Game:
         os.remove(self.at('video.rgb'))
         return [screens.sampled(width, height, shot) for shot in still_ones(shots, views, 3)]
 
-    def row_frames(self, still: rest.Rest, rows: list, skill: int) -> typing.List[bytes]:
+    def row_frames(self, still: rest.Rest, rows: list, skill: int) -> list[bytes]:
         """The views of rows, each by a savegame of the map at rest with another place of the player."""
         write_whole(self.at('still.lmp'), rest.saving_demo(still.level.name, skill))
         with screen() as display:

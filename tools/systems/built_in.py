@@ -1,7 +1,7 @@
 """What doomview.exe has from the tools in Python, as a source in C: tables, a made room, help pages, sentences."""
 import json
 import re
-from typing import Iterable
+from collections.abc import Iterable
 
 from doomview_tools import cli, command, doom, explanations, home, jobs, refusals, room, tables
 from doomview_tools.commands import picture as picture_tool

@@ -2,7 +2,7 @@
 import argparse
 import os
 import sys
-import typing
+from collections.abc import Iterator
 
 from .. import (cli, compare_reports, diagnoses, differences, frame_files, frames, jobs, lists, png, program, setup_trials,
                 shapes, symptoms, texels, traces)
@@ -148,7 +148,7 @@ class Comparison:
         pairs = [diagnoses.Pair(view, *self.files.both(view)) for view in some]
         return diagnoses.Case(pairs, self.files.ours.frame, min(self.files.counts), self.files.names.colormaps)
 
-    def head(self) -> typing.Iterator[str]:
+    def head(self) -> Iterator[str]:
         """What is said of all views that differ, before each of them: how many, what differs most, mistakes of whole
         frames, and what differs in every view."""
         yield f'{len(self.found)} of {len(self.files.views)} views differ'
@@ -163,7 +163,7 @@ class Comparison:
             yield from self.summary.of_every_view(self.files.names)
             yield from self.symptoms() if shares.all and self.options.wad else []
 
-    def symptoms(self) -> typing.List[str]:
+    def symptoms(self) -> list[str]:
         """A line on the function of the original where one looks, if the shape of what differs is certain."""
         files, samples = self.files, []
         most = sorted(self.found, key=lambda found: -found.pixels)[:symptoms.SAMPLES]
@@ -177,7 +177,7 @@ class Comparison:
             samples, shares, [found.view for found in self.found], files.run.rows if files.run else [],
             texels.Texels(files.wads), files.lights, files.names.colormaps))
 
-    def set_ups(self) -> typing.List[str]:
+    def set_ups(self) -> list[str]:
         """A sentence on another set-up that makes our frames the port's, where the path is named."""
         if not self.files.run:
             return []
@@ -222,7 +222,7 @@ class Comparison:
             head += f'; {self.count_line()}, elsewhere the port is shown with the pixels of ours'
         return page.page(head)
 
-    def write_reports(self, sentences: typing.List[str]) -> None:
+    def write_reports(self, sentences: list[str]) -> None:
         """Writes what was found for other programs."""
         if self.options.json:
             entries = [entry for part in self.tasks.run(entries_of, self.found) for entry in part]

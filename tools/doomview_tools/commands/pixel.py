@@ -1,6 +1,5 @@
 """doomview pixel: what painted one pixel."""
 import argparse
-import typing
 
 from .. import cli, lists, paths, traces, wads
 from ..files import Source, check_source
@@ -39,7 +38,7 @@ def add_words(parser: argparse.ArgumentParser) -> None:
     lists.add_words(parser)
 
 
-def rows_of(options: argparse.Namespace, count: int) -> typing.List[paths.Row]:
+def rows_of(options: argparse.Namespace, count: int) -> list[paths.Row]:
     """The rows of the path, as many as the trace has views, or none where none is named."""
     rows = paths.rows(options.path) if options.path else []
     if rows and len(rows) != count:

@@ -23,7 +23,7 @@ $ doomview render MAP01 freedoom2.wad out/shown.wad --path out/path.csv --weapon
 ''', more='TOOLS.md#a-game-at-rest')
 
 
-def place(text: str) -> typing.Tuple[int, int, int]:
+def place(text: str) -> tuple[int, int, int]:
     parts = text.split(',')
     try:
         x, y, degrees = map(int, parts)
@@ -45,7 +45,7 @@ def add_words(parser: argparse.ArgumentParser) -> None:
 
 def run(options: argparse.Namespace) -> None:
     still = rest.Rest(cli.wads_of(options), options.map, options.at)
-    files: typing.Dict[str, typing.Union[str, bytes]] = {
+    files: dict[str, typing.Union[str, bytes]] = {
         'still.wad': still.wad(), 'still.deh': rest.patch(),
         'still.lmp': rest.demo(still.level.name, options.skill, options.views, options.tics),
         'shown.wad': still.shown_wad(), 'path.csv': paths.text(still.rows(options.views)),
