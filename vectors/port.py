@@ -31,7 +31,7 @@ def signal_name(number: int) -> str:
         return f'signal {number}'
 
 
-def end(process: subprocess.Popen) -> None:
+def end(process: subprocess.Popen[bytes]) -> None:
     """Ends a process and those that it started."""
     try:
         if hasattr(os, 'killpg'):

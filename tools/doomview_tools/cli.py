@@ -41,8 +41,8 @@ class Page(typing.NamedTuple):
     examples: str
     needs: str = PYTHON
     ends: str = ' 0  all is well\n 2  it could not be done, and a sentence says why'
-    usage: tuple = ()
-    forms: tuple = ()
+    usage: tuple[str, ...] = ()
+    forms: tuple[str, ...] = ()
     more: str = ''
 
 

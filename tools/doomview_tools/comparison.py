@@ -261,10 +261,7 @@ def entries_of(files: Files, found: Sequence[Found]) -> list[dict[str, typing.An
     return [files.entry(view) for view in found]
 
 
-Task = Callable[[Files, typing.Any], Result]
-
-
-def by_own_files(task: Task, part: typing.Any) -> typing.Any:
+def by_own_files(task: Callable[[Files, typing.Any], Result], part: typing.Any) -> Result:
     return task(own_files[0], part)
 
 

@@ -59,7 +59,7 @@ class Started(typing.NamedTuple):
     """A run that goes on: its job, its process, and the path of its files without their endings."""
 
     job: str
-    process: subprocess.Popen
+    process: subprocess.Popen[bytes]
     base: str
 
 
@@ -69,7 +69,7 @@ class Going:
     def __init__(self, folder: str, jobs: int, progress: Progress) -> None:
         self.folder, self.jobs, self.progress = folder, jobs, progress
         self.program = program.ready()
-        self.processes: list[subprocess.Popen] = []
+        self.processes: list[subprocess.Popen[bytes]] = []
         self.numbers = itertools.count(1)
 
     def start(self, job: str, words: list[str], rows: Sequence[Row]) -> Started:

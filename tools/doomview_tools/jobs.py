@@ -235,7 +235,7 @@ class Words:
     and the file `output` that `-o` names, which is none of the program's `words`. As the program does it takes
     `--zone 64` and `--zone=64`, and all behind `--` as plain words."""
 
-    def __init__(self, words: Iterable[str]):
+    def __init__(self, words: Iterable[str]) -> None:
         self.words, self.output = take_output(list(words)) if {*words} & {*JOBS} else (list(words), None)
         self.plain: list[str] = []
         self.places: list[int] = []

@@ -107,7 +107,10 @@ class Sector(typing.NamedTuple):
     tag: int
 
 
-def records(data: bytes, layout: str) -> list[tuple]:
+Record = tuple[typing.Any, ...]  # of a lump: numbers and names, as its layout has them
+
+
+def records(data: bytes, layout: str) -> list[Record]:
     """The whole records of a lump, as tuples."""
     size = struct.calcsize(layout)
     return [struct.unpack_from(layout, data, size * i) for i in range(len(data) // size)]
@@ -119,7 +122,7 @@ class Level:
     def __init__(self, name: str, wad: str, lumps: dict[str, bytes]) -> None:
         self.name, self.wad, self.lumps = name, wad, lumps
 
-    def records(self, lump: str) -> list[tuple]:
+    def records(self, lump: str) -> list[Record]:
         return records(self.lumps.get(lump, b''), LAYOUTS[lump])
 
     @functools.cached_property

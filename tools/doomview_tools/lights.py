@@ -64,7 +64,7 @@ def key_at(records: bytes, place: int) -> Key:
 class Lights:
     """What the colormaps of the WADs tell of two colours: under which pairs of them a texel has both."""
 
-    def __init__(self, colormaps: bytes):
+    def __init__(self, colormaps: bytes) -> None:
         self.known: dict[tuple[int, int], int] = {}
         self.texels = []  # of each texel that is lit, by its colours the numbers of the colormaps, as bits
         for texel in range(COLORMAP_SIZE if len(colormaps) >= COLORMAP_SIZE * MAPS else 0):

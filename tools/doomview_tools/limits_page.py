@@ -15,7 +15,7 @@ from .findings import GRADES, places
 from .frames import HEIGHT, SIZE, WIDTH
 from .ground import Plan
 from .levels import Level
-from .pages import columns, json_of, page, picture
+from .pages import Column, columns, json_of, page, picture
 from .paths import Row
 
 TEMPLATE = 'limits_map.html'
@@ -32,6 +32,9 @@ PLANE_COLOURS = bytes(255 if i == NO_PLANE else ((i + 1) * factor) % 200 + 40
 
 Pictures = dict[str, tuple[str, str, str]]  # by kind, each in the sizes of `sizes_of`
 Shown = dict[str, typing.Any]  # a view, as the page has it
+NameCount = tuple[str, int]  # a name, and how many numbers it has
+Small = tuple[tuple[int, int, int, int], str]  # a row, and its picture
+Mark = tuple[str, str, list[tuple[float, float]]]  # a grade, a line, and places
 
 
 def planes_of(trace: bytes) -> bytes:
@@ -40,21 +43,21 @@ def planes_of(trace: bytes) -> bytes:
     return bytes(number % NO_PLANE if kind in PLANE_KINDS else NO_PLANE for kind, number in zip(kinds, numbers))
 
 
-def names_in(trace: bytes, names: traces.Names) -> dict[str, list]:
+def names_in(trace: bytes, names: traces.Names) -> dict[str, tuple[int, int, list[NameCount]]]:
     """Of each count how many have a pixel in a view, how many names they have, and those of most: name and number."""
     found: dict[str, dict[str, set[int]]] = collections.defaultdict(lambda: collections.defaultdict(set))
     for record in set(memoryview(trace).cast('Q')):
         kind, source_kind, number, source, _, _ = traces.RECORD.unpack(record.to_bytes(8, sys.byteorder))
         if kind in COUNT_OF:
             found[COUNT_OF[kind]][names.source_of(traces.Painter(kind, source_kind, source)).name].add(number)
-    return {count: [len(set().union(*of_names.values())), len(of_names), most_numbers(of_names)]
+    return {count: (len(set().union(*of_names.values())), len(of_names), most_numbers(of_names))
             for count, of_names in found.items()}
 
 
-def most_numbers(found: dict[str, set[int]]) -> list[list]:
+def most_numbers(found: dict[str, set[int]]) -> list[NameCount]:
     """The names that have the most numbers, each with how many."""
     order = sorted(found, key=lambda name: (-len(found[name]), name))
-    return [[name, len(found[name])] for name in order[:SHOWN_NAMES]]
+    return [(name, len(found[name])) for name in order[:SHOWN_NAMES]]
 
 
 def half_picture(frame: bytes, palette: bytes) -> str:
@@ -107,12 +110,12 @@ class State:
             yield rank, view, {'picture': sizes_of(frame, palette),
                                'planes': sizes_of(trace and planes_of(trace), PLANE_COLOURS)}
 
-    def small(self, palette: bytes, most: int) -> list[list]:
+    def small(self, palette: bytes, most: int) -> list[Small]:
         """Pictures of half the size, of places all over the map, where planes are most: pairs of a row and it."""
         cells = sorted(self.grid.cells, key=lambda cell: (cell.y, cell.x))
         some = cells[::max(1, -(-len(cells) // most))]
         rows = [cell.row(cell.most.get('planes', (0, 0))[1], self.grid.directions) for cell in some]
-        return [[row[:4], half_picture(frame, palette)]
+        return [(row[:4], half_picture(frame, palette))
                 for row, frame in zip(rows, self.runs.views('render', rows, SIZE)) if frame]
 
 
@@ -121,7 +124,7 @@ def room_in(data: object, plain: str) -> int:
     return MOST_BYTES - len(page(TEMPLATE, data, plain))
 
 
-def every_so_many(pictures: list[list], room: int) -> list[list]:
+def every_so_many(pictures: list[Small], room: int) -> list[Small]:
     """Every so many of some pictures, which together need no more bytes than there is room."""
     every = 1
     while pictures and len(json_of(pictures[::every])) > room:
@@ -144,15 +147,15 @@ def put_in(pictures: Sequence[tuple[Shown, Pictures]], room: int) -> None:
         view.update((kind, of_sizes[size]) for kind, of_sizes in found.items())
 
 
-def marks_of(level: Level, wads: list[str]) -> list[list]:
+def marks_of(level: Level, wads: list[str]) -> list[Mark]:
     """What lint finds in a level and can be shown on its map: places, grade and the line of each, the gravest first."""
     placed = [(finding, places(finding, level)) for finding in findings(level, wads)]
     order = sorted((pair for pair in placed if pair[1]), key=lambda pair: list(GRADES).index(pair[0].grade))
-    return [[finding.grade, f'{finding.what}: {finding.where}: {finding.told}', [[x, y] for x, y in found]]
+    return [(finding.grade, f'{finding.what}: {finding.where}: {finding.told}', [(x, y) for x, y in found])
             for finding, found in order[:MOST_MARKS]]
 
 
-def columns_of_changes(changes: Iterable[Change], labels: list[str]) -> list[list]:
+def columns_of_changes(changes: Iterable[Change], labels: list[str]) -> list[Column]:
     """What differs from an earlier run as the page has it, what differs most first: columns of the numbers of the state
     and the count, the x and y of the place, and the count before and now, which is -1 where there is no place."""
     rows = [[labels.index(change.doors), COUNTS.index(change.count), change.x, change.y,

@@ -3,6 +3,7 @@ import base64
 import html
 import json
 import re
+import typing
 from collections.abc import Iterable, Sequence
 
 from . import home
@@ -14,6 +15,7 @@ PLACE = '/*DATA*/null'  # of the data in a template
 PLAIN = '<!--PLAIN-->'  # of the plain text
 SCRIPT = re.compile(r'/\*FILE (\w+\.js)\*/')  # the place of a script that is a file of its own
 DIGITS = ''.join(chr(code) for code in range(35, 127) if chr(code) not in '\\<')  # none that a text has to escape
+Column = list[typing.Union[int, str]]  # numbers as a page has them: the least, the digits of a number, all digits
 
 
 def json_of(data: object) -> str:
@@ -21,13 +23,13 @@ def json_of(data: object) -> str:
     return json.dumps(data, separators=(',', ':')).replace('</', '<\\/')
 
 
-def columns(rows: Iterable[Sequence[int]]) -> list[list]:
+def columns(rows: Iterable[Sequence[int]]) -> list[Column]:
     """Rows of whole numbers as a page has them: of each column the least number, the digits of a number, and the
     digits of all numbers without the least."""
     return [column(numbers) for numbers in zip(*rows)]
 
 
-def column(numbers: Sequence[int]) -> list:
+def column(numbers: Sequence[int]) -> Column:
     least, width = min(numbers), 1
     while len(DIGITS) ** width <= max(numbers) - least:
         width += 1

@@ -97,7 +97,7 @@ class Drawing:
     def __init__(self, wads: list[str], words: list[str]) -> None:
         self.wads, self.words = wads, words
         self.base = ' '.join([*(sum_of_file(path) for path in [*wads, program.ready()]), *words])
-        self.runs: set[subprocess.Popen] = set()
+        self.runs: set[subprocess.Popen[bytes]] = set()
         self.lock, self.is_ended = threading.Lock(), False
 
     def inputs(self, path: Path) -> str:

@@ -26,7 +26,7 @@ def reader() -> types.ModuleType:
     return module
 
 
-def read(call: Callable, *words: typing.Any) -> typing.Any:
+def read(call: Callable[..., typing.Any], *words: typing.Any) -> typing.Any:
     """What a call of the reader gives; a Trouble where it refuses."""
     try:
         return call(*words)

@@ -207,7 +207,7 @@ def call(command: list[str], output: Output, folder: typing.Optional[str] = None
     return done.returncode, done.stdout, done.stderr
 
 
-def start(words: Iterable[str], **more: typing.Any) -> subprocess.Popen:
+def start(words: Iterable[str], **more: typing.Any) -> subprocess.Popen[typing.Any]:
     """Starts the program."""
     try:
         return subprocess.Popen([ready(), *complete(words)], env=environment(), **more)

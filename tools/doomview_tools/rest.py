@@ -33,7 +33,7 @@ TEXTURES = ['BLODGR1 BLODGR4', 'SLADRIP1 SLADRIP3', 'BLODRIP1 BLODRIP4', 'FIREWA
             'SFALL1 SFALL4', 'WFALL1 WFALL4', 'DBRAIN1 DBRAIN4']
 
 
-def lump_of(layout: str, records: Iterable[tuple]) -> bytes:
+def lump_of(layout: str, records: Iterable[levels.Record]) -> bytes:
     """The bytes of a lump, its names as they are in records."""
     return b''.join(struct.pack(layout, *(part.encode('latin-1') if isinstance(part, str) else part for part in record))
                     for record in records)

@@ -61,7 +61,7 @@ def record_at(path: str, view: int, x: int, y: int) -> Record:
 class Names:
     """The names of what paints, as far as the WADs are known."""
 
-    def __init__(self, wads: Iterable[str]):
+    def __init__(self, wads: Iterable[str]) -> None:
         lumps = [lump for wad in wads for lump in read(wad)]
         self.lumps = [lump.name for lump in lumps]
         self.textures: list[str] = []

@@ -8,6 +8,7 @@ import os
 import re
 import subprocess
 import sys
+import typing
 from collections.abc import Iterable, Iterator, Sequence
 
 from . import home, paths, vectors, weapons
@@ -148,7 +149,7 @@ def told_missing(test: Test) -> Iterator[str]:
         yield f'at {base} the port said: {text.splitlines()[-1]}'
 
 
-def run_of(view: View) -> tuple[str, tuple]:
+def run_of(view: View) -> tuple[str, tuple[typing.Any, ...]]:
     """What the views of one run have in common."""
     return view.vector.map, vectors.key_of(view.vector)
 

@@ -8,7 +8,7 @@ import typing
 from collections.abc import Iterable
 
 from .doom import LAYOUTS, TWO_SIDED
-from .levels import Level, Line, Seg, alone
+from .levels import Level, Line, Record, Seg, alone
 
 LINE_OF_SEG, FLAGS = Seg._fields.index('line'), Line._fields.index('flags')  # places in a record
 FLOOR, CEILING, LIGHT = 0, 128, 160
@@ -41,21 +41,21 @@ def walls_alone(level: Level) -> bytes:
         if is_one and lines[line][FLAGS] & TWO_SIDED:
             segs[number] = with_value(segs[number], LINE_OF_SEG, copies.setdefault(line, len(lines) + len(copies)))
     lines += [with_value(lines[line], FLAGS, lines[line][FLAGS] & ~TWO_SIDED) for line in copies]
-    sides: list[tuple] = [(*side[:2], NO_TEXTURE, NO_TEXTURE, NO_TEXTURE, side[-1])
+    sides: list[Record] = [(*side[:2], NO_TEXTURE, NO_TEXTURE, NO_TEXTURE, side[-1])
                           for side in level.records('SIDEDEFS')]
     flat = level.sectors[0].floor_flat.encode('latin-1')
-    sectors: list[tuple] = [(FLOOR, CEILING, flat, flat, LIGHT, 0, 0)] * len(level.sectors)
-    changed: dict[str, list[tuple]] = {
+    sectors: list[Record] = [(FLOOR, CEILING, flat, flat, LIGHT, 0, 0)] * len(level.sectors)
+    changed: dict[str, list[Record]] = {
         'LINEDEFS': lines, 'SEGS': segs, 'SIDEDEFS': sides, 'SECTORS': sectors,
         'THINGS': level.records('THINGS')[:1]}
     return alone(level, {name: lump_of(name, records) for name, records in changed.items()})
 
 
-def lump_of(name: str, records: Iterable[tuple]) -> bytes:
+def lump_of(name: str, records: Iterable[Record]) -> bytes:
     """The bytes of a lump of a map, by its records."""
     return b''.join(struct.pack(LAYOUTS[name], *record) for record in records)
 
 
-def with_value(record: tuple, place: int, value: int) -> tuple:
+def with_value(record: Record, place: int, value: int) -> Record:
     """A record with another value at a place."""
     return (*record[:place], value, *record[place + 1:])

@@ -78,7 +78,7 @@ def changes_of(level: levels.Level, planes_of: dict[int, int], field: str) -> It
         yield from with_weight(level, Change(field, None, most, rest), sum(weights.values()))
 
 
-def goals_of(weights: collections.Counter, field: str, value: typing.Any) -> list:
+def goals_of(weights: collections.Counter[typing.Any], field: str, value: typing.Any) -> list[typing.Any]:
     """The values to which a value of a field may be changed: the nearest heights and lights, the flats of most planes;
     and the light of most."""
     others = [other for other, _ in weights.most_common() if other != value]

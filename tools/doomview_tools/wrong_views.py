@@ -56,7 +56,7 @@ class Test:
         self.runs = read_runs(os.path.join(folder, RUNS))
         self.views = list(self.placed(rows, by_key))
 
-    def placed(self, rows: list[Vector], found: dict) -> Iterator[View]:
+    def placed(self, rows: list[Vector], found: dict[tuple[str, str, int], dict[str, typing.Any]]) -> Iterator[View]:
         """The views that were checked, each with its file: the runs of a map and set have its rows in their order."""
         of_part = collections.defaultdict(list)
         for row in rows:

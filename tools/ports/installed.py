@@ -4,6 +4,7 @@ The ports are those of Debian, unchanged. Each draws 320 by 200 without what the
 smooth light, no wide screen, no messages. chocolate-doom, crispy-doom and woof are played on a screen of Xvfb and
 photographed by their own key; dsda-doom writes a video without a screen."""
 import contextlib
+import itertools
 import os
 import re
 import shutil
@@ -99,7 +100,7 @@ def screen() -> Iterator[str]:
 class Game:
     """A port with a map at rest, in a folder that has still.wad and still.deh."""
 
-    def __init__(self, port: str, folder: str, wad: str):
+    def __init__(self, port: str, folder: str, wad: str) -> None:
         self.port, self.folder = port, folder
         settings, words, self.key = PORTS[port]
         for name, text in settings.items():
@@ -112,7 +113,7 @@ class Game:
         return os.path.join(self.folder, name)
 
     @contextlib.contextmanager
-    def running(self, *words: str) -> Iterator[subprocess.Popen]:
+    def running(self, *words: str) -> Iterator[subprocess.Popen[bytes]]:
         """The port while it runs."""
         with open(self.at('port.log'), 'a') as log:
             game = subprocess.Popen([*self.words, *words], cwd=self.folder, env=self.environment, stdout=log,
@@ -171,7 +172,7 @@ class Game:
                 self.photograph(game, tics / TICS_A_SECOND / SHOTS_A_VIEW)
         return [self.pixels(shot) for shot in still_ones(self.shots(), views, 2)]
 
-    def photograph(self, game: subprocess.Popen, seconds: float) -> None:
+    def photograph(self, game: subprocess.Popen[bytes], seconds: float) -> None:
         """Presses the key of a screenshot again and again, at this distance, until the game ends."""
         end = time.time() + LONGEST
         while game.poll() is None:
@@ -195,7 +196,7 @@ class Game:
         os.remove(self.at('video.rgb'))
         return [screens.sampled(width, height, shot) for shot in still_ones(shots, views, 3)]
 
-    def row_frames(self, still: rest.Rest, rows: list, skill: int) -> list[bytes]:
+    def row_frames(self, still: rest.Rest, rows: list[paths.Row], skill: int) -> list[bytes]:
         """The views of rows, each by a savegame of the map at rest with another place of the player."""
         write_whole(self.at('still.lmp'), rest.saving_demo(still.level.name, skill))
         with screen() as display:
@@ -224,15 +225,10 @@ class Game:
         raise Missed(f'{self.port} shows no still view of a savegame')
 
 
-def still_ones(shots: list, views: int, least: int) -> list:
+def still_ones(shots: list[bytes], views: int, least: int) -> list[bytes]:
     """The last views of at least so many equal screenshots one after the other."""
-    runs = []
-    for shot in shots:
-        if runs and runs[-1][0] == shot:
-            runs[-1][1] += 1
-        else:
-            runs.append([shot, 1])
-    kept = [shot for shot, count in runs if count >= least]
+    runs = [list(run) for _, run in itertools.groupby(shots)]
+    kept = [run[0] for run in runs if len(run) >= least]
     if len(kept) < views:
         raise Missed(f'{len(shots)} screenshots have {len(kept)} still views, and {views} are wanted')
     return kept[-views:]

@@ -78,7 +78,7 @@ def sampled(width: int, height: int, rgb: bytes) -> bytes:
 class Palette:
     """From colours to indices. Of indices with one colour the least stands for all: `plain` makes them that one."""
 
-    def __init__(self, data: bytes):
+    def __init__(self, data: bytes) -> None:
         self.colours = [data[3 * i:3 * i + 3] for i in range(256)]
         self.index: dict[bytes, int] = {}
         for i, colour in enumerate(self.colours):

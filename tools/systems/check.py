@@ -10,13 +10,18 @@ import subprocess
 import sys
 import tempfile
 import time
+import weakref
 from collections.abc import Iterator
-from typing import NamedTuple
+from types import ModuleType
+from typing import TYPE_CHECKING, Any, NamedTuple
 
 from doomview_tools import home
 from doomview_tools.trouble import Trouble
 
 from . import chromium, kit
+
+if TYPE_CHECKING:  # when it runs, golden() finds them
+    from cases import Case, Outcome, Runner
 
 GOLDEN = os.path.join(home.TOP, 'tests', 'golden')
 WINE = ('wine', 'wine64')
@@ -58,12 +63,14 @@ class Result(NamedTuple):
     wrong: list[str]
 
 
-def golden():
+def golden() -> ModuleType:
     """The module tests/golden/run."""
     if GOLDEN not in sys.path:
         sys.path.insert(0, GOLDEN)
     loader = importlib.machinery.SourceFileLoader('golden_run', os.path.join(GOLDEN, 'run'))
-    found = importlib.util.module_from_spec(importlib.util.spec_from_loader('golden_run', loader))
+    spec = importlib.util.spec_from_loader('golden_run', loader)
+    assert spec, 'the loader has the path of a file'
+    found = importlib.util.module_from_spec(spec)
     loader.exec_module(found)
     return found
 
@@ -76,7 +83,7 @@ def native() -> str:
     return path
 
 
-def is_text(case) -> bool:
+def is_text(case: 'Case') -> bool:
     """Whether the words of a case are UTF-8."""
     try:
         ''.join(case.arguments()).encode()
@@ -85,7 +92,7 @@ def is_text(case) -> bool:
         return False
 
 
-def line_on(case, found: list[str]) -> str:
+def line_on(case: 'Case', found: list[str]) -> str:
     return f'{case.table}: {case.name}: {"; ".join(found)}: {case.words} {case.how}'.rstrip()
 
 
@@ -119,27 +126,29 @@ def is_lost(status: str, size: str, said: str) -> bool:
 class Wine:
     """Wine with a folder of its own, kept up while cases run: each would else wait for its services."""
 
-    def __init__(self):
-        self.folder = tempfile.TemporaryDirectory(ignore_cleanup_errors=True)
-        self.env = {**os.environ, 'WINEPREFIX': os.path.join(self.folder.name, 'prefix'), 'WINEDEBUG': '-all,err+virtual',
+    def __init__(self) -> None:
+        self.folder = tempfile.mkdtemp()
+        self.remove_folder = weakref.finalize(self, shutil.rmtree, self.folder, ignore_errors=True)
+        self.env = {**os.environ, 'WINEPREFIX': os.path.join(self.folder, 'prefix'), 'WINEDEBUG': '-all,err+virtual',
                     'WINEDLLOVERRIDES': 'mscoree,mshtml='}
 
-    def __enter__(self):
+    def __enter__(self) -> 'Wine':
         subprocess.run([*start(), 'cmd', '/c', 'exit'], env=self.env, stdin=subprocess.DEVNULL, stdout=subprocess.DEVNULL,
                        stderr=subprocess.DEVNULL)
         self.keeper = subprocess.Popen([*start(), 'cmd'], env=self.env, stdin=subprocess.PIPE, stdout=subprocess.DEVNULL,
                                        stderr=subprocess.DEVNULL)
         return self
 
-    def __exit__(self, *_):
+    def __exit__(self, *_: object) -> None:
+        assert self.keeper.stdin, 'it is a pipe'
         self.keeper.stdin.close()
         self.keeper.wait()
         subprocess.run(['wineserver', '-k', '-w'], env=self.env, stderr=subprocess.DEVNULL)
-        self.folder.cleanup()
+        self.remove_folder()
 
     def command(self, data: bytes) -> str:
         """The path of a command that runs a program for Windows."""
-        target, path = (os.path.join(self.folder.name, name) for name in ('doomview.exe', 'doomview'))
+        target, path = (os.path.join(self.folder, name) for name in ('doomview.exe', 'doomview'))
         with open(target, 'wb') as file:
             file.write(data)
         named = ' '.join(f'{name}={self.env[name]}' for name in WINE_NAMES)
@@ -148,16 +157,16 @@ class Wine:
         os.chmod(path, 0o755)
         return path
 
-    def run(self, words: list[str], folder: str, **more) -> subprocess.CompletedProcess:
+    def run(self, words: list[str], folder: str, **more: Any) -> subprocess.CompletedProcess[Any]:
         """Runs a program for Windows in a folder, once more where its start may have been lost."""
-        def once():
+        def once() -> subprocess.CompletedProcess[Any]:
             return subprocess.run([*start(), *words], cwd=folder, env=self.env, stdin=subprocess.DEVNULL, capture_output=True, **more)
         done = once()
         said = done.stderr.decode(errors='replace')
         return once() if is_lost(str(done.returncode), str(len(done.stdout)), said) else done
 
 
-def outcome_of(runner, case):
+def outcome_of(runner: 'Runner', case: 'Case') -> 'Outcome':
     """How a case ends under Wine, the second time where its start may have been lost."""
     found = runner.run(case)
     return runner.run(case) if is_lost(found.status, found.length, found.line) else found
@@ -175,12 +184,12 @@ def under_wine(plain: bytes, jobs: int) -> Result:
     return Result(len(tried), len(cases), list(wrong_lines(outcomes)))
 
 
-def golden_cases() -> list:
+def golden_cases() -> list['Case']:
     run = golden()
     return run.leave_out([case for table in run.table_names() for case in run.read_table(table)])
 
 
-def wrong_lines(outcomes: dict) -> Iterator[str]:
+def wrong_lines(outcomes: dict['Case', 'Outcome']) -> Iterator[str]:
     for case, outcome in outcomes.items():
         found = golden().differences(case, outcome)
         if found:
@@ -208,7 +217,7 @@ def in_chromium(page: str) -> Result:
     return Result(len(tried), len(cases), list(wrong_lines(outcomes)))
 
 
-def say(text: str):
+def say(text: str) -> None:
     print(f'portable: {text}', flush=True)
 
 

@@ -24,7 +24,7 @@ class Target(NamedTuple):
 
     triple: str
     layout: str
-    without: tuple
+    without: tuple[str, ...]
 
 
 PROBES = ('probe-stack', 'stack-probe-size')
@@ -60,7 +60,7 @@ def refuse(number: int, line: str, why: str) -> Trouble:
     return Trouble(f'this kit is not one that tools/portable knows: {why}, in line {number} of the module\'s text: {line[:200]}')
 
 
-def type_of(found: re.Match) -> str:
+def type_of(found: re.Match[str]) -> str:
     """The type of a declared function, without the words of attributes."""
     plain = [WORDS.sub('', part).strip() for part in (found['returned'], found['taken'])]
     return f'{plain[0]} ({", ".join(re.sub(" %.*", "", part.strip()) for part in plain[1].split(",")) if plain[1] else ""})'
@@ -69,7 +69,7 @@ def type_of(found: re.Match) -> str:
 class Rewriting:
     """One text for one target; `counts` says how often each kind of line was changed."""
 
-    def __init__(self, target: str, text: str):
+    def __init__(self, target: str, text: str) -> None:
         self.target, self.text = TARGETS[target], text
         self.counts = dict.fromkeys(('triple', 'layout', 'attributes', 'heap', 'called', 'main'), 0)
         self.names: list[str] = []  # of the functions that get another name
@@ -132,10 +132,10 @@ class Rewriting:
 
     def attributes(self, number: int, line: str) -> str:
         for name, value in ATTRIBUTE.findall(line):
-            if name not in ATTRIBUTES or (ATTRIBUTES[name] and value not in ATTRIBUTES[name]):
+            if name not in ATTRIBUTES or ((known := ATTRIBUTES[name]) and value not in known):
                 raise self.refused(number, f'the attribute {name} is {value}')
 
-        def kept(found: re.Match) -> str:
+        def kept(found: re.Match[str]) -> str:
             is_out = found[2] in self.target.without
             self.counts['attributes'] += is_out
             return '' if is_out else found[0]
@@ -146,13 +146,13 @@ class Rewriting:
         names = '|'.join(map(re.escape, [*self.names, 'main']))
         others = {'main': 'proved_main'}
 
-        def name(found: re.Match) -> str:
+        def name(found: re.Match[str]) -> str:
             is_name = not self.is_quoted(found.start(), text)  # what is in quotes is no name of a function
             return f'@{others.get(found[1], PREFIX + found[1])}' if is_name else found[0]
         return re.sub(rf'@({names})\b(?![.\w])', name, text)
 
 
-def check_counts(counts: dict):
+def check_counts(counts: dict[str, int]) -> None:
     """A Trouble where what has to be there once is not."""
     for name, least, most in (('triple', 1, 1), ('layout', 1, 1), ('main', 1, 1), ('heap', 3, 3), ('called', 1, len(CALLED)),
                               ('attributes', 1, None)):
@@ -161,7 +161,7 @@ def check_counts(counts: dict):
                           f'{least} are known')
 
 
-def rewritten(target: str, text: str, heap: str) -> tuple[str, dict]:
+def rewritten(target: str, text: str, heap: str) -> tuple[str, dict[str, int]]:
     """The text for a target with that of the heap's calls, and how often each kind of line was changed."""
     work = Rewriting(target, text)
     found = work.whole()

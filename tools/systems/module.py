@@ -8,6 +8,7 @@ import hashlib
 import os
 import shutil
 import tempfile
+from collections.abc import Callable
 
 from doomview_tools import home
 from doomview_tools.files import write_whole
@@ -36,7 +37,7 @@ def below(name: str) -> list[str]:
     """The crates that one stands on, the lowest first."""
     named, found = crates(), []
 
-    def visit(crate):
+    def visit(crate: str) -> None:
         for other in named[crate]:
             if other not in found:
                 visit(other)
@@ -69,7 +70,7 @@ def toolchain(kit_folder: str, folder: str) -> str:
     return made
 
 
-def build_words(kit_folder: str, made: str, tools: str, more: tuple = ()) -> list[str]:
+def build_words(kit_folder: str, made: str, tools: str, more: tuple[str, ...] = ()) -> list[str]:
     """The words of `rattle build` for the program, as `rattle build --help` has them: it writes the object file `made` by the
     toolchain folder `tools`."""
     words = [f'{kit_folder}/bin/rattle', 'build', '--crate-name', CRATE, 'src/main.rt',
@@ -106,7 +107,7 @@ def bytes_of(path: str) -> bytes:
         return file.read()
 
 
-def stored(kind: str, parts: list[bytes], make) -> bytes:
+def stored(kind: str, parts: list[bytes], make: Callable[[], bytes]) -> bytes:
     """What a function makes of some parts; it is kept in out/previews until something else is made of other parts."""
     folder, key = os.path.join(home.TOP, 'out', STORE), hashlib.sha256(b''.join(hashlib.sha256(part).digest() for part in parts))
     path = os.path.join(folder, f'{kind}-{key.hexdigest()[:32]}')

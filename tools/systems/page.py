@@ -3,6 +3,7 @@ tools in Python."""
 import base64
 import os
 import re
+from typing import Any
 
 from doomview_tools import (cells, checks, cli, compare_page, counting, doom, earlier, findings, frames, game_checks, ground, home, jobs, levels,
                             list_counts, lists, pages, reasons, refusals, tables, traces, wads, walls, ways, what_if)
@@ -28,7 +29,7 @@ ABOUT = ('doomview {version}, made of the proved program: the module from which 
          'its linker, and the engine of this browser. Its frames and counts were compared with those of the proved program.')
 
 
-def facts() -> dict:
+def facts() -> dict[str, Any]:
     """What the scripts have from the tools in Python, by name."""
     found = {name: getattr(module, name) for module, names in (
         (levels, 'UNIT TURN EYE_HEIGHT'), (wads, 'BEHIND_MAP'), (doom, 'GAME LEAF NO_SIDE PLAYER_1 MAP_LUMPS BUILT_LUMPS BLOCKS UPPER_UNPEGGED LOWER_UNPEGGED SKY DESTINATION LIMITS'),
@@ -46,7 +47,7 @@ def facts() -> dict:
     return found
 
 
-def chosen() -> dict:
+def chosen() -> dict[str, int]:
     """What limits-map takes where its words say nothing else."""
     parser = cli.parser_of(limits_map)
     zone = jobs.options()['--zone'].default

@@ -304,9 +304,9 @@ class LimitsMap(Tools):
         rows = [(1, 1, 4, 7, 99, 0), (1, 1, 4, 7, 98, 0), (1, 1, 5, 7, 99, 0), (4, 2, 5, 3, 0, 0), (2, 1, 0, 8, 1, 0),
                 (2, 1, 3, 8, 1, 0), (3, 2, 1, 2, 1, 0), (5, 1, 6, 9, 1, 0), (0, 0, 0, 0, 0, 0), (6, 1, 1, 9, 1, 0)]
         found = limits_page.names_in(b''.join(traces.RECORD.pack(*row) for row in rows), traces.Names([]))
-        fragments, planes = [['lump 7', 2], ['texture 3', 1]], [['lump 8', 2], ['texture 2', 1]]
-        self.assertEqual(found, {'fragments': [2, 2, fragments], 'planes': [3, 2, planes],
-                                 'sprites': [1, 1, [['lump 9', 1]]]})
+        fragments, planes = [('lump 7', 2), ('texture 3', 1)], [('lump 8', 2), ('texture 2', 1)]
+        self.assertEqual(found, {'fragments': (2, 2, fragments), 'planes': (3, 2, planes),
+                                 'sprites': (1, 1, [('lump 9', 1)])})
 
     def test_size(self):
         """A page of as many places and views as there can be is no larger than 3 MB, and the worst have pictures."""

@@ -64,7 +64,7 @@ def command(options: argparse.Namespace, files: list[str], name: str) -> list[st
     return [home.COMMAND, 'picture', *base, files[-1], name, picture, *cli.job_words(options)]
 
 
-def draw(words: list[str]) -> subprocess.CompletedProcess:
+def draw(words: list[str]) -> subprocess.CompletedProcess[str]:
     """Runs the words that draw a map."""
     return subprocess.run(words, stdin=subprocess.DEVNULL, stderr=subprocess.PIPE, text=True, errors='replace')
 

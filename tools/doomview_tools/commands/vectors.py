@@ -80,7 +80,11 @@ def folder_of(options: argparse.Namespace, usual: str = '.') -> str:
     return folder
 
 
-def all_of(call: Callable, items: Iterable, jobs: int) -> list:
+Item = typing.TypeVar('Item')
+Result = typing.TypeVar('Result')
+
+
+def all_of(call: Callable[[Item], Result], items: Iterable[Item], jobs: int) -> list[Result]:
     """What a call gives for each item, in their order, several at a time."""
     with concurrent.futures.ThreadPoolExecutor(jobs) as pool:
         started = [pool.submit(call, item) for item in items]
