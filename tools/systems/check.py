@@ -18,7 +18,7 @@ from typing import TYPE_CHECKING, Any, NamedTuple
 from doomview_tools import home
 from doomview_tools.trouble import Trouble
 
-from . import chromium, kit
+from . import chromium, kit, scripts
 
 if TYPE_CHECKING:  # when it runs, golden() finds them
     from cases import Case, Outcome, Runner
@@ -33,26 +33,7 @@ NO_BROWSER = 'what a shell does with streams, readers that go, words that are no
 NO_WINDOWS = 'words that are no UTF-8, which no word of Windows can be'
 DIFFERENT, UNTRIED = 1, 2  # statuses: it writes or says something else; it could not be tried to its end
 NO_FILES = '/dev/'  # in the words of a case: a file that a page has not
-# In the page: gives each of some workers the program and the files of the cases, and has them run cases side by side.
-READ = '''(async () => { const files = [...document.getElementById('golden').files], given = [];
-for (const file of files) given.push([file.name, new Uint8Array(await file.arrayBuffer())]);
-const address = URL.createObjectURL(new Blob([SCRIPT + %s], { type: 'text/javascript' })), module = await WebAssembly.compile(bytesOf(BUILT.program));
-const ask = (worker, words) => new Promise(done => { worker.onmessage = ({ data }) => done(data); worker.postMessage(words); });
-const workers = Array.from({ length: HELPERS }, () => new Worker(address)), found = [];
-const read = await Promise.all(workers.map(worker => ask(worker, { module, given })));
-window.golden = async cases => { let next = 0; await Promise.all(workers.map(async worker => {
-  while (next < cases.length) { const number = next++; found[number] = await ask(worker, cases[number]); } })); return found; };
-return read.every(count => count === files.length); })()'''
-# In a worker of the page: runs words over the files of the cases.
-RUN = ''';let program; const given = new Map();
-onmessage = async ({ data }) => {
-  if (data.module) { program = new Program(data.module); data.given.forEach(([name, bytes]) => given.set(name, new MemorySource(bytes))); return postMessage(given.size); }
-  let done;
-  try { done = program.runWhole(data, { get: name => given.get(name.replace(/^\\.\\//, '')) });
-  } catch (error) { return postMessage([-1, String(error), 0, '']); }
-  const sum = new Uint8Array(await crypto.subtle.digest('SHA-256', done.output));
-  postMessage([done.status, done.line, done.output.length, [...sum].map(byte => byte.toString(16).padStart(2, '0')).join('')]);
-};'''
+READ, RUN = scripts.text('golden_page.js'), scripts.text('golden_worker.js')
 
 
 class Result(NamedTuple):
@@ -209,7 +190,7 @@ def in_chromium(page: str) -> Result:
         browser.wait("document.body.dataset.ready === 'yes'")
         browser.value("document.body.append(Object.assign(document.createElement('input'), { type: 'file', id: 'golden', multiple: true }))")
         browser.choose('#golden', files)
-        if not browser.value(READ % json.dumps(RUN)):
+        if not browser.value(f'({READ})({json.dumps(RUN)})'):
             raise Trouble('the page did not get the files of the golden runs')
         found = browser.value(f'golden({json.dumps([case.arguments() for case in tried])})')
         for case, (status, line, size, digest) in zip(tried, found):

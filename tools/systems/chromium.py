@@ -10,13 +10,15 @@ from typing import Any, Optional
 
 from doomview_tools.trouble import Trouble
 
+from . import scripts
+
 NAMES = ('chromium', 'chromium-browser', 'google-chrome')
 WORDS = ['--headless=new', '--no-sandbox', '--disable-gpu', '--remote-debugging-pipe', '--no-first-run', 'about:blank']
 PIPES = (3, 4)  # that Chromium reads and writes
 DOMAINS = ('Page', 'Runtime', 'Log', 'DOM', 'Network')
 SECONDS = 120  # that a condition on a page may take
-WAIT = '''new Promise((done, fail) => { const end = performance.now() + 1000 * %d, look = () => { try { if (%s) return done(true); }
-catch (error) { return fail(error); } performance.now() > end ? fail(new Error('no end')) : setTimeout(look, 20); }; look(); })'''
+# Of seconds and a condition; they stand first, where what a Trouble says of it has them.
+WAIT = f'((seconds, holds, until) => until(seconds, holds))(%d, () => (%s), {scripts.text("until.js")})'
 
 
 def command() -> Optional[str]:

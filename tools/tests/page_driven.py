@@ -16,8 +16,6 @@ from systems import chromium
 PAGE, TESTED = os.environ.get('DOOMVIEW_PAGE', ''), os.environ.get('DOOMVIEW_TESTED', '')
 GAMES = [path for path in ('/usr/share/games/doom/freedoom1.wad', '/usr/share/games/doom/freedoom2.wad') if os.path.exists(path)]
 SAID, READY = "find('said').textContent", "document.body.dataset.ready === 'yes'"
-BASE64 = '''(bytes => { let s = ''; for (let i = 0; i < bytes.length; i += 4096) s += String.fromCharCode(...bytes.subarray(i, i + 4096));
-return btoa(s); })'''
 
 
 def run(*words, folder=None, status=0):
@@ -88,7 +86,11 @@ class Shown(unittest.TestCase):
         self.browser.wait(f"level && level.map === {name!r} && walker.view && !walker.isBusy || {SAID}")
 
     def frame(self):
-        return base64.b64decode(self.value(f'{BASE64}(walker.view.frame)'))
+        return self.bytes_of('walker.view.frame')
+
+    def bytes_of(self, code):
+        """The bytes that code gives."""
+        return base64.b64decode(self.value(f'driver.base64({code})'))
 
     def go(self, row):
         self.value(f'walker.go({json.dumps(list(row[:4]))}); 0')

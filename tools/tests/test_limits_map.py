@@ -179,8 +179,7 @@ class LimitsMap(Tools):
         data = pages_shown.data_of(self.at('page.html'))
         self.assertEqual(data['before'], now['before'])
         if pages_shown.BROWSER:
-            found = pages_shown.shown(self.at('page.html'), '''const all = [display.shown.marks.length, find('changes').textContent];
-                hit('b'); all.push(display.shown.marks.length); hit('2', 'b'); all.push(display.shown.marks.length); return all;''')
+            found = pages_shown.shown(self.at('page.html'), 'limits_changes')
             worse = sum(now > (before or 0) for *_, before, now in changes)
             self.assertEqual(found, [len(changes), f'since the earlier run, planes: ▲ worse at {worse}, ▼ better at '
                                      f'{len(changes) - worse}', 0, 0])
@@ -339,27 +338,7 @@ class LimitsMap(Tools):
     def test_shown(self):
         """The picture is not empty, and keys work."""
         self.looked('page.html')
-        found = pages_shown.shown(self.at('page.html'), '''
-            const text = id => document.getElementById(id).textContent;
-            const all = [colours(canvas), text('which'), text('row'), display.scale];
-            hit('2'); all.push(text('which')); hit('d'); all.push(state); hit('1', 'n'); all.push(text('row'));
-            hit('ArrowRight'); all.push(text('told')); hit('+'); all.push(display.scale); hit('0'); all.push(display.scale);
-            await wait(); all.push(document.getElementById('picture').naturalWidth);
-            hit('n'); all.push(text('seen'));
-            const overs = now().places.filter(place => isOver('planes', number(place, 0)) && display.square(place)[2] > 2);
-            const isBlack = place => {
-                const [x, y, size] = display.square(place), k = devicePixelRatio;
-                const colour = display.pen.getImageData((x + size * .15) * k, (y + size * .5) * k, 1, 1).data;
-                return colour[0] + colour[1] + colour[2] < 99;
-            };
-            all.push(overs.length, overs.filter(isBlack).length, now().places.filter(place => place.isCut).length);
-            all.push(now().places.filter(place => display.placeAt(place.x, place.y) === place).length);
-            const far = now().places.find(place => now().views.every(it => it.row.join() !== rowOf(place, 0).join()));
-            look(far); all.push(text('row'), rowOf(far, 0).join(), text('shown'), find('plain'));
-            const before = colours(canvas); hit('m');
-            const near = display.marksNear(...display.at(marks[0].x, marks[0].y)); tell(null, near);
-            all.push(marks.length, near.includes(marks[0]), text('told'), text('marks'));
-            all.push([1, 2, 4, 9].map(MapDisplay.core), MapDisplay.shade(1)); return all;''')
+        found = pages_shown.shown(self.at('page.html'), 'limits_map')
         data = pages_shown.data_of(self.at('page.html'))
         rows = [','.join(map(str, view['row'])) for view in data['states'][1]['views']]
         self.assertGreater(found[0], 20)

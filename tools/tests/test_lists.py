@@ -163,12 +163,7 @@ class Lists(Tools):
         plain[1] = plain[1].partition(';')[0]
         self.assertEqual(self.run_tool(*words)[1].decode().splitlines(), plain)
         if pages_shown.BROWSER:
-            found = pages_shown.shown(self.at('page.html'), '''
-                const all = [], buttons = id => [...document.getElementById(id).children];
-                await wait(); all.push(document.getElementById('told').textContent);
-                all.push(buttons('painters').length, buttons('places').map(it => it.textContent));
-                buttons('places')[0].click(); await wait();
-                all.push(picked, document.getElementById('v0').hidden); return all;''')
+            found = pages_shown.shown(self.at('page.html'), 'compare_places')
             self.assertEqual(found[0], 'view 0 column 0 row 0: ours 6, port 5  DIFFERS; painted by wall P2, fragment 1, of LOW, '
                          'WALL, line 1, front side, middle texture WALL, sector 0, light 160')
             self.assertEqual(found[1], 3)

@@ -2,7 +2,6 @@
 the tools say. tools/portable --check makes a page and runs these tests; a page that is made may be tried alone so:
 
     DOOMVIEW_PAGE=out/doomview.html DOOMVIEW_TESTED=out/doomview python3 tools/tests/test_page.py"""
-import base64
 import hashlib
 import json
 import os
@@ -13,7 +12,7 @@ import unittest
 
 import pages_shown
 from made_files import COMMAND, TOP
-from page_driven import BASE64, GAMES, PAGE, READY, SAID, TESTED, Shown, run
+from page_driven import GAMES, PAGE, READY, SAID, TESTED, Shown, run
 from doomview_tools import counting, explanations, levels, list_counts, lists, paths, png, traces, wads, walls
 from systems import check
 
@@ -23,14 +22,8 @@ RAISED = ['--planes', '1024', '--openings', '245760']
 MOST = {'planes': 1024, 'openings': 245760, 'fragments': 256, 'sprites': 128}  # that `limits` counts then
 # Refusals for the WADs alone, whatever the thing table has.
 OF_WADS = r'doomview: refused (4..|5..|6..|7..|90[135])( |$)'
-# Gives the worker that reads levels another thing table.
-TAKE_THINGS = '''(async () => crew.first('setUp', { module: await WebAssembly.compile(bytesOf(BUILT.program)),
-tables: bytesOf(BUILT.tables), things: new TextEncoder().encode(%s) }))()'''
 DRAWN = (901, 903)  # refusals of missing textures and flats, for which the page has stand-ins
 NO_WADS = (401, 402, 403)  # refusals of a file that is no whole WAD, which the page says when it is chosen
-# Drops a path, and as its frames the view that is shown.
-DROP = '''(() => { const dataTransfer = new DataTransfer(); dataTransfer.items.add(new File([%s], 'own.csv'));
-dataTransfer.items.add(new File([walker.view.frame], 'own.bin')); dispatchEvent(new DragEvent('drop', { dataTransfer })); })()'''
 KEYS = {'ArrowUp': 38, 'ArrowLeft': 37, 'ArrowRight': 39, 'ArrowDown': 40}
 
 
@@ -95,7 +88,7 @@ class Views(Shown):
     def test_picture(self):
         """The canvas has the colours of the frame."""
         self.take(self.room)
-        pixels = base64.b64decode(self.value(f"{BASE64}(find('picture').getContext('2d').getImageData(0, 0, 320, 200).data)"))
+        pixels = self.bytes_of("driver.pixels('picture')")
         drawn = self.native('render', self.room, 'MAP01', [paths.Row(*self.value('walker.view.row'))], '--format', 'ppm')
         self.assertEqual(b''.join(pixels[i:i + 3] for i in range(0, len(pixels), 4)), drawn[15:])
 
@@ -173,7 +166,7 @@ class Views(Shown):
         self.browser.choose('#portFrames', [self.at(name) for name in names])
         self.value("find('compare').click(); 0")
         self.browser.wait("find('compared').textContent.startsWith('shot7.png: the colour 1,2,3 at row 0 column 0 is in no entry')")
-        self.value(DROP % json.dumps(paths.text([paths.Row(*self.value('walker.view.row'))])))
+        self.value(f"driver.dropPath({json.dumps(paths.text([paths.Row(*self.value('walker.view.row'))]))})")
         self.browser.wait("find('compared').textContent === 'doomview and own.bin: views 1 same 1 different 0 pixels 0'")
 
     def test_open(self):
@@ -260,7 +253,7 @@ class Wrong(Shown):
         os.chdir(self.folder)
         self.addCleanup(os.chdir, TOP)
         with open(self.at('things.csv'), encoding='utf-8') as file:
-            self.value(TAKE_THINGS % json.dumps(file.read()))
+            self.value(f'driver.takeThings({json.dumps(file.read())})')
         for case in chosen:
             words = explanations.Words(case.arguments())
             sentences = list(explanations.explain(case.expected.line, case.arguments()))
@@ -314,9 +307,7 @@ class Wrong(Shown):
     def test_memory(self):
         """Where the browser gives no memory the page says so, and goes on once there is some."""
         self.take(self.room)
-        self.value('''window.held = Crew.prototype.call; Crew.prototype.call = function (worker, name, words) {
-            return name === 'frame' ? Promise.reject(new Wrong('the browser gave no more memory (test); close other pages and try again')) :
-            held.call(this, worker, name, words); }; walker.again(); 0''')
+        self.value('driver.takeMemory()')
         self.browser.wait(f"{SAID}.includes('no more memory')")
         self.value('Crew.prototype.call = held; walker.again(); 0')
         self.browser.wait('!walker.isBusy')
@@ -337,14 +328,13 @@ class Saved(Shown):
     def test_saved(self):
         """What is saved: the kept views as a path, the picture, a small WAD that draws the same, the numbers."""
         self.take(self.room)
-        saved = '''(() => { window.saved = {}; save = (name, data) => { saved[name] = data; }; })()'''
-        self.value(saved)
+        self.value('driver.catchSaved()')
         self.browser.press('k')
         self.value("['path', 'trim', 'png'].forEach(id => find(id).click()); 0")
         self.browser.wait("Object.keys(saved).length === 3")
         row = self.value('walker.view.row')
         self.assertEqual(self.value("saved['room-map01-views-doors-shut.csv']"), paths.text([paths.Row(*row)]))
-        small = base64.b64decode(self.value(f"{BASE64}(saved['room-map01-small.wad'])"))
+        small = self.bytes_of("saved['room-map01-small.wad']")
         with open(self.at('small.wad'), 'wb') as file:
             file.write(small)
         self.assertEqual(small, self.native('trim', self.room, 'MAP01', []))
@@ -393,8 +383,8 @@ class Saved(Shown):
             self.browser.wait(READY)
             self.take(self.room)
             self.assertLessEqual(self.value('document.documentElement.scrollWidth'), width)
-        named = self.value('''[...document.querySelectorAll('button, select, input, canvas, iframe')].filter(it => it.offsetParent)
-            .filter(it => !(it.textContent.trim() || it.ariaLabel || it.getAttribute('aria-label') || it.title || it.closest('label'))).map(it => it.id)''')
+        self.drive()
+        named = self.value('driver.unnamed(true)')
         self.assertEqual(named, [])
         self.browser.requests = ['file://' + os.path.abspath(PAGE)]
 

@@ -82,10 +82,10 @@ class Why(Shown):
                 record = traces.record_at(trace, 0, x, y)
                 if record[0] in (traces.PLANE, traces.SKY):
                     painted[places.group(view, view.planes[record[2]]).key] += 1
-        here = self.value("Object.values([...why.found.pixels.planes.rows].reduce((sums, row) => { if (row >= 0) sums[row] = (sums[row] || 0) + 1; return sums; }, {}))")
+        here = self.value('driver.planePixels()')
         self.assertEqual(sorted(here), sorted(painted.values()))
         self.value("document.querySelector('#why table tr.link').click(); 0")
-        shown = self.value("[...find('colours').getContext('2d').getImageData(0, 0, 320, 200).data].filter((part, i) => i % 4 === 3 && part).length")
+        shown = self.value("[...driver.pixels('colours')].filter((part, i) => i % 4 === 3 && part).length")
         self.assertIn(shown, here)
         self.assertEqual(shown, self.value("why.found.pixels.planes.rows.filter(row => row === 0).length"))
         self.value("[...document.querySelectorAll('#why button')].at(-1).click(); 0")

@@ -136,8 +136,7 @@ class Keys(Shown):
         self.value("driver.counted('256')")
         for panel in ('', *self.value("[...document.querySelectorAll('#tabs button')].map(it => it.dataset.panel)")):
             self.value(f"{panel!r} && showPanel({panel!r}, true); 0")
-            named = self.value("[...document.querySelectorAll('button, select, input, canvas, iframe')].filter(it => it.offsetParent && !it.ariaHidden)"
-                               ".filter(it => !(it.textContent.trim() || it.ariaLabel || it.getAttribute('aria-label') || it.title || it.closest('label'))).map(it => it.id)")
+            named = self.value('driver.unnamed()')
             self.assertEqual(named, [])
 
 
