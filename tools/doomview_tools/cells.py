@@ -10,12 +10,12 @@ from collections.abc import Iterable, Iterator, Sequence
 
 from .counting import CAPPED, COUNTS, Runs
 from .doom import LIMITS
-from .earlier import Start
+from .earlier_run import Start
 from .ground import Ground, has_height
 from .levels import EYE_HEIGHT, TURN, UNIT
 from .list_counts import Counts
 from .paths import Row
-from .ways import Reach
+from .player_reach import Reach
 
 MOST_PLACES, MOST_CUT = 9000, 700
 CUTS = 2

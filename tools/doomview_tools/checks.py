@@ -8,7 +8,7 @@ import functools
 import typing
 from collections.abc import Callable, Iterable, Iterator
 
-from . import ground, levels, program, ways
+from . import ground, levels, player_reach, program
 from .art import Art, Texture
 from .doom import (EVERY_SKILL, FRONT_AND_BACK, LOWER_UNPEGGED, PLACES, PLAYER_1, SKY, SPECTRE, THINGS, TWO_SIDED,
                    UPPER_UNPEGGED)
@@ -85,7 +85,7 @@ class Check:
 
     def __init__(self, level: levels.Level, art: Art) -> None:
         self.level, self.art, self.plan = level, art, ground.Plan(level)
-        self.reached = functools.cache(lambda: ways.reach(self.plan).sectors or set(range(len(level.sectors))))
+        self.reached = functools.cache(lambda: player_reach.reach(self.plan).sectors or set(range(len(level.sectors))))
         self.lines_of = collections.defaultdict(list)
         for number, line in enumerate(level.lines):
             for side in line.sides:

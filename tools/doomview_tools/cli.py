@@ -13,7 +13,7 @@ import types
 import typing
 from collections.abc import Callable, Container, Iterable, Sequence
 
-from . import jobs, levels, program, wads
+from . import call_words, job_options, jobs, levels, program, wads, word_checks
 from .files import Output, Source, check_outputs
 from .trouble import Trouble
 
@@ -95,7 +95,7 @@ class Parser(argparse.ArgumentParser):
     def error(self, message: str) -> typing.NoReturn:
         wrong = message.startswith('unrecognized arguments: ') and message.split()[2].partition('=')[0]
         names = [name for argument in self.arguments for name in argument.names]
-        near = jobs.guess(wrong, names) if wrong and wrong.startswith('--') else ''
+        near = word_checks.guess(wrong, names) if wrong and wrong.startswith('--') else ''
         raise Trouble(f'{message.replace("argument ", "")}{near}; {self.prog} --help shows its words')
 
     def format_usage(self) -> str:
@@ -199,7 +199,7 @@ def forms_of(tool: types.ModuleType) -> list[str]:
 
 def add_job_options(parser: argparse.ArgumentParser, job: str, without: Iterable[str] = ()) -> None:
     """The options of a job that a tool hands on to it."""
-    for option in jobs.options_of(job):
+    for option in job_options.options_of(job):
         if option.name not in without:
             parser.add_argument(option.name, metavar=option.value, dest=JOB_OPTION + option.name, help=meaning_of(option),
                                 type=Source if option.value == 'FILE' else str)
@@ -230,10 +230,10 @@ def job_page(job: jobs.Job, needs: str = BUILT, without: Container[object] = (jo
     parser = Parser(Page(job.name, job.summary, job.text, job.examples, needs, ends))
     for metavar, meaning in job.words:
         parser.add_argument(metavar, metavar=metavar, help=meaning)
-    for option in jobs.options_of(job.name):
+    for option in job_options.options_of(job.name):
         parser.add_argument(option.name, metavar=option.value, help=meaning_of(option),
                             required=option.is_needed and not option.default)
-    for own in [own for own in jobs.OWN_OPTIONS if own.name not in without]:
+    for own in [own for own in job_options.OWN_OPTIONS if own.name not in without]:
         if own.jobs in ('all', job.name) and own.value:
             parser.add_argument(own.name, metavar=own.value, help=own.meaning)
         elif own.jobs in ('all', job.name):
@@ -242,7 +242,7 @@ def job_page(job: jobs.Job, needs: str = BUILT, without: Container[object] = (jo
     return parser.format_help()
 
 
-def meaning_of(option: jobs.Option) -> str:
+def meaning_of(option: job_options.Option) -> str:
     """What an option means, its range, and what it is where it is not named."""
     parts = [option.meaning]
     if option.least is not None:
@@ -257,7 +257,7 @@ def meaning_of(option: jobs.Option) -> str:
 def in_order(options: argparse.Namespace) -> argparse.Namespace:
     """The words of a tool, a WAD and a map in either order where the words tell."""
     wad, name = getattr(options, 'wad', None), getattr(options, 'map', None)
-    if isinstance(wad, str) and isinstance(name, str) and jobs.is_wad(name) and not jobs.is_wad(wad):
+    if isinstance(wad, str) and isinstance(name, str) and call_words.is_wad(name) and not call_words.is_wad(wad):
         options.wad, options.map = Wad(name), str(wad)
     return options
 

@@ -1,7 +1,7 @@
 """The words of a tool that knows the limits of a view: --planes, --openings, --fragments, --sprites, --solids."""
 import argparse
 
-from . import cli, jobs
+from . import cli, job_options
 from .counting import COUNTS, LIMITS
 
 MOST = 65535  # of what a port may allow
@@ -17,7 +17,7 @@ def add_words(parser: argparse.ArgumentParser) -> None:
 
 def range_of(name: str) -> tuple[int, int]:
     """The least and the greatest limit that a tool takes: those of the job where it has one."""
-    option = jobs.options().get(f'--{name}')
+    option = job_options.options().get(f'--{name}')
     if option is None or option.least is None or option.greatest is None:
         return LIMITS[name], MOST
     return option.least, option.greatest

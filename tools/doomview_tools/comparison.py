@@ -9,8 +9,8 @@ import signal
 import typing
 from collections.abc import Callable, Iterator, Sequence
 
-from . import (cli, diagnoses, differences, frame_files, lights, lists, setup_trials, shares, silhouettes, system, traces,
-               vectors, wads)
+from . import (cli, diagnoses, differences, frame_files, lights, list_files, map_places, setup_trials, shares,
+               silhouettes, system, traces, vectors, wads)
 from .frames import SIZE, WIDTH
 from .progress import Progress
 from .trouble import Trouble
@@ -82,7 +82,7 @@ class Files:
         self.known = vectors.of_frames(options.vectors, options.port) if options.vectors else []
         if options.trace and traces.count_views(options.trace) != self.counts[0]:
             raise Trouble(f'{options.trace} is not the trace of {self.counts[0]} views, as {options.ours} has them')
-        self.placing = lists.placing_of(options, files, self.counts[0], self.names, bool(options.path))
+        self.placing = map_places.placing_of(options, files, self.counts[0], self.names, bool(options.path))
         self.run = run_of(options, files, self.counts[0])
         self.views = cli.views_of(options.views, min(self.counts)) if options.views is not None else \
             range(min(self.counts))
@@ -102,7 +102,7 @@ class Files:
     def left_out(self, number: int) -> set[int]:
         """The numbers of a view's sprites that do not count."""
         least = self.options.least_width
-        return lists.narrow(self.placing.view(number), least) if self.placing and least > 1 else set()
+        return list_files.narrow(self.placing.view(number), least) if self.placing and least > 1 else set()
 
     def records(self, view: int) -> bytes:
         with open(self.options.trace, 'rb') as file:
@@ -203,7 +203,7 @@ class Summary:
         if files.placing:
             self.add_lights(files.placing, view.number, pixels)
 
-    def add_lights(self, placing: lists.Placing, number: int, pixels: traces.Pixels) -> None:
+    def add_lights(self, placing: map_places.Placing, number: int, pixels: traces.Pixels) -> None:
         """Takes the lights of what differs in a view."""
         items = placing.view(number)
         for painter, numbers in pixels.items():

@@ -3,9 +3,9 @@ limits. The tables of specials, things and limits are data/game.json, which the 
 import json
 import typing
 
-from . import home
+from . import installation
 
-with open(home.data('game.json'), encoding='utf-8') as file:
+with open(installation.data('game.json'), encoding='utf-8') as file:
     GAME: dict[str, typing.Any] = json.load(file)
 LINES, SECTORS, THINGS = GAME['lines'], GAME['sectors'], GAME['things']  # specials of lines and sectors; types of things
 

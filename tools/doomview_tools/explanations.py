@@ -8,11 +8,13 @@ import sys
 import typing
 from collections.abc import Callable, Iterable, Iterator
 
-from . import notes, paths, program, system, wads
+from . import paths, program, silent_mistakes, system, wads
+from .call_words import Words
 from .doom import PLACES, SPECTRE
-from .jobs import LEVEL_JOBS, Words, wrong_words
+from .jobs import LEVEL_JOBS
 from .refusals import Scene, sentences as sentences_on
 from .trouble import Ended, Trouble
+from .word_checks import wrong_words
 
 Sentences = Iterator[str]
 CHUNK = 1 << 20
@@ -108,7 +110,7 @@ def undrawn(scene: Scene, things: str) -> Sentences:
 def remarks(words: Words, things: str) -> Sentences:
     """Sentences on what is not refused, and may still be a mistake."""
     scene = Scene(words)
-    yield from (f'{sentence}.' for sentence in notes.of_words(words))
+    yield from (f'{sentence}.' for sentence in silent_mistakes.of_words(words))
     if scene.file and len(scene.wads) > 1:
         yield f'{scene.map_name} is that of {scene.file}.'
     if os.path.isfile(things):

@@ -1,4 +1,4 @@
-"""Where a player can stand in a level: between its lines, with room, off the walls. Where he gets: ways.
+"""Where a player can stand in a level: between its lines, with room, off the walls. Where he gets: player_reach.
 
 A row is a y between two whole numbers, so that no vertex lies on it."""
 import bisect

@@ -10,7 +10,7 @@ from . import traces
 from .cells import Cell, Grid
 from .checks import findings
 from .counting import COUNTS, Runs
-from .earlier import Change
+from .earlier_run import Change
 from .findings import GRADES, places
 from .frames import HEIGHT, SIZE, WIDTH
 from .ground import Plan

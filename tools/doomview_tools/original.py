@@ -5,12 +5,12 @@ import os
 import subprocess
 from collections.abc import Container, Iterable, Sequence
 
-from . import home, paths, program, weapons
+from . import installation, paths, program, weapons
 from .counting import RAISED
 from .frames import SIZE as FRAME
 from .trouble import Trouble
 
-FOLDER = os.path.join(home.TOOLS, 'original')
+FOLDER = os.path.join(installation.TOOLS, 'original')
 # Of each rule: the program in FOLDER, and its further words.
 RULES = {'memory': ('still', ['-zerotail']), 'mark': ('still-mark', ['-zerotail']),
          'tangent': ('still-tangent', ['-zerotail']), 'back': ('still-back', ['-zerotail']),

@@ -6,7 +6,7 @@ import re
 import typing
 from collections.abc import Iterable, Sequence
 
-from . import home
+from . import installation
 from .frames import HEIGHT, WIDTH
 from .png import indexed_png
 from .trouble import Trouble
@@ -40,7 +40,7 @@ def column(numbers: Sequence[int]) -> Column:
 
 def text_of_file(name: str) -> str:
     """The text of a file of data/; a Trouble where it is missing."""
-    path = home.data(name)
+    path = installation.data(name)
     try:
         with open(path, encoding='utf-8') as file:
             return file.read()
@@ -53,7 +53,7 @@ def page(template: str, data: object, plain: str = '') -> bytes:
     that its script has parts in."""
     text = text_of_file(template)
     if PLACE not in text:
-        raise Trouble(f'{home.data(template)} is missing or damaged; take the whole folder of doomview anew')
+        raise Trouble(f'{installation.data(template)} is missing or damaged; take the whole folder of doomview anew')
     text = SCRIPT.sub(lambda named: text_of_file(named[1]), text)
     return text.replace(PLAIN, html.escape(plain)).replace(PLACE, json_of(data)).encode()
 

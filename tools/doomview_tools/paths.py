@@ -139,7 +139,7 @@ def turn(level: Level, views: int) -> list[Row]:
             for view in range(views)]
 
 
-class Choice:
+class RandomPlaces:
     """Places of a level that are chosen at random, the same for the same words."""
 
     def __init__(self, level: Level, words: str) -> None:
@@ -185,6 +185,6 @@ class Choice:
 def places(level: Level, count: int, seed: int, wild: bool = False) -> list[Row]:
     """The player start and `count` places more, chosen at random: the same for the same words."""
     start = level.player_start()
-    choice = Choice(level, f'{seed} {count} {wild}')
-    first = choice.row(start.x * UNIT, start.y * UNIT, start_angle(start))
-    return [first] + [choice.wild(number) if wild else choice.beside_thing() for number in range(count)]
+    chosen = RandomPlaces(level, f'{seed} {count} {wild}')
+    first = chosen.row(start.x * UNIT, start.y * UNIT, start_angle(start))
+    return [first] + [chosen.wild(number) if wild else chosen.beside_thing() for number in range(count)]

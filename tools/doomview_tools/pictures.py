@@ -8,7 +8,7 @@ import types
 import typing
 from collections.abc import Callable
 
-from . import diagnoses, home
+from . import diagnoses, installation
 from .frames import SIZE, WIDTH
 from .trouble import Trouble
 
@@ -16,7 +16,7 @@ from .trouble import Trouble
 @functools.lru_cache(maxsize=None)
 def reader() -> types.ModuleType:
     """The module vectors/pictures.py."""
-    path = os.path.join(home.TOP, 'vectors', 'pictures.py')
+    path = os.path.join(installation.TOP, 'vectors', 'pictures.py')
     if not os.path.isfile(path):
         raise Trouble(f'{path} is missing; take the whole folder of doomview anew')
     spec = importlib.util.spec_from_file_location('vectors_pictures', path)

@@ -11,10 +11,12 @@ import tempfile
 import typing
 from collections.abc import Iterable
 
-from . import home, tables
+from . import installation, tables
+from .call_words import Words
 from .files import WholeFile, check_outputs, is_terminal, write_whole
-from .jobs import LEVEL_JOBS, NO_PROGRAM, USAGE, WRITE_FAULT, Words, wrong_words
+from .jobs import LEVEL_JOBS, NO_PROGRAM, USAGE, WRITE_FAULT
 from .trouble import Ended, Trouble
+from .word_checks import wrong_words
 
 SECONDS = 300  # that a run of the sources without proofs may take
 SENTENCE = 'explain: '  # before each sentence on a line of the program
@@ -40,7 +42,7 @@ def named_program() -> str:
 
 def path() -> str:
     """The path of the program."""
-    return os.path.abspath(named_program() or home.PROGRAM)
+    return os.path.abspath(named_program() or installation.PROGRAM)
 
 
 def is_source(name: str) -> bool:
@@ -63,7 +65,7 @@ def is_current(program: str, top: str) -> bool:
 
 def is_built() -> bool:
     """Whether the program can run at once."""
-    return bool(named_program()) or home.IS_RELEASE or is_current(home.PROGRAM, home.TOP)
+    return bool(named_program()) or installation.IS_RELEASE or is_current(installation.PROGRAM, installation.TOP)
 
 
 def ready() -> str:
@@ -130,7 +132,7 @@ def tables_file() -> str:
 
 def things_file() -> str:
     """The path of the thing table of the games."""
-    return home.data('things.csv')
+    return installation.data('things.csv')
 
 
 def complete(words: Iterable[str]) -> list[str]:
@@ -246,7 +248,7 @@ def run_sources(words: list[str], output: Output) -> Run:
     words = [with_own_name(word, files) for word in words]
     data = [part for name, file in files.items() for part in ('--data', f'{name}={file}')]
     status, written, said = call(['rt', 'try', '--steps', '1', '--seconds', str(SECONDS), *data, '--', *words], output,
-                                 os.path.join(home.TOP, 'crates', 'doomview'))
+                                 os.path.join(installation.TOP, 'crates', 'doomview'))
     lines = said.decode(errors='replace').splitlines()
     line = ([text for text in lines if text.startswith('doomview: ')] or [''])[-1]
     if line or status == 0:

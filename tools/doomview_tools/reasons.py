@@ -8,9 +8,10 @@ from . import list_counts, paths
 from .doom import FRONT_AND_BACK
 from .levels import Level
 from .list_counts import Counts
-from .lists import SHOWN_SECTORS, Group, Key, Places, Sums, View, sectors_in_words, some_of
+from .list_files import Sums, View
+from .map_places import SHOWN_SECTORS, Group, Key, Places, sectors_in_words, some_of
 from .paths import Row
-from .ways import WANTED
+from .player_reach import WANTED
 from .what_if import Result
 
 SHOWN = 20  # lines of a table
@@ -195,7 +196,7 @@ def plane_table(view: View, places: Places, shown: Shown) -> Iterator[str]:
     left = groups[len(rows):]
     yield from lines_of(['planes', 'splits', 'columns', 'flat', 'of', 'height', 'light', 'sectors'], rows,
                         [True, True, True, False, False, True, True, False])
-    yield from rest(left, sum(made.planes for _, made in left), 'planes')
+    yield from lines_not_shown(left, sum(made.planes for _, made in left), 'planes')
 
 
 def split_table(view: View, places: Places, shown: Shown) -> Iterator[str]:
@@ -210,7 +211,7 @@ def split_table(view: View, places: Places, shown: Shown) -> Iterator[str]:
     left = found[len(rows):]
     yield from lines_of(['splits', 'line', 'side', 'sectors', 'what differs', 'of'], rows,
                         [True, True, False, False, False, False])
-    yield from rest(left, sum(sum(counts.values()) for *_, counts in left), 'splits')
+    yield from lines_not_shown(left, sum(sum(counts.values()) for *_, counts in left), 'splits')
 
 
 def fragment_table(view: View, places: Places, shown: Shown) -> Iterator[str]:
@@ -221,7 +222,7 @@ def fragment_table(view: View, places: Places, shown: Shown) -> Iterator[str]:
         for sector, lines in found[:shown]]
     left = found[len(rows):]
     yield from lines_of(['fragments', 'sector', 'lines'], rows, [True, True, False])
-    yield from rest(left, sum(sum(lines.values()) for _, lines in left), 'fragments')
+    yield from lines_not_shown(left, sum(sum(lines.values()) for _, lines in left), 'fragments')
 
 
 def sprite_table(view: View, places: Places, shown: Shown) -> Iterator[str]:
@@ -233,7 +234,7 @@ def sprite_table(view: View, places: Places, shown: Shown) -> Iterator[str]:
         for kind, numbers in found[:shown]]
     left = found[len(rows):]
     yield from lines_of(['sprites', 'type', 'what', 'places'], rows, [True, True, False, False])
-    yield from rest(left, sum(len(numbers) for _, numbers in left), 'sprites')
+    yield from lines_not_shown(left, sum(len(numbers) for _, numbers in left), 'sprites')
 
 
 def range_table(walls: View, places: Places, shown: Shown) -> Iterator[str]:
@@ -241,7 +242,7 @@ def range_table(walls: View, places: Places, shown: Shown) -> Iterator[str]:
     found = list(range_makers(walls))
     rows = [[str(places.level.segs[seg].line), f'{first} to {last}'] for seg, first, last in found[:shown]]
     yield from lines_of(['solid range of line', 'columns'], rows, [True, False])
-    yield from rest(found[len(rows):], len(found) - len(rows), 'solid ranges')
+    yield from lines_not_shown(found[len(rows):], len(found) - len(rows), 'solid ranges')
 
 
 def change_table(results: Iterable[Result], counts: Counts, shows_all: bool) -> Iterator[str]:
@@ -262,7 +263,7 @@ def lines_of(head: list[str], rows: list[list[str]], is_right: list[bool]) -> It
         yield from table([head, *rows], is_right)
 
 
-def rest(left: Sized, count: int, what: str) -> Iterator[str]:
+def lines_not_shown(left: Sized, count: int, what: str) -> Iterator[str]:
     """A line on the lines of a table that are not shown."""
     if left:
         yield f'  {count} more {what} in {len(left)} lines that --all shows'

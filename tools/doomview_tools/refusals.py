@@ -8,8 +8,8 @@ import re
 import struct
 from collections.abc import Callable, Iterable, Iterator
 
-from . import art, checks, doom, home, levels, wads
-from .jobs import Words
+from . import art, checks, doom, installation, levels, wads
+from .call_words import Words
 from .trouble import Trouble, WadError
 
 Numbers = list[int]  # of a refusal
@@ -40,7 +40,7 @@ SHOWN_LINES = 12
 def codes() -> dict[int, tuple[str, str]]:
     """From REFUSALS.md: for each code what is wrong and how to mend it. `the same` is what stands above."""
     try:
-        with open(os.path.join(home.DOCS, 'REFUSALS.md'), encoding='utf-8') as file:
+        with open(os.path.join(installation.DOCS, 'REFUSALS.md'), encoding='utf-8') as file:
             rows = re.findall(r'^\| (\d{3,4}) \|([^|\n]*)\|([^|\n]*)\|([^|\n]*)\|', file.read(), re.M)
     except OSError:
         rows = []

@@ -9,7 +9,7 @@ import tempfile
 import typing
 from collections.abc import Callable, Sequence
 
-from . import differences, jobs, paths, program, weapons
+from . import differences, job_options, paths, program, weapons
 from .frames import SIZE
 from .levels import EYE_HEIGHT, TURN, UNIT
 from .paths import Row
@@ -99,7 +99,7 @@ class Run:
             raise Trouble(f'{path} is no file of weapon layers') from error
 
     def value(self, option: str) -> str:
-        return self.words.get(option) or jobs.options()[option].default
+        return self.words.get(option) or job_options.options()[option].default
 
     def of_words(self) -> list[Change]:
         """The changes of the words of this run."""

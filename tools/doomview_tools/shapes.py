@@ -4,7 +4,7 @@ import collections
 import typing
 from collections.abc import Callable, Collection, Iterable, Iterator
 
-from . import differences, lights, lists, traces
+from . import differences, lights, list_files, traces
 from .doom import COLORMAP_SIZE
 from .frames import HEIGHT, SIZE, WIDTH
 from .texels import Texels
@@ -26,7 +26,7 @@ class Sample(typing.NamedTuple):
     records: bytes
     marks: bytes
     pixels: Pixels
-    items: typing.Optional[lists.View]
+    items: typing.Optional[list_files.View]
 
 
 Step = tuple[int, int]  # rows and columns

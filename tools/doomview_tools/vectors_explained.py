@@ -11,7 +11,7 @@ import sys
 import typing
 from collections.abc import Iterable, Iterator, Sequence
 
-from . import home, paths, vectors, weapons
+from . import installation, paths, vectors, weapons
 from .files import write_whole
 from .frames import SIZE
 from .trouble import FOUND, Trouble
@@ -56,7 +56,7 @@ def draw_all(test: Test, views: Sequence[View], folder: str) -> Drawn:
 
 def compare(words: list[str], folder: str) -> str:
     """What `doomview compare` prints; it runs in a folder."""
-    main = os.path.join(home.TOOLS, 'doomview_tools', '__main__.py')
+    main = os.path.join(installation.TOOLS, 'doomview_tools', '__main__.py')
     done = subprocess.run([sys.executable, main, 'compare', *words], cwd=folder, stdin=subprocess.DEVNULL,
                           stdout=subprocess.PIPE, stderr=subprocess.PIPE, text=True)
     if done.returncode not in (0, FOUND):

@@ -14,7 +14,7 @@ import time
 from collections.abc import Iterator, Mapping
 
 import screens
-from doomview_tools import paths, rest
+from doomview_tools import game_at_rest, paths
 from doomview_tools.files import write_whole
 from doomview_tools.levels import EYE_HEIGHT, UNIT
 from doomview_tools.trouble import Trouble
@@ -196,9 +196,9 @@ class Game:
         os.remove(self.at('video.rgb'))
         return [screens.sampled(width, height, shot) for shot in still_ones(shots, views, 3)]
 
-    def row_frames(self, still: rest.Rest, rows: list[paths.Row], skill: int) -> list[bytes]:
+    def row_frames(self, still: game_at_rest.MapAtRest, rows: list[paths.Row], skill: int) -> list[bytes]:
         """The views of rows, each by a savegame of the map at rest with another place of the player."""
-        write_whole(self.at('still.lmp'), rest.saving_demo(still.level.name, skill))
+        write_whole(self.at('still.lmp'), game_at_rest.saving_demo(still.level.name, skill))
         with screen() as display:
             self.environment['DISPLAY'] = display
             self.run_to_end('-playdemo', 'still')

@@ -15,7 +15,7 @@ from collections.abc import Iterator
 from types import ModuleType
 from typing import TYPE_CHECKING, Any, NamedTuple
 
-from doomview_tools import home
+from doomview_tools import installation
 from doomview_tools.trouble import Trouble
 
 from . import chromium, kit, scripts
@@ -23,7 +23,7 @@ from . import chromium, kit, scripts
 if TYPE_CHECKING:  # when it runs, golden() finds them
     from cases import Case, Outcome, Runner
 
-GOLDEN = os.path.join(home.TOP, 'tests', 'golden')
+GOLDEN = os.path.join(installation.TOP, 'tests', 'golden')
 WINE = ('wine', 'wine64')
 WINE_NAMES = ('WINEPREFIX', 'WINEDEBUG', 'WINEDLLOVERRIDES')  # variables
 LAYOUT = ['setarch', '-R']  # words before a command, which starts with no random layout of memory then
@@ -205,7 +205,7 @@ def say(text: str) -> None:
 def status_of_tests(test: str, part: str, path: str) -> int:
     """How a part of the tests of what is made ends; they find it by a variable. What they say is shown at their end."""
     variable = 'DOOMVIEW_EXE' if test == 'test_exe' else 'DOOMVIEW_PAGE'
-    words = [sys.executable, '-B', '-m', 'unittest', 'discover', '-s', os.path.join(home.TOOLS, 'tests'), '-p', f'{test}.py', '-k', part]
+    words = [sys.executable, '-B', '-m', 'unittest', 'discover', '-s', os.path.join(installation.TOOLS, 'tests'), '-p', f'{test}.py', '-k', part]
     done = subprocess.run(words, env={**os.environ, variable: path, 'DOOMVIEW_TESTED': native()}, stdin=subprocess.DEVNULL,
                           stdout=subprocess.PIPE, stderr=subprocess.STDOUT, errors='replace')
     say(f'{test}, {part}: {done.stdout.rstrip()}')

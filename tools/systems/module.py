@@ -10,7 +10,7 @@ import shutil
 import tempfile
 from collections.abc import Callable
 
-from doomview_tools import home
+from doomview_tools import installation
 from doomview_tools.files import write_whole
 from doomview_tools.trouble import Trouble
 
@@ -27,7 +27,7 @@ UNKNOWN = 'this kit is not one that tools/portable knows'
 
 def crates() -> dict[str, list[str]]:
     """The crates of this repository by crates.txt, each with those of them that it names."""
-    with open(os.path.join(home.TOP, 'crates.txt'), encoding='utf-8') as file:
+    with open(os.path.join(installation.TOP, 'crates.txt'), encoding='utf-8') as file:
         lines = [line.partition('#')[0].partition(':') for line in file]
     named = {head.split()[0]: rest.split() for head, _, rest in lines if head.strip()}
     return {name: [below for below in rest if below in named] for name, rest in named.items()}
@@ -49,7 +49,7 @@ def below(name: str) -> list[str]:
 
 def library(crate: str) -> str:
     """The folder of a crate's library, which the build made."""
-    folder = os.path.join(home.TOP, 'crates', crate, 'out', 'rlib')
+    folder = os.path.join(installation.TOP, 'crates', crate, 'out', 'rlib')
     if not os.path.isdir(folder):
         raise Trouble(f'there is no {folder}; build the program first, by ./doomview --build')
     return folder
@@ -87,7 +87,7 @@ def build_words(kit_folder: str, made: str, tools: str, more: tuple[str, ...] = 
 def copied_crate(folder: str) -> str:
     """A copy of the program's crate, in which it is built; its folder."""
     crate = os.path.join(folder, CRATE)
-    shutil.copytree(os.path.join(home.TOP, 'crates', CRATE), crate, ignore=shutil.ignore_patterns('doomview*'))
+    shutil.copytree(os.path.join(installation.TOP, 'crates', CRATE), crate, ignore=shutil.ignore_patterns('doomview*'))
     return crate
 
 
@@ -109,7 +109,7 @@ def bytes_of(path: str) -> bytes:
 
 def stored(kind: str, parts: list[bytes], make: Callable[[], bytes]) -> bytes:
     """What a function makes of some parts; it is kept in out/previews until something else is made of other parts."""
-    folder, key = os.path.join(home.TOP, 'out', STORE), hashlib.sha256(b''.join(hashlib.sha256(part).digest() for part in parts))
+    folder, key = os.path.join(installation.TOP, 'out', STORE), hashlib.sha256(b''.join(hashlib.sha256(part).digest() for part in parts))
     path = os.path.join(folder, f'{kind}-{key.hexdigest()[:32]}')
     if not os.path.isfile(path):
         data = make()

@@ -11,7 +11,7 @@ import unittest
 
 import pages_shown
 from made_files import COMMAND, Tools, name, wad
-from doomview_tools import cells, counting, earlier, ground, levels, limits_page, traces, ways
+from doomview_tools import cells, counting, earlier_run, ground, levels, limits_page, player_reach, traces
 
 COARSE = ['--step', '256', '--directions', '4']
 TESTED = os.environ.get('DOOMVIEW_TESTED', '')
@@ -118,7 +118,7 @@ class LimitsMap(Tools):
         self.assertEqual([place(x, y) for x, y in [(256, 256.5), (800, 256.5), (2150, 150.5)]], [0, 2, 3])
         nowhere = [(544, 256.5), (1500, 100.5), (8, 256.5), (256, 600.5), (-9, 9.5)]
         self.assertEqual([place(x, y) for x, y in nowhere], [None] * 5)
-        self.assertEqual(ways.reach(plan), ({0, 1, 2}, {}))
+        self.assertEqual(player_reach.reach(plan), ({0, 1, 2}, {}))
         self.assertEqual(plan.doors(), {1: 124})
         patch = self.write('open.wad', ground.with_ceilings(plan.level, plan.doors()))
         opened = ground.Plan(levels.read([patch], 'MAP01'))
@@ -205,7 +205,7 @@ class LimitsMap(Tools):
                 ([(0, 0, 64, 140), (64, 0, 64, 130), (192, 0, 64, 129)], 'worse', [(192, 0, None, 129)]),
                 ([(0, 0, 64, 140), (64, 0, 64, 130), (128, 0, 64, 128)], 'fewer', []),
                 ([(0, 0, 64, 120), (64, 0, 64, 131)], 'worse', [(0, 0, 140, 120), (64, 0, 130, 131)])]:
-            found = earlier.comparison_of({'states': [old]}, {'states': [state(*squares)]}, counting.LIMITS)
+            found = earlier_run.comparison_of({'states': [old]}, {'states': [state(*squares)]}, counting.LIMITS)
             self.assertEqual([tuple(change[2:]) for change in found.changes], changes, squares)
             self.assertEqual((found.lines[0].split(',')[0], found.is_worse), (verdict, verdict == 'worse'), squares)
 
@@ -311,7 +311,8 @@ class LimitsMap(Tools):
         """A page of as many places and views as there can be is no larger than 3 MB, and the worst have pictures."""
         plan = ground.Plan(levels.read([self.hall], 'MAP01'))
         options = types.SimpleNamespace(limits=counting.LIMITS, all=True, step=8, directions=8, views=20)
-        states = [limits_page.State(label, cells.Grid(ground.Ground(plan), Made(), Made(), ways.reach(plan), options), Made())
+        reach = player_reach.reach(plan)
+        states = [limits_page.State(label, cells.Grid(ground.Ground(plan), Made(), Made(), reach, options), Made())
                   for label in ('shut', 'open')]
         self.assertGreater(min(len(state.grid.cells) for state in states), 9000)
         made = limits_page.limits_page(plan, [self.hall], states, bytes(768), options, {1: 124}, '')

@@ -13,7 +13,8 @@ import unittest
 import pages_shown
 from made_files import COMMAND, TOP
 from page_driven import GAMES, PAGE, READY, SAID, TESTED, Shown, run
-from doomview_tools import counting, explanations, levels, list_counts, lists, paths, png, traces, wads, walls
+from doomview_tools import (counting, explanations, levels, list_counts, list_files, map_places, paths, png, traces,
+                            wads, walls)
 from systems import check
 
 COUNTED = [('freedoom2.wad', name) for name in ('MAP01', 'MAP02', 'MAP07')] + [('freedoom1.wad', name) for name in ('E1M1', 'E1M6')]
@@ -103,8 +104,8 @@ class Views(Shown):
             for path, job in ((trace, 'trace'), (found, 'list')):
                 with open(path, 'wb') as file:
                     file.write(self.native(job, wad, name, [row]))
-            names, view = traces.Names([wad]), lists.ListFile(found).view(0)
-            places = lists.Places(levels.read([wad], name), names, found)
+            names, view = traces.Names([wad]), list_files.ListFile(found).view(0)
+            places = map_places.Places(levels.read([wad], name), names, found)
             for _ in range(40):
                 x, y = chance.randrange(320), chance.randrange(200)
                 record = traces.record_at(trace, 0, x, y)

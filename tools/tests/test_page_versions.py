@@ -8,7 +8,7 @@ import unittest
 from made_files import COMMAND
 from made_maps import Map
 from page_driven import GAMES, SAID, TESTED, Shown
-from doomview_tools import earlier, levels, paths, wads
+from doomview_tools import earlier_run, levels, paths, wads
 
 STEP = '256'
 
@@ -59,7 +59,7 @@ class Versions(Shown):
         marks = self.value('earlier.marks().map(mark => mark.told)')
         self.assertEqual(len(marks), sum(change['doors'] == 'shut' and change['count'] == 'planes' for change in here['changes']))
         self.assertIn('worse', {mark.split(',')[0] for mark in marks})
-        self.assertEqual(earlier.SHOWN, 4)
+        self.assertEqual(earlier_run.SHOWN, 4)
 
     @unittest.skipUnless(GAMES, 'Freedoom is not installed')
     def test_dropped_count(self):

@@ -8,7 +8,7 @@ import unittest
 
 from made_files import COMMAND
 from page_driven import GAMES, TESTED, Shown
-from doomview_tools import levels, lists, paths, traces
+from doomview_tools import levels, list_files, map_places, paths, traces
 
 TABLES = {'planes': 'planes', 'splits': 'splits', 'fragments': 'fragments', 'sprites': 'sprites', 'solid range of line': 'solids', 'saves': 'savings'}
 VIEWS = [('MAP01', '25165824,-81788928,-3604480,1073741824'), ('MAP02', '57671680,7372800,7405568,2684354560'),
@@ -75,7 +75,7 @@ class Why(Shown):
         for path, job in ((trace, 'trace'), (listed, 'list')):
             with open(path, 'wb') as file:
                 file.write(super().native(job, self.room, 'MAP01', [row]))
-        view, places = lists.ListFile(listed).view(0), lists.Places(levels.read([self.room], 'MAP01'), traces.Names([self.room]), listed)
+        view, places = list_files.ListFile(listed).view(0), map_places.Places(levels.read([self.room], 'MAP01'), traces.Names([self.room]), listed)
         painted = collections.Counter()
         for y in range(200):
             for x in range(320):

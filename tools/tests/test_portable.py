@@ -8,7 +8,7 @@ import unittest
 from unittest import mock
 
 from made_files import TOOLS, TOP, Tools
-from doomview_tools import command, home, jobs, levels, refusals, room, tables, wads
+from doomview_tools import command, installation, job_options, jobs, levels, refusals, room, tables, wads
 from doomview_tools.trouble import Trouble
 from systems import built_in, check, ir, kit, module, page, static, targets
 
@@ -133,7 +133,7 @@ class Kit(Tools):
         self.write('top/crates/doomview/out/doomview.o', b'compiled\n')
         self.put(os.environ, 'PATH', self.at('path') + os.pathsep + os.environ['PATH'])
         self.put(vars(kit), 'OBJECT', self.at('top/crates/doomview/out/doomview.o'))
-        self.put(vars(kit.home), 'TOP', self.at('top'))
+        self.put(vars(kit.installation), 'TOP', self.at('top'))
 
     def put(self, place, name, value):
         before = place[name]
@@ -354,7 +354,7 @@ class BuiltIn(unittest.TestCase):
     def test_files(self):
         """doomview.exe has the tables, the things and the room as the tools have them."""
         source = built_in.source()
-        for name, data in (('tables', tables.tables()), ('things', module.bytes_of(home.data('things.csv'))), ('room', room.room())):
+        for name, data in (('tables', tables.tables()), ('things', module.bytes_of(installation.data('things.csv'))), ('room', room.room())):
             numbers = re.search(r'bytes_of_%s\[\] = \{([^}]*)\}' % name, source)[1].split(',')
             self.assertEqual(bytes(map(int, numbers)), data)
             self.assertIn(f'{{"<{name}>", bytes_of_{name}, {len(data)}}}', source)
@@ -364,7 +364,7 @@ class BuiltIn(unittest.TestCase):
         source = built_in.source()
         for number, job in enumerate(jobs.JOBS.values()):
             self.assertIn(f'{{"{job.name}", {int(job.name in jobs.LEVEL_JOBS)}, {int(job.is_binary)}, ', source)
-            for option in jobs.options().values():
+            for option in job_options.options().values():
                 bits = int(re.search(r'\{"%s", (\d+), ' % option.name, source)[1])
                 self.assertEqual(bool(bits >> number & 1), job.name in option.jobs)
         self.assertRegex(source, r'\{"--zone", \d+, 64, 536870912, 4, "", ""\}')

@@ -4,8 +4,8 @@ import os
 import sys
 from collections.abc import Iterator
 
-from .. import (cli, compare_reports, diagnoses, differences, frame_files, frames, jobs, lists, png, program, setup_trials,
-                shapes, symptoms, texels, traces)
+from .. import (cli, compare_reports, diagnoses, differences, frame_files, frames, job_options, map_places, png,
+                program, setup_trials, shapes, symptoms, texels, traces)
 from ..compare_page import MOST_VIEWS, ComparePage
 from ..comparison import Both, Files, Tasks, View, entries_of, lines_of
 from ..files import Folder, Output, Source, write_whole
@@ -83,7 +83,7 @@ def add_words(parser: argparse.ArgumentParser) -> None:
                         'pixels')
     parser.add_argument('--wad', metavar='WAD', type=cli.Wad, action='append', default=[], help='a WAD of the run; once '
                         'for each, in their order')
-    lists.add_words(parser)
+    map_places.add_words(parser)
     parser.add_argument('--only', metavar='KINDS', help='counts pixels of these painters alone, of '
                         + ','.join(word for word, _ in traces.KINDS.values()))
     parser.add_argument('--but', metavar='KINDS', help='counts no pixels of these painters')
@@ -95,7 +95,7 @@ def add_words(parser: argparse.ArgumentParser) -> None:
     parser.add_argument('--html', metavar='OUT.html', type=Output, help='writes a page of the views that differ')
     parser.add_argument('--path', metavar='FILE', type=Source, help='the camera path of the run: tries other set-ups; '
                         'needs --map, --wad and the words of the run that are not usual')
-    cli.add_job_options(parser, 'render', [name for name in jobs.options() if name not in setup_trials.WORDS])
+    cli.add_job_options(parser, 'render', [name for name in job_options.options() if name not in setup_trials.WORDS])
     parser.add_argument('--views', metavar='VIEWS', help='compares these views alone, as 3,7-9')
     parser.add_argument('--json', metavar='FILE', type=Output, help='writes what was found of all views that differ as JSON')
     parser.add_argument('--junit', metavar='FILE', type=Output, help='writes a test of each view, as JUnit does')

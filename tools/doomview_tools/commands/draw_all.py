@@ -11,7 +11,7 @@ import subprocess
 import sys
 from collections.abc import Sequence
 
-from .. import cli, home, path_drawing, paths, program, system, wads
+from .. import cli, installation, path_drawing, paths, program, system, wads
 from ..files import Folder, Source, write_whole
 from ..progress import Progress
 from ..trouble import FOUND, Trouble
@@ -61,7 +61,7 @@ def command(options: argparse.Namespace, files: list[str], name: str) -> list[st
     """The words that draw one map."""
     picture = os.path.join(os.path.abspath(options.folder), f'{name}.png')
     base = ['--iwad', files[0]] if len(files) == 2 else []
-    return [home.COMMAND, 'picture', *base, files[-1], name, picture, *cli.job_words(options)]
+    return [installation.COMMAND, 'picture', *base, files[-1], name, picture, *cli.job_words(options)]
 
 
 def draw(words: list[str]) -> subprocess.CompletedProcess[str]:
@@ -98,8 +98,8 @@ def paths_there(drawing: path_drawing.Drawing, found: list[path_drawing.Path], o
                 files: list[str]) -> None:
     """Draws paths by GNU parallel on other machines, each by a call of this tool. Its log is that of these calls alone."""
     base = [part for file in files[1:-1] for part in ('--file', file)] + (['--iwad', files[0]] if len(files) > 1 else [])
-    commands = [[home.COMMAND, 'draw-all', *base, files[-1], path.folder, '--paths', os.path.abspath(path.file), '--jobs', '1',
-                 '--no-table', *cli.job_words(options)] for path in found]
+    commands = [[installation.COMMAND, 'draw-all', *base, files[-1], path.folder, '--paths', os.path.abspath(path.file),
+                 '--jobs', '1', '--no-table', *cli.job_words(options)] for path in found]
     inputs = ' '.join(drawing.inputs(path) for path in found)
     log = os.path.join(options.folder, f'parallel-{hashlib.sha256(inputs.encode()).hexdigest()[:16]}.log')
     draw_there(commands, options, ['--joblog', log, '--resume-failed' if os.path.exists(log) else '--resume'])

@@ -8,10 +8,10 @@ import tempfile
 import typing
 from collections.abc import Iterator
 
-from .. import art, cli, cli_limits, earlier, ground, levels, paths, system, wads, ways
+from .. import art, cli, cli_limits, earlier_run, ground, levels, paths, player_reach, system, wads
 from ..cells import Cell, Grid
 from ..counting import COUNTS, Going, Progress, Runs
-from ..earlier import Change, Numbers
+from ..earlier_run import Change, Numbers
 from ..files import Folder, Output, Source, write_output, write_whole
 from ..index_page import index_page
 from ..levels import Level
@@ -122,9 +122,9 @@ def json_of(found: Numbers) -> str:
     return NUMBERS.sub(lambda numbers: ' '.join(numbers[0].split()), json.dumps(found, indent=1))
 
 
-def no_way(level: Level, wanted: ways.Wanted) -> list[Numbers]:
+def no_way(level: Level, wanted: player_reach.Wanted) -> list[Numbers]:
     """The sectors with things that a player wants and to which no way was found, with these things."""
-    return [{'sector': sector, 'things': [{'thing': number, 'what': ways.WANTED[level.things[number].type]}
+    return [{'sector': sector, 'things': [{'thing': number, 'what': player_reach.WANTED[level.things[number].type]}
                                           for number in things]} for sector, things in wanted.items()]
 
 
@@ -153,7 +153,7 @@ def things_in_words(one: Numbers) -> str:
 def states_of(plan: ground.Plan, runs: Runs, options: argparse.Namespace, folder: str,
               before: Numbers) -> tuple[list[State], dict[int, int]]:
     """The map with its doors shut, and open unless that is left out; from the grid of an earlier run, if there is one."""
-    reach, doors = ways.reach(plan), plan.doors()
+    reach, doors = player_reach.reach(plan), plan.doors()
     if not reach.sectors and not options.all:
         raise plan.level.error('has no start of a player; --all looks from all places')
     plans = [('shut', plan, runs)]
@@ -163,7 +163,7 @@ def states_of(plan: ground.Plan, runs: Runs, options: argparse.Namespace, folder
     found = []
     for label, plan_so, runs_so in plans:
         walls = runs.over(options.files, file_of(folder, f'{label}-walls.wad', walls_alone(plan_so.level)))
-        start = earlier.start_of(before, label)
+        start = earlier_run.start_of(before, label)
         grid = Grid(ground.Ground(plan_so), runs_so, walls, reach, options, f'doors {label}, ', start)
         found.append(State(label, grid, runs_so))
     if not any(state.grid.cells for state in found):
@@ -189,7 +189,7 @@ def run(options: argparse.Namespace) -> int:
     check(options)
     wads.check_game(options.files)
     options.limits = cli_limits.limits_of(options)
-    options.earlier = earlier.numbers_of(options.before) if options.before else {}
+    options.earlier = earlier_run.numbers_of(options.before) if options.before else {}
     if options.all_maps:
         return run_all(options)
     found, lines = look(options)
@@ -280,7 +280,7 @@ def look_by(runs: Runs, options: argparse.Namespace) -> tuple[Numbers, str]:
 
 def compare(found: Numbers, before: Numbers, limits: Counts) -> list[Change]:
     """Adds to the numbers of a map what differs from an earlier run; its changes place by place."""
-    comparison = earlier.comparison_of(before, found, limits)
+    comparison = earlier_run.comparison_of(before, found, limits)
     found['before'], found['worse'] = comparison.lines, comparison.is_worse
     found['changes'] = [change._asdict() for change in comparison.changes]
     return comparison.changes

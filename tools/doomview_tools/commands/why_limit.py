@@ -3,7 +3,8 @@ import argparse
 import os
 import tempfile
 
-from .. import cli, cli_limits, ground, levels, lists, paths, program, reasons, traces, wads, walls, what_if
+from .. import (cli, cli_limits, ground, levels, list_files, map_places, paths, program, reasons, traces, wads, walls,
+                what_if)
 from ..counting import RAISED
 from ..explanations import end_of
 from ..files import Source, write_whole
@@ -73,7 +74,7 @@ def rows_of(options: argparse.Namespace, level: Level) -> list[tuple[int, Row]]:
 
 
 def list_of(options: argparse.Namespace, files: list[str], rows: list[Row], folder: str,
-            name: str = 'list.txt') -> lists.ListFile:
+            name: str = 'list.txt') -> list_files.ListFile:
     """What `list` writes of rows, with raised limits, to a file of a name."""
     path, output = os.path.join(folder, 'path.csv'), os.path.join(folder, name)
     write_whole(path, paths.text(rows).encode())
@@ -83,7 +84,7 @@ def list_of(options: argparse.Namespace, files: list[str], rows: list[Row], fold
     if done.status:
         trouble = end_of(words, done)
         raise Ended(TROUBLE if trouble.status == USAGE else trouble.status)
-    return lists.ListFile(output)
+    return list_files.ListFile(output)
 
 
 def with_open_doors(files: list[str], level: Level, folder: str) -> tuple[list[str], Level]:
@@ -94,7 +95,7 @@ def with_open_doors(files: list[str], level: Level, folder: str) -> tuple[list[s
 
 
 def list_of_walls(options: argparse.Namespace, files: list[str], level: Level, rows: list[Row],
-                  folder: str) -> lists.ListFile:
+                  folder: str) -> list_files.ListFile:
     """The same of the solid walls of a level alone."""
     path = os.path.join(folder, 'walls.wad')
     write_whole(path, walls.walls_alone(level))
@@ -107,8 +108,8 @@ def is_outside(level: Level, row: Row) -> bool:
     return all(place.is_void(row.x / UNIT, row.y // UNIT + off) for off in (-.5, .5))
 
 
-def what_ifs(options: argparse.Namespace, files: list[str], level: Level, row: Row, view: lists.View,
-             places: lists.Places, folder: str) -> list[what_if.Result]:
+def what_ifs(options: argparse.Namespace, files: list[str], level: Level, row: Row, view: list_files.View,
+             places: map_places.Places, folder: str) -> list[what_if.Result]:
     """What a view would count after changes of its sectors."""
     words = [options.map, *files], cli.job_words(options)
     return what_if.results(words, level, row, reasons.planes_of_sectors(view, places), folder)
@@ -125,7 +126,7 @@ def run(options: argparse.Namespace) -> int:
             files, level = with_open_doors(files, level, folder)
         found = list_of(options, files, [row for _, row in rows], folder)
         of_walls = list_of_walls(options, files, level, [row for _, row in rows], folder)
-        places = lists.Places(level, traces.Names(files), 'what doomview list wrote')
+        places = map_places.Places(level, traces.Names(files), 'what doomview list wrote')
         is_bad = False
         for place, (number, row) in enumerate(rows):
             view, walls_view = found.view(place), of_walls.view(place)

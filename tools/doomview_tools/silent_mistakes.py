@@ -4,7 +4,8 @@ import os
 from collections.abc import Iterator
 
 from . import levels, paths
-from .jobs import LEVEL_JOBS, Words
+from .call_words import Words
+from .jobs import LEVEL_JOBS
 from .levels import EYE_HEIGHT, UNIT
 from .refusals import head_of
 from .trouble import Trouble

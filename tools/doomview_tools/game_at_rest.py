@@ -51,7 +51,7 @@ def shown_names(names: list[str], animations: Iterable[str], tic: int, ahead: in
     return found
 
 
-class Rest:
+class MapAtRest:
     """A map at rest: its lumps by name, the row of the player start, and the lists of flats and textures."""
 
     def __init__(self, files: list[str], name: str, at: Place = None) -> None:

@@ -79,7 +79,7 @@ def room_over(one: Sector, other: Sector) -> int:
     return min(one.ceiling, other.ceiling) - max(one.floor, other.floor)
 
 
-class Ways:
+class PlayerWays:
     """The ways of a player through a level, by its plan."""
 
     def __init__(self, plan: Plan) -> None:
@@ -297,7 +297,7 @@ def steps_of_stairs(plan: Plan, first: Sectors) -> Sectors:
 
 def reach(plan: Plan) -> Reach:
     """Where a player gets from the starts of a level; nowhere if it has none."""
-    ways = Ways(plan)
+    ways = PlayerWays(plan)
     starts = {plan.level.sector_at(thing.x, thing.y) for thing in plan.level.things if thing.type in STARTS}
     if not starts:
         return Reach(set(), {})
