@@ -4,6 +4,7 @@ import functools
 import importlib.machinery
 import importlib.util
 import json
+import math
 import os
 import shutil
 import subprocess
@@ -26,6 +27,7 @@ LOST = 'err:virtual:'  # in what Wine says where it cannot map what Windows has 
 NO_BROWSER = 'what a shell does with streams, readers that go, words that are no text, files without content'
 NO_WINDOWS = 'words that are no UTF-8, which no word of Windows can be'
 DIFFERENT, UNTRIED = 1, 2  # statuses: it writes or says something else; it could not be tried to its end
+MORE = 60  # seconds that what is begun in time may take then
 NO_FILES = '/dev/'  # in the words of a case: a file that a page has not
 # In the page: gives each of some workers the program and the files of the cases, and has them run cases side by side.
 READ = '''(async () => { const files = [...document.getElementById('golden').files], given = [];
@@ -211,12 +213,17 @@ def say(text: str):
     print(f'portable: {text}', flush=True)
 
 
-def status_of_tests(test: str, part: str, path: str) -> int:
-    """How a part of the tests of what is made ends; they find it by a variable. What they say is shown at their end."""
+def status_of_tests(test: str, part: str, path: str, until: float = math.inf) -> int:
+    """How a part of the tests of what is made ends; they find it by a variable. What they say is shown at their end. One that
+    is not through some time after `until` is ended."""
     variable = 'DOOMVIEW_EXE' if test == 'test_exe' else 'DOOMVIEW_PAGE'
     words = [sys.executable, '-B', '-m', 'unittest', 'discover', '-s', os.path.join(home.TOOLS, 'tests'), '-p', f'{test}.py', '-k', part]
-    done = subprocess.run(words, env={**os.environ, variable: path, 'DOOMVIEW_TESTED': native()}, stdin=subprocess.DEVNULL,
-                          stdout=subprocess.PIPE, stderr=subprocess.STDOUT, errors='replace')
+    try:
+        done = subprocess.run(words, env={**os.environ, variable: path, 'DOOMVIEW_TESTED': native()}, stdin=subprocess.DEVNULL,
+                              stdout=subprocess.PIPE, stderr=subprocess.STDOUT, errors='replace',
+                              timeout=None if until == math.inf else max(until + MORE - time.monotonic(), 1))
+    except subprocess.TimeoutExpired:
+        return UNTRIED
     say(f'{test}, {part}: {done.stdout.rstrip()}')
     if done.returncode:
         return DIFFERENT if 'failures=' in done.stdout else UNTRIED
