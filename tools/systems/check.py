@@ -1,5 +1,5 @@
 """The gate of what is made for other systems: golden runs of the program for Windows under Wine, and of the page's program in
-Chromium, whose values are those of tests/golden/tables."""
+a browser, whose values are those of tests/golden/tables."""
 import functools
 import importlib.machinery
 import importlib.util
@@ -16,7 +16,7 @@ from typing import Iterator, NamedTuple
 from doomview_tools import home
 from doomview_tools.trouble import Trouble
 
-from . import chromium, kit
+from . import kit
 
 GOLDEN = os.path.join(home.TOP, 'tests', 'golden')
 WINE = ('wine', 'wine64')
@@ -188,13 +188,13 @@ def wrong_lines(outcomes: dict) -> Iterator[str]:
             yield line_on(case, found)
 
 
-def in_chromium(page: str) -> Result:
-    """The golden runs of the program in a page."""
+def in_browser(page: str, browser_of) -> Result:
+    """The golden runs of the program in a page, in a browser that a class gives."""
     run, cases = golden(), golden_cases()
     from cases import ZONES, Outcome
     tried = [case for case in cases if case.how in ('', *ZONES) and is_text(case) and NO_FILES not in case.words]
     outcomes = {}
-    with tempfile.TemporaryDirectory(prefix='golden-') as folder, chromium.Chromium() as browser:
+    with tempfile.TemporaryDirectory(prefix='golden-') as folder, browser_of() as browser:
         run.put_files(native(), folder, tried)
         files = [os.path.join(folder, name) for name in os.listdir(folder) if os.path.isfile(os.path.join(folder, name))]
         browser.show(page)
@@ -213,18 +213,18 @@ def say(text: str):
     print(f'portable: {text}', flush=True)
 
 
-def status_of_tests(test: str, part: str, path: str, until: float = math.inf) -> int:
+def status_of_tests(test: str, part: str, path: str, until: float = math.inf, browser: str = '') -> int:
     """How a part of the tests of what is made ends; they find it by a variable. What they say is shown at their end. One that
     is not through some time after `until` is ended."""
     variable = 'DOOMVIEW_EXE' if test == 'test_exe' else 'DOOMVIEW_PAGE'
     words = [sys.executable, '-B', '-m', 'unittest', 'discover', '-s', os.path.join(home.TOOLS, 'tests'), '-p', f'{test}.py', '-k', part]
+    env = {**os.environ, variable: path, 'DOOMVIEW_TESTED': native(), 'DOOMVIEW_BROWSER': browser}
     try:
-        done = subprocess.run(words, env={**os.environ, variable: path, 'DOOMVIEW_TESTED': native()}, stdin=subprocess.DEVNULL,
-                              stdout=subprocess.PIPE, stderr=subprocess.STDOUT, errors='replace',
-                              timeout=None if until == math.inf else max(until + MORE - time.monotonic(), 1))
+        done = subprocess.run(words, env=env, stdin=subprocess.DEVNULL, stdout=subprocess.PIPE, stderr=subprocess.STDOUT,
+                              errors='replace', timeout=None if until == math.inf else max(until + MORE - time.monotonic(), 1))
     except subprocess.TimeoutExpired:
         return UNTRIED
-    say(f'{test}, {part}: {done.stdout.rstrip()}')
+    say(f'{test}, {part}{f" in {browser}" if browser else ""}: {done.stdout.rstrip()}')
     if done.returncode:
         return DIFFERENT if 'failures=' in done.stdout else UNTRIED
     return 0

@@ -263,14 +263,16 @@ class Checked(Tools):
             raise status
         return status
 
-    def check(self, seconds, there=('chromium', 'wine')):
+    def check(self, seconds, there=('chromium', 'wine', 'firefox')):
         """The status, and what is said."""
         made = {'windows': mock.Mock(command=b'exe', plain=b'plain'), 'wasm64': b'wasm'}
         stand_ins = [mock.patch.object(check, 'wine', lambda: 'wine' * ('wine' in there)),
                      mock.patch.object(self.portable.chromium, 'command', lambda: 'chromium' if 'chromium' in there else None),
+                     mock.patch.object(self.portable.firefox, 'command', lambda: 'firefox' if 'firefox' in there else None),
                      mock.patch.object(targets, 'made', lambda names: made), mock.patch.object(page, 'page', lambda data: data),
                      mock.patch.object(self.portable, 'tried', lambda what, *_: self.note(what)),
-                     mock.patch.object(check, 'status_of_tests', lambda test, part, *_: self.note(f'{test} {part}')),
+                     mock.patch.object(check, 'status_of_tests', lambda test, part, path, until, browser: self.note(
+                         f'{test} {part} {browser}'.rstrip())),
                      mock.patch.object(self.portable.system, 'processors', lambda: 1)]
         said = io.StringIO()
         with contextlib.ExitStack() as stack, contextlib.redirect_stdout(said):
@@ -280,26 +282,28 @@ class Checked(Tools):
         return status, said.getvalue()
 
     def test_order(self):
-        """The golden runs of both come first; where all is tried no line says otherwise."""
+        """The golden runs come first; where all is tried no line says otherwise."""
         self.assertEqual(self.check(60), (0, ''))
-        self.assertEqual(sorted(self.begun[:2]), ['page', 'windows'])
-        self.assertEqual(len(self.begun), 2 + sum(len(parts) for tests in self.portable.TESTS.values() for _, parts in tests))
+        self.assertEqual(sorted(self.begun[:3]), ['firefox', 'page', 'windows'])
+        self.assertEqual(len(self.begun), 3 + sum(len(parts) for tests in self.portable.TESTS.values() for _, parts in tests))
 
     def test_time(self):
         """What is not begun in time is named; a difference that was found is told all the same."""
         status, said = self.check(-1)
         self.assertEqual((status, self.begun), (check.UNTRIED, []))
-        self.assertIn('portable: not tried, or not to the end: golden runs of doomview.html; golden runs of doomview.exe; test_page, Maps', said)
+        self.assertIn('portable: not tried, or not to the end: golden runs of doomview.exe in Wine; golden runs of doomview.html in '
+                      'Chromium; golden runs of doomview.html in Firefox; test_exe, Starts in Wine; ', said)
         self.statuses = {'page': check.DIFFERENT, 'test_page Maps': check.UNTRIED, 'test_exe Jobs': Trouble('no room')}
         status, said = self.check(60)
         self.assertEqual(status, check.DIFFERENT)
-        self.assertIn('portable: test_exe, Jobs: no room\n', said)
-        self.assertTrue(said.endswith('portable: not tried, or not to the end: test_page, Maps; test_exe, Jobs\n'), said)
+        self.assertIn('portable: test_exe, Jobs in Wine: no room\n', said)
+        self.assertTrue(said.endswith('portable: not tried, or not to the end: test_exe, Jobs in Wine; test_page, Maps in Chromium\n'), said)
 
     def test_nothing_there(self):
         status, said = self.check(60, there=())
         self.assertEqual((status, self.begun), (0, []))
-        self.assertIn('Wine is not installed, so doomview.exe was not tried', said)
+        self.assertIn('Wine is not installed, so doomview.exe was not tried in it', said)
+        self.assertIn('Firefox is not installed, so doomview.html was not tried in it', said)
 
     def test_late(self):
         """A part of the tests that is not through in time is ended, and was not tried."""

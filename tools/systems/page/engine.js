@@ -19,7 +19,7 @@ function stream(name, path, more, out, wads = state.wads) {
 // What a run that the browser's engine ended says: for want of stack, for want of memory, or for something that is not known.
 function failureTold({ name, message }) {
   if (/stack|recursion/.test(message)) // of V8, of Firefox
-    return `the nodes of ${state.map} are deeper than this browser can follow (${message}). Draw it by the program itself, or have its nodes built anew by another builder.`;
+    return `the nodes of this map are deeper than this browser can follow (${message}); take the program itself, or build the nodes anew by another builder`;
   return `${name === 'RangeError' ? 'the browser gave no more memory' : 'the program failed in this browser'} (${message}); close other pages, and try again`;
 }
 // The same with the whole output.
