@@ -17,6 +17,7 @@ from .trouble import Trouble
 
 MANY_VIEWS, PART = 200, 50  # views for which several processes are worth their start, and the views of a task
 MOST_PAINTERS = 5  # that are named because they differ in every view
+MOST_TOLD = 20_000  # views that are told as soon as they are looked at, so that each is looked at once
 Both = tuple[bytes, bytes]  # doomview's frame of a view, and the port's
 PlaceOf = Callable[[traces.Painter, int], str]
 Result = typing.TypeVar('Result')
@@ -30,6 +31,15 @@ class View(typing.NamedTuple):
     port: bytes
     records: bytes
     mask: bytes
+
+
+class Looked(typing.NamedTuple):
+    """What a view that differs has: its marks, and what doomview painted there, all of it and what differs beside sprites."""
+
+    view: View
+    marks: bytes
+    pixels: traces.Pixels
+    beside: dict[traces.Painter, traces.Pixels]
 
 
 class Found(typing.NamedTuple):
@@ -117,12 +127,25 @@ class Files:
         """What is known of the port's frame of a view, by the vectors."""
         return vectors.rule_of(self.known[view.number], view.ours, view.port) if view.number < len(self.known) else ''
 
+    @property
+    def is_told(self) -> bool:
+        """Whether each view that differs is told, or most are, and they are not too many to keep what is told."""
+        options, count = self.options, len(self.views)
+        return count <= MOST_TOLD and (bool(options.junit) or not options.quiet and options.most >= count)
+
+    def looked(self, view: View, marks: bytes) -> Looked:
+        pixels = traces.pixels_of(view.records, marks) if view.records else {}
+        return Looked(view, marks, pixels, silhouettes.beside(view.records, marks, pixels) if pixels else {})
+
     def lines(self, found: Found) -> list[str]:
         """What is said of a view that differs."""
         view = self.view(found.view)
-        marks = differences.marks_of(view.ours, view.port, view.mask)
-        line = line_of(view, marks, found)
-        return [line, *(self.of_painters(view, marks) if view.records else [])]
+        return self.told(self.looked(view, differences.marks_of(view.ours, view.port, view.mask)), found)
+
+    def told(self, looked: Looked, found: Found) -> list[str]:
+        """The same, of a view that was looked at."""
+        line = line_of(looked.view, looked.marks, found)
+        return [line, *(self.of_painters(looked) if looked.view.records else [])]
 
     def entry(self, found: Found) -> dict[str, typing.Any]:
         """What is found of a view that differs, for other programs."""
@@ -141,12 +164,12 @@ class Files:
         return {'kind': kind, 'name': self.names.source_of(painter).name, 'pixels': sum(numbers.values()),
                 'numbers': sorted(numbers)}
 
-    def of_painters(self, view: View, marks: bytes) -> Iterator[str]:
+    def of_painters(self, looked: Looked) -> Iterator[str]:
         """Lines on what doomview painted where a view differs, on what differs beside sprites, and on what differs by its
         light alone."""
-        pixels = traces.pixels_of(view.records, marks)
+        view, marks, pixels, beside = looked
         yield from traces.painters(pixels, self.names, self.place_of(view.number))
-        for painter, others in silhouettes.beside(view.records, marks, pixels).items():
+        for painter, others in beside.items():
             words = ' and '.join(traces.KINDS[kind][0] for kind in sorted({other.kind for other in others}))
             count = sum(sum(numbers.values()) for numbers in others.values())
             yield f'  sprite   {self.names.source(painter):9} {count:6}  more beside it, of {words}: another picture, or moved'
@@ -173,6 +196,7 @@ class Summary:
         self.everywhere, self.shares = diagnoses.Everywhere(), shares.Shares()
         self.painters: dict[traces.Painter, collections.Counter[str]] = collections.defaultdict(collections.Counter)
         self.found: list[Found] = []
+        self.told: dict[int, list[str]] = {}  # of views that are told as soon as they are looked at
         self.counted = self.far = 0  # pixels that count; views of which more than half differ
 
     def add(self, files: Files, number: int) -> None:
@@ -183,25 +207,28 @@ class Summary:
         pixels = differences.count_of(marks)
         if not pixels:
             return
-        self.found.append(Found(number, pixels, files.known_of(view)))
+        found = Found(number, pixels, files.known_of(view))
+        self.found.append(found)
         self.far += 2 * pixels > SIZE
         self.everywhere.add(marks, pixels)
         if view.records:
-            self.add_painters(files, view, marks)
+            traces.check_records(view.records, marks, view.ours, files.options.trace)
+        looked = files.looked(view, marks)
+        self.add_painters(files, looked)
+        if files.is_told:
+            self.told[number] = files.told(looked, found)
 
-    def add_painters(self, files: Files, view: View, marks: bytes) -> None:
+    def add_painters(self, files: Files, looked: Looked) -> None:
         """Takes what doomview painted where a view differs."""
-        traces.check_records(view.records, marks, view.ours, files.options.trace)
-        pixels = traces.pixels_of(view.records, marks)
-        files.names.check_all(pixels, files.options.trace)
-        for painter, numbers in pixels.items():
+        files.names.check_all(looked.pixels, files.options.trace)
+        for painter, numbers in looked.pixels.items():
             self.painters[painter].update(views=1, pixels=sum(numbers.values()))
             self.shares.add(painter, sum(numbers.values()), files.names)
-        for painter, others in silhouettes.beside(view.records, marks, pixels).items():
+        for painter, others in looked.beside.items():
             for other, numbers in others.items():
                 self.shares.move(other, painter, sum(numbers.values()), files.names)
         if files.placing:
-            self.add_lights(files.placing, view.number, pixels)
+            self.add_lights(files.placing, looked.view.number, looked.pixels)
 
     def add_lights(self, placing: map_places.Placing, number: int, pixels: traces.Pixels) -> None:
         """Takes the lights of what differs in a view."""
@@ -217,6 +244,7 @@ class Summary:
         for painter, counts in other.painters.items():
             self.painters[painter].update(counts)
         self.found += other.found
+        self.told.update(other.told)
         self.counted += other.counted
         self.far += other.far
 

@@ -6,10 +6,11 @@ alone is another, each of these has the same texels through one colormap in doom
 whose number is 4 more or less for each 16 of light, both cut. This is said of a fragment, a plane or a sprite if it can be
 so in each of its columns or rows in which something differs, whole, and of enough colours that it is no accident."""
 import collections
+import itertools
 import typing
-from collections.abc import Callable, Iterable
+from collections.abc import Callable, Collection, Iterable
 
-from . import traces
+from . import differences, traces
 from .doom import COLORMAP_SIZE, COLORMAPS as MAPS
 from .frames import WIDTH
 from .traces import MIDDLE, PLANE, SPRITE, WALL, WEAPON
@@ -19,6 +20,7 @@ LIGHT, LIGHTS, MOST_STEPS = 16, 256, 15  # of a step, all lights, and the most s
 LEAST_PAIRS = 8  # of colours that differ: doomview's and the port's
 MOST_SAMPLED = 2000  # places of a view by which most painters are ruled out
 LIT = (WALL, PLANE, MIDDLE, SPRITE, WEAPON)  # kinds of painters: all but the sky
+IS_LIT = [kind in LIT for kind in range(256)]
 
 Pairs = set[tuple[int, int]]  # of doomview's colour and the port's
 Groups = dict[int, Pairs]  # of a painter, by its columns or rows
@@ -51,8 +53,7 @@ STEPS = {steps: pairs_of(steps) for step in range(1, MOST_STEPS + 1) for steps i
 
 def line_of(kind: int, place: int) -> int:
     """The number of the column or row of a pixel, all of which has one colormap."""
-    row, column = divmod(place, WIDTH)
-    return {WALL: column, MIDDLE: column, PLANE: row}.get(kind, 0)
+    return place // WIDTH if kind == PLANE else place % WIDTH if kind in (WALL, MIDDLE) else 0
 
 
 def key_at(records: bytes, place: int) -> Key:
@@ -99,7 +100,7 @@ class Lights:
         """The groups of the painters that may differ by their light, by the places at which a view differs."""
         some = places[::len(places) // MOST_SAMPLED + 1]
         keys = {key for key, groups in groups_of(records, some, ours, port).items() if self.steps(groups)}
-        own = [place for place in places if key_at(records, place) in keys] if keys else []
+        own = sorted({*places} & {*places_with(records, keys)}) if keys else []
         return {key: groups for key, groups in groups_of(records, own, ours, port).items()
                 if len(set().union(*groups.values())) >= LEAST_PAIRS and self.steps(groups)}
 
@@ -107,7 +108,7 @@ class Lights:
         """Of a view the painters whose pixels differ as under another light, each in whole columns or rows, with the steps
         of which it may be any."""
         likely = self.likely(records, places, ours, port)
-        whole = [place for place in range(len(ours)) if key_at(records, place) in likely] if likely else []
+        whole = places_with(records, likely) if likely else []
         found = {}
         for key, groups in groups_of(records, whole, ours, port).items():
             steps = self.steps({line: groups[line] for line in likely[key]})
@@ -159,12 +160,26 @@ def sentence(pixels: int, steps: int, keys: set[Key], light_of: LightOf) -> str:
 
 def groups_of(records: bytes, places: Iterable[int], ours: bytes, port: bytes) -> ByPainter:
     """The pairs of colours at some places of a view, of each painter that is lit by its columns or rows."""
-    found: ByPainter = collections.defaultdict(lambda: collections.defaultdict(set))
+    kinds, low, high = keys_of(records)
+    lines: dict[tuple[int, int, int, int], Pairs] = collections.defaultdict(set)
     for place in places:
-        key = key_at(records, place)
-        if key[0] in LIT:
-            found[key][line_of(key[0], place)].add((ours[place], port[place]))
+        kind = kinds[place]
+        if IS_LIT[kind]:
+            lines[kind, low[place], high[place], line_of(kind, place)].add((ours[place], port[place]))
+    found: ByPainter = collections.defaultdict(dict)
+    for (*key, line), pairs in lines.items():
+        found[key[0], key[1], key[2]][line] = pairs
     return found
+
+
+def keys_of(records: bytes) -> tuple[bytes, bytes, bytes]:
+    """Of each pixel of a view the parts of the painter's key."""
+    return records[::traces.RECORD.size], records[2::traces.RECORD.size], records[3::traces.RECORD.size]
+
+
+def places_with(records: bytes, keys: Collection[Key]) -> list[int]:
+    """The places of a view at which one of some painters painted."""
+    return list(itertools.compress(differences.PLACES, map(keys.__contains__, zip(*keys_of(records)))))
 
 
 def names_of(keys: Iterable[Key]) -> str:

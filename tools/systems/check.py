@@ -1,9 +1,10 @@
 """The gate of what is made for other systems: golden runs of the program for Windows under Wine, and of the page's program in
-Chromium, whose values are those of tests/golden/tables."""
+a browser, whose values are those of tests/golden/tables."""
 import functools
 import importlib.machinery
 import importlib.util
 import json
+import math
 import os
 import shutil
 import subprocess
@@ -11,14 +12,14 @@ import sys
 import tempfile
 import time
 import weakref
-from collections.abc import Iterator
+from collections.abc import Callable, Iterator
 from types import ModuleType
 from typing import TYPE_CHECKING, Any, NamedTuple
 
 from doomview_tools import installation
 from doomview_tools.trouble import Trouble
 
-from . import chromium, kit, scripts
+from . import kit, scripts
 
 if TYPE_CHECKING:  # when it runs, golden() finds them
     from cases import Case, Outcome, Runner
@@ -32,6 +33,7 @@ LOST = 'err:virtual:'  # in what Wine says where it cannot map what Windows has 
 NO_BROWSER = 'what a shell does with streams, readers that go, words that are no text, files without content'
 NO_WINDOWS = 'words that are no UTF-8, which no word of Windows can be'
 DIFFERENT, UNTRIED = 1, 2  # statuses: it writes or says something else; it could not be tried to its end
+MORE = 60  # seconds that what is begun in time may take then
 NO_FILES = '/dev/'  # in the words of a case: a file that a page has not
 READ, RUN = scripts.text('golden_page.js'), scripts.text('golden_worker.js')
 
@@ -177,13 +179,13 @@ def wrong_lines(outcomes: dict['Case', 'Outcome']) -> Iterator[str]:
             yield line_on(case, found)
 
 
-def in_chromium(page: str) -> Result:
-    """The golden runs of the program in a page."""
+def in_browser(page: str, browser_of: Callable[[], Any]) -> Result:
+    """The golden runs of the program in a page, in a browser that a class gives."""
     run, cases = golden(), golden_cases()
     from cases import ZONES, Outcome
     tried = [case for case in cases if case.how in ('', *ZONES) and is_text(case) and NO_FILES not in case.words]
     outcomes = {}
-    with tempfile.TemporaryDirectory(prefix='golden-') as folder, chromium.Chromium() as browser:
+    with tempfile.TemporaryDirectory(prefix='golden-') as folder, browser_of() as browser:
         run.put_files(native(), folder, tried)
         files = [os.path.join(folder, name) for name in os.listdir(folder) if os.path.isfile(os.path.join(folder, name))]
         browser.show(page)
@@ -202,13 +204,18 @@ def say(text: str) -> None:
     print(f'portable: {text}', flush=True)
 
 
-def status_of_tests(test: str, part: str, path: str) -> int:
-    """How a part of the tests of what is made ends; they find it by a variable. What they say is shown at their end."""
+def status_of_tests(test: str, part: str, path: str, until: float = math.inf, browser: str = '') -> int:
+    """How a part of the tests of what is made ends; they find it by a variable. What they say is shown at their end. One that
+    is not through some time after `until` is ended."""
     variable = 'DOOMVIEW_EXE' if test == 'test_exe' else 'DOOMVIEW_PAGE'
     words = [sys.executable, '-B', '-m', 'unittest', 'discover', '-s', os.path.join(installation.TOOLS, 'tests'), '-p', f'{test}.py', '-k', part]
-    done = subprocess.run(words, env={**os.environ, variable: path, 'DOOMVIEW_TESTED': native()}, stdin=subprocess.DEVNULL,
-                          stdout=subprocess.PIPE, stderr=subprocess.STDOUT, errors='replace')
-    say(f'{test}, {part}: {done.stdout.rstrip()}')
+    env = {**os.environ, variable: path, 'DOOMVIEW_TESTED': native(), 'DOOMVIEW_BROWSER': browser}
+    try:
+        done = subprocess.run(words, env=env, stdin=subprocess.DEVNULL, stdout=subprocess.PIPE, stderr=subprocess.STDOUT,
+                              errors='replace', timeout=None if until == math.inf else max(until + MORE - time.monotonic(), 1))
+    except subprocess.TimeoutExpired:
+        return UNTRIED
+    say(f'{test}, {part}{f" in {browser}" if browser else ""}: {done.stdout.rstrip()}')
     if done.returncode:
         return DIFFERENT if 'failures=' in done.stdout else UNTRIED
     return 0

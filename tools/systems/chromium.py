@@ -2,6 +2,7 @@
 import base64
 import json
 import os
+import select
 import shutil
 import subprocess
 import tempfile
@@ -17,6 +18,7 @@ WORDS = ['--headless=new', '--no-sandbox', '--disable-gpu', '--remote-debugging-
 PIPES = (3, 4)  # that Chromium reads and writes
 DOMAINS = ('Page', 'Runtime', 'Log', 'DOM', 'Network')
 SECONDS = 120  # that a condition on a page may take
+SILENT = 900  # seconds without a word after which a browser counts as lost
 # Of seconds and a condition; they stand first, where what a Trouble says of it has them.
 WAIT = f'((seconds, holds, until) => until(seconds, holds))(%d, () => (%s), {scripts.text("until.js")})'
 
@@ -59,7 +61,10 @@ class Chromium:
 
     def __exit__(self, *_: object) -> None:
         self.session = None
-        self.call('Browser.close')
+        try:
+            self.call('Browser.close')
+        except (Trouble, OSError):  # it has ended
+            self.process.kill()
         self.process.wait()
         for end in (self.to, self.of):
             os.close(end)
@@ -68,6 +73,9 @@ class Chromium:
     def message(self) -> dict[str, Any]:
         """The next message of the browser."""
         while b'\0' not in self.read:
+            if not select.select([self.of], [], [], SILENT)[0]:
+                self.process.kill()
+                raise Trouble(f'chromium has said nothing for {SILENT} seconds')
             piece = os.read(self.of, 1 << 20)
             if not piece:
                 raise Trouble('chromium has ended')

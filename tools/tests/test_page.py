@@ -12,9 +12,10 @@ import unittest
 
 import pages_shown
 from made_files import COMMAND, TOP
+from made_maps import Map
 from page_driven import GAMES, PAGE, READY, SAID, TESTED, Shown, run
-from doomview_tools import (counting, explanations, levels, list_counts, list_files, map_places, paths, png, traces,
-                            wads, walls)
+from doomview_tools import (counting, explanations, levels, list_counts, list_files, map_places, paths, png, refusals,
+                            traces, wads, walls)
 from systems import check
 
 COUNTED = [('freedoom2.wad', name) for name in ('MAP01', 'MAP02', 'MAP07')] + [('freedoom1.wad', name) for name in ('E1M1', 'E1M6')]
@@ -202,6 +203,48 @@ class Maps(Shown):
             self.assertEqual({**here, 'wad': wad}, native, name)
 
 
+class Deep(Shown):
+    """Nodes one over the other, as deep as there may be: the program calls itself as often."""
+
+    def test_deep(self):
+        """Such a map is drawn, walked through and counted as the program does it."""
+        wad = self.write('deep.wad', Map('....', '.##.', '....').deepen(refusals.MOST_DEPTH).wad())
+        self.take(wad)
+        for key in (None, 'ArrowUp', 'ArrowLeft', 'w', 'd'):
+            if key:
+                self.browser.press(key, KEYS.get(key, 0))
+                self.browser.wait('!walker.isBusy && !walker.held.size')
+            row = paths.Row(*self.value('walker.view.row'))
+            self.assertEqual(self.frame(), self.native('render', wad, 'MAP01', [row], *RAISED), key)
+        self.value("find('everywhere').checked = true; find('step').value = '64'; find('start').click(); 0")
+        self.browser.wait("whole.found && !find('start').hidden && !walker.isBusy")
+        native = json.loads(run('limits-map', wad, 'MAP01', '--all', '--json', '--step', '64'))
+        self.assertEqual({**self.value('whole.found.numbers'), 'wad': wad}, native)
+        self.assertEqual(self.value(SAID), '')
+
+    def test_deeper(self):
+        """One node more is refused, with the sentence of explain."""
+        wad = self.write('deeper.wad', Map('....', '.##.', '....').deepen(refusals.MOST_DEPTH + 1).wad())
+        self.browser.choose('#files', [wad])
+        self.browser.wait(SAID)
+        self.assertIn('MAP01: the nodes are 1,025 deep, and 1,024 is the most', self.value(SAID))
+
+    def test_no_stack(self):
+        """A run that the engine ends for want of stack is told, and so is one for which it has no memory."""
+        with open(PAGE, encoding='utf-8') as file:
+            text = file.read()
+        for call, told in (('(function all() { return all() + run(); })()', 'the nodes of this map are deeper than this browser can follow ('),
+                           ('new ArrayBuffer(2 ** 53)', 'the browser gave no more memory (')):
+            with open(self.at('short.html'), 'w', encoding='utf-8') as file:
+                file.write(text.replace('status: run()', f'status: {call}'))
+            self.browser.show(self.at('short.html'))
+            self.browser.wait(READY)
+            self.browser.choose('#files', [self.room])
+            self.browser.wait(SAID)
+            self.assertIn(f'MAP01: {told}', self.value(SAID))
+        self.shown_once()
+
+
 class Counts(Shown):
     def test_room(self):
         """A whole count shows its squares, worst views and numbers; keys go from view to view, and it can be stopped. What it
@@ -322,7 +365,7 @@ class Wrong(Shown):
         self.browser.show(self.at('old.html'))
         self.browser.wait(SAID)
         self.assertIn('no WebAssembly memory of 64 bits', self.value(SAID))
-        self.browser.requests.remove('file://' + os.path.abspath(self.at('old.html')))
+        self.shown_once()
 
 
 class Saved(Shown):
@@ -345,14 +388,14 @@ class Saved(Shown):
 
     def test_touch(self):
         """Two fingers bring the map nearer, and what is below them stays there; one finger moves it, and a tap stands there."""
-        self.browser.call('Emulation.setTouchEmulationEnabled', enabled=True, maxTouchPoints=2)
+        self.devtools('Emulation.setTouchEmulationEnabled', enabled=True, maxTouchPoints=2)
         self.take(self.room)
         left, top = self.value("(({ left, top }) => [left, top])(find('map').getBoundingClientRect())")
         scale, before = self.value('display.scale'), self.value('[display.from(100, 150), display.from(200, 150)]')
         row = self.value('walker.view.row')
 
         def touch(kind, *points):
-            self.browser.call('Input.dispatchTouchEvent', type=kind, touchPoints=[
+            self.devtools('Input.dispatchTouchEvent', type=kind, touchPoints=[
                 {'x': left + x, 'y': top + y, 'id': number} for number, (x, y) in enumerate(points)])
 
         touch('touchStart', (100, 150))
@@ -379,7 +422,7 @@ class Saved(Shown):
     def test_narrow(self):
         """At 700 pixels nothing is wider than the page, and each control can be reached by the keyboard."""
         for width in (700, 390):
-            self.browser.call('Emulation.setDeviceMetricsOverride', width=width, height=900, deviceScaleFactor=1, mobile=width < 500)
+            self.devtools('Emulation.setDeviceMetricsOverride', width=width, height=900, deviceScaleFactor=1, mobile=width < 500)
             self.browser.show(PAGE)
             self.browser.wait(READY)
             self.take(self.room)
@@ -387,7 +430,7 @@ class Saved(Shown):
         self.drive()
         named = self.value('driver.unnamed(true)')
         self.assertEqual(named, [])
-        self.browser.requests = ['file://' + os.path.abspath(PAGE)]
+        self.shown_once()
 
 
 if __name__ == '__main__':

@@ -29,7 +29,7 @@ class Dropping(Shown):
         """Drops files and folders on the page, as a user does."""
         data = {'items': [], 'files': [os.path.abspath(path) for path in files], 'dragOperationsMask': 1}
         for kind in ('dragEnter', 'dragOver', 'drop'):
-            self.browser.call('Input.dispatchDragEvent', type=kind, x=400, y=300, data=data)
+            self.devtools('Input.dispatchDragEvent', type=kind, x=400, y=300, data=data)
 
     def settled(self):
         self.value('driver.settled()')

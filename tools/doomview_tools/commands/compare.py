@@ -2,12 +2,12 @@
 import argparse
 import os
 import sys
-from collections.abc import Iterator
+from collections.abc import Iterator, Sequence
 
 from .. import (cli, compare_reports, diagnoses, differences, frame_files, frames, job_options, map_places, png,
                 program, setup_trials, shapes, symptoms, texels, traces)
 from ..compare_page import MOST_VIEWS, ComparePage
-from ..comparison import Both, Files, Tasks, View, entries_of, lines_of
+from ..comparison import Both, Files, Found, Tasks, View, entries_of, lines_of
 from ..files import Folder, Output, Source, write_whole
 from ..frames import HEIGHT, SIZE, WIDTH
 from ..trouble import FOUND
@@ -197,11 +197,16 @@ class Comparison:
         views, different = len(self.files.views), len(self.found)
         return f'views {views} same {views - different} different {different} pixels {self.summary.pixels}'
 
+    def told(self, found: Sequence[Found], is_shown: bool = True) -> Iterator[list[str]]:
+        """What is said of each of some views that differ."""
+        known = self.summary.told
+        if known:
+            return (known[one.view] for one in found)
+        return (lines for part in self.tasks.run(lines_of, found, is_shown) for lines in part)
+
     def show_views(self) -> None:
         """Says of each view that differs in what it does, up to the most that are wanted, and draws its picture."""
-        shown = [] if self.options.quiet else self.found[:self.options.most]
-        told = (lines for part in self.tasks.run(lines_of, shown, not sys.stdout.isatty()) for lines in part)
-        for found, lines in zip(shown, told):
+        for lines in self.told([] if self.options.quiet else self.found[:self.options.most], not sys.stdout.isatty()):
             print('\n'.join(lines))
         for found in self.found[:self.options.most] if self.options.png else []:
             view = self.files.view(found.view)
@@ -229,8 +234,7 @@ class Comparison:
             text = compare_reports.json_text(self.files, self.summary, sentences, entries)
             write_whole(self.options.json, text.encode())
         if self.options.junit:
-            told = [lines for part in self.tasks.run(lines_of, self.found) for lines in part]
-            text = compare_reports.junit_text(self.files, self.found, told)
+            text = compare_reports.junit_text(self.files, self.found, list(self.told(self.found)))
             write_whole(self.options.junit, text.encode())
 
     def run(self) -> bool:
