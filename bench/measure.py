@@ -19,6 +19,7 @@ each program is measured in each way, and the original, which has full spans her
 instructions by valgrind's callgrind in place of time: one round, the same on any machine of the same kind."""
 import argparse
 import collections
+import math
 import os
 import re
 import resource
@@ -26,6 +27,8 @@ import shutil
 import subprocess
 import sys
 import tempfile
+import typing
+from collections.abc import Callable, Iterable, Sequence
 
 TOP = os.path.dirname(os.path.dirname(os.path.abspath(__file__)))
 TOOLS = os.path.join(TOP, 'tools')
@@ -41,9 +44,12 @@ VIEWS_PER_NUMBER = 3
 RENDERER = 'R_RenderPlayerView'
 ROUNDS, REPEAT = 40, 10
 COUNTED_REPEAT = 3  # under valgrind, some 50 times slower
+Way = tuple[str, tuple[str, ...]]  # a program, and words that say how it steps spans
+# What gives the words of a run, what it is given besides, and words of callgrind.
+Counted = tuple[Callable[..., list[str]], tuple[bool, ...], list[str]]
 
 
-def run(words, folder, output=subprocess.PIPE):
+def run(words: list[str], folder: typing.Optional[str], output: int = subprocess.PIPE) -> tuple[bytes, bytes]:
     """What a program prints, on either stream."""
     try:
         done = subprocess.run(words, cwd=folder, stdout=output, stderr=subprocess.PIPE)
@@ -54,19 +60,27 @@ def run(words, folder, output=subprocess.PIPE):
     return done.stdout, done.stderr
 
 
-def seconds(words, folder):
+def seconds(words: list[str], folder: typing.Optional[str]) -> float:
     before = resource.getrusage(resource.RUSAGE_CHILDREN)
     run(words, folder, subprocess.DEVNULL)
     after = resource.getrusage(resource.RUSAGE_CHILDREN)
     return after.ru_utime + after.ru_stime - before.ru_utime - before.ru_stime
 
 
-def instructions(words, folder, *options):
+def instructions(words: list[str], folder: str, *options: str) -> int:
     told = run(['valgrind', '--tool=callgrind', '--callgrind-out-file=/dev/null', *options, *words], folder)[1]
-    return int(re.search(rb'Collected : (\d+)', told)[1])
+    return number_in(rb'Collected : (\d+)', told)
 
 
-def write_paths(folder, wad, name, repeat):
+def number_in(pattern: bytes, told: bytes) -> int:
+    """The number in what a program told."""
+    found = re.search(pattern, told)
+    if not found:
+        sys.exit(f'measure: no {pattern.decode()} in {told.decode(errors="replace").strip()[-200:]}')
+    return int(found[1])
+
+
+def write_paths(folder: str, wad: str, name: str, repeat: int) -> int:
     """The places once and REPEAT times; how many views the second has more."""
     rows = paths.places(levels.read([wad], name), PLACES, SEED)
     for path, times in (('one.csv', 1), ('many.csv', repeat)):
@@ -75,20 +89,21 @@ def write_paths(folder, wad, name, repeat):
     return len(rows) * (repeat - 1)
 
 
-def doomview_words(way, wad, name, path, ppm):
+def doomview_words(way: Way, wad: str, name: str, path: str, ppm: bool) -> list[str]:
     executable, spans = way
     words = ['render', name, wad, '--path', path, '--format', 'ppm' if ppm else 'index', *spans]
     return [executable, *program.complete(words)]
 
 
-def still_words(wad, name, path, *more):
+def still_words(wad: str, name: str, path: str, *more: str) -> list[str]:
     return [STILL, '-iwad', wad, '-map', name, '-path', path, '-out', os.devnull, *more]
 
 
-def timed(options, folder, wad, name):
+def timed(options: argparse.Namespace, folder: str, wad: str, name: str) -> list[float]:
     """The least microseconds a view of the original, if it is there, and of each program."""
     views = write_paths(folder, wad, name, options.repeat)
-    least = collections.defaultdict(lambda: float('inf'))
+    least: dict[tuple[Way, str], float] = collections.defaultdict(lambda: math.inf)
+    of_original = math.inf
     for _ in range(options.rounds):
         for executable in options.programs:
             for path in ('one.csv', 'many.csv'):
@@ -96,31 +111,31 @@ def timed(options, folder, wad, name):
                 least[executable, path] = min(least[executable, path], seconds(words, folder))
         if options.original:
             told = run(still_words(wad, name, 'one.csv', '-time', str(options.repeat)), folder)[0]
-            least[STILL] = min(least[STILL], int(re.search(rb'least (\d+) ns', told)[1]) / 1000)
-    return [least[STILL]] * options.original + [
+            of_original = min(of_original, number_in(rb'least (\d+) ns', told) / 1000)
+    return [of_original] * options.original + [
         (least[executable, 'many.csv'] - least[executable, 'one.csv']) / views * 1e6 for executable in options.programs]
 
 
-def counted(options, folder, wad, name):
+def counted(options: argparse.Namespace, folder: str, wad: str, name: str) -> list[float]:
     """The thousands of instructions a view of each of them."""
     views = write_paths(folder, wad, name, COUNTED_REPEAT)
-    jobs = [(still_words, (), [f'--toggle-collect={RENDERER}'])] * options.original
+    jobs: list[Counted] = [(still_words, (), [f'--toggle-collect={RENDERER}'])] * options.original
     jobs += [(lambda *words, it=it: doomview_words(it, *words), (options.ppm,), []) for it in options.programs]
     return [(instructions(words(wad, name, 'many.csv', *more), folder, *flags)
              - instructions(words(wad, name, 'one.csv', *more), folder, *flags)) / views / 1000
             for words, more, flags in jobs]
 
 
-def print_row(cells):
+def print_row(cells: Iterable[str]) -> None:
     print('| ' + ' | '.join(cells) + ' |', flush=True)
 
 
-def told(found):
+def told(found: Sequence[float]) -> list[str]:
     """The first number, and each other with its ratio to the first."""
     return [f'{found[0]:.1f}', *(cell for it in found[1:] for cell in (f'{it:.1f}', f'{it / found[0]:.3f}'))]
 
 
-def renders(options, maps):
+def renders(options: argparse.Namespace, maps: list[tuple[str, str]]) -> None:
     names = ['original'] * options.original + [f'program {i + 1}' for i in range(len(options.programs))]
     print('Thousands of instructions a view:' if options.count else 'Microseconds a view:')
     print()
@@ -135,7 +150,7 @@ def renders(options, maps):
     print_row(['mean', *told([it / len(maps) for it in sums])])
 
 
-def exercises(options):
+def exercises(options: argparse.Namespace) -> None:
     print('Microseconds a view of `exercise`, with all else that the job does:\n')
     print_row(['Number', 'Views', *(f'program {i + 1}' for i in range(len(options.programs)))])
     print('|---' * (2 + len(options.programs)) + '|')
@@ -147,7 +162,7 @@ def exercises(options):
         print_row([str(number), str(views), *(f'{it:.0f}' for it in least)])
 
 
-def main():
+def main() -> None:
     reader = argparse.ArgumentParser(prog='measure', usage=__doc__.split('\n\n')[1][len('usage: '):])
     reader.add_argument('wads', nargs='*')
     reader.add_argument('--programs', nargs='+', default=[os.path.join(TOP, 'out', 'doomview')])

@@ -13,6 +13,7 @@ import struct
 import subprocess
 import sys
 import tempfile
+import typing
 
 HERE = os.path.dirname(os.path.abspath(__file__))
 OUT_OF_MEMORY = (7, b'', b'doomview: out of memory\n')
@@ -21,18 +22,18 @@ WEAPON = b'view,sprite,frame,bright,sx,sy\n0,TREE,A,1,10485760,6553600\n'
 MADE = [('wad', '1'), ('path', '1'), ('things',), ('tables',)]
 
 
-def fail(text):
+def fail(text: str) -> typing.NoReturn:
     sys.exit(f'memory: {text}')
 
 
-def write(folder, name, data):
+def write(folder: str, name: str, data: bytes) -> str:
     path = os.path.join(folder, name)
     with open(path, 'wb') as file:
         file.write(data)
     return path
 
 
-def tiny_wad():
+def tiny_wad() -> bytes:
     """PLAYPAL, whose colour i is i, 255 - i, 7i, and the flat TILE."""
     palette = bytes(it % 256 for i in range(256) for it in (i, 255 - i, 7 * i))
     lumps = ((b'PLAYPAL', palette), (b'F_START', b''), (b'TILE', bytes(range(1, 11))), (b'F_END', b''))
@@ -43,7 +44,7 @@ def tiny_wad():
     return b'IWAD' + struct.pack('<II', len(lumps), 12 + len(data)) + data + directory
 
 
-def made_files(folder, program):
+def made_files(folder: str, program: str) -> list[str]:
     """The made files of 1, as words of `render`."""
     paths = {}
     for what, *words in MADE:
@@ -54,7 +55,7 @@ def made_files(folder, program):
     return [paths['wad'], '--tables', paths['tables'], '--things', paths['things'], '--path', paths['path']]
 
 
-def jobs_of(folder, program):
+def jobs_of(folder: str, program: str) -> list[tuple[str, list[str]]]:
     """The runs, each by its name and its words."""
     level = ['MAP01', *made_files(folder, program)]
     armed = [*level, '--weapon', write(folder, 'weapon.csv', WEAPON)]
@@ -66,7 +67,7 @@ def jobs_of(folder, program):
             *((f'make {what}', ['make', what, *more]) for what, *more in MADE), ('exercise', ['exercise', '1'])]
 
 
-def compiled(folder):
+def compiled(folder: str) -> str:
     """The library that refuses a request."""
     library = os.path.join(folder, 'refuse.so')
     if not shutil.which('cc'):
@@ -78,10 +79,10 @@ def compiled(folder):
 
 
 class Refusals:
-    def __init__(self, library, folder):
+    def __init__(self, library: str, folder: str) -> None:
         self.library, self.mark = library, os.path.join(folder, 'mark')
 
-    def run(self, words, number):
+    def run(self, words: list[str], number: int) -> tuple[tuple[int, bytes, bytes], bool]:
         """How a run ends in which the request of that number is refused, and whether there was one."""
         environment = {'LD_PRELOAD': self.library, 'REFUSE_NUMBER': str(number), 'REFUSE_MARK': self.mark}
         if os.path.exists(self.mark):
@@ -89,12 +90,13 @@ class Refusals:
         run = subprocess.run(words, capture_output=True, env=environment, timeout=SECONDS)
         return (run.returncode, run.stdout, run.stderr), os.path.exists(self.mark)
 
-    def job(self, name, words):
+    def job(self, name: str, words: list[str]) -> bool:
         """Refuses each request of a run in turn; whether all ended as they have to."""
         whole, _ = self.run(words, 0)
         if whole[0] or not whole[1]:
             fail(f'status {whole[0]} of {" ".join(words)}')
-        number, ends = 0, {}
+        ends: dict[str, list[int]] = {}
+        number = 0
         while True:
             number += 1
             end, refused = self.run(words, number)
@@ -112,7 +114,7 @@ class Refusals:
         return 'otherwise' not in ends and kind == 'done'
 
 
-def main():
+def main() -> None:
     reader = argparse.ArgumentParser(usage=__doc__)
     reader.add_argument('program')
     program = os.path.abspath(reader.parse_args().program)

@@ -1,4 +1,4 @@
-"""Which WAD is which: by the sums of wads.csv, which is beside the vectors. Needs Python 3 alone.
+"""Which WAD is which: by the sums of wads.csv, which is beside the vectors. Needs Python 3.9 alone.
 
 A distribution builds Freedoom itself, and then its WADs differ from those of others in the lump that has the version and
 in the picture of the title. So a WAD has two sums: of the file, and of all lumps but these."""
@@ -16,7 +16,7 @@ HERE = os.path.dirname(os.path.abspath(__file__))
 OF_A_BUILD = (b'FREEDOOM', b'TITLEPIC')  # lumps that no view shows and that each build has its own of
 FOLDERS = ['/usr/local/share/games/doom', '/usr/share/games/doom', '/usr/local/share/doom', '/usr/share/doom',
            '/usr/share/games/freedoom']  # of the packages of Linux
-Row = typing.Dict[str, str]
+Row = dict[str, str]
 
 
 def found(name: str) -> str:
@@ -59,7 +59,7 @@ def sum_of_lumps(path: str) -> str:
     return digest.hexdigest()
 
 
-def known(folder: str) -> typing.List[Row]:
+def known(folder: str) -> list[Row]:
     """The rows of the table of WADs in a folder: vectors (empty where there are none of it), wad, version, sha256, lumps
     (the sum of the lumps; empty where the sum of the file alone counts)."""
     try:
@@ -69,7 +69,7 @@ def known(folder: str) -> typing.List[Row]:
         return []
 
 
-def row_of(path: str, rows: typing.List[Row]) -> typing.Optional[Row]:
+def row_of(path: str, rows: list[Row]) -> typing.Optional[Row]:
     """The row of the table that a WAD is of, by its own sum, or else by that of its lumps."""
     digest = sum_of(path)
     found = next((row for row in rows if row['sha256'] == digest), None)
@@ -88,13 +88,13 @@ def named(row: Row) -> str:
     return f'{row["wad"]} of {row["version"]}' if row['version'] else row['wad']
 
 
-def listed(rows: typing.List[Row]) -> str:
+def listed(rows: list[Row]) -> str:
     """The WADs of the table that have vectors, in words, each with the start of its sum."""
     found = [f'{named(row)} (SHA-256 {row["sha256"]})' for row in rows]
     return ' or '.join(found) or f'a WAD of {TABLE}'
 
 
-def told(path: str, vectors: typing.Optional[str]) -> typing.Tuple[str, bool]:
+def told(path: str, vectors: typing.Optional[str]) -> tuple[str, bool]:
     """A sentence on a WAD, and whether the vectors are of it; without vectors whether there are some of it."""
     rows = known(os.path.dirname(os.path.abspath(vectors)) if vectors else HERE)
     name = os.path.basename(vectors or '')

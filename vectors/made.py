@@ -1,9 +1,8 @@
-"""Puts the made map of the vectors, made.wad, over a game's WAD: a whole WAD, as ports take it. Needs Python 3 alone.
+"""Puts the made map of the vectors, made.wad, over a game's WAD: a whole WAD, as ports take it. Needs Python 3.9 alone.
 
 The map takes the place of the game's first, MAP01 or E1M1; its textures and patches come behind those of the game."""
 import os
 import struct
-import typing
 
 from pictures import Refused
 
@@ -11,10 +10,10 @@ SET = 'made'  # of vectors
 FILE = 'made.wad'
 LABELS = ('MAP01', 'E1M1')
 TEXTURES, NAMES = b'TEXTURE1', b'PNAMES'
-Lump = typing.Tuple[bytes, bytes]
+Lump = tuple[bytes, bytes]
 
 
-def lumps_of(path: str) -> typing.List[Lump]:
+def lumps_of(path: str) -> list[Lump]:
     """The names and the bytes of the lumps of a WAD."""
     try:
         with open(path, 'rb') as file:
@@ -28,13 +27,13 @@ def lumps_of(path: str) -> typing.List[Lump]:
     return [(name.split(b'\0')[0].upper(), data[offset:offset + size]) for offset, size, name in entries]
 
 
-def label_of(lumps: typing.List[Lump]) -> str:
+def label_of(lumps: list[Lump]) -> str:
     """The name that the made map has in a game: that of the game's first; an empty text where it has neither."""
     names = {name for name, _ in lumps}
     return next((label for label in LABELS if label.encode() in names), '')
 
 
-def last(lumps: typing.List[Lump], name: bytes) -> bytes:
+def last(lumps: list[Lump], name: bytes) -> bytes:
     found = [data for of_lump, data in lumps if of_lump == name]
     if not found:
         raise Refused(f'the WAD has no {name.decode()}')
@@ -47,7 +46,7 @@ def names_with(game: bytes, made: bytes) -> bytes:
     return struct.pack('<I', sum(counts)) + game[4:4 + 8 * counts[0]] + made[4:]
 
 
-def texture_records(data: bytes) -> typing.List[bytes]:
+def texture_records(data: bytes) -> list[bytes]:
     """The textures of TEXTURE1."""
     count, = struct.unpack_from('<I', data)
     places = struct.unpack_from(f'<{count}I', data, 4)
@@ -72,7 +71,7 @@ def textures_with(game: bytes, made: bytes, first: int) -> bytes:
     return struct.pack(f'<{len(records) + 1}I', len(records), *places) + b''.join(records)
 
 
-def wad_of(lumps: typing.List[Lump]) -> bytes:
+def wad_of(lumps: list[Lump]) -> bytes:
     """The bytes of an IWAD."""
     directory, at = [], 12
     for name, data in lumps:

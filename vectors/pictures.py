@@ -1,7 +1,7 @@
 """Pictures that ports write, PNG, PCX and PPM, as pixels: for `check` beside it, and for the tools of doomview.
 
 `read(path)` gives the picture of a file, `of_ppm(data)` that of a PPM; a Refused says what is wrong with one. Needs
-Python 3 alone."""
+Python 3.9 alone."""
 import collections
 import operator
 import os
@@ -9,6 +9,7 @@ import re
 import struct
 import typing
 import zlib
+from collections.abc import Iterator
 
 WIDTH, HEIGHT = 320, 200
 SIZE = WIDTH * HEIGHT
@@ -36,22 +37,25 @@ class Picture(typing.NamedTuple):
     palette: bytes
 
 
+Read = tuple[int, int, typing.Optional[Picture]]  # width, height and the picture, None of one of another kind
+
+
 def is_picture(path: str) -> bool:
     return path.lower().endswith(ENDINGS)
 
 
-def in_order(name: str) -> list:
+def in_order(name: str) -> list[tuple[bool, int, str]]:
     """The key by which names are in the order of the numbers in them."""
     return [(part.isdecimal(), int(part) if part.isdecimal() else 0, part) for part in re.split(r'(\d+)', name.lower())]
 
 
-def of_folder(folder: str) -> list:
+def of_folder(folder: str) -> list[str]:
     """The pictures of a folder, in the order of the numbers in their names."""
     names = [name for name in os.listdir(folder) if name[0] != '.' and is_picture(name)]
     return [os.path.join(folder, name) for name in sorted(names, key=in_order)]
 
 
-def nearest(left, above, corner):
+def nearest(left: int, above: int, corner: int) -> int:
     """The guess of the last filter of a PNG (Paeth)."""
     guess = left + above - corner
     from_left, from_above, from_corner = abs(guess - left), abs(guess - above), abs(guess - corner)
@@ -60,7 +64,7 @@ def nearest(left, above, corner):
     return above if from_above <= from_corner else corner
 
 
-def unfiltered(kind, line, above, step):
+def unfiltered(kind: int, line: bytes, above: bytes, step: int) -> bytes:
     """A line of a PNG as it was before its filter."""
     if kind not in range(5):
         raise ValueError
@@ -76,14 +80,14 @@ def unfiltered(kind, line, above, step):
     return bytes(found)
 
 
-def spread(line, depth):
+def spread(line: bytes, depth: int) -> bytes:
     """The pixels of a line that has several in a byte."""
     if depth == 8:
         return line
     return bytes(byte >> shift & (1 << depth) - 1 for byte in line for shift in range(8 - depth, -1, -depth))
 
 
-def chunks(data):
+def chunks(data: bytes) -> Iterator[tuple[bytes, bytes]]:
     at = len(SIGNATURE)
     while at + 8 <= len(data):
         size, kind = struct.unpack_from('>I4s', data, at)
@@ -91,7 +95,7 @@ def chunks(data):
         at += 12 + size
 
 
-def lines_of_png(packed, size, depth, step):
+def lines_of_png(packed: bytes, size: int, depth: int, step: int) -> Iterator[bytes]:
     """The lines of a PNG of so many bytes each, without their filters."""
     above = bytes(size)
     for row in range(HEIGHT):
@@ -100,7 +104,7 @@ def lines_of_png(packed, size, depth, step):
         yield spread(above, depth)
 
 
-def without_alpha(colour, pixels):
+def without_alpha(colour: int, pixels: bytes) -> bytes:
     """The pixels of a PNG with grey or with alpha as red, green, blue."""
     if colour in (GREY, GREY_ALPHA):
         return bytes(grey for grey in pixels[::PARTS[colour]] for _ in 'rgb')
@@ -110,9 +114,9 @@ def without_alpha(colour, pixels):
     return bytes(found)
 
 
-def read_png(data):
+def read_png(data: bytes) -> Read:
     """Width, height and the picture of a PNG, or None where it is of another kind; a ValueError where it is damaged."""
-    found = collections.defaultdict(bytes)
+    found: dict[bytes, bytes] = collections.defaultdict(bytes)
     for kind, part in chunks(data):
         found[kind] += part
     width, height, depth, colour, _, _, interlaced = struct.unpack('>IIBBBBB', found[b'IHDR'])
@@ -127,7 +131,7 @@ def read_png(data):
     return width, height, Picture(3, pixels if colour == RGB else without_alpha(colour, pixels), b'')
 
 
-def read_pcx(data):
+def read_pcx(data: bytes) -> Read:
     """The same of a PCX of 8 bits: of one plane with 256 colours, or of three."""
     maker, _, packs, bits, left, top, right, bottom = PCX_HEAD.unpack_from(data)
     planes, size = struct.unpack_from('<BH', data, 65)
@@ -150,7 +154,7 @@ def read_pcx(data):
     return width, height, Picture(planes, pixels, palette)
 
 
-def read_ppm(data):
+def read_ppm(data: bytes) -> Read:
     """The same of a PPM of bytes (P6); its head may have comments."""
     head = re.match(rb'P6(?:\s+|#[^\n]*\n)+(\d+)(?:\s+|#[^\n]*\n)+(\d+)(?:\s+|#[^\n]*\n)+(\d+)\s', data)
     if not head:
@@ -186,7 +190,7 @@ def read(path: str) -> Picture:
     return of_bytes(data, path)
 
 
-def colours_of(picture: Picture, name: str) -> list:
+def colours_of(picture: Picture, name: str) -> list[bytes]:
     """The colour of each pixel of a picture, three bytes each."""
     if picture.parts == 3:
         return [picture.pixels[at:at + 3] for at in range(0, 3 * SIZE, 3)]
@@ -196,7 +200,7 @@ def colours_of(picture: Picture, name: str) -> list:
     return [entries[pixel] for pixel in picture.pixels]
 
 
-def entries_of(palette: bytes) -> dict:
+def entries_of(palette: bytes) -> dict[bytes, list[int]]:
     """Of each colour of a palette the numbers of the entries that have it, in their order."""
     entries = collections.defaultdict(list)
     for entry in range(len(palette) // 3):

@@ -31,7 +31,7 @@ def signal_name(number: int) -> str:
         return f'signal {number}'
 
 
-def end(process: subprocess.Popen) -> None:
+def end(process: subprocess.Popen[bytes]) -> None:
     """Ends a process and those that it started."""
     try:
         if hasattr(os, 'killpg'):
@@ -43,7 +43,7 @@ def end(process: subprocess.Popen) -> None:
     process.wait()
 
 
-def run(command: str, variables: typing.Dict[str, str], log: str, seconds: float) -> Run:
+def run(command: str, variables: dict[str, str], log: str, seconds: float) -> Run:
     """Runs a command with some variables; what it says goes into the file `log`."""
     with open(log, 'wb') as said:
         process = subprocess.Popen(['sh', '-c', command], env={**os.environ, **variables}, stdin=subprocess.DEVNULL,
@@ -57,7 +57,7 @@ def run(command: str, variables: typing.Dict[str, str], log: str, seconds: float
     return Run(status if status >= 0 else 128 - status, False)
 
 
-def last_lines(log: str) -> typing.List[str]:
+def last_lines(log: str) -> list[str]:
     """The last lines of what a port said."""
     with open(log, encoding='utf-8', errors='replace') as file:
         return file.read().splitlines()[-SHOWN:]

@@ -23,11 +23,11 @@ class View(typing.NamedTuple):
     word: str
     is_wrong: bool
     said: str
-    rows: list
+    rows: list[tuple[int, int]]
     sum: str
 
 
-def json_text(vectors: str, wad: str, spans: str, found: list) -> str:
+def json_text(vectors: str, wad: str, spans: str, found: list[View]) -> str:
     """The text of a JSON object: `vectors`, where a WAD was named `wad` and its `sum`, `spans`, and `views`, in their
     order."""
     of_wad = {'wad': os.path.abspath(wad), 'sum': games.sum_of(wad)} if wad else {}
@@ -48,16 +48,16 @@ def case_of(view: View) -> xml.Element:
     return case
 
 
-def suite_of(name: str, views: list) -> xml.Element:
+def suite_of(name: str, views: list[View]) -> xml.Element:
     """The views of a map and set as a suite of tests."""
     counts = {'tests': len(views), 'failures': sum(view.is_wrong for view in views),
               'skipped': sum(view.word == NO_VERDICT for view in views)}
-    suite = xml.Element('testsuite', name=name, **{word: str(count) for word, count in counts.items()})
+    suite = xml.Element('testsuite', {'name': name, **{word: str(count) for word, count in counts.items()}})
     suite.extend(case_of(view) for view in views)
     return suite
 
 
-def junit_text(vectors: str, spans: str, found: list) -> str:
+def junit_text(vectors: str, spans: str, found: list[View]) -> str:
     """The text of JUnit's XML: a suite for each map and set, a test for each view."""
     head = f'{os.path.basename(vectors)} {spans} spans'
     suites = xml.Element('testsuites', name=head)
@@ -81,7 +81,7 @@ def error_line(title: str, text: str) -> str:
     return f'::error title={escaped(title).replace(":", "%3A").replace(",", "%2C")}::{escaped(text)}'
 
 
-def error_lines(vectors: str, found: list) -> list:
+def error_lines(vectors: str, found: list[View]) -> list[str]:
     """Of each map and set with views that are wrong such a line, but no more than GitHub shows."""
     lines = []
     for (name, kind), views in itertools.groupby(found, lambda view: (view.map, view.set)):

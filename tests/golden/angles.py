@@ -3,22 +3,23 @@ import math
 import struct
 
 from damage import put, word
+from wads import NamedFiles
 
 SINES, TANGENTS, ANGLES = 10240, 4096, 2049
 TANGENT, ANGLE = 4 * SINES, 4 * (SINES + TANGENTS)  # where the second and the third table begin
 PI = 3.141592657  # as the original has it
 
 
-def single(number):
+def single(number: float) -> float:
     return struct.unpack('<f', struct.pack('<f', number))[0]
 
 
-def fine_angle(index):
+def fine_angle(index: int) -> float:
     """The middle of a fine angle, 8192 a turn, in radians."""
     return single((index + 0.5) * PI * 2 / 8192)
 
 
-def original():
+def original() -> bytes:
     """The tables as the original has them, by formula, with some steps in single precision."""
     sines = [int(65536 * math.sin(fine_angle(index))) for index in range(SINES)]
     tangents = [int(single(65536 * math.tan(fine_angle(index - 2048)))) for index in range(TANGENTS)]
@@ -26,31 +27,31 @@ def original():
     return struct.pack(f'<{SINES}i{TANGENTS}i{ANGLES}I', *sines, *tangents, *angles)
 
 
-def coarse():
+def coarse() -> bytes:
     """Tables that are just taken: no sine, no angle, and one step among the tangents."""
     return bytes(TANGENT) + bytes(4 * 3072) + word(65536) * 1024 + bytes(4 * ANGLES)
 
 
-def sine(data, index, value):
+def sine(data: bytes, index: int, value: int) -> bytes:
     return put(data, 4 * index, word(value))
 
 
-def tangent(data, index, value):
+def tangent(data: bytes, index: int, value: int) -> bytes:
     return put(data, TANGENT + 4 * index, word(value))
 
 
-def angle(data, index, value):
+def angle(data: bytes, index: int, value: int) -> bytes:
     return put(data, ANGLE + 4 * index, word(value))
 
 
-def steep(data, factor):
+def steep(data: bytes, factor: int) -> bytes:
     """Tables whose tangents are so many times (over 16) as great."""
     tangents = struct.unpack_from(f'<{TANGENTS}i', data, TANGENT)
     held = [max(-2 ** 31, min(2 ** 31 - 1, value * factor // 16)) for value in tangents]
     return put(data, TANGENT, struct.pack(f'<{TANGENTS}i', *held))
 
 
-def angle_files(made):
+def angle_files(made: bytes) -> NamedFiles:
     return {
         'original.bin': original(),
         'coarse.bin': coarse(),

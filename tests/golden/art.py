@@ -3,30 +3,34 @@
 All of it is by formula, with the features that art may have: patches over one another, above the top and left of the
 side, columns without a patch, pictures with holes, walls that are low, tall or of an odd width."""
 import struct
+import typing
+from collections.abc import Callable, Sequence
 
-from wads import name8
+from wads import Lump, name8
 
 SHADES = 34  # colormaps: 32 from bright to dark, and two more as games have them
+Post = tuple[int, bytes]  # its first row and its texels
+Texel = Callable[[int, int], typing.Optional[int]]  # of a column and row, None for a hole
 
 
-def palette():
+def palette() -> bytes:
     return bytes(part for i in range(256) for part in (i, i * 5 & 255, 255 - i))
 
 
-def colormap(maps=SHADES):
+def colormap(maps: int = SHADES) -> bytes:
     """Each of the first 32 maps is darker than the one before it, the 33rd turns colours round, the 34th is 0."""
-    def shade(number, colour):
+    def shade(number: int, colour: int) -> int:
         if number < 32:
             return colour * (40 - number) // 40
         return 255 - colour if number == 32 else 0
     return bytes(shade(number, colour) for number in range(maps) for colour in range(256))
 
 
-def post(row, texels):
+def post(row: int, texels: bytes) -> bytes:
     return bytes([row, len(texels), 0]) + texels + b'\0'
 
 
-def patch(columns, height, left=0, top=0):
+def patch(columns: Sequence[Sequence[Post]], height: int, left: int = 0, top: int = 0) -> bytes:
     """A patch whose columns are lists of posts, each a pair of its first row and its texels."""
     bodies = [b''.join(post(*it) for it in column) + b'\xff' for column in columns]
     offsets, at = [], 8 + 4 * len(columns)
@@ -36,35 +40,36 @@ def patch(columns, height, left=0, top=0):
     return struct.pack(f'<4h{len(columns)}I', len(columns), height, left, top, *offsets) + b''.join(bodies)
 
 
-def runs(texels):
+def runs(texels: Sequence[typing.Optional[int]]) -> list[Post]:
     """The posts of a column of texels, where None is a hole."""
-    posts, start = [], None
+    posts: list[Post] = []
+    start = None
     for row, texel in enumerate([*texels, None]):
         if texel is not None and start is None:
             start = row
         elif texel is None and start is not None:
-            posts.append((start, bytes(texels[start:row])))
+            posts.append((start, bytes(it for it in texels[start:row] if it is not None)))
             start = None
     return posts
 
 
-def picture(width, height, texel, left=0, top=0):
+def picture(width: int, height: int, texel: Texel, left: int = 0, top: int = 0) -> bytes:
     """A patch of the texels that a function of column and row gives, None for a hole."""
     columns = [runs([texel(x, y) for y in range(height)]) for x in range(width)]
     return patch(columns, height, left, top)
 
 
-def flat(texel):
+def flat(texel: Callable[[int, int], int]) -> bytes:
     return bytes(texel(x, y) & 255 for y in range(64) for x in range(64))
 
 
-def texture(name, width, height, *patches):
+def texture(name: str, width: int, height: int, *patches: tuple[int, int, int]) -> bytes:
     """A record of a list of textures; a patch is its left column, its top row and its number in PNAMES."""
     placed = b''.join(struct.pack('<hhHHH', x, y, number, 1, 0) for x, y, number in patches)
     return name8(name) + struct.pack('<IhhIH', 0, width, height, 0, len(patches)) + placed
 
 
-def texture_list(records):
+def texture_list(records: Sequence[bytes]) -> bytes:
     """TEXTURE1 or TEXTURE2: count, places, records without gaps."""
     places, at = [], 4 + 4 * len(records)
     for record in records:
@@ -73,33 +78,33 @@ def texture_list(records):
     return struct.pack(f'<I{len(places)}I', len(places), *places) + b''.join(records)
 
 
-def patch_names(names):
+def patch_names(names: Sequence[str]) -> bytes:
     """PNAMES."""
     return struct.pack('<I', len(names)) + b''.join(map(name8, names))
 
 
-def stone(x, y):
+def stone(x: int, y: int) -> int:
     return 20 if y % 16 == 0 or (x + y // 16 % 2 * 16) % 32 == 0 else 60 + (x * 7 + y * 13) % 40
 
 
-def plank(x, y):
+def plank(x: int, y: int) -> int:
     return 110 + (x * 3 ^ y) % 30
 
 
-def bars(x, y):
+def bars(x: int, y: int) -> typing.Optional[int]:
     """Upright bars, and a cross bar in every 32 rows; every eighth column is a hole from top to bottom."""
     if x % 8 == 7:
         return None
     return 150 + (x * 5 + y) % 20 if x % 8 < 3 or y % 32 < 4 else None
 
 
-def sky(seed):
+def sky(seed: int) -> Callable[[int, int], int]:
     return lambda x, y: (seed + x // 3 + y * 2) & 255
 
 
-def blob(seed, size):
+def blob(seed: int, size: int) -> Texel:
     """A round thing with a hole in it."""
-    def texel(x, y):
+    def texel(x: int, y: int) -> typing.Optional[int]:
         far = (2 * x + 1 - size) ** 2 + (2 * y + 1 - size) ** 2
         return seed + (x * 3 + y * 5) % 24 if size * size // 9 < far < size * size else None
     return texel
@@ -158,7 +163,7 @@ SPRITES = {
 }
 
 
-def art():
+def art() -> list[Lump]:
     """All lumps but those of a level."""
     return [('PLAYPAL', palette()), ('COLORMAP', colormap()),
             ('PNAMES', patch_names(PATCH_NAMES)),

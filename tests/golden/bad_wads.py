@@ -1,10 +1,13 @@
 """WADs that are refused, most of them changed copies of the made WADs, and such as are just taken beside them."""
 import struct
+import typing
+from collections.abc import Sequence
 
 import art
 from damage import half, put, put_entry, put_field, put_in, renamed, with_lumps, without, word
 from levels import Level, add_walls, chain
-from wads import ENTRY_BYTES, RECORD_BYTES, beside, directory_of, lump, lumps_of, name8, number_of, wad
+from wads import (ENTRY_BYTES, RECORD_BYTES, Lump, NamedFiles, beside, directory_of, lump, lumps_of, name8, number_of,
+                  wad)
 
 MOST_RECORDS, MOST_TEXTURES = 65535, 32767
 COLORMAP_BYTES, PLAYPAL_BYTES = 8192, 768
@@ -20,13 +23,13 @@ WALL2, SKY1 = 2, 4  # numbers in the made list of textures
 SECOND_NAME = 12  # offset in PNAMES
 
 
-def tiny():
+def tiny() -> bytes:
     """PLAYPAL and the flat TILE of the bytes 1 to 10: 854 bytes."""
     palette = bytes(part & 255 for i in range(256) for part in (i, 255 - i, 7 * i))
     return wad([('PLAYPAL', palette), ('F_START', b''), ('TILE', bytes(range(1, 11))), ('F_END', b'')])
 
 
-def tiny_files():
+def tiny_files() -> NamedFiles:
     whole = tiny()
     lumps = lumps_of(whole)
     small = {'PLAYPAL': 'playpal', 'TILE': 'tile', 'F_START': 'f_start', 'F_END': 'f_End'}
@@ -59,12 +62,12 @@ def tiny_files():
     }
 
 
-def many_lumps(count):
+def many_lumps(count: int) -> bytes:
     """A WAD of so many empty lumps."""
     return b'PWAD' + word(count) + word(12) + struct.pack('<II8s', 12, 0, b'NOTHING') * count
 
 
-def colour_files(made):
+def colour_files(made: bytes) -> NamedFiles:
     return {
         'no-colormap.wad': renamed(made, {'COLORMAP': 'COLORMAX'}),
         'colormap-8191.wad': put_entry(made, 'COLORMAP', size=COLORMAP_BYTES - 1),
@@ -75,12 +78,12 @@ def colour_files(made):
     }
 
 
-def map_files(made):
+def map_files(made: bytes) -> NamedFiles:
     lumps = lumps_of(made)
     label = number_of(made, 'MAP01')
     vertices = lump(made, 'VERTEXES')
 
-    def records(name, count):
+    def records(name: str, count: int) -> bytes:
         return bytes(RECORD_BYTES[name] * count)
 
     return {
@@ -105,7 +108,7 @@ def map_files(made):
     }
 
 
-def record_files(made):
+def record_files(made: bytes) -> NamedFiles:
     """Records of the made WAD of 1 that name what is not there. It has 9 vertices, 16 lines, sides and segs, 4 leaves
     and sectors, and 3 nodes."""
     two_faults = put_field(made, 'SEGS', 0, SEG_START, 99), put_field(made, 'NODES', 0, NODE_FRONT, 99)
@@ -132,17 +135,17 @@ def record_files(made):
     }
 
 
-def list_of(count):
+def list_of(count: int) -> bytes:
     """A list of so many textures without a patch; all share one record."""
     return word(count) + word(4 + 4 * count) * count + art.texture('OTHER', 8, 8)
 
 
-def texture_place(made, number):
+def texture_place(made: bytes, number: int) -> int:
     """Where the record of a texture begins in TEXTURE1."""
     return struct.unpack_from('<I', lump(made, 'TEXTURE1'), 4 + 4 * number)[0]
 
 
-def list_files(made):
+def list_files(made: bytes) -> NamedFiles:
     names, first = lump(made, 'PNAMES'), lump(made, 'TEXTURE1')
     second = art.texture_list([art.texture('MORE', 64, 128, (0, 0, 0))])
     wall2, sky1 = texture_place(made, WALL2), texture_place(made, SKY1)
@@ -172,7 +175,7 @@ def list_files(made):
     }
 
 
-def patch_files(made):
+def patch_files(made: bytes) -> NamedFiles:
     marked = put_in(made, 'PNAMES', SECOND_NAME, name8('S_END'))
     return {
         'patch-missing.wad': without(made, 'WPATB'),
@@ -189,12 +192,12 @@ def patch_files(made):
     }
 
 
-def name_files(made):
+def name_files(made: bytes) -> NamedFiles:
     """Names of sides and sectors that nothing has."""
-    def side(data, number, at, name):
+    def side(data: bytes, number: int, at: int, name: str) -> bytes:
         return put_in(data, 'SIDEDEFS', RECORD_BYTES['SIDEDEFS'] * number + at, name8(name))
 
-    def sector(number, at, name):
+    def sector(number: int, at: int, name: str) -> bytes:
         return put_in(made, 'SECTORS', RECORD_BYTES['SECTORS'] * number + at, name8(name))
 
     return {
@@ -208,10 +211,10 @@ def name_files(made):
     }
 
 
-def sprite_files(made):
+def sprite_files(made: bytes) -> NamedFiles:
     tree, lumps, at = lump(made, 'TREEA0'), lumps_of(made), number_of(made, 'TREEA0')
 
-    def trees(*pictures):
+    def trees(*pictures: typing.Union[str, Lump]) -> bytes:
         named = [it if isinstance(it, tuple) else (it, tree) for it in pictures]
         return wad([*lumps[:at], *named, *lumps[at + 1:]])
 
@@ -231,12 +234,12 @@ def sprite_files(made):
     }
 
 
-def masked_files(made2):
+def masked_files(made2: bytes) -> NamedFiles:
     """The made WAD of 2, where the grate and the sky are seen, with other textures in their place."""
     walls = [art.texture('NOTEX', 64, 128, (0, 0, 0)), art.texture('WALL1', 64, 128, (0, 0, 0)),
              art.texture('WALL2', 64, 128, (0, 0, 0), (16, -8, 1))]
 
-    def textures(sky='SKY1', *patches):
+    def textures(sky: str = 'SKY1', *patches: tuple[int, int, int]) -> bytes:
         last = [art.texture('GRATE', 64, 128, *patches), art.texture(sky, 256, 128, (0, 0, 3))]
         return with_lumps(made2, {'TEXTURE1': art.texture_list(walls + last)})
 
@@ -249,11 +252,11 @@ def masked_files(made2):
     }
 
 
-def large_files():
+def large_files() -> NamedFiles:
     return {'entries-65536.wad': many_flats(65500, 12, 19), 'bytes-over-4-gib.wad': many_flats(32768, 131072, 1)}
 
 
-def many_flats(count, size, patches):
+def many_flats(count: int, size: int, patches: int) -> bytes:
     """A level whose sectors name so many flats of that size, which all lie at one place of the file. So many of them
     are patches too, of the texture of the level's walls."""
     names = [f'F{number}' for number in range(count)]
@@ -269,7 +272,7 @@ def many_flats(count, size, patches):
         ('F_START', b''), ('FLAT', art.patch([[]], 1).ljust(size, b'\xff'))]), names)
 
 
-def with_copies(data, names):
+def with_copies(data: bytes, names: Sequence[str]) -> bytes:
     """A WAD whose last lump stands again under each of these names, at the same place of the file, and then F_END."""
     directory, count = directory_of(data)
     place, size = struct.unpack_from('<II', data, directory + ENTRY_BYTES * (count - 1))
@@ -277,7 +280,7 @@ def with_copies(data, names):
     return put(data + entries + struct.pack('<II8s', place, 0, name8('F_END')), 4, word(count + len(names) + 1))
 
 
-def chain_file(depth):
+def chain_file(depth: int) -> bytes:
     return beside(*chain('MAP02', depth))
 
 
@@ -302,7 +305,7 @@ FAULTS = [
 ]
 
 
-def faulty(made2, first):
+def faulty(made2: bytes, first: int) -> bytes:
     """The made WAD of 2 with all faults from that one on."""
     for fault in reversed(FAULTS[first:]):
         made2 = fault(made2)

@@ -33,7 +33,7 @@ class Outcome:
     length: str
     sum: str
     is_part: bool = False
-    wrong: tuple = ()
+    wrong: tuple[str, ...] = ()
 
 
 @dataclasses.dataclass(frozen=True)
@@ -44,7 +44,7 @@ class Pixel:
     row: int
     expected: bytes
 
-    def difference(self, output):
+    def difference(self, output: bytes) -> list[str]:
         """What differs at this pixel of an output, in a few words; nothing where it is as expected."""
         size = len(self.expected)
         at = size * (PIXELS_OF_A_VIEW * self.view + WIDTH * self.row + self.column)
@@ -64,20 +64,20 @@ class Case:
     words: str
     how: str
     expected: Outcome
-    pixels: tuple = ()
+    pixels: tuple[Pixel, ...] = ()
 
-    def arguments(self):
+    def arguments(self) -> list[str]:
         """The words as the program gets them; %FF among them is a byte."""
         return [os.fsdecode(urllib.parse.unquote_to_bytes(word)) for word in shlex.split(self.words)]
 
-    def wrong_pixels(self, output):
+    def wrong_pixels(self, output: bytes) -> tuple[str, ...]:
         """What differs at the pixels that are known by hand."""
         return tuple(line for pixel in self.pixels for line in pixel.difference(output))
 
-    def is_of_shell(self):
+    def is_of_shell(self) -> bool:
         return bool(self.how) and self.how not in ZONES and not self.how.startswith(READS)
 
-    def row(self, outcome):
+    def row(self, outcome: Outcome) -> str:
         """The line of the table where it ends so."""
         text = io.StringIO()
         csv.writer(text, lineterminator='\n').writerow(
@@ -85,11 +85,11 @@ class Case:
         return text.getvalue()
 
 
-def table_names():
+def table_names() -> list[str]:
     return sorted(name[:-4] for name in os.listdir(TABLES) if name.endswith('.csv'))
 
 
-def read_rows(path, header):
+def read_rows(path: str, header: list[str]) -> list[list[str]]:
     """The rows under the header of a table; lines that begin with # are notes."""
     with open(path, encoding='utf-8', newline='') as file:
         rows = [row for row in csv.reader(file) if row and not row[0].startswith('#')]
@@ -99,21 +99,25 @@ def read_rows(path, header):
 
 
 @functools.lru_cache(maxsize=None)
-def known_pixels():
+def known_pixels() -> dict[str, list[Pixel]]:
     """The pixels that are known by hand, by the name of their case."""
-    pixels = {}
+    pixels: dict[str, list[Pixel]] = {}
     for name, view, column, row, expected in read_rows(PIXELS, PIXEL_HEADER):
         pixels.setdefault(name, []).append(Pixel(int(view), int(column), int(row), bytes.fromhex(expected)))
     return pixels
 
 
-def read_table(table):
+def read_table(table: str) -> list[Case]:
     rows = read_rows(os.path.join(TABLES, f'{table}.csv'), HEADER)
-    padded = [row + [''] * (len(HEADER) - len(row)) for row in rows]
-    return [Case(table, *row[:3], Outcome(*row[3:]), tuple(known_pixels().get(row[0], ()))) for row in padded]
+    return [case_of(table, *row, *[''] * (len(HEADER) - len(row))) for row in rows]
 
 
-def differences(case, outcome):
+def case_of(table: str, name: str, words: str, how: str, *expected: str) -> Case:
+    status, line, length, digest = expected
+    return Case(table, name, words, how, Outcome(status, line, length, digest), tuple(known_pixels().get(name, ())))
+
+
+def differences(case: Case, outcome: Outcome) -> list[str]:
     """What differs between what is expected of a case and how it ended, a few words each."""
     expected = case.expected
     if case.how == FULL or case.how == MAY_BE_FULL and outcome.status == ZONE_FULL:
@@ -124,7 +128,7 @@ def differences(case, outcome):
     return [*found, *outcome.wrong]
 
 
-def zone_differences(outcome):
+def zone_differences(outcome: Outcome) -> list[str]:
     """The same of a run whose zone has to be full."""
     if outcome.status != ZONE_FULL:
         return [f'status {ZONE_FULL} expected, {outcome.status} came']
@@ -140,10 +144,10 @@ def zone_differences(outcome):
 class Runner:
     """Runs cases with a program over files in a folder."""
 
-    def __init__(self, program, folder):
+    def __init__(self, program: str, folder: str) -> None:
         self.program, self.folder = program, folder
 
-    def run(self, case):
+    def run(self, case: Case) -> Outcome:
         """How a case ends."""
         if case.how.startswith(READS):
             return self.read(case.arguments(), int(case.how[len(READS):]))
@@ -157,13 +161,13 @@ class Runner:
             return dataclasses.replace(outcome, is_part=is_part)
         return dataclasses.replace(outcome, wrong=case.wrong_pixels(output))
 
-    def expect(self, case):
+    def expect(self, case: Case) -> Outcome:
         """What a table is to have of a case: in a zone that may be full what a run in another zone writes."""
         if case.how in ZONES:
             return self.call([self.program, *without_zone(case.arguments())])[0]
         return self.run(case)
 
-    def call(self, command):
+    def call(self, command: list[str]) -> tuple[Outcome, bytes]:
         """How a command ends, and what it writes."""
         try:
             done = subprocess.run(command, cwd=self.folder, stdin=subprocess.DEVNULL, stdout=subprocess.PIPE,
@@ -172,17 +176,18 @@ class Runner:
             return Outcome('none', f'no end after {SECONDS} seconds', '0', ''), b''
         return outcome_of(done.returncode, done.stdout, done.stderr), done.stdout
 
-    def read(self, arguments, count):
+    def read(self, arguments: list[str], count: int) -> Outcome:
         """How a run ends whose reader takes so many bytes and goes; its write then fails, without a signal."""
         with subprocess.Popen([self.program, *arguments], cwd=self.folder, stdin=subprocess.DEVNULL,
                               stdout=subprocess.PIPE, stderr=subprocess.PIPE, restore_signals=False) as process:
+            assert process.stdout and process.stderr, 'both are pipes'
             output = process.stdout.read(count)
             process.stdout.close()
             line = process.stderr.read()
         return outcome_of(process.returncode, output, line)
 
 
-def without_zone(arguments):
+def without_zone(arguments: list[str]) -> list[str]:
     """Words without the option --zone."""
     kept, skipped = [], False
     for word in arguments:
@@ -192,7 +197,7 @@ def without_zone(arguments):
     return kept
 
 
-def outcome_of(status, output, line):
+def outcome_of(status: int, output: bytes, line: bytes) -> Outcome:
     text = line.decode('utf-8', 'backslashreplace')
     text = text[:-1] if text.endswith('\n') else text and text + ' without a line end'
     return Outcome(str(status), text, str(len(output)), hashlib.sha256(output).hexdigest())

@@ -1,29 +1,33 @@
 """Levels, paths and damages by chance: by numbers that look like chance, and are the same wherever they are made."""
 import struct
+import typing
+from collections.abc import Sequence
 
 from damage import put
-from levels import BOTTOM_UNPEGGED, ONE_SIDED, TOP_UNPEGGED, TWO_SIDED, Level, Squares
-from wads import entries_of
+from levels import BOTTOM_UNPEGGED, ONE_SIDED, TOP_UNPEGGED, TWO_SIDED, Level, Looks, Point, Squares
+from wads import Lump, entries_of
+
+Item = typing.TypeVar('Item')
 
 
 class Chance:
     """Numbers that look like chance, the same for a seed wherever they are made."""
 
-    def __init__(self, seed):
+    def __init__(self, seed: int) -> None:
         self.state = (seed * 0x9e3779b97f4a7c15 + 12345) % 2 ** 64
         self.below(2)
 
-    def below(self, limit):
+    def below(self, limit: int) -> int:
         self.state = (self.state * 6364136223846793005 + 1442695040888963407) % 2 ** 64
         return (self.state >> 33) % limit
 
-    def between(self, low, high):
+    def between(self, low: int, high: int) -> int:
         return low + self.below(high - low + 1)
 
-    def pick(self, items):
+    def pick(self, items: Sequence[Item]) -> Item:
         return items[self.below(len(items))]
 
-    def one_in(self, count):
+    def one_in(self, count: int) -> bool:
         return self.below(count) == 0
 
 
@@ -36,7 +40,7 @@ KINDS = [10, 11, 12, 13, 14, 15, 99]
 SQUARES, UNIT = 8, 96
 
 
-def chance_sector(level, chance):
+def chance_sector(level: Level, chance: Chance) -> int:
     floor = chance.between(-5, 6) * 8
     ceiling = floor + chance.pick([0, 40, 64, 96, 112, 128, 128, 160, 200])
     above = 'F_SKY1' if chance.one_in(3) else chance.pick(FLAT_NAMES)
@@ -44,18 +48,18 @@ def chance_sector(level, chance):
     return level.sector(floor, ceiling, below, above, chance.pick([0, 16, 40, 100, 128, 160, 200, 255, 270, -5]))
 
 
-def chance_looks(chance, is_wall):
-    looks = {'top': chance.pick(WALLS), 'bottom': chance.pick(WALLS)}
+def chance_looks(chance: Chance, is_wall: bool) -> Looks:
+    looks: Looks = {'top': chance.pick(WALLS), 'bottom': chance.pick(WALLS)}
     if is_wall:
         looks['middle'] = chance.pick(WALLS)
     elif chance.one_in(3):
         looks['middle'] = chance.pick(MIDDLES)
     if chance.one_in(2):
-        looks.update(x=chance.between(-80, 200), y=chance.between(-60, 90))
+        looks.update({'x': chance.between(-80, 200), 'y': chance.between(-60, 90)})
     return looks
 
 
-def chance_level(label, seed):
+def chance_level(label: str, seed: int) -> list[Lump]:
     """A level by chance: squares of a few sectors, some solid, some without a line between them."""
     chance = Chance(seed)
     level = Level(*chance.pick(TURNS))
@@ -63,7 +67,7 @@ def chance_level(label, seed):
     grid = [(x, y) for x in range(SQUARES) for y in range(SQUARES)]
     cells = {square: chance.pick(sectors) for square in grid if not chance.one_in(9)}
 
-    def flags(here, there):
+    def flags(here: Point, there: typing.Optional[Point]) -> typing.Optional[int]:
         if there and cells[here] == cells[there] and chance.one_in(2):
             return None
         pegs = chance.pick([0, 0, TOP_UNPEGGED, BOTTOM_UNPEGGED, TOP_UNPEGGED | BOTTOM_UNPEGGED])
@@ -77,12 +81,12 @@ def chance_level(label, seed):
     return level.lumps(label)
 
 
-def chance_path(seed, views):
+def chance_path(seed: int, views: int) -> list[tuple[int, ...]]:
     """The rows of a path through a level by chance: most in it, some on its lines, some anywhere."""
     chance = Chance(seed)
     east, north = chance.pick(TURNS)
     side = SQUARES * UNIT
-    rows = []
+    rows: list[tuple[int, ...]] = []
     for _ in range(views):
         x, y = chance.below(side * 65536), chance.below(side * 65536)
         z = chance.between(0, 120) * 65536
@@ -97,7 +101,7 @@ def chance_path(seed, views):
     return rows
 
 
-def torn(whole, seed):
+def torn(whole: bytes, seed: int) -> bytes:
     """A copy in which chance changed one to four places: in the level and its lists, at times in any lump or in the
     directory."""
     chance = Chance(seed)

@@ -1,6 +1,8 @@
 """The input files of the cases, by name: what the program makes, what is made here, and changed copies of both."""
 import os
 import re
+import typing
+from collections.abc import Callable, Iterable
 
 import angles
 import art
@@ -11,12 +13,13 @@ import more_wads
 import odd_art
 import odd_levels
 import texts
-from wads import beside, wad
+from wads import NamedFiles, beside, wad
 
 FILE_NAME = re.compile(r'(?:^|[=/])([\w-]+\.(?:wad|csv|bin))$')  # at the end of a word
 ABSENT = ('absent.wad', 'absent.csv', 'absent.bin', '-made1.wad')
 SEVERAL_WADS = 'made1.wad other-lists.wad other-map.wad other-flat0.wad'
 COURT_FILES = '--tables angles.bin --things kinds.csv --path court.csv'
+BytesOf = Callable[[str], bytes]  # of a file, by its name
 # What the program itself writes for these words.
 WRITTEN = {
     'angles.bin': 'make tables',
@@ -30,7 +33,7 @@ WRITTEN = {
 }
 NUMBERED_WRITTEN = {'made.wad': 'make wad', 'path.csv': 'make path'}
 # Files of a kind and a number, as hall64.wad.
-NUMBERED = {
+NUMBERED: dict[str, Callable[[int], typing.Union[str, bytes]]] = {
     'chain.wad': bad_wads.chain_file,
     'chance.csv': texts.chance_text,
     'chance.wad': lambda seed: beside(*chance.chance_level('MAP01', seed)),
@@ -42,13 +45,13 @@ NUMBERED = {
     'lumps.wad': bad_wads.many_lumps,
 }
 # Files of a kind and a number that are made of another: faulty0.wad, torn1.wad.
-NUMBERED_CHANGED = {
+NUMBERED_CHANGED: dict[str, Callable[[int, BytesOf], bytes]] = {
     'cut.wad': lambda number, bytes_of: bytes_of('made1.wad')[:number],
     'faulty.wad': lambda number, bytes_of: bad_wads.faulty(bytes_of('made2.wad'), number),
     'torn.wad': lambda number, bytes_of: chance.torn(bytes_of(('made2.wad', 'court-and-art.wad')[number % 2]), number),
 }
 # What makes several files at once, each by its name, and the files that these are made of.
-GROUPS = [
+GROUPS: list[tuple[Callable[..., NamedFiles], list[str]]] = [
     (lambda: {'art.wad': wad(art.art()), 'court-and-art.wad': wad([*art.art(), *levels.court('MAP01')])}, []),
     (odd_levels.court_files, []),
     (odd_levels.room_files, []),
@@ -75,12 +78,12 @@ GROUPS = [
 UNREADABLE = {'unreadable.wad', 'unreadable.csv'}
 
 
-def put_unreadable(place):
+def put_unreadable(place: str) -> None:
     os.close(os.open(place, os.O_CREAT, mode=0))
 
 
 # Names that no plain file has.
-PLACES = {
+PLACES: dict[str, Callable[[str], None]] = {
     'folder.wad': os.mkdir,
     'loop.wad': lambda place: os.symlink(place, place),
     'link.wad': lambda place: os.symlink('made1.wad', place),
@@ -96,17 +99,17 @@ class Unknown(Exception):
 class Files:
     """The files of a folder, each made once. `written` gives what the program writes there for some words."""
 
-    def __init__(self, folder, written):
+    def __init__(self, folder: str, written: Callable[[str], bytes]) -> None:
         self.folder, self.written = folder, written
         self.known = {name: text if isinstance(text, bytes) else text.encode() for name, text in texts.TEXTS.items()}
         self.groups = list(GROUPS)
 
-    def bytes_of(self, name):
+    def bytes_of(self, name: str) -> bytes:
         if name not in self.known:
             self.known[name] = self.make(name)
         return self.known[name]
 
-    def make(self, name):
+    def make(self, name: str) -> bytes:
         if name in WRITTEN:
             self.put_all(WRITTEN[name].split())
             return self.written(WRITTEN[name])
@@ -123,7 +126,7 @@ class Files:
                 return self.known[name]
         raise Unknown(name)
 
-    def make_numbered(self, kind, number):
+    def make_numbered(self, kind: str, number: int) -> bytes:
         if kind in NUMBERED_WRITTEN:
             return self.written(f'{NUMBERED_WRITTEN[kind]} {number}')
         if kind in NUMBERED_CHANGED:
@@ -133,12 +136,12 @@ class Files:
             return made if isinstance(made, bytes) else made.encode()
         raise Unknown(f'{kind} of {number}')
 
-    def put_all(self, words):
+    def put_all(self, words: Iterable[str]) -> None:
         """Puts the files that are named among words into the folder."""
         for name in names_in(words):
             self.put(name)
 
-    def put(self, name):
+    def put(self, name: str) -> None:
         place = os.path.join(self.folder, name)
         if name in ABSENT or os.path.lexists(place):
             return
@@ -149,6 +152,6 @@ class Files:
             file.write(self.bytes_of(name))
 
 
-def names_in(words):
+def names_in(words: Iterable[str]) -> list[str]:
     """The names of files among words."""
     return [match[1] for match in map(FILE_NAME.search, words) if match]

@@ -1,10 +1,10 @@
 """WADs that stand behind the made WAD of 1, and bring art, lists or a map of their own."""
 import art
 from levels import room
-from wads import beside, lump, lumps_of, number_of
+from wads import NamedFiles, beside, lump, lumps_of, number_of
 
 
-def more_files(made1, made2):
+def more_files(made1: bytes, made2: bytes) -> NamedFiles:
     flats = [lump(made1, f'FLAT{number}') for number in range(4)]
     tree, sky, patch = lump(made1, 'TREEA0'), lump(made1, 'SKYP'), lump(made1, 'WPATB')
     label = number_of(made2, 'MAP01')

@@ -1,30 +1,32 @@
 """WADs with odd art, each to stand between the art and the court: patches, textures, flats, sprites and colours."""
+from collections.abc import Callable
+
 import art
 from damage import half, put, word
-from wads import beside, wad
+from wads import Lump, NamedFiles, beside, wad
 
 # Patches that stand in the place of BARS too, the grate's.
 IN_GRATES = ['cut', 'holed', 'low-post', 'overlapping-posts', 'narrow']
 
 
-def flats(*lumps):
+def flats(*lumps: Lump) -> tuple[Lump, ...]:
     return ('F_START', b''), *lumps, ('F_END', b'')
 
 
-def sprites(*lumps):
+def sprites(*lumps: Lump) -> tuple[Lump, ...]:
     return ('S_START', b''), *lumps, ('S_END', b'')
 
 
-def columns(count, posts, left=0, top=0):
+def columns(count: int, posts: Callable[[int], list[art.Post]], left: int = 0, top: int = 0) -> bytes:
     """A patch of so many columns; `posts` gives those of each."""
     return art.patch([posts(x) for x in range(count)], 128, left, top)
 
 
-def stone_column(x, rows=128):
+def stone_column(x: int, rows: int = 128) -> bytes:
     return bytes(art.stone(x, y) for y in range(rows))
 
 
-def odd_patches():
+def odd_patches() -> dict[str, bytes]:
     """Patches in the place of STONE, which stands alone, under others, and beside gaps."""
     whole = art.PATCHES['STONE']
     return {
@@ -49,7 +51,7 @@ def odd_patches():
     }
 
 
-def odd_textures():
+def odd_textures() -> dict[str, dict[str, bytes]]:
     """Records in the place of those of TEXTURE1, by the name that they take."""
     number = art.NUMBER
     stone, plank, high, low = number['STONE'], number['PLANK'], number['HIGH'], number['LOW']
@@ -79,13 +81,13 @@ def odd_textures():
     }
 
 
-def texture_file(records):
+def texture_file(records: dict[str, bytes]) -> bytes:
     """TEXTURE1 with other records in the place of those of these names."""
     named = {record[:8].rstrip(b'\0').decode(): record for record in art.TEXTURES1}
     return beside(('TEXTURE1', art.texture_list([records.get(name, record) for name, record in named.items()])))
 
 
-def odd_flats():
+def odd_flats() -> dict[str, tuple[Lump, ...]]:
     plate = art.FLATS['PLATE']
     return {
         'flat-none': flats(('TILES', b'')),
@@ -103,7 +105,7 @@ def odd_flats():
     }
 
 
-def odd_sprites():
+def odd_sprites() -> dict[str, tuple[Lump, ...]]:
     lamp, disk = art.SPRITES['LAMPA0'], art.SPRITES['DISKA3']
     narrow = art.patch([[(0, bytes(range(100, 160)))]], 60, 0, 60)
     return {
@@ -124,7 +126,7 @@ def odd_sprites():
     }
 
 
-def odd_colours():
+def odd_colours() -> dict[str, tuple[Lump, ...]]:
     whole = art.colormap()
     return {
         'colormap-32': (('COLORMAP', whole[:8192]),),
@@ -136,7 +138,7 @@ def odd_colours():
     }
 
 
-def art_files():
+def art_files() -> NamedFiles:
     patches = odd_patches()
     files = {f'stone-{name}.wad': beside(('STONE', patch)) for name, patch in patches.items()}
     files.update({f'bars-{name}.wad': beside(('BARS', patches[name])) for name in IN_GRATES})

@@ -1,16 +1,18 @@
 """WADs with levels: rooms, halls, crowds, courts, and levels whose records are odd and name only what is there."""
 import struct
+import typing
+from collections.abc import Callable
 
 import art
 from damage import half, put, put_each, put_field, put_in, with_lumps
-from levels import BOTTOM_UNPEGGED, LEAF, ONE_SIDED, TWO_SIDED, Level, Squares, court, hall, room
-from wads import MAP_LUMPS, beside, lump, name8, offset_of
+from levels import BOTTOM_UNPEGGED, LEAF, ONE_SIDED, TWO_SIDED, Level, Point, Squares, court, hall, room
+from wads import MAP_LUMPS, NamedFiles, beside, lump, name8, offset_of
 
 CELLS = 14  # of a side of the made level of 7
 TREE = 2035  # a type of things
 
 
-def room_files():
+def room_files() -> NamedFiles:
     kinds = [10, 11, 12, 13, 14]
     things = [(100, 10, 0, kind) for kind in kinds] + [(180, -40, 90, kind) for kind in kinds]
     rooms = {
@@ -28,7 +30,7 @@ def room_files():
     return {f'{name}.wad': beside(*lumps) for name, lumps in rooms.items()}
 
 
-def grated_room(*things):
+def grated_room(*things: Point) -> bytes:
     """Two squares one behind the other, bright, with a grate across at 128 map units, and trees."""
     level = Level()
     cells = {(x, 0): level.sector(0, 128, 'FLAT0', 'FLAT1', 255) for x in range(2)}
@@ -40,14 +42,14 @@ def grated_room(*things):
     return beside(*level.lumps('MAP02'))
 
 
-def grated_files():
+def grated_files() -> NamedFiles:
     near, far = (64, 0), (192, 0)
     return {'trees-before-grate.wad': grated_room(near, near),
             'trees-around-grate.wad': grated_room((64, 12), far),
             'trees-behind-grate.wad': grated_room(far, far)}
 
 
-def hanging_files():
+def hanging_files() -> NamedFiles:
     """A room whose walls have a texture of four rows and two patches, the later one two rows above its top; they are
     drawn from the floor up."""
     texture = art.texture('HANG', 64, 4, (0, 0, 0), (0, -2, 1))
@@ -58,17 +60,17 @@ def hanging_files():
     return {'hanging-room.wad': put_each(file, 'LINEDEFS', 4, lambda number, line: half(ONE_SIDED | BOTTOM_UNPEGGED))}
 
 
-def hall_file(leaves):
+def hall_file(leaves: int) -> bytes:
     return beside(*hall('MAP02', leaves))
 
 
-def crowd_file(count):
+def crowd_file(count: int) -> bytes:
     """A room with so many trees in rows before the eye."""
     things = [(60 + 5 * (k % 37), (0, 30, -30, 45, -45, 15)[k // 37] + k % 5, 0, TREE) for k in range(count)]
     return beside(*room('MAP02', things=things))
 
 
-def fan_file(slats):
+def fan_file(slats: int) -> bytes:
     """A room that is parted by so many lines of two sides, one behind the other, across the view."""
     level = Level()
     cells = {(x, 0): level.sector(x % 2 * 8 - 4, 128 - x % 3 * 8, 'TILES', 'BOARDS', 160 + x % 2 * 8)
@@ -79,22 +81,22 @@ def fan_file(slats):
     return beside(*level.lumps('MAP01'))
 
 
-def court_file(label):
+def court_file(label: str) -> bytes:
     return beside(*court(label))
 
 
-def court_files():
+def court_files() -> NamedFiles:
     turns = {'wide': ((2, 1), (-1, 2)), 'turned': ((-1, -1), (1, -1)), 'lean': ((2, 0), (1, 1))}
     files = {f'court-{name}.wad': beside(*court('MAP01', *turn)) for name, turn in turns.items()}
     return {'court.wad': court_file('MAP01'), **files}
 
 
-def odd_records(made3):
+def odd_records(made3: bytes) -> NamedFiles:
     """The made WAD of 3, each time with odd bytes in all records of a lump."""
-    def each(name, at, new):
+    def each(name: str, at: int, new: Callable[[int, bytes], bytes]) -> bytes:
         return put_each(made3, name, at, new)
 
-    def more(record, at, by):
+    def more(record: bytes, at: int, by: int) -> bytes:
         return half(struct.unpack_from('<H', record, at)[0] + by)
 
     return {
@@ -121,7 +123,7 @@ def odd_records(made3):
     }
 
 
-def level_files(made3):
+def level_files(made3: bytes) -> NamedFiles:
     nodes = lump(made3, 'NODES')
     apart = struct.pack('<4h8h2H', 0, 0, 0, 128, *[800, -100, -100, 800] * 2, LEAF | 7, LEAF | 8)
     odd = odd_records(made3)
@@ -135,7 +137,7 @@ def level_files(made3):
     return {f'{name}.wad': data for name, data in odd.items()}
 
 
-def wall_across(wall):
+def wall_across(wall: int) -> typing.Optional[int]:
     """The wall on the other side of one in the made level of 7, or None at the rim. The walls of a cell stand to the
     south, west, north and east of it."""
     cell, edge = divmod(wall, 4)
@@ -144,7 +146,7 @@ def wall_across(wall):
     return wall + (2 - 4 * CELLS, -2, 4 * CELLS - 2, 2)[edge] if is_inner else None
 
 
-def open_hall(made7, middle):
+def open_hall(made7: bytes, middle: str) -> bytes:
     """The made WAD of 7 with one hall in the place of its rooms: each inner wall is a line of two sides."""
     for wall in range(4 * CELLS * CELLS):
         across = wall_across(wall)
@@ -155,11 +157,11 @@ def open_hall(made7, middle):
     return made7
 
 
-def open_files(made7):
+def open_files(made7: bytes) -> NamedFiles:
     return {'open-hall.wad': open_hall(made7, '-'), 'grated-hall.wad': open_hall(made7, 'GRATE')}
 
 
-def other_art(made):
+def other_art(made: bytes) -> bytes:
     """The made WAD with each byte b of its flats, and of the texels of its pictures, 255 - b."""
     data = bytearray(made)
     for name in ('FLAT0', 'FLAT1', 'FLAT2', 'FLAT3'):
@@ -169,11 +171,11 @@ def other_art(made):
     return bytes(data)
 
 
-def turn(data, at, count):
+def turn(data: bytearray, at: int, count: int) -> None:
     data[at:at + count] = bytes(255 - byte for byte in data[at:at + count])
 
 
-def turn_patch(data, at):
+def turn_patch(data: bytearray, at: int) -> None:
     for column in range(struct.unpack_from('<h', data, at)[0]):
         place = at + struct.unpack_from('<I', data, at + 8 + 4 * column)[0]
         while data[place] != 255:

@@ -1,6 +1,9 @@
 """The tables of rows of the cases: thing tables, camera paths and weapon layers, good ones and such as are refused."""
+import typing
+from collections.abc import Iterable, Mapping, Sequence
+
 from chance import chance_path
-from levels import COURT
+from levels import COURT, Point
 
 THINGS = 'type,sprite,frame,bright,hang,shadow'
 PATH = 'x,y,z,angle'
@@ -9,6 +12,7 @@ WEAPON = 'view,sprite,frame,bright,sx,sy'
 TREE = '2035,TREE,A,0,0,0'
 MOST_BYTES = 1048576  # of a table
 UNIT = 65536  # of a place: whole map units, or pixels
+Row = tuple[int, ...]  # of a path: numbers, four or six
 
 # Column and row in the plan of the court, in halves of a square, height in map units, and degrees.
 COURT_VIEWS = [(8, 8, 41, 90), (20, 18, 41, 180), (14, 15, 90, 45), (5, 25, 20, 0), (19, 25, 60, 90), (3, 4, 41, 0),
@@ -16,20 +20,21 @@ COURT_VIEWS = [(8, 8, 41, 90), (20, 18, 41, 180), (14, 15, 90, 45), (5, 25, 20, 
 YARD_VIEWS = [COURT_VIEWS[7], COURT_VIEWS[4]]
 
 
-def table(head, *rows):
+def table(head: str, *rows: str) -> str:
     return ''.join(f'{row}\n' for row in (head, *rows))
 
 
-def path(rows):
+def path(rows: Sequence[Row]) -> str:
     """A camera path of rows of numbers, four or six each."""
     return table(PATH if len(rows[0]) == 4 else LIT_PATH, *(','.join(map(str, row)) for row in rows))
 
 
-def bam(degrees):
+def bam(degrees: int) -> int:
     return degrees * 2 ** 32 // 360 % 2 ** 32
 
 
-def court_path(views, east=(1, 0), north=(0, 1), light=()):
+def court_path(views: Iterable[tuple[int, int, int, int]], east: Point = (1, 0), north: Point = (0, 1),
+               light: Row = ()) -> str:
     """The rows of these views of the court, turned and stretched as it is."""
     rows = []
     for column, row, height, degrees in views:
@@ -39,7 +44,7 @@ def court_path(views, east=(1, 0), north=(0, 1), light=()):
     return path(rows)
 
 
-def at(x, y, z, degrees, *light):
+def at(x: int, y: int, z: int, degrees: int, *light: int) -> Row:
     """A row of a path, in whole map units and degrees."""
     return x * UNIT, y * UNIT, z * UNIT, bam(degrees), *light
 
@@ -112,9 +117,9 @@ ODDLY_WRITTEN = {
 }
 
 
-def faults(name, head, row, bad_rows):
+def faults(name: str, head: str, row: str, bad_rows: Mapping[str, list[str]]) -> dict[str, typing.Union[str, bytes]]:
     """Tables that are refused, each with one fault: of the header, and of the rows that are given by a name."""
-    files = {
+    files: dict[str, typing.Union[str, bytes]] = {
         f'{name}-empty.csv': '',
         f'{name}-other-header.csv': table(head.replace(',', ';'), row),
         f'{name}-spaced-header.csv': table(head.replace(',', ', '), row),
@@ -165,7 +170,7 @@ BAD_WEAPONS = faults('weapon', WEAPON, '0,TREE,A,1,0,0', {
 GUN = 'TREE,A'
 
 
-def weapon(*rows):
+def weapon(*rows: tuple[int, str, int, int, int]) -> str:
     """A file of weapon layers; places are whole pixels."""
     return table(WEAPON, *(f'{view},{picture},{bright},{sx * UNIT},{sy * UNIT}'
                            for view, picture, bright, sx, sy in rows))
@@ -201,16 +206,17 @@ WEAPONS = {
     'small-letters-weapon.csv': table(WEAPON, '0,tree,a,1,10485760,6553600'),
 }
 
-TEXTS = {**GOOD, **ODDLY_WRITTEN, **BAD_THINGS, **BAD_PATHS, **BAD_WEAPONS, **WEAPONS}
+TEXTS: dict[str, typing.Union[str, bytes]] = {**GOOD, **ODDLY_WRITTEN, **BAD_THINGS, **BAD_PATHS, **BAD_WEAPONS,
+                                              **WEAPONS}
 
 
-def chance_text(seed):
+def chance_text(seed: int) -> str:
     return path(chance_path(seed, 8))
 
 
-def extralight_text(number):
+def extralight_text(number: int) -> str:
     return court_path(YARD_VIEWS, light=(number, 0))
 
 
-def colormap_text(number):
+def colormap_text(number: int) -> str:
     return court_path(YARD_VIEWS, light=(0, number))

@@ -6,10 +6,10 @@ import sys
 import types
 import typing
 
-from . import home
+from . import installation
 from .trouble import Trouble
 
-FOLDER = os.path.join(home.TOP, 'vectors')
+FOLDER = os.path.join(installation.TOP, 'vectors')
 
 
 @functools.lru_cache(maxsize=None)

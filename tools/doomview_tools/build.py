@@ -17,9 +17,9 @@ import tempfile
 import time
 import typing
 
-from . import home, program
+from . import installation, program
 
-TOP, BUILT = home.TOP, home.PROGRAM
+TOP, BUILT = installation.TOP, installation.PROGRAM
 CRATES = os.path.join(TOP, 'crates')
 PROGRAM = 'doomview'
 CRATE_MEMORY = 2 << 30  # bytes, about what the proof of a crate takes
@@ -67,7 +67,7 @@ class Build:
 
     def __init__(self) -> None:
         self.began = self.told = time.time()
-        self.stops: typing.List[int] = []
+        self.stops: list[int] = []
 
     def tell(self) -> None:
         """Says once a minute how long the build has been going."""

@@ -6,8 +6,9 @@ import csv
 import difflib
 import functools
 import typing
+from collections.abc import Callable, Iterable, Iterator
 
-from . import ground, levels, program, ways
+from . import ground, levels, player_reach, program
 from .art import Art, Texture
 from .doom import (EVERY_SKILL, FRONT_AND_BACK, LOWER_UNPEGGED, PLACES, PLAYER_1, SKY, SPECTRE, THINGS, TWO_SIDED,
                    UPPER_UNPEGGED)
@@ -20,14 +21,14 @@ UNDRAWN = {*PLACES, SPECTRE, *THINGS['last_boss']}  # and two of the last boss, 
 NO_THING: int = THINGS['none']  # a type for which ports place nothing
 
 
-Findings = typing.Iterator[Finding]
-Vertexes = typing.Set[levels.Vertex]
+Findings = Iterator[Finding]
+Vertexes = set[levels.Vertex]
 # A line with one sector on both sides, or none: the sector, and both ends.
-OwnLine = typing.Tuple[typing.Optional[int], levels.Vertex, levels.Vertex]
+OwnLine = tuple[typing.Optional[int], levels.Vertex, levels.Vertex]
 # Which side of a line it is, the side, and the sectors in front of it and behind it.
-Beside = typing.Tuple[int, levels.Side, levels.Sector, typing.Optional[levels.Sector]]
+Beside = tuple[int, levels.Side, levels.Sector, typing.Optional[levels.Sector]]
 # A type of things with its row, and the numbers of the things of that type.
-Things = typing.Tuple[typing.Tuple[int, typing.Optional[str]], typing.List[int]]
+Things = tuple[tuple[int, typing.Optional[str]], list[int]]
 
 
 class Part(typing.NamedTuple):
@@ -43,7 +44,7 @@ class Part(typing.NamedTuple):
     offset: int
 
 
-def guess(name: str, names: typing.Iterable[str]) -> str:
+def guess(name: str, names: Iterable[str]) -> str:
     """What a name may have been meant to be."""
     found = difflib.get_close_matches(name, names, 1, .75)
     return f'; is it {found[0]}?' if found else ''
@@ -70,7 +71,7 @@ def runs_out_told(part: Part, texture: Texture) -> str:
             'pictures show')
 
 
-def findings(level: levels.Level, files: typing.List[str]) -> Findings:
+def findings(level: levels.Level, files: list[str]) -> Findings:
     """All that looks like a mistake."""
     check = Check(level, Art(files))
     for part in (check.missing_textures, check.lists, check.missing_flats, check.lost_flats, check.odd_lines,
@@ -84,19 +85,19 @@ class Check:
 
     def __init__(self, level: levels.Level, art: Art) -> None:
         self.level, self.art, self.plan = level, art, ground.Plan(level)
-        self.reached = functools.cache(lambda: ways.reach(self.plan).sectors or set(range(len(level.sectors))))
+        self.reached = functools.cache(lambda: player_reach.reach(self.plan).sectors or set(range(len(level.sectors))))
         self.lines_of = collections.defaultdict(list)
         for number, line in enumerate(level.lines):
             for side in line.sides:
                 self.lines_of[side].append(number)
 
-    def lines(self, numbers: typing.Iterable[int]) -> str:
+    def lines(self, numbers: Iterable[int]) -> str:
         return lines(numbers, self.level)
 
-    def lines_with(self, sides: typing.Iterable[int]) -> typing.List[int]:
+    def lines_with(self, sides: Iterable[int]) -> list[int]:
         return [line for side in sides for line in self.lines_of[side]]
 
-    def sides(self, number: int) -> typing.Iterator[Beside]:
+    def sides(self, number: int) -> Iterator[Beside]:
         """The sides of a line that are there: which it is, the side, and the sectors in front of it and behind it."""
         line, beside = self.level.lines[number], self.plan.beside[number]
         for which, (side, in_front) in enumerate(zip(line.sides, beside)):
@@ -105,7 +106,7 @@ class Check:
                 yield (which, self.level.sides[side], self.level.sectors[in_front],
                        None if behind is None else self.level.sectors[behind])
 
-    def missing(self) -> typing.Dict[str, typing.List[typing.Tuple[int, str]]]:
+    def missing(self) -> dict[str, list[tuple[int, str]]]:
         """The textures that no list has: by name the sides, and the parts of walls."""
         found = collections.defaultdict(list)
         for number, side in enumerate(self.level.sides):
@@ -190,7 +191,7 @@ class Check:
                 yield Finding(ODD, 'line', self.lines([number]), 'has two sides and is not two-sided: it is drawn as a '
                               'wall')
 
-    def parts(self, number: int) -> typing.Iterator[Part]:
+    def parts(self, number: int) -> Iterator[Part]:
         """The wall parts of a line that are seen."""
         flags = self.level.lines[number].flags
         for which, side, front, back in self.sides(number):
@@ -238,7 +239,7 @@ class Check:
                            f'leads to sector {in_front} in front of it')
         return Finding(HOLE, 'texture', self.where(number, part), told)
 
-    def medusa(self) -> typing.Iterator[typing.Tuple[str, typing.List[int], int, int]]:
+    def medusa(self) -> Iterator[tuple[str, list[int], int, int]]:
         """The middle textures with several patches, or none, in a column: by name the lines and the first column."""
         found = collections.defaultdict(list)
         for number, line in enumerate(self.level.lines):
@@ -262,7 +263,7 @@ class Check:
                 yield Finding(ODD, 'sector', sectors([number]),
                               f'its ceiling {sector.ceiling} is below its floor {sector.floor}')
 
-    def things_of(self, is_wrong: typing.Callable[[typing.Optional[str]], object]) -> typing.List[Things]:
+    def things_of(self, is_wrong: Callable[[typing.Optional[str]], object]) -> list[Things]:
         """The things whose type has no row in the thing table, or a wrong one: by type and row."""
         try:
             with open(program.things_file(), newline='', encoding='utf-8') as file:
@@ -291,7 +292,7 @@ class Check:
                 yield Finding(FAULT, 'thing', f'thing {number}',
                               f'type {thing.type} at {thing.x}, {thing.y} is outside the level')
 
-    def unknown_things(self, kind: int, numbers: typing.List[int]) -> Findings:
+    def unknown_things(self, kind: int, numbers: list[int]) -> Findings:
         """Findings of things of a type that there is not: the original ends where it would place one."""
         placed = [number for number in numbers if kind != NO_THING and self.level.things[number].options & EVERY_SKILL]
         at = [f'{self.level.things[number].x}, {self.level.things[number].y}' for number in numbers[:1]]
@@ -314,9 +315,9 @@ class Check:
                 some_here = ' and '.join(f'{vertex.x}, {vertex.y}' for vertex in found[:2])
                 yield Finding(FAULT, 'sector', sectors([sector]), f'is not closed: its lines end at {some_here}')
 
-    def gaps(self) -> typing.Dict[int, Vertexes]:
+    def gaps(self) -> dict[int, Vertexes]:
         """The vertexes at which an odd number of a sector's lines end, by sector."""
-        found: typing.Dict[int, Vertexes] = collections.defaultdict(set)
+        found: dict[int, Vertexes] = collections.defaultdict(set)
         for number, line in enumerate(self.level.lines):
             pair = self.plan.beside[number]
             for sector in set(pair) - {None} if pair[0] != pair[1] else ():
@@ -324,20 +325,20 @@ class Check:
                     found[typing.cast(int, sector)] ^= {self.level.vertexes[vertex]}
         return found
 
-    def own_lines(self) -> typing.List[OwnLine]:
+    def own_lines(self) -> list[OwnLine]:
         """The lines that have one sector on both sides, or none: the sector, and both ends."""
         return [(front, *self.plan.ends(number)) for number, (front, back) in enumerate(self.plan.beside) if front == back]
 
 
-def gap_lines(gaps: typing.Dict[int, Vertexes], tricks: typing.List[OwnLine]) -> typing.Dict[int, Vertexes]:
+def gap_lines(gaps: dict[int, Vertexes], tricks: list[OwnLine]) -> dict[int, Vertexes]:
     """Of each sector the ends of lines that close its gap, and have on both sides one other sector that closes none
     elsewhere: one that does is a bridge or the like."""
-    closed: typing.Dict[typing.Optional[int], typing.List[typing.Tuple[int, Vertexes]]] = collections.defaultdict(list)
+    closed: dict[typing.Optional[int], list[tuple[int, Vertexes]]] = collections.defaultdict(list)
     for sector, open_ends in gaps.items():
         for own, start, end in tricks:
             if own not in (sector, None) and start != end and {start, end} <= open_ends:
                 closed[own].append((sector, {start, end}))
-    found: typing.Dict[int, Vertexes] = collections.defaultdict(set)
+    found: dict[int, Vertexes] = collections.defaultdict(set)
     for sector, ends in (pairs[0] for pairs in closed.values() if len(pairs) == 1):
         found[sector] |= ends
     return found

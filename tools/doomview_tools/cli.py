@@ -11,8 +11,9 @@ import sys
 import textwrap
 import types
 import typing
+from collections.abc import Callable, Container, Iterable, Sequence
 
-from . import jobs, levels, program, wads
+from . import call_words, job_options, jobs, levels, program, wads, word_checks
 from .files import Output, Source, check_outputs
 from .trouble import Trouble
 
@@ -40,8 +41,8 @@ class Page(typing.NamedTuple):
     examples: str
     needs: str = PYTHON
     ends: str = ' 0  all is well\n 2  it could not be done, and a sentence says why'
-    usage: tuple = ()
-    forms: tuple = ()
+    usage: tuple[str, ...] = ()
+    forms: tuple[str, ...] = ()
     more: str = ''
 
 
@@ -60,12 +61,12 @@ class Argument(typing.NamedTuple):
     many values there are, as argparse says it; whether it has to be there; the type of its values; and those that it
     may have, none if any."""
 
-    names: typing.Sequence[str]
+    names: Sequence[str]
     value: str
     many: typing.Union[int, str, None]
     is_needed: bool
     type: typing.Any
-    choices: typing.Tuple[str, ...] = ()
+    choices: tuple[str, ...] = ()
 
     @property
     def form(self) -> str:
@@ -82,7 +83,7 @@ class Parser(argparse.ArgumentParser):
         super().__init__(prog=f'doomview {page.name}', description=filled_paragraphs(page.text),
                          epilog=last_parts(page), add_help=False, allow_abbrev=False, formatter_class=Formatter)
         self.page = page
-        self.arguments: typing.List[Argument] = []
+        self.arguments: list[Argument] = []
         self.plain, self.options = (self.add_argument_group(title) for title in ('Words', 'Options'))
 
     def add_argument(self, *names: str, **more: typing.Any) -> argparse.Action:
@@ -94,7 +95,7 @@ class Parser(argparse.ArgumentParser):
     def error(self, message: str) -> typing.NoReturn:
         wrong = message.startswith('unrecognized arguments: ') and message.split()[2].partition('=')[0]
         names = [name for argument in self.arguments for name in argument.names]
-        near = jobs.guess(wrong, names) if wrong and wrong.startswith('--') else ''
+        near = word_checks.guess(wrong, names) if wrong and wrong.startswith('--') else ''
         raise Trouble(f'{message.replace("argument ", "")}{near}; {self.prog} --help shows its words')
 
     def format_usage(self) -> str:
@@ -107,7 +108,7 @@ class Parser(argparse.ArgumentParser):
                        for i, form in enumerate(forms))
         return text.replace(UNBROKEN, ' ')
 
-    def parse(self, words: typing.List[str]) -> argparse.Namespace:
+    def parse(self, words: list[str]) -> argparse.Namespace:
         """What the words give. Options may stand between plain words, but for a tool that takes the rest of its words."""
         takes_rest = any(argument.many == argparse.REMAINDER for argument in self.arguments)
         if HELP & {*(words[:1] if takes_rest else words)}:
@@ -155,19 +156,19 @@ def add_level(parser: argparse.ArgumentParser, is_needed: bool = True) -> None:
     add_base(parser)
 
 
-def wads_of(options: argparse.Namespace) -> typing.List[str]:
+def wads_of(options: argparse.Namespace) -> list[str]:
     """The WADs of a tool over one WAD, in their order."""
     return wads.with_base(options.wad, options.iwad, options.file)
 
 
-def level_of(options: argparse.Namespace, files: typing.List[str]) -> levels.Level:
+def level_of(options: argparse.Namespace, files: list[str]) -> levels.Level:
     """The level of a tool over one map; a Trouble where the map is in no other WAD than the one of --iwad."""
     level = levels.read(files, options.map)
     wads.check_own(level.name, level.wad, files, wads.find(options.wad), options.file)
     return level
 
 
-def number(least: int, greatest: int) -> typing.Callable[[str], int]:
+def number(least: int, greatest: int) -> Callable[[str], int]:
     """The type of a word that is a number within a range."""
     def read(text: str) -> int:
         if not text.isdecimal() or not least <= int(text) <= greatest:
@@ -176,9 +177,9 @@ def number(least: int, greatest: int) -> typing.Callable[[str], int]:
     return read
 
 
-def views_of(text: str, count: int) -> typing.List[int]:
+def views_of(text: str, count: int) -> list[int]:
     """The numbers of the views that a word names, as 3,7-9, in ascending order; a Trouble where there are none."""
-    found: typing.Set[int] = set()
+    found: set[int] = set()
     for part in text.split(','):
         first, dash, last = part.partition('-')
         if not first.isdecimal() or dash and not last.isdecimal():
@@ -190,21 +191,21 @@ def views_of(text: str, count: int) -> typing.List[int]:
     return sorted(found)
 
 
-def forms_of(tool: types.ModuleType) -> typing.List[str]:
+def forms_of(tool: types.ModuleType) -> list[str]:
     """A tool with its plain words and those that it needs, once for each way of calling it."""
     needed = [argument.form for argument in parser_of(tool).arguments if not argument.names or argument.is_needed]
     return [f'{tool.PAGE.name} {form}' for form in tool.PAGE.forms] or [' '.join([tool.PAGE.name, *needed])]
 
 
-def add_job_options(parser: argparse.ArgumentParser, job: str, without: typing.Iterable[str] = ()) -> None:
+def add_job_options(parser: argparse.ArgumentParser, job: str, without: Iterable[str] = ()) -> None:
     """The options of a job that a tool hands on to it."""
-    for option in jobs.options_of(job):
+    for option in job_options.options_of(job):
         if option.name not in without:
             parser.add_argument(option.name, metavar=option.value, dest=JOB_OPTION + option.name, help=meaning_of(option),
                                 type=Source if option.value == 'FILE' else str)
 
 
-def job_words(options: argparse.Namespace) -> typing.List[str]:
+def job_words(options: argparse.Namespace) -> list[str]:
     """The words of the options that a tool hands on to a job."""
     found = {name[len(JOB_OPTION):]: value for name, value in vars(options).items() if name.startswith(JOB_OPTION)}
     return [part for name, value in found.items() if value is not None for part in (name, value)]
@@ -222,17 +223,17 @@ def add_help(parser: argparse.ArgumentParser) -> None:
     parser.add_argument('--help', '-h', action='help', help='prints this page')
 
 
-def job_page(job: jobs.Job, needs: str = BUILT, without: typing.Container[object] = (jobs.NO_SUCH_WORD,)) -> str:
+def job_page(job: jobs.Job, needs: str = BUILT, without: Container[object] = (jobs.NO_SUCH_WORD,)) -> str:
     """The help page of a job, by the table of options: what it needs, and without some statuses or own options."""
     ends = '\n'.join(f'{number:2}  {": ".join(filter(None, status))}' for number, status in jobs.STATUSES.items()
                      if number not in without)
     parser = Parser(Page(job.name, job.summary, job.text, job.examples, needs, ends))
     for metavar, meaning in job.words:
         parser.add_argument(metavar, metavar=metavar, help=meaning)
-    for option in jobs.options_of(job.name):
+    for option in job_options.options_of(job.name):
         parser.add_argument(option.name, metavar=option.value, help=meaning_of(option),
                             required=option.is_needed and not option.default)
-    for own in [own for own in jobs.OWN_OPTIONS if own.name not in without]:
+    for own in [own for own in job_options.OWN_OPTIONS if own.name not in without]:
         if own.jobs in ('all', job.name) and own.value:
             parser.add_argument(own.name, metavar=own.value, help=own.meaning)
         elif own.jobs in ('all', job.name):
@@ -241,7 +242,7 @@ def job_page(job: jobs.Job, needs: str = BUILT, without: typing.Container[object
     return parser.format_help()
 
 
-def meaning_of(option: jobs.Option) -> str:
+def meaning_of(option: job_options.Option) -> str:
     """What an option means, its range, and what it is where it is not named."""
     parts = [option.meaning]
     if option.least is not None:
@@ -256,7 +257,7 @@ def meaning_of(option: jobs.Option) -> str:
 def in_order(options: argparse.Namespace) -> argparse.Namespace:
     """The words of a tool, a WAD and a map in either order where the words tell."""
     wad, name = getattr(options, 'wad', None), getattr(options, 'map', None)
-    if isinstance(wad, str) and isinstance(name, str) and jobs.is_wad(name) and not jobs.is_wad(wad):
+    if isinstance(wad, str) and isinstance(name, str) and call_words.is_wad(name) and not call_words.is_wad(wad):
         options.wad, options.map = Wad(name), str(wad)
     return options
 
@@ -274,7 +275,7 @@ def sources_of(options: argparse.Namespace) -> list[str]:
     return [*filter(None, paths), program.path()]
 
 
-def run(tool: types.ModuleType, words: typing.List[str]) -> int:
+def run(tool: types.ModuleType, words: list[str]) -> int:
     """Runs a tool with its words; its status."""
     try:
         options = in_order(parser_of(tool).parse(words))

@@ -1,8 +1,7 @@
 """The words of a tool that knows the limits of a view: --planes, --openings, --fragments, --sprites, --solids."""
 import argparse
-import typing
 
-from . import cli, jobs
+from . import cli, job_options
 from .counting import COUNTS, LIMITS
 
 MOST = 65535  # of what a port may allow
@@ -16,14 +15,14 @@ def add_words(parser: argparse.ArgumentParser) -> None:
                             help=f'from more {name} on a view is over; {least} to {greatest}; else {LIMITS[name]}')
 
 
-def range_of(name: str) -> typing.Tuple[int, int]:
+def range_of(name: str) -> tuple[int, int]:
     """The least and the greatest limit that a tool takes: those of the job where it has one."""
-    option = jobs.options().get(f'--{name}')
+    option = job_options.options().get(f'--{name}')
     if option is None or option.least is None or option.greatest is None:
         return LIMITS[name], MOST
     return option.least, option.greatest
 
 
-def limits_of(options: argparse.Namespace) -> typing.Dict[str, int]:
+def limits_of(options: argparse.Namespace) -> dict[str, int]:
     """The limits that the words give, by name."""
     return {name: getattr(options, name) for name in COUNTS}

@@ -5,8 +5,10 @@ import signal
 import sys
 import types
 import typing
+from collections.abc import Iterable, Sequence
 
-from . import cli, explanations, home, jobs, notes, paths, program, system
+from . import (call_words, cli, explanations, installation, job_options, jobs, paths, program, silent_mistakes, system,
+               word_checks)
 from .files import write_output
 from .trouble import TROUBLE, Trouble
 
@@ -42,7 +44,7 @@ def tool(name: str) -> types.ModuleType:
     return importlib.import_module('.commands.' + name.replace('-', '_'), __package__)
 
 
-def table(lines: typing.Iterable[typing.Tuple[str, str]]) -> str:
+def table(lines: Iterable[tuple[str, str]]) -> str:
     return '\n'.join(f'  {left:18} {right}' for left, right in lines)
 
 
@@ -50,40 +52,41 @@ def overview() -> str:
     """What `doomview --help` prints."""
     job_lines = [(job.form, job.summary) for job in jobs.JOBS.values()]
     tool_lines = [(name, tool(name).PAGE.summary) for name in TOOLS]
-    own_lines = [(f'doomview {option.name}', option.meaning) for option in jobs.OWN_OPTIONS if not option.jobs]
-    return OVERVIEW.format(jobs=table(job_lines), tools=table(tool_lines), own=table(own_lines), manual=home.MANUAL)
+    own_lines = [(f'doomview {option.name}', option.meaning) for option in job_options.OWN_OPTIONS if not option.jobs]
+    return OVERVIEW.format(jobs=table(job_lines), tools=table(tool_lines), own=table(own_lines),
+                           manual=installation.MANUAL)
 
 
 def version() -> str:
-    known = home.version()
+    known = installation.version()
     return f'doomview {known["version"]}\nlogic {known["logic"]}'
 
 
-def run_job(words: typing.List[str]) -> int:
+def run_job(words: list[str]) -> int:
     """Runs a job, and says why where it fails; or hands words to the program that are none of this command's. For words
     that are no job nothing is built, since the program's answer is known."""
-    plain = [word for word in words if word != jobs.PLACES]
-    if plain != words and jobs.Words(plain).job == 'limits':
-        return limits_with_places(jobs.in_order(plain))
-    is_job = jobs.Words(words).job in jobs.JOBS
+    plain = [word for word in words if word != job_options.PLACES]
+    if plain != words and call_words.Words(plain).job == 'limits':
+        return limits_with_places(call_words.in_order(plain))
+    is_job = call_words.Words(words).job in jobs.JOBS
     if not is_job and not program.is_built():
         return usage(words)
-    words = jobs.in_order(words) if is_job else words
+    words = call_words.in_order(words) if is_job else words
     warn(words)
-    done = program.run_whole(words) if jobs.Words(words).output else program.pass_on(words)
+    done = program.run_whole(words) if call_words.Words(words).output else program.pass_on(words)
     sys.stderr.write(done.said)
     if done.status:
         say_why(done, words, is_job)
     return jobs.NO_SUCH_WORD if done.status == jobs.USAGE and not is_job else done.status
 
 
-def warn(words: typing.List[str]) -> None:
+def warn(words: list[str]) -> None:
     """Says what will be accepted, and may be a mistake."""
-    for sentence in notes.of_words(jobs.Words(program.complete(words))):
+    for sentence in silent_mistakes.of_words(call_words.Words(program.complete(words))):
         print(f'doomview: warning: {sentence}', file=sys.stderr, flush=True)
 
 
-def say_why(done: program.Run, words: typing.List[str], is_job: bool = True) -> None:
+def say_why(done: program.Run, words: list[str], is_job: bool = True) -> None:
     """Says why a run failed, by the line that it ended with."""
     if is_job:
         explanations.tell(done.line, words, explanations.on_line)
@@ -91,16 +94,16 @@ def say_why(done: program.Run, words: typing.List[str], is_job: bool = True) -> 
         print(f'explain: {no_such(words)}', file=sys.stderr)
 
 
-def no_such(words: typing.Sequence[str]) -> str:
+def no_such(words: Sequence[str]) -> str:
     """The sentence on words of which the first is no job and no tool."""
-    first = jobs.Words(words).job or words[0]
-    near = jobs.guess(first, [*jobs.JOBS, *TOOLS])
+    first = call_words.Words(words).job or words[0]
+    near = word_checks.guess(first, [*jobs.JOBS, *TOOLS])
     return f'there is no job or tool {first}{near or "; doomview --help has them all"}'
 
 
-def limits_with_places(words: typing.List[str]) -> int:
+def limits_with_places(words: list[str]) -> int:
     """Prints what the job limits does, and behind each line where the view is; its status."""
-    given = jobs.Words(words)
+    given = call_words.Words(words)
     program.check_output(words)
     warn(words)
     done = program.run(given.words)
@@ -114,7 +117,7 @@ def limits_with_places(words: typing.List[str]) -> int:
 
 
 def build() -> int:
-    if home.IS_RELEASE:
+    if installation.IS_RELEASE:
         print('doomview: this is a release: the program is built already')
     elif not program.is_built():
         program.ready()
@@ -126,13 +129,13 @@ def stop(number: int, _: typing.Optional[types.FrameType]) -> typing.NoReturn:
     raise SystemExit(128 + number)
 
 
-def usage(words: typing.Sequence[str] = ()) -> int:
+def usage(words: Sequence[str] = ()) -> int:
     """What the program says of words that are no job, and what would be some."""
     print('doomview: usage', overview(), *([f'explain: {no_such(words)}'] if words else []), sep='\n', file=sys.stderr)
     return jobs.NO_SUCH_WORD
 
 
-def help_of(words: typing.List[str]) -> int:
+def help_of(words: list[str]) -> int:
     """Prints the page of a job or a tool, or of the command; the status."""
     if not words:
         print(overview())
@@ -145,7 +148,7 @@ def help_of(words: typing.List[str]) -> int:
     return 0
 
 
-def main(words: typing.List[str]) -> int:
+def main(words: list[str]) -> int:
     """Runs the command; its status."""
     for number in system.signals('SIGTERM', 'SIGHUP'):
         signal.signal(number, stop)
@@ -166,7 +169,7 @@ def main(words: typing.List[str]) -> int:
         return TROUBLE
 
 
-def answer(words: typing.List[str]) -> int:
+def answer(words: list[str]) -> int:
     """What the command does with its words; its status."""
     if not words:
         return usage()

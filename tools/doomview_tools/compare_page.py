@@ -2,6 +2,7 @@
 import collections
 import heapq
 import typing
+from collections.abc import Callable
 
 from . import pages, traces
 from .frames import HEIGHT, SIZE, WIDTH
@@ -9,17 +10,17 @@ from .png import GREYS, RGB, whole
 
 TEMPLATE = 'compare.html'
 MOST_VIEWS = 60
-Both = typing.Tuple[bytes, bytes]  # doomview's frame of a view, and the port's
-PlaceOf = typing.Optional[typing.Callable[[traces.Painter, int], str]]  # where in the map an item is, with a list
-Numbered = typing.Tuple[str, typing.List[typing.List[str]], typing.Dict[bytes, int]]
+Both = tuple[bytes, bytes]  # doomview's frame of a view, and the port's
+PlaceOf = typing.Optional[Callable[[traces.Painter, int], str]]  # where in the map an item is, with a list
+Numbered = tuple[str, list[list[str]], dict[bytes, int]]
 KEY = 6  # bytes of a record that tell its painter: all but the colour
 
 
 def painter_numbers(trace: bytes, names: traces.Names, place_of: PlaceOf) -> Numbered:
     """A picture of the number of each pixel's painter, and the painters: kind, name, number, what more is known, and
     where in the map that is."""
-    numbers: typing.Dict[bytes, int] = {}
-    told: typing.List[typing.List[str]] = []
+    numbers: dict[bytes, int] = {}
+    told: list[list[str]] = []
     pixels = bytearray(3 * SIZE)
     for place in range(SIZE):
         key = trace[8 * place:8 * place + KEY]
@@ -31,7 +32,7 @@ def painter_numbers(trace: bytes, names: traces.Names, place_of: PlaceOf) -> Num
     return pages.text_of(whole(WIDTH, HEIGHT, RGB, bytes(pixels), b'')), told, numbers
 
 
-def painter_row(key: bytes, names: traces.Names, place_of: PlaceOf) -> typing.List[str]:
+def painter_row(key: bytes, names: traces.Names, place_of: PlaceOf) -> list[str]:
     """A painter for the page: kind, name, number, what more is known, and with a list where in the map that is."""
     kind, source_kind, number, source, _, _ = traces.RECORD.unpack(key + bytes(2))
     word, thing = traces.KINDS.get(kind, (f'kind {kind}', 'number'))
@@ -46,9 +47,9 @@ class ComparePage:
 
     def __init__(self, names: traces.Names) -> None:
         self.names, self.different = names, 0
-        self.kept: typing.List[typing.Tuple[typing.Tuple[bool, int], int, typing.Dict[str, typing.Any]]] = []
+        self.kept: list[tuple[tuple[bool, int], int, dict[str, typing.Any]]] = []
 
-    def add(self, view: int, told: str, known: str, frames: Both, places: typing.List[int], trace: bytes,
+    def add(self, view: int, told: str, known: str, frames: Both, places: list[int], trace: bytes,
             place_of: PlaceOf = None) -> None:
         """Takes a view that differs, in place of one that is known or differs less where there are too many."""
         self.different += 1
@@ -58,8 +59,8 @@ class ComparePage:
         entry = weight, -view, {**self.entry_of(view, told, frames, places, trace, place_of), 'known': bool(known)}
         (heapq.heappush if len(self.kept) < MOST_VIEWS else heapq.heappushpop)(self.kept, entry)
 
-    def entry_of(self, view: int, told: str, frames: Both, places: typing.List[int], trace: bytes,
-                 place_of: PlaceOf) -> typing.Dict[str, typing.Any]:
+    def entry_of(self, view: int, told: str, frames: Both, places: list[int], trace: bytes,
+                 place_of: PlaceOf) -> dict[str, typing.Any]:
         ours, port = frames
         both = int.from_bytes(ours, 'big') ^ int.from_bytes(port, 'big')
         entry = {'view': view, 'told': told, 'first': places[0], 'ours': pages.picture(ours, GREYS),

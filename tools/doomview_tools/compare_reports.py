@@ -6,8 +6,7 @@ import xml.etree.ElementTree as xml
 from .comparison import Files, Found, Summary
 
 
-def json_text(files: Files, summary: Summary, sentences: typing.List[str],
-              views: typing.List[typing.Dict[str, typing.Any]]) -> str:
+def json_text(files: Files, summary: Summary, sentences: list[str], views: list[dict[str, typing.Any]]) -> str:
     """All that was found: sums, sentences, shares, and each view that differs."""
     count, different = len(files.views), len(summary.found)
     shares = [{'kind': kind, 'name': name, 'pixels': pixels}
@@ -20,7 +19,7 @@ def json_text(files: Files, summary: Summary, sentences: typing.List[str],
     return json.dumps(found, indent=1) + '\n'
 
 
-def junit_text(files: Files, found: typing.List[Found], told: typing.List[typing.List[str]]) -> str:
+def junit_text(files: Files, found: list[Found], told: list[list[str]]) -> str:
     """A test for each view, and one for views that one file lacks."""
     lines = {one.view: lines for one, lines in zip(found, told)}
     lacking = files.counts[0] != files.counts[1]

@@ -7,17 +7,19 @@ import functools
 import itertools
 import signal
 import typing
+from collections.abc import Callable, Iterator, Sequence
 
-from . import (cli, diagnoses, differences, frame_files, lights, lists, setup_trials, shares, silhouettes, system, traces,
-               vectors, wads)
+from . import (cli, diagnoses, differences, frame_files, lights, list_files, map_places, setup_trials, shares,
+               silhouettes, system, traces, vectors, wads)
 from .frames import SIZE, WIDTH
 from .progress import Progress
 from .trouble import Trouble
 
 MANY_VIEWS, PART = 200, 50  # views for which several processes are worth their start, and the views of a task
 MOST_PAINTERS = 5  # that are named because they differ in every view
-Both = typing.Tuple[bytes, bytes]  # doomview's frame of a view, and the port's
-PlaceOf = typing.Callable[[traces.Painter, int], str]
+MOST_TOLD = 20_000  # views that are told as soon as they are looked at, so that each is looked at once
+Both = tuple[bytes, bytes]  # doomview's frame of a view, and the port's
+PlaceOf = Callable[[traces.Painter, int], str]
 Result = typing.TypeVar('Result')
 
 
@@ -31,6 +33,15 @@ class View(typing.NamedTuple):
     mask: bytes
 
 
+class Looked(typing.NamedTuple):
+    """What a view that differs has: its marks, and what doomview painted there, all of it and what differs beside sprites."""
+
+    view: View
+    marks: bytes
+    pixels: traces.Pixels
+    beside: dict[traces.Painter, traces.Pixels]
+
+
 class Found(typing.NamedTuple):
     """What is found of a view that differs: its number, the pixels, and what is known of the port's frame there."""
 
@@ -39,7 +50,7 @@ class Found(typing.NamedTuple):
     known: str
 
 
-def kinds_of(options: argparse.Namespace) -> typing.Optional[typing.Set[int]]:
+def kinds_of(options: argparse.Namespace) -> typing.Optional[set[int]]:
     """The kinds of painters whose pixels count, or None for all."""
     if options.least_width > 1 and not options.list:
         raise Trouble('--least-width needs the list of the same words; name it by --list FILE')
@@ -53,7 +64,7 @@ def kinds_of(options: argparse.Namespace) -> typing.Optional[typing.Set[int]]:
     return named if options.only else {*traces.KINDS} - named
 
 
-def run_of(options: argparse.Namespace, files: typing.List[str], count: int) -> typing.Optional[setup_trials.Run]:
+def run_of(options: argparse.Namespace, files: list[str], count: int) -> typing.Optional[setup_trials.Run]:
     """How our side was drawn, where the path is named; a Trouble where other words of the run are missing."""
     words = cli.job_words(options)
     if not options.path:
@@ -81,7 +92,7 @@ class Files:
         self.known = vectors.of_frames(options.vectors, options.port) if options.vectors else []
         if options.trace and traces.count_views(options.trace) != self.counts[0]:
             raise Trouble(f'{options.trace} is not the trace of {self.counts[0]} views, as {options.ours} has them')
-        self.placing = lists.placing_of(options, files, self.counts[0], self.names, bool(options.path))
+        self.placing = map_places.placing_of(options, files, self.counts[0], self.names, bool(options.path))
         self.run = run_of(options, files, self.counts[0])
         self.views = cli.views_of(options.views, min(self.counts)) if options.views is not None else \
             range(min(self.counts))
@@ -98,10 +109,10 @@ class Files:
         mask = traces.mask(records, self.kinds, self.left_out(number)) if self.kinds else b''
         return View(number, ours, port, records, mask)
 
-    def left_out(self, number: int) -> typing.Set[int]:
+    def left_out(self, number: int) -> set[int]:
         """The numbers of a view's sprites that do not count."""
         least = self.options.least_width
-        return lists.narrow(self.placing.view(number), least) if self.placing and least > 1 else set()
+        return list_files.narrow(self.placing.view(number), least) if self.placing and least > 1 else set()
 
     def records(self, view: int) -> bytes:
         with open(self.options.trace, 'rb') as file:
@@ -116,14 +127,27 @@ class Files:
         """What is known of the port's frame of a view, by the vectors."""
         return vectors.rule_of(self.known[view.number], view.ours, view.port) if view.number < len(self.known) else ''
 
-    def lines(self, found: Found) -> typing.List[str]:
+    @property
+    def is_told(self) -> bool:
+        """Whether each view that differs is told, or most are, and they are not too many to keep what is told."""
+        options, count = self.options, len(self.views)
+        return count <= MOST_TOLD and (bool(options.junit) or not options.quiet and options.most >= count)
+
+    def looked(self, view: View, marks: bytes) -> Looked:
+        pixels = traces.pixels_of(view.records, marks) if view.records else {}
+        return Looked(view, marks, pixels, silhouettes.beside(view.records, marks, pixels) if pixels else {})
+
+    def lines(self, found: Found) -> list[str]:
         """What is said of a view that differs."""
         view = self.view(found.view)
-        marks = differences.marks_of(view.ours, view.port, view.mask)
-        line = line_of(view, marks, found)
-        return [line, *(self.of_painters(view, marks) if view.records else [])]
+        return self.told(self.looked(view, differences.marks_of(view.ours, view.port, view.mask)), found)
 
-    def entry(self, found: Found) -> typing.Dict[str, typing.Any]:
+    def told(self, looked: Looked, found: Found) -> list[str]:
+        """The same, of a view that was looked at."""
+        line = line_of(looked.view, looked.marks, found)
+        return [line, *(self.of_painters(looked) if looked.view.records else [])]
+
+    def entry(self, found: Found) -> dict[str, typing.Any]:
         """What is found of a view that differs, for other programs."""
         view = self.view(found.view)
         marks = differences.marks_of(view.ours, view.port, view.mask)
@@ -135,21 +159,21 @@ class Files:
                                                     'port': view.port[WIDTH * row + column]},
                 'painters': [self.painter_entry(painter, numbers) for painter, numbers in pixels.items()]}
 
-    def painter_entry(self, painter: traces.Painter, numbers: typing.Counter[int]) -> typing.Dict[str, typing.Any]:
+    def painter_entry(self, painter: traces.Painter, numbers: collections.Counter[int]) -> dict[str, typing.Any]:
         kind = traces.KINDS.get(painter.kind, ('nothing', ''))[0]
         return {'kind': kind, 'name': self.names.source_of(painter).name, 'pixels': sum(numbers.values()),
                 'numbers': sorted(numbers)}
 
-    def of_painters(self, view: View, marks: bytes) -> typing.Iterator[str]:
+    def of_painters(self, looked: Looked) -> Iterator[str]:
         """Lines on what doomview painted where a view differs, on what differs beside sprites, and on what differs by its
         light alone."""
-        pixels = traces.pixels_of(view.records, marks)
+        view, marks, pixels, beside = looked
         yield from traces.painters(pixels, self.names, self.place_of(view.number))
-        for painter, others in silhouettes.beside(view.records, marks, pixels).items():
+        for painter, others in beside.items():
             words = ' and '.join(traces.KINDS[kind][0] for kind in sorted({other.kind for other in others}))
             count = sum(sum(numbers.values()) for numbers in others.values())
             yield f'  sprite   {self.names.source(painter):9} {count:6}  more beside it, of {words}: another picture, or moved'
-        known: typing.List[typing.Any] = []
+        known: list[typing.Any] = []
         if self.placing:
             known = [functools.partial(of, self.placing.view(view.number))
                      for of in (self.placing.places.light, self.placing.places.is_bright)]
@@ -170,8 +194,9 @@ class Summary:
 
     def __init__(self) -> None:
         self.everywhere, self.shares = diagnoses.Everywhere(), shares.Shares()
-        self.painters: typing.Dict[traces.Painter, typing.Counter[str]] = collections.defaultdict(collections.Counter)
-        self.found: typing.List[Found] = []
+        self.painters: dict[traces.Painter, collections.Counter[str]] = collections.defaultdict(collections.Counter)
+        self.found: list[Found] = []
+        self.told: dict[int, list[str]] = {}  # of views that are told as soon as they are looked at
         self.counted = self.far = 0  # pixels that count; views of which more than half differ
 
     def add(self, files: Files, number: int) -> None:
@@ -182,27 +207,30 @@ class Summary:
         pixels = differences.count_of(marks)
         if not pixels:
             return
-        self.found.append(Found(number, pixels, files.known_of(view)))
+        found = Found(number, pixels, files.known_of(view))
+        self.found.append(found)
         self.far += 2 * pixels > SIZE
         self.everywhere.add(marks, pixels)
         if view.records:
-            self.add_painters(files, view, marks)
+            traces.check_records(view.records, marks, view.ours, files.options.trace)
+        looked = files.looked(view, marks)
+        self.add_painters(files, looked)
+        if files.is_told:
+            self.told[number] = files.told(looked, found)
 
-    def add_painters(self, files: Files, view: View, marks: bytes) -> None:
+    def add_painters(self, files: Files, looked: Looked) -> None:
         """Takes what doomview painted where a view differs."""
-        traces.check_records(view.records, marks, view.ours, files.options.trace)
-        pixels = traces.pixels_of(view.records, marks)
-        files.names.check_all(pixels, files.options.trace)
-        for painter, numbers in pixels.items():
+        files.names.check_all(looked.pixels, files.options.trace)
+        for painter, numbers in looked.pixels.items():
             self.painters[painter].update(views=1, pixels=sum(numbers.values()))
             self.shares.add(painter, sum(numbers.values()), files.names)
-        for painter, others in silhouettes.beside(view.records, marks, pixels).items():
+        for painter, others in looked.beside.items():
             for other, numbers in others.items():
                 self.shares.move(other, painter, sum(numbers.values()), files.names)
         if files.placing:
-            self.add_lights(files.placing, view.number, pixels)
+            self.add_lights(files.placing, looked.view.number, looked.pixels)
 
-    def add_lights(self, placing: lists.Placing, number: int, pixels: traces.Pixels) -> None:
+    def add_lights(self, placing: map_places.Placing, number: int, pixels: traces.Pixels) -> None:
         """Takes the lights of what differs in a view."""
         items = placing.view(number)
         for painter, numbers in pixels.items():
@@ -216,6 +244,7 @@ class Summary:
         for painter, counts in other.painters.items():
             self.painters[painter].update(counts)
         self.found += other.found
+        self.told.update(other.told)
         self.counted += other.counted
         self.far += other.far
 
@@ -223,7 +252,7 @@ class Summary:
     def pixels(self) -> int:
         return self.everywhere.pixels
 
-    def of_every_view(self, names: traces.Names) -> typing.Iterator[str]:
+    def of_every_view(self, names: traces.Names) -> Iterator[str]:
         """Lines on the painters that differ in every view."""
         whole = len(self.found)
         found = [pair for pair in self.painters.items() if pair[1]['views'] == whole] if whole > 1 else []
@@ -233,7 +262,7 @@ class Summary:
 
 
 # What a process of several has: the files of its own.
-own_files: typing.List[Files] = []
+own_files: list[Files] = []
 
 
 def begin(options: argparse.Namespace) -> None:
@@ -242,7 +271,7 @@ def begin(options: argparse.Namespace) -> None:
     own_files.append(Files(options))
 
 
-def summary_of(files: Files, views: typing.Sequence[int]) -> Summary:
+def summary_of(files: Files, views: Sequence[int]) -> Summary:
     """What is found of some views."""
     summary = Summary()
     for number in views:
@@ -250,20 +279,17 @@ def summary_of(files: Files, views: typing.Sequence[int]) -> Summary:
     return summary
 
 
-def lines_of(files: Files, found: typing.Sequence[Found]) -> typing.List[typing.List[str]]:
+def lines_of(files: Files, found: Sequence[Found]) -> list[list[str]]:
     """What is said of some views that differ."""
     return [files.lines(view) for view in found]
 
 
-def entries_of(files: Files, found: typing.Sequence[Found]) -> typing.List[typing.Dict[str, typing.Any]]:
+def entries_of(files: Files, found: Sequence[Found]) -> list[dict[str, typing.Any]]:
     """What is found of some views that differ, for other programs."""
     return [files.entry(view) for view in found]
 
 
-Task = typing.Callable[[Files, typing.Any], Result]
-
-
-def by_own_files(task: Task, part: typing.Any) -> typing.Any:
+def by_own_files(task: Callable[[Files, typing.Any], Result], part: typing.Any) -> Result:
     return task(own_files[0], part)
 
 
@@ -285,11 +311,11 @@ class Tasks:
         if self.pool:
             self.pool.shutdown(cancel_futures=kind is not None)
 
-    def run(self, task: typing.Callable[[Files, typing.Any], Result], items: typing.Sequence[typing.Any],
-            is_shown: bool = True) -> typing.Iterator[Result]:
+    def run(self, task: Callable[[Files, typing.Any], Result], items: Sequence[typing.Any],
+            is_shown: bool = True) -> Iterator[Result]:
         """What a task gives for each part of some items, in their order."""
         parts = [items[at:at + PART] for at in range(0, len(items), PART)]
-        tasks: typing.Iterator[Result] = self.pool.map(by_own_files, itertools.repeat(task), parts) if self.pool else \
+        tasks: Iterator[Result] = self.pool.map(by_own_files, itertools.repeat(task), parts) if self.pool else \
             (task(self.files, part) for part in parts)
         with Progress(len(items), 'views') as progress:
             for part, done in zip(parts, tasks):

@@ -6,6 +6,7 @@ import signal
 import subprocess
 import sys
 import typing
+from collections.abc import Iterator, Sequence
 
 from . import list_counts, paths, program, system
 from .doom import LIMITS
@@ -26,9 +27,9 @@ ROWS, OUTPUT, SAID = '.csv', '.out', '.err'  # the files of a run
 
 
 @contextlib.contextmanager
-def held_signals() -> typing.Iterator[None]:
+def held_signals() -> Iterator[None]:
     """Lets a signal that ends this process wait for the end of a block."""
-    came: typing.List[int] = []
+    came: list[int] = []
     kept = {number: signal.signal(number, lambda number, _: came.append(number)) for number in ENDING}
     try:
         yield
@@ -58,7 +59,7 @@ class Started(typing.NamedTuple):
     """A run that goes on: its job, its process, and the path of its files without their endings."""
 
     job: str
-    process: subprocess.Popen
+    process: subprocess.Popen[bytes]
     base: str
 
 
@@ -68,10 +69,10 @@ class Going:
     def __init__(self, folder: str, jobs: int, progress: Progress) -> None:
         self.folder, self.jobs, self.progress = folder, jobs, progress
         self.program = program.ready()
-        self.processes: typing.List[subprocess.Popen] = []
+        self.processes: list[subprocess.Popen[bytes]] = []
         self.numbers = itertools.count(1)
 
-    def start(self, job: str, words: typing.List[str], rows: typing.Sequence[Row]) -> Started:
+    def start(self, job: str, words: list[str], rows: Sequence[Row]) -> Started:
         """Starts a job over rows."""
         base = os.path.join(self.folder, str(next(self.numbers)))
         write_whole(base + ROWS, paths.text(rows).encode())
@@ -99,21 +100,21 @@ class Runs:
     """Runs of the program over one map. `words` are those of a user behind the job, and `completed` these as the program
     takes them; `going` may be shared with other runs."""
 
-    def __init__(self, words: typing.List[str], completed: typing.List[str], going: Going) -> None:
+    def __init__(self, words: list[str], completed: list[str], going: Going) -> None:
         self.words, self.completed, self.going = words, completed, going
 
     @classmethod
-    def over_map(cls, name: str, wads: typing.Sequence[str], options: typing.Sequence[str], going: Going) -> 'Runs':
+    def over_map(cls, name: str, wads: Sequence[str], options: Sequence[str], going: Going) -> 'Runs':
         """The runs over a map of WADs, with options that each of them takes."""
         words = [name, *wads, *RAISED, *options]
         return cls(words, program.complete(['limits', *words])[1:], going)
 
-    def over(self, wads: typing.Sequence[str], added: str) -> 'Runs':
+    def over(self, wads: Sequence[str], added: str) -> 'Runs':
         """The same with one WAD more behind its WADs."""
         at = self.completed.index(wads[-1]) + 1
         return Runs(self.words, self.completed[:at] + [added] + self.completed[at:], self.going)
 
-    def start(self, job: str, rows: typing.Sequence[Row]) -> Started:
+    def start(self, job: str, rows: Sequence[Row]) -> Started:
         """Starts a job over rows."""
         return self.going.start(job, self.completed, rows)
 
@@ -128,13 +129,13 @@ class Runs:
             os.remove(run.base + ending)
         return done.output
 
-    def outputs(self, job: str, rows: typing.Sequence[Row], what: str = '') -> typing.Iterator[bytes]:
+    def outputs(self, job: str, rows: Sequence[Row], what: str = '') -> Iterator[bytes]:
         """What a job writes of rows, in parts, several runs at a time; none goes on where this ends early."""
         jobs = self.going.jobs
         size = max(LEAST_ROWS, -(-len(rows) // (PARTS * jobs)))
         size = min(size, MOST_LISTED if job == 'list' else paths.MOST_ROWS)
         parts, done = [rows[i:i + size] for i in range(0, len(rows), size)], 0
-        started: typing.List[Started] = []
+        started: list[Started] = []
         try:
             for number in range(len(parts)):
                 while len(started) < min(len(parts), number + jobs):
@@ -153,24 +154,24 @@ class Runs:
         """Ends with doomview's refusal, in words, where the map has one."""
         self.counts([], 'reading')
 
-    def counts(self, rows: typing.Sequence[Row], what: str = '') -> typing.List[Counts]:
+    def counts(self, rows: Sequence[Row], what: str = '') -> list[Counts]:
         """The counts of each row by name as `limits` has them; of a view that is over a raised limit that count alone."""
         outputs = self.outputs('limits', rows, what) if rows else [self.output_of(self.start('limits', []))]
         return [counts_of(line) for output in outputs for line in output.decode().splitlines()]
 
-    def counts_by_list(self, rows: typing.Sequence[Row], what: str = '') -> typing.Iterator[Counts]:
+    def counts_by_list(self, rows: Sequence[Row], what: str = '') -> Iterator[Counts]:
         """The counts of each row by name, by what `list` says, without solid ranges."""
         for output in self.outputs('list', rows, what) if rows else ():
             yield from list_counts.counts_of(output)
 
-    def ranges(self, rows: typing.Sequence[Row], what: str = '') -> typing.Iterator[int]:
+    def ranges(self, rows: Sequence[Row], what: str = '') -> Iterator[int]:
         """The most solid ranges of each row, of runs over a map of the solid walls alone."""
         for output in self.outputs('list', rows, what) if rows else ():
             yield from list_counts.ranges_of(output)
 
-    def views(self, job: str, rows: typing.Sequence[Row], size: int) -> typing.List[typing.Optional[bytes]]:
+    def views(self, job: str, rows: Sequence[Row], size: int) -> list[typing.Optional[bytes]]:
         """The frame or the trace of each row; None for a view that passes even the raised limits."""
-        found: typing.List[typing.Optional[bytes]] = []
+        found: list[typing.Optional[bytes]] = []
         while len(found) < len(rows):
             data = self.output_of(self.start(job, rows[len(found):]))
             found += [data[i:i + size] for i in range(0, len(data), size)]

@@ -7,6 +7,7 @@ import collections
 import itertools
 import statistics
 import typing
+from collections.abc import Callable, Sequence
 
 from . import differences
 from .doom import COLORMAP_SIZE
@@ -34,8 +35,8 @@ class Case(typing.NamedTuple):
     """Views that differ, some of many; doomview's frame of a view by its number; how many views both have; and the
     colormaps of the WADs, 256 bytes each."""
 
-    pairs: typing.List[Pair]
-    ours: typing.Callable[[int], bytes]
+    pairs: list[Pair]
+    ours: Callable[[int], bytes]
     count: int  # type: ignore[assignment]  # in the place of a method of tuples
     colormaps: bytes
 
@@ -46,7 +47,7 @@ def count(ours: bytes, port: bytes) -> int:
     return len(ours) - both.to_bytes(len(ours), 'big').count(0)
 
 
-def rows_of(frame: bytes) -> typing.List[bytes]:
+def rows_of(frame: bytes) -> list[bytes]:
     return [frame[WIDTH * row:WIDTH * row + WIDTH] for row in range(HEIGHT)]
 
 
@@ -109,7 +110,7 @@ def repeated(case: Case) -> str:
             'writes one frame for all')
 
 
-def nearest_view(case: Case, pair: Pair) -> typing.Tuple[int, int]:
+def nearest_view(case: Case, pair: Pair) -> tuple[int, int]:
     """The number of doomview's view that is nearest to a port's frame, and the pixels that differ from it."""
     near = range(max(0, pair.view - FARTHEST_VIEW), min(case.count, pair.view + FARTHEST_VIEW + 1))
     counts = {view: count(case.ours(view), pair.port) for view in {*near, case.count - 1 - pair.view}}
@@ -189,7 +190,7 @@ def is_within(frame: bytes, size: int) -> bool:
     return not b''.join(outside + sides).strip(b'\0')
 
 
-def size_of(frames: typing.Sequence[bytes]) -> int:
+def size_of(frames: Sequence[bytes]) -> int:
     """The least view size in whose window some frames are."""
     return next(size for size in range(3, FULL_SIZE + 1) if all(is_within(frame, size) for frame in frames))
 
@@ -200,7 +201,7 @@ def other_size(case: Case) -> str:
             f'{ours} (--size; screenblocks of the original)')
 
 
-def sizes(case: Case) -> typing.Tuple[int, int]:
+def sizes(case: Case) -> tuple[int, int]:
     """The view sizes of doomview's frames and of the port's, as far as their windows show them."""
     return size_of([pair.ours for pair in case.pairs]), size_of([pair.port for pair in case.pairs])
 
@@ -227,18 +228,18 @@ def larger_view(case: Case) -> str:
     return other_size(case)
 
 
-def colour_map(case: Case) -> typing.Tuple[typing.Dict[int, int], int]:
+def colour_map(case: Case) -> tuple[dict[int, int], int]:
     """Of each of doomview's colours the colour that the port has most often there; and how many pixels have it."""
-    pairs: typing.Counter[typing.Tuple[int, int]] = collections.Counter()
+    pairs: collections.Counter[tuple[int, int]] = collections.Counter()
     for pair in case.pairs:
         pairs.update(zip(pair.ours, pair.port))
-    found: typing.Dict[int, typing.Tuple[int, int]] = {}
+    found: dict[int, tuple[int, int]] = {}
     for (ours, port), number in pairs.most_common():
         found.setdefault(ours, (port, number))
     return {ours: port for ours, (port, _) in found.items()}, sum(number for _, number in found.values())
 
 
-def colormap_of(mapping: typing.Dict[int, int], colormaps: bytes) -> typing.Optional[int]:
+def colormap_of(mapping: dict[int, int], colormaps: bytes) -> typing.Optional[int]:
     """The number of the colormap that maps colours so, or None."""
     for number in range(len(colormaps) // COLORMAP_SIZE):
         if all(colormaps[COLORMAP_SIZE * number + ours] == port for ours, port in mapping.items()):
@@ -258,15 +259,15 @@ def colours(case: Case) -> str:
     return f'the port has other colours, always in the same way ({some}): {what}'
 
 
-def of_picture(ours: bytes, found: typing.List[typing.Tuple[int, ...]], palette: bytes) -> str:
+def of_picture(ours: bytes, found: list[tuple[int, ...]], palette: bytes) -> str:
     """Why the colours of a picture, three bytes a pixel, are in no entry of the palette, or an empty text."""
     pairs = collections.Counter(zip(ours, found))
-    mapping: typing.Dict[int, typing.Tuple[int, ...]] = {}
+    mapping: dict[int, tuple[int, ...]] = {}
     for (index, colour), _ in pairs.most_common():
         mapping.setdefault(index, colour)
     if not is_cause(SIZE - sum(pairs[pair] for pair in mapping.items()), SIZE):
         return ''
-    parts: typing.Dict[int, int] = {}
+    parts: dict[int, int] = {}
     is_gamma = all(parts.setdefault(palette[3 * index + part], colour[part]) == colour[part]
                    for index, colour in mapping.items() for part in range(3))
     if is_gamma:
@@ -277,7 +278,7 @@ def of_picture(ours: bytes, found: typing.List[typing.Tuple[int, ...]], palette:
 MISTAKES = (one_colour, repeated, low_detail, order, layout, smaller_view, shift, larger_view, colours)
 
 
-def whole_frames(case: Case) -> typing.List[str]:
+def whole_frames(case: Case) -> list[str]:
     """The mistake that all frames have, as a sentence, or none."""
     if LEAST_PART * before(case) < SIZE * len(case.pairs):
         return []
@@ -290,10 +291,10 @@ class Everywhere:
 
     def __init__(self) -> None:
         self.different = self.pixels = 0
-        self.rows: typing.Counter[int] = collections.Counter()  # views
-        self.columns: typing.Counter[int] = collections.Counter()
-        self.in_rows: typing.Counter[int] = collections.Counter()  # pixels
-        self.in_columns: typing.Counter[int] = collections.Counter()
+        self.rows: collections.Counter[int] = collections.Counter()  # views
+        self.columns: collections.Counter[int] = collections.Counter()
+        self.in_rows: collections.Counter[int] = collections.Counter()  # pixels
+        self.in_columns: collections.Counter[int] = collections.Counter()
 
     def add(self, marks: bytes, pixels: int) -> None:
         """Takes the marks of a view that differs in some pixels."""
@@ -313,7 +314,7 @@ class Everywhere:
                           (self.in_columns, other.in_columns)):
             own.update(more)
 
-    def lines(self, views: typing.Dict[int, int], pixels: typing.Dict[int, int], count: int) -> typing.List[int]:
+    def lines(self, views: dict[int, int], pixels: dict[int, int], count: int) -> list[int]:
         """The rows or columns that differ in nine of ten views and far more than most, if they are few and have a tenth
         of the pixels."""
         usual = statistics.median(pixels[line] for line in range(count))
@@ -322,7 +323,7 @@ class Everywhere:
         is_much = 10 * sum(pixels[line] for line in found) >= self.pixels
         return found if is_much and len(found) <= MOST_LINES and ranges(found).count(',') < MOST_RANGES else []
 
-    def sentences(self, count: int, by_rows: bool = True) -> typing.List[str]:
+    def sentences(self, count: int, by_rows: bool = True) -> list[str]:
         """A sentence on the rows or columns that differ in every view, of so many views, or none. Without `by_rows` rows
         are not told: what is of one kind is in some rows more than in others, whatever is wrong with it."""
         for word, views, pixels, lines in (('column', self.columns, self.in_columns, WIDTH),
@@ -335,9 +336,9 @@ class Everywhere:
         return []
 
 
-def ranges(numbers: typing.List[int]) -> str:
+def ranges(numbers: list[int]) -> str:
     """Numbers in their order as words, those that follow each other as a range."""
-    parts: typing.List[typing.List[int]] = []
+    parts: list[list[int]] = []
     for number in numbers:
         if parts and parts[-1][1] == number - 1:
             parts[-1][1] = number

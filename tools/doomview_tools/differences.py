@@ -4,6 +4,7 @@ The marks of a view are a byte for each pixel: 1 where the frames differ and the
 import collections
 import itertools
 import re
+import sys
 import typing
 
 from .frames import HEIGHT, SIZE, WIDTH
@@ -15,11 +16,13 @@ RECORD, KEY = 8, 6  # bytes of a record of a trace, and of its painter: all but 
 KIND, NUMBER, COLOUR = 0, 2, 6  # places in a record
 PAINTER_BYTES = (0, 2, 3, 4, 5)  # of a record, that tell its painter and its number; the kind of source goes with these
 
-Box = typing.Tuple[int, int, int, int]  # the first and last row, the first and last column
-Painted = typing.Dict[bytes, int]  # of painters, as bytes of their records, how many pixels
+PLACES = list(range(SIZE))
+
+Box = tuple[int, int, int, int]  # the first and last row, the first and last column
+Painted = dict[bytes, int]  # of painters, as bytes of their records, how many pixels
 
 
-def number_of(data: bytes) -> int:
+def number_of(data: typing.Union[bytes, bytearray]) -> int:
     return int.from_bytes(data, 'big')
 
 
@@ -40,17 +43,17 @@ def count_of(marks: bytes) -> int:
     return len(marks.translate(None, b'\0'))
 
 
-def places_of(marks: bytes) -> typing.List[int]:
+def places_of(marks: bytes) -> list[int]:
     """The places that are marked, in ascending order."""
-    return list(itertools.compress(range(len(marks)), marks))
+    return list(itertools.compress(PLACES, marks))
 
 
-def in_rows(marks: bytes) -> typing.List[int]:
+def in_rows(marks: bytes) -> list[int]:
     """How many pixels of each row are marked."""
     return [marks.count(MARK, at, at + WIDTH) for at in range(0, SIZE, WIDTH)]
 
 
-def in_columns(marks: bytes) -> typing.List[int]:
+def in_columns(marks: bytes) -> list[int]:
     """How many pixels of each column are marked."""
     return [marks[column::WIDTH].count(MARK) for column in range(WIDTH)]
 
@@ -74,7 +77,7 @@ def other_colour(records: bytes, ours: bytes, marks: bytes) -> typing.Optional[i
     return found.start() if found else None
 
 
-def ends_of(records: bytes) -> typing.List[int]:
+def ends_of(records: typing.Union[bytes, bytearray]) -> list[int]:
     """The places at which runs of pixels of one painter end, row after row."""
     changes = 0
     for part in PAINTER_BYTES:
@@ -87,17 +90,19 @@ def ends_of(records: bytes) -> typing.List[int]:
 def painted(records: bytes, marks: bytes) -> Painted:
     """Of each painter of pixels that are marked how many it has, by the first bytes of its records."""
     first, last = marks.find(MARK) // WIDTH * WIDTH, (marks.rfind(MARK) // WIDTH + 1) * WIDTH
-    records, marks = records[RECORD * first:RECORD * last], marks[first:last]
-    ends = ends_of(records)
-    starts = [0, *ends]
-    found: typing.Dict[bytes, int] = collections.defaultdict(int)
-    for at, pixels in zip(starts, map(marks.count, itertools.repeat(MARK), starts, ends)):
-        if pixels:
-            found[records[RECORD * at:RECORD * at + KEY]] += pixels
-    return found
+    painters, marks = bytearray(records[RECORD * first:RECORD * last]), marks[first:last]
+    ends = ends_of(painters)
+    starts = [0, *ends[:-1]]
+    for part in range(KEY, RECORD):
+        painters[part::RECORD] = bytes(len(marks))
+    numbers = memoryview(painters).cast('Q')
+    found: dict[int, int] = collections.defaultdict(int)
+    for number, pixels in zip(map(numbers.__getitem__, starts), map(marks.count, itertools.repeat(MARK), starts, ends)):
+        found[number] += pixels
+    return {number.to_bytes(RECORD, sys.byteorder)[:KEY]: pixels for number, pixels in found.items() if pixels}
 
 
-def lines_of(marks: bytes, columns: bool) -> typing.List[bytes]:
+def lines_of(marks: bytes, columns: bool) -> list[bytes]:
     """The columns or the rows of the marks."""
     if columns:
         return [marks[column::WIDTH] for column in range(WIDTH)]

@@ -3,10 +3,10 @@ limits. The tables of specials, things and limits are data/game.json, which the 
 import json
 import typing
 
-from . import home
+from . import installation
 
-with open(home.data('game.json'), encoding='utf-8') as file:
-    GAME: typing.Dict[str, typing.Any] = json.load(file)
+with open(installation.data('game.json'), encoding='utf-8') as file:
+    GAME: dict[str, typing.Any] = json.load(file)
 LINES, SECTORS, THINGS = GAME['lines'], GAME['sectors'], GAME['things']  # specials of lines and sectors; types of things
 
 # The lumps of a map behind its label, in their order; those that a builder of nodes makes; and the two behind them.
@@ -33,4 +33,4 @@ PALETTE_SIZE, COLORMAP_SIZE = 768, 256  # bytes
 COLORMAPS = 32  # of lights, from bright to dark
 
 # What a view has at most: MAXVISPLANES, MAXOPENINGS, MAXDRAWSEGS, MAXVISSPRITES, MAXSEGS.
-LIMITS: typing.Dict[str, int] = {name: of['limit'] for name, of in GAME['limits'].items()}
+LIMITS: dict[str, int] = {name: of['limit'] for name, of in GAME['limits'].items()}

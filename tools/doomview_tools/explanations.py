@@ -6,14 +6,17 @@ import re
 import stat
 import sys
 import typing
+from collections.abc import Callable, Iterable, Iterator
 
-from . import notes, paths, program, system, wads
+from . import paths, program, silent_mistakes, system, wads
+from .call_words import Words
 from .doom import PLACES, SPECTRE
-from .jobs import LEVEL_JOBS, Words, wrong_words
+from .jobs import LEVEL_JOBS
 from .refusals import Scene, sentences as sentences_on
 from .trouble import Ended, Trouble
+from .word_checks import wrong_words
 
-Sentences = typing.Iterator[str]
+Sentences = Iterator[str]
 CHUNK = 1 << 20
 
 
@@ -40,12 +43,12 @@ def unreadable(words: Words) -> Sentences:
             yield f'{path} {wrong}.'
 
 
-def on_usage(words: Words) -> typing.List[str]:
+def on_usage(words: Words) -> list[str]:
     found = [sentence if sentence.endswith('?') else f'{sentence}.' for sentence in wrong_words(words)]
     return found or ['doomview --help has the jobs and their words.']
 
 
-def on_read_fault(words: Words) -> typing.List[str]:
+def on_read_fault(words: Words) -> list[str]:
     files = ', '.join(words.files)
     return list(unreadable(words)) or [f'a file could not be read to its end; look at the disk that has it: {files}.']
 
@@ -58,18 +61,18 @@ def place_of(words: Words, view: int) -> str:
         return ''
 
 
-def on_limit(words: Words, view: str, what: str, count: str) -> typing.List[str]:
+def on_limit(words: Words, view: str, what: str, count: str) -> list[str]:
     where = f'row {int(view) + 1} under the header of the path{place_of(words, int(view))}'
     return [f'view {view}, {where}, needs more than {int(count) - 1} {what}, the limit. --{what} N raises it; the job '
             'limits names all such views.']
 
 
-def on_refusal(words: Words, code: str, numbers: str) -> typing.List[str]:
+def on_refusal(words: Words, code: str, numbers: str) -> list[str]:
     return [*sentences_on(int(code), [int(number) for number in numbers.split()], words), *unreadable(words)]
 
 
 # What is said of each line of the program, by its form.
-LINES: typing.List[typing.Tuple[str, typing.Callable[..., typing.Iterable[str]]]] = [
+LINES: list[tuple[str, Callable[..., Iterable[str]]]] = [
     (r'refused (\d+)((?: \d+)*)', on_refusal),
     (r'limit view (\d+) (planes|openings) (\d+)', on_limit),
     (r'usage', on_usage),
@@ -107,14 +110,14 @@ def undrawn(scene: Scene, things: str) -> Sentences:
 def remarks(words: Words, things: str) -> Sentences:
     """Sentences on what is not refused, and may still be a mistake."""
     scene = Scene(words)
-    yield from (f'{sentence}.' for sentence in notes.of_words(words))
+    yield from (f'{sentence}.' for sentence in silent_mistakes.of_words(words))
     if scene.file and len(scene.wads) > 1:
         yield f'{scene.map_name} is that of {scene.file}.'
     if os.path.isfile(things):
         yield from undrawn(scene, things)
 
 
-def on_line(line: str, words: typing.List[str]) -> Sentences:
+def on_line(line: str, words: list[str]) -> Sentences:
     """Sentences on the line that a call with these words ended with."""
     given, is_kept = Words(program.complete(words)), not Words(words).output
     for form, told in LINES:
@@ -125,7 +128,7 @@ def on_line(line: str, words: typing.List[str]) -> Sentences:
         yield 'what was written is no whole WAD; throw it away.'
 
 
-def explain(line: str, words: typing.List[str]) -> Sentences:
+def explain(line: str, words: list[str]) -> Sentences:
     """The same, and what else looks like a mistake."""
     yield from on_line(line, words)
     given = Words(program.complete(words))
@@ -133,14 +136,13 @@ def explain(line: str, words: typing.List[str]) -> Sentences:
         yield from remarks(given, given.value('--things') or '')
 
 
-def tell(line: str, words: typing.List[str],
-         sentences: typing.Callable[[str, typing.List[str]], Sentences] = explain) -> None:
+def tell(line: str, words: list[str], sentences: Callable[[str, list[str]], Sentences] = explain) -> None:
     """Prints the sentences on a line."""
     for sentence in sentences(line, words):
         print(f'explain: {sentence}', file=sys.stderr)
 
 
-def end_of(words: typing.List[str], done: program.Run) -> Ended:
+def end_of(words: list[str], done: program.Run) -> Ended:
     """Says why a run of these words failed: the end of a tool that needed it."""
     sys.stderr.write(done.said)
     tell(done.line, words)

@@ -4,6 +4,7 @@ import os
 import sys
 import tempfile
 import typing
+from collections.abc import Iterable, Iterator, Sequence
 
 from .trouble import TROUBLE, Trouble
 
@@ -24,7 +25,7 @@ Known = tuple[str, os.stat_result]  # the name of a file, and which file it is
 kept: list[Known] = []  # the files that are read, which nothing that is written may replace
 
 
-def names_of(sources: typing.Iterable[str]) -> typing.Iterator[str]:
+def names_of(sources: Iterable[str]) -> Iterator[str]:
     """The names of some files, in the place of a folder those of its files."""
     for path in sources:
         if os.path.isdir(path) and os.access(path, os.R_OK | os.X_OK):
@@ -33,14 +34,14 @@ def names_of(sources: typing.Iterable[str]) -> typing.Iterator[str]:
             yield path
 
 
-def known(sources: typing.Iterable[str]) -> typing.Iterator[Known]:
+def known(sources: Iterable[str]) -> Iterator[Known]:
     """Those of some files that are there."""
     for name in names_of(sources):
         with contextlib.suppress(OSError):
             yield name, os.stat(name)
 
 
-def check_outputs(outputs: typing.Sequence[str], sources: typing.Iterable[str], status: int = TROUBLE) -> None:
+def check_outputs(outputs: Sequence[str], sources: Iterable[str], status: int = TROUBLE) -> None:
     """A Trouble with the status where a file that is to be written cannot be, is one that is read, or is named twice: by
     the file, and not by its name. What else is written until the next call, as into a folder, may be none of the sources
     either."""
@@ -115,7 +116,7 @@ class WholeFile:
             self.part = open(self.part_path, 'wb')
 
     @contextlib.contextmanager
-    def troubles(self) -> typing.Iterator[None]:
+    def troubles(self) -> Iterator[None]:
         """Makes Troubles with the status of what goes wrong."""
         try:
             yield

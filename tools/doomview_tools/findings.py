@@ -1,10 +1,11 @@
 """What checks of a map find: how grave it is, what it is about, where, and a sentence; and how numbers are written."""
 import re
 import typing
+from collections.abc import Iterable
 
 from .levels import Level
 
-Place = typing.Tuple[float, float]
+Place = tuple[float, float]
 ERROR, HOLE, FAULT, ODD = 'error', 'hole', 'fault', 'odd'
 GRADES = {ERROR: 'doomview refuses the map, or the original ends there or reads past the data of the map',
           HOLE: 'a part of a wall that a player can see has no texture',
@@ -24,24 +25,24 @@ class Finding(typing.NamedTuple):
     told: str
 
 
-def some(numbers: typing.Iterable[typing.Any]) -> str:
+def some(numbers: Iterable[typing.Any]) -> str:
     """Numbers, or names, in order, not too many."""
     numbers = sorted(set(numbers))
     more = f' and {len(numbers) - SHOWN} more' if len(numbers) > SHOWN else ''
     return ' '.join(map(str, numbers[:SHOWN])) + more
 
 
-def several(word: str, numbers: typing.Iterable[int]) -> str:
+def several(word: str, numbers: Iterable[int]) -> str:
     """Numbers with the word for what they count."""
     numbers = set(numbers)
     return f'{word}{"s" if len(numbers) > 1 else ""} {some(numbers)}'
 
 
-def sectors(numbers: typing.Iterable[int]) -> str:
+def sectors(numbers: Iterable[int]) -> str:
     return several('sector', numbers)
 
 
-def lines(numbers: typing.Iterable[int], level: Level) -> str:
+def lines(numbers: Iterable[int], level: Level) -> str:
     """Lines with the coordinates of the first."""
     numbers = set(numbers)
     start, end = (level.vertexes[vertex] for vertex in level.lines[min(numbers)][:2])
@@ -49,7 +50,7 @@ def lines(numbers: typing.Iterable[int], level: Level) -> str:
     return f'{several("line", numbers)} ({first}{start.x},{start.y} to {end.x},{end.y})'
 
 
-def places(finding: Finding, level: Level) -> typing.List[Place]:
+def places(finding: Finding, level: Level) -> list[Place]:
     """Where on a map the numbers are that a finding shows: x and y of each."""
     found = NUMBERED.match(finding.where)
     if not found:

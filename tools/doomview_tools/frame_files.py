@@ -58,7 +58,7 @@ def is_trace(data: bytes) -> bool:
 class OfIndices:
     """The frames of files, one behind the other in each."""
 
-    def __init__(self, files: typing.List[str], views: int = 0) -> None:
+    def __init__(self, files: list[str], views: int = 0) -> None:
         for path in files:
             check_form(path)
             check_size(path, views)
@@ -71,14 +71,14 @@ class OfIndices:
             file.seek(place)
             return file.read(SIZE)
 
-    def sentences(self) -> typing.List[str]:
+    def sentences(self) -> list[str]:
         return []
 
 
 Frames = typing.Union[OfIndices, pictures.OfPictures]
 
 
-def of_path(path: str, wads: typing.List[str], palette: bytes, views: int = 0) -> Frames:
+def of_path(path: str, wads: list[str], palette: bytes, views: int = 0) -> Frames:
     """The frames of a file or a folder, as they are written, of which there should be as many as `views`. Those of
     pictures need the palette of WADs."""
     files = pictures.files_of(path)
@@ -97,7 +97,7 @@ SIZES = {width * height: f'{width} by {height}' for width, height in (
 LARGE, TIMES = 640, 4  # the width of a frame of 640 by 400, and how many times as many bytes it has
 
 
-def check_pixels(ours: Frames, port: Frames, path: str) -> typing.List[str]:
+def check_pixels(ours: Frames, port: Frames, path: str) -> list[str]:
     """A sentence where a port has three or four times as many views; a Trouble where these are bytes of colours, or frames
     of 640 by 400."""
     times = port.count // ours.count if ours.count and port.count % ours.count == 0 else 1
@@ -106,7 +106,7 @@ def check_pixels(ours: Frames, port: Frames, path: str) -> typing.List[str]:
     first = b''.join(port.frame(view) for view in range(times))
     if times == TIMES and is_large(ours.frame(0), first):
         raise Trouble(f'{path} has {times} times as many views: its frames are of 640 by 400; let the port draw 320 by 200')
-    colours: typing.Dict[int, typing.Tuple[int, ...]] = {}
+    colours: dict[int, tuple[int, ...]] = {}
     pairs = list(zip(ours.frame(0), zip(*(first[part::times] for part in range(times)))))
     for colour, pixel in pairs:
         colours.setdefault(colour, pixel)
@@ -134,7 +134,7 @@ def check_size(path: str, views: int) -> None:
                       f'{SIZES[each]} have; let the port draw 320 by 200')
 
 
-def missing_numbers(path: str, views: int) -> typing.List[str]:
+def missing_numbers(path: str, views: int) -> list[str]:
     """A sentence on numbers that are missing in the names of a folder's files, where each has one view."""
     files = pictures.files_of(path) if os.path.isdir(path) else []
     if len(files) != views:

@@ -1,7 +1,7 @@
 """Frames: 320 by 200 palette indices, 64,000 bytes, row by row from the top."""
 import os
 import re
-import typing
+from collections.abc import Sequence
 
 from .trouble import Trouble
 
@@ -27,7 +27,7 @@ def count_parts(path: str, size: int, form: str) -> int:
     return length // size
 
 
-def window(size: int) -> typing.Tuple[int, int, int, int]:
+def window(size: int) -> tuple[int, int, int, int]:
     """Where the window of a view size is in a frame: left, top, width and height (R_ExecuteSetViewSize)."""
     if size == 11:
         return 0, 0, WIDTH, HEIGHT
@@ -35,7 +35,7 @@ def window(size: int) -> typing.Tuple[int, int, int, int]:
     return (WIDTH - width) // 2, 0 if width == WIDTH else (ROWS_ABOVE_BAR - height) // 2, width, height
 
 
-def differing(ours: bytes, port: bytes, mask: bytes = b'') -> typing.List[int]:
+def differing(ours: bytes, port: bytes, mask: bytes = b'') -> list[int]:
     """The places, in ascending order, at which two frames differ; with a mask those where it is not 0."""
     both = int.from_bytes(ours, 'big') ^ int.from_bytes(port, 'big')
     if mask:
@@ -51,7 +51,7 @@ def rgb_of(frame: bytes, palette: bytes) -> bytearray:
     return rgb
 
 
-def beside(pictures: typing.Sequence[bytes]) -> bytes:
+def beside(pictures: Sequence[bytes]) -> bytes:
     """Pictures of the size of a frame beside each other, as bytes red, green, blue."""
     step = 3 * WIDTH
     return b''.join(picture[step * row:step * (row + 1)] for row in range(HEIGHT) for picture in pictures)

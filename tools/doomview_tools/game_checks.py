@@ -2,14 +2,14 @@
 
 What the game does while it runs, such as how many lifts, crushers or buttons move at once, is not looked at."""
 import collections
-import typing
+from collections.abc import Callable, Iterator
 
 from . import ground
 from .doom import DESTINATION, GAME, LINES, SECTORS, TELEPORTS
 from .findings import ERROR, FAULT, ODD, Finding, lines, sectors
 from .levels import Level, Line
 
-Findings = typing.Iterator[Finding]
+Findings = Iterator[Finding]
 # Specials of the original, by what they need.
 DOORS = set(LINES['doors'])  # of lines: open the sector behind the line
 SCROLLS, = LINES['scrolls']
@@ -23,10 +23,10 @@ LEAST_BLOCKMAP = 8  # bytes: its head
 class GameCheck:
     """The checks of one map, by its level, its plan, and a function that gives the sectors which a player reaches."""
 
-    def __init__(self, level: Level, plan: ground.Plan, reached: typing.Callable[[], typing.Set[int]]) -> None:
+    def __init__(self, level: Level, plan: ground.Plan, reached: Callable[[], set[int]]) -> None:
         self.level, self.plan, self.reached, self.place = level, plan, reached, ground.Ground(plan)
 
-    def lines_of(self, wanted: typing.Callable[[int, Line], object]) -> typing.List[int]:
+    def lines_of(self, wanted: Callable[[int, Line], object]) -> list[int]:
         """The numbers of the lines of which something holds."""
         return [number for number, line in enumerate(self.level.lines) if wanted(number, line)]
 

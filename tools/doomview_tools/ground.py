@@ -1,10 +1,11 @@
-"""Where a player can stand in a level: between its lines, with room, off the walls. Where he gets: ways.
+"""Where a player can stand in a level: between its lines, with room, off the walls. Where he gets: player_reach.
 
 A row is a y between two whole numbers, so that no vertex lies on it."""
 import bisect
 import collections
 import struct
 import typing
+from collections.abc import Iterable, Iterator, Mapping
 
 from .doom import BLOCKS, LAYOUTS, SECTORS, SKY
 from .levels import Level, Sector, Vertex, alone
@@ -15,9 +16,9 @@ LINTEL = 4  # what a door that is open keeps of its height below the ceiling bes
 SQUARE, BAND = 128, 16
 STEPS = (64, 32, 16, 8)  # of grids on which a place in a sector is looked for
 
-Box = typing.Tuple[int, int, int, int]  # x and y of the low corner, and of the high one
-Beside = typing.Tuple[typing.Optional[int], typing.Optional[int]]  # the sectors in front of a line and behind it, or None
-Square = typing.Tuple[int, int]
+Box = tuple[int, int, int, int]  # x and y of the low corner, and of the high one
+Beside = tuple[typing.Optional[int], typing.Optional[int]]  # the sectors in front of a line and behind it, or None
+Square = tuple[int, int]
 
 
 class Crossing(typing.NamedTuple):
@@ -37,14 +38,14 @@ class Plan:
         for number, line in enumerate(level.lines):
             if max(line.start, line.end) >= len(level.vertexes):
                 raise level.error(f'is damaged: a vertex of line {number} is not there')
-        self.beside: typing.List[Beside] = [(self.sector_of_side(line.front), self.sector_of_side(line.back))
-                                            for line in level.lines]
-        self.lines_of: typing.Dict[int, typing.List[int]] = collections.defaultdict(list)
+        self.beside: list[Beside] = [(self.sector_of_side(line.front), self.sector_of_side(line.back))
+                                     for line in level.lines]
+        self.lines_of: dict[int, list[int]] = collections.defaultdict(list)
         for number, pair in enumerate(self.beside):
             for sector in set(pair):
                 if sector is not None:
                     self.lines_of[sector].append(number)
-        self.bands: typing.Dict[int, typing.List[int]] = collections.defaultdict(list)
+        self.bands: dict[int, list[int]] = collections.defaultdict(list)
         for number in range(len(level.lines)):
             low, high = sorted(vertex.y for vertex in self.ends(number))
             for band in range(low // BAND, high // BAND + 1):
@@ -56,7 +57,7 @@ class Plan:
         sector = self.level.sides[side].sector
         return sector if sector < len(self.level.sectors) else None
 
-    def ends(self, number: int) -> typing.Tuple[Vertex, Vertex]:
+    def ends(self, number: int) -> tuple[Vertex, Vertex]:
         """Both ends of a line."""
         line = self.level.lines[number]
         return self.level.vertexes[line.start], self.level.vertexes[line.end]
@@ -71,11 +72,11 @@ class Plan:
         """The least box of the lines of a sector."""
         return self.box_around(self.lines_of[sector])
 
-    def box_around(self, numbers: typing.Iterable[int]) -> Box:
+    def box_around(self, numbers: Iterable[int]) -> Box:
         xs, ys = zip(*(vertex for number in numbers for vertex in self.ends(number)))
         return min(xs), min(ys), max(xs), max(ys)
 
-    def crossings(self, y: float) -> typing.List[Crossing]:
+    def crossings(self, y: float) -> list[Crossing]:
         """Where lines cross a row, from left to right."""
         found = []
         for number in self.bands.get(int(y // BAND), ()):
@@ -91,25 +92,25 @@ class Plan:
         """Whether a player cannot pass a line, whatever moves beside it."""
         return None in self.beside[number] or bool(self.level.lines[number].flags & BLOCKS)
 
-    def neighbours(self) -> typing.Iterator[typing.Tuple[int, int]]:
+    def neighbours(self) -> Iterator[tuple[int, int]]:
         """Of each line with a sector on both sides that in front, and that behind."""
         return ((front, back) for front, back in self.beside if front is not None and back is not None)
 
-    def tagged_sectors(self) -> typing.Set[int]:
+    def tagged_sectors(self) -> set[int]:
         """The sectors on which a line with a special may act by its tag, or the end of a boss."""
         tags = {line.tag for line in self.level.lines if line.special} - {0} | BOSS_TAGS
         return {number for number, sector in enumerate(self.level.sectors) if sector.tag in tags}
 
-    def rising_sectors(self) -> typing.Set[int]:
+    def rising_sectors(self) -> set[int]:
         """The sectors that may become higher than they are: by their tag, or since they are behind a special."""
         return self.tagged_sectors() | {back for line, (_, back) in zip(self.level.lines, self.beside)
                                 if line.special and back is not None}
 
-    def doors(self) -> typing.Dict[int, int]:
+    def doors(self) -> dict[int, int]:
         """The ceilings that doors have once they are open, by the least one beside each. A door is a shut sector that may
         rise, whose ceiling is no sky."""
         sectors, rising = self.level.sectors, self.rising_sectors()
-        least: typing.Dict[int, int] = {}
+        least: dict[int, int] = {}
         for pair in self.neighbours():
             for one, other in (pair, pair[::-1]):
                 if is_shut(sectors[one]) and not is_shut(sectors[other]):
@@ -133,7 +134,7 @@ def is_step(one: Sector, other: Sector) -> bool:
             and min(one.ceiling, other.ceiling) - max(one.floor, other.floor) >= HEIGHT)
 
 
-def with_ceilings(level: Level, ceilings: typing.Mapping[int, int]) -> bytes:
+def with_ceilings(level: Level, ceilings: Mapping[int, int]) -> bytes:
     """A WAD of the level alone, in which some sectors have other ceilings."""
     data = bytearray(level.lumps['SECTORS'])
     for sector, ceiling in ceilings.items():
@@ -145,7 +146,7 @@ class Walls:
     """The lines that stop a player, by the squares that they come near to: of each its start, and the way to its end."""
 
     def __init__(self, plan: Plan) -> None:
-        self.squares: typing.Dict[Square, typing.List[Box]] = collections.defaultdict(list)
+        self.squares: dict[Square, list[Box]] = collections.defaultdict(list)
         for number in filter(plan.is_wall, range(len(plan.level.lines))):
             (x1, y1), (x2, y2) = plan.ends(number)
             for i in squares(x1, x2):
@@ -176,11 +177,11 @@ class Ground:
 
     def __init__(self, plan: Plan) -> None:
         self.plan, self.walls = plan, Walls(plan)
-        self.rows: typing.Dict[float, typing.Tuple[typing.List[Crossing], typing.List[float]]] = {}
+        self.rows: dict[float, tuple[list[Crossing], list[float]]] = {}
         # Pairs of lines that face each other, and have other sectors.
-        self.doubts: typing.Counter[typing.Tuple[int, int]] = collections.Counter()
+        self.doubts: collections.Counter[tuple[int, int]] = collections.Counter()
 
-    def row(self, y: float) -> typing.Tuple[typing.List[Crossing], typing.List[float]]:
+    def row(self, y: float) -> tuple[list[Crossing], list[float]]:
         """The crossings of a row, and their x."""
         if y not in self.rows:
             row = self.plan.crossings(y)
@@ -209,7 +210,7 @@ class Ground:
             return None
         return self.plan.level.sector_at(x, y)
 
-    def place_in(self, number: int) -> typing.Optional[typing.Tuple[int, float, int]]:
+    def place_in(self, number: int) -> typing.Optional[tuple[int, float, int]]:
         """A place of a sector that no wall is near to, with the step of the grid on which it was found; None if a grid
         of 8 units has none."""
         low_x, low_y, high_x, high_y = self.plan.box_of(number)

@@ -15,7 +15,7 @@ td:first-child,th:first-child{{text-align:left}}.over{{font-weight:bold;backgrou
 '''
 
 
-def index_page(title: str, found: typing.Dict[str, typing.Any], limits: typing.Dict[str, int]) -> bytes:
+def index_page(title: str, found: dict[str, typing.Any], limits: dict[str, int]) -> bytes:
     """The bytes of the page; `found` has by map the numbers that limits-map found, or why there are none."""
     heads = ''.join(f'<th>{name} of {limits[name]:,}</th>' for name in COUNTS)
     rows = [row_of(name, numbers) for name, numbers in found.items()]
@@ -31,7 +31,7 @@ def row_of(name: str, numbers: typing.Any) -> str:
     return f'<tr><td><a href="{name}.html">{name}</a></td>{cells}<td>{over:,}</td></tr>'
 
 
-def cell_of(numbers: typing.Dict[str, typing.Any], count: str) -> str:
+def cell_of(numbers: dict[str, typing.Any], count: str) -> str:
     """The cell of a count: the greatest in each state."""
     states = [state['counts'][count] for state in numbers['states']]
     mark = ' class="over"' if any(state['over'] for state in states) else ''

@@ -5,6 +5,7 @@ records with the fields of docs/FORMATS.md, "Maps". Bytes after the last whole r
 import functools
 import struct
 import typing
+from collections.abc import Mapping, Sequence
 
 from .doom import BUILT_LUMPS, LAYOUTS, LEAF, MAP_LUMPS, NO_SIDE, PLAYER_1, TABLES
 from .trouble import WadError
@@ -15,7 +16,7 @@ TURN = 1 << 32  # a whole turn as an angle
 EYE_HEIGHT = 41  # map units above the floor
 EXTENDED = [b'XNOD', b'ZNOD', b'XGLN', b'ZGLN', b'XGL2', b'ZGL2', b'XGL3', b'ZGL3', b'gNd2', b'gNd5']
 
-Box = typing.Tuple[int, ...]  # top, bottom, left, right
+Box = tuple[int, ...]  # top, bottom, left, right
 
 
 class Thing(typing.NamedTuple):
@@ -40,7 +41,7 @@ class Line(typing.NamedTuple):
     back: typing.Optional[int]
 
     @property
-    def sides(self) -> typing.Tuple[typing.Optional[int], typing.Optional[int]]:
+    def sides(self) -> tuple[typing.Optional[int], typing.Optional[int]]:
         """The sides in their order: that at the front, and that at the back."""
         return self.front, self.back
 
@@ -106,7 +107,10 @@ class Sector(typing.NamedTuple):
     tag: int
 
 
-def records(data: bytes, layout: str) -> typing.List[tuple]:
+Record = tuple[typing.Any, ...]  # of a lump: numbers and names, as its layout has them
+
+
+def records(data: bytes, layout: str) -> list[Record]:
     """The whole records of a lump, as tuples."""
     size = struct.calcsize(layout)
     return [struct.unpack_from(layout, data, size * i) for i in range(len(data) // size)]
@@ -115,49 +119,49 @@ def records(data: bytes, layout: str) -> typing.List[tuple]:
 class Level:
     """A map: its name, the WAD that has it, the bytes of its lumps by name, and the records of eight of them."""
 
-    def __init__(self, name: str, wad: str, lumps: typing.Dict[str, bytes]) -> None:
+    def __init__(self, name: str, wad: str, lumps: dict[str, bytes]) -> None:
         self.name, self.wad, self.lumps = name, wad, lumps
 
-    def records(self, lump: str) -> typing.List[tuple]:
+    def records(self, lump: str) -> list[Record]:
         return records(self.lumps.get(lump, b''), LAYOUTS[lump])
 
     @functools.cached_property
-    def things(self) -> typing.List[Thing]:
+    def things(self) -> list[Thing]:
         return [Thing(*record) for record in self.records('THINGS')]
 
     @functools.cached_property
-    def lines(self) -> typing.List[Line]:
+    def lines(self) -> list[Line]:
         return [Line(*record[:5], *(None if side == NO_SIDE else side for side in record[5:]))
                 for record in self.records('LINEDEFS')]
 
     @functools.cached_property
-    def sides(self) -> typing.List[Side]:
+    def sides(self) -> list[Side]:
         return [Side(x, y, clean(upper), clean(lower), clean(middle), sector)
                 for x, y, upper, lower, middle, sector in self.records('SIDEDEFS')]
 
     @functools.cached_property
-    def vertexes(self) -> typing.List[Vertex]:
+    def vertexes(self) -> list[Vertex]:
         return [Vertex(*record) for record in self.records('VERTEXES')]
 
     @functools.cached_property
-    def segs(self) -> typing.List[Seg]:
+    def segs(self) -> list[Seg]:
         return [Seg(*record) for record in self.records('SEGS')]
 
     @functools.cached_property
-    def leaves(self) -> typing.List[Leaf]:
+    def leaves(self) -> list[Leaf]:
         return [Leaf(*record) for record in self.records('SSECTORS')]
 
     @functools.cached_property
-    def nodes(self) -> typing.List[Node]:
+    def nodes(self) -> list[Node]:
         return [Node(x, y, dx, dy, tuple(boxes[:4]), tuple(boxes[4:]), front, back)
                 for x, y, dx, dy, *boxes, front, back in self.records('NODES')]
 
     @functools.cached_property
-    def sectors(self) -> typing.List[Sector]:
+    def sectors(self) -> list[Sector]:
         return [Sector(floor, ceiling, clean(below), clean(above), *rest)
                 for floor, ceiling, below, above, *rest in self.records('SECTORS')]
 
-    def extended_nodes(self) -> typing.Optional[typing.Tuple[str, str]]:
+    def extended_nodes(self) -> typing.Optional[tuple[str, str]]:
         """The lump that has extended nodes, and their letters, or None."""
         for name in reversed(BUILT_LUMPS):
             letters = self.lumps.get(name, b'')[:4]
@@ -231,7 +235,7 @@ class Level:
         return starts[-1]
 
 
-def alone(level: Level, changed: typing.Mapping[str, bytes]) -> bytes:
+def alone(level: Level, changed: Mapping[str, bytes]) -> bytes:
     """The bytes of a PWAD of a level alone, in which some lumps have other bytes."""
     lumps = {**level.lumps, **changed}
     return wad_of([(level.name, b''), *((name, lumps[name]) for name in MAP_LUMPS)], b'PWAD')
@@ -249,7 +253,7 @@ def is_behind(node: Node, x: float, y: float) -> bool:
     return line_y * (x - node_x) <= line_x * (y - node_y)
 
 
-def no_map(name: str, wads: typing.Sequence[str], lumps: typing.Sequence[Lump]) -> WadError:
+def no_map(name: str, wads: Sequence[str], lumps: Sequence[Lump]) -> WadError:
     """The WadError of lumps without a map of that name; `wads` has the WAD of each lump, or those without any."""
     names = [lump.name for lump in lumps]
     if name in names:
@@ -261,7 +265,7 @@ def no_map(name: str, wads: typing.Sequence[str], lumps: typing.Sequence[Lump]) 
     return WadError(f'{" and ".join(where)} {have} no map {name}; the maps there: {maps}')
 
 
-def why_no_map(behind: typing.List[str]) -> str:
+def why_no_map(behind: list[str]) -> str:
     """Why a label is that of no map here, by the names of the lumps behind it."""
     if behind[:1] == ['TEXTMAP']:
         return 'is a UDMF map; save it in Doom format'
@@ -274,13 +278,13 @@ def why_no_map(behind: typing.List[str]) -> str:
     return f'is no map: behind it are {", ".join(behind[:len(MAP_LUMPS)]) or "no lumps"}'
 
 
-def has_gl_nodes(lumps: typing.Sequence[Lump], label: int) -> bool:
+def has_gl_nodes(lumps: Sequence[Lump], label: int) -> bool:
     """Whether GL nodes stand behind a map."""
     first = label + 1 + len(MAP_LUMPS)
     return any(lump.name.startswith('GL_') for lump in lumps[first:first + BEHIND_MAP])
 
 
-def read(wads: typing.Sequence[str], name: str) -> Level:
+def read(wads: Sequence[str], name: str) -> Level:
     """The level of a map over WADs, given in their order by their paths. The last label of the name counts."""
     lumps, places = [], []
     for wad in wads:

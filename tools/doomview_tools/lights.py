@@ -6,9 +6,11 @@ alone is another, each of these has the same texels through one colormap in doom
 whose number is 4 more or less for each 16 of light, both cut. This is said of a fragment, a plane or a sprite if it can be
 so in each of its columns or rows in which something differs, whole, and of enough colours that it is no accident."""
 import collections
+import itertools
 import typing
+from collections.abc import Callable, Collection, Iterable
 
-from . import traces
+from . import differences, traces
 from .doom import COLORMAP_SIZE, COLORMAPS as MAPS
 from .frames import WIDTH
 from .traces import MIDDLE, PLANE, SPRITE, WALL, WEAPON
@@ -18,14 +20,15 @@ LIGHT, LIGHTS, MOST_STEPS = 16, 256, 15  # of a step, all lights, and the most s
 LEAST_PAIRS = 8  # of colours that differ: doomview's and the port's
 MOST_SAMPLED = 2000  # places of a view by which most painters are ruled out
 LIT = (WALL, PLANE, MIDDLE, SPRITE, WEAPON)  # kinds of painters: all but the sky
+IS_LIT = [kind in LIT for kind in range(256)]
 
-Pairs = typing.Set[typing.Tuple[int, int]]  # of doomview's colour and the port's
-Groups = typing.Dict[int, Pairs]  # of a painter, by its columns or rows
-Key = typing.Tuple[int, int, int]  # of a painter: its kind, and its number as two bytes
-ByPainter = typing.Dict[Key, Groups]
-Found = typing.Dict[Key, typing.Set[int]]  # of painters the steps that there may be
-LightOf = typing.Callable[[int, int], typing.Optional[int]]  # the light of a painter by its kind and number, if it is known
-IsBright = typing.Callable[[int, int], bool]  # whether a painter is full bright, as far as it is known
+Pairs = set[tuple[int, int]]  # of doomview's colour and the port's
+Groups = dict[int, Pairs]  # of a painter, by its columns or rows
+Key = tuple[int, int, int]  # of a painter: its kind, and its number as two bytes
+ByPainter = dict[Key, Groups]
+Found = dict[Key, set[int]]  # of painters the steps that there may be
+LightOf = Callable[[int, int], typing.Optional[int]]  # the light of a painter by its kind and number, if it is known
+IsBright = Callable[[int, int], bool]  # whether a painter is full bright, as far as it is known
 
 
 def nearest_map(number: int) -> int:
@@ -50,8 +53,7 @@ STEPS = {steps: pairs_of(steps) for step in range(1, MOST_STEPS + 1) for steps i
 
 def line_of(kind: int, place: int) -> int:
     """The number of the column or row of a pixel, all of which has one colormap."""
-    row, column = divmod(place, WIDTH)
-    return {WALL: column, MIDDLE: column, PLANE: row}.get(kind, 0)
+    return place // WIDTH if kind == PLANE else place % WIDTH if kind in (WALL, MIDDLE) else 0
 
 
 def key_at(records: bytes, place: int) -> Key:
@@ -63,11 +65,11 @@ def key_at(records: bytes, place: int) -> Key:
 class Lights:
     """What the colormaps of the WADs tell of two colours: under which pairs of them a texel has both."""
 
-    def __init__(self, colormaps: bytes):
-        self.known: typing.Dict[typing.Tuple[int, int], int] = {}
+    def __init__(self, colormaps: bytes) -> None:
+        self.known: dict[tuple[int, int], int] = {}
         self.texels = []  # of each texel that is lit, by its colours the numbers of the colormaps, as bits
         for texel in range(COLORMAP_SIZE if len(colormaps) >= COLORMAP_SIZE * MAPS else 0):
-            found: typing.Dict[int, int] = collections.defaultdict(int)
+            found: dict[int, int] = collections.defaultdict(int)
             for number in range(MAPS):
                 found[colormaps[COLORMAP_SIZE * number + texel]] |= 1 << number
             self.texels.append(found)
@@ -82,7 +84,7 @@ class Lights:
                     self.known[ours, port] |= firsts * texel[port]
         return self.known[ours, port]
 
-    def steps(self, groups: Groups) -> typing.List[int]:
+    def steps(self, groups: Groups) -> list[int]:
         """The steps of light that can be between the colours of all columns, or rows, of a painter."""
         found = list(STEPS)
         for pairs in groups.values():
@@ -94,19 +96,19 @@ class Lights:
             found = [steps for steps in found if ways & STEPS[steps]]
         return found
 
-    def likely(self, records: bytes, places: typing.List[int], ours: bytes, port: bytes) -> ByPainter:
+    def likely(self, records: bytes, places: list[int], ours: bytes, port: bytes) -> ByPainter:
         """The groups of the painters that may differ by their light, by the places at which a view differs."""
         some = places[::len(places) // MOST_SAMPLED + 1]
         keys = {key for key, groups in groups_of(records, some, ours, port).items() if self.steps(groups)}
-        own = [place for place in places if key_at(records, place) in keys] if keys else []
+        own = sorted({*places} & {*places_with(records, keys)}) if keys else []
         return {key: groups for key, groups in groups_of(records, own, ours, port).items()
                 if len(set().union(*groups.values())) >= LEAST_PAIRS and self.steps(groups)}
 
-    def painters(self, records: bytes, places: typing.List[int], ours: bytes, port: bytes) -> Found:
+    def painters(self, records: bytes, places: list[int], ours: bytes, port: bytes) -> Found:
         """Of a view the painters whose pixels differ as under another light, each in whole columns or rows, with the steps
         of which it may be any."""
         likely = self.likely(records, places, ours, port)
-        whole = [place for place in range(len(ours)) if key_at(records, place) in likely] if likely else []
+        whole = places_with(records, likely) if likely else []
         found = {}
         for key, groups in groups_of(records, whole, ours, port).items():
             steps = self.steps({line: groups[line] for line in likely[key]})
@@ -114,9 +116,9 @@ class Lights:
                 found[key] = set(steps)
         return found
 
-    def lines(self, records: bytes, places: typing.List[int], both: typing.Tuple[bytes, bytes],
+    def lines(self, records: bytes, places: list[int], both: tuple[bytes, bytes],
               light_of: LightOf = lambda kind, number: None,
-              is_bright: IsBright = lambda kind, number: False) -> typing.List[str]:
+              is_bright: IsBright = lambda kind, number: False) -> list[str]:
         """Lines on what differs by its light alone, in a view that differs at some places: that of most pixels first."""
         lines, found = [], self.painters(records, places, *both)
         pixels = collections.Counter(key_at(records, place) for place in places if found)
@@ -134,18 +136,18 @@ class Lights:
         return lines
 
 
-def lights_of(keys: typing.Set[Key], light_of: LightOf) -> typing.Set[typing.Optional[int]]:
+def lights_of(keys: set[Key], light_of: LightOf) -> set[typing.Optional[int]]:
     return {light_of(kind, low + 256 * high) for kind, low, high in keys}
 
 
-def dimmed(pixels: int, keys: typing.Set[Key], light_of: LightOf) -> str:
+def dimmed(pixels: int, keys: set[Key], light_of: LightOf) -> str:
     """The line on painters that are full bright, and are not in the port."""
     own = lights_of(keys, light_of)
     light = f', the sector there has light {min(filter(None, own), default=0)}' if len(own) == 1 else ''
     return f'  darker   not full bright, as it is here{light}: all {pixels} pixels that differ of {names_of(keys)}'
 
 
-def sentence(pixels: int, steps: int, keys: typing.Set[Key], light_of: LightOf) -> str:
+def sentence(pixels: int, steps: int, keys: set[Key], light_of: LightOf) -> str:
     """The line on painters of which the port has the light by some steps other."""
     word, much = ('darker', 'less') if steps > 0 else ('lighter', 'more')
     lights = lights_of(keys, light_of)
@@ -156,17 +158,31 @@ def sentence(pixels: int, steps: int, keys: typing.Set[Key], light_of: LightOf) 
     return f'  {word:8} as under {light}: all {pixels} pixels that differ of {names_of(keys)}'
 
 
-def groups_of(records: bytes, places: typing.Iterable[int], ours: bytes, port: bytes) -> ByPainter:
+def groups_of(records: bytes, places: Iterable[int], ours: bytes, port: bytes) -> ByPainter:
     """The pairs of colours at some places of a view, of each painter that is lit by its columns or rows."""
-    found: ByPainter = collections.defaultdict(lambda: collections.defaultdict(set))
+    kinds, low, high = keys_of(records)
+    lines: dict[tuple[int, int, int, int], Pairs] = collections.defaultdict(set)
     for place in places:
-        key = key_at(records, place)
-        if key[0] in LIT:
-            found[key][line_of(key[0], place)].add((ours[place], port[place]))
+        kind = kinds[place]
+        if IS_LIT[kind]:
+            lines[kind, low[place], high[place], line_of(kind, place)].add((ours[place], port[place]))
+    found: ByPainter = collections.defaultdict(dict)
+    for (*key, line), pairs in lines.items():
+        found[key[0], key[1], key[2]][line] = pairs
     return found
 
 
-def names_of(keys: typing.Iterable[Key]) -> str:
+def keys_of(records: bytes) -> tuple[bytes, bytes, bytes]:
+    """Of each pixel of a view the parts of the painter's key."""
+    return records[::traces.RECORD.size], records[2::traces.RECORD.size], records[3::traces.RECORD.size]
+
+
+def places_with(records: bytes, keys: Collection[Key]) -> list[int]:
+    """The places of a view at which one of some painters painted."""
+    return list(itertools.compress(differences.PLACES, map(keys.__contains__, zip(*keys_of(records)))))
+
+
+def names_of(keys: Iterable[Key]) -> str:
     """Painters by what their numbers count."""
     numbers = collections.defaultdict(set)
     for kind, low, high in keys:

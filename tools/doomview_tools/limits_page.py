@@ -4,17 +4,18 @@ import collections
 import os
 import sys
 import typing
+from collections.abc import Iterable, Iterator, Sequence
 
 from . import traces
 from .cells import Cell, Grid
 from .checks import findings
 from .counting import COUNTS, Runs
-from .earlier import Change
+from .earlier_run import Change
 from .findings import GRADES, places
 from .frames import HEIGHT, SIZE, WIDTH
 from .ground import Plan
 from .levels import Level
-from .pages import columns, json_of, page, picture
+from .pages import Column, columns, json_of, page, picture
 from .paths import Row
 
 TEMPLATE = 'limits_map.html'
@@ -29,8 +30,11 @@ SHOWN_NAMES = 8
 PLANE_COLOURS = bytes(255 if i == NO_PLANE else ((i + 1) * factor) % 200 + 40
                       for i in range(256) for factor in (83, 149, 47))
 
-Pictures = typing.Dict[str, typing.Tuple[str, str, str]]  # by kind, each in the sizes of `sizes_of`
-Shown = typing.Dict[str, typing.Any]  # a view, as the page has it
+Pictures = dict[str, tuple[str, str, str]]  # by kind, each in the sizes of `sizes_of`
+Shown = dict[str, typing.Any]  # a view, as the page has it
+NameCount = tuple[str, int]  # a name, and how many numbers it has
+Small = tuple[tuple[int, int, int, int], str]  # a row, and its picture
+Mark = tuple[str, str, list[tuple[float, float]]]  # a grade, a line, and places
 
 
 def planes_of(trace: bytes) -> bytes:
@@ -39,22 +43,21 @@ def planes_of(trace: bytes) -> bytes:
     return bytes(number % NO_PLANE if kind in PLANE_KINDS else NO_PLANE for kind, number in zip(kinds, numbers))
 
 
-def names_in(trace: bytes, names: traces.Names) -> typing.Dict[str, list]:
+def names_in(trace: bytes, names: traces.Names) -> dict[str, tuple[int, int, list[NameCount]]]:
     """Of each count how many have a pixel in a view, how many names they have, and those of most: name and number."""
-    found: typing.Dict[str, typing.Dict[str, typing.Set[int]]] = collections.defaultdict(
-        lambda: collections.defaultdict(set))
+    found: dict[str, dict[str, set[int]]] = collections.defaultdict(lambda: collections.defaultdict(set))
     for record in set(memoryview(trace).cast('Q')):
         kind, source_kind, number, source, _, _ = traces.RECORD.unpack(record.to_bytes(8, sys.byteorder))
         if kind in COUNT_OF:
             found[COUNT_OF[kind]][names.source_of(traces.Painter(kind, source_kind, source)).name].add(number)
-    return {count: [len(set().union(*of_names.values())), len(of_names), most_numbers(of_names)]
+    return {count: (len(set().union(*of_names.values())), len(of_names), most_numbers(of_names))
             for count, of_names in found.items()}
 
 
-def most_numbers(found: typing.Dict[str, typing.Set[int]]) -> typing.List[list]:
+def most_numbers(found: dict[str, set[int]]) -> list[NameCount]:
     """The names that have the most numbers, each with how many."""
     order = sorted(found, key=lambda name: (-len(found[name]), name))
-    return [[name, len(found[name])] for name in order[:SHOWN_NAMES]]
+    return [(name, len(found[name])) for name in order[:SHOWN_NAMES]]
 
 
 def half_picture(frame: bytes, palette: bytes) -> str:
@@ -63,12 +66,12 @@ def half_picture(frame: bytes, palette: bytes) -> str:
     return picture(halved, palette, WIDTH // 2, HEIGHT // 2)
 
 
-def sizes_of(frame: typing.Optional[bytes], palette: bytes) -> typing.Tuple[str, str, str]:
+def sizes_of(frame: typing.Optional[bytes], palette: bytes) -> tuple[str, str, str]:
     """A frame as a page may have it: whole, of half the width and height, or not at all."""
     return (picture(frame, palette), half_picture(frame, palette), '') if frame else ('', '', '')
 
 
-def row_of_cell(cell: Cell) -> typing.List[int]:
+def row_of_cell(cell: Cell) -> list[int]:
     """A cell as the page has it: of each count the greatest number, and its direction."""
     numbers = [part for name in COUNTS for part in cell.most.get(name, (0, 0))]
     return [cell.x, int(cell.y - .5), cell.size, cell.floor, cell.sector, int(cell.is_reached), *numbers]
@@ -80,9 +83,9 @@ class State:
     def __init__(self, label: str, grid: Grid, runs: Runs) -> None:
         self.label, self.grid, self.runs = label, grid, runs
 
-    def views(self, most: int) -> typing.Tuple[typing.List[Row], typing.Dict[str, typing.List[int]]]:
+    def views(self, most: int) -> tuple[list[Row], dict[str, list[int]]]:
         """The worst views of each count, and of each count the places of its own among them."""
-        rows: typing.Dict[Row, int] = {}
+        rows: dict[Row, int] = {}
         order = {name: [rows.setdefault(row, len(rows)) for _, row in self.grid.worst(name, most)] for name in COUNTS}
         return list(rows), order
 
@@ -91,7 +94,7 @@ class State:
         self.rows, self.order = self.views(most)
         self.traces = self.runs.views('trace', self.rows, traces.VIEW_SIZE)
         found = zip(self.rows, self.runs.counts_by_list(self.rows), self.grid.walls.ranges(self.rows), self.traces)
-        self.shown: typing.List[Shown] = [
+        self.shown: list[Shown] = [
             {'row': row[:4], 'counts': {**counts, 'solids': solids} if 'fragments' in counts else counts,
              'seen': trace and names_in(trace, names)} for row, counts, solids, trace in found]
         cells = sorted(self.grid.cells, key=lambda cell: -cell.size)
@@ -99,7 +102,7 @@ class State:
                 'order': self.order, 'small': [], 'looked': self.grid.views, 'over': self.grid.over,
                 'step': self.grid.step}
 
-    def pictures(self, palette: bytes) -> typing.Iterator[typing.Tuple[int, Shown, Pictures]]:
+    def pictures(self, palette: bytes) -> Iterator[tuple[int, Shown, Pictures]]:
         """Of each worst view its place in the order of its count, itself, and its pictures in all sizes."""
         frames = self.runs.views('render', self.rows, SIZE)
         for number, (view, frame, trace) in enumerate(zip(self.shown, frames, self.traces)):
@@ -107,12 +110,12 @@ class State:
             yield rank, view, {'picture': sizes_of(frame, palette),
                                'planes': sizes_of(trace and planes_of(trace), PLANE_COLOURS)}
 
-    def small(self, palette: bytes, most: int) -> typing.List[list]:
+    def small(self, palette: bytes, most: int) -> list[Small]:
         """Pictures of half the size, of places all over the map, where planes are most: pairs of a row and it."""
         cells = sorted(self.grid.cells, key=lambda cell: (cell.y, cell.x))
         some = cells[::max(1, -(-len(cells) // most))]
         rows = [cell.row(cell.most.get('planes', (0, 0))[1], self.grid.directions) for cell in some]
-        return [[row[:4], half_picture(frame, palette)]
+        return [(row[:4], half_picture(frame, palette))
                 for row, frame in zip(rows, self.runs.views('render', rows, SIZE)) if frame]
 
 
@@ -121,7 +124,7 @@ def room_in(data: object, plain: str) -> int:
     return MOST_BYTES - len(page(TEMPLATE, data, plain))
 
 
-def every_so_many(pictures: typing.List[list], room: int) -> typing.List[list]:
+def every_so_many(pictures: list[Small], room: int) -> list[Small]:
     """Every so many of some pictures, which together need no more bytes than there is room."""
     every = 1
     while pictures and len(json_of(pictures[::every])) > room:
@@ -131,7 +134,7 @@ def every_so_many(pictures: typing.List[list], room: int) -> typing.List[list]:
     return pictures[::every]
 
 
-def put_in(pictures: typing.Sequence[typing.Tuple[Shown, Pictures]], room: int) -> None:
+def put_in(pictures: Sequence[tuple[Shown, Pictures]], room: int) -> None:
     """Gives views their pictures, all together no larger than there is room: the last views have them of half the size
     where there is no room for whole ones, or go without."""
     lengths = [[sum(map(len, of_size)) for of_size in zip(*found.values())] for _, found in pictures]
@@ -144,15 +147,15 @@ def put_in(pictures: typing.Sequence[typing.Tuple[Shown, Pictures]], room: int) 
         view.update((kind, of_sizes[size]) for kind, of_sizes in found.items())
 
 
-def marks_of(level: Level, wads: typing.List[str]) -> typing.List[list]:
+def marks_of(level: Level, wads: list[str]) -> list[Mark]:
     """What lint finds in a level and can be shown on its map: places, grade and the line of each, the gravest first."""
     placed = [(finding, places(finding, level)) for finding in findings(level, wads)]
     order = sorted((pair for pair in placed if pair[1]), key=lambda pair: list(GRADES).index(pair[0].grade))
-    return [[finding.grade, f'{finding.what}: {finding.where}: {finding.told}', [[x, y] for x, y in found]]
+    return [(finding.grade, f'{finding.what}: {finding.where}: {finding.told}', [(x, y) for x, y in found])
             for finding, found in order[:MOST_MARKS]]
 
 
-def columns_of_changes(changes: typing.Iterable[Change], labels: typing.List[str]) -> typing.List[list]:
+def columns_of_changes(changes: Iterable[Change], labels: list[str]) -> list[Column]:
     """What differs from an earlier run as the page has it, what differs most first: columns of the numbers of the state
     and the count, the x and y of the place, and the count before and now, which is -1 where there is no place."""
     rows = [[labels.index(change.doors), COUNTS.index(change.count), change.x, change.y,
@@ -160,9 +163,8 @@ def columns_of_changes(changes: typing.Iterable[Change], labels: typing.List[str
     return columns(sorted(rows, key=lambda row: -abs(row[5] - row[4]))[:MOST_CHANGES])
 
 
-def limits_page(plan: Plan, wads: typing.List[str], states: typing.Sequence[State], palette: bytes,
-                options: argparse.Namespace, doors: typing.Iterable[int], plain: str,
-                before: typing.Iterable[str] = (), changes: typing.Iterable[Change] = ()) -> bytes:
+def limits_page(plan: Plan, wads: list[str], states: Sequence[State], palette: bytes, options: argparse.Namespace,
+                doors: Iterable[int], plain: str, before: Iterable[str] = (), changes: Iterable[Change] = ()) -> bytes:
     """The bytes of the page; `plain` is the summary as text, and `before` and `changes` are what differs from an earlier
     run, as lines and place by place."""
     level, names = plan.level, traces.Names(wads)

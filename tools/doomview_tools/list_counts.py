@@ -5,6 +5,7 @@ edge of the view. A solid wall makes a range more, or joins those that it touche
 alone (`walls`) has them in order."""
 import re
 import typing
+from collections.abc import Iterable, Iterator
 
 from .frames import WIDTH
 
@@ -17,16 +18,16 @@ COLUMN = {b'%d' % column: column for column in range(WIDTH)}  # by its digits
 FILLED = [bytes((1,)) * width for width in range(WIDTH + 1)]
 NEARLY = 7, 8  # the part of a view's bytes after which its end is looked for: most are about as long as the one before
 
-Counts = typing.Dict[str, int]  # of a view, by name
-Wall = typing.List[typing.Tuple[int, int]]  # of each fragment its first and its last column, from left to right
+Counts = dict[str, int]  # of a view, by name
+Wall = list[tuple[int, int]]  # of each fragment its first and its last column, from left to right
 
 
-def most_ranges(walls: typing.Iterable[Wall]) -> int:
+def most_ranges(walls: Iterable[Wall]) -> int:
     """The most solid ranges at a time in a view, by its solid walls in order."""
     return max(range_counts(walls), default=EDGES)
 
 
-def range_counts(walls: typing.Iterable[Wall]) -> typing.Iterator[int]:
+def range_counts(walls: Iterable[Wall]) -> Iterator[int]:
     """The number of solid ranges after each solid wall of a view. No two share a column (R_ClipSolidWallSegment).
 
     A wall that touches none makes a range more. One that touches several joins them, and the original moves the rest of
@@ -42,11 +43,11 @@ def range_counts(walls: typing.Iterable[Wall]) -> typing.Iterator[int]:
             filled[first + 1:last + 2] = FILLED[last + 1 - first]
 
 
-def walls_of(items: bytes) -> typing.List[Wall]:
+def walls_of(items: bytes) -> list[Wall]:
     """The solid walls of a view in order, by the lines of its items in a map of these alone."""
     behind = items.rfind(b' seg ') + 1
     numbers = items[:items.find(b'\n', behind) if behind else 0].translate(None, NO_NUMBERS).split()
-    walls: typing.List[Wall] = []
+    walls: list[Wall] = []
     before = None
     for seg, first, last in zip(*map(numbers.__getitem__, FIELDS)):
         if seg == before:
@@ -57,12 +58,12 @@ def walls_of(items: bytes) -> typing.List[Wall]:
     return walls
 
 
-def ranges_of(output: bytes) -> typing.Iterator[int]:
+def ranges_of(output: bytes) -> Iterator[int]:
     """The most solid ranges of each view of what `list` writes of a map of the solid walls alone."""
     return (most_ranges(walls_of(view.items())) for view in views_of(output))
 
 
-def counts_of(output: bytes) -> typing.Iterator[Counts]:
+def counts_of(output: bytes) -> Iterator[Counts]:
     """The counts of each view of what `list` writes, by name, without solid ranges. Of a view over a raised limit it is
     that count alone."""
     return (view.counts() for view in views_of(output))
@@ -90,7 +91,7 @@ class Listed(typing.NamedTuple):
         return {name: int(found[name]) for name in ('planes', 'openings', 'fragments', 'sprites')}
 
 
-def views_of(output: bytes) -> typing.Iterator[Listed]:
+def views_of(output: bytes) -> Iterator[Listed]:
     """The views of what `list` writes."""
     begin = number = size = 0
     while begin < len(output):

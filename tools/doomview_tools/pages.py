@@ -4,8 +4,9 @@ import html
 import json
 import re
 import typing
+from collections.abc import Iterable, Sequence
 
-from . import home
+from . import installation
 from .frames import HEIGHT, WIDTH
 from .png import indexed_png
 from .trouble import Trouble
@@ -14,6 +15,7 @@ PLACE = '/*DATA*/null'  # of the data in a template
 PLAIN = '<!--PLAIN-->'  # of the plain text
 SCRIPT = re.compile(r'/\*FILE (\w+\.js)\*/')  # the place of a script that is a file of its own
 DIGITS = ''.join(chr(code) for code in range(35, 127) if chr(code) not in '\\<')  # none that a text has to escape
+Column = list[typing.Union[int, str]]  # numbers as a page has them: the least, the digits of a number, all digits
 
 
 def json_of(data: object) -> str:
@@ -21,13 +23,13 @@ def json_of(data: object) -> str:
     return json.dumps(data, separators=(',', ':')).replace('</', '<\\/')
 
 
-def columns(rows: typing.Iterable[typing.Sequence[int]]) -> typing.List[list]:
+def columns(rows: Iterable[Sequence[int]]) -> list[Column]:
     """Rows of whole numbers as a page has them: of each column the least number, the digits of a number, and the
     digits of all numbers without the least."""
     return [column(numbers) for numbers in zip(*rows)]
 
 
-def column(numbers: typing.Sequence[int]) -> list:
+def column(numbers: Sequence[int]) -> Column:
     least, width = min(numbers), 1
     while len(DIGITS) ** width <= max(numbers) - least:
         width += 1
@@ -38,7 +40,7 @@ def column(numbers: typing.Sequence[int]) -> list:
 
 def text_of_file(name: str) -> str:
     """The text of a file of data/; a Trouble where it is missing."""
-    path = home.data(name)
+    path = installation.data(name)
     try:
         with open(path, encoding='utf-8') as file:
             return file.read()
@@ -51,7 +53,7 @@ def page(template: str, data: object, plain: str = '') -> bytes:
     that its script has parts in."""
     text = text_of_file(template)
     if PLACE not in text:
-        raise Trouble(f'{home.data(template)} is missing or damaged; take the whole folder of doomview anew')
+        raise Trouble(f'{installation.data(template)} is missing or damaged; take the whole folder of doomview anew')
     text = SCRIPT.sub(lambda named: text_of_file(named[1]), text)
     return text.replace(PLAIN, html.escape(plain)).replace(PLACE, json_of(data)).encode()
 

@@ -11,6 +11,7 @@ import subprocess
 import tempfile
 import threading
 import typing
+from collections.abc import Iterable, Sequence
 
 from . import paths, program
 from .files import check_target, write_whole
@@ -54,12 +55,12 @@ class Drawn(typing.NamedTuple):
 
     path: Path
     views: int
-    over: typing.List[Over]
+    over: list[Over]
     is_old: bool = False
     trouble: str = ''
 
 
-def in_folder(place: str, maps: typing.Sequence[str], folder: str) -> typing.List[Path]:
+def in_folder(place: str, maps: Sequence[str], folder: str) -> list[Path]:
     """The camera paths of a folder, or the one that is named; a Trouble where there are none, or one of no map."""
     files = [place] if os.path.isfile(place) else []
     if os.path.isdir(place):
@@ -78,7 +79,7 @@ def in_folder(place: str, maps: typing.Sequence[str], folder: str) -> typing.Lis
     return found
 
 
-def sum_of(parts: typing.Iterable[bytes]) -> str:
+def sum_of(parts: Iterable[bytes]) -> str:
     digest = hashlib.sha256()
     for part in parts:
         digest.update(part)
@@ -93,10 +94,10 @@ def sum_of_file(path: str) -> str:
 class Drawing:
     """Draws paths over some WADs by some words of the job render."""
 
-    def __init__(self, wads: typing.List[str], words: typing.List[str]) -> None:
+    def __init__(self, wads: list[str], words: list[str]) -> None:
         self.wads, self.words = wads, words
         self.base = ' '.join([*(sum_of_file(path) for path in [*wads, program.ready()]), *words])
-        self.runs: typing.Set[subprocess.Popen] = set()
+        self.runs: set[subprocess.Popen[bytes]] = set()
         self.lock, self.is_ended = threading.Lock(), False
 
     def inputs(self, path: Path) -> str:
@@ -133,7 +134,7 @@ class Drawing:
         except OSError as error:
             return Drawn(path, 0, [], trouble=f'cannot write {error.filename or path.target(FRAMES)}: {error.strerror}')
 
-    def begin(self, path: Path, inputs: str) -> typing.List[Over]:
+    def begin(self, path: Path, inputs: str) -> list[Over]:
         """The views over a limit of the part that is drawn already; begins anew where it is of other words."""
         record = read_record(path.part(RECORD))
         if record and record[0] == inputs and os.path.isfile(path.part(FRAMES)):
@@ -144,7 +145,7 @@ class Drawing:
             file.write(record_text(inputs, []))
         return []
 
-    def go_on(self, path: Path, rows: typing.List[paths.Row], over: typing.List[Over]) -> str:
+    def go_on(self, path: Path, rows: list[paths.Row], over: list[Over]) -> str:
         """Draws the views of a path that are not drawn; what is wrong, or an empty text."""
         while True:
             done = os.path.getsize(path.part(FRAMES)) // SIZE
@@ -160,7 +161,7 @@ class Drawing:
             elif status or os.path.getsize(path.part(FRAMES)) != SIZE * len(rows):
                 return line or f'the program ended with {status}'
 
-    def run(self, path: Path, rows: typing.List[paths.Row]) -> typing.Tuple[int, str]:
+    def run(self, path: Path, rows: list[paths.Row]) -> tuple[int, str]:
         """Draws rows behind the frames that are there; the status, and the last line of what was said."""
         with tempfile.NamedTemporaryFile('w', prefix='doomview-', suffix=ENDING, encoding='utf-8') as rest, \
                 open(path.part(FRAMES), 'ab') as part:
@@ -194,11 +195,11 @@ def mark(path: Path, over: Over) -> None:
         file.write(bytes(SIZE))
 
 
-def record_text(inputs: str, over: typing.List[Over]) -> str:
+def record_text(inputs: str, over: list[Over]) -> str:
     return ''.join(f'{line}\n' for line in [inputs, *(' '.join(map(str, one)) for one in over)])
 
 
-def read_record(path: str) -> typing.Optional[typing.Tuple[str, typing.List[Over]]]:
+def read_record(path: str) -> typing.Optional[tuple[str, list[Over]]]:
     """What the record of a path says: the sum of its inputs, and its views over a limit; None where there is none."""
     try:
         with open(path, encoding='utf-8') as file:
@@ -216,11 +217,11 @@ def views_drawn(path: Path) -> int:
     return 0
 
 
-def over_in_words(over: typing.List[Over]) -> str:
+def over_in_words(over: list[Over]) -> str:
     return '; '.join(f'{one.view} {one.what} {one.number}' for one in over)
 
 
-def table(drawn: typing.Iterable[Drawn]) -> str:
+def table(drawn: Iterable[Drawn]) -> str:
     """The table of what was drawn: a line for each path."""
     lines = [f'{one.path.name},{one.path.map},{one.views},{len(one.over)},{over_in_words(one.over)}' for one in drawn
              if not one.trouble]

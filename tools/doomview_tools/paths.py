@@ -6,6 +6,7 @@ import csv
 import random
 import re
 import typing
+from collections.abc import Callable, Iterable, Sequence
 
 from .levels import EYE_HEIGHT, TURN, UNIT, Level, Thing
 from .trouble import Trouble
@@ -31,7 +32,7 @@ class Row(typing.NamedTuple):
     colormap: int = 0
 
 
-def rows(path: str) -> typing.List[Row]:
+def rows(path: str) -> list[Row]:
     """The rows of a file."""
     try:
         with open(path, newline='', encoding='utf-8-sig') as file:
@@ -45,7 +46,7 @@ def rows(path: str) -> typing.List[Row]:
         raise Trouble(f'{path} is no camera path: lines of numbers under the header {",".join(HEADER)}') from error
 
 
-def text(rows: typing.Sequence[Row]) -> str:
+def text(rows: Sequence[Row]) -> str:
     """The text of a file of rows; with the columns of light where a row has any."""
     is_lit = any(row.extralight or row.colormap for row in rows)
     names = HEADER + LIGHT if is_lit else HEADER
@@ -85,7 +86,7 @@ def of_place(text: str, level: Level) -> Row:
     return of_numbers(level, *numbers)
 
 
-def of_row(words: typing.Iterable[str]) -> Row:
+def of_row(words: Iterable[str]) -> Row:
     """A row of a camera path; a ValueError where its numbers are none."""
     row = Row(*map(int, words))
     if any(not -FARTHEST * UNIT <= place <= FARTHEST * UNIT for place in row[:3]) or not 0 <= row.angle < TURN:
@@ -130,7 +131,7 @@ def start_angle(thing: Thing) -> int:
     return int(thing.angle / 45) * (TURN // 8) % TURN
 
 
-def turn(level: Level, views: int) -> typing.List[Row]:
+def turn(level: Level, views: int) -> list[Row]:
     """A turn to the left on the spot, at the player start."""
     start = level.player_start()
     z = (level.floor_at(start.x, start.y) + EYE_HEIGHT) * UNIT
@@ -138,7 +139,7 @@ def turn(level: Level, views: int) -> typing.List[Row]:
             for view in range(views)]
 
 
-class Choice:
+class RandomPlaces:
     """Places of a level that are chosen at random, the same for the same words."""
 
     def __init__(self, level: Level, words: str) -> None:
@@ -177,14 +178,13 @@ class Choice:
 
     def wild(self, number: int) -> Row:
         """A place of each kind by turns."""
-        kinds: typing.List[typing.Callable[[], Row]] = [lambda: self.beside_thing(True), self.on_vertex, self.on_thing,
-                                                        self.anywhere]
+        kinds: list[Callable[[], Row]] = [lambda: self.beside_thing(True), self.on_vertex, self.on_thing, self.anywhere]
         return kinds[number % len(kinds)]()
 
 
-def places(level: Level, count: int, seed: int, wild: bool = False) -> typing.List[Row]:
+def places(level: Level, count: int, seed: int, wild: bool = False) -> list[Row]:
     """The player start and `count` places more, chosen at random: the same for the same words."""
     start = level.player_start()
-    choice = Choice(level, f'{seed} {count} {wild}')
-    first = choice.row(start.x * UNIT, start.y * UNIT, start_angle(start))
-    return [first] + [choice.wild(number) if wild else choice.beside_thing() for number in range(count)]
+    chosen = RandomPlaces(level, f'{seed} {count} {wild}')
+    first = chosen.row(start.x * UNIT, start.y * UNIT, start_angle(start))
+    return [first] + [chosen.wild(number) if wild else chosen.beside_thing() for number in range(count)]

@@ -6,8 +6,9 @@ import importlib.util
 import os
 import types
 import typing
+from collections.abc import Callable
 
-from . import diagnoses, home
+from . import diagnoses, installation
 from .frames import SIZE, WIDTH
 from .trouble import Trouble
 
@@ -15,7 +16,7 @@ from .trouble import Trouble
 @functools.lru_cache(maxsize=None)
 def reader() -> types.ModuleType:
     """The module vectors/pictures.py."""
-    path = os.path.join(home.TOP, 'vectors', 'pictures.py')
+    path = os.path.join(installation.TOP, 'vectors', 'pictures.py')
     if not os.path.isfile(path):
         raise Trouble(f'{path} is missing; take the whole folder of doomview anew')
     spec = importlib.util.spec_from_file_location('vectors_pictures', path)
@@ -25,7 +26,7 @@ def reader() -> types.ModuleType:
     return module
 
 
-def read(call: typing.Callable, *words: typing.Any) -> typing.Any:
+def read(call: Callable[..., typing.Any], *words: typing.Any) -> typing.Any:
     """What a call of the reader gives; a Trouble where it refuses."""
     try:
         return call(*words)
@@ -46,7 +47,7 @@ def is_ppm(path: str) -> bool:
         return file.read(len(head)) == head
 
 
-def files_of(path: str) -> typing.List[str]:
+def files_of(path: str) -> list[str]:
     """The files that a name means: itself, or those in a folder, its pictures alone if it has some, in the order of the
     numbers in their names."""
     if not os.path.isdir(path):
@@ -67,7 +68,7 @@ class Palette:
     def __init__(self, palette: bytes) -> None:
         self.palette, self.entries = bytes(palette), reader().entries_of(palette)
         # Entries that were taken where others have the same colour.
-        self.doubtful: typing.Set[typing.Tuple[int, ...]] = set()
+        self.doubtful: set[tuple[int, ...]] = set()
 
     def is_own(self, picture: typing.Any) -> bool:
         """Whether the pixels of a picture are entries of this palette."""
@@ -93,7 +94,7 @@ class Palette:
             return bytes(entries[0] for entries in found)
         return bytes(own if own in entries else entries[0] for own, entries in zip(ours, found))
 
-    def sentences(self) -> typing.List[str]:
+    def sentences(self) -> list[str]:
         """A sentence on the colours that are in two entries, or none."""
         if not self.doubtful:
             return []
@@ -105,7 +106,7 @@ class Palette:
 class OfPictures:
     """The frames of pictures by a palette: of files with one picture each, or of one file of PPMs."""
 
-    def __init__(self, files: typing.List[str], palette: bytes) -> None:
+    def __init__(self, files: list[str], palette: bytes) -> None:
         self.files, self.palette = files, Palette(palette)
         self.size = reader().PPM_SIZE
         self.is_stream = len(files) == 1 and is_ppm(files[0])
@@ -114,7 +115,7 @@ class OfPictures:
                           'the whole of what it wrote')
         self.count = os.path.getsize(files[0]) // self.size if self.is_stream else len(files)
 
-    def picture(self, view: int) -> typing.Tuple[typing.Any, str]:
+    def picture(self, view: int) -> tuple[typing.Any, str]:
         """The picture of a view, and the name of its file."""
         if not self.is_stream:
             return read(reader().read, self.files[view]), self.files[view]
@@ -125,5 +126,5 @@ class OfPictures:
     def frame(self, view: int, ours: bytes = b'') -> bytes:
         return self.palette.frame(*self.picture(view), ours)
 
-    def sentences(self) -> typing.List[str]:
+    def sentences(self) -> list[str]:
         return self.palette.sentences()

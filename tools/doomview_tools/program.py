@@ -9,11 +9,14 @@ import shutil
 import subprocess
 import tempfile
 import typing
+from collections.abc import Iterable
 
-from . import home, tables
+from . import installation, tables
+from .call_words import Words
 from .files import WholeFile, check_outputs, is_terminal, write_whole
-from .jobs import LEVEL_JOBS, NO_PROGRAM, USAGE, WRITE_FAULT, Words, wrong_words
+from .jobs import LEVEL_JOBS, NO_PROGRAM, USAGE, WRITE_FAULT
 from .trouble import Ended, Trouble
+from .word_checks import wrong_words
 
 SECONDS = 300  # that a run of the sources without proofs may take
 SENTENCE = 'explain: '  # before each sentence on a line of the program
@@ -39,7 +42,7 @@ def named_program() -> str:
 
 def path() -> str:
     """The path of the program."""
-    return os.path.abspath(named_program() or home.PROGRAM)
+    return os.path.abspath(named_program() or installation.PROGRAM)
 
 
 def is_source(name: str) -> bool:
@@ -62,7 +65,7 @@ def is_current(program: str, top: str) -> bool:
 
 def is_built() -> bool:
     """Whether the program can run at once."""
-    return bool(named_program()) or home.IS_RELEASE or is_current(home.PROGRAM, home.TOP)
+    return bool(named_program()) or installation.IS_RELEASE or is_current(installation.PROGRAM, installation.TOP)
 
 
 def ready() -> str:
@@ -129,10 +132,10 @@ def tables_file() -> str:
 
 def things_file() -> str:
     """The path of the thing table of the games."""
-    return home.data('things.csv')
+    return installation.data('things.csv')
 
 
-def complete(words: typing.Iterable[str]) -> list[str]:
+def complete(words: Iterable[str]) -> list[str]:
     """The words of a job as the program takes them: WADs found, and the tools' own tables where none are named."""
     given = Words(words)
     if given.job not in LEVEL_JOBS:
@@ -152,7 +155,7 @@ def run_of(status: int, output: typing.Optional[bytes], said: bytes) -> Run:
     return Run(status if status >= 0 else 128 - status, output or b'', last, ''.join(lines))
 
 
-def run(words: typing.Iterable[str], output: Output = None, unproved: bool = False) -> Run:
+def run(words: Iterable[str], output: Output = None, unproved: bool = False) -> Run:
     """Runs the program to its end: its status, its output where `output` is no file for it, the last line of what it
     said, and all of it. `unproved` runs the sources without a proof, by `rt try`, where the program is not built."""
     words = complete(words)
@@ -161,7 +164,7 @@ def run(words: typing.Iterable[str], output: Output = None, unproved: bool = Fal
     return run_of(*call([ready(), *words], output))
 
 
-def guard_terminal(words: typing.Iterable[str]) -> None:
+def guard_terminal(words: Iterable[str]) -> None:
     """A Trouble where a job would write to a terminal what is no text. Where its words are wrong it may run, since it
     writes nothing then."""
     given = Words(words)
@@ -173,7 +176,7 @@ def guard_terminal(words: typing.Iterable[str]) -> None:
     os.dup2(os.open(os.devnull, os.O_WRONLY), 1)
 
 
-def check_output(words: typing.Iterable[str]) -> None:
+def check_output(words: Iterable[str]) -> None:
     """A Trouble where the file that `-o` names cannot be written, or is one that the job reads."""
     words = list(words)
     output, files = Words(words).output, Words(complete(words)).files
@@ -206,7 +209,7 @@ def call(command: list[str], output: Output, folder: typing.Optional[str] = None
     return done.returncode, done.stdout, done.stderr
 
 
-def start(words: typing.Iterable[str], **more: typing.Any) -> subprocess.Popen:
+def start(words: Iterable[str], **more: typing.Any) -> subprocess.Popen[typing.Any]:
     """Starts the program."""
     try:
         return subprocess.Popen([ready(), *complete(words)], env=environment(), **more)
@@ -245,7 +248,7 @@ def run_sources(words: list[str], output: Output) -> Run:
     words = [with_own_name(word, files) for word in words]
     data = [part for name, file in files.items() for part in ('--data', f'{name}={file}')]
     status, written, said = call(['rt', 'try', '--steps', '1', '--seconds', str(SECONDS), *data, '--', *words], output,
-                                 os.path.join(home.TOP, 'crates', 'doomview'))
+                                 os.path.join(installation.TOP, 'crates', 'doomview'))
     lines = said.decode(errors='replace').splitlines()
     line = ([text for text in lines if text.startswith('doomview: ')] or [''])[-1]
     if line or status == 0:

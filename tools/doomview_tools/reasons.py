@@ -2,14 +2,16 @@
 import collections
 import itertools
 import typing
+from collections.abc import Iterable, Iterator, Sequence, Sized
 
 from . import list_counts, paths
 from .doom import FRONT_AND_BACK
 from .levels import Level
 from .list_counts import Counts
-from .lists import SHOWN_SECTORS, Group, Key, Places, Sums, View, sectors_in_words, some_of
+from .list_files import Sums, View
+from .map_places import SHOWN_SECTORS, Group, Key, Places, sectors_in_words, some_of
 from .paths import Row
-from .ways import WANTED
+from .player_reach import WANTED
 from .what_if import Result
 
 SHOWN = 20  # lines of a table
@@ -48,7 +50,7 @@ def sums_of(view: View) -> Sums:
     return view.sums
 
 
-def sums_in_words(sums: Sums, counts: Counts, limits: Counts) -> typing.Iterator[str]:
+def sums_in_words(sums: Sums, counts: Counts, limits: Counts) -> Iterator[str]:
     """The lines on the sums of a view."""
     yield '  ' + '; '.join(count_in_words(name, count, limits[name]) for name, count in counts.items())
     for name, all_of_them, kept in (('fragments', sums.all_fragments, sums.fragments),
@@ -57,12 +59,12 @@ def sums_in_words(sums: Sums, counts: Counts, limits: Counts) -> typing.Iterator
             yield f'  {name}: the first {kept} are drawn, {all_of_them - kept} past them are not'
 
 
-def by_group(view: View, places: Places) -> typing.List[typing.Tuple[Group, Made]]:
+def by_group(view: View, places: Places) -> list[tuple[Group, Made]]:
     """The planes of each height, flat and light: pairs of the group and what was made of it, the most planes first. The
     sectors that made one come first among those of the group."""
-    groups: typing.Dict[Key, Group] = {}
-    made: typing.Dict[Key, Made] = {}
-    makers: typing.Dict[Key, typing.Dict[int, None]] = collections.defaultdict(dict)
+    groups: dict[Key, Group] = {}
+    made: dict[Key, Made] = {}
+    makers: dict[Key, dict[int, None]] = collections.defaultdict(dict)
     for plane in view.planes:
         group = places.group(view, plane)
         groups[group.key] = group
@@ -74,9 +76,9 @@ def by_group(view: View, places: Places) -> typing.List[typing.Tuple[Group, Made
             for key in order]
 
 
-def by_line(view: View, places: Places) -> typing.List[typing.Tuple[int, int, typing.Counter[str]]]:
+def by_line(view: View, places: Places) -> list[tuple[int, int, collections.Counter[str]]]:
     """The splits of each side of a line: triples of the line, the side, and how many of what; the most first."""
-    found: typing.Dict[typing.Tuple[int, int], typing.Counter[str]] = collections.defaultdict(collections.Counter)
+    found: dict[tuple[int, int], collections.Counter[str]] = collections.defaultdict(collections.Counter)
     for plane in view.planes:
         if plane.maker == 'fragment':
             seg = places.seg(view.fragments[plane.number].seg)
@@ -85,7 +87,7 @@ def by_line(view: View, places: Places) -> typing.List[typing.Tuple[int, int, ty
     return [(line, side, counts) for (line, side), counts in order]
 
 
-def sectors_beside(level: Level, line: int, side: int) -> typing.Tuple[typing.Optional[int], typing.Optional[int]]:
+def sectors_beside(level: Level, line: int, side: int) -> tuple[typing.Optional[int], typing.Optional[int]]:
     """The sectors in front of a side of a line and behind it; the second is None for a wall."""
     numbers = [None if number is None else level.sides[number].sector for number in level.lines[line].sides]
     return numbers[side], numbers[1 - side]
@@ -103,7 +105,7 @@ def difference(level: Level, front: typing.Optional[int], back: typing.Optional[
     return ', '.join(parts) or 'nothing'
 
 
-def planes_of_sectors(view: View, places: Places) -> typing.Dict[int, int]:
+def planes_of_sectors(view: View, places: Places) -> dict[int, int]:
     """How many planes each sector of a view made; 0 for those that are beside its fragments alone."""
     found = collections.Counter({sector: 0 for fragment in view.fragments for seg in [places.seg(fragment.seg)]
                                  for sector in sectors_beside(places.level, seg.line, seg.side) if sector is not None})
@@ -111,16 +113,16 @@ def planes_of_sectors(view: View, places: Places) -> typing.Dict[int, int]:
     return found
 
 
-def by_sector(view: View, places: Places) -> typing.List[typing.Tuple[int, typing.Counter[int]]]:
+def by_sector(view: View, places: Places) -> list[tuple[int, collections.Counter[int]]]:
     """The fragments of each sector that has some: pairs of the sector and how many each line has there; the most
     first."""
-    found: typing.Dict[int, typing.Counter[int]] = collections.defaultdict(collections.Counter)
+    found: dict[int, collections.Counter[int]] = collections.defaultdict(collections.Counter)
     for fragment in view.fragments:
         found[places.sector_of_fragment(fragment)][places.seg(fragment.seg).line] += 1
     return sorted(found.items(), key=lambda pair: (-sum(pair[1].values()), pair[0]))
 
 
-def by_type(view: View, places: Places) -> typing.List[typing.Tuple[int, typing.List[int]]]:
+def by_type(view: View, places: Places) -> list[tuple[int, list[int]]]:
     """The things that are drawn, by their types: pairs of the type and the numbers of things; the most first."""
     found = collections.defaultdict(list)
     for sprite in view.sprites:
@@ -128,7 +130,7 @@ def by_type(view: View, places: Places) -> typing.List[typing.Tuple[int, typing.
     return sorted(found.items(), key=lambda pair: (-len(pair[1]), pair[0]))
 
 
-def ranges(walls: View) -> typing.Iterator[typing.Tuple[int, int, int, int]]:
+def ranges(walls: View) -> Iterator[tuple[int, int, int, int]]:
     """The solid walls of a view in order, by a view of these alone: of each its seg, its first and last column, and how
     many solid ranges there are after it."""
     groups = [(seg, list(fragments)) for seg, fragments in itertools.groupby(walls.fragments, lambda one: one.seg)]
@@ -137,7 +139,7 @@ def ranges(walls: View) -> typing.Iterator[typing.Tuple[int, int, int, int]]:
         yield seg, fragments[0].first, fragments[-1].last, count
 
 
-def range_makers(walls: View) -> typing.Iterator[typing.Tuple[int, int, int]]:
+def range_makers(walls: View) -> Iterator[tuple[int, int, int]]:
     """The walls that made a solid range more, up to the most: triples of the seg and its columns."""
     found = list(ranges(walls))
     most = max((count for *_, count in found), default=list_counts.EDGES)
@@ -155,7 +157,7 @@ def group_in_words(group: Group) -> str:
     return 'sky' if group.sides == 'sky' else f'{group.sides} {group.key.flat} at {group.key.height:g}'
 
 
-def cells_of(group: Group, made: Made) -> typing.List[str]:
+def cells_of(group: Group, made: Made) -> list[str]:
     """The cells of a group in the first table."""
     is_sky = group.sides == 'sky'
     height, light = ('-', '-') if is_sky else (f'{group.key.height:g}', str(group.key.light))
@@ -163,7 +165,7 @@ def cells_of(group: Group, made: Made) -> typing.List[str]:
             sectors_in_words(group.sectors)]
 
 
-def table(rows: typing.Sequence[typing.Sequence[str]], is_right: typing.Sequence[bool]) -> typing.Iterator[str]:
+def table(rows: Sequence[Sequence[str]], is_right: Sequence[bool]) -> Iterator[str]:
     """Rows as lines with their cells under each other; the cells of some columns to the right, and the last free."""
     widths = [max(len(row[k]) for row in rows) for k in range(len(rows[0]) - 1)] + [0]
     for row in rows:
@@ -172,7 +174,7 @@ def table(rows: typing.Sequence[typing.Sequence[str]], is_right: typing.Sequence
 
 
 def reasons(number: int, row: Row, view: View, walls: View, places: Places, shows_all: bool, limits: Counts,
-            changes: typing.Iterable[Result] = ()) -> typing.Iterator[str]:
+            changes: Iterable[Result] = ()) -> Iterator[str]:
     """The lines on a view; `walls` is the view of its solid walls alone, `changes` are the results of what-ifs."""
     yield f'view {number}: {paths.in_words(row)}'
     if view.over:
@@ -187,17 +189,17 @@ def reasons(number: int, row: Row, view: View, walls: View, places: Places, show
     yield from change_table(changes, counts, shows_all)
 
 
-def plane_table(view: View, places: Places, shown: Shown) -> typing.Iterator[str]:
+def plane_table(view: View, places: Places, shown: Shown) -> Iterator[str]:
     """The planes by height, flat and light."""
     groups = by_group(view, places)
     rows = [cells_of(group, made) for group, made in groups[:shown]]
     left = groups[len(rows):]
     yield from lines_of(['planes', 'splits', 'columns', 'flat', 'of', 'height', 'light', 'sectors'], rows,
                         [True, True, True, False, False, True, True, False])
-    yield from rest(left, sum(made.planes for _, made in left), 'planes')
+    yield from lines_not_shown(left, sum(made.planes for _, made in left), 'planes')
 
 
-def split_table(view: View, places: Places, shown: Shown) -> typing.Iterator[str]:
+def split_table(view: View, places: Places, shown: Shown) -> Iterator[str]:
     """The splits by line and side, with what differs between the sectors beside it."""
     found = by_line(view, places)
     rows = []
@@ -209,10 +211,10 @@ def split_table(view: View, places: Places, shown: Shown) -> typing.Iterator[str
     left = found[len(rows):]
     yield from lines_of(['splits', 'line', 'side', 'sectors', 'what differs', 'of'], rows,
                         [True, True, False, False, False, False])
-    yield from rest(left, sum(sum(counts.values()) for *_, counts in left), 'splits')
+    yield from lines_not_shown(left, sum(sum(counts.values()) for *_, counts in left), 'splits')
 
 
-def fragment_table(view: View, places: Places, shown: Shown) -> typing.Iterator[str]:
+def fragment_table(view: View, places: Places, shown: Shown) -> Iterator[str]:
     """The fragments by sector and line."""
     found = by_sector(view, places)
     rows = [[str(sum(lines.values())), str(sector), some_of(
@@ -220,10 +222,10 @@ def fragment_table(view: View, places: Places, shown: Shown) -> typing.Iterator[
         for sector, lines in found[:shown]]
     left = found[len(rows):]
     yield from lines_of(['fragments', 'sector', 'lines'], rows, [True, True, False])
-    yield from rest(left, sum(sum(lines.values()) for _, lines in left), 'fragments')
+    yield from lines_not_shown(left, sum(sum(lines.values()) for _, lines in left), 'fragments')
 
 
-def sprite_table(view: View, places: Places, shown: Shown) -> typing.Iterator[str]:
+def sprite_table(view: View, places: Places, shown: Shown) -> Iterator[str]:
     """The sprites by type and place."""
     found = by_type(view, places)
     things = places.level.things
@@ -232,18 +234,18 @@ def sprite_table(view: View, places: Places, shown: Shown) -> typing.Iterator[st
         for kind, numbers in found[:shown]]
     left = found[len(rows):]
     yield from lines_of(['sprites', 'type', 'what', 'places'], rows, [True, True, False, False])
-    yield from rest(left, sum(len(numbers) for _, numbers in left), 'sprites')
+    yield from lines_not_shown(left, sum(len(numbers) for _, numbers in left), 'sprites')
 
 
-def range_table(walls: View, places: Places, shown: Shown) -> typing.Iterator[str]:
+def range_table(walls: View, places: Places, shown: Shown) -> Iterator[str]:
     """The walls that made solid ranges."""
     found = list(range_makers(walls))
     rows = [[str(places.level.segs[seg].line), f'{first} to {last}'] for seg, first, last in found[:shown]]
     yield from lines_of(['solid range of line', 'columns'], rows, [True, False])
-    yield from rest(found[len(rows):], len(found) - len(rows), 'solid ranges')
+    yield from lines_not_shown(found[len(rows):], len(found) - len(rows), 'solid ranges')
 
 
-def change_table(results: typing.Iterable[Result], counts: Counts, shows_all: bool) -> typing.Iterator[str]:
+def change_table(results: Iterable[Result], counts: Counts, shows_all: bool) -> Iterator[str]:
     """What the view would count after each of some changes; those alone that save planes or fragments."""
     names = ['planes', 'fragments']
     found = [result for result in results if any(result.counts[name] < counts[name] for name in names)]
@@ -254,15 +256,14 @@ def change_table(results: typing.Iterable[Result], counts: Counts, shows_all: bo
     yield from lines_of(['saves', 'planes', 'saves', 'fragments', 'what if there were'], rows, [True] * 4 + [False])
 
 
-def lines_of(head: typing.List[str], rows: typing.List[typing.List[str]],
-             is_right: typing.List[bool]) -> typing.Iterator[str]:
+def lines_of(head: list[str], rows: list[list[str]], is_right: list[bool]) -> Iterator[str]:
     """The lines of a table, after an empty one; none if it has no rows."""
     if rows:
         yield ''
         yield from table([head, *rows], is_right)
 
 
-def rest(left: typing.Sized, count: int, what: str) -> typing.Iterator[str]:
+def lines_not_shown(left: Sized, count: int, what: str) -> Iterator[str]:
     """A line on the lines of a table that are not shown."""
     if left:
         yield f'  {count} more {what} in {len(left)} lines that --all shows'

@@ -6,14 +6,14 @@ import itertools
 import os
 import re
 import struct
-import typing
+from collections.abc import Callable, Iterable, Iterator
 
-from . import art, checks, doom, home, levels, wads
-from .jobs import Words
+from . import art, checks, doom, installation, levels, wads
+from .call_words import Words
 from .trouble import Trouble, WadError
 
-Numbers = typing.List[int]  # of a refusal
-Sentences = typing.Iterator[str]
+Numbers = list[int]  # of a refusal
+Sentences = Iterator[str]
 FIELDS = [['x', 'y', 'angle', 'type', 'options'],
           ['vertex 1', 'vertex 2', 'flags', 'special', 'tag', 'side 0', 'side 1'],
           ['x offset', 'y offset', 'top', 'bottom', 'middle', 'sector'],
@@ -37,10 +37,10 @@ NO_MAP = 601
 SHOWN_LINES = 12
 
 
-def codes() -> typing.Dict[int, typing.Tuple[str, str]]:
+def codes() -> dict[int, tuple[str, str]]:
     """From REFUSALS.md: for each code what is wrong and how to mend it. `the same` is what stands above."""
     try:
-        with open(os.path.join(home.DOCS, 'REFUSALS.md'), encoding='utf-8') as file:
+        with open(os.path.join(installation.DOCS, 'REFUSALS.md'), encoding='utf-8') as file:
             rows = re.findall(r'^\| (\d{3,4}) \|([^|\n]*)\|([^|\n]*)\|([^|\n]*)\|', file.read(), re.M)
     except OSError:
         rows = []
@@ -61,7 +61,7 @@ def head_of(path: str) -> bytes:
         return b''
 
 
-def in_words(parts: typing.Iterable[object]) -> str:
+def in_words(parts: Iterable[object]) -> str:
     """Words with commas and `and`."""
     words = list(map(str, parts))
     return words[0] if len(words) == 1 else ', '.join(words[:-1]) + ' and ' + words[-1]
@@ -72,8 +72,8 @@ class Scene:
 
     def __init__(self, words: Words) -> None:
         self.wads, self.map_name = words.wads, words.map_name.upper()
-        self.lumps: typing.List[wads.Lump] = []
-        self.places: typing.List[str] = []  # of each lump its WAD
+        self.lumps: list[wads.Lump] = []
+        self.places: list[str] = []  # of each lump its WAD
         for wad in self.wads:
             try:
                 read = wads.read(wad) if os.path.isfile(wad) else []
@@ -86,7 +86,7 @@ class Scene:
         self.file = self.places[self.label] if self.label is not None else None
         self.level = levels.Level(self.map_name, self.file or '', dict(here))
 
-    def lines_of_side(self, side: int) -> typing.List[int]:
+    def lines_of_side(self, side: int) -> list[int]:
         return [i for i, line in enumerate(self.level.lines) if side in (line.front, line.back)]
 
     def side(self, number: int) -> str:
@@ -129,14 +129,14 @@ class Scene:
             return f'{where} (of line {seg.line}{side})'
         return where
 
-    def texture_names(self) -> typing.Set[str]:
+    def texture_names(self) -> set[str]:
         """The names of all textures; none where the lists are damaged."""
         try:
             return {texture.name for texture in art.textures_of(dict(self.lumps))}
         except WadError:
             return set()
 
-    def flats(self) -> typing.Set[str]:
+    def flats(self) -> set[str]:
         """The names of the lumps between the marks of flats."""
         by_file = itertools.groupby(zip(self.places, self.lumps), key=lambda pair: pair[0])
         return {name for _, pairs in by_file for name in art.marked_names([lump for _, lump in pairs], 'F')}
@@ -164,7 +164,7 @@ def of_row(code: int, numbers: Numbers) -> str:
 
 
 # Of each code how its numbers are named: words, and in braces what PARTS has. doomview.exe has them from here too.
-NAMED: typing.Dict[int, str] = {
+NAMED: dict[int, str] = {
     **dict.fromkeys((401, 402, 403), '{wad}'),
     602: '{map lump}',
     604: '{field}',
@@ -180,7 +180,7 @@ NAMED: typing.Dict[int, str] = {
     909: '{number} bytes',
 }
 # What the parts of these words are, by the scene and the numbers.
-PARTS: typing.Dict[str, typing.Callable[[Scene, Numbers], object]] = {
+PARTS: dict[str, Callable[[Scene, Numbers], object]] = {
     'number': lambda scene, numbers: numbers[0],
     'second': lambda scene, numbers: numbers[1],
     'wad': lambda scene, numbers: scene.wad(numbers[0]),
@@ -246,7 +246,7 @@ def no_texture(scene: Scene, numbers: Numbers) -> Sentences:
                'game.')
 
 
-def hidden_list(scene: Scene, missing: typing.Set[str]) -> Sentences:
+def hidden_list(scene: Scene, missing: set[str]) -> Sentences:
     """A list of a WAD that hides the one which has a texture: the last TEXTURE1 counts."""
     having = [wad for wad, lump in zip(scene.places, scene.lumps) if lump.name == 'TEXTURE1']
     for wad in having[:-1]:

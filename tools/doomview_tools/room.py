@@ -5,6 +5,7 @@ floor and ceiling that SQUARES has for it; a # is solid. Each square is a leaf, 
 import functools
 import struct
 import typing
+from collections.abc import Callable, Sequence
 
 from . import doom
 from .doom import COLORMAP_SIZE, COLORMAPS, EVERY_SKILL as ALWAYS, LAYOUTS, NO_SIDE, PLAYER_1, SKY as SKY_FLAT
@@ -26,9 +27,9 @@ PLAN = ['################',
         '######......####',
         '######......####',
         '################']
-Place = typing.Tuple[int, int]  # column and row of a square
-Paint = typing.Callable[[int, int], typing.Optional[int]]  # the colour of a texel, or None for a hole
-Lumps = typing.List[typing.Tuple[str, bytes]]
+Place = tuple[int, int]  # column and row of a square
+Paint = Callable[[int, int], typing.Optional[int]]  # the colour of a texel, or None for a hole
+Lumps = list[tuple[str, bytes]]
 SIDE, BLOCK = 64, 128  # of a square, and of a block of BLOCKMAP
 
 
@@ -108,12 +109,12 @@ def lamp(x: int, y: int) -> typing.Optional[int]:
     return None
 
 
-def tiles(ramp: int, size: int, dark: int) -> typing.Callable[[int, int], int]:
+def tiles(ramp: int, size: int, dark: int) -> Callable[[int, int], int]:
     return lambda x, y: shade(ramp, dark + 9 if x % size == 0 or y % size == 0 else
                               dark + grain(x, y) + (x // size + y // size) % 2 * 4)
 
 
-def flat(paint: typing.Callable[[int, int], int]) -> bytes:
+def flat(paint: Callable[[int, int], int]) -> bytes:
     return bytes(paint(x, y) for y in range(64) for x in range(64))
 
 
@@ -167,17 +168,17 @@ class Level:
     """The lumps of a level, square by square: rows of letters from north to south, what the letters are, and the things
     with their places in halves of a square, counted from the north-west corner."""
 
-    def __init__(self, plan: typing.Sequence[str] = PLAN, squares: typing.Dict[str, Square] = SQUARES,
-                 things: typing.Sequence[typing.Tuple[int, int, int, int, int]] = THINGS) -> None:
+    def __init__(self, plan: Sequence[str] = PLAN, squares: dict[str, Square] = SQUARES,
+                 things: Sequence[tuple[int, int, int, int, int]] = THINGS) -> None:
         self.plan, self.squares, self.placed = plan, squares, things
         self.kinds = list(squares)
         self.open = [(x, y) for y, row in enumerate(plan) for x, letter in enumerate(row) if letter in squares]
-        self.vertices: typing.Dict[Place, int] = {}  # by their places in map units
-        self.lines: typing.Dict[Place, typing.Tuple[int, bytes]] = {}  # by the numbers of their ends
-        self.sides: typing.List[bytes] = []
-        self.segs: typing.List[bytes] = []
-        self.nodes: typing.List[bytes] = []
-        self.leaves: typing.Dict[Place, typing.Tuple[int, bytes]] = {}  # by their squares
+        self.vertices: dict[Place, int] = {}  # by their places in map units
+        self.lines: dict[Place, tuple[int, bytes]] = {}  # by the numbers of their ends
+        self.sides: list[bytes] = []
+        self.segs: list[bytes] = []
+        self.nodes: list[bytes] = []
+        self.leaves: dict[Place, tuple[int, bytes]] = {}  # by their squares
         for square in self.open:
             self.add_leaf(square, set(self.open))
         self.add_node(self.open)
@@ -199,7 +200,7 @@ class Level:
         self.sides.append(struct.pack(LAYOUTS['SIDEDEFS'], 0, 0, top, bottom, middle, self.kinds.index(kind)))
         return len(self.sides) - 1
 
-    def add_leaf(self, square: Place, others: typing.Set[Place]) -> None:
+    def add_leaf(self, square: Place, others: set[Place]) -> None:
         """A leaf with a seg for each edge of the square, clockwise, so that it lies on their right."""
         x, y = square
         corners = [(x, y + 1), (x, y), (x + 1, y), (x + 1, y + 1)]
@@ -219,13 +220,13 @@ class Level:
             self.segs.append(struct.pack(LAYOUTS['SEGS'], start, end, angle, line, direction, 0))
         self.leaves[square] = len(self.leaves), struct.pack(LAYOUTS['SSECTORS'], 4, first)
 
-    def box(self, squares: typing.List[Place]) -> typing.List[int]:
+    def box(self, squares: list[Place]) -> list[int]:
         columns, rows = [x for x, _ in squares], [y for _, y in squares]
         height = len(self.plan)
         return [SIDE * (height - min(rows)), SIDE * (height - max(rows) - 1),
                 SIDE * min(columns), SIDE * (max(columns) + 1)]
 
-    def add_node(self, squares: typing.List[Place]) -> int:
+    def add_node(self, squares: list[Place]) -> int:
         """The node, or leaf, of these squares, as a child is named."""
         if len(squares) == 1:
             return doom.LEAF | self.leaves[squares[0]][0]
@@ -283,7 +284,7 @@ def room() -> bytes:
 
 
 @functools.cache
-def art() -> typing.Tuple[Lumps, Lumps]:
+def art() -> tuple[Lumps, Lumps]:
     """The lumps of the room before its level, and those behind it."""
     patches = [('BRICKS', patch(64, 128, 0, 0, bricks)), ('PANELS', patch(64, 128, 0, 0, panels)),
                ('BARS', patch(64, 128, 0, 0, bars)), ('SKY1', patch(256, 128, 0, 0, sky))]

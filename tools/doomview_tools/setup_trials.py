@@ -7,8 +7,9 @@ import itertools
 import os
 import tempfile
 import typing
+from collections.abc import Callable, Sequence
 
-from . import differences, jobs, paths, program, weapons
+from . import differences, job_options, paths, program, weapons
 from .frames import SIZE
 from .levels import EYE_HEIGHT, TURN, UNIT
 from .paths import Row
@@ -28,14 +29,14 @@ class Change(typing.NamedTuple):
 
     drawn: str
     cause: str
-    row: typing.Callable[[Row], Row] = lambda row: row
-    words: typing.Tuple[str, ...] = ()
+    row: Callable[[Row], Row] = lambda row: row
+    words: tuple[str, ...] = ()
 
 
 class Tried(typing.NamedTuple):
     """Changes at once, and how many pixels of the views that were tried still differ."""
 
-    changes: typing.Tuple[Change, ...]
+    changes: tuple[Change, ...]
     left: int
 
 
@@ -57,7 +58,7 @@ def wrapped(number: int) -> int:
     return paths.number_of(number % TURN)
 
 
-def place_of(of: typing.Callable[[int], int]) -> typing.Callable[[Row], Row]:
+def place_of(of: Callable[[int], int]) -> Callable[[Row], Row]:
     return lambda row: row._replace(x=of(row.x), y=of(row.y))
 
 
@@ -73,18 +74,18 @@ LIGHTS = [Change(f'{step} more of extra light', 'it has extra light, as of a wea
                  lambda row, step=step: row._replace(extralight=min(row.extralight + step, MOST_EXTRA))) for step in (1, 2)]  # type: ignore
 LIGHTS += [Change('no extra light', 'it leaves out the extra light of the rows', lambda row: row._replace(extralight=0)),
            Change('no fixed colormap', 'it leaves out the colormap of the rows', lambda row: row._replace(colormap=0))]
-OF_ROWS = [(), *((one,) for one in [*EYES, *ANGLES, *PLACES, *LIGHTS]),
-           *(pair for first, second in ((EYES, ANGLES), (EYES, PLACES), (PLACES, ANGLES))
-             for pair in itertools.product(first, second))]  # type: typing.List[typing.Tuple[Change, ...]]
+OF_ROWS: list[tuple[Change, ...]] = [(), *((one,) for one in [*EYES, *ANGLES, *PLACES, *LIGHTS]),
+                                     *(pair for first, second in ((EYES, ANGLES), (EYES, PLACES), (PLACES, ANGLES))
+                                       for pair in itertools.product(first, second))]
 
 
 class Run:
     """How our side is drawn: the map, the WADs, the rows of the path, and the words that are not usual."""
 
-    def __init__(self, name: str, files: typing.List[str], path: str, words: typing.List[str]) -> None:
+    def __init__(self, name: str, files: list[str], path: str, words: list[str]) -> None:
         self.name, self.files, self.rows = name, files, paths.rows(path)
         self.words = dict(zip(words[::2], words[1::2]))
-        self.layers: typing.Dict[int, typing.List[str]] = {}
+        self.layers: dict[int, list[str]] = {}
         if '--weapon' in self.words:
             self.read_layers(self.words.pop('--weapon'))
 
@@ -98,9 +99,9 @@ class Run:
             raise Trouble(f'{path} is no file of weapon layers') from error
 
     def value(self, option: str) -> str:
-        return self.words.get(option) or jobs.options()[option].default
+        return self.words.get(option) or job_options.options()[option].default
 
-    def of_words(self) -> typing.List[Change]:
+    def of_words(self) -> list[Change]:
         """The changes of the words of this run."""
         skill, size, spans = int(self.value('--skill')), int(self.value('--size')), self.value('--spans')
         found = [Change('skill ' + ' or '.join(map(str, group)), f'it places the things of another skill than {skill}',
@@ -113,7 +114,7 @@ class Run:
             found.append(Change('no weapon', 'it draws no weapon', words=('--weapon', '')))
         return found
 
-    def draw(self, views: typing.Sequence[int], changes: typing.Sequence[typing.Sequence[Change]]) -> typing.List[bytes]:
+    def draw(self, views: Sequence[int], changes: Sequence[Sequence[Change]]) -> list[bytes]:
         """The frames of some views, drawn with each of some changes of rows; those of words have to be the same of all."""
         rows, layers = [], []
         for view, own in itertools.product(views, changes):
@@ -129,7 +130,7 @@ class Run:
         data = self.frames(rows, layers if has_weapon else [], words)
         return [data[SIZE * at:SIZE * at + SIZE] for at in range(len(rows))]
 
-    def frames(self, rows: typing.List[Row], layers: typing.List[typing.List[str]], words: typing.Dict[str, str]) -> bytes:
+    def frames(self, rows: list[Row], layers: list[list[str]], words: dict[str, str]) -> bytes:
         """What the program draws of some rows."""
         with tempfile.TemporaryDirectory(prefix='doomview-') as folder:
             path, weapon = os.path.join(folder, 'path.csv'), os.path.join(folder, 'weapon.csv')
@@ -151,7 +152,7 @@ LIMITS = {'--planes': '1024', '--openings': '245760'}  # so that no view ends a 
 class Trials:
     """Trials over some views: both frames by their numbers."""
 
-    def __init__(self, run: Run, both: typing.Callable[[int], typing.Tuple[bytes, bytes]], different: typing.List[int]) -> None:
+    def __init__(self, run: Run, both: Callable[[int], tuple[bytes, bytes]], different: list[int]) -> None:
         self.run, self.both = run, both
         self.some, self.many = ([different[len(different) * i // count] for i in range(count)]
                                 for count in (min(SOME, len(different)), min(MANY, len(different))))
@@ -167,7 +168,7 @@ class Trials:
         drawn = self.run.draw(self.some, [()])
         return all(frame == self.frames[view][0] for view, frame in zip(self.some, drawn))
 
-    def tried(self, views: typing.List[int], changes: typing.List[typing.Tuple[Change, ...]]) -> typing.List[Tried]:
+    def tried(self, views: list[int], changes: list[tuple[Change, ...]]) -> list[Tried]:
         """What is left with each of some changes, the least first."""
         drawn = self.run.draw(views, changes)
         left = [0] * len(changes)
@@ -190,7 +191,7 @@ class Trials:
                     found += self.tried(self.some, [(*rows.changes, change)])
         return min(found, key=lambda it: (it.left, len(it.changes)))
 
-    def sentences(self, is_far: bool) -> typing.List[str]:
+    def sentences(self, is_far: bool) -> list[str]:
         """A sentence on what makes our frames the port's, or none."""
         if not self.is_own():
             return [f'set-up: the words of the comparison do not draw our frames; name those of their run '
@@ -202,7 +203,7 @@ class Trials:
         return [sentence(best.changes, left)]
 
 
-def sentence(changes: typing.Sequence[Change], left: typing.List[int]) -> str:
+def sentence(changes: Sequence[Change], left: list[int]) -> str:
     """What makes our frames the port's, but for the pixels of each view that are left."""
     whole, same = len(left), left.count(0)
     rest = '' if same == whole else f'; {sum(left)} pixels of the others differ'

@@ -2,8 +2,9 @@
 light, or of the same texels; whether it is the last pixel of columns; and the like. Each looks at some views."""
 import collections
 import typing
+from collections.abc import Callable, Collection, Iterable, Iterator
 
-from . import differences, lights, lists, traces
+from . import differences, lights, list_files, traces
 from .doom import COLORMAP_SIZE
 from .frames import HEIGHT, SIZE, WIDTH
 from .texels import Texels
@@ -25,18 +26,18 @@ class Sample(typing.NamedTuple):
     records: bytes
     marks: bytes
     pixels: Pixels
-    items: typing.Optional[lists.View]
+    items: typing.Optional[list_files.View]
 
 
-Step = typing.Tuple[int, int]  # rows and columns
-Item = typing.Tuple[int, int]  # a kind and a number
+Step = tuple[int, int]  # rows and columns
+Item = tuple[int, int]  # a kind and a number
 
 
 def kinds_in(sample: Sample) -> bytes:
     return sample.records[differences.KIND::differences.RECORD]
 
 
-def places_of(sample: Sample, kind: int, number: typing.Optional[int] = None) -> typing.List[int]:
+def places_of(sample: Sample, kind: int, number: typing.Optional[int] = None) -> list[int]:
     """The places of an item of a view, or of a whole kind."""
     kinds = kinds_in(sample)
     if number is None:
@@ -45,16 +46,16 @@ def places_of(sample: Sample, kind: int, number: typing.Optional[int] = None) ->
     return [place for place, own in enumerate(kinds) if own == kind and low[place] == number & 255]
 
 
-def differing_items(sample: Sample, kind: int) -> typing.List[Item]:
+def differing_items(sample: Sample, kind: int) -> list[Item]:
     """The items of a kind of which enough differs, by their numbers."""
-    found: typing.Counter[int] = collections.Counter()
+    found: collections.Counter[int] = collections.Counter()
     for painter, numbers in sample.pixels.items():
         if painter.kind == kind:
             found.update(numbers)
     return [(kind, number) for number, count in found.items() if count >= LEAST_PIXELS]
 
 
-def alike(sample: Sample, places: typing.List[int], step: Step) -> float:
+def alike(sample: Sample, places: list[int], step: Step) -> float:
     """The share of the places at which the port has, some rows and columns on, what we have."""
     rows, columns = step
     same = whole = 0
@@ -66,7 +67,7 @@ def alike(sample: Sample, places: typing.List[int], step: Step) -> float:
     return same / whole if 2 * whole > len(places) else 0.0
 
 
-def moved(sample: Sample, places: typing.List[int], rows: int = FARTHEST, columns: int = FARTHEST) -> typing.Optional[Step]:
+def moved(sample: Sample, places: list[int], rows: int = FARTHEST, columns: int = FARTHEST) -> typing.Optional[Step]:
     """How far the port has what we have at some places, or None where that is nowhere near, or where it is."""
     some = places[::len(places) // MOST_PLACES + 1]
     if len(some) < LEAST_PIXELS:
@@ -79,10 +80,10 @@ def moved(sample: Sample, places: typing.List[int], rows: int = FARTHEST, column
     return best if shares[best] >= max(LEAST_ALIKE, shares[0, 0] + LESS) else None
 
 
-def directions(steps: typing.Iterable[typing.Optional[Step]]) -> str:
+def directions(steps: Iterable[typing.Optional[Step]]) -> str:
     """The direction in which most things are moved, if half of them at least are, in words, or an empty text."""
     found = list(steps)
-    words: typing.Counter[str] = collections.Counter()
+    words: collections.Counter[str] = collections.Counter()
     for row, column in filter(None, found):
         words[' and '.join(filter(None, ['lower' if row > 0 else 'higher' if row else '',
                                          'to the right' if column > 0 else 'to the left' if column else '']))] += 1
@@ -91,7 +92,7 @@ def directions(steps: typing.Iterable[typing.Optional[Step]]) -> str:
     return word if found and is_most else ''
 
 
-def is_mirrored(sample: Sample, places: typing.List[int], number: int) -> bool:
+def is_mirrored(sample: Sample, places: list[int], number: int) -> bool:
     """Whether the port has a sprite mirrored, left for right, within the columns that the list has, or near."""
     columns = [place % WIDTH for place in places]
     own = sample.items.sprites[number] if sample.items and number < len(sample.items.sprites) else None
@@ -101,19 +102,19 @@ def is_mirrored(sample: Sample, places: typing.List[int], number: int) -> bool:
     return best >= max(LEAST_MIRRORED, alike(sample, some, (0, 0)) + LESS)
 
 
-def mirrored(sample: Sample, places: typing.List[int], both: int) -> float:
+def mirrored(sample: Sample, places: list[int], both: int) -> float:
     """The share of the places at which the port has what we have, mirrored; `both` is the sum of two columns."""
     pairs = [(place, both - place % WIDTH) for place in places if 0 <= both - place % WIDTH < WIDTH]
     same = sum(sample.port[place - place % WIDTH + column] == sample.ours[place] for place, column in pairs)
     return same / len(places)
 
 
-def lines_in(sample: Sample, kinds: typing.Collection[int]) -> typing.Iterator[typing.Tuple[Item, lights.Pairs]]:
+def lines_in(sample: Sample, kinds: Collection[int]) -> Iterator[tuple[Item, lights.Pairs]]:
     """The pairs of colours of each line that differs: of a column of a wall or of the sky, of a row of a plane, of a whole
     sprite."""
     kept = kinds_in(sample).translate(bytes(kind in kinds for kind in range(256)))
     marks = differences.bytes_of(differences.number_of(kept) & differences.number_of(sample.marks))
-    found: typing.Dict[typing.Tuple[Item, int], lights.Pairs] = collections.defaultdict(set)
+    found: dict[tuple[Item, int], lights.Pairs] = collections.defaultdict(set)
     for place in differences.places_of(marks):
         kind, low, high = lights.key_at(sample.records, place)
         line = place % WIDTH if kind == SKY else lights.line_of(kind, place)
@@ -122,7 +123,7 @@ def lines_in(sample: Sample, kinds: typing.Collection[int]) -> typing.Iterator[t
         yield item, pairs
 
 
-def is_lit(samples: typing.List[Sample], kinds: typing.Collection[int], known: lights.Lights) -> bool:
+def is_lit(samples: list[Sample], kinds: Collection[int], known: lights.Lights) -> bool:
     """Whether each line has the same texels as ours, under another colormap."""
     lit = whole = 0
     for sample in samples:
@@ -136,7 +137,7 @@ def is_lit(samples: typing.List[Sample], kinds: typing.Collection[int], known: l
     return whole > 0 and lit >= MOST * whole
 
 
-def has_same_texels(samples: typing.List[Sample], kinds: typing.Collection[int], texels: Texels, colormaps: bytes) -> bool:
+def has_same_texels(samples: list[Sample], kinds: Collection[int], texels: Texels, colormaps: bytes) -> bool:
     """Whether each line has texels of the same flat or texture, under one colormap."""
     same = whole = 0
     for sample in samples:
@@ -150,9 +151,9 @@ def has_same_texels(samples: typing.List[Sample], kinds: typing.Collection[int],
     return whole > 0 and same >= MOST * whole
 
 
-def is_recoloured(samples: typing.List[Sample], kind: int) -> bool:
+def is_recoloured(samples: list[Sample], kind: int) -> bool:
     """Whether each of our colours of a kind that differs is always the same other one."""
-    found: typing.Dict[int, typing.Counter[int]] = collections.defaultdict(collections.Counter)
+    found: dict[int, collections.Counter[int]] = collections.defaultdict(collections.Counter)
     for sample in samples:
         for _, pairs in lines_in(sample, (kind,)):
             for ours, port in pairs:
@@ -161,15 +162,15 @@ def is_recoloured(samples: typing.List[Sample], kind: int) -> bool:
     return sum(max(counts.values()) for counts in found.values()) >= MOST * whole > 0
 
 
-def mapped(colormaps: bytes, number: int, texels: typing.FrozenSet[int]) -> typing.Set[int]:
+def mapped(colormaps: bytes, number: int, texels: frozenset[int]) -> set[int]:
     """Texels through a colormap."""
     own = colormaps[COLORMAP_SIZE * number:COLORMAP_SIZE * (number + 1)]
     return {own[texel] for texel in texels} if own else set()
 
 
-def columns_of(sample: Sample, places: typing.List[int]) -> typing.Dict[int, typing.List[int]]:
+def columns_of(sample: Sample, places: list[int]) -> dict[int, list[int]]:
     """The places of an item by their columns, those alone that are long enough, without a gap."""
-    found: typing.Dict[int, typing.List[int]] = collections.defaultdict(list)
+    found: dict[int, list[int]] = collections.defaultdict(list)
     for place in places:
         found[place % WIDTH].append(place)
     return {column: own for column, own in found.items()
@@ -191,7 +192,7 @@ def is_column_moved(ours: bytes, port: bytes) -> bool:
     return max(shares) >= max(LEAST_ALIKE, part_alike(ours, port, 0) + LESS)
 
 
-def directions_of_columns(sample: Sample, item: Item) -> typing.Tuple[int, int, int]:
+def directions_of_columns(sample: Sample, item: Item) -> tuple[int, int, int]:
     """How many of some columns of a wall were looked at, and how many of these the port has higher or lower, or from another
     column of ours that is near."""
     columns = columns_of(sample, places_of(sample, *item))
@@ -211,7 +212,7 @@ def directions_of_columns(sample: Sample, item: Item) -> typing.Tuple[int, int, 
     return len(some), rows, sides
 
 
-def is_end_of_columns(samples: typing.List[Sample]) -> bool:
+def is_end_of_columns(samples: list[Sample]) -> bool:
     """Whether what differs is the last pixel of columns alone, the one below another item's: mostly columns of several pixels,
     of which those above are the same."""
     ends = longer = whole = 0
@@ -225,7 +226,7 @@ def is_end_of_columns(samples: typing.List[Sample]) -> bool:
     return whole > 0 and ends >= MOST * whole and longer * 2 > whole
 
 
-def is_unpainted(samples: typing.List[Sample]) -> bool:
+def is_unpainted(samples: list[Sample]) -> bool:
     """Whether the port has 0, as where nothing is painted, wherever it differs."""
     whole = sum(sample.marks.count(1) for sample in samples)
     zeros = sum(differences.count_of(bytes(map(lambda mark, colour: mark and not colour, sample.marks, sample.port)))
@@ -233,10 +234,10 @@ def is_unpainted(samples: typing.List[Sample]) -> bool:
     return zeros >= MOST * whole
 
 
-def differ_by(samples: typing.List[Sample], texels: Texels, is_usual: typing.Callable[[typing.Any], bool]) -> bool:
+def differ_by(samples: list[Sample], texels: Texels, is_usual: Callable[[typing.Any], bool]) -> bool:
     """Whether walls differ where their texture is not as usual, and where it is they do not."""
-    differing: typing.Counter[bool] = collections.Counter()
-    whole: typing.Counter[bool] = collections.Counter()
+    differing: collections.Counter[bool] = collections.Counter()
+    whole: collections.Counter[bool] = collections.Counter()
     for sample in samples:
         for marks, counts in ((sample.marks, differing), (bytes([1]) * SIZE, whole)):
             for painter, numbers in traces.pixels_of(sample.records, marks).items():
@@ -246,19 +247,19 @@ def differ_by(samples: typing.List[Sample], texels: Texels, is_usual: typing.Cal
     return whole[True] > 500 and differing[True] * 50 < whole[True] and differing[False] * 5 > whole[False] > 100
 
 
-def planes_by_key(sample: Sample) -> typing.Dict[typing.Tuple[int, typing.Optional[int], int], typing.List[int]]:
+def planes_by_key(sample: Sample) -> dict[tuple[int, typing.Optional[int], int], list[int]]:
     """The planes of a view by height, flat and light."""
-    found: typing.Dict[typing.Tuple[int, typing.Optional[int], int], typing.List[int]] = collections.defaultdict(list)
+    found: dict[tuple[int, typing.Optional[int], int], list[int]] = collections.defaultdict(list)
     for number, plane in enumerate(sample.items.planes if sample.items else []):
         found[plane.height, plane.flat, plane.light].append(number)
     return found
 
 
-def pixels_of_planes(sample: Sample) -> typing.Tuple[typing.Counter[int], typing.Counter[int]]:
+def pixels_of_planes(sample: Sample) -> tuple[collections.Counter[int], collections.Counter[int]]:
     """The pixels of each plane of a view: those that differ, and all."""
-    both: typing.List[typing.Counter[int]] = []
+    both: list[collections.Counter[int]] = []
     for marks in (sample.marks, bytes([1]) * SIZE):
-        found: typing.Counter[int] = collections.Counter()
+        found: collections.Counter[int] = collections.Counter()
         for painter, numbers in traces.pixels_of(sample.records, marks).items():
             if painter.kind in (PLANE, SKY):
                 found.update(numbers)
@@ -266,7 +267,7 @@ def pixels_of_planes(sample: Sample) -> typing.Tuple[typing.Counter[int], typing
     return both[0], both[1]
 
 
-def differ_where(samples: typing.List[Sample], chosen: typing.Callable[[Sample], typing.Set[int]]) -> bool:
+def differ_where(samples: list[Sample], chosen: Callable[[Sample], set[int]]) -> bool:
     """Whether some planes of each view have all that differs, and the others are there and do not differ."""
     own = other = others = 0
     for sample in samples:
@@ -278,19 +279,19 @@ def differ_where(samples: typing.List[Sample], chosen: typing.Callable[[Sample],
     return own > 0 and 50 * other < own and others > own // 4
 
 
-def split_planes(sample: Sample) -> typing.Set[int]:
+def split_planes(sample: Sample) -> set[int]:
     """The planes of a view that R_CheckPlane split: of one height, flat and light."""
     return {number for numbers in planes_by_key(sample).values() if len(numbers) > 1 for number in numbers}
 
 
-def like_planes(sample: Sample) -> typing.Set[int]:
+def like_planes(sample: Sample) -> set[int]:
     """The planes of a view that have one like them, but for the height, or for the light."""
     keys = planes_by_key(sample)
     return {number for (height, flat, light), numbers in keys.items() for number in numbers
             if any((height, flat, light) != key and flat == key[1] and (height == key[0] or light == key[2]) for key in keys)}
 
 
-def wholly_differing(sample: Sample, kind: int) -> typing.List[bool]:
+def wholly_differing(sample: Sample, kind: int) -> list[bool]:
     """Of each item of a kind whether nearly all of its pixels differ."""
     found = []
     for item in differing_items(sample, kind):

@@ -4,6 +4,7 @@ texture, flat or sprite; with a list by light too.
 All pictures of a sprite (POSSA1, POSSB2B8 ..) count as one, by the four letters that they have in common."""
 import collections
 import typing
+from collections.abc import Iterator
 
 from . import traces
 from .traces import SPRITE, WEAPON, Names, Painter
@@ -11,7 +12,7 @@ from .traces import SPRITE, WEAPON, Names, Painter
 SHOWN_NAMES, SHOWN_LIGHTS = 4, 4
 SPRITE_LETTERS = 4
 
-Weights = typing.Counter[typing.Tuple[str, str]]  # pixels by the word of a kind and a name
+Weights = collections.Counter[tuple[str, str]]  # pixels by the word of a kind and a name
 
 
 def percent(part: int, whole: int) -> str:
@@ -34,7 +35,7 @@ class Shares:
 
     def __init__(self) -> None:
         self.pixels: Weights = collections.Counter()
-        self.lights: typing.Counter[int] = collections.Counter()
+        self.lights: collections.Counter[int] = collections.Counter()
         self.all = 0
 
     def add(self, painter: Painter, pixels: int, names: Names) -> None:
@@ -56,14 +57,14 @@ class Shares:
         self.lights.update(other.lights)
         self.all += other.all
 
-    def of_kinds(self) -> typing.List[typing.Tuple[str, int]]:
+    def of_kinds(self) -> list[tuple[str, int]]:
         """The words of kinds with their pixels, the most first."""
-        found: typing.Counter[str] = collections.Counter()
+        found: collections.Counter[str] = collections.Counter()
         for (word, _), pixels in self.pixels.items():
             found[word] += pixels
         return [(word, pixels) for word, pixels in found.most_common() if pixels > 0]
 
-    def names_of(self, word: str) -> typing.List[typing.Tuple[str, int]]:
+    def names_of(self, word: str) -> list[tuple[str, int]]:
         """The names of a kind with their pixels, the most first."""
         found = collections.Counter({name: pixels for (kind, name), pixels in self.pixels.items() if kind == word})
         return [(name, pixels) for name, pixels in found.most_common() if pixels > 0]
@@ -80,7 +81,7 @@ class Shares:
             return f'{percent(pixels, self.all)} {word} ({names[0][0]})'
         return f'{percent(pixels, self.all)} {word} ({", ".join(self.some(names, SHOWN_NAMES, "others"))})'
 
-    def some(self, found: typing.List[typing.Tuple[str, int]], most: int, others: str) -> typing.Iterator[str]:
+    def some(self, found: list[tuple[str, int]], most: int, others: str) -> Iterator[str]:
         """Names with their shares, those that are too many in one."""
         shown, rest = found[:most], found[most:]
         yield from (f'{name} {percent(pixels, self.all)}' for name, pixels in shown)

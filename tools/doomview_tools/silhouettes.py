@@ -4,7 +4,7 @@ pixels differ also where doomview painted the wall or floor behind it. These are
 So it is said where all that differs of a view, but a twentieth, is within the sprites that differ and beside them: as
 far to both sides as a sprite is wide, and a quarter of its height above and below."""
 import collections
-import typing
+from collections.abc import Collection
 
 from . import differences, traces
 from .differences import Box
@@ -17,7 +17,7 @@ LEFT = 20  # of so many pixels beside sprites one may be elsewhere
 MARGIN = 2  # pixels
 
 
-def boxes_of(records: bytes, numbers: typing.Collection[int]) -> typing.Dict[int, Box]:
+def boxes_of(records: bytes, numbers: Collection[int]) -> dict[int, Box]:
     """The boxes of some sprites of a view, by the pixels that doomview painted of them."""
     kinds = records[differences.KIND::differences.RECORD].translate(bytes(255 * (kind == SPRITE) for kind in range(256)))
     low = records[differences.NUMBER::differences.RECORD]
@@ -53,7 +53,7 @@ def taken(marks: bytearray, box: Box) -> bytes:
     return bytes(found)
 
 
-def beside(records: bytes, marks: bytes, pixels: Pixels) -> typing.Dict[Painter, Pixels]:
+def beside(records: bytes, marks: bytes, pixels: Pixels) -> dict[Painter, Pixels]:
     """Of each picture of a sprite the pixels of others that differ beside it, if all that differs is of sprites."""
     sprites = {number: painter for painter, numbers in pixels.items() if painter.kind == SPRITE for number in numbers}
     own = sum(sum(pixels[painter].values()) for painter in {*sprites.values()})
@@ -64,7 +64,7 @@ def beside(records: bytes, marks: bytes, pixels: Pixels) -> typing.Dict[Painter,
     parts = {number: taken(left, grown(box)) for number, box in boxes_of(records, sprites).items()}
     if LEFT * left.count(1) > other:
         return {}
-    found: typing.Dict[Painter, Pixels] = collections.defaultdict(lambda: collections.defaultdict(collections.Counter))
+    found: dict[Painter, Pixels] = collections.defaultdict(lambda: collections.defaultdict(collections.Counter))
     for number, part in parts.items():
         for painter, numbers in (traces.pixels_of(records, part) if 1 in part else {}).items():
             found[sprites[number]][painter].update(numbers)

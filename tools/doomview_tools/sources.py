@@ -1,17 +1,16 @@
 """What the sources of the crates say: the groups of crates.txt, the head of each crate, what its docstrings say of the
 original, where a word is defined, and which function a must-fail edit changes. tools/page_tables makes tables of it."""
-from __future__ import annotations
-
 import functools
 import glob
 import os
 import re
 import typing
+from collections.abc import Iterator
 
-from . import home
+from . import installation
 from .trouble import Trouble
 
-CRATES = os.path.join(home.TOP, 'crates')
+CRATES = os.path.join(installation.TOP, 'crates')
 ITEM = re.compile(r'\s*(?:pub(?:\([a-z]+\))? )?(?:const )?(fn|struct|enum|trait|const|type) (\w+)')
 OWNER = re.compile(r'(?:impl(?:<[^>]*>)?|(?:pub )?trait) (?:(\w+)[^{]* for )?(\w+)')
 DEFINED = re.compile(r'^(?:(?:abbrev|unfoldable) )?(?:pub )?(?:(?:record|data) )?([\w-]+)(?: :| \(| \{)', re.M)
@@ -67,7 +66,7 @@ def files(crate: str, folder: str, ending: str) -> list[str]:
 def groups() -> list[tuple[str, list[str]]]:
     """The groups of crates.txt, each with its crates."""
     found: list[tuple[str, list[str]]] = []
-    with open(os.path.join(home.TOP, 'crates.txt'), encoding='utf-8') as file:
+    with open(os.path.join(installation.TOP, 'crates.txt'), encoding='utf-8') as file:
         for line in file:
             if line.startswith('# '):
                 found.append((line[2:].strip(), []))
@@ -99,7 +98,7 @@ def origin_files(crate: str) -> list[str]:
     return list(dict.fromkeys(file for _, file in NAMED.findall(found[1] if found else '') if file))
 
 
-def walked(crate: str, file: str) -> typing.Iterator[tuple[int, Item]]:
+def walked(crate: str, file: str) -> Iterator[tuple[int, Item]]:
     """The items of a file, each with the line where it begins."""
     comment: list[str] = []
     owner = ''

@@ -2,6 +2,7 @@
 of this), and which of its rows fits what a comparison found. A row is named where the shape of what differs is certain;
 where none is, there is none."""
 import typing
+from collections.abc import Callable
 
 from . import shapes
 from .doom import COLORMAP_SIZE
@@ -84,10 +85,10 @@ class Evidence(typing.NamedTuple):
     """What a comparison found: some views that differ, the shares of kinds by their words, which views differ, the rows of
     the path where it is known, and texels, lights and colormaps of the WADs."""
 
-    samples: typing.List[Sample]
-    shares: typing.Dict[str, float]
-    views: typing.List[int]
-    rows: typing.List[Row]
+    samples: list[Sample]
+    shares: dict[str, float]
+    views: list[int]
+    rows: list[Row]
     texels: Texels
     lights: Lights
     colormaps: bytes
@@ -95,7 +96,7 @@ class Evidence(typing.NamedTuple):
     def is_alone(self, *kinds: int) -> bool:
         return sum(self.shares.get(KINDS[kind][0], 0) for kind in kinds) >= ALONE
 
-    def steps(self, kind: int) -> typing.List[typing.Optional[shapes.Step]]:
+    def steps(self, kind: int) -> list[typing.Optional[shapes.Step]]:
         """How far items of a kind are moved."""
         return [shapes.moved(sample, shapes.places_of(sample, *item)) for sample in self.samples
                 for item in shapes.differing_items(sample, kind)[:MOST_ITEMS]]
@@ -109,7 +110,7 @@ def by_light_of_rows(evidence: Evidence) -> str:
     return f'{len(own)} of the {len(lit)} views with light in their rows' if is_own else ''
 
 
-def of_walls(evidence: Evidence) -> typing.Tuple[str, str]:
+def of_walls(evidence: Evidence) -> tuple[str, str]:
     samples, texels = evidence.samples, evidence.texels
     if shapes.differ_by(samples, texels, lambda texture: texture.height == COLUMN_HEIGHT):
         return 'texture height', ''
@@ -144,13 +145,13 @@ def by_list(evidence: Evidence) -> str:
     return 'planes as one' if shapes.differ_where(samples, shapes.like_planes) else ''
 
 
-def of_planes(evidence: Evidence) -> typing.Tuple[str, str]:
+def of_planes(evidence: Evidence) -> tuple[str, str]:
     if shapes.is_lit(evidence.samples, (PLANE,), evidence.lights):
         return 'plane light', ''
     return ('yslope', '') if has_same(evidence, PLANE) else ('', '')
 
 
-def of_sprites(evidence: Evidence) -> typing.Tuple[str, str]:
+def of_sprites(evidence: Evidence) -> tuple[str, str]:
     samples = evidence.samples
     if shapes.is_lit(samples, (SPRITE,), evidence.lights):
         return 'sprite light', ''
@@ -169,7 +170,7 @@ def of_sprites(evidence: Evidence) -> typing.Tuple[str, str]:
     return ('sprites missing' if whole and sum(whole) >= shapes.MOST * len(whole) else 'sprite clip'), ''
 
 
-def of_sky(evidence: Evidence) -> typing.Tuple[str, str]:
+def of_sky(evidence: Evidence) -> tuple[str, str]:
     places = [(sample, shapes.places_of(sample, SKY)) for sample in evidence.samples]
     direction = shapes.directions([shapes.moved(*pair) for pair in places])
     first = evidence.colormaps[:COLORMAP_SIZE]
@@ -179,17 +180,17 @@ def of_sky(evidence: Evidence) -> typing.Tuple[str, str]:
     return 'walls in the sky', ''
 
 
-def of_weapons(evidence: Evidence) -> typing.Tuple[str, str]:
+def of_weapons(evidence: Evidence) -> tuple[str, str]:
     steps = [shapes.moved(sample, shapes.places_of(sample, WEAPON)) for sample in evidence.samples]
     return 'psprites', shapes.directions(steps)
 
 
-KNOWN_BY_KIND: typing.List[typing.Tuple[int, typing.Callable[[Evidence], typing.Tuple[str, str]]]] = [
+KNOWN_BY_KIND: list[tuple[int, Callable[[Evidence], tuple[str, str]]]] = [
     (WALL, of_walls), (PLANE, of_planes), (SPRITE, of_sprites), (SKY, of_sky), (WEAPON, of_weapons),
     (MIDDLE, lambda evidence: ('middle textures', ''))]
 
 
-def name_of(evidence: Evidence) -> typing.Tuple[str, str]:
+def name_of(evidence: Evidence) -> tuple[str, str]:
     """The name of the row that fits, and what is known more; an empty name where none is certain."""
     by_rows = by_light_of_rows(evidence)
     if by_rows:
@@ -204,7 +205,7 @@ def name_of(evidence: Evidence) -> typing.Tuple[str, str]:
     return name, more
 
 
-def sentences(evidence: Evidence) -> typing.List[str]:
+def sentences(evidence: Evidence) -> list[str]:
     """The line of the row that fits, or none."""
     if not evidence.samples:
         return []

@@ -5,7 +5,7 @@ import hashlib
 import math
 import struct
 
-from . import home
+from . import installation
 from .trouble import Trouble
 
 PI = 3.141592657
@@ -30,7 +30,7 @@ def compute() -> bytes:
 
 def known_sum() -> str:
     """The SHA-256 of the original's tables."""
-    path = home.data('tables.sha256')
+    path = installation.data('tables.sha256')
     try:
         with open(path, encoding='ascii') as file:
             return file.read().split()[0]

@@ -12,7 +12,7 @@ END_OF_COLUMN = 255
 FLAT = 4096
 
 
-def colours_of_patch(data: bytes) -> typing.FrozenSet[int]:
+def colours_of_patch(data: bytes) -> frozenset[int]:
     """The colours of a patch; none where it is damaged."""
     try:
         width, = struct.unpack_from('<h', data)
@@ -21,9 +21,9 @@ def colours_of_patch(data: bytes) -> typing.FrozenSet[int]:
         return frozenset()
 
 
-def colours_of_column(data: bytes, at: int) -> typing.FrozenSet[int]:
+def colours_of_column(data: bytes, at: int) -> frozenset[int]:
     """The colours of the posts at a place."""
-    found: typing.Set[int] = set()
+    found: set[int] = set()
     while data[at] != END_OF_COLUMN:
         size = data[at + 1]
         found.update(data[at + 3:at + 3 + size])
@@ -34,20 +34,20 @@ def colours_of_column(data: bytes, at: int) -> typing.FrozenSet[int]:
 class Texels:
     """The flats, patches and textures of WADs, read in their order."""
 
-    def __init__(self, files: typing.List[str]) -> None:
+    def __init__(self, files: list[str]) -> None:
         lumps = [lump for file in files for lump in read(file)]
         self.data = [lump.data for lump in lumps]
         self.newest = dict(lumps)
         self.patches = patch_names(self.newest)
-        self.textures: typing.List[Texture] = list(textures_of(self.newest))
-        self.having: typing.Dict[str, typing.List[Texture]] = {}  # of patches the textures that have them
+        self.textures: list[Texture] = list(textures_of(self.newest))
+        self.having: dict[str, list[Texture]] = {}  # of patches the textures that have them
         for texture in self.textures:
             for name in {self.patches[number] for _, number in texture.patches if number < len(self.patches)}:
                 self.having.setdefault(name, []).append(texture)
         self.names = [lump.name for lump in lumps]
 
     @functools.lru_cache(maxsize=None)
-    def colours(self, painter: Painter, is_flat: bool) -> typing.FrozenSet[int]:
+    def colours(self, painter: Painter, is_flat: bool) -> frozenset[int]:
         """The texels that a painter can have: of its flat, or of its patch, or of all patches of its texture."""
         if painter.source_kind == COMPOSITE:
             texture = self.textures[painter.source]

@@ -3,6 +3,7 @@ import collections
 import functools
 import struct
 import typing
+from collections.abc import Callable, Collection, Iterable, Iterator
 
 from . import differences
 from .art import between_marks, palette_of, patch_names, starts, textures_of
@@ -23,7 +24,7 @@ GROUP_OF = {PLANE: 'flat', SPRITE: 'picture of a sprite', WEAPON: 'picture of a 
 SHOWN_NUMBERS, SHOWN_TEXTURES, SHOWN_PLACES = 6, 3, 12
 
 
-Record = typing.Tuple[int, ...]  # the fields of RECORD
+Record = tuple[int, ...]  # the fields of RECORD
 
 
 class Painter(typing.NamedTuple):
@@ -34,7 +35,7 @@ class Painter(typing.NamedTuple):
     source: int
 
 
-Pixels = typing.Dict[Painter, typing.Counter[int]]  # of painters, by their numbers in the view
+Pixels = dict[Painter, collections.Counter[int]]  # of painters, by their numbers in the view
 
 
 class Source(typing.NamedTuple):
@@ -60,20 +61,20 @@ def record_at(path: str, view: int, x: int, y: int) -> Record:
 class Names:
     """The names of what paints, as far as the WADs are known."""
 
-    def __init__(self, wads: typing.Iterable[str]):
+    def __init__(self, wads: Iterable[str]) -> None:
         lumps = [lump for wad in wads for lump in read(wad)]
         self.lumps = [lump.name for lump in lumps]
-        self.textures: typing.List[str] = []
-        self.with_patch: typing.Dict[str, typing.List[str]] = collections.defaultdict(list)
+        self.textures: list[str] = []
+        self.with_patch: dict[str, list[str]] = collections.defaultdict(list)
         newest = dict(lumps)
         try:
             self.add_textures(newest)
         except WadError as error:
             raise Trouble('the lists of textures in the WADs are damaged; leave the WADs out') from error
         self.palette, self.colormaps = palette_of(newest), newest.get('COLORMAP', b'')
-        self.checked: typing.Set[Painter] = set()  # that the WADs have
+        self.checked: set[Painter] = set()  # that the WADs have
 
-    def add_textures(self, lumps: typing.Dict[str, bytes]) -> None:
+    def add_textures(self, lumps: dict[str, bytes]) -> None:
         """Takes the textures of both lists, each with its patches."""
         patches = patch_names(lumps)
         for texture in textures_of(lumps):
@@ -93,7 +94,7 @@ class Names:
             raise self.other(path, f'lump {source} of the WADs is {names[source]}, which is no {GROUP_OF[kind]}, and a '
                                    f'{KINDS[kind][0]} has it')
 
-    def check_all(self, painters: typing.Iterable['Painter'], path: str) -> None:
+    def check_all(self, painters: Iterable['Painter'], path: str) -> None:
         """A Trouble where one of some painters is none of these WADs."""
         for painter in painters:
             if painter not in self.checked:
@@ -104,7 +105,7 @@ class Names:
         return Trouble(f'{path} is a trace of other WADs: {what}; name the WADs of the run, in their order')
 
     @functools.cached_property
-    def unlike(self) -> typing.Dict[str, typing.Set[int]]:
+    def unlike(self) -> dict[str, set[int]]:
         """Of flats and pictures of sprites the numbers of the lumps that are none, where the WADs mark any."""
         found = {}
         for group, letter in (('flat', 'F'), ('picture of a sprite', 'S')):
@@ -119,7 +120,7 @@ class Names:
         names, word = (self.textures, 'texture') if painter.source_kind == COMPOSITE else (self.lumps, 'lump')
         return names[painter.source] if painter.source < len(names) else f'{word} {painter.source}'
 
-    def textures_of(self, painter: Painter) -> typing.List[str]:
+    def textures_of(self, painter: Painter) -> list[str]:
         """The names of the textures that have the patch which a painter read; none where it read no patch."""
         if painter.source_kind != LUMP or painter.kind not in TEXTURED:
             return []
@@ -154,7 +155,7 @@ def in_words(record: Record, names: Names) -> str:
     return ', '.join(parts + [f'colour {colour}'])
 
 
-def numbers_of(words: str) -> typing.Set[int]:
+def numbers_of(words: str) -> set[int]:
     """The numbers of kinds of painters that words name, with commas between them; a Trouble where there is no such."""
     known = {word: kind for kind, (word, _) in KINDS.items()}
     wrong = [word for word in words.split(',') if word not in known]
@@ -163,12 +164,12 @@ def numbers_of(words: str) -> typing.Set[int]:
     return {known[word] for word in words.split(',')}
 
 
-def marks(values: bytes, wanted: typing.Collection[int]) -> bytes:
+def marks(values: bytes, wanted: Collection[int]) -> bytes:
     """Of each byte 255 where it is one of some, and else 0."""
     return values.translate(bytes(255 * (value in wanted) for value in range(256)))
 
 
-def mask(records: bytes, kinds: typing.Collection[int], without: typing.Collection[int] = ()) -> bytes:
+def mask(records: bytes, kinds: Collection[int], without: Collection[int] = ()) -> bytes:
     """Of each pixel of a view 255 where what painted it is of one of some kinds, and else 0; 0 too of the sprites with
     some numbers."""
     found = marks(records[::RECORD.size], kinds)
@@ -199,7 +200,7 @@ def pixels_of(records: bytes, marks: bytes) -> Pixels:
 
 
 def painters(pixels: Pixels, names: Names,
-             place_of: typing.Optional[typing.Callable[[Painter, int], str]] = None) -> typing.Iterator[str]:
+             place_of: typing.Optional[Callable[[Painter, int], str]] = None) -> Iterator[str]:
     """Lines on the painters of a view that have some pixels: the most pixels first. `place_of` says of a painter and its
     number where in the map that is; then the lines under a painter have the pixels of each."""
     for painter, numbers in sorted(pixels.items(), key=lambda pair: -sum(pair[1].values())):
@@ -212,17 +213,16 @@ def painters(pixels: Pixels, names: Names,
         yield from map_places(painter, numbers, place_of) if place_of else []
 
 
-def some_of(numbers: typing.Iterable[int]) -> str:
+def some_of(numbers: Iterable[int]) -> str:
     """Some of the numbers of a painter in a view."""
     some = sorted(numbers)
     return ' '.join(map(str, some[:SHOWN_NUMBERS])) + (' ..' if len(some) > SHOWN_NUMBERS else '')
 
 
-def map_places(painter: Painter, numbers: typing.Dict[int, int],
-               place_of: typing.Callable[[Painter, int], str]) -> typing.Iterator[str]:
+def map_places(painter: Painter, numbers: dict[int, int], place_of: Callable[[Painter, int], str]) -> Iterator[str]:
     """Lines on where in the map the pixels of a painter are: the most pixels first."""
-    found: typing.Counter[str] = collections.Counter()
-    having: typing.Dict[str, typing.Set[int]] = collections.defaultdict(set)
+    found: collections.Counter[str] = collections.Counter()
+    having: dict[str, set[int]] = collections.defaultdict(set)
     for number, count in numbers.items():
         place = place_of(painter, number)
         found[place] += count

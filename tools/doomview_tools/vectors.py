@@ -12,6 +12,7 @@ import os
 import tempfile
 import typing
 import zlib
+from collections.abc import Iterable, Iterator
 
 from . import beside_vectors, levels, original, paths, vectors_map, wads, weapons
 from .doom import EVERY_SKILL
@@ -67,8 +68,8 @@ class Group(typing.NamedTuple):
     set: str
     skill: int
     size: int
-    layers: typing.Tuple[weapons.Layer, ...]
-    rows: typing.List[paths.Row]
+    layers: tuple[weapons.Layer, ...]
+    rows: list[paths.Row]
 
 
 def is_before(row: paths.Row, thing: levels.Thing) -> bool:
@@ -78,13 +79,13 @@ def is_before(row: paths.Row, thing: levels.Thing) -> bool:
     return math.hypot(x, y) < FAR and math.cos(off) > math.sqrt(0.5)
 
 
-def by_skill(level: levels.Level, rows: typing.List[paths.Row]) -> typing.List[paths.Row]:
+def by_skill(level: levels.Level, rows: list[paths.Row]) -> list[paths.Row]:
     """The rows in whose sight the most things are that not every skill has."""
     some = [thing for thing in level.things if 0 < thing.options & EVERY_SKILL < EVERY_SKILL]
     return sorted(rows, key=lambda row: -sum(is_before(row, thing) for thing in some))[:SOME]
 
 
-def groups(level: levels.Level, rows: typing.List[paths.Row]) -> typing.Iterator[Group]:
+def groups(level: levels.Level, rows: list[paths.Row]) -> Iterator[Group]:
     """The runs of a map: rows at which one can stand, and of some maps all sets."""
     yield Group('near', SKILL, SIZE_OF_VIEW, (), rows)
     if level.name not in MORE:
@@ -99,7 +100,7 @@ def groups(level: levels.Level, rows: typing.List[paths.Row]) -> typing.Iterator
     yield from held(rows)
 
 
-def held(rows: typing.List[paths.Row]) -> typing.Iterator[Group]:
+def held(rows: list[paths.Row]) -> Iterator[Group]:
     """The runs with weapons: as it is, under a fixed colormap and extra light, and at a smaller size."""
     for i, layers in enumerate(HELD):
         yield Group('weapons', SKILL, SIZE_OF_VIEW, layers, rows[i:i + 2])
@@ -120,7 +121,7 @@ def bands_of(frame: bytes) -> str:
     return ''.join(f'{number:08x}'[-BAND_DIGITS:] for number in sums) if frame else NONE
 
 
-def words_of(group: Group) -> typing.Tuple[typing.List[str], typing.List[str]]:
+def words_of(group: Group) -> tuple[list[str], list[str]]:
     """The words of a run for doomview and for the original."""
     skill, size = str(group.skill), str(group.size)
     return ['--skill', skill, '--size', size], ['-skill', skill, '-size', size]
@@ -130,7 +131,7 @@ def run_of(folder: str, wad: str, name: str, group: Group, spans: str = 'full') 
     return original.Run(folder, wad, name, group.rows, *words_of(group), group.layers, spans)
 
 
-def vectors_of(run: original.Run, group: Group, first: int) -> typing.Iterator[Vector]:
+def vectors_of(run: original.Run, group: Group, first: int) -> Iterator[Vector]:
     """The vectors of a run, numbered from `first` on."""
     answer = run.compare()
     packed, ended = run.still(list(range(len(group.rows))), 'still', original.PACKED)
@@ -143,10 +144,10 @@ def vectors_of(run: original.Run, group: Group, first: int) -> typing.Iterator[V
                      bands_of(ours), bands_of(dos))
 
 
-def of_map(wad: str, name: str, places: int = PLACES) -> typing.List[Vector]:
+def of_map(wad: str, name: str, places: int = PLACES) -> list[Vector]:
     """The vectors of a map, drawn by doomview and by the original."""
-    counts: typing.Counter[str] = collections.Counter()
-    found: typing.List[Vector] = []
+    counts: collections.Counter[str] = collections.Counter()
+    found: list[Vector] = []
     level = levels.read([wad], name)
     for group in groups(level, paths.places(level, places, SEED)):
         with tempfile.TemporaryDirectory(prefix='doomview-') as folder:
@@ -162,7 +163,7 @@ def label_of_made(wad: str) -> str:
     return beside_vectors.asked('made', 'label_of', lumps) if is_game else ''
 
 
-def of_made(wad: str) -> typing.List[Vector]:
+def of_made(wad: str) -> list[Vector]:
     """The vectors of the made map over a game's WAD; none where it lacks what the map needs."""
     label = label_of_made(wad)
     if not label:
@@ -173,7 +174,7 @@ def of_made(wad: str) -> typing.List[Vector]:
         return list(vectors_of(run_of(folder, made, label, group), group, 0))
 
 
-def text(vectors: typing.Iterable[Vector]) -> str:
+def text(vectors: Iterable[Vector]) -> str:
     """The text of a file of vectors."""
     out = io.StringIO()
     table = csv.writer(out, lineterminator='\n')
@@ -187,7 +188,7 @@ def wads_text(folder: str, name: str, wad: str) -> str:
     rows = beside_vectors.asked('games', 'known', folder)
     own = {'vectors': name, 'wad': os.path.basename(wad), 'sha256': beside_vectors.asked('games', 'sum_of', wad),
            'lumps': beside_vectors.asked('games', 'sum_of_lumps', wad)}
-    same: typing.Dict[str, str] = next((row for row in rows if (row['vectors'], row['sha256']) == (name, own['sha256'])), {})
+    same: dict[str, str] = next((row for row in rows if (row['vectors'], row['sha256']) == (name, own['sha256'])), {})
     out = io.StringIO()
     table = csv.DictWriter(out, WADS_HEAD, restval='', extrasaction='ignore', lineterminator='\n')
     table.writeheader()
@@ -202,16 +203,16 @@ def check_wad(path: str, wad: str) -> None:
         raise Trouble(sentence)
 
 
-def vector_of(record: typing.Dict[str, str]) -> Vector:
+def vector_of(record: dict[str, str]) -> Vector:
     """The vector of a row of a file, by the names of its columns."""
     texts = ('set', 'map', 'weapon', 'frame', 'packed', 'answer', 'original', 'bands', 'packedbands')
     record = {**Vector._field_defaults, **record}
-    fields: typing.Dict[str, typing.Any] = {name: record[name] if name in texts else int(record[name])
-                                            for name in Vector._fields}
+    fields: dict[str, typing.Any] = {name: record[name] if name in texts else int(record[name])
+                                     for name in Vector._fields}
     return Vector(**fields)
 
 
-def read(path: str) -> typing.List[Vector]:
+def read(path: str) -> list[Vector]:
     """The vectors of a file."""
     try:
         with open(path, newline='', encoding='utf-8') as file:
@@ -234,12 +235,12 @@ def file_name(map_name: str, kind: str) -> str:
     return map_name + ('' if kind == SETS[0] else f'-{kind}') + '.bin'
 
 
-def key_of(vector: Vector) -> typing.Tuple[str, int, int, typing.Tuple[weapons.Layer, ...]]:
+def key_of(vector: Vector) -> tuple[str, int, int, tuple[weapons.Layer, ...]]:
     """What the vectors of one run have in common."""
     return vector.set, vector.skill, vector.size, weapons.of_word(vector.weapon)
 
 
-def frames(wad: str, vectors: typing.Iterable[Vector], spans: str = 'full') -> bytes:
+def frames(wad: str, vectors: Iterable[Vector], spans: str = 'full') -> bytes:
     """doomview's frames of vectors of one map and set, one after the other, with full or packed spans; zeros for a view
     that a run would end."""
     drawn = []
@@ -254,7 +255,7 @@ def frames(wad: str, vectors: typing.Iterable[Vector], spans: str = 'full') -> b
     return b''.join(drawn)
 
 
-def of_frames(path: str, frames_path: str) -> typing.List[Vector]:
+def of_frames(path: str, frames_path: str) -> list[Vector]:
     """The vectors of a file of frames, by its name: MAP01.bin, or MAP01-sizes.bin."""
     name = os.path.basename(frames_path)
     found = [vector for vector in read(path) if file_name(vector.map, vector.set) == name]

@@ -9,8 +9,9 @@ import re
 import subprocess
 import sys
 import typing
+from collections.abc import Iterable, Iterator, Sequence
 
-from . import home, paths, vectors, weapons
+from . import installation, paths, vectors, weapons
 from .files import write_whole
 from .frames import SIZE
 from .trouble import FOUND, Trouble
@@ -20,11 +21,11 @@ MOST_PARTS = 6  # maps and sets that are compared with their lists
 SHOWN = 12  # names in a line
 VIEW = re.compile(r'^view (\d+)\b', re.M)
 TOLD = re.compile(r'("told":")view (\d+)\b')
-Drawn = typing.Tuple[bytes, bytes, str]  # of some views the frames, the traces and the lists of doomview
+Drawn = tuple[bytes, bytes, str]  # of some views the frames, the traces and the lists of doomview
 STYLE = 'body{margin:1em;font-family:sans-serif}pre{white-space:pre-wrap}iframe{width:100%;height:95vh;border:1px solid #999}'
 
 
-def draw(test: Test, views: typing.Sequence[View], folder: str) -> Drawn:
+def draw(test: Test, views: Sequence[View], folder: str) -> Drawn:
     """doomview's frames, traces and lists of views of one map, set, skill, size and weapon."""
     first = views[0].vector
     group = vectors.Group(first.set, first.skill, first.size, weapons.of_word(first.weapon),
@@ -40,7 +41,7 @@ def renumbered(text: str, first: int) -> str:
     return VIEW.sub(lambda found: f'view {int(found[1]) + first}', text)
 
 
-def draw_all(test: Test, views: typing.Sequence[View], folder: str) -> Drawn:
+def draw_all(test: Test, views: Sequence[View], folder: str) -> Drawn:
     """The same of any views, in their order."""
     frames, traces, lists, at = [], [], [], 0
     for _, part in itertools.groupby(views, run_of):
@@ -53,9 +54,9 @@ def draw_all(test: Test, views: typing.Sequence[View], folder: str) -> Drawn:
     return b''.join(frames), b''.join(traces), ''.join(lists)
 
 
-def compare(words: typing.List[str], folder: str) -> str:
+def compare(words: list[str], folder: str) -> str:
     """What `doomview compare` prints; it runs in a folder."""
-    main = os.path.join(home.TOOLS, 'doomview_tools', '__main__.py')
+    main = os.path.join(installation.TOOLS, 'doomview_tools', '__main__.py')
     done = subprocess.run([sys.executable, main, 'compare', *words], cwd=folder, stdin=subprocess.DEVNULL,
                           stdout=subprocess.PIPE, stderr=subprocess.PIPE, text=True)
     if done.returncode not in (0, FOUND):
@@ -66,7 +67,7 @@ def compare(words: typing.List[str], folder: str) -> str:
 class Compared:
     """Some views in a folder: doomview's frames, traces and lists, and the frames of the port."""
 
-    def __init__(self, test: Test, views: typing.List[View], folder: str) -> None:
+    def __init__(self, test: Test, views: list[View], folder: str) -> None:
         self.test, self.views, self.folder = test, views, folder
         frames, traces, lists = draw_all(test, views, folder)
         layers = [weapons.of_word(view.vector.weapon) for view in views]
@@ -92,7 +93,7 @@ class Compared:
         return self.text('--list', 'list.txt', '--map', first.map, '--path', 'rows.csv', '--spans', self.test.spans,
                          '--skill', str(first.skill), '--size', str(first.size), *weapon)
 
-    def page(self) -> typing.Tuple[str, str]:
+    def page(self) -> tuple[str, str]:
         """What compare says of all views in short, and its page."""
         said = self.text('--html', 'page.html', '--most', '0')
         with open(os.path.join(self.folder, 'page.html'), encoding='utf-8') as file:
@@ -100,7 +101,7 @@ class Compared:
         return said, TOLD.sub(lambda found: f'{found[1]}{self.views[int(found[2])].name} (view {found[2]}):', text)
 
 
-def counted(views: typing.Iterable[View], all_of: typing.Sequence[View]) -> str:
+def counted(views: Iterable[View], all_of: Sequence[View]) -> str:
     """How many views of each set are among some."""
     sets, whole = (collections.Counter(view.vector.set for view in some) for some in (views, all_of))
     return ', '.join(f'{name} {sets[name]} of {count}' for name, count in whole.items())
@@ -110,14 +111,14 @@ def of_count(count: int) -> str:
     return f'{count} view is' if count == 1 else f'{count} views are'
 
 
-def some_names(names: typing.Iterable[str]) -> str:
+def some_names(names: Iterable[str]) -> str:
     """Names in a line, and how many more there are."""
     found = list(dict.fromkeys(names))
     more = len(found) - SHOWN
     return ', '.join(found[:SHOWN]) + (f' and {more} more' if more > 0 else '')
 
 
-def head(test: Test) -> typing.Iterator[str]:
+def head(test: Test) -> Iterator[str]:
     """Lines on which views are wrong."""
     wrong = test.of_word(WRONG)
     yield (f'{os.path.basename(test.wad)} by {test.vectors_name}, {test.spans} spans: {len(wrong)} of {len(test.views)} '
@@ -138,7 +139,7 @@ def head(test: Test) -> typing.Iterator[str]:
         yield f'without a verdict, since doomview departs from the original there: {names}'
 
 
-def told_missing(test: Test) -> typing.Iterator[str]:
+def told_missing(test: Test) -> Iterator[str]:
     """Lines on the views that the port did not draw, with the last that it said there."""
     missing = test.of_word(MISSING)
     if missing:
@@ -148,12 +149,12 @@ def told_missing(test: Test) -> typing.Iterator[str]:
         yield f'at {base} the port said: {text.splitlines()[-1]}'
 
 
-def run_of(view: View) -> typing.Tuple[str, tuple]:
+def run_of(view: View) -> tuple[str, tuple[typing.Any, ...]]:
     """What the views of one run have in common."""
     return view.vector.map, vectors.key_of(view.vector)
 
 
-def parts_of(views: typing.List[View]) -> typing.List[typing.List[View]]:
+def parts_of(views: list[View]) -> list[list[View]]:
     """The views of some runs: of each set by turns, so that none is left out."""
     of_set = collections.defaultdict(list)
     for _, part in itertools.groupby(views, run_of):
@@ -163,7 +164,7 @@ def parts_of(views: typing.List[View]) -> typing.List[typing.List[View]]:
     return [part for turn in turns for part in turn if part][:MOST_PARTS]
 
 
-def explain(test: Test, most: int, folder: str) -> typing.Tuple[str, str]:
+def explain(test: Test, most: int, folder: str) -> tuple[str, str]:
     """The text on a test and the page of its views, or an empty text where no view is wrong."""
     chosen = test.chosen(most)
     lines = list(head(test))
@@ -186,7 +187,7 @@ def section_of(text: str, page: str) -> str:
     return f'<pre>{html.escape(head)}</pre>{more}{frame}\n'
 
 
-def whole_page(found: typing.Iterable[typing.Tuple[str, str]]) -> str:
+def whole_page(found: Iterable[tuple[str, str]]) -> str:
     """A page of the texts and the pages of some tests, one below the other."""
     return ('<!DOCTYPE html>\n<html lang="en"><head><meta charset="utf-8"><title>wrong views</title>'
             f'<style>{STYLE}</style></head><body>{"".join(section_of(*pair) for pair in found)}</body></html>\n')

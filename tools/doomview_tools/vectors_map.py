@@ -55,13 +55,13 @@ def bars(x: int, y: int) -> typing.Optional[int]:
     return 48 + (x * 5 + y * 3) % 60 if x % 8 < 3 or y % 16 < 4 else None
 
 
-PATCHES: typing.List[typing.Tuple[str, int, int, room.Paint]] = [
+PATCHES: list[tuple[str, int, int, room.Paint]] = [
     ('MADEP48', 48, 128, narrow), ('MADEP32', 32, 128, wide), ('MADEP16', 16, 64, bars)]
 
 
 def textures() -> bytes:
     """TEXTURE1 of the made textures, over the patches of the PWAD."""
-    def record(name: str, width: int, height: int, *parts: typing.Tuple[int, int]) -> bytes:
+    def record(name: str, width: int, height: int, *parts: tuple[int, int]) -> bytes:
         head = struct.pack('<8sIhhIH', room.name(name), 0, width, height, 0, len(parts))
         return head + b''.join(struct.pack('<5h', x, 0, patch, 1, 0) for x, patch in parts)
     records = [record(NARROW, 48, 128, (0, 0)), record(JOINED, 80, 128, (0, 0), (48, 1)), record(BARS, 16, 64, (0, 2))]
@@ -79,7 +79,7 @@ def lines(level: room.Level) -> bytes:
     return b''.join(found)
 
 
-def pairs(level: room.Level) -> typing.List[typing.FrozenSet[str]]:
+def pairs(level: room.Level) -> list[frozenset[str]]:
     """Of each line the letters of the squares beside it."""
     kind_of = [level.kinds[struct.unpack(LAYOUTS['SIDEDEFS'], side)[5]] for side in level.sides]
     both = (struct.unpack(LAYOUTS['LINEDEFS'], record)[5:] for _, record in level.lines.values())
@@ -109,7 +109,7 @@ def pwad() -> bytes:
                    ('PNAMES', names), *patches], b'PWAD')
 
 
-def rows() -> typing.List[Row]:
+def rows() -> list[Row]:
     """The views of the map, each with its eye over the floor."""
     found = []
     for x, y, angle in VIEWS:

@@ -6,6 +6,7 @@ import os
 import re
 import struct
 import typing
+from collections.abc import Iterable, Sequence
 
 from . import system
 from .doom import MAP_LUMPS
@@ -26,7 +27,7 @@ class Lump(typing.NamedTuple):
     data: bytes
 
 
-def folders() -> typing.List[str]:
+def folders() -> list[str]:
     """The folders in which ports look for a WAD, the first first."""
     data = os.environ.get('XDG_DATA_HOME') or os.path.join(os.path.expanduser('~'), '.local', 'share')
     named = os.environ.get('DOOMWADPATH', '').split(os.pathsep)
@@ -61,7 +62,7 @@ def find(name: str) -> str:
     return found or name
 
 
-def with_base(name: str, base: typing.Optional[str] = None, files: typing.Iterable[str] = ()) -> typing.List[str]:
+def with_base(name: str, base: typing.Optional[str] = None, files: Iterable[str] = ()) -> list[str]:
     """The WAD of a name, before it some files, and before these the WAD that it needs: `base`, or else that of the
     variable IWAD. An IWAD comes before the files, if no other is named."""
     base, own, files = base or os.environ.get('IWAD'), find(name), [find(file) for file in files]
@@ -79,14 +80,14 @@ def kind_of(path: str) -> bytes:
         return b''
 
 
-def check_game(files: typing.List[str]) -> None:
+def check_game(files: list[str]) -> None:
     """A Trouble where some WADs are a PWAD without the WAD of a game."""
     if kind_of(files[0]) == b'PWAD' and not any(lump.name == 'PLAYPAL' for file in files for lump in read(file)):
         raise Trouble(f'{files[-1]} is a PWAD, and needs the WAD of its game; name that by --iwad, as in --iwad '
                       'freedoom2.wad')
 
 
-def check_own(name: str, place: str, files: typing.List[str], own: str, more: typing.Iterable[str]) -> None:
+def check_own(name: str, place: str, files: list[str], own: str, more: Iterable[str]) -> None:
     """A Trouble where a map is that of the IWAD, while other WADs are named for it: `place` is the WAD of the map, and
     `own` the WAD of the call."""
     if place != own and place == files[0] and place not in map(find, more):
@@ -100,7 +101,7 @@ def clean(name: bytes) -> str:
     return name.split(b'\0')[0].upper().decode('latin-1')
 
 
-def read(path: str) -> typing.List[Lump]:
+def read(path: str) -> list[Lump]:
     """The lumps of a WAD, in the order of its directory."""
     try:
         with open(path, 'rb') as file:
@@ -126,7 +127,7 @@ def packed_as(data: bytes) -> str:
     return f'{kind}; unpack it, and name the WAD in it' if kind else ''
 
 
-def wad_of(lumps: typing.Iterable[typing.Tuple[str, bytes]], kind: bytes = b'IWAD') -> bytes:
+def wad_of(lumps: Iterable[tuple[str, bytes]], kind: bytes = b'IWAD') -> bytes:
     """The bytes of a WAD with these lumps, pairs of name and bytes."""
     bodies, entries = [], []
     at = 12
@@ -137,7 +138,7 @@ def wad_of(lumps: typing.Iterable[typing.Tuple[str, bytes]], kind: bytes = b'IWA
     return kind + struct.pack('<II', len(entries), at) + b''.join(bodies + entries)
 
 
-def map_labels(lumps: typing.Iterable[typing.Tuple[str, bytes]]) -> typing.Dict[str, int]:
+def map_labels(lumps: Iterable[tuple[str, bytes]]) -> dict[str, int]:
     """The place of each map's label, by name."""
     names = [name for name, _ in lumps]
     labels = {name: place for place, name in enumerate(names)}
@@ -145,12 +146,12 @@ def map_labels(lumps: typing.Iterable[typing.Tuple[str, bytes]]) -> typing.Dict[
             if names[place + 1:place + 9] == MAP_LUMPS and names[place + 11:place + BEHIND_MAP] != ['BEHAVIOR']}
 
 
-def map_names(lumps: typing.Iterable[typing.Tuple[str, bytes]]) -> typing.List[str]:
+def map_names(lumps: Iterable[tuple[str, bytes]]) -> list[str]:
     """The names of the maps that can be names of files: A to Z, 0 to 9 and _."""
     return sorted(name for name in map_labels(lumps) if re.fullmatch('[A-Z0-9_]+', name))
 
 
-def maps_of(wads: typing.Sequence[str]) -> typing.List[str]:
+def maps_of(wads: Sequence[str]) -> list[str]:
     """The names of the maps of the last of some WADs; a Trouble where it has none."""
     names = map_names(read(wads[-1]))
     if not names:

@@ -5,16 +5,17 @@ line of two sides takes no solid range, and nothing at all where both sides are 
 sectors of the map are alike, and a seg of a line that is shut gets a copy of it with one side. Segs keep their numbers."""
 import struct
 import typing
+from collections.abc import Iterable
 
 from .doom import LAYOUTS, TWO_SIDED
-from .levels import Level, Line, Seg, alone
+from .levels import Level, Line, Record, Seg, alone
 
 LINE_OF_SEG, FLAGS = Seg._fields.index('line'), Line._fields.index('flags')  # places in a record
 FLOOR, CEILING, LIGHT = 0, 128, 160
 NO_TEXTURE = b'-'
 
 
-def solid_segs(level: Level) -> typing.List[bool]:
+def solid_segs(level: Level) -> list[bool]:
     """Of each seg of a level whether nothing is seen behind it."""
     sector_of = {seg: level.sector_of_leaf(number) for number, leaf in enumerate(level.leaves)
                  for seg in range(leaf.first, leaf.first + leaf.count)}
@@ -34,27 +35,27 @@ def is_solid(level: Level, seg: Seg, front: typing.Optional[int]) -> bool:
 def walls_alone(level: Level) -> bytes:
     """The bytes of a PWAD of the map of a level's solid walls alone."""
     lines, segs = level.records('LINEDEFS'), level.records('SEGS')
-    copies: typing.Dict[int, int] = {}  # of the lines with two sides that are shut
+    copies: dict[int, int] = {}  # of the lines with two sides that are shut
     for number, is_one in enumerate(solid_segs(level)):
         line = segs[number][LINE_OF_SEG]
         if is_one and lines[line][FLAGS] & TWO_SIDED:
             segs[number] = with_value(segs[number], LINE_OF_SEG, copies.setdefault(line, len(lines) + len(copies)))
     lines += [with_value(lines[line], FLAGS, lines[line][FLAGS] & ~TWO_SIDED) for line in copies]
-    sides: typing.List[tuple] = [(*side[:2], NO_TEXTURE, NO_TEXTURE, NO_TEXTURE, side[-1])
-                                 for side in level.records('SIDEDEFS')]
+    sides: list[Record] = [(*side[:2], NO_TEXTURE, NO_TEXTURE, NO_TEXTURE, side[-1])
+                          for side in level.records('SIDEDEFS')]
     flat = level.sectors[0].floor_flat.encode('latin-1')
-    sectors: typing.List[tuple] = [(FLOOR, CEILING, flat, flat, LIGHT, 0, 0)] * len(level.sectors)
-    changed: typing.Dict[str, typing.List[tuple]] = {
+    sectors: list[Record] = [(FLOOR, CEILING, flat, flat, LIGHT, 0, 0)] * len(level.sectors)
+    changed: dict[str, list[Record]] = {
         'LINEDEFS': lines, 'SEGS': segs, 'SIDEDEFS': sides, 'SECTORS': sectors,
         'THINGS': level.records('THINGS')[:1]}
     return alone(level, {name: lump_of(name, records) for name, records in changed.items()})
 
 
-def lump_of(name: str, records: typing.Iterable[tuple]) -> bytes:
+def lump_of(name: str, records: Iterable[Record]) -> bytes:
     """The bytes of a lump of a map, by its records."""
     return b''.join(struct.pack(LAYOUTS[name], *record) for record in records)
 
 
-def with_value(record: tuple, place: int, value: int) -> tuple:
+def with_value(record: Record, place: int, value: int) -> Record:
     """A record with another value at a place."""
     return (*record[:place], value, *record[place + 1:])

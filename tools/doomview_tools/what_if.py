@@ -5,6 +5,7 @@ import collections
 import os
 import struct
 import typing
+from collections.abc import Iterator
 
 from . import levels, list_counts, paths, program
 from .counting import RAISED
@@ -18,7 +19,7 @@ GOALS = 2  # values to which a value is changed
 MOST_DRAWN = 40
 
 
-Words = typing.Tuple[typing.List[str], typing.List[str]]  # of `list`, up to the last WAD, and the rest
+Words = tuple[list[str], list[str]]  # of `list`, up to the last WAD, and the rest
 
 
 class Change(typing.NamedTuple):
@@ -27,7 +28,7 @@ class Change(typing.NamedTuple):
     field: str
     before: object
     after: typing.Any  # a number, or the name of a flat
-    sectors: typing.Tuple[int, ...]
+    sectors: tuple[int, ...]
 
     def in_words(self, sectors: str) -> str:
         """The change in words."""
@@ -39,10 +40,10 @@ class Result(typing.NamedTuple):
     """What a view counts after a change."""
 
     change: Change
-    counts: typing.Dict[str, int]
+    counts: dict[str, int]
 
 
-Weighed = typing.Tuple[int, Change]  # a change with the planes that its sectors made
+Weighed = tuple[int, Change]  # a change with the planes that its sectors made
 
 
 def with_change(level: levels.Level, change: Change) -> bytes:
@@ -55,13 +56,13 @@ def with_change(level: levels.Level, change: Change) -> bytes:
     return levels.alone(level, {'SECTORS': bytes(data)})
 
 
-def changes(level: levels.Level, planes_of: typing.Dict[int, int]) -> typing.List[Change]:
+def changes(level: levels.Level, planes_of: dict[int, int]) -> list[Change]:
     """The changes that may save most, by how many planes of a view each sector made: the most first."""
     found = [change for field in FIELDS for change in changes_of(level, planes_of, field)]
     return [change for _, change in sorted(found, key=lambda pair: -pair[0])[:MOST_DRAWN]]
 
 
-def changes_of(level: levels.Level, planes_of: typing.Dict[int, int], field: str) -> typing.Iterator[Weighed]:
+def changes_of(level: levels.Level, planes_of: dict[int, int], field: str) -> Iterator[Weighed]:
     """The changes of a field, each with the planes that its sectors made."""
     having = collections.defaultdict(list)
     for number in planes_of:
@@ -77,7 +78,7 @@ def changes_of(level: levels.Level, planes_of: typing.Dict[int, int], field: str
         yield from with_weight(level, Change(field, None, most, rest), sum(weights.values()))
 
 
-def goals_of(weights: collections.Counter, field: str, value: typing.Any) -> list:
+def goals_of(weights: collections.Counter[typing.Any], field: str, value: typing.Any) -> list[typing.Any]:
     """The values to which a value of a field may be changed: the nearest heights and lights, the flats of most planes;
     and the light of most."""
     others = [other for other, _ in weights.most_common() if other != value]
@@ -93,7 +94,7 @@ def has_room(sector: levels.Sector, change: Change) -> bool:
     return changed.ceiling > changed.floor or sector.ceiling <= sector.floor
 
 
-def with_weight(level: levels.Level, change: Change, weight: int) -> typing.Iterator[Weighed]:
+def with_weight(level: levels.Level, change: Change, weight: int) -> Iterator[Weighed]:
     """A change with its weight, of the sectors whose floor stays below their ceiling; none if there are none."""
     sectors = tuple(number for number in change.sectors if has_room(level.sectors[number], change))
     if sectors:
@@ -101,7 +102,7 @@ def with_weight(level: levels.Level, change: Change, weight: int) -> typing.Iter
 
 
 def count_with(words: Words, level: levels.Level, row: paths.Row, change: Change,
-               folder: str) -> typing.Optional[typing.Dict[str, int]]:
+               folder: str) -> typing.Optional[dict[str, int]]:
     """The counts of a view after a change; `words` are those of `list` without its path, up to the last WAD, and the
     rest."""
     before, behind = words
@@ -112,8 +113,8 @@ def count_with(words: Words, level: levels.Level, row: paths.Row, change: Change
     return next(list_counts.counts_of(done.output), None) if not done.status else None
 
 
-def results(words: Words, level: levels.Level, row: paths.Row, planes_of: typing.Dict[int, int], folder: str,
-            by: str = 'planes') -> typing.List[Result]:
+def results(words: Words, level: levels.Level, row: paths.Row, planes_of: dict[int, int], folder: str,
+            by: str = 'planes') -> list[Result]:
     """What a view counts after each change that saves something, the greatest saving of a count first."""
     counted = ((change, count_with(words, level, row, change, folder)) for change in changes(level, planes_of))
     found = [Result(change, counts) for change, counts in counted if counts and by in counts]

@@ -6,6 +6,7 @@ import itertools
 import json
 import os
 import typing
+from collections.abc import Iterator, Sequence
 
 from . import beside_vectors, vectors, wads
 from .trouble import Trouble
@@ -14,7 +15,7 @@ from .vectors import Vector
 FOUND, VECTORS, RUNS = 'found.json', 'vectors.csv', 'runs'  # what ci writes into the folder of a WAD's frames
 WRONG, MISSING, NO_VERDICT = 'wrong', 'missing', 'departs'
 OTHER_SPANS = {'packed': 'packed', 'full': 'full'}  # words of views that are wrong for their spans alone
-Key = typing.Tuple[str, str]  # a map and a set
+Key = tuple[str, str]  # a map and a set
 
 
 class View(typing.NamedTuple):
@@ -55,7 +56,7 @@ class Test:
         self.runs = read_runs(os.path.join(folder, RUNS))
         self.views = list(self.placed(rows, by_key))
 
-    def placed(self, rows: typing.List[Vector], found: typing.Dict) -> typing.Iterator[View]:
+    def placed(self, rows: list[Vector], found: dict[tuple[str, str, int], dict[str, typing.Any]]) -> Iterator[View]:
         """The views that were checked, each with its file: the runs of a map and set have its rows in their order."""
         of_part = collections.defaultdict(list)
         for row in rows:
@@ -67,23 +68,23 @@ class Test:
                 if known:
                     yield View(row, known['word'], known['wrong'], run.base, number)
 
-    def of_word(self, word: str) -> typing.List[View]:
+    def of_word(self, word: str) -> list[View]:
         """The views that check called so and that are wrong, or without a verdict."""
         return [view for view in self.views if view.word == word and (view.is_wrong or word == NO_VERDICT)]
 
-    def chosen(self, most: int) -> typing.List[View]:
+    def chosen(self, most: int) -> list[View]:
         """Some of the wrong views: the first of each map and set, the second of each and so on, in their order."""
-        parts: typing.Dict[Key, typing.List[View]] = collections.defaultdict(list)
+        parts: dict[Key, list[View]] = collections.defaultdict(list)
         for view in self.of_word(WRONG):
             parts[view.vector.map, view.vector.set].append(view)
         turns = (view for turn in itertools.zip_longest(*parts.values()) for view in turn if view)
         some = set(itertools.islice(turns, most))
         return [view for view in self.views if view in some]
 
-    def frames(self, views: typing.Sequence[View]) -> typing.List[bytes]:
+    def frames(self, views: Sequence[View]) -> list[bytes]:
         """The port's frames of some views, as indices; a Trouble where a picture is no frame."""
         palette = beside_vectors.asked('pictures', 'palette_of_wad', self.wad)
-        found: typing.Dict[View, bytes] = {}
+        found: dict[View, bytes] = {}
         for base, part in itertools.groupby(views, lambda view: view.file):
             of_file = list(part)
             file = beside_vectors.asked('views', 'of_name', self.folder, base, palette)
@@ -108,7 +109,7 @@ class Test:
             return ''
 
 
-def read_json(path: str) -> typing.Dict[str, typing.Any]:
+def read_json(path: str) -> dict[str, typing.Any]:
     """What check found; a Trouble where the file is another."""
     try:
         with open(path, encoding='utf-8') as file:
@@ -120,7 +121,7 @@ def read_json(path: str) -> typing.Dict[str, typing.Any]:
     return found
 
 
-def read_runs(path: str) -> typing.List[Run]:
+def read_runs(path: str) -> list[Run]:
     """The runs that ci let the port make."""
     try:
         with open(path, encoding='utf-8') as file:
@@ -130,7 +131,7 @@ def read_runs(path: str) -> typing.List[Run]:
     return [Run(line[0], line[1], line[2], line[3], int(line[4]), line[5]) for line in lines]
 
 
-def wad_of_found(found: typing.Dict[str, str]) -> str:
+def wad_of_found(found: dict[str, str]) -> str:
     """The WAD of a test: where it was, or an installed one of that name; a Trouble where it is another now."""
     name = os.path.basename(found['wad'])
     path = found['wad'] if os.path.isfile(found['wad']) else wads.find_or_none(name)
@@ -142,7 +143,7 @@ def wad_of_found(found: typing.Dict[str, str]) -> str:
     return path
 
 
-def tests(folder: str) -> typing.List[Test]:
+def tests(folder: str) -> list[Test]:
     """The tests of a folder WORK."""
     if not os.path.isdir(folder):
         raise Trouble(f'there is no folder {folder}')

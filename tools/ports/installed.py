@@ -4,16 +4,17 @@ The ports are those of Debian, unchanged. Each draws 320 by 200 without what the
 smooth light, no wide screen, no messages. chocolate-doom, crispy-doom and woof are played on a screen of Xvfb and
 photographed by their own key; dsda-doom writes a video without a screen."""
 import contextlib
+import itertools
 import os
 import re
 import shutil
 import struct
 import subprocess
 import time
-import typing
+from collections.abc import Iterator, Mapping
 
 import screens
-from doomview_tools import paths, rest
+from doomview_tools import game_at_rest, paths
 from doomview_tools.files import write_whole
 from doomview_tools.levels import EYE_HEIGHT, UNIT
 from doomview_tools.trouble import Trouble
@@ -71,7 +72,7 @@ class Missed(Trouble):
     """A view that no two screenshots show: the machine was too slow."""
 
 
-def missing(port: str, environment: typing.Mapping[str, str] = os.environ) -> typing.List[str]:
+def missing(port: str, environment: Mapping[str, str] = os.environ) -> list[str]:
     """What is not installed of what a port needs."""
     path = environment.get('PATH', '') + ':/usr/games'
     wanted = [port] + ([] if port == 'dsda-doom' else ['Xvfb', 'xdotool'])
@@ -79,7 +80,7 @@ def missing(port: str, environment: typing.Mapping[str, str] = os.environ) -> ty
 
 
 @contextlib.contextmanager
-def screen() -> typing.Iterator[str]:
+def screen() -> Iterator[str]:
     """A screen of Xvfb; its name."""
     read, write = os.pipe()
     server = subprocess.Popen(['Xvfb', '-displayfd', str(write), '-screen', '0', '640x480x24', '-nolisten', 'tcp'],
@@ -99,7 +100,7 @@ def screen() -> typing.Iterator[str]:
 class Game:
     """A port with a map at rest, in a folder that has still.wad and still.deh."""
 
-    def __init__(self, port: str, folder: str, wad: str):
+    def __init__(self, port: str, folder: str, wad: str) -> None:
         self.port, self.folder = port, folder
         settings, words, self.key = PORTS[port]
         for name, text in settings.items():
@@ -112,7 +113,7 @@ class Game:
         return os.path.join(self.folder, name)
 
     @contextlib.contextmanager
-    def running(self, *words: str) -> typing.Iterator[subprocess.Popen]:
+    def running(self, *words: str) -> Iterator[subprocess.Popen[bytes]]:
         """The port while it runs."""
         with open(self.at('port.log'), 'a') as log:
             game = subprocess.Popen([*self.words, *words], cwd=self.folder, env=self.environment, stdout=log,
@@ -131,7 +132,7 @@ class Game:
             except subprocess.TimeoutExpired as error:
                 raise Missed(f'{self.port} does not come to the end of the demo') from error
 
-    def press(self, *words: str) -> typing.List[str]:
+    def press(self, *words: str) -> list[str]:
         """What xdotool says."""
         done = subprocess.run(['xdotool', *words], env=self.environment, stdout=subprocess.PIPE,
                               stderr=subprocess.DEVNULL, text=True)
@@ -144,7 +145,7 @@ class Game:
             self.press('windowfocus', windows[-1])
         return bool(windows)
 
-    def shots(self) -> typing.List[bytes]:
+    def shots(self) -> list[bytes]:
         """The screenshots so far, in their order."""
         found = []
         for name in sorted(filter(SHOTS.fullmatch, os.listdir(self.folder))):
@@ -160,7 +161,7 @@ class Game:
         """The pixels of a screenshot: indices, or bytes red, green, blue."""
         return screens.sampled(*screens.png_pixels(shot)) if shot[:4] == b'\x89PNG' else screens.pcx_indices(shot)
 
-    def demo_frames(self, views: int, tics: int) -> typing.List[bytes]:
+    def demo_frames(self, views: int, tics: int) -> list[bytes]:
         """The views of the demo still.lmp, which pauses for so many tics at each."""
         if self.port == 'dsda-doom':
             return self.video_frames(views)
@@ -171,7 +172,7 @@ class Game:
                 self.photograph(game, tics / TICS_A_SECOND / SHOTS_A_VIEW)
         return [self.pixels(shot) for shot in still_ones(self.shots(), views, 2)]
 
-    def photograph(self, game: subprocess.Popen, seconds: float) -> None:
+    def photograph(self, game: subprocess.Popen[bytes], seconds: float) -> None:
         """Presses the key of a screenshot again and again, at this distance, until the game ends."""
         end = time.time() + LONGEST
         while game.poll() is None:
@@ -181,7 +182,7 @@ class Game:
                 self.press('key', self.key)
             time.sleep(seconds)
 
-    def video_frames(self, views: int) -> typing.List[bytes]:
+    def video_frames(self, views: int) -> list[bytes]:
         """The views of the demo in the video that dsda-doom writes."""
         self.environment['SDL_VIDEODRIVER'] = 'dummy'
         self.run_to_end('-timedemo', 'still.lmp', '-viddump', 'video')
@@ -195,9 +196,9 @@ class Game:
         os.remove(self.at('video.rgb'))
         return [screens.sampled(width, height, shot) for shot in still_ones(shots, views, 3)]
 
-    def row_frames(self, still: rest.Rest, rows: list, skill: int) -> typing.List[bytes]:
+    def row_frames(self, still: game_at_rest.MapAtRest, rows: list[paths.Row], skill: int) -> list[bytes]:
         """The views of rows, each by a savegame of the map at rest with another place of the player."""
-        write_whole(self.at('still.lmp'), rest.saving_demo(still.level.name, skill))
+        write_whole(self.at('still.lmp'), game_at_rest.saving_demo(still.level.name, skill))
         with screen() as display:
             self.environment['DISPLAY'] = display
             self.run_to_end('-playdemo', 'still')
@@ -224,15 +225,10 @@ class Game:
         raise Missed(f'{self.port} shows no still view of a savegame')
 
 
-def still_ones(shots: list, views: int, least: int) -> list:
+def still_ones(shots: list[bytes], views: int, least: int) -> list[bytes]:
     """The last views of at least so many equal screenshots one after the other."""
-    runs = []
-    for shot in shots:
-        if runs and runs[-1][0] == shot:
-            runs[-1][1] += 1
-        else:
-            runs.append([shot, 1])
-    kept = [shot for shot, count in runs if count >= least]
+    runs = [list(run) for _, run in itertools.groupby(shots)]
+    kept = [run[0] for run in runs if len(run) >= least]
     if len(kept) < views:
         raise Missed(f'{len(shots)} screenshots have {len(kept)} still views, and {views} are wanted')
     return kept[-views:]

@@ -1,7 +1,7 @@
 """What ports write as a picture of their screen: PCX, PNG and raw video, as pixels; and colours as indices."""
 import struct
-import typing
 import zlib
+from collections.abc import Iterator
 
 from doomview_tools.frames import HEIGHT, SIZE, WIDTH
 from doomview_tools.trouble import Trouble
@@ -25,7 +25,7 @@ def pcx_indices(data: bytes) -> bytes:
     return bytes(found)
 
 
-def chunks(data: bytes) -> typing.Iterator[typing.Tuple[bytes, bytes]]:
+def chunks(data: bytes) -> Iterator[tuple[bytes, bytes]]:
     """The kinds and bytes of the parts of a PNG."""
     at = 8
     while at < len(data):
@@ -49,7 +49,7 @@ def unfiltered(kind: int, line: bytearray, before: bytes, step: int) -> bytearra
     return line
 
 
-def png_pixels(data: bytes) -> typing.Tuple[int, int, bytes]:
+def png_pixels(data: bytes) -> tuple[int, int, bytes]:
     """The pixels of a PNG of eight bits: width, height, and bytes red, green, blue."""
     parts = list(chunks(data))
     head, palette = dict(parts)[b'IHDR'], dict(parts).get(b'PLTE')
@@ -78,13 +78,13 @@ def sampled(width: int, height: int, rgb: bytes) -> bytes:
 class Palette:
     """From colours to indices. Of indices with one colour the least stands for all: `plain` makes them that one."""
 
-    def __init__(self, data: bytes):
+    def __init__(self, data: bytes) -> None:
         self.colours = [data[3 * i:3 * i + 3] for i in range(256)]
-        self.index: typing.Dict[bytes, int] = {}
+        self.index: dict[bytes, int] = {}
         for i, colour in enumerate(self.colours):
             self.index.setdefault(colour, i)
         self.table = bytes(self.index[colour] for colour in self.colours)
-        self.strange: typing.Set[bytes] = set()  # colours that are not in the palette
+        self.strange: set[bytes] = set()  # colours that are not in the palette
 
     def plain(self, frame: bytes) -> bytes:
         return frame.translate(self.table)

@@ -1,9 +1,10 @@
 """What doomview.exe has from the tools in Python, as a source in C: tables, a made room, help pages, sentences."""
 import json
 import re
-from typing import Iterable
+from collections.abc import Iterable
 
-from doomview_tools import cli, command, doom, explanations, home, jobs, refusals, room, tables
+from doomview_tools import (call_words, cli, command, doom, explanations, installation, job_options, jobs, refusals,
+                            room, tables)
 from doomview_tools.commands import picture as picture_tool
 
 # The files that it has in it, by names that no file of Windows can have.
@@ -12,7 +13,7 @@ TOOLS = ('picture',)  # that it has beside the jobs
 OTHER_TOOLS = [name for name in command.TOOLS if name not in TOOLS]
 NAMED_TOOL = re.compile(r'\bdoomview (?:' + '|'.join(OTHER_TOOLS) + r')\b')
 LINES = ('write fault', 'out of memory', 'zone full')  # lines with one sentence each, whatever the words
-WITHOUT = (jobs.NO_PROGRAM, jobs.PLACES, *(option.name for option in jobs.OWN_OPTIONS if not option.jobs))
+WITHOUT = (jobs.NO_PROGRAM, job_options.PLACES, *(option.name for option in job_options.OWN_OPTIONS if not option.jobs))
 MEMBERS = 14  # of a record of a map at the most
 NEEDS = 'nothing beside it'
 OVERVIEW = '''doomview {version} for Windows, a preview: the proved program compiled anew, which no proof covers.
@@ -40,7 +41,7 @@ maps, and a release has more tools, for which Python is needed.
 
 
 def data_of(name: str) -> bytes:
-    with open(home.data(name), 'rb') as file:
+    with open(installation.data(name), 'rb') as file:
         return file.read()
 
 
@@ -98,12 +99,12 @@ def files() -> str:
 
 def job_rows() -> Iterable[str]:
     for job in jobs.JOBS.values():
-        yield record(job.name, int(job.name in jobs.LEVEL_JOBS), int(job.is_binary), int(bool(jobs.options_of(job.name))), job_page(job))
+        yield record(job.name, int(job.name in jobs.LEVEL_JOBS), int(job.is_binary), int(bool(job_options.options_of(job.name))), job_page(job))
 
 
 def option_rows() -> Iterable[str]:
-    for option in jobs.options().values():
-        choices = jobs.CHOICES.get(option.name, [])
+    for option in job_options.options().values():
+        choices = job_options.CHOICES.get(option.name, [])
         bits = sum(1 << place for place, job in enumerate(jobs.JOBS) if job in option.jobs)
         greatest = -1 if option.greatest is None else option.greatest
         yield record(option.name, bits, option.least or 0, greatest, option.step or 0, f' {" ".join(choices)} ' if choices else '',
@@ -139,16 +140,16 @@ def overview() -> str:
     """The page of the program."""
     job_lines = [(job.form, job.summary) for job in jobs.JOBS.values()]
     tools = [(name, command.tool(name).PAGE.summary) for name in TOOLS]
-    return OVERVIEW.format(version=home.version()['version'], jobs=command.table(job_lines), tools=command.table(tools))
+    return OVERVIEW.format(version=installation.version()['version'], jobs=command.table(job_lines), tools=command.table(tools))
 
 
 def version() -> str:
-    return f'doomview {home.version()["version"]}, a preview for Windows\n'
+    return f'doomview {installation.version()["version"]}, a preview for Windows\n'
 
 
 def source() -> str:
     """The source in C; glue/exe.h says what is in it."""
-    medusa = next(iter(refusals.HINTS[905](refusals.Scene(jobs.Words([])), [])))
+    medusa = next(iter(refusals.HINTS[905](refusals.Scene(call_words.Words([])), [])))
     texts = {'overview': overview(), 'picture_page': picture_page(), 'medusa': medusa,
              'version': version()}
     return ''.join(['#include "exe.h"\n', files(), rows('struct job', 'jobs', job_rows(), 'job_count'),

@@ -1,23 +1,30 @@
 """The gate of what is made for other systems: golden runs of the program for Windows under Wine, and of the page's program in
-Chromium, whose values are those of tests/golden/tables."""
+a browser, whose values are those of tests/golden/tables."""
 import functools
 import importlib.machinery
 import importlib.util
 import json
+import math
 import os
 import shutil
 import subprocess
 import sys
 import tempfile
 import time
-from typing import Iterator, NamedTuple
+import weakref
+from collections.abc import Callable, Iterator
+from types import ModuleType
+from typing import TYPE_CHECKING, Any, NamedTuple
 
-from doomview_tools import home
+from doomview_tools import installation
 from doomview_tools.trouble import Trouble
 
-from . import chromium, kit
+from . import kit, scripts
 
-GOLDEN = os.path.join(home.TOP, 'tests', 'golden')
+if TYPE_CHECKING:  # when it runs, golden() finds them
+    from cases import Case, Outcome, Runner
+
+GOLDEN = os.path.join(installation.TOP, 'tests', 'golden')
 WINE = ('wine', 'wine64')
 WINE_NAMES = ('WINEPREFIX', 'WINEDEBUG', 'WINEDLLOVERRIDES')  # variables
 LAYOUT = ['setarch', '-R']  # words before a command, which starts with no random layout of memory then
@@ -26,27 +33,9 @@ LOST = 'err:virtual:'  # in what Wine says where it cannot map what Windows has 
 NO_BROWSER = 'what a shell does with streams, readers that go, words that are no text, files without content'
 NO_WINDOWS = 'words that are no UTF-8, which no word of Windows can be'
 DIFFERENT, UNTRIED = 1, 2  # statuses: it writes or says something else; it could not be tried to its end
+MORE = 60  # seconds that what is begun in time may take then
 NO_FILES = '/dev/'  # in the words of a case: a file that a page has not
-# In the page: gives each of some workers the program and the files of the cases, and has them run cases side by side.
-READ = '''(async () => { const files = [...document.getElementById('golden').files], given = [];
-for (const file of files) given.push([file.name, new Uint8Array(await file.arrayBuffer())]);
-const address = URL.createObjectURL(new Blob([SCRIPT + %s], { type: 'text/javascript' })), module = await WebAssembly.compile(bytesOf(BUILT.program));
-const ask = (worker, words) => new Promise(done => { worker.onmessage = ({ data }) => done(data); worker.postMessage(words); });
-const workers = Array.from({ length: HELPERS }, () => new Worker(address)), found = [];
-const read = await Promise.all(workers.map(worker => ask(worker, { module, given })));
-window.golden = async cases => { let next = 0; await Promise.all(workers.map(async worker => {
-  while (next < cases.length) { const number = next++; found[number] = await ask(worker, cases[number]); } })); return found; };
-return read.every(count => count === files.length); })()'''
-# In a worker of the page: runs words over the files of the cases.
-RUN = ''';let program; const given = new Map();
-onmessage = async ({ data }) => {
-  if (data.module) { program = new Program(data.module); data.given.forEach(([name, bytes]) => given.set(name, new MemorySource(bytes))); return postMessage(given.size); }
-  let done;
-  try { done = program.runWhole(data, { get: name => given.get(name.replace(/^\\.\\//, '')) });
-  } catch (error) { return postMessage([-1, String(error), 0, '']); }
-  const sum = new Uint8Array(await crypto.subtle.digest('SHA-256', done.output));
-  postMessage([done.status, done.line, done.output.length, [...sum].map(byte => byte.toString(16).padStart(2, '0')).join('')]);
-};'''
+READ, RUN = scripts.text('golden_page.js'), scripts.text('golden_worker.js')
 
 
 class Result(NamedTuple):
@@ -57,12 +46,14 @@ class Result(NamedTuple):
     wrong: list[str]
 
 
-def golden():
+def golden() -> ModuleType:
     """The module tests/golden/run."""
     if GOLDEN not in sys.path:
         sys.path.insert(0, GOLDEN)
     loader = importlib.machinery.SourceFileLoader('golden_run', os.path.join(GOLDEN, 'run'))
-    found = importlib.util.module_from_spec(importlib.util.spec_from_loader('golden_run', loader))
+    spec = importlib.util.spec_from_loader('golden_run', loader)
+    assert spec, 'the loader has the path of a file'
+    found = importlib.util.module_from_spec(spec)
     loader.exec_module(found)
     return found
 
@@ -75,7 +66,7 @@ def native() -> str:
     return path
 
 
-def is_text(case) -> bool:
+def is_text(case: 'Case') -> bool:
     """Whether the words of a case are UTF-8."""
     try:
         ''.join(case.arguments()).encode()
@@ -84,7 +75,7 @@ def is_text(case) -> bool:
         return False
 
 
-def line_on(case, found: list[str]) -> str:
+def line_on(case: 'Case', found: list[str]) -> str:
     return f'{case.table}: {case.name}: {"; ".join(found)}: {case.words} {case.how}'.rstrip()
 
 
@@ -118,27 +109,29 @@ def is_lost(status: str, size: str, said: str) -> bool:
 class Wine:
     """Wine with a folder of its own, kept up while cases run: each would else wait for its services."""
 
-    def __init__(self):
-        self.folder = tempfile.TemporaryDirectory(ignore_cleanup_errors=True)
-        self.env = {**os.environ, 'WINEPREFIX': os.path.join(self.folder.name, 'prefix'), 'WINEDEBUG': '-all,err+virtual',
+    def __init__(self) -> None:
+        self.folder = tempfile.mkdtemp()
+        self.remove_folder = weakref.finalize(self, shutil.rmtree, self.folder, ignore_errors=True)
+        self.env = {**os.environ, 'WINEPREFIX': os.path.join(self.folder, 'prefix'), 'WINEDEBUG': '-all,err+virtual',
                     'WINEDLLOVERRIDES': 'mscoree,mshtml='}
 
-    def __enter__(self):
+    def __enter__(self) -> 'Wine':
         subprocess.run([*start(), 'cmd', '/c', 'exit'], env=self.env, stdin=subprocess.DEVNULL, stdout=subprocess.DEVNULL,
                        stderr=subprocess.DEVNULL)
         self.keeper = subprocess.Popen([*start(), 'cmd'], env=self.env, stdin=subprocess.PIPE, stdout=subprocess.DEVNULL,
                                        stderr=subprocess.DEVNULL)
         return self
 
-    def __exit__(self, *_):
+    def __exit__(self, *_: object) -> None:
+        assert self.keeper.stdin, 'it is a pipe'
         self.keeper.stdin.close()
         self.keeper.wait()
         subprocess.run(['wineserver', '-k', '-w'], env=self.env, stderr=subprocess.DEVNULL)
-        self.folder.cleanup()
+        self.remove_folder()
 
     def command(self, data: bytes) -> str:
         """The path of a command that runs a program for Windows."""
-        target, path = (os.path.join(self.folder.name, name) for name in ('doomview.exe', 'doomview'))
+        target, path = (os.path.join(self.folder, name) for name in ('doomview.exe', 'doomview'))
         with open(target, 'wb') as file:
             file.write(data)
         named = ' '.join(f'{name}={self.env[name]}' for name in WINE_NAMES)
@@ -147,16 +140,16 @@ class Wine:
         os.chmod(path, 0o755)
         return path
 
-    def run(self, words: list[str], folder: str, **more) -> subprocess.CompletedProcess:
+    def run(self, words: list[str], folder: str, **more: Any) -> subprocess.CompletedProcess[Any]:
         """Runs a program for Windows in a folder, once more where its start may have been lost."""
-        def once():
+        def once() -> subprocess.CompletedProcess[Any]:
             return subprocess.run([*start(), *words], cwd=folder, env=self.env, stdin=subprocess.DEVNULL, capture_output=True, **more)
         done = once()
         said = done.stderr.decode(errors='replace')
         return once() if is_lost(str(done.returncode), str(len(done.stdout)), said) else done
 
 
-def outcome_of(runner, case):
+def outcome_of(runner: 'Runner', case: 'Case') -> 'Outcome':
     """How a case ends under Wine, the second time where its start may have been lost."""
     found = runner.run(case)
     return runner.run(case) if is_lost(found.status, found.length, found.line) else found
@@ -174,32 +167,32 @@ def under_wine(plain: bytes, jobs: int) -> Result:
     return Result(len(tried), len(cases), list(wrong_lines(outcomes)))
 
 
-def golden_cases() -> list:
+def golden_cases() -> list['Case']:
     run = golden()
     return run.leave_out([case for table in run.table_names() for case in run.read_table(table)])
 
 
-def wrong_lines(outcomes: dict) -> Iterator[str]:
+def wrong_lines(outcomes: dict['Case', 'Outcome']) -> Iterator[str]:
     for case, outcome in outcomes.items():
         found = golden().differences(case, outcome)
         if found:
             yield line_on(case, found)
 
 
-def in_chromium(page: str) -> Result:
-    """The golden runs of the program in a page."""
+def in_browser(page: str, browser_of: Callable[[], Any]) -> Result:
+    """The golden runs of the program in a page, in a browser that a class gives."""
     run, cases = golden(), golden_cases()
     from cases import ZONES, Outcome
     tried = [case for case in cases if case.how in ('', *ZONES) and is_text(case) and NO_FILES not in case.words]
     outcomes = {}
-    with tempfile.TemporaryDirectory(prefix='golden-') as folder, chromium.Chromium() as browser:
+    with tempfile.TemporaryDirectory(prefix='golden-') as folder, browser_of() as browser:
         run.put_files(native(), folder, tried)
         files = [os.path.join(folder, name) for name in os.listdir(folder) if os.path.isfile(os.path.join(folder, name))]
         browser.show(page)
         browser.wait("document.body.dataset.ready === 'yes'")
         browser.value("document.body.append(Object.assign(document.createElement('input'), { type: 'file', id: 'golden', multiple: true }))")
         browser.choose('#golden', files)
-        if not browser.value(READ % json.dumps(RUN)):
+        if not browser.value(f'({READ})({json.dumps(RUN)})'):
             raise Trouble('the page did not get the files of the golden runs')
         found = browser.value(f'golden({json.dumps([case.arguments() for case in tried])})')
         for case, (status, line, size, digest) in zip(tried, found):
@@ -207,17 +200,22 @@ def in_chromium(page: str) -> Result:
     return Result(len(tried), len(cases), list(wrong_lines(outcomes)))
 
 
-def say(text: str):
+def say(text: str) -> None:
     print(f'portable: {text}', flush=True)
 
 
-def status_of_tests(test: str, part: str, path: str) -> int:
-    """How a part of the tests of what is made ends; they find it by a variable. What they say is shown at their end."""
+def status_of_tests(test: str, part: str, path: str, until: float = math.inf, browser: str = '') -> int:
+    """How a part of the tests of what is made ends; they find it by a variable. What they say is shown at their end. One that
+    is not through some time after `until` is ended."""
     variable = 'DOOMVIEW_EXE' if test == 'test_exe' else 'DOOMVIEW_PAGE'
-    words = [sys.executable, '-B', '-m', 'unittest', 'discover', '-s', os.path.join(home.TOOLS, 'tests'), '-p', f'{test}.py', '-k', part]
-    done = subprocess.run(words, env={**os.environ, variable: path, 'DOOMVIEW_TESTED': native()}, stdin=subprocess.DEVNULL,
-                          stdout=subprocess.PIPE, stderr=subprocess.STDOUT, errors='replace')
-    say(f'{test}, {part}: {done.stdout.rstrip()}')
+    words = [sys.executable, '-B', '-m', 'unittest', 'discover', '-s', os.path.join(installation.TOOLS, 'tests'), '-p', f'{test}.py', '-k', part]
+    env = {**os.environ, variable: path, 'DOOMVIEW_TESTED': native(), 'DOOMVIEW_BROWSER': browser}
+    try:
+        done = subprocess.run(words, env=env, stdin=subprocess.DEVNULL, stdout=subprocess.PIPE, stderr=subprocess.STDOUT,
+                              errors='replace', timeout=None if until == math.inf else max(until + MORE - time.monotonic(), 1))
+    except subprocess.TimeoutExpired:
+        return UNTRIED
+    say(f'{test}, {part}{f" in {browser}" if browser else ""}: {done.stdout.rstrip()}')
     if done.returncode:
         return DIFFERENT if 'failures=' in done.stdout else UNTRIED
     return 0

@@ -1,8 +1,9 @@
 """The text of the proved program's module for another target.
 
-The code of no function changes: only the two lines of the target, attributes that name a processor of x86 or a way to probe
+The code of no function changes: only how it is compiled. Changed are the two lines of the target, attributes that name a processor of x86 or a way to probe
 the stack, the name of main, and those of the functions that the module calls and does not define, which get `port_` before
-them, so that they meet none of a C library. The heap's three calls are defined by glue/heap.ll, which is added, since the
+them, so that they meet none of a C library. In a browser a function that calls itself has little of the stack (see `outlined`).
+The heap's three calls are defined by glue/heap.ll, which is added, since the
 pair that they give back is returned otherwise on Windows.
 
 No page of the kit says what the text is. So each thing that is changed is known here line by line, and counted: a text
@@ -20,11 +21,13 @@ PREFIX = 'port_'
 
 
 class Target(NamedTuple):
-    """A target of LLVM: its name, the layout of its data, and the attributes of functions that it has not."""
+    """A target of LLVM: its name, the layout of its data, the attributes of functions that it has not, and whether its stack is
+    small."""
 
     triple: str
     layout: str
-    without: tuple
+    without: tuple[str, ...]
+    is_small: bool = False
 
 
 PROBES = ('probe-stack', 'stack-probe-size')
@@ -32,7 +35,7 @@ TARGETS = {
     'windows': Target('x86_64-w64-windows-gnu',
                       'e-m:w-p270:32:32-p271:32:32-p272:64:64-i64:64-i128:128-f80:128-n8:16:32:64-S128', PROBES),
     'wasm64': Target('wasm64-unknown-unknown', 'e-m:e-p:64:64-p10:8:8-p20:8:8-i64:64-i128:128-n32:64-S128-ni:1:10:20',
-                     PROBES + ('target-cpu',)),
+                     PROBES + ('target-cpu',), True),
 }
 # The functions that the module calls and does not define, with their types; the words of an attribute may stand between.
 CALLED = {
@@ -51,6 +54,8 @@ ATTRIBUTE = re.compile(r'"([a-z0-9-]+)"="([^"]*)"')
 # The attributes by name that a group may have, with their values where they matter here.
 ATTRIBUTES = {'probe-stack': {'inline-asm'}, 'stack-probe-size': None, 'target-cpu': {'x86-64-v2', 'x86-64'}, 'frame-pointer': None}
 SIGNATURE = re.compile(r'^declare (?P<returned>.*?) ?@(?P<name>[\w.]+)\((?P<taken>[^#\n]*)\)', re.M)
+FUNCTION = re.compile(r'^define [^\n]*?@("[^"\n]*"|[\w.$-]+)\([^\n]*\n(.*?)^\}$', re.M | re.S)
+CALL = re.compile(r'\bcall [^\n]*?@("[^"\n]*"|[\w.$-]+)\(')
 WORDS = re.compile(r'\b(?:noundef|nonnull|noalias|nocapture|readonly|writeonly|signext|zeroext|dso_local|noinline|nounwind|'
                    r'dereferenceable\(\d+\)|align \d+|captures\(\w+\)|range\([^)]*\))\s*')
 
@@ -60,7 +65,7 @@ def refuse(number: int, line: str, why: str) -> Trouble:
     return Trouble(f'this kit is not one that tools/portable knows: {why}, in line {number} of the module\'s text: {line[:200]}')
 
 
-def type_of(found: re.Match) -> str:
+def type_of(found: re.Match[str]) -> str:
     """The type of a declared function, without the words of attributes."""
     plain = [WORDS.sub('', part).strip() for part in (found['returned'], found['taken'])]
     return f'{plain[0]} ({", ".join(re.sub(" %.*", "", part.strip()) for part in plain[1].split(",")) if plain[1] else ""})'
@@ -69,7 +74,7 @@ def type_of(found: re.Match) -> str:
 class Rewriting:
     """One text for one target; `counts` says how often each kind of line was changed."""
 
-    def __init__(self, target: str, text: str):
+    def __init__(self, target: str, text: str) -> None:
         self.target, self.text = TARGETS[target], text
         self.counts = dict.fromkeys(('triple', 'layout', 'attributes', 'heap', 'called', 'main'), 0)
         self.names: list[str] = []  # of the functions that get another name
@@ -132,10 +137,10 @@ class Rewriting:
 
     def attributes(self, number: int, line: str) -> str:
         for name, value in ATTRIBUTE.findall(line):
-            if name not in ATTRIBUTES or (ATTRIBUTES[name] and value not in ATTRIBUTES[name]):
+            if name not in ATTRIBUTES or ((known := ATTRIBUTES[name]) and value not in known):
                 raise self.refused(number, f'the attribute {name} is {value}')
 
-        def kept(found: re.Match) -> str:
+        def kept(found: re.Match[str]) -> str:
             is_out = found[2] in self.target.without
             self.counts['attributes'] += is_out
             return '' if is_out else found[0]
@@ -146,13 +151,43 @@ class Rewriting:
         names = '|'.join(map(re.escape, [*self.names, 'main']))
         others = {'main': 'proved_main'}
 
-        def name(found: re.Match) -> str:
+        def name(found: re.Match[str]) -> str:
             is_name = not self.is_quoted(found.start(), text)  # what is in quotes is no name of a function
             return f'@{others.get(found[1], PREFIX + found[1])}' if is_name else found[0]
         return re.sub(rf'@({names})\b(?![.\w])', name, text)
 
 
-def check_counts(counts: dict):
+def end_of(text: str, at: int) -> int:
+    """The place behind the parenthesis that closes the one before a place."""
+    depth = 1
+    while depth:
+        depth += {'(': 1, ')': -1}.get(text[at], 0)
+        at += 1
+    return at
+
+
+def outlined(text: str) -> tuple[str, int]:
+    """The text in which a function that calls itself has its own frame alone: what it calls beside itself is not put into it,
+    where that calls others. The walk of a level's nodes is such, 1,024 calls deep at the most, and the stack of a browser's
+    worker has some 500 bytes for each. Also how many calls were marked so."""
+    called = {found[1]: {name for name in CALL.findall(found[2]) if not name.startswith('llvm.')} for found in FUNCTION.finditer(text)}
+    count = 0
+
+    def marked(found: re.Match[str]) -> str:
+        nonlocal count
+        if found[1] not in called[found[1]]:
+            return found[0]
+        whole, parts, last = found[0], [], 0
+        for call in CALL.finditer(whole):
+            if call[1] != found[1] and called.get(call[1]):
+                end = end_of(whole, call.end())
+                parts += [whole[last:end], ' noinline']
+                last, count = end, count + 1
+        return ''.join([*parts, whole[last:]])
+    return FUNCTION.sub(marked, text), count
+
+
+def check_counts(counts: dict[str, int]) -> None:
     """A Trouble where what has to be there once is not."""
     for name, least, most in (('triple', 1, 1), ('layout', 1, 1), ('main', 1, 1), ('heap', 3, 3), ('called', 1, len(CALLED)),
                               ('attributes', 1, None)):
@@ -161,11 +196,13 @@ def check_counts(counts: dict):
                           f'{least} are known')
 
 
-def rewritten(target: str, text: str, heap: str) -> tuple[str, dict]:
+def rewritten(target: str, text: str, heap: str) -> tuple[str, dict[str, int]]:
     """The text for a target with that of the heap's calls, and how often each kind of line was changed."""
     work = Rewriting(target, text)
     found = work.whole()
     check_counts(work.counts)
+    if work.target.is_small:
+        found, work.counts['outlined'] = outlined(found)
     return found + heap, work.counts
 
 

@@ -3,10 +3,10 @@ import os
 import subprocess
 from typing import Optional
 
-from doomview_tools import home, program
+from doomview_tools import installation, program
 from doomview_tools.trouble import Trouble
 
-OBJECT = os.path.join(home.TOP, 'crates', 'doomview', 'out', 'doomview.o')
+OBJECT = os.path.join(installation.TOP, 'crates', 'doomview', 'out', 'doomview.o')
 LIBRARIES = ('libos_c.a', 'liblibc_c.a')  # what the object file calls of C, beside the C library
 
 
@@ -26,7 +26,7 @@ def object_file() -> str:
     """The path of the object file that the build left, no older than the sources."""
     if not os.path.isfile(OBJECT):
         raise Trouble(f'there is no {OBJECT}; build the program first, by ./doomview --build')
-    if os.path.getmtime(OBJECT) < program.newest_source(home.TOP):
+    if os.path.getmtime(OBJECT) < program.newest_source(installation.TOP):
         raise Trouble(f'{OBJECT} is older than the sources; build the program first, by ./doomview --build')
     return OBJECT
 

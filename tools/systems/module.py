@@ -8,8 +8,9 @@ import hashlib
 import os
 import shutil
 import tempfile
+from collections.abc import Callable
 
-from doomview_tools import home
+from doomview_tools import installation
 from doomview_tools.files import write_whole
 from doomview_tools.trouble import Trouble
 
@@ -26,7 +27,7 @@ UNKNOWN = 'this kit is not one that tools/portable knows'
 
 def crates() -> dict[str, list[str]]:
     """The crates of this repository by crates.txt, each with those of them that it names."""
-    with open(os.path.join(home.TOP, 'crates.txt'), encoding='utf-8') as file:
+    with open(os.path.join(installation.TOP, 'crates.txt'), encoding='utf-8') as file:
         lines = [line.partition('#')[0].partition(':') for line in file]
     named = {head.split()[0]: rest.split() for head, _, rest in lines if head.strip()}
     return {name: [below for below in rest if below in named] for name, rest in named.items()}
@@ -36,7 +37,7 @@ def below(name: str) -> list[str]:
     """The crates that one stands on, the lowest first."""
     named, found = crates(), []
 
-    def visit(crate):
+    def visit(crate: str) -> None:
         for other in named[crate]:
             if other not in found:
                 visit(other)
@@ -48,7 +49,7 @@ def below(name: str) -> list[str]:
 
 def library(crate: str) -> str:
     """The folder of a crate's library, which the build made."""
-    folder = os.path.join(home.TOP, 'crates', crate, 'out', 'rlib')
+    folder = os.path.join(installation.TOP, 'crates', crate, 'out', 'rlib')
     if not os.path.isdir(folder):
         raise Trouble(f'there is no {folder}; build the program first, by ./doomview --build')
     return folder
@@ -69,7 +70,7 @@ def toolchain(kit_folder: str, folder: str) -> str:
     return made
 
 
-def build_words(kit_folder: str, made: str, tools: str, more: tuple = ()) -> list[str]:
+def build_words(kit_folder: str, made: str, tools: str, more: tuple[str, ...] = ()) -> list[str]:
     """The words of `rattle build` for the program, as `rattle build --help` has them: it writes the object file `made` by the
     toolchain folder `tools`."""
     words = [f'{kit_folder}/bin/rattle', 'build', '--crate-name', CRATE, 'src/main.rt',
@@ -86,7 +87,7 @@ def build_words(kit_folder: str, made: str, tools: str, more: tuple = ()) -> lis
 def copied_crate(folder: str) -> str:
     """A copy of the program's crate, in which it is built; its folder."""
     crate = os.path.join(folder, CRATE)
-    shutil.copytree(os.path.join(home.TOP, 'crates', CRATE), crate, ignore=shutil.ignore_patterns('doomview*'))
+    shutil.copytree(os.path.join(installation.TOP, 'crates', CRATE), crate, ignore=shutil.ignore_patterns('doomview*'))
     return crate
 
 
@@ -106,9 +107,9 @@ def bytes_of(path: str) -> bytes:
         return file.read()
 
 
-def stored(kind: str, parts: list[bytes], make) -> bytes:
+def stored(kind: str, parts: list[bytes], make: Callable[[], bytes]) -> bytes:
     """What a function makes of some parts; it is kept in out/previews until something else is made of other parts."""
-    folder, key = os.path.join(home.TOP, 'out', STORE), hashlib.sha256(b''.join(hashlib.sha256(part).digest() for part in parts))
+    folder, key = os.path.join(installation.TOP, 'out', STORE), hashlib.sha256(b''.join(hashlib.sha256(part).digest() for part in parts))
     path = os.path.join(folder, f'{kind}-{key.hexdigest()[:32]}')
     if not os.path.isfile(path):
         data = make()

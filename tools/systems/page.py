@@ -3,18 +3,20 @@ tools in Python."""
 import base64
 import os
 import re
+from typing import Any
 
-from doomview_tools import (cells, checks, cli, compare_page, counting, doom, earlier, findings, frames, game_checks, ground, home, jobs, levels,
-                            list_counts, lists, pages, reasons, refusals, tables, traces, wads, walls, ways, what_if)
+from doomview_tools import (cells, checks, cli, compare_page, counting, doom, earlier_run, findings, frames,
+                            game_checks, ground, installation, job_options, jobs, levels, list_counts, map_places,
+                            pages, player_reach, reasons, refusals, tables, traces, wads, walls, what_if)
 from doomview_tools.commands import limits_map
 from doomview_tools.trouble import Trouble
 
 FOLDER = os.path.join(os.path.dirname(os.path.abspath(__file__)), 'page')
 # The parts of both scripts, in the order in which each needs those before it.
-WORKER = ['shared.js', 'wads.js', 'ground.js', 'walls.js', 'ways.js', 'lists.js', 'art.js', 'findings.js', 'checks.js', 'game_checks.js', 'counts.js',
+WORKER = ['shared.js', 'wads.js', 'ground.js', 'walls.js', 'player_reach.js', 'lists.js', 'art.js', 'findings.js', 'checks.js', 'game_checks.js', 'counts.js',
           'cells.js', 'refusals.js', 'stand_ins.js', 'reasons.js', 'what_if.js', 'host.js', 'comparison.js', 'engine.js']
-PAGE = ['shared.js', 'files.js', 'dropped.js', 'crew.js', 'map_display.js', 'units.js', 'layout.js', 'bars.js', 'walking.js', 'whole.js', 'earlier.js', 'views.js', 'port.js',
-        'findings_shown.js', 'earlier_shown.js', 'why_shown.js', 'eye.js', 'count_shown.js', 'saving.js', 'main.js', 'keys.js', 'start.js']
+PAGE = ['shared.js', 'files.js', 'dropped.js', 'crew.js', 'map_display.js', 'units.js', 'layout.js', 'bars.js', 'walking.js', 'whole.js', 'earlier_run.js', 'views.js', 'port.js',
+        'findings_shown.js', 'earlier_run_shown.js', 'why_shown.js', 'eye.js', 'count_shown.js', 'saving.js', 'main.js', 'keys.js', 'start.js']
 MOST_BYTES = 2 << 20
 PACKED = (b'PK', b'\x1f\x8b', b'7z')  # the first letters of a zip, a gzip and a 7z
 MARK = re.compile(r'/\*(WORKER|PAGE|FACTS|BUILT|COMPARE|STYLE)\*/(?:null)?|<!--(ABOUT|FIRST|KEYS)-->')
@@ -28,35 +30,35 @@ ABOUT = ('doomview {version}, made of the proved program: the module from which 
          'its linker, and the engine of this browser. Its frames and counts were compared with those of the proved program.')
 
 
-def facts() -> dict:
+def facts() -> dict[str, Any]:
     """What the scripts have from the tools in Python, by name."""
     found = {name: getattr(module, name) for module, names in (
         (levels, 'UNIT TURN EYE_HEIGHT'), (wads, 'BEHIND_MAP'), (doom, 'GAME LEAF NO_SIDE PLAYER_1 MAP_LUMPS BUILT_LUMPS BLOCKS UPPER_UNPEGGED LOWER_UNPEGGED SKY DESTINATION LIMITS'),
         (ground, 'HEIGHT RADIUS STEP_UP LINTEL SQUARE STEPS'), (cells, 'MOST_PLACES MOST_CUT CUTS MANY FINER APART SMALL'),
-        (counting, 'COUNTS CAPPED RAISED'), (list_counts, 'EDGES'), (ways, 'SPEED THING_RADIUS WANTED'),
-        (walls, 'FLOOR CEILING LIGHT'), (frames, 'WIDTH'), (traces, 'KINDS TEXTURED SHOWN_TEXTURES'), (lists, 'SHOWN_SECTORS'),
+        (counting, 'COUNTS CAPPED RAISED'), (list_counts, 'EDGES'), (player_reach, 'SPEED THING_RADIUS WANTED'),
+        (walls, 'FLOOR CEILING LIGHT'), (frames, 'WIDTH'), (traces, 'KINDS TEXTURED SHOWN_TEXTURES'), (map_places, 'SHOWN_SECTORS'),
         (compare_page, 'MOST_VIEWS'), (checks, 'TALL'), (game_checks, 'LEAST_BLOCKMAP'), (findings, 'GRADES'), (reasons, 'SHOWN_PLACES SHOWN_CHANGES'), (what_if, 'GOALS MOST_DRAWN'), (refusals, 'FIELDS TABLES COLUMNS OF_ROWS OF_COLUMNS MOST_DEPTH NO_MAP')) for name in names.split()}
     found.update({name: sorted(getattr(module, name)) for module, names in (
-        (doom, 'STARTS'), (ground, 'BOSS_TAGS'), (ways, 'TO_THINGS TO_LINES STAIRS DONUT'), (game_checks, 'TAGGED')) for name in names.split()})
+        (doom, 'STARTS'), (ground, 'BOSS_TAGS'), (player_reach, 'TO_THINGS TO_LINES STAIRS DONUT'), (game_checks, 'TAGGED')) for name in names.split()})
     found.update(MAP_TABLES=doom.TABLES, PLACES_OF_PLAYERS=sorted(doom.PLACES), SHOWN_NUMBERS=findings.SHOWN, WORDS=doom.GAME['limits'],
-                 GRADES_COUNTED=findings.COUNTED, CHANGED=what_if.FIELDS, CHANGES_SHOWN=earlier.SHOWN)
+                 GRADES_COUNTED=findings.COUNTED, CHANGED=what_if.FIELDS, CHANGES_SHOWN=earlier_run.SHOWN)
     found.update(FRAME_HEIGHT=frames.HEIGHT, CODES=refusals.codes(),
                  PACKED=[letters.decode('latin-1') for letters in PACKED], STATUS_LIMIT=jobs.LIMIT, SKILLS=doom.EVERY_SKILL,
                  EXTENDED=[letters.decode() for letters in levels.EXTENDED], **chosen())
     return found
 
 
-def chosen() -> dict:
+def chosen() -> dict[str, int]:
     """What limits-map takes where its words say nothing else."""
     parser = cli.parser_of(limits_map)
-    zone = jobs.options()['--zone'].default
+    zone = job_options.options()['--zone'].default
     return {'ZONE': int(zone), 'DIRECTIONS': parser.get_default('directions'), 'WORST_VIEWS': parser.get_default('views')}
 
 
 def text(name: str) -> str:
     """A part of the page: a file of its folder, or one that it shares with the pages of tools."""
     path = os.path.join(FOLDER, name)
-    with open(path if os.path.exists(path) else home.data(name), encoding='utf-8') as file:
+    with open(path if os.path.exists(path) else installation.data(name), encoding='utf-8') as file:
         return file.read()
 
 
@@ -72,7 +74,7 @@ def keys() -> str:
 
 def first() -> str:
     """The picture of the page before a WAD is there."""
-    with open(os.path.join(home.TOP, 'docs', 'first.png'), 'rb') as file:
+    with open(os.path.join(installation.TOP, 'docs', 'first.png'), 'rb') as file:
         return 'data:image/png;base64,' + coded(file.read())
 
 
@@ -82,11 +84,11 @@ def coded(data: bytes) -> str:
 
 def page(program: bytes) -> bytes:
     """The bytes of the page, with the bytes of the program as WebAssembly."""
-    with open(home.data('things.csv'), 'rb') as file:
+    with open(installation.data('things.csv'), 'rb') as file:
         built = {'program': coded(program), 'tables': coded(tables.tables()), 'things': coded(file.read())}
     put = {'WORKER': parts(WORKER), 'PAGE': parts(PAGE), 'FACTS': pages.json_of(facts()), 'BUILT': pages.json_of(built),
            'COMPARE': pages.json_of(pages.SCRIPT.sub(lambda found: text(found[1]), text(compare_page.TEMPLATE))),
-           'STYLE': text('style.css'), 'ABOUT': ABOUT.format(version=home.version()['version']), 'KEYS': keys(), 'FIRST': first()}
+           'STYLE': text('style.css'), 'ABOUT': ABOUT.format(version=installation.version()['version']), 'KEYS': keys(), 'FIRST': first()}
     data = MARK.sub(lambda found: put[found[1] or found[2]], text('doomview.html')).encode()
     if len(data) > MOST_BYTES:
         raise Trouble(f'the page has {len(data)} bytes, and {MOST_BYTES} is the most')

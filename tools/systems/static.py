@@ -53,7 +53,7 @@ def tried(path: str) -> bytes:
     return kit.call(['env', '-i', path, *TRIED], 'the program').encode()
 
 
-def link(words: list[str]):
+def link(words: list[str]) -> None:
     try:
         kit.call(words, 'linking')
     except Trouble as error:

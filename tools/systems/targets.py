@@ -4,7 +4,7 @@ import concurrent.futures
 import os
 import shutil
 import tempfile
-from typing import NamedTuple
+from typing import Any, NamedTuple
 
 from doomview_tools.trouble import Trouble
 
@@ -33,7 +33,7 @@ class Windows(NamedTuple):
 class Workshop:
     """A folder in which targets are made of the module."""
 
-    def __init__(self, folder: str, data: bytes):
+    def __init__(self, folder: str, data: bytes) -> None:
         self.folder, self.kit = folder, kit.folder()
         with open(self.at('module.bc'), 'wb') as file:
             file.write(data)
@@ -44,7 +44,7 @@ class Workshop:
     def at(self, name: str) -> str:
         return os.path.join(self.folder, name)
 
-    def clang(self, *words: str):
+    def clang(self, *words: str) -> None:
         kit.call([os.path.join(self.kit, 'toolchain', 'bin', 'clang'), *words], 'compiling')
 
     def object(self, target: str, words: list[str]) -> str:
@@ -118,7 +118,7 @@ def object_of(name: str, data: bytes, work: Workshop) -> str:
     return path
 
 
-def made(names: list[str]) -> dict:
+def made(names: list[str]) -> dict[str, Any]:
     """What is made for some targets, side by side, by name: `windows` or `wasm64`."""
     if 'windows' in names and not shutil.which(WINDOWS_COMPILER):
         raise Trouble(f'there is no command {WINDOWS_COMPILER} (Debian: mingw-w64)')

@@ -6,7 +6,7 @@ import re
 from made_files import TOP
 
 LITERAL = re.compile(r"b'(.)'|(-?\d[\d_]*)")
-SUM = re.compile(r'[\d\s+*()<>-]+')
+SUM = re.compile(r'[\d\s+*/()<>-]+')
 NAME = re.compile(r'(?:([a-z_]+)::)?\b([A-Z][A-Z0-9_]*)\b')
 
 
@@ -21,13 +21,18 @@ def expression(path, name):
     return found[1].strip() if found else None
 
 
+def own_crate(path):
+    """The crate of a file."""
+    return os.path.relpath(path, os.path.join(TOP, 'crates')).split(os.sep)[0]
+
+
 def imported(path, name):
     """The crate and the name of a constant that a file imports by `use`."""
     for crate, names in re.findall(r'^(?:pub )?use ([a-z_]+)::\{?([^;}]*)\}?;', read(path), re.M):
         for part in re.split(r',\s*', names.strip()):
             source, _, alias = part.partition(' as ')
             if (alias or source) == name:
-                return crate, source
+                return own_crate(path) if crate == 'crate' else crate, source
     raise KeyError(f'{name} is not in {os.path.relpath(path, TOP)}')
 
 
@@ -44,7 +49,7 @@ def value_in(path, name):
     text = re.sub(r'(?<=\d)_(?=\d)', '', text)
     if not SUM.fullmatch(text):
         raise KeyError(f'{name} of {os.path.relpath(path, TOP)} is {text}')
-    return eval(text, {'__builtins__': {}})  # digits and signs alone
+    return eval(text.replace('/', '//'), {'__builtins__': {}})  # digits and signs alone; whole numbers
 
 
 def value(crate, name):

@@ -1,6 +1,6 @@
 """Maps with a mistake each, one for each kind of finding of lint: triples of what is wrong, the map, and more lumps of its PWAD, or
 None for a map over a game without them."""
-from typing import Iterator
+from collections.abc import Iterator
 
 import test_lint_kinds as kinds
 from made_files import name

@@ -6,6 +6,8 @@ from doomview_tools import room
 
 START = 1  # the type of a thing
 NO_SIDE = 0xffff
+NODE, LEAF = struct.Struct('<4h8h2H'), 0x8000
+EVERYWHERE, NOWHERE = (32767, -32768, -32768, 32767), (-32768, -32768, 32767, 32767)  # boxes: top, bottom, left, right
 RECORDS = {'THINGS': '<hhhHH', 'LINEDEFS': '<7H', 'SIDEDEFS': '<hh8s8s8sH', 'SECTORS': '<hh8s8shhh'}
 FIELDS = {'THINGS': 'x y angle type options', 'LINEDEFS': 'start end flags special tag front back',
           'SIDEDEFS': 'x_offset y_offset upper lower middle sector',
@@ -48,6 +50,21 @@ class Map:
         """Changes all lines between two sectors."""
         for number in self.lines(*letters):
             self.change('LINEDEFS', number, **fields)
+
+    def deepen(self, depth):
+        """Puts nodes over the root, each over the one before, until the tree is so deep. In front of each is all of the map; behind
+        it, where no eye is, a copy of the first leaf."""
+        nodes = list(NODE.iter_unpack(self.lumps['NODES']))
+        leaves = self.lumps['SSECTORS']
+
+        def depth_of(child):
+            return 0 if child & LEAF else 1 + max(map(depth_of, nodes[child][-2:]))
+
+        for _ in range(depth - depth_of(len(nodes) - 1)):
+            nodes.append((32000, 0, 0, -256, *EVERYWHERE, *NOWHERE, len(nodes) - 1, LEAF | len(leaves) // 4))
+            leaves += leaves[:4]
+        self.lumps.update(NODES=b''.join(NODE.pack(*node) for node in nodes), SSECTORS=leaves)
+        return self
 
     def wad(self):
         """The bytes of a WAD of the map, with art."""

@@ -1,4 +1,5 @@
-"""What tests of the page share: a page in Chromium with the made room, driven as a user does."""
+"""What tests of the page share: a page in Chromium with the made room, driven as a user does; in Firefox where DOOMVIEW_BROWSER
+is firefox, but for what only DevTools can do."""
 import base64
 import contextlib
 import json
@@ -11,13 +12,14 @@ from unittest import mock
 
 from made_files import COMMAND
 from doomview_tools import paths, program
-from systems import chromium
+from systems import chromium, firefox
 
 PAGE, TESTED = os.environ.get('DOOMVIEW_PAGE', ''), os.environ.get('DOOMVIEW_TESTED', '')
+IS_FIREFOX = os.environ.get('DOOMVIEW_BROWSER') == 'firefox'
+HAS_BROWSER = bool((firefox if IS_FIREFOX else chromium).command())
+FIRST = [] if IS_FIREFOX else ['file://' + os.path.abspath(PAGE)]  # what the page asked for: Firefox tells of no file
 GAMES = [path for path in ('/usr/share/games/doom/freedoom1.wad', '/usr/share/games/doom/freedoom2.wad') if os.path.exists(path)]
 SAID, READY = "find('said').textContent", "document.body.dataset.ready === 'yes'"
-BASE64 = '''(bytes => { let s = ''; for (let i = 0; i < bytes.length; i += 4096) s += String.fromCharCode(...bytes.subarray(i, i + 4096));
-return btoa(s); })'''
 
 
 def run(*words, folder=None, status=0):
@@ -29,9 +31,9 @@ def run(*words, folder=None, status=0):
     return done.stdout
 
 
-@unittest.skipUnless(PAGE and TESTED and chromium.command(), 'there is no page, no program or no Chromium')
+@unittest.skipUnless(PAGE and TESTED and HAS_BROWSER, 'there is no page, no program or no browser')
 class Shown(unittest.TestCase):
-    """A page in Chromium, with the made room."""
+    """A page in a browser, with the made room."""
 
     @classmethod
     def setUpClass(cls):
@@ -45,7 +47,7 @@ class Shown(unittest.TestCase):
         return os.path.join(cls.folder, name)
 
     def setUp(self):
-        self.browser = self.enterContext(chromium.Chromium()) if hasattr(self, 'enterContext') else self.entered()
+        self.browser = self.entered()
         self.browser.show(PAGE)
         self.browser.wait(READY)
         self.drive()
@@ -53,15 +55,28 @@ class Shown(unittest.TestCase):
     def entered(self):
         stack = contextlib.ExitStack()
         self.addCleanup(stack.close)
-        return stack.enter_context(chromium.Chromium())
+        return stack.enter_context(firefox.Firefox() if IS_FIREFOX else chromium.Chromium())
 
     def tearDown(self):
         self.assertEqual(self.browser.errors, [])
         asked = [address for address in self.browser.requests if not address.startswith(('blob:null/', 'data:', 'about:'))]
-        self.assertEqual(asked, ['file://' + os.path.abspath(PAGE)])
+        self.assertEqual(asked, FIRST)
+
+    def shown_once(self):
+        """Forgets the pages that were shown beside the first one."""
+        others = [address for address in self.browser.requests if not address.startswith('file://')]
+        self.browser.requests = others + FIRST
 
     def value(self, code):
         return self.browser.value(code)
+
+    def devtools(self, method, **parameters):
+        """What DevTools do; in Firefox a window gets another size, and a test of all else is left out."""
+        if not IS_FIREFOX:
+            return self.browser.call(method, **parameters)
+        if method != 'Emulation.setDeviceMetricsOverride':
+            self.skipTest(f'Firefox has no {method}')
+        return self.browser.resize(parameters['width'], parameters['height'])
 
     def drive(self):
         """Puts the functions of page/driver.js into the page."""
@@ -88,7 +103,11 @@ class Shown(unittest.TestCase):
         self.browser.wait(f"level && level.map === {name!r} && walker.view && !walker.isBusy || {SAID}")
 
     def frame(self):
-        return base64.b64decode(self.value(f'{BASE64}(walker.view.frame)'))
+        return self.bytes_of('walker.view.frame')
+
+    def bytes_of(self, code):
+        """The bytes that code gives."""
+        return base64.b64decode(self.value(f'driver.base64({code})'))
 
     def go(self, row):
         self.value(f'walker.go({json.dumps(list(row[:4]))}); 0')

@@ -10,15 +10,7 @@ import tempfile
 BROWSER = shutil.which('chromium') or shutil.which('chromium-browser') or shutil.which('google-chrome')
 WORDS = ['--headless', '--no-sandbox', '--disable-gpu', '--window-size=1200,900', '--virtual-time-budget=5000',
          '--dump-dom']
-# What a script on a page may use: it presses keys, counts the colours of a picture, and tells what it found.
-SCRIPT = '''<pre id="tested"></pre><script>
-const hit = (...keys) => keys.forEach(key => dispatchEvent(new KeyboardEvent('keydown', { key })));
-const bytes = it => it.getContext('2d').getImageData(0, 0, it.width, it.height).data.buffer;
-const colours = it => new Set(new Uint32Array(bytes(it))).size;
-const wait = () => new Promise(done => setTimeout(done, 100));
-(async () => { let found; try { found = await (async () => { %s })(); } catch (error) { found = String(error); }
-document.getElementById('tested').textContent = JSON.stringify(found); })();
-</script>'''
+FOLDER = os.path.join(os.path.dirname(os.path.abspath(__file__)), 'page')  # of scripts
 DATA = re.compile(r'^const data = (.*);$', re.M)
 
 
@@ -39,14 +31,20 @@ def rows_of(columns):
     return list(zip(*found))
 
 
-def shown(path, script):
-    """What a script that is run on a page gives back."""
+def script_of(name):
+    """A script of the folder of scripts."""
+    with open(os.path.join(FOLDER, f'{name}.js'), encoding='utf-8') as file:
+        return file.read()
+
+
+def shown(path, name):
+    """What a script of the folder gives back that is run on a page."""
     with open(path, encoding='utf-8') as file:
         page = file.read()
     with tempfile.TemporaryDirectory() as folder:
         tested = os.path.join(folder, 'page.html')
         with open(tested, 'w', encoding='utf-8') as file:
-            file.write(page + SCRIPT % script)
+            file.write(f'{page}<pre id="tested"></pre><script>\n{script_of("shown")}report({script_of(name)});</script>')
         done = subprocess.run([BROWSER, *WORDS, f'--user-data-dir={folder}/user', f'file://{tested}'],
                               stdin=subprocess.DEVNULL, stdout=subprocess.PIPE, stderr=subprocess.DEVNULL, text=True,
                               env={**os.environ, 'HOME': folder})

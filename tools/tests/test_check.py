@@ -23,6 +23,12 @@ def check_module():
     return module
 
 
+def is_python(path):
+    """Whether a file is a script in Python."""
+    with open(path, 'rb') as file:
+        return file.readline() == b'#!/usr/bin/env python3\n'
+
+
 class Sources(unittest.TestCase):
     def setUp(self):
         folder = tempfile.TemporaryDirectory()
@@ -48,6 +54,12 @@ class Sources(unittest.TestCase):
     def test_the_sources_are_there(self):
         for path in self.check.SOURCES:
             self.assertTrue(os.path.exists(os.path.join(TOP, path)), path)
+
+    def test_each_script_is_checked(self):
+        found = [os.path.relpath(os.path.join(folder, name), TOP) for top in ('bench', 'tests', 'tools', 'vectors')
+                 for folder, _, names in os.walk(os.path.join(TOP, top)) for name in names
+                 if '.' not in name and is_python(os.path.join(folder, name))]
+        self.assertEqual(self.check.SCRIPTS, sorted(found))
 
 
 if __name__ == '__main__':

@@ -10,7 +10,7 @@ import time
 import unittest
 
 from made_files import COMMAND, TOOLS, Tools, made_wad
-from doomview_tools import command, jobs
+from doomview_tools import command, job_options, jobs
 
 # Writes its words down; paints bytes and ends with the status that ENDS has.
 PROGRAM = '''#!/bin/sh
@@ -93,7 +93,7 @@ class Help(Command):
         """The page of a job has each of its options with range and default, and no other."""
         for name in jobs.JOBS:
             text = ' '.join(self.runs(name, '--help')[1].decode().split())
-            for option in jobs.options().values():
+            for option in job_options.options().values():
                 self.assertEqual(f' {option.name} {option.value} {option.meaning}' in text, name in option.jobs, name)
                 if name in option.jobs and option.least is not None:
                     self.assertIn(f'{option.least} to {option.greatest}; else {option.default} ', text)

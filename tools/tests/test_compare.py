@@ -334,17 +334,7 @@ class Compare(Tools):
         self.write('names.wad', wad([('PLAYPAL', bytes(range(256)) * 3), ('</A>', b''), lists]))
         words = ['ours.bin', 'port.bin', '--wad', 'names.wad', '--trace', 'trace.bin', '--html', 'page.html']
         self.assertEqual(self.run_tool('compare', *words)[0], 1)
-        found = pages_shown.shown(self.at('page.html'), '''
-            const text = id => document.getElementById(id).textContent, all = [];
-            const buttons = [...document.querySelectorAll('#painters button')];
-            await wait(); all.push(text('head'), text('told'), buttons.map(it => it.textContent));
-            hit('f'); await wait(); all.push(text('told')); hit('n'); await wait(); all.push(text('told'));
-            hit('ArrowLeft'); await wait(); all.push(text('told'));
-            const hidden = () => data.views.map((_, k) => document.getElementById('v' + k).hidden);
-            const pick = k => buttons[k].click(), caption = () => canvases(1)[0].nextSibling.textContent;
-            all.push(canvases(0).map(colours)); pick(0); all.push(hidden());
-            hit('b'); await wait(); all.push(caption()); hit('b'); await wait(); all.push(caption());
-            pick(1); await wait(); all.push(hidden(), text('told')); return all;''')
+        found = pages_shown.shown(self.at('page.html'), 'compare_painters')
         self.assertEqual(found[0], 'ours.bin and port.bin: views 3 same 1 different 2 pixels 3')
         self.assertEqual(found[1], 'view 1 column 1 row 1: ours 6, port 5  DIFFERS; painted by wall STONE, fragment 4')
         self.assertEqual(found[2], ['sprite </A>: 2 in 2 views', 'wall STONE: 1 in 1 view'])
@@ -367,10 +357,7 @@ class Compare(Tools):
             page.add(view, f'view {view}', 'packed spans' if view > 2 else '', pair, [WIDTH * view + view], b'')
         with open(self.at('page.html'), 'wb') as file:
             file.write(page.page('head'))
-        found = pages_shown.shown(self.at('page.html'), '''
-            const button = document.querySelector('#unknown button'), all = [button.textContent, data.views.length];
-            const seen = () => data.views.filter((_, k) => !document.getElementById('v' + k).hidden).map(it => it.view);
-            button.click(); all.push(seen()); button.click(); all.push(seen().length); return all;''')
+        found = pages_shown.shown(self.at('page.html'), 'compare_unknown')
         count = compare_page.MOST_VIEWS
         self.assertEqual(found, ['neither packed spans nor a known departure in 3 views', count, [0, 1, 2], count])
 

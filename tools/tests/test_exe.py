@@ -15,7 +15,7 @@ import unittest
 from unittest import mock
 
 from made_files import COMMAND, pixels_of
-from doomview_tools import command, explanations, jobs, levels, paths, program, refusals, wads
+from doomview_tools import call_words, command, explanations, jobs, levels, paths, program, refusals, wads
 from systems import built_in, check, targets
 
 EXE, TESTED = os.environ.get('DOOMVIEW_EXE', ''), os.environ.get('DOOMVIEW_TESTED', '')
@@ -277,7 +277,7 @@ class Sentences(Exe):
     def of_all(self, code, words):
         """The sentences on all of a map that is refused for a code."""
         with mock.patch.dict(os.environ, DOOMVIEW=TESTED):
-            scene = refusals.Scene(jobs.Words(program.complete(words)))
+            scene = refusals.Scene(call_words.Words(program.complete(words)))
         return list(refusals.all_wrong(scene, code))
 
     def test_usage(self):

@@ -11,7 +11,7 @@ import unittest
 
 import pages_shown
 from made_files import COMMAND, Tools, name, wad
-from doomview_tools import cells, counting, earlier, ground, levels, limits_page, traces, ways
+from doomview_tools import cells, counting, earlier_run, ground, levels, limits_page, player_reach, traces
 
 COARSE = ['--step', '256', '--directions', '4']
 TESTED = os.environ.get('DOOMVIEW_TESTED', '')
@@ -118,7 +118,7 @@ class LimitsMap(Tools):
         self.assertEqual([place(x, y) for x, y in [(256, 256.5), (800, 256.5), (2150, 150.5)]], [0, 2, 3])
         nowhere = [(544, 256.5), (1500, 100.5), (8, 256.5), (256, 600.5), (-9, 9.5)]
         self.assertEqual([place(x, y) for x, y in nowhere], [None] * 5)
-        self.assertEqual(ways.reach(plan), ({0, 1, 2}, {}))
+        self.assertEqual(player_reach.reach(plan), ({0, 1, 2}, {}))
         self.assertEqual(plan.doors(), {1: 124})
         patch = self.write('open.wad', ground.with_ceilings(plan.level, plan.doors()))
         opened = ground.Plan(levels.read([patch], 'MAP01'))
@@ -179,8 +179,7 @@ class LimitsMap(Tools):
         data = pages_shown.data_of(self.at('page.html'))
         self.assertEqual(data['before'], now['before'])
         if pages_shown.BROWSER:
-            found = pages_shown.shown(self.at('page.html'), '''const all = [display.shown.marks.length, find('changes').textContent];
-                hit('b'); all.push(display.shown.marks.length); hit('2', 'b'); all.push(display.shown.marks.length); return all;''')
+            found = pages_shown.shown(self.at('page.html'), 'limits_changes')
             worse = sum(now > (before or 0) for *_, before, now in changes)
             self.assertEqual(found, [len(changes), f'since the earlier run, planes: ▲ worse at {worse}, ▼ better at '
                                      f'{len(changes) - worse}', 0, 0])
@@ -206,7 +205,7 @@ class LimitsMap(Tools):
                 ([(0, 0, 64, 140), (64, 0, 64, 130), (192, 0, 64, 129)], 'worse', [(192, 0, None, 129)]),
                 ([(0, 0, 64, 140), (64, 0, 64, 130), (128, 0, 64, 128)], 'fewer', []),
                 ([(0, 0, 64, 120), (64, 0, 64, 131)], 'worse', [(0, 0, 140, 120), (64, 0, 130, 131)])]:
-            found = earlier.comparison_of({'states': [old]}, {'states': [state(*squares)]}, counting.LIMITS)
+            found = earlier_run.comparison_of({'states': [old]}, {'states': [state(*squares)]}, counting.LIMITS)
             self.assertEqual([tuple(change[2:]) for change in found.changes], changes, squares)
             self.assertEqual((found.lines[0].split(',')[0], found.is_worse), (verdict, verdict == 'worse'), squares)
 
@@ -304,15 +303,16 @@ class LimitsMap(Tools):
         rows = [(1, 1, 4, 7, 99, 0), (1, 1, 4, 7, 98, 0), (1, 1, 5, 7, 99, 0), (4, 2, 5, 3, 0, 0), (2, 1, 0, 8, 1, 0),
                 (2, 1, 3, 8, 1, 0), (3, 2, 1, 2, 1, 0), (5, 1, 6, 9, 1, 0), (0, 0, 0, 0, 0, 0), (6, 1, 1, 9, 1, 0)]
         found = limits_page.names_in(b''.join(traces.RECORD.pack(*row) for row in rows), traces.Names([]))
-        fragments, planes = [['lump 7', 2], ['texture 3', 1]], [['lump 8', 2], ['texture 2', 1]]
-        self.assertEqual(found, {'fragments': [2, 2, fragments], 'planes': [3, 2, planes],
-                                 'sprites': [1, 1, [['lump 9', 1]]]})
+        fragments, planes = [('lump 7', 2), ('texture 3', 1)], [('lump 8', 2), ('texture 2', 1)]
+        self.assertEqual(found, {'fragments': (2, 2, fragments), 'planes': (3, 2, planes),
+                                 'sprites': (1, 1, [('lump 9', 1)])})
 
     def test_size(self):
         """A page of as many places and views as there can be is no larger than 3 MB, and the worst have pictures."""
         plan = ground.Plan(levels.read([self.hall], 'MAP01'))
         options = types.SimpleNamespace(limits=counting.LIMITS, all=True, step=8, directions=8, views=20)
-        states = [limits_page.State(label, cells.Grid(ground.Ground(plan), Made(), Made(), ways.reach(plan), options), Made())
+        reach = player_reach.reach(plan)
+        states = [limits_page.State(label, cells.Grid(ground.Ground(plan), Made(), Made(), reach, options), Made())
                   for label in ('shut', 'open')]
         self.assertGreater(min(len(state.grid.cells) for state in states), 9000)
         made = limits_page.limits_page(plan, [self.hall], states, bytes(768), options, {1: 124}, '')
@@ -339,27 +339,7 @@ class LimitsMap(Tools):
     def test_shown(self):
         """The picture is not empty, and keys work."""
         self.looked('page.html')
-        found = pages_shown.shown(self.at('page.html'), '''
-            const text = id => document.getElementById(id).textContent;
-            const all = [colours(canvas), text('which'), text('row'), display.scale];
-            hit('2'); all.push(text('which')); hit('d'); all.push(state); hit('1', 'n'); all.push(text('row'));
-            hit('ArrowRight'); all.push(text('told')); hit('+'); all.push(display.scale); hit('0'); all.push(display.scale);
-            await wait(); all.push(document.getElementById('picture').naturalWidth);
-            hit('n'); all.push(text('seen'));
-            const overs = now().places.filter(place => isOver('planes', number(place, 0)) && display.square(place)[2] > 2);
-            const isBlack = place => {
-                const [x, y, size] = display.square(place), k = devicePixelRatio;
-                const colour = display.pen.getImageData((x + size * .15) * k, (y + size * .5) * k, 1, 1).data;
-                return colour[0] + colour[1] + colour[2] < 99;
-            };
-            all.push(overs.length, overs.filter(isBlack).length, now().places.filter(place => place.isCut).length);
-            all.push(now().places.filter(place => display.placeAt(place.x, place.y) === place).length);
-            const far = now().places.find(place => now().views.every(it => it.row.join() !== rowOf(place, 0).join()));
-            look(far); all.push(text('row'), rowOf(far, 0).join(), text('shown'), find('plain'));
-            const before = colours(canvas); hit('m');
-            const near = display.marksNear(...display.at(marks[0].x, marks[0].y)); tell(null, near);
-            all.push(marks.length, near.includes(marks[0]), text('told'), text('marks'));
-            all.push([1, 2, 4, 9].map(MapDisplay.core), MapDisplay.shade(1)); return all;''')
+        found = pages_shown.shown(self.at('page.html'), 'limits_map')
         data = pages_shown.data_of(self.at('page.html'))
         rows = [','.join(map(str, view['row'])) for view in data['states'][1]['views']]
         self.assertGreater(found[0], 20)

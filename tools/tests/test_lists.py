@@ -7,7 +7,7 @@ import unittest
 import pages_shown
 from made_files import Tools, name, wad
 from test_compare import painted, texture_of_patches, traced
-from doomview_tools import levels, lists, traces
+from doomview_tools import levels, list_files, map_places, traces
 from doomview_tools.trouble import Trouble
 
 TESTED = os.environ.get('DOOMVIEW_TESTED', '')
@@ -78,18 +78,18 @@ class Lists(Tools):
 
     def test_read(self):
         """The items of each view by kind and number."""
-        found = lists.ListFile(self.at('list.txt'))
+        found = list_files.ListFile(self.at('list.txt'))
         view = found.view(0)
         self.assertEqual(found.count, 3)
-        self.assertEqual(view.fragments[1], lists.Fragment(1, 100, 199))
-        self.assertEqual(view.planes[2:4], [lists.Plane(0, None, 0, 'leaf', 1, 9),
-                                            lists.Plane(0, 0, 160, 'fragment', 2, 20)])
-        self.assertEqual(view.sprites, [lists.Sprite(1, 1, -4, 7)])
-        self.assertEqual(view.sums, lists.Sums(3, 3, 5, 12, 1, 1))
-        self.assertEqual(found.view(1), lists.View([], [], [], None, ('planes', 129)))
+        self.assertEqual(view.fragments[1], list_files.Fragment(1, 100, 199))
+        self.assertEqual(view.planes[2:4], [list_files.Plane(0, None, 0, 'leaf', 1, 9),
+                                            list_files.Plane(0, 0, 160, 'fragment', 2, 20)])
+        self.assertEqual(view.sprites, [list_files.Sprite(1, 1, -4, 7)])
+        self.assertEqual(view.sums, list_files.Sums(3, 3, 5, 12, 1, 1))
+        self.assertEqual(found.view(1), list_files.View([], [], [], None, ('planes', 129)))
         self.assertEqual(found.view(2).sums.openings, 0)
         self.write('none.txt', b'')
-        self.assertEqual(lists.ListFile(self.at('none.txt')).count, 0)
+        self.assertEqual(list_files.ListFile(self.at('none.txt')).count, 0)
 
     def test_wrong_lines(self):
         """A line that is wrong is named by its number."""
@@ -106,7 +106,7 @@ class Lists(Tools):
                 (4, 'view 0 has items, and passes a limit', lines[:3] + ['view 0 over planes 129\n'])]:
             self.write('bad.txt', ''.join(text).encode())
             with self.assertRaises(Trouble) as found:
-                lists.ListFile(self.at('bad.txt'))
+                list_files.ListFile(self.at('bad.txt'))
             self.assertIn(f'bad.txt, line {number}: ', str(found.exception))
             self.assertIn(part, str(found.exception))
 
@@ -163,12 +163,7 @@ class Lists(Tools):
         plain[1] = plain[1].partition(';')[0]
         self.assertEqual(self.run_tool(*words)[1].decode().splitlines(), plain)
         if pages_shown.BROWSER:
-            found = pages_shown.shown(self.at('page.html'), '''
-                const all = [], buttons = id => [...document.getElementById(id).children];
-                await wait(); all.push(document.getElementById('told').textContent);
-                all.push(buttons('painters').length, buttons('places').map(it => it.textContent));
-                buttons('places')[0].click(); await wait();
-                all.push(picked, document.getElementById('v0').hidden); return all;''')
+            found = pages_shown.shown(self.at('page.html'), 'compare_places')
             self.assertEqual(found[0], 'view 0 column 0 row 0: ours 6, port 5  DIFFERS; painted by wall P2, fragment 1, of LOW, '
                          'WALL, line 1, front side, middle texture WALL, sector 0, light 160')
             self.assertEqual(found[1], 3)
@@ -177,19 +172,20 @@ class Lists(Tools):
 
     def test_light(self):
         """The light of a plane is in the list; that of a wall and of a thing is that of its sector."""
-        view = lists.ListFile(self.at('list.txt')).view(0)
-        places = lists.Places(levels.read([self.at('level.wad')], 'MAP01'), traces.Names([self.at('level.wad')]), 'list.txt')
+        view = list_files.ListFile(self.at('list.txt')).view(0)
+        wad = self.at('level.wad')
+        places = map_places.Places(levels.read([wad], 'MAP01'), traces.Names([wad]), 'list.txt')
         places.level.sectors[:] = [sector._replace(light=light) for sector, light in zip(places.level.sectors, (10, 20, 30))]
-        for kind, number, light in ((lists.WALL, 0, 10), (lists.MIDDLE, 0, 10), (lists.PLANE, 1, 160), (lists.SPRITE, 0, 10),
-                                    (lists.SKY_PLANE, 2, None), (6, 1, None)):
+        for kind, number, light in ((traces.WALL, 0, 10), (traces.MIDDLE, 0, 10), (traces.PLANE, 1, 160), (traces.SPRITE, 0, 10),
+                                    (traces.SKY, 2, None), (6, 1, None)):
             self.assertEqual(places.light(view, kind, number), light, kind)
 
     def test_narrow(self):
         """Sprites of few columns, but for those that an edge of the screen may cut."""
         columns = [(5, 5), (5, 6), (0, 0), (-4, 0), (319, 319), (318, 318), (1, 1), (7, 6)]
-        view = lists.View([], [], [lists.Sprite(0, LAMP, *both) for both in columns], None, None)
+        view = list_files.View([], [], [list_files.Sprite(0, LAMP, *both) for both in columns], None, None)
         for least, found in ((1, set()), (2, {0, 5, 6}), (3, {0, 1, 5, 6})):
-            self.assertEqual(lists.narrow(view, least), found)
+            self.assertEqual(list_files.narrow(view, least), found)
 
     def test_least_width(self):
         """Pixels of sprites that have too few columns in the list do not count; the line on the pixels says so."""
@@ -349,7 +345,7 @@ class Program(Tools):
             self.assertEqual(done, (0, b'', ''))
         files = [self.at('room.wad')]
         names = traces.Names(files)
-        placing = lists.Placing(self.at('list.txt'), 5, files, None, names, 'trace.bin')
+        placing = map_places.Placing(self.at('list.txt'), 5, files, None, names, 'trace.bin')
         with open(self.at('trace.bin'), 'rb') as file:
             for view in range(placing.list.count):
                 records = file.read(traces.VIEW_SIZE)

@@ -2,7 +2,6 @@
 the tools say. tools/portable --check makes a page and runs these tests; a page that is made may be tried alone so:
 
     DOOMVIEW_PAGE=out/doomview.html DOOMVIEW_TESTED=out/doomview python3 tools/tests/test_page.py"""
-import base64
 import hashlib
 import json
 import os
@@ -13,8 +12,10 @@ import unittest
 
 import pages_shown
 from made_files import COMMAND, TOP
-from page_driven import BASE64, GAMES, PAGE, READY, SAID, TESTED, Shown, run
-from doomview_tools import counting, explanations, levels, list_counts, lists, paths, png, traces, wads, walls
+from made_maps import Map
+from page_driven import GAMES, PAGE, READY, SAID, TESTED, Shown, run
+from doomview_tools import (counting, explanations, levels, list_counts, list_files, map_places, paths, png, refusals,
+                            traces, wads, walls)
 from systems import check
 
 COUNTED = [('freedoom2.wad', name) for name in ('MAP01', 'MAP02', 'MAP07')] + [('freedoom1.wad', name) for name in ('E1M1', 'E1M6')]
@@ -23,14 +24,8 @@ RAISED = ['--planes', '1024', '--openings', '245760']
 MOST = {'planes': 1024, 'openings': 245760, 'fragments': 256, 'sprites': 128}  # that `limits` counts then
 # Refusals for the WADs alone, whatever the thing table has.
 OF_WADS = r'doomview: refused (4..|5..|6..|7..|90[135])( |$)'
-# Gives the worker that reads levels another thing table.
-TAKE_THINGS = '''(async () => crew.first('setUp', { module: await WebAssembly.compile(bytesOf(BUILT.program)),
-tables: bytesOf(BUILT.tables), things: new TextEncoder().encode(%s) }))()'''
 DRAWN = (901, 903)  # refusals of missing textures and flats, for which the page has stand-ins
 NO_WADS = (401, 402, 403)  # refusals of a file that is no whole WAD, which the page says when it is chosen
-# Drops a path, and as its frames the view that is shown.
-DROP = '''(() => { const dataTransfer = new DataTransfer(); dataTransfer.items.add(new File([%s], 'own.csv'));
-dataTransfer.items.add(new File([walker.view.frame], 'own.bin')); dispatchEvent(new DragEvent('drop', { dataTransfer })); })()'''
 KEYS = {'ArrowUp': 38, 'ArrowLeft': 37, 'ArrowRight': 39, 'ArrowDown': 40}
 
 
@@ -95,7 +90,7 @@ class Views(Shown):
     def test_picture(self):
         """The canvas has the colours of the frame."""
         self.take(self.room)
-        pixels = base64.b64decode(self.value(f"{BASE64}(find('picture').getContext('2d').getImageData(0, 0, 320, 200).data)"))
+        pixels = self.bytes_of("driver.pixels('picture')")
         drawn = self.native('render', self.room, 'MAP01', [paths.Row(*self.value('walker.view.row'))], '--format', 'ppm')
         self.assertEqual(b''.join(pixels[i:i + 3] for i in range(0, len(pixels), 4)), drawn[15:])
 
@@ -110,8 +105,8 @@ class Views(Shown):
             for path, job in ((trace, 'trace'), (found, 'list')):
                 with open(path, 'wb') as file:
                     file.write(self.native(job, wad, name, [row]))
-            names, view = traces.Names([wad]), lists.ListFile(found).view(0)
-            places = lists.Places(levels.read([wad], name), names, found)
+            names, view = traces.Names([wad]), list_files.ListFile(found).view(0)
+            places = map_places.Places(levels.read([wad], name), names, found)
             for _ in range(40):
                 x, y = chance.randrange(320), chance.randrange(200)
                 record = traces.record_at(trace, 0, x, y)
@@ -173,7 +168,7 @@ class Views(Shown):
         self.browser.choose('#portFrames', [self.at(name) for name in names])
         self.value("find('compare').click(); 0")
         self.browser.wait("find('compared').textContent.startsWith('shot7.png: the colour 1,2,3 at row 0 column 0 is in no entry')")
-        self.value(DROP % json.dumps(paths.text([paths.Row(*self.value('walker.view.row'))])))
+        self.value(f"driver.dropPath({json.dumps(paths.text([paths.Row(*self.value('walker.view.row'))]))})")
         self.browser.wait("find('compared').textContent === 'doomview and own.bin: views 1 same 1 different 0 pixels 0'")
 
     def test_open(self):
@@ -206,6 +201,48 @@ class Maps(Shown):
                                   stdout=subprocess.PIPE, env={**os.environ, 'DOOMVIEW': TESTED})
             native, here = json.loads(done.stdout), self.value('whole.found.numbers')
             self.assertEqual({**here, 'wad': wad}, native, name)
+
+
+class Deep(Shown):
+    """Nodes one over the other, as deep as there may be: the program calls itself as often."""
+
+    def test_deep(self):
+        """Such a map is drawn, walked through and counted as the program does it."""
+        wad = self.write('deep.wad', Map('....', '.##.', '....').deepen(refusals.MOST_DEPTH).wad())
+        self.take(wad)
+        for key in (None, 'ArrowUp', 'ArrowLeft', 'w', 'd'):
+            if key:
+                self.browser.press(key, KEYS.get(key, 0))
+                self.browser.wait('!walker.isBusy && !walker.held.size')
+            row = paths.Row(*self.value('walker.view.row'))
+            self.assertEqual(self.frame(), self.native('render', wad, 'MAP01', [row], *RAISED), key)
+        self.value("find('everywhere').checked = true; find('step').value = '64'; find('start').click(); 0")
+        self.browser.wait("whole.found && !find('start').hidden && !walker.isBusy")
+        native = json.loads(run('limits-map', wad, 'MAP01', '--all', '--json', '--step', '64'))
+        self.assertEqual({**self.value('whole.found.numbers'), 'wad': wad}, native)
+        self.assertEqual(self.value(SAID), '')
+
+    def test_deeper(self):
+        """One node more is refused, with the sentence of explain."""
+        wad = self.write('deeper.wad', Map('....', '.##.', '....').deepen(refusals.MOST_DEPTH + 1).wad())
+        self.browser.choose('#files', [wad])
+        self.browser.wait(SAID)
+        self.assertIn('MAP01: the nodes are 1,025 deep, and 1,024 is the most', self.value(SAID))
+
+    def test_no_stack(self):
+        """A run that the engine ends for want of stack is told, and so is one for which it has no memory."""
+        with open(PAGE, encoding='utf-8') as file:
+            text = file.read()
+        for call, told in (('(function all() { return all() + run(); })()', 'the nodes of this map are deeper than this browser can follow ('),
+                           ('new ArrayBuffer(2 ** 53)', 'the browser gave no more memory (')):
+            with open(self.at('short.html'), 'w', encoding='utf-8') as file:
+                file.write(text.replace('status: run()', f'status: {call}'))
+            self.browser.show(self.at('short.html'))
+            self.browser.wait(READY)
+            self.browser.choose('#files', [self.room])
+            self.browser.wait(SAID)
+            self.assertIn(f'MAP01: {told}', self.value(SAID))
+        self.shown_once()
 
 
 class Counts(Shown):
@@ -260,7 +297,7 @@ class Wrong(Shown):
         os.chdir(self.folder)
         self.addCleanup(os.chdir, TOP)
         with open(self.at('things.csv'), encoding='utf-8') as file:
-            self.value(TAKE_THINGS % json.dumps(file.read()))
+            self.value(f'driver.takeThings({json.dumps(file.read())})')
         for case in chosen:
             words = explanations.Words(case.arguments())
             sentences = list(explanations.explain(case.expected.line, case.arguments()))
@@ -314,9 +351,7 @@ class Wrong(Shown):
     def test_memory(self):
         """Where the browser gives no memory the page says so, and goes on once there is some."""
         self.take(self.room)
-        self.value('''window.held = Crew.prototype.call; Crew.prototype.call = function (worker, name, words) {
-            return name === 'frame' ? Promise.reject(new Wrong('the browser gave no more memory (test); close other pages and try again')) :
-            held.call(this, worker, name, words); }; walker.again(); 0''')
+        self.value('driver.takeMemory()')
         self.browser.wait(f"{SAID}.includes('no more memory')")
         self.value('Crew.prototype.call = held; walker.again(); 0')
         self.browser.wait('!walker.isBusy')
@@ -330,21 +365,20 @@ class Wrong(Shown):
         self.browser.show(self.at('old.html'))
         self.browser.wait(SAID)
         self.assertIn('no WebAssembly memory of 64 bits', self.value(SAID))
-        self.browser.requests.remove('file://' + os.path.abspath(self.at('old.html')))
+        self.shown_once()
 
 
 class Saved(Shown):
     def test_saved(self):
         """What is saved: the kept views as a path, the picture, a small WAD that draws the same, the numbers."""
         self.take(self.room)
-        saved = '''(() => { window.saved = {}; save = (name, data) => { saved[name] = data; }; })()'''
-        self.value(saved)
+        self.value('driver.catchSaved()')
         self.browser.press('k')
         self.value("['path', 'trim', 'png'].forEach(id => find(id).click()); 0")
         self.browser.wait("Object.keys(saved).length === 3")
         row = self.value('walker.view.row')
         self.assertEqual(self.value("saved['room-map01-views-doors-shut.csv']"), paths.text([paths.Row(*row)]))
-        small = base64.b64decode(self.value(f"{BASE64}(saved['room-map01-small.wad'])"))
+        small = self.bytes_of("saved['room-map01-small.wad']")
         with open(self.at('small.wad'), 'wb') as file:
             file.write(small)
         self.assertEqual(small, self.native('trim', self.room, 'MAP01', []))
@@ -354,14 +388,14 @@ class Saved(Shown):
 
     def test_touch(self):
         """Two fingers bring the map nearer, and what is below them stays there; one finger moves it, and a tap stands there."""
-        self.browser.call('Emulation.setTouchEmulationEnabled', enabled=True, maxTouchPoints=2)
+        self.devtools('Emulation.setTouchEmulationEnabled', enabled=True, maxTouchPoints=2)
         self.take(self.room)
         left, top = self.value("(({ left, top }) => [left, top])(find('map').getBoundingClientRect())")
         scale, before = self.value('display.scale'), self.value('[display.from(100, 150), display.from(200, 150)]')
         row = self.value('walker.view.row')
 
         def touch(kind, *points):
-            self.browser.call('Input.dispatchTouchEvent', type=kind, touchPoints=[
+            self.devtools('Input.dispatchTouchEvent', type=kind, touchPoints=[
                 {'x': left + x, 'y': top + y, 'id': number} for number, (x, y) in enumerate(points)])
 
         touch('touchStart', (100, 150))
@@ -388,15 +422,15 @@ class Saved(Shown):
     def test_narrow(self):
         """At 700 pixels nothing is wider than the page, and each control can be reached by the keyboard."""
         for width in (700, 390):
-            self.browser.call('Emulation.setDeviceMetricsOverride', width=width, height=900, deviceScaleFactor=1, mobile=width < 500)
+            self.devtools('Emulation.setDeviceMetricsOverride', width=width, height=900, deviceScaleFactor=1, mobile=width < 500)
             self.browser.show(PAGE)
             self.browser.wait(READY)
             self.take(self.room)
             self.assertLessEqual(self.value('document.documentElement.scrollWidth'), width)
-        named = self.value('''[...document.querySelectorAll('button, select, input, canvas, iframe')].filter(it => it.offsetParent)
-            .filter(it => !(it.textContent.trim() || it.ariaLabel || it.getAttribute('aria-label') || it.title || it.closest('label'))).map(it => it.id)''')
+        self.drive()
+        named = self.value('driver.unnamed(true)')
         self.assertEqual(named, [])
-        self.browser.requests = ['file://' + os.path.abspath(PAGE)]
+        self.shown_once()
 
 
 if __name__ == '__main__':

@@ -29,7 +29,7 @@ class Dropping(Shown):
         """Drops files and folders on the page, as a user does."""
         data = {'items': [], 'files': [os.path.abspath(path) for path in files], 'dragOperationsMask': 1}
         for kind in ('dragEnter', 'dragOver', 'drop'):
-            self.browser.call('Input.dispatchDragEvent', type=kind, x=400, y=300, data=data)
+            self.devtools('Input.dispatchDragEvent', type=kind, x=400, y=300, data=data)
 
     def settled(self):
         self.value('driver.settled()')
@@ -180,8 +180,7 @@ class StandIns(Dropping):
         self.take(GAMES[-1], self.write('mine.wad', faulty_maps.pwad(made, [])))
         for part in ('MAP01 of mine.wad names 2 textures (NOBRICK, NOWALL) and 2 flats (NOFLAT, NOSKY)', 'Squares are drawn in their place'):
             self.assertIn(part, self.said())
-        self.assertGreater(self.value("(data => { let pink = 0; for (let i = 0; i < data.length; i += 4) pink += data[i] > 90 && data[i + 2] > 90 && data[i + 1] < 30; return pink; })"
-                                      "(find('picture').getContext('2d').getImageData(0, 0, 320, 200).data)"), 2000)
+        self.assertGreater(self.value('driver.pinkPixels()'), 2000)
         self.browser.wait('findings.found')
         told = self.value('findings.found.map(one => one.told)')
         for name_ in ('NOWALL', 'NOBRICK', 'NOFLAT', 'NOSKY'):

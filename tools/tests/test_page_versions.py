@@ -1,5 +1,4 @@
 """Tests what the page keeps and saves: the count of a map before, places in map units, paths, and the names of files with the doors."""
-import base64
 import json
 import os
 import struct
@@ -8,8 +7,8 @@ import unittest
 
 from made_files import COMMAND
 from made_maps import Map
-from page_driven import BASE64, GAMES, SAID, TESTED, Shown
-from doomview_tools import earlier, levels, paths, wads
+from page_driven import GAMES, SAID, TESTED, Shown
+from doomview_tools import earlier_run, levels, paths, wads
 
 STEP = '256'
 
@@ -32,7 +31,7 @@ class Versions(Shown):
         return json.loads(done.stdout)
 
     def saved(self, name):
-        return base64.b64decode(self.value(f'{BASE64}(saved[{name!r}])'))
+        return self.bytes_of(f'saved[{name!r}]')
 
     @unittest.skipUnless(GAMES, 'Freedoom is not installed')
     def test_before(self):
@@ -60,7 +59,7 @@ class Versions(Shown):
         marks = self.value('earlier.marks().map(mark => mark.told)')
         self.assertEqual(len(marks), sum(change['doors'] == 'shut' and change['count'] == 'planes' for change in here['changes']))
         self.assertIn('worse', {mark.split(',')[0] for mark in marks})
-        self.assertEqual(earlier.SHOWN, 4)
+        self.assertEqual(earlier_run.SHOWN, 4)
 
     @unittest.skipUnless(GAMES, 'Freedoom is not installed')
     def test_dropped_count(self):

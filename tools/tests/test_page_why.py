@@ -8,7 +8,7 @@ import unittest
 
 from made_files import COMMAND
 from page_driven import GAMES, TESTED, Shown
-from doomview_tools import levels, lists, paths, traces
+from doomview_tools import levels, list_files, map_places, paths, traces
 
 TABLES = {'planes': 'planes', 'splits': 'splits', 'fragments': 'fragments', 'sprites': 'sprites', 'solid range of line': 'solids', 'saves': 'savings'}
 VIEWS = [('MAP01', '25165824,-81788928,-3604480,1073741824'), ('MAP02', '57671680,7372800,7405568,2684354560'),
@@ -75,17 +75,17 @@ class Why(Shown):
         for path, job in ((trace, 'trace'), (listed, 'list')):
             with open(path, 'wb') as file:
                 file.write(super().native(job, self.room, 'MAP01', [row]))
-        view, places = lists.ListFile(listed).view(0), lists.Places(levels.read([self.room], 'MAP01'), traces.Names([self.room]), listed)
+        view, places = list_files.ListFile(listed).view(0), map_places.Places(levels.read([self.room], 'MAP01'), traces.Names([self.room]), listed)
         painted = collections.Counter()
         for y in range(200):
             for x in range(320):
                 record = traces.record_at(trace, 0, x, y)
                 if record[0] in (traces.PLANE, traces.SKY):
                     painted[places.group(view, view.planes[record[2]]).key] += 1
-        here = self.value("Object.values([...why.found.pixels.planes.rows].reduce((sums, row) => { if (row >= 0) sums[row] = (sums[row] || 0) + 1; return sums; }, {}))")
+        here = self.value('driver.planePixels()')
         self.assertEqual(sorted(here), sorted(painted.values()))
         self.value("document.querySelector('#why table tr.link').click(); 0")
-        shown = self.value("[...find('colours').getContext('2d').getImageData(0, 0, 320, 200).data].filter((part, i) => i % 4 === 3 && part).length")
+        shown = self.value("[...driver.pixels('colours')].filter((part, i) => i % 4 === 3 && part).length")
         self.assertIn(shown, here)
         self.assertEqual(shown, self.value("why.found.pixels.planes.rows.filter(row => row === 0).length"))
         self.value("[...document.querySelectorAll('#why button')].at(-1).click(); 0")

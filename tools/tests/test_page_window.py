@@ -12,7 +12,7 @@ KEYS = {'w': 87, 's': 83, 'a': 65, 'd': 68}
 
 class Window(Shown):
     def size(self, width, height, is_mobile=False):
-        self.browser.call('Emulation.setDeviceMetricsOverride', width=width, height=height, deviceScaleFactor=1, mobile=is_mobile)
+        self.devtools('Emulation.setDeviceMetricsOverride', width=width, height=height, deviceScaleFactor=1, mobile=is_mobile)
         self.value('new Promise(done => requestAnimationFrame(() => requestAnimationFrame(() => done(0))))')
 
     def test_sizes(self):
@@ -37,7 +37,7 @@ class Window(Shown):
                     self.assertLess(boxes['picture']['top'] + boxes['picture']['height'], boxes['map']['top'])
                     self.assertGreater(boxes['map']['height'], 110)
                 self.assertAlmostEqual(boxes['picture']['width'] / boxes['picture']['height'], 4 / 3, delta=.01)
-        self.browser.requests = ['file://' + PAGE]
+        self.shown_once()
 
     def test_split(self):
         """The border of map and picture is moved by mouse and by keys, and the map takes its room."""
@@ -47,7 +47,7 @@ class Window(Shown):
         border = self.value('driver.box("split")')
         at = (border['left'] + 3, border['top'] + 200)
         self.browser.mouse('mousePressed', *at)
-        self.browser.call('Input.dispatchMouseEvent', type='mouseMoved', x=at[0] - 200, y=at[1], button='left', buttons=1)
+        self.devtools('Input.dispatchMouseEvent', type='mouseMoved', x=at[0] - 200, y=at[1], button='left', buttons=1)
         self.browser.mouse('mouseReleased', at[0] - 200, at[1])
         self.browser.wait(f'driver.box("map").width < {before - 150}')
         self.browser.wait('display.width === find("map").clientWidth')
@@ -72,7 +72,7 @@ class Window(Shown):
         self.take(self.room)
         brightness = "(([r, g, b]) => Number(r) + Number(g) + Number(b))(getComputedStyle(document.body).backgroundColor.match(/\\d+/g))"
         self.assertGreater(self.value(brightness), 600)
-        self.browser.call('Emulation.setEmulatedMedia', features=[{'name': 'prefers-color-scheme', 'value': 'dark'}])
+        self.devtools('Emulation.setEmulatedMedia', features=[{'name': 'prefers-color-scheme', 'value': 'dark'}])
         self.browser.wait("display.theme === 'dark'")
         self.assertLess(self.value(brightness), 150)
 
@@ -136,8 +136,7 @@ class Keys(Shown):
         self.value("driver.counted('256')")
         for panel in ('', *self.value("[...document.querySelectorAll('#tabs button')].map(it => it.dataset.panel)")):
             self.value(f"{panel!r} && showPanel({panel!r}, true); 0")
-            named = self.value("[...document.querySelectorAll('button, select, input, canvas, iframe')].filter(it => it.offsetParent && !it.ariaHidden)"
-                               ".filter(it => !(it.textContent.trim() || it.ariaLabel || it.getAttribute('aria-label') || it.title || it.closest('label'))).map(it => it.id)")
+            named = self.value('driver.unnamed()')
             self.assertEqual(named, [])
 
 

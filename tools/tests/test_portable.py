@@ -1,5 +1,9 @@
 """Tests what makes doomview for other systems: the text of a module for another target, kits that are not known, the parts of
 the page. What is made is tried by tools/portable --check, which runs the tests of test_page too."""
+import contextlib
+import importlib.machinery
+import importlib.util
+import io
 import os
 import re
 import shutil
@@ -8,7 +12,7 @@ import unittest
 from unittest import mock
 
 from made_files import TOOLS, TOP, Tools
-from doomview_tools import command, home, jobs, levels, refusals, room, tables, wads
+from doomview_tools import command, installation, job_options, jobs, levels, refusals, room, tables, wads
 from doomview_tools.trouble import Trouble
 from systems import built_in, check, ir, kit, module, page, static, targets
 
@@ -133,7 +137,7 @@ class Kit(Tools):
         self.write('top/crates/doomview/out/doomview.o', b'compiled\n')
         self.put(os.environ, 'PATH', self.at('path') + os.pathsep + os.environ['PATH'])
         self.put(vars(kit), 'OBJECT', self.at('top/crates/doomview/out/doomview.o'))
-        self.put(vars(kit.home), 'TOP', self.at('top'))
+        self.put(vars(kit.installation), 'TOP', self.at('top'))
 
     def put(self, place, name, value):
         before = place[name]
@@ -234,12 +238,79 @@ class Gate(Tools):
         """A preview that differs fails the gate, one that could not be tried does not; what failed before is told at once."""
         for name in ('wine', 'chromium', 'x86_64-w64-mingw32-gcc'):
             self.stand_in(f'path/{name}', '#!/bin/sh\n')
-        all_three = ['rt ci', CHECKED, 'portable --check']
+        all_three = ['rt ci', CHECKED, 'portable --check --seconds 600']
         for proved, checked, tried, status, called in [
                 (0, 0, 0, 0, all_three), (0, 0, 1, 1, all_three), (0, 0, 2, 0, all_three), (0, 0, 124, 0, all_three),
                 (0, 1, 0, 1, all_three[:2]), (1, 0, 0, 1, all_three[:1])]:
             self.answers(proved, checked, tried)
             self.assertEqual(self.run_gate(), (status, called))
+
+
+class Checked(Tools):
+    """tools/portable --check with stand-ins for what is made and for what tries it."""
+
+    def setUp(self):
+        super().setUp()
+        loader = importlib.machinery.SourceFileLoader('portable', os.path.join(TOOLS, 'portable'))
+        self.portable = importlib.util.module_from_spec(importlib.util.spec_from_loader('portable', loader))
+        loader.exec_module(self.portable)
+        self.begun, self.statuses = [], {}
+
+    def note(self, name):
+        self.begun.append(name)
+        status = self.statuses.get(name, 0)
+        if isinstance(status, Exception):
+            raise status
+        return status
+
+    def check(self, seconds, there=('chromium', 'wine', 'firefox')):
+        """The status, and what is said."""
+        made = {'windows': mock.Mock(command=b'exe', plain=b'plain'), 'wasm64': b'wasm'}
+        stand_ins = [mock.patch.object(check, 'wine', lambda: 'wine' * ('wine' in there)),
+                     mock.patch.object(self.portable.chromium, 'command', lambda: 'chromium' if 'chromium' in there else None),
+                     mock.patch.object(self.portable.firefox, 'command', lambda: 'firefox' if 'firefox' in there else None),
+                     mock.patch.object(targets, 'made', lambda names: made), mock.patch.object(page, 'page', lambda data: data),
+                     mock.patch.object(self.portable, 'tried', lambda what, *_: self.note(what)),
+                     mock.patch.object(check, 'status_of_tests', lambda test, part, path, until, browser: self.note(
+                         f'{test} {part} {browser}'.rstrip())),
+                     mock.patch.object(self.portable.system, 'processors', lambda: 1)]
+        said = io.StringIO()
+        with contextlib.ExitStack() as stack, contextlib.redirect_stdout(said):
+            for stand_in in stand_ins:
+                stack.enter_context(stand_in)
+            status = self.portable.checked(seconds)
+        return status, said.getvalue()
+
+    def test_order(self):
+        """The golden runs come first; where all is tried no line says otherwise."""
+        self.assertEqual(self.check(60), (0, ''))
+        self.assertEqual(sorted(self.begun[:3]), ['firefox', 'page', 'windows'])
+        self.assertEqual(len(self.begun), 3 + sum(len(parts) for tests in self.portable.TESTS.values() for _, parts in tests))
+
+    def test_time(self):
+        """What is not begun in time is named; a difference that was found is told all the same."""
+        status, said = self.check(-1)
+        self.assertEqual((status, self.begun), (check.UNTRIED, []))
+        self.assertIn('portable: not tried, or not to the end: golden runs of doomview.exe in Wine; golden runs of doomview.html in '
+                      'Chromium; golden runs of doomview.html in Firefox; test_exe, Starts in Wine; ', said)
+        self.statuses = {'page': check.DIFFERENT, 'test_page Maps': check.UNTRIED, 'test_exe Jobs': Trouble('no room')}
+        status, said = self.check(60)
+        self.assertEqual(status, check.DIFFERENT)
+        self.assertIn('portable: test_exe, Jobs in Wine: no room\n', said)
+        self.assertTrue(said.endswith('portable: not tried, or not to the end: test_exe, Jobs in Wine; test_page, Maps in Chromium\n'), said)
+
+    def test_nothing_there(self):
+        status, said = self.check(60, there=())
+        self.assertEqual((status, self.begun), (0, []))
+        self.assertIn('Wine is not installed, so doomview.exe was not tried in it', said)
+        self.assertIn('Firefox is not installed, so doomview.html was not tried in it', said)
+
+    def test_late(self):
+        """A part of the tests that is not through in time is ended, and was not tried."""
+        self.stand_in('late', '#!/bin/sh\nexec sleep 60\n')
+        with mock.patch.object(check.sys, 'executable', self.at('late')), mock.patch.object(check, 'native', lambda: ''), \
+                mock.patch.object(check, 'MORE', 0):
+            self.assertEqual(check.status_of_tests('test_page', 'Maps', 'page', 1), check.UNTRIED)
 
 
 class Starts(Tools):
@@ -354,7 +425,7 @@ class BuiltIn(unittest.TestCase):
     def test_files(self):
         """doomview.exe has the tables, the things and the room as the tools have them."""
         source = built_in.source()
-        for name, data in (('tables', tables.tables()), ('things', module.bytes_of(home.data('things.csv'))), ('room', room.room())):
+        for name, data in (('tables', tables.tables()), ('things', module.bytes_of(installation.data('things.csv'))), ('room', room.room())):
             numbers = re.search(r'bytes_of_%s\[\] = \{([^}]*)\}' % name, source)[1].split(',')
             self.assertEqual(bytes(map(int, numbers)), data)
             self.assertIn(f'{{"<{name}>", bytes_of_{name}, {len(data)}}}', source)
@@ -364,7 +435,7 @@ class BuiltIn(unittest.TestCase):
         source = built_in.source()
         for number, job in enumerate(jobs.JOBS.values()):
             self.assertIn(f'{{"{job.name}", {int(job.name in jobs.LEVEL_JOBS)}, {int(job.is_binary)}, ', source)
-            for option in jobs.options().values():
+            for option in job_options.options().values():
                 bits = int(re.search(r'\{"%s", (\d+), ' % option.name, source)[1])
                 self.assertEqual(bool(bits >> number & 1), job.name in option.jobs)
         self.assertRegex(source, r'\{"--zone", \d+, 64, 536870912, 4, "", ""\}')

@@ -12,7 +12,7 @@ import unittest
 import zlib
 
 from made_files import TOOLS, TOP, Tools, name, room, wad
-from doomview_tools import levels, original, rest, wads
+from doomview_tools import game_at_rest, levels, original, wads
 from doomview_tools.trouble import Trouble
 
 sys.path.insert(0, os.path.join(TOOLS, 'ports'))
@@ -88,15 +88,15 @@ class Rest(Tools):
 
     def test_demo(self):
         """33 tics, then a pause at each view and a turn that ends it."""
-        demo = rest.demo('E2M3', 4, 2, 5)
+        demo = game_at_rest.demo('E2M3', 4, 2, 5)
         self.assertEqual(demo[:13], bytes([109, 3, 2, 3, 0, 0, 0, 0, 0, 1, 0, 0, 0]))
         tics = [demo[at:at + 4] for at in range(13, len(demo) - 1, 4)]
         pause, turn = bytes([0, 0, 0, 0x81]), bytes([0, 0, 37, 0x81])
         self.assertEqual(tics, [bytes(4)] * 33 + [pause, *[bytes(4)] * 5, turn, pause, *[bytes(4)] * 5])
-        self.assertEqual((demo[-1], rest.number_of('MAP31')), (0x80, (1, 31)))
-        self.assertIn(bytes([0, 0, 0, 0x82]), rest.saving_demo('MAP01', 3))
+        self.assertEqual((demo[-1], game_at_rest.number_of('MAP31')), (0x80, (1, 31)))
+        self.assertIn(bytes([0, 0, 0, 0x82]), game_at_rest.saving_demo('MAP01', 3))
         with self.assertRaisesRegex(Trouble, 'no name of a map that a demo can start'):
-            rest.number_of('TITLE')
+            game_at_rest.number_of('TITLE')
 
     def test_place(self):
         """--at puts the player start elsewhere."""

@@ -14,7 +14,7 @@ import unittest
 
 from made_files import DRAWING, FRAME, TOOLS, TOP, Tools, pixels_of
 from test_pages import anchors, read
-from doomview_tools import home
+from doomview_tools import installation
 from systems import static
 
 TESTED = os.environ.get('DOOMVIEW_TESTED', '')
@@ -251,7 +251,7 @@ class Static(Packing):
         """The true program, of the object file of this checkout: it needs no loader, and runs with no variable set."""
         shutil.rmtree(self.at('clone/crates/doomview'))
         os.symlink(os.path.join(TOP, 'crates/doomview'), self.at('clone/crates/doomview'))
-        self.write('clone/tools/data/version', f'version 2.1\nlogic {home.version()["logic"]}\n'.encode())
+        self.write('clone/tools/data/version', f'version 2.1\nlogic {installation.version()["logic"]}\n'.encode())
         os.utime(self.at('clone/crates.txt'), (1, 1))
         status, output, error = self.run_command(self.at('clone/tools/release'), doomview='', PATH=os.environ['PATH'])
         self.assertEqual((status, error), (0, ''))

@@ -6,7 +6,7 @@ import unittest
 
 from made_files import TOP, Tools, name, wad
 from test_compare import FRAME, WIDTH, traced
-from doomview_tools import lists, shapes, symptoms, texels, traces
+from doomview_tools import list_files, shapes, symptoms, texels, traces
 from doomview_tools.frames import SIZE
 
 WALL, PLANE, SKY, MIDDLE, SPRITE, WEAPON = 1, 2, 3, 4, 5, 6
@@ -187,8 +187,8 @@ class Symptoms(Tools):
         ours = drawn(blocks)
         marks = bytes(block.number in different if block else 0 for block in (
             next((it for it in blocks if place // WIDTH in it.rows and place % WIDTH in it.columns), None) for place in range(SIZE)))
-        planes = [lists.Plane(0, 8, 160, 'leaf', 0, 60), lists.Plane(0, 8, 160, 'fragment', 0, 60), lists.Plane(64, 9, 160, 'leaf', 1, 60)]
-        items = lists.View([lists.Fragment(0, 0, 9)], planes, [], None, None)
+        planes = [list_files.Plane(0, 8, 160, 'leaf', 0, 60), list_files.Plane(0, 8, 160, 'fragment', 0, 60), list_files.Plane(64, 9, 160, 'leaf', 1, 60)]
+        items = list_files.View([list_files.Fragment(0, 0, 9)], planes, [], None, None)
         records = trace_of(blocks, ours)
         return shapes.Sample(ours, ours, records, marks, traces.pixels_of(records, marks), items)
 

@@ -116,10 +116,7 @@ class Explained(unittest.TestCase):
     @unittest.skipUnless(pages_shown.BROWSER, 'Chromium is not installed')
     def test_page(self):
         self.run_port('--skill 1', '--sets', 'near')
-        found = pages_shown.shown(os.path.join(self.work, 'explained.html'), '''
-            await wait(); const inner = document.querySelector('iframe').contentDocument;
-            return [document.querySelector('pre').textContent.split('\\n')[0], inner.body.textContent.includes(
-                'MAP01 near view 18 (view 0): pixels')];''')
+        found = pages_shown.shown(os.path.join(self.work, 'explained.html'), 'vectors_explained')
         self.assertEqual(found, ['freedoom2.wad by freedoom2.csv, packed spans: 8 of 42 views are wrong', True])
 
     def test_green(self):

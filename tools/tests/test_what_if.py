@@ -6,7 +6,7 @@ import unittest
 
 from made_files import Tools
 from made_maps import NO_SIDE, RECORDS, Map
-from doomview_tools import counting, levels, list_counts, lists, paths, program, walls
+from doomview_tools import counting, levels, list_counts, list_files, paths, program, walls
 
 TESTED = os.environ.get('DOOMVIEW_TESTED', '')
 LIMIT, SIDE = 128, 20  # planes; squares of a side of a hall
@@ -139,7 +139,7 @@ class WhatIf(Tools):
     def listed(self, names):
         """What `list` writes of the path over some WADs."""
         words = ['list', 'MAP01', *map(self.at, names), '--path', self.at('path.csv')]
-        return lists.ListFile(self.write('list.txt', self.run_command(TESTED, *program.complete(words))[1]))
+        return list_files.ListFile(self.write('list.txt', self.run_command(TESTED, *program.complete(words))[1]))
 
 
 def put_bars(made):

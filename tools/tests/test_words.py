@@ -6,7 +6,7 @@ import unittest
 
 from made_files import COMMAND, Tools, made_wad
 from test_command import LEVEL, Command
-from doomview_tools import jobs
+from doomview_tools import call_words, job_options, word_checks
 
 PATH = 'x,y,z,angle\n'
 UNIT, QUARTER = 65536, 1 << 30
@@ -70,7 +70,7 @@ class Why(Tools):
         self.assertEqual(said[0], 'explain: render takes no --pth; did you mean --path?')
         self.refuses('unrecognized arguments: --trcae x; did you mean --trace?; doomview compare --help', 'compare', 'a',
                      'b', '--trcae', 'x')
-        self.assertEqual(jobs.guess('--skil', jobs.options()), '; did you mean --skill?')
+        self.assertEqual(word_checks.guess('--skil', job_options.options()), '; did you mean --skill?')
 
     def test_not_built(self):
         """Where nothing is built an unknown word builds nothing, and is answered too."""
@@ -102,8 +102,8 @@ class Orders(Command):
         for job in ('render', 'trace', 'list'):
             self.assertEqual(self.hands_on(job, *LEVEL, '--spans', 'packed')[-2:], ['--spans', 'packed'])
             words = [job, *LEVEL, '--tables', 't', '--things', 't', '--spans', 'packed']
-            self.assertEqual(jobs.wrong_words(jobs.Words(words)), [])
-        self.assertEqual(jobs.wrong_words(jobs.Words(['limits', *LEVEL, '--spans', 'full']))[0].partition(';')[0],
+            self.assertEqual(word_checks.wrong_words(call_words.Words(words)), [])
+        self.assertEqual(word_checks.wrong_words(call_words.Words(['limits', *LEVEL, '--spans', 'full']))[0].partition(';')[0],
                          'limits takes no --spans')
 
     def test_tools(self):

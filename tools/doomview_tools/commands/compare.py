@@ -2,12 +2,12 @@
 import argparse
 import os
 import sys
-import typing
+from collections.abc import Iterator, Sequence
 
-from .. import (cli, compare_reports, diagnoses, differences, frame_files, frames, jobs, lists, png, program, setup_trials,
-                shapes, symptoms, texels, traces)
+from .. import (cli, compare_reports, diagnoses, differences, frame_files, frames, job_options, map_places, png,
+                program, setup_trials, shapes, symptoms, texels, traces)
 from ..compare_page import MOST_VIEWS, ComparePage
-from ..comparison import Both, Files, Tasks, View, entries_of, lines_of
+from ..comparison import Both, Files, Found, Tasks, View, entries_of, lines_of
 from ..files import Folder, Output, Source, write_whole
 from ..frames import HEIGHT, SIZE, WIDTH
 from ..trouble import FOUND
@@ -83,7 +83,7 @@ def add_words(parser: argparse.ArgumentParser) -> None:
                         'pixels')
     parser.add_argument('--wad', metavar='WAD', type=cli.Wad, action='append', default=[], help='a WAD of the run; once '
                         'for each, in their order')
-    lists.add_words(parser)
+    map_places.add_words(parser)
     parser.add_argument('--only', metavar='KINDS', help='counts pixels of these painters alone, of '
                         + ','.join(word for word, _ in traces.KINDS.values()))
     parser.add_argument('--but', metavar='KINDS', help='counts no pixels of these painters')
@@ -95,7 +95,7 @@ def add_words(parser: argparse.ArgumentParser) -> None:
     parser.add_argument('--html', metavar='OUT.html', type=Output, help='writes a page of the views that differ')
     parser.add_argument('--path', metavar='FILE', type=Source, help='the camera path of the run: tries other set-ups; '
                         'needs --map, --wad and the words of the run that are not usual')
-    cli.add_job_options(parser, 'render', [name for name in jobs.options() if name not in setup_trials.WORDS])
+    cli.add_job_options(parser, 'render', [name for name in job_options.options() if name not in setup_trials.WORDS])
     parser.add_argument('--views', metavar='VIEWS', help='compares these views alone, as 3,7-9')
     parser.add_argument('--json', metavar='FILE', type=Output, help='writes what was found of all views that differ as JSON')
     parser.add_argument('--junit', metavar='FILE', type=Output, help='writes a test of each view, as JUnit does')
@@ -148,7 +148,7 @@ class Comparison:
         pairs = [diagnoses.Pair(view, *self.files.both(view)) for view in some]
         return diagnoses.Case(pairs, self.files.ours.frame, min(self.files.counts), self.files.names.colormaps)
 
-    def head(self) -> typing.Iterator[str]:
+    def head(self) -> Iterator[str]:
         """What is said of all views that differ, before each of them: how many, what differs most, mistakes of whole
         frames, and what differs in every view."""
         yield f'{len(self.found)} of {len(self.files.views)} views differ'
@@ -163,7 +163,7 @@ class Comparison:
             yield from self.summary.of_every_view(self.files.names)
             yield from self.symptoms() if shares.all and self.options.wad else []
 
-    def symptoms(self) -> typing.List[str]:
+    def symptoms(self) -> list[str]:
         """A line on the function of the original where one looks, if the shape of what differs is certain."""
         files, samples = self.files, []
         most = sorted(self.found, key=lambda found: -found.pixels)[:symptoms.SAMPLES]
@@ -177,7 +177,7 @@ class Comparison:
             samples, shares, [found.view for found in self.found], files.run.rows if files.run else [],
             texels.Texels(files.wads), files.lights, files.names.colormaps))
 
-    def set_ups(self) -> typing.List[str]:
+    def set_ups(self) -> list[str]:
         """A sentence on another set-up that makes our frames the port's, where the path is named."""
         if not self.files.run:
             return []
@@ -197,11 +197,16 @@ class Comparison:
         views, different = len(self.files.views), len(self.found)
         return f'views {views} same {views - different} different {different} pixels {self.summary.pixels}'
 
+    def told(self, found: Sequence[Found], is_shown: bool = True) -> Iterator[list[str]]:
+        """What is said of each of some views that differ."""
+        known = self.summary.told
+        if known:
+            return (known[one.view] for one in found)
+        return (lines for part in self.tasks.run(lines_of, found, is_shown) for lines in part)
+
     def show_views(self) -> None:
         """Says of each view that differs in what it does, up to the most that are wanted, and draws its picture."""
-        shown = [] if self.options.quiet else self.found[:self.options.most]
-        told = (lines for part in self.tasks.run(lines_of, shown, not sys.stdout.isatty()) for lines in part)
-        for found, lines in zip(shown, told):
+        for lines in self.told([] if self.options.quiet else self.found[:self.options.most], not sys.stdout.isatty()):
             print('\n'.join(lines))
         for found in self.found[:self.options.most] if self.options.png else []:
             view = self.files.view(found.view)
@@ -222,15 +227,14 @@ class Comparison:
             head += f'; {self.count_line()}, elsewhere the port is shown with the pixels of ours'
         return page.page(head)
 
-    def write_reports(self, sentences: typing.List[str]) -> None:
+    def write_reports(self, sentences: list[str]) -> None:
         """Writes what was found for other programs."""
         if self.options.json:
             entries = [entry for part in self.tasks.run(entries_of, self.found) for entry in part]
             text = compare_reports.json_text(self.files, self.summary, sentences, entries)
             write_whole(self.options.json, text.encode())
         if self.options.junit:
-            told = [lines for part in self.tasks.run(lines_of, self.found) for lines in part]
-            text = compare_reports.junit_text(self.files, self.found, told)
+            text = compare_reports.junit_text(self.files, self.found, list(self.told(self.found)))
             write_whole(self.options.junit, text.encode())
 
     def run(self) -> bool:

@@ -9,9 +9,9 @@ import shutil
 import signal
 import subprocess
 import sys
-import typing
+from collections.abc import Sequence
 
-from .. import cli, home, path_drawing, paths, program, system, wads
+from .. import cli, installation, path_drawing, paths, program, system, wads
 from ..files import Folder, Source, write_whole
 from ..progress import Progress
 from ..trouble import FOUND, Trouble
@@ -57,19 +57,19 @@ def add_words(parser: argparse.ArgumentParser) -> None:
     cli.add_job_options(parser, 'render', WITHOUT)
 
 
-def command(options: argparse.Namespace, files: typing.List[str], name: str) -> typing.List[str]:
+def command(options: argparse.Namespace, files: list[str], name: str) -> list[str]:
     """The words that draw one map."""
     picture = os.path.join(os.path.abspath(options.folder), f'{name}.png')
     base = ['--iwad', files[0]] if len(files) == 2 else []
-    return [home.COMMAND, 'picture', *base, files[-1], name, picture, *cli.job_words(options)]
+    return [installation.COMMAND, 'picture', *base, files[-1], name, picture, *cli.job_words(options)]
 
 
-def draw(words: typing.List[str]) -> subprocess.CompletedProcess:
+def draw(words: list[str]) -> subprocess.CompletedProcess[str]:
     """Runs the words that draw a map."""
     return subprocess.run(words, stdin=subprocess.DEVNULL, stderr=subprocess.PIPE, text=True, errors='replace')
 
 
-def draw_here(commands: typing.List[typing.List[str]], jobs: int) -> int:
+def draw_here(commands: list[list[str]], jobs: int) -> int:
     """The number of maps that could not be drawn; what is said of each goes to standard error."""
     failed = 0
     with concurrent.futures.ThreadPoolExecutor(jobs) as pool:
@@ -86,7 +86,7 @@ def check_parallel() -> None:
         raise Trouble('this parallel is not GNU parallel (package: parallel)')
 
 
-def draw_there(commands: typing.List[typing.List[str]], options: argparse.Namespace, more: typing.Sequence[str] = ()) -> int:
+def draw_there(commands: list[list[str]], options: argparse.Namespace, more: Sequence[str] = ()) -> int:
     """The same by GNU parallel on other machines."""
     check_parallel()
     lines = [shlex.join(['env', f'DOOMVIEW={program.path()}', *words]) for words in commands]
@@ -94,19 +94,18 @@ def draw_there(commands: typing.List[typing.List[str]], options: argparse.Namesp
     return subprocess.run(words, input='\n'.join(lines), text=True).returncode
 
 
-def paths_there(drawing: path_drawing.Drawing, found: typing.List[path_drawing.Path], options: argparse.Namespace,
-                files: typing.List[str]) -> None:
+def paths_there(drawing: path_drawing.Drawing, found: list[path_drawing.Path], options: argparse.Namespace,
+                files: list[str]) -> None:
     """Draws paths by GNU parallel on other machines, each by a call of this tool. Its log is that of these calls alone."""
     base = [part for file in files[1:-1] for part in ('--file', file)] + (['--iwad', files[0]] if len(files) > 1 else [])
-    commands = [[home.COMMAND, 'draw-all', *base, files[-1], path.folder, '--paths', os.path.abspath(path.file), '--jobs', '1',
-                 '--no-table', *cli.job_words(options)] for path in found]
+    commands = [[installation.COMMAND, 'draw-all', *base, files[-1], path.folder, '--paths', os.path.abspath(path.file),
+                 '--jobs', '1', '--no-table', *cli.job_words(options)] for path in found]
     inputs = ' '.join(drawing.inputs(path) for path in found)
     log = os.path.join(options.folder, f'parallel-{hashlib.sha256(inputs.encode()).hexdigest()[:16]}.log')
     draw_there(commands, options, ['--joblog', log, '--resume-failed' if os.path.exists(log) else '--resume'])
 
 
-def paths_here(drawing: path_drawing.Drawing, found: typing.List[path_drawing.Path], jobs: int) \
-        -> typing.List[path_drawing.Drawn]:
+def paths_here(drawing: path_drawing.Drawing, found: list[path_drawing.Path], jobs: int) -> list[path_drawing.Drawn]:
     """Draws paths, several at a time, and shows how far that is."""
     views = sum(len(paths.rows(path.file)) for path in found)
     with concurrent.futures.ThreadPoolExecutor(jobs) as pool, Progress(views, 'views') as progress:
@@ -127,7 +126,7 @@ def paths_here(drawing: path_drawing.Drawing, found: typing.List[path_drawing.Pa
     return [task.result() for task in tasks]
 
 
-def draw_paths(options: argparse.Namespace, files: typing.List[str], maps: typing.List[str]) -> int:
+def draw_paths(options: argparse.Namespace, files: list[str], maps: list[str]) -> int:
     """Draws camera paths, and says of each what is not as it should be; the status."""
     found = path_drawing.in_folder(options.paths, maps, os.path.abspath(options.folder))
     drawing = path_drawing.Drawing(files, cli.job_words(options))

@@ -2,7 +2,7 @@
 import argparse
 import sys
 
-from .. import cli, explanations, jobs, program
+from .. import call_words, cli, explanations, program
 from ..files import Source
 from ..trouble import Trouble
 
@@ -52,7 +52,7 @@ def run(options: argparse.Namespace) -> int:
     if options.words[0].startswith('doomview: '):
         explanations.tell(options.words[0], [])
         return 0
-    words = jobs.in_order(options.words)
+    words = call_words.in_order(options.words)
     done = program.run_whole(words)
     sys.stderr.write(done.said)
     explanations.tell(done.line, words)

@@ -6,11 +6,12 @@ import os
 import re
 import tempfile
 import typing
+from collections.abc import Iterator
 
-from .. import art, cli, cli_limits, earlier, ground, levels, paths, system, wads, ways
+from .. import art, cli, cli_limits, earlier_run, ground, levels, paths, player_reach, system, wads
 from ..cells import Cell, Grid
 from ..counting import COUNTS, Going, Progress, Runs
-from ..earlier import Change, Numbers
+from ..earlier_run import Change, Numbers
 from ..files import Folder, Output, Source, write_output, write_whole
 from ..index_page import index_page
 from ..levels import Level
@@ -97,7 +98,7 @@ def check(options: argparse.Namespace) -> None:
         raise Trouble(f'the name of the page has to end in .html, and {options.page} does not')
 
 
-def numbers(plan: ground.Plan, states: typing.List[State], options: argparse.Namespace) -> Numbers:
+def numbers(plan: ground.Plan, states: list[State], options: argparse.Namespace) -> Numbers:
     """All numbers of the summary."""
     def of_count(grid: Grid, name: str) -> Numbers:
         worst = grid.worst(name, 1)
@@ -111,7 +112,7 @@ def numbers(plan: ground.Plan, states: typing.List[State], options: argparse.Nam
             'over': any(state.grid.is_bad() for state in states), 'directions': options.directions, 'states': shown}
 
 
-def square(cell: Cell) -> typing.List[int]:
+def square(cell: Cell) -> list[int]:
     """A cell as JSON has it: its x and y, the side of its square, and its counts."""
     return [cell.x, math.floor(cell.y), cell.size, *map(cell.count, COUNTS)]
 
@@ -121,13 +122,13 @@ def json_of(found: Numbers) -> str:
     return NUMBERS.sub(lambda numbers: ' '.join(numbers[0].split()), json.dumps(found, indent=1))
 
 
-def no_way(level: Level, wanted: ways.Wanted) -> typing.List[Numbers]:
+def no_way(level: Level, wanted: player_reach.Wanted) -> list[Numbers]:
     """The sectors with things that a player wants and to which no way was found, with these things."""
-    return [{'sector': sector, 'things': [{'thing': number, 'what': ways.WANTED[level.things[number].type]}
+    return [{'sector': sector, 'things': [{'thing': number, 'what': player_reach.WANTED[level.things[number].type]}
                                           for number in things]} for sector, things in wanted.items()]
 
 
-def summary(found: Numbers) -> typing.Iterator[str]:
+def summary(found: Numbers) -> Iterator[str]:
     """The numbers as lines for a user."""
     name = os.path.basename(found['wad'])
     yield f'{found["map"]} of {name}: a player reaches {found["reached"]} of its {found["sectors"]} sectors'
@@ -150,9 +151,9 @@ def things_in_words(one: Numbers) -> str:
 
 
 def states_of(plan: ground.Plan, runs: Runs, options: argparse.Namespace, folder: str,
-              before: Numbers) -> typing.Tuple[typing.List[State], typing.Dict[int, int]]:
+              before: Numbers) -> tuple[list[State], dict[int, int]]:
     """The map with its doors shut, and open unless that is left out; from the grid of an earlier run, if there is one."""
-    reach, doors = ways.reach(plan), plan.doors()
+    reach, doors = player_reach.reach(plan), plan.doors()
     if not reach.sectors and not options.all:
         raise plan.level.error('has no start of a player; --all looks from all places')
     plans = [('shut', plan, runs)]
@@ -162,7 +163,7 @@ def states_of(plan: ground.Plan, runs: Runs, options: argparse.Namespace, folder
     found = []
     for label, plan_so, runs_so in plans:
         walls = runs.over(options.files, file_of(folder, f'{label}-walls.wad', walls_alone(plan_so.level)))
-        start = earlier.start_of(before, label)
+        start = earlier_run.start_of(before, label)
         grid = Grid(ground.Ground(plan_so), runs_so, walls, reach, options, f'doors {label}, ', start)
         found.append(State(label, grid, runs_so))
     if not any(state.grid.cells for state in found):
@@ -177,7 +178,7 @@ def file_of(folder: str, name: str, data: bytes) -> str:
     return path
 
 
-def worst_path(states: typing.List[State], options: argparse.Namespace) -> str:
+def worst_path(states: list[State], options: argparse.Namespace) -> str:
     """The worst views of all counts as a camera path, each once."""
     rows = [row for state in states for row in state.views(options.views)[0]]
     return paths.text(list(dict.fromkeys(rows)))
@@ -188,7 +189,7 @@ def run(options: argparse.Namespace) -> int:
     check(options)
     wads.check_game(options.files)
     options.limits = cli_limits.limits_of(options)
-    options.earlier = earlier.numbers_of(options.before) if options.before else {}
+    options.earlier = earlier_run.numbers_of(options.before) if options.before else {}
     if options.all_maps:
         return run_all(options)
     found, lines = look(options)
@@ -205,7 +206,7 @@ def run_all(options: argparse.Namespace) -> int:
     """Looks at all maps of the WAD, prints a line for each and writes their pages and an index; the status."""
     make_folder(options.all_maps)
     own, status = wads.find(options.wad), 0
-    found: typing.Dict[str, typing.Union[Numbers, str]] = {}  # of a map its numbers, or why there are none
+    found: dict[str, typing.Union[Numbers, str]] = {}  # of a map its numbers, or why there are none
     for name in wads.maps_of([own]):
         options.map, options.page = name, os.path.join(options.all_maps, f'{name}.html')
         try:
@@ -240,7 +241,7 @@ def line_of(name: str, found: Numbers) -> str:
     return f'{name} {", ".join(parts)}{worse}'
 
 
-def look(options: argparse.Namespace) -> typing.Tuple[Numbers, str]:
+def look(options: argparse.Namespace) -> tuple[Numbers, str]:
     """Looks at a map and writes the files; its numbers, and these as lines."""
     progress = Progress('limits-map')
     with tempfile.TemporaryDirectory(prefix='doomview-') as folder:
@@ -252,7 +253,7 @@ def look(options: argparse.Namespace) -> typing.Tuple[Numbers, str]:
             progress.clear()
 
 
-def look_by(runs: Runs, options: argparse.Namespace) -> typing.Tuple[Numbers, str]:
+def look_by(runs: Runs, options: argparse.Namespace) -> tuple[Numbers, str]:
     """The same by runs of the program."""
     runs.check()
     level = cli.level_of(options, options.files)
@@ -277,9 +278,9 @@ def look_by(runs: Runs, options: argparse.Namespace) -> typing.Tuple[Numbers, st
     return found, lines
 
 
-def compare(found: Numbers, before: Numbers, limits: Counts) -> typing.List[Change]:
+def compare(found: Numbers, before: Numbers, limits: Counts) -> list[Change]:
     """Adds to the numbers of a map what differs from an earlier run; its changes place by place."""
-    comparison = earlier.comparison_of(before, found, limits)
+    comparison = earlier_run.comparison_of(before, found, limits)
     found['before'], found['worse'] = comparison.lines, comparison.is_worse
     found['changes'] = [change._asdict() for change in comparison.changes]
     return comparison.changes

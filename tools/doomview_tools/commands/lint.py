@@ -4,7 +4,7 @@ import os
 import re
 import sys
 import tempfile
-import typing
+from collections.abc import Iterable
 
 from .. import checks, cli, explanations, paths, program, wads
 from ..files import write_output, write_whole
@@ -59,12 +59,12 @@ def line_of(finding: Finding) -> str:
     return f'{finding.grade} {finding.what}: {finding.where}: {finding.told}'
 
 
-def status_of(found: typing.Iterable[Finding], is_strict: bool = False) -> int:
+def status_of(found: Iterable[Finding], is_strict: bool = False) -> int:
     """The status for what the checks found."""
     return FOUND if any(is_strict or finding.grade in COUNTED for finding in found) else 0
 
 
-def refusal(name: str, files: typing.List[str]) -> int:
+def refusal(name: str, files: list[str]) -> int:
     """What the audit says of a map that cannot be read; nothing for what the checks list themselves."""
     with tempfile.TemporaryDirectory(prefix='doomview-') as folder:
         path = os.path.join(folder, 'path.csv')
@@ -79,12 +79,12 @@ def refusal(name: str, files: typing.List[str]) -> int:
     return 0
 
 
-def counts_told(found: typing.List[Finding]) -> str:
+def counts_told(found: list[Finding]) -> str:
     """How many findings there are of each grade, in words."""
     return ' '.join(f'{grade} {sum(finding.grade == grade for finding in found)}' for grade in GRADES)
 
 
-def all_maps(options: argparse.Namespace, files: typing.List[str]) -> int:
+def all_maps(options: argparse.Namespace, files: list[str]) -> int:
     """Prints a line for each map of the WAD; the greatest status."""
     worst = 0
     for name in wads.maps_of([wads.find(options.wad)]):
@@ -99,7 +99,7 @@ def all_maps(options: argparse.Namespace, files: typing.List[str]) -> int:
     return worst
 
 
-def findings_of(options: argparse.Namespace, files: typing.List[str]) -> typing.Tuple[typing.List[Finding], int]:
+def findings_of(options: argparse.Namespace, files: list[str]) -> tuple[list[Finding], int]:
     """What the checks find in a map, and the status."""
     level = cli.level_of(options, files)
     level.check_whole()

@@ -1,8 +1,7 @@
 """doomview pixel: what painted one pixel."""
 import argparse
-import typing
 
-from .. import cli, lists, paths, traces, wads
+from .. import cli, map_places, paths, traces, wads
 from ..files import Source, check_source
 from ..frames import HEIGHT, WIDTH
 from ..trouble import Trouble
@@ -36,10 +35,10 @@ def add_words(parser: argparse.ArgumentParser) -> None:
     parser.add_argument('wads', metavar='WAD', type=cli.Wad, nargs='*', help='the WADs of the run, in their order')
     parser.add_argument('--path', metavar='FILE', type=Source, help='the camera path of the run: says too where the '
                         'view is')
-    lists.add_words(parser)
+    map_places.add_words(parser)
 
 
-def rows_of(options: argparse.Namespace, count: int) -> typing.List[paths.Row]:
+def rows_of(options: argparse.Namespace, count: int) -> list[paths.Row]:
     """The rows of the path, as many as the trace has views, or none where none is named."""
     rows = paths.rows(options.path) if options.path else []
     if rows and len(rows) != count:
@@ -57,7 +56,7 @@ def run(options: argparse.Namespace) -> None:
     files = [wads.find(name) for name in options.wads]
     names = traces.Names(files)
     names.check(traces.Painter(record[0], record[1], record[3]), options.trace)
-    placing = lists.placing_of(options, files, count, names)
+    placing = map_places.placing_of(options, files, count, names)
     told = traces.in_words(record, names)
     if placing:
         word = traces.KINDS.get(record[0], [''])[0]

@@ -3,8 +3,9 @@ import argparse
 import os
 import typing
 
-from .. import cli, paths, rest, weapons
+from .. import cli, game_at_rest, paths, weapons
 from ..files import Folder, write_whole
+from ..game_at_rest import MOST_VIEWS
 from ..trouble import Trouble
 
 PAUSED = 50
@@ -23,7 +24,7 @@ $ doomview render MAP01 freedoom2.wad out/shown.wad --path out/path.csv --weapon
 ''', more='TOOLS.md#a-game-at-rest')
 
 
-def place(text: str) -> typing.Tuple[int, int, int]:
+def place(text: str) -> tuple[int, int, int]:
     parts = text.split(',')
     try:
         x, y, degrees = map(int, parts)
@@ -35,8 +36,8 @@ def place(text: str) -> typing.Tuple[int, int, int]:
 def add_words(parser: argparse.ArgumentParser) -> None:
     cli.add_level(parser)
     parser.add_argument('folder', metavar='FOLDER', type=Folder, help='where the files go; it is made')
-    parser.add_argument('--views', metavar='N', type=cli.number(1, rest.MOST_VIEWS), default=rest.MOST_VIEWS,
-                        help=f'how many views, 1 to {rest.MOST_VIEWS}; else {rest.MOST_VIEWS}')
+    parser.add_argument('--views', metavar='N', type=cli.number(1, MOST_VIEWS), default=MOST_VIEWS,
+                        help=f'how many views, 1 to {MOST_VIEWS}; else {MOST_VIEWS}')
     parser.add_argument('--at', metavar='X,Y,DEGREES', type=place, help='another place than the player start')
     parser.add_argument('--skill', metavar='N', type=cli.number(1, 5), default=3, help='1 to 5; else 3')
     parser.add_argument('--tics', metavar='N', type=cli.number(1, 10000), default=PAUSED,
@@ -44,10 +45,10 @@ def add_words(parser: argparse.ArgumentParser) -> None:
 
 
 def run(options: argparse.Namespace) -> None:
-    still = rest.Rest(cli.wads_of(options), options.map, options.at)
-    files: typing.Dict[str, typing.Union[str, bytes]] = {
-        'still.wad': still.wad(), 'still.deh': rest.patch(),
-        'still.lmp': rest.demo(still.level.name, options.skill, options.views, options.tics),
+    still = game_at_rest.MapAtRest(cli.wads_of(options), options.map, options.at)
+    files: dict[str, typing.Union[str, bytes]] = {
+        'still.wad': still.wad(), 'still.deh': game_at_rest.patch(),
+        'still.lmp': game_at_rest.demo(still.level.name, options.skill, options.views, options.tics),
         'shown.wad': still.shown_wad(), 'path.csv': paths.text(still.rows(options.views)),
         'weapon.csv': weapons.text([(weapons.raised_layer('PISG'),)] * options.views)}
     try:

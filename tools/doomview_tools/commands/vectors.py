@@ -4,6 +4,7 @@ import concurrent.futures
 import os
 import tempfile
 import typing
+from collections.abc import Callable, Iterable
 
 from .. import cli, original, program, system, vectors, vectors_explained, wads, wrong_views
 from ..files import Folder, WholeFile, write_output, write_whole
@@ -58,11 +59,11 @@ def add_words(parser: argparse.ArgumentParser) -> None:
                         help='how many maps at a time; else one a processor')
 
 
-def names(text: str) -> typing.List[str]:
+def names(text: str) -> list[str]:
     return text.split(',')
 
 
-def chosen(there: typing.Iterable[str], wanted: typing.Optional[typing.List[str]], what: str) -> typing.List[str]:
+def chosen(there: Iterable[str], wanted: typing.Optional[list[str]], what: str) -> list[str]:
     """The wanted ones of what is there, or all of it."""
     missing = [name for name in wanted or [] if name not in there]
     if missing:
@@ -79,7 +80,11 @@ def folder_of(options: argparse.Namespace, usual: str = '.') -> str:
     return folder
 
 
-def all_of(call: typing.Callable, items: typing.Iterable, jobs: int) -> list:
+Item = typing.TypeVar('Item')
+Result = typing.TypeVar('Result')
+
+
+def all_of(call: Callable[[Item], Result], items: Iterable[Item], jobs: int) -> list[Result]:
     """What a call gives for each item, in their order, several at a time."""
     with concurrent.futures.ThreadPoolExecutor(jobs) as pool:
         started = [pool.submit(call, item) for item in items]
@@ -127,7 +132,7 @@ def draw(options: argparse.Namespace) -> None:
     program.ready()
     folder = folder_of(options)
 
-    def draw_one(part: typing.Tuple[str, str]) -> None:
+    def draw_one(part: tuple[str, str]) -> None:
         of_part = [row for row in rows if (row.map, row.set) == part]
         if of_part:
             with WholeFile(os.path.join(folder, vectors.file_name(*part))) as file:

@@ -3,7 +3,6 @@ import argparse
 import shutil
 import subprocess
 import tempfile
-import typing
 
 from .. import cli, program
 from ..explanations import end_of
@@ -42,7 +41,7 @@ def check(options: argparse.Namespace) -> None:
         raise Trouble('ffmpeg is not installed (package: ffmpeg)')
 
 
-def count_views(words: typing.List[str]) -> int:
+def count_views(words: list[str]) -> int:
     """Ends with what is wrong where the views cannot be drawn; the limits tell it before ffmpeg is called."""
     done = program.run(words)
     if done.status:
@@ -50,12 +49,12 @@ def count_views(words: typing.List[str]) -> int:
     return len(done.output.splitlines())
 
 
-def ffmpeg_words(video: str) -> typing.List[str]:
+def ffmpeg_words(video: str) -> list[str]:
     return ['ffmpeg', '-y', '-loglevel', 'error', '-f', 'image2pipe', '-c:v', 'ppm', '-framerate', str(RATE), '-i',
             'pipe:0', '-vf', f'scale={SCALE}:flags=neighbor', '-pix_fmt', 'yuv420p', '-f', 'mp4', video]
 
 
-def draw_into(words: typing.List[str], video: str) -> program.Run:
+def draw_into(words: list[str], video: str) -> program.Run:
     """Draws the frames into ffmpeg, which writes the video: how the program ended; a Trouble where ffmpeg failed."""
     with tempfile.TemporaryFile() as said, \
             program.start(words, stdout=subprocess.PIPE, stderr=said) as drawing, \

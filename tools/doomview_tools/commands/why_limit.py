@@ -2,9 +2,9 @@
 import argparse
 import os
 import tempfile
-import typing
 
-from .. import cli, cli_limits, ground, levels, lists, paths, program, reasons, traces, wads, walls, what_if
+from .. import (cli, cli_limits, ground, levels, list_files, map_places, paths, program, reasons, traces, wads, walls,
+                what_if)
 from ..counting import RAISED
 from ..explanations import end_of
 from ..files import Source, write_whole
@@ -60,7 +60,7 @@ def add_words(parser: argparse.ArgumentParser) -> None:
     cli.add_job_options(parser, 'list', WITHOUT)
 
 
-def rows_of(options: argparse.Namespace, level: Level) -> typing.List[typing.Tuple[int, Row]]:
+def rows_of(options: argparse.Namespace, level: Level) -> list[tuple[int, Row]]:
     """The views that the words name: pairs of a number and a row."""
     if not options.path:
         if not options.views:
@@ -73,8 +73,8 @@ def rows_of(options: argparse.Namespace, level: Level) -> typing.List[typing.Tup
     return [(number, rows[number]) for number in (map(int, options.views) if options.views else range(len(rows)))]
 
 
-def list_of(options: argparse.Namespace, files: typing.List[str], rows: typing.List[Row], folder: str,
-            name: str = 'list.txt') -> lists.ListFile:
+def list_of(options: argparse.Namespace, files: list[str], rows: list[Row], folder: str,
+            name: str = 'list.txt') -> list_files.ListFile:
     """What `list` writes of rows, with raised limits, to a file of a name."""
     path, output = os.path.join(folder, 'path.csv'), os.path.join(folder, name)
     write_whole(path, paths.text(rows).encode())
@@ -84,18 +84,18 @@ def list_of(options: argparse.Namespace, files: typing.List[str], rows: typing.L
     if done.status:
         trouble = end_of(words, done)
         raise Ended(TROUBLE if trouble.status == USAGE else trouble.status)
-    return lists.ListFile(output)
+    return list_files.ListFile(output)
 
 
-def with_open_doors(files: typing.List[str], level: Level, folder: str) -> typing.Tuple[typing.List[str], Level]:
+def with_open_doors(files: list[str], level: Level, folder: str) -> tuple[list[str], Level]:
     """The WADs with one more behind them, in which the doors are open, and the level of that."""
     path = os.path.join(folder, 'open.wad')
     write_whole(path, ground.with_ceilings(level, ground.Plan(level).doors()))
     return files + [path], levels.read([path], level.name)
 
 
-def list_of_walls(options: argparse.Namespace, files: typing.List[str], level: Level, rows: typing.List[Row],
-                  folder: str) -> lists.ListFile:
+def list_of_walls(options: argparse.Namespace, files: list[str], level: Level, rows: list[Row],
+                  folder: str) -> list_files.ListFile:
     """The same of the solid walls of a level alone."""
     path = os.path.join(folder, 'walls.wad')
     write_whole(path, walls.walls_alone(level))
@@ -108,8 +108,8 @@ def is_outside(level: Level, row: Row) -> bool:
     return all(place.is_void(row.x / UNIT, row.y // UNIT + off) for off in (-.5, .5))
 
 
-def what_ifs(options: argparse.Namespace, files: typing.List[str], level: Level, row: Row, view: lists.View,
-             places: lists.Places, folder: str) -> typing.List[what_if.Result]:
+def what_ifs(options: argparse.Namespace, files: list[str], level: Level, row: Row, view: list_files.View,
+             places: map_places.Places, folder: str) -> list[what_if.Result]:
     """What a view would count after changes of its sectors."""
     words = [options.map, *files], cli.job_words(options)
     return what_if.results(words, level, row, reasons.planes_of_sectors(view, places), folder)
@@ -126,7 +126,7 @@ def run(options: argparse.Namespace) -> int:
             files, level = with_open_doors(files, level, folder)
         found = list_of(options, files, [row for _, row in rows], folder)
         of_walls = list_of_walls(options, files, level, [row for _, row in rows], folder)
-        places = lists.Places(level, traces.Names(files), 'what doomview list wrote')
+        places = map_places.Places(level, traces.Names(files), 'what doomview list wrote')
         is_bad = False
         for place, (number, row) in enumerate(rows):
             view, walls_view = found.view(place), of_walls.view(place)

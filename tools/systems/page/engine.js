@@ -14,10 +14,13 @@ function stream(name, path, more, out, wads = state.wads) {
   const words = [name, state.map, ...wads.map(wad => wad.name), '--tables', 'tables.bin', '--things', 'things.csv', '--path', PATH];
   try {
     return state.program.run([...words, ...more], files, out);
-  } catch (error) { // of the browser's engine
-    const why = error instanceof RangeError ? 'the browser gave no more memory' : 'the program failed in this browser';
-    throw new Wrong(`${why} (${error.message}); close other pages, and try again`);
-  }
+  } catch (error) { throw new Wrong(failureTold(error)); }
+}
+// What a run that the browser's engine ended says: for want of stack, for want of memory, or for something that is not known.
+function failureTold({ name, message }) {
+  if (/stack|recursion/.test(message)) // of V8, of Firefox
+    return `the nodes of this map are deeper than this browser can follow (${message}); take the program itself, or build the nodes anew by another builder`;
+  return `${name === 'RangeError' ? 'the browser gave no more memory' : 'the program failed in this browser'} (${message}); close other pages, and try again`;
 }
 // The same with the whole output.
 function job(name, path, more, wads) {

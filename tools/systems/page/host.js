@@ -50,6 +50,11 @@ class Host {
     Object.assign(this, { files, out, said: '', open: [null, null, null], error: 0 });
   }
   fails(number) { this.error = number; return -1; }
+  // A file that cannot be read, or an output that is not taken, is told to the program; what the engine throws, as for want of stack, ends the run.
+  failed(error) {
+    if (!(error instanceof Wrong)) throw error;
+    return this.fails(NO_WRITE);
+  }
   bytes(place, count) { return new Uint8Array(this.memory.buffer, Number(place), Number(count)); }
   name(place) {
     const bytes = new Uint8Array(this.memory.buffer, Number(place));
@@ -68,7 +73,7 @@ class Host {
     const file = this.open[number];
     if (!file) return this.fails(BAD_NUMBER);
     let piece;
-    try { piece = file.source.read(file.at, Number(count)); } catch { return this.fails(NO_WRITE); }
+    try { piece = file.source.read(file.at, Number(count)); } catch (error) { return this.failed(error); }
     this.bytes(to, piece.length).set(piece);
     file.at += piece.length;
     return piece.length;
@@ -93,7 +98,7 @@ class Host {
     if (number !== 1 && number !== 2) return this.fails(BAD_NUMBER);
     try {
       if (number === 1) this.out(piece); else this.said += new TextDecoder().decode(piece);
-    } catch { return this.fails(NO_WRITE); }
+    } catch (error) { return this.failed(error); }
     return Number(count);
   }
   word(number, to, room) {

@@ -1,5 +1,5 @@
 /* What painted a pixel, and where in the map that is, in the sentences of `doomview pixel --list` (tools/doomview_tools/
-traces.py and lists.py): a test compares them. A trace has a record of eight bytes a pixel, and the list of its view a line
+traces.py, list_files.py and map_places.py): a test compares them. A trace has a record of eight bytes a pixel, and the list of its view a line
 for each fragment, plane and sprite (docs/FORMATS.md, "Traces" and "Lines"). */
 const { KINDS, TEXTURED, SHOWN_TEXTURES, SHOWN_SECTORS } = FACTS;
 const RECORD = 8, LUMP = 1, COMPOSITE = 2, TWO_SIDED = 4;

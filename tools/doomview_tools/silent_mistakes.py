@@ -1,10 +1,11 @@
 """What doomview accepts without a word, and may still be a mistake: paths in other units, an IWAD behind its PWAD."""
 import contextlib
 import os
-import typing
+from collections.abc import Iterator
 
 from . import levels, paths
-from .jobs import LEVEL_JOBS, Words
+from .call_words import Words
+from .jobs import LEVEL_JOBS
 from .levels import EYE_HEIGHT, UNIT
 from .refusals import head_of
 from .trouble import Trouble
@@ -13,9 +14,9 @@ MOST_ROWS = 200  # of a path that are looked at
 LEAST_ANGLE = 361  # a BAM as small as a number of degrees is 0
 
 
-def of_units(path: str, rows: typing.List[paths.Row]) -> typing.Iterator[str]:
+def of_units(path: str, rows: list[paths.Row]) -> Iterator[str]:
     """Sentences on a path whose numbers are too small."""
-    places: typing.List[int] = [place for row in rows for place in row[:2]]
+    places: list[int] = [place for row in rows for place in row[:2]]
     if any(places) and max(abs(place) for place in places) < UNIT:
         yield (f'all x and y of {path} are within one map unit of 0: they are 16.16, {UNIT} a map unit. doomview path '
                'writes rows of numbers as an editor shows them')
@@ -25,15 +26,15 @@ def of_units(path: str, rows: typing.List[paths.Row]) -> typing.Iterator[str]:
                'doomview path writes rows of degrees')
 
 
-def of_height(path: str, rows: typing.List[paths.Row], level: levels.Level) -> typing.Iterator[str]:
+def of_height(path: str, rows: list[paths.Row], level: levels.Level) -> Iterator[str]:
     """A sentence on a path with all eyes on the floor."""
-    heights: typing.List[int] = [row.z - level.floor_at(row.x / UNIT, row.y / UNIT) * UNIT for row in rows]
+    heights: list[int] = [row.z - level.floor_at(row.x / UNIT, row.y / UNIT) * UNIT for row in rows]
     if rows and max(abs(height) for height in heights) <= UNIT:
         yield (f'all eyes of {path} are on the floor: z is the height of the eye, {EYE_HEIGHT} units above the feet of '
                'a player who stands')
 
 
-def of_path(words: Words) -> typing.Iterator[str]:
+def of_path(words: Words) -> Iterator[str]:
     """Sentences on the path of a job, as far as it and the map can be read."""
     path = words.value('--path')
     if not path or not os.path.isfile(path):
@@ -46,7 +47,7 @@ def of_path(words: Words) -> typing.Iterator[str]:
             yield from of_height(path, rows, levels.read(words.wads, words.map_name))
 
 
-def of_wads(words: Words) -> typing.Iterator[str]:
+def of_wads(words: Words) -> Iterator[str]:
     """A sentence on each IWAD that comes behind a PWAD."""
     heads = [head_of(wad) for wad in words.wads]
     for number, wad in enumerate(words.wads):
@@ -56,7 +57,7 @@ def of_wads(words: Words) -> typing.Iterator[str]:
                    'WAD. Put the IWAD first')
 
 
-def of_words(words: Words) -> typing.List[str]:
+def of_words(words: Words) -> list[str]:
     """Sentences without their full stop on the words of a job over a level: WADs found, tables named."""
     if words.job not in LEVEL_JOBS or not words.wads:
         return []

@@ -5,6 +5,7 @@ that there is one. A quarter of a square that was not cut in both runs is left o
 version 1.0 wrote has no places, and sums alone are compared."""
 import json
 import typing
+from collections.abc import Iterator
 
 from .counting import COUNTS
 from .list_counts import Counts
@@ -13,8 +14,8 @@ from .trouble import Trouble
 SHOWN = 4  # places in a line
 NUMBERS = 3  # before the counts of a place: its x, its y, the side of its square
 
-Numbers = typing.Dict[str, typing.Any]  # of a map, of a state of its doors, or of a count, as JSON has them
-Place = typing.Tuple[int, int]  # its x and y
+Numbers = dict[str, typing.Any]  # of a map, of a state of its doors, or of a count, as JSON has them
+Place = tuple[int, int]  # its x and y
 
 
 class Start(typing.NamedTuple):
@@ -57,12 +58,12 @@ class Comparison(typing.NamedTuple):
     """What differs between two runs: as lines, and place by place, what grew most first. `is_worse` if something over a
     limit got worse."""
 
-    lines: typing.List[str]
-    changes: typing.List[Change]
+    lines: list[str]
+    changes: list[Change]
     is_worse: bool
 
 
-def numbers_of(path: str) -> typing.Dict[str, Numbers]:
+def numbers_of(path: str) -> dict[str, Numbers]:
     """The numbers of an earlier run by the names of maps: of one map, or of a map in each line."""
     try:
         with open(path, encoding='utf-8') as file:
@@ -76,7 +77,7 @@ def numbers_of(path: str) -> typing.Dict[str, Numbers]:
         raise Trouble(f'{path} is nothing that limits-map --json wrote') from error
 
 
-def runs_in(text: str) -> typing.List[Numbers]:
+def runs_in(text: str) -> list[Numbers]:
     """The numbers of a text: of one map, or of a map in each line."""
     return [json.loads(text)] if '\n}' in text else [json.loads(line) for line in text.splitlines()]
 
@@ -117,8 +118,8 @@ def comparison_of(before: Numbers, now: Numbers, limits: Counts) -> Comparison:
 def comparison_of_count(before: Numbers, now: Numbers, name: str, limit: int) -> Comparison:
     """The same of one count, with the doors shut or open."""
     sums, old_sums = sums_of(now['counts'][name]), sums_of(before['counts'][name])
-    changes: typing.List[Change] = []
-    lines: typing.List[str] = []
+    changes: list[Change] = []
+    lines: list[str] = []
     if 'squares' in before:
         changes = changes_of(before, now, name, limit)
         worse, better = ([change for change in changes if change.is_worse == is_worse] for is_worse in (True, False))
@@ -135,12 +136,12 @@ def comparison_of_count(before: Numbers, now: Numbers, name: str, limit: int) ->
     return Comparison([head, *lines], changes, is_worse)
 
 
-def sums_of(count: Numbers) -> typing.Tuple[int, int]:
+def sums_of(count: Numbers) -> tuple[int, int]:
     """How many views are over the limit, and the greatest count."""
     return int(count['over']), int(count['most'])
 
 
-def changes_of(before: Numbers, now: Numbers, name: str, limit: int) -> typing.List[Change]:
+def changes_of(before: Numbers, now: Numbers, name: str, limit: int) -> list[Change]:
     """The places at which a count differs and is over its limit, now or before; what differs most first."""
     old, new = squares_of(before, name), squares_of(now, name)
     found = [change for place in old.keys() | new.keys() for change in change_at(place, old, new, now['doors'], name)]
@@ -148,14 +149,14 @@ def changes_of(before: Numbers, now: Numbers, name: str, limit: int) -> typing.L
                   key=lambda change: (-change.difference, change.x, change.y))
 
 
-def squares_of(state: Numbers, name: str) -> typing.Dict[Place, Square]:
+def squares_of(state: Numbers, name: str) -> dict[Place, Square]:
     """The squares of a state by the x and y of their middles, with one of their counts."""
     at = NUMBERS + COUNTS.index(name)
     return {(square[0], square[1]): Square(square[2], square[at]) for square in state['squares']}
 
 
-def change_at(place: Place, old: typing.Dict[Place, Square], new: typing.Dict[Place, Square], doors: str,
-              name: str) -> typing.Iterator[Change]:
+def change_at(place: Place, old: dict[Place, Square], new: dict[Place, Square], doors: str,
+              name: str) -> Iterator[Change]:
     """The change of a count at a place, if it is one. A quarter in one run alone is none."""
     before, now = (squares[place].count if place in squares else None for squares in (old, new))
     is_in_both = before is not None and now is not None
@@ -163,14 +164,14 @@ def change_at(place: Place, old: typing.Dict[Place, Square], new: typing.Dict[Pl
         yield Change(doors, name, *place, before, now)
 
 
-def is_quarter(place: Place, squares: typing.Dict[Place, Square]) -> bool:
+def is_quarter(place: Place, squares: dict[Place, Square]) -> bool:
     """Whether a square is the quarter of another."""
     (x, y), side = place, squares[place].side
     return any(squares.get((x + i, y + j), Square(0, 0)).side == 2 * side
                for i in (-side // 2, side // 2) for j in (-side // 2, side // 2))
 
 
-def places_in_words(word: str, changes: typing.List[Change]) -> str:
+def places_in_words(word: str, changes: list[Change]) -> str:
     """The places that got worse or better in words, those that differ most first."""
     shown = '; '.join(f'x {change.x} y {change.y}: {count_in_words(change.now)}, before '
                       f'{count_in_words(change.before)}'

@@ -1,4 +1,4 @@
-/* Where a player gets in a level, as tools/doomview_tools/ways.py has it, which says why: over steps, down falls, over gaps
+/* Where a player gets in a level, as tools/doomview_tools/player_reach.py has it, which says why: over steps, down falls, over gaps
 that a running jump passes, through what moves or has a special, by teleports, and to what he wants. A test compares both. */
 const { SPEED, THING_RADIUS, DESTINATION, TO_THINGS, TO_LINES, STAIRS, DONUT, SKILLS, WANTED } = FACTS;
 
@@ -29,7 +29,7 @@ function flooded(first, next) {
   return found;
 }
 
-class Ways {
+class PlayerWays {
   constructor(plan) {
     this.plan = plan; this.level = plan.level; this.moving = movingSectors(plan);
     this.linesOf = new Lists(); // of each sector the lines that a player may pass, to another
@@ -147,7 +147,7 @@ function movingSectors(plan) {
 function reachOf(plan) {
   const { level } = plan, starts = new Set(level.things.filter(thing => STARTS.includes(thing.type)).map(thing => level.sectorAt(thing.x, thing.y)));
   if (!starts.size) return { sectors: new Set(), wanted: [] };
-  const ways = new Ways(plan), found = ways.withJumps(starts);
+  const ways = new PlayerWays(plan), found = ways.withJumps(starts);
   const left = [...ways.wanted()].filter(([sector]) => !found.has(sector)).sort(([a], [b]) => a - b);
   const far = left.map(([sector, things]) => [sector, things.filter(thing => !ways.isInGrasp(thing, sector, found))]);
   return { sectors: ways.withJumps([...found, ...left.map(([sector]) => sector)]), wanted: far.filter(([, things]) => things.length) };

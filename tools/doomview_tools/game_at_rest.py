@@ -7,6 +7,7 @@ second WAD has the names that are shown then, and doomview draws that one."""
 import re
 import struct
 import typing
+from collections.abc import Iterable
 
 from . import art, doom, levels, paths, wads
 from .doom import DEMON, LAYOUTS, PLAYER_1, SPECTRE
@@ -14,7 +15,7 @@ from .levels import EYE_HEIGHT, TURN, UNIT
 from .trouble import Trouble
 
 TICS = 33  # before the first pause: the weapon is up
-Place = typing.Optional[typing.Tuple[int, int, int]]  # x and y in map units, and degrees
+Place = typing.Optional[tuple[int, int, int]]  # x and y in map units, and degrees
 STEP = 37  # of a turn of 256, from view to view
 MOST_VIEWS = 8
 UNDER_CEILING = 4  # the least map units between eye and ceiling
@@ -32,14 +33,13 @@ TEXTURES = ['BLODGR1 BLODGR4', 'SLADRIP1 SLADRIP3', 'BLODRIP1 BLODRIP4', 'FIREWA
             'SFALL1 SFALL4', 'WFALL1 WFALL4', 'DBRAIN1 DBRAIN4']
 
 
-def lump_of(layout: str, records: typing.Iterable[tuple]) -> bytes:
+def lump_of(layout: str, records: Iterable[levels.Record]) -> bytes:
     """The bytes of a lump, its names as they are in records."""
     return b''.join(struct.pack(layout, *(part.encode('latin-1') if isinstance(part, str) else part for part in record))
                     for record in records)
 
 
-def shown_names(names: typing.List[str], animations: typing.Iterable[str], tic: int, ahead: int = 0) -> typing.Dict[str,
-                str]:
+def shown_names(names: list[str], animations: Iterable[str], tic: int, ahead: int = 0) -> dict[str, str]:
     """For each animated name the one that P_UpdateSpecials shows after a tic, by its number among all names."""
     found = {}
     for first, last in (words.split() for words in animations):
@@ -51,10 +51,10 @@ def shown_names(names: typing.List[str], animations: typing.Iterable[str], tic: 
     return found
 
 
-class Rest:
+class MapAtRest:
     """A map at rest: its lumps by name, the row of the player start, and the lists of flats and textures."""
 
-    def __init__(self, files: typing.List[str], name: str, at: Place = None) -> None:
+    def __init__(self, files: list[str], name: str, at: Place = None) -> None:
         self.lumps = [lump for file in files for lump in wads.read(file)]
         self.level = levels.read(files, name)
         label = wads.map_labels(self.lumps)[self.level.name]
@@ -72,7 +72,7 @@ class Rest:
         start = self.level.player_start()
         return start._replace(x=at[0], y=at[1], angle=at[2]) if at else start
 
-    def things(self) -> typing.List[levels.Thing]:
+    def things(self) -> list[levels.Thing]:
         """The things of the level: one player start behind all others, and demons in the place of spectres."""
         others = [thing for thing in self.level.things if thing.type != PLAYER_1]
         return [thing._replace(type=DEMON) if thing.type == SPECTRE else thing for thing in others] + [self.start]
@@ -83,18 +83,18 @@ class Rest:
         eye = min(sector.floor + EYE_HEIGHT, sector.ceiling - UNDER_CEILING)
         return paths.Row(self.start.x * UNIT, self.start.y * UNIT, eye * UNIT, paths.start_angle(self.start))
 
-    def rows(self, views: int) -> typing.List[paths.Row]:
+    def rows(self, views: int) -> list[paths.Row]:
         """The viewpoints of a demo."""
         row = self.row()
         return [row._replace(angle=(row.angle + view * STEP * (TURN // 256)) % TURN) for view in range(views)]
 
-    def sectors(self, names: typing.Dict[str, str]) -> bytes:
+    def sectors(self, names: dict[str, str]) -> bytes:
         return lump_of(LAYOUTS['SECTORS'], [
             sector._replace(floor_flat=names.get(sector.floor_flat, sector.floor_flat), special=0,
                             ceiling_flat=names.get(sector.ceiling_flat, sector.ceiling_flat))
             for sector in self.level.sectors])
 
-    def sides(self, names: typing.Dict[str, str]) -> bytes:
+    def sides(self, names: dict[str, str]) -> bytes:
         return lump_of(LAYOUTS['SIDEDEFS'], [(*side[:2], *(names.get(name, name) for name in side[2:5]), side.sector)
                                             for side in self.level.sides])
 
@@ -119,7 +119,7 @@ def patch() -> str:
     return f'Patch File for DeHackEd v3.0\nDoom version = 19\nPatch format = 6\n\n{frames}'
 
 
-def number_of(name: str) -> typing.Tuple[int, int]:
+def number_of(name: str) -> tuple[int, int]:
     """The episode and number of a map, by its name."""
     found = re.fullmatch(r'E([1-9])M([1-9])|MAP(\d\d)', name)
     if not found:

@@ -7,6 +7,7 @@ import collections
 import functools
 import itertools
 import typing
+from collections.abc import Iterable, Iterator
 
 from . import ground
 from .doom import DESTINATION, EVERY_SKILL, LINES, STARTS, TELEPORTS, THINGS
@@ -19,14 +20,14 @@ TO_THINGS = {*TELEPORTS, *LINES['to_things']}  # specials of teleports that end 
 TO_LINES = set(LINES['to_lines'])  # those that end at a line of their tag
 STAIRS, DONUT = set(LINES['stairs']), set(LINES['donut'])  # specials that move sectors without a tag too
 AREA = 256  # the side of the squares by which lines are looked for
-WANTED: typing.Dict[int, str] = {int(kind): word for kind, word in THINGS['wanted'].items()}  # what a player picks up
+WANTED: dict[int, str] = {int(kind): word for kind, word in THINGS['wanted'].items()}  # what a player picks up
 
 
-Sectors = typing.Set[int]  # their numbers
-Wanted = typing.Dict[int, typing.List[int]]  # by sector the numbers of the things that a player wants there
-Goal = typing.Tuple[int, int]  # a line, and the sector behind it
-Segment = typing.Tuple[Vertex, Vertex]  # its ends
-Square = typing.Tuple[int, int]
+Sectors = set[int]  # their numbers
+Wanted = dict[int, list[int]]  # by sector the numbers of the things that a player wants there
+Goal = tuple[int, int]  # a line, and the sector behind it
+Segment = tuple[Vertex, Vertex]  # its ends
+Square = tuple[int, int]
 
 
 class Reach(typing.NamedTuple):
@@ -78,15 +79,15 @@ def room_over(one: Sector, other: Sector) -> int:
     return min(one.ceiling, other.ceiling) - max(one.floor, other.floor)
 
 
-class Ways:
+class PlayerWays:
     """The ways of a player through a level, by its plan."""
 
     def __init__(self, plan: Plan) -> None:
         self.plan, self.level = plan, plan.level
         self.moving = moving_sectors(plan)
         # Of the lines that a player may pass the sectors in front and behind, and of each sector those to another one.
-        self.beside: typing.Dict[int, typing.Tuple[int, int]] = {}
-        self.lines_of: typing.Dict[int, typing.List[int]] = collections.defaultdict(list)
+        self.beside: dict[int, tuple[int, int]] = {}
+        self.lines_of: dict[int, list[int]] = collections.defaultdict(list)
         for number, (front, back) in enumerate(plan.beside):
             if front is None or back is None or plan.is_wall(number):
                 continue
@@ -98,7 +99,7 @@ class Ways:
         self.steps = self.steps_of_lines()
         self.low, self.high = self.heights()
 
-    def heights(self) -> typing.Tuple[typing.List[int], typing.List[int]]:
+    def heights(self) -> tuple[list[int], list[int]]:
         """The lowest and the highest floor that each sector may have: what moves comes to the floors beside it."""
         sectors = self.level.sectors
         low, high = ([sector.floor for sector in sectors] for _ in range(2))
@@ -113,9 +114,9 @@ class Ways:
         front, back = self.beside[line]
         return back if front == sector else front
 
-    def steps_of_lines(self) -> typing.Dict[int, Sectors]:
+    def steps_of_lines(self) -> dict[int, Sectors]:
         """Of each sector those into which a player may step, fall, go or be teleported."""
-        found: typing.Dict[int, Sectors] = collections.defaultdict(set)
+        found: dict[int, Sectors] = collections.defaultdict(set)
         for number, line in enumerate(self.level.lines):
             for one, other in self.pairs(number):
                 if self.leads(line, one, other):
@@ -125,7 +126,7 @@ class Ways:
                 found[front].update(self.ends_of_teleport(line))
         return found
 
-    def pairs(self, number: int) -> typing.List[typing.Tuple[int, int]]:
+    def pairs(self, number: int) -> list[tuple[int, int]]:
         """The sectors on both sides of a line, in both orders; none of a wall. A line with the same sector on both
         sides has beside it what the nodes say."""
         if number not in self.beside:
@@ -135,7 +136,7 @@ class Ways:
             front, back = self.sectors_by_nodes(number)
         return [(front, back), (back, front)] if front != back else []
 
-    def sectors_by_nodes(self, number: int) -> typing.List[int]:
+    def sectors_by_nodes(self, number: int) -> list[int]:
         """The sectors a unit off the middle of a line, to its right and its left."""
         (x1, y1), (x2, y2) = self.plan.ends(number)
         length = ((x2 - x1) ** 2 + (y2 - y1) ** 2) ** .5 or 1
@@ -192,14 +193,14 @@ class Ways:
                 reached |= self.below_jump(jump) - found
         return reached
 
-    def by_square(self, goals: typing.Iterable[Goal]) -> typing.Dict[Square, typing.List[Goal]]:
+    def by_square(self, goals: Iterable[Goal]) -> dict[Square, list[Goal]]:
         """Lines, each with the sector behind it, by the squares of the map that their boxes lie over."""
         found = collections.defaultdict(list)
         for goal, square in ((goal, square) for goal in goals for square in squares_near(self.boxes[goal[0]], 0)):
             found[square].append(goal)
         return found
 
-    def edges(self, found: Sectors) -> typing.Iterator[Jump]:
+    def edges(self, found: Sectors) -> Iterator[Jump]:
         """The edges from which a player may jump."""
         for number in sorted(found):
             for line in self.lines_of[number]:
@@ -256,7 +257,7 @@ def are_near(one: Box, other: Box, length: int) -> bool:
             and one[1] - other[3] <= length and other[1] - one[3] <= length)
 
 
-def squares_near(box: Box, length: int) -> typing.Iterator[Square]:
+def squares_near(box: Box, length: int) -> Iterator[Square]:
     """The squares of the map over which a box lies that is wider by a length on each side; none of a length below 0."""
     low_x, low_y, high_x, high_y = box
     columns = range((low_x - length) // AREA, (high_x + length) // AREA + 1) if length >= 0 else ()
@@ -269,7 +270,7 @@ def moving_sectors(plan: Plan) -> Sectors:
     return found | steps_of_stairs(plan, tagged_by(plan, STAIRS)) | beside_sectors(plan, tagged_by(plan, DONUT))
 
 
-def tagged_by(plan: Plan, specials: typing.Set[int]) -> Sectors:
+def tagged_by(plan: Plan, specials: set[int]) -> Sectors:
     """The sectors with the tag of a line that has one of some specials."""
     tags = {line.tag for line in plan.level.lines if line.special in specials}
     return {number for number, sector in enumerate(plan.level.sectors) if sector.tag in tags}
@@ -282,7 +283,7 @@ def beside_sectors(plan: Plan, sectors: Sectors) -> Sectors:
 
 def steps_of_stairs(plan: Plan, first: Sectors) -> Sectors:
     """The steps of stairs that begin at some sectors: each is behind a line of the one before it, with its flat."""
-    behind: typing.Dict[int, Sectors] = collections.defaultdict(set)
+    behind: dict[int, Sectors] = collections.defaultdict(set)
     for front, back in plan.neighbours():
         if plan.level.sectors[front].floor_flat == plan.level.sectors[back].floor_flat:
             behind[front].add(back)
@@ -296,7 +297,7 @@ def steps_of_stairs(plan: Plan, first: Sectors) -> Sectors:
 
 def reach(plan: Plan) -> Reach:
     """Where a player gets from the starts of a level; nowhere if it has none."""
-    ways = Ways(plan)
+    ways = PlayerWays(plan)
     starts = {plan.level.sector_at(thing.x, thing.y) for thing in plan.level.things if thing.type in STARTS}
     if not starts:
         return Reach(set(), {})

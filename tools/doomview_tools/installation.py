@@ -1,6 +1,5 @@
 """Where the files of doomview are: in the repository, or in a release, which has no crates.txt."""
 import os
-import typing
 
 from . import system
 from .trouble import Trouble
@@ -20,7 +19,7 @@ def data(name: str) -> str:
     return os.path.join(TOOLS, 'data', name)
 
 
-def version() -> typing.Dict[str, str]:
+def version() -> dict[str, str]:
     """What the file of the version has: `version` and `logic`, by name."""
     try:
         with open(data('version'), encoding='utf-8') as file:

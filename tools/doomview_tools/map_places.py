@@ -1,74 +1,22 @@
-"""Lists: what the views of a path are made of, item by item (docs/FORMATS.md, "Lines"), and where that is in a map.
+"""Where in a map the items of a list are: which line, sector or thing, as a map editor shows it.
 
-`ListFile(path)` reads what `doomview list` wrote; `view(number)` has the fragments, planes and sprites of a view by the
-numbers of a trace. `Places` says of an item which line, sector or thing of the map it is."""
+`Places` says it of the items of a view; `Placing` has the list of a trace, with the map that it is of."""
 import argparse
 import collections
 import csv
 import functools
-import re
 import typing
+from collections.abc import Sequence
 
-from . import home, levels, wads
+from . import installation, levels, wads
 from .doom import FRONT_AND_BACK, SKY, TWO_SIDED
-from .files import Source, check_source
-from .frames import WIDTH
+from .files import Source
 from .levels import UNIT, Level, Seg, Side
+from .list_files import Fragment, ListFile, Plane, Sprite, View
 from .traces import COMPOSITE, MIDDLE, PLANE, SKY as SKY_PLANE, SPRITE, WALL, Names, Painter, Record
 from .trouble import Trouble
 
-LONGEST = 400  # bytes of a line
 SHOWN_SECTORS = 6
-
-
-class Fragment(typing.NamedTuple):
-    """A part of a wall: its seg, and its first and last column."""
-
-    seg: int
-    first: int
-    last: int
-
-
-class Plane(typing.NamedTuple):
-    """A plane: its height in 16.16, its flat, which is a lump, or None for sky, its light, the word for what made it, leaf
-    or fragment, the number of that, and in how many columns it has rows."""
-
-    height: int
-    flat: typing.Optional[int]
-    light: int
-    maker: str
-    number: int
-    columns: int
-
-
-class Sprite(typing.NamedTuple):
-    """A sprite: its thing, its picture, and its first and last column."""
-
-    thing: int
-    lump: int
-    first: int
-    last: int
-
-
-class Sums(typing.NamedTuple):
-    """How many of each a view has, and how many fragments and sprites without limits."""
-
-    fragments: int
-    all_fragments: int
-    planes: int
-    openings: int
-    sprites: int
-    all_sprites: int
-
-
-class View(typing.NamedTuple):
-    """What a view is made of. One over a limit has the name and the number of that, and nothing else."""
-
-    fragments: typing.List[Fragment]
-    planes: typing.List[Plane]
-    sprites: typing.List[Sprite]
-    sums: typing.Optional[Sums]
-    over: typing.Optional[typing.Tuple[str, int]]
 
 
 class Key(typing.NamedTuple):
@@ -84,7 +32,7 @@ class Group(typing.NamedTuple):
 
     key: Key
     sides: str
-    sectors: typing.List[int]
+    sectors: list[int]
 
 
 class Position(typing.NamedTuple):
@@ -97,112 +45,16 @@ class Position(typing.NamedTuple):
 
 
 Item = typing.TypeVar('Item', Fragment, Plane, Sprite)
-Items = typing.Dict[str, typing.List[typing.Any]]  # of a view, by their kinds
-Sides = typing.Set[str]  # floor, ceiling
-
-# The name of the group that a line has is the kind of the line.
-LINE = re.compile(r'view (\d+) (?:'
-                  r'(?P<fragment>fragment (\d+) seg (\d+) first (\d+) last (\d+))|'
-                  r'(?P<plane>plane (\d+) height (-?\d+) flat (\d+|sky) light (-?\d+) (leaf|fragment) (\d+) '
-                  r'columns (\d+))|'
-                  r'(?P<sprite>sprite (\d+) thing (\d+) lump (\d+) first (-?\d+) last (-?\d+))|'
-                  r'(?P<sums>fragments (\d+) of (\d+) planes (\d+) openings (\d+) sprites (\d+) of (\d+))|'
-                  r'(?P<over>over (planes|openings) (\d+)))\n')
-ITEMS = ['fragment', 'plane', 'sprite']  # in the order of their lines
+Sides = set[str]  # floor, ceiling
 
 
-def item(kind: str, values: typing.Sequence[str]) -> typing.Union[Fragment, Plane, Sprite]:
-    """A fragment, a plane or a sprite by the words of its line."""
-    if kind == 'plane':
-        height, flat, light, maker, number, columns = values
-        return Plane(int(height), None if flat == 'sky' else int(flat), int(light), maker, int(number), int(columns))
-    return (Fragment if kind == 'fragment' else Sprite)(*map(int, values))
-
-
-class ListFile:
-    """A file that `doomview list` wrote, which is read and checked to its end; views are read where they are asked."""
-
-    def __init__(self, path: str) -> None:
-        check_source(path)
-        self.path, self.line = path, 0
-        self.places: typing.List[typing.Tuple[int, int]] = []  # of the views in the file: bytes and lines before each
-        with open(path, 'rb') as file:
-            while True:
-                place = file.tell(), self.line
-                if self.read_view(file, len(self.places)) is None:
-                    break
-                self.places.append(place)
-
-    @property
-    def count(self) -> int:
-        return len(self.places)
-
-    def view(self, number: int) -> View:
-        """What a view is made of."""
-        with open(self.path, 'rb') as file:
-            place, self.line = self.places[number]
-            file.seek(place)
-            view = self.read_view(file, number)
-            assert view is not None, 'the file was read to its end before'
-            return view
-
-    def wrong(self, what: str) -> Trouble:
-        return Trouble(f'{self.path}, line {self.line}: {what}; name the whole of what doomview list wrote')
-
-    def read_view(self, file: typing.BinaryIO, number: int) -> typing.Optional[View]:
-        """The view of a number, which is the next of a file; None at the end of the file."""
-        items: Items = {kind: [] for kind in ITEMS}
-        while True:
-            text = file.readline(LONGEST)
-            if not text and not any(items.values()):
-                return None
-            self.line += 1
-            found = LINE.fullmatch(text.decode('latin-1'))
-            if not found:
-                raise self.wrong('the file ends within a view' if not text else 'this is no line of a list')
-            if int(found[1]) != number:
-                raise self.wrong(f'the line of view {number} that has its sums is missing' if any(items.values())
-                                 else f'view {found[1]} stands where view {number} should')
-            kind, values = found.lastgroup or '', [value for value in found.groups() if value is not None][2:]
-            if kind not in ITEMS:
-                return self.whole_view(number, items, kind, values)
-            self.check_order(items, kind, int(values[0]))
-            last = item(kind, values[1:])
-            items[kind].append(last)
-            if isinstance(last, Plane) and last.maker == 'fragment' and last.number >= len(items['fragment']):
-                raise self.wrong(f'view {number} has no fragment {last.number}')
-
-    def check_order(self, items: Items, kind: str, number: int) -> None:
-        """A Trouble where an item is not the next of its kind, or stands behind items that come after it."""
-        if number != len(items[kind]) or any(items[later] for later in ITEMS[ITEMS.index(kind) + 1:]):
-            raise self.wrong(f'{kind} {number} stands where {kind} {len(items[kind])} or a later item should')
-
-    def whole_view(self, number: int, items: Items, kind: str, values: typing.Sequence[str]) -> View:
-        """A view by its last line."""
-        fragments, planes, sprites = (items[kind] for kind in ITEMS)
-        if kind == 'over':
-            if fragments or planes or sprites:
-                raise self.wrong(f'view {number} has items, and passes a limit')
-            return View([], [], [], None, (values[0], int(values[1])))
-        sums = Sums(*map(int, values))
-        if (len(fragments), len(planes), len(sprites)) != (sums.fragments, sums.planes, sums.sprites):
-            raise self.wrong(f'the sums of view {number} are not those of its lines')
-        return View(fragments, planes, sprites, sums, None)
-
-
-def narrow(view: View, least: int) -> typing.Set[int]:
-    """The numbers of a view's sprites that have fewer columns than the least, and are not cut by an edge of the screen."""
-    return {number for number, sprite in enumerate(view.sprites)
-            if 0 < sprite.first <= sprite.last < WIDTH - 1 and sprite.last - sprite.first + 1 < least}
-
-
-def some_of(words: typing.Sequence[object], most: int) -> str:
+def some_of(words: Sequence[object], most: int) -> str:
     """Words in a row, of which some are shown at most."""
     more = f' and {len(words) - most} more' if len(words) > most else ''
     return ', '.join(map(str, words[:most])) + more
 
 
-def sectors_in_words(sectors: typing.Sequence[int], most: int = SHOWN_SECTORS) -> str:
+def sectors_in_words(sectors: Sequence[int], most: int = SHOWN_SECTORS) -> str:
     return ('sector ' if len(sectors) == 1 else 'sectors ') + some_of(sectors, most)
 
 
@@ -211,14 +63,14 @@ class Places:
 
     def __init__(self, level: Level, names: Names, path: str) -> None:
         self.level, self.names, self.path = level, names, path
-        self.known: typing.Tuple[typing.Optional[View], typing.Dict[Key, str]] = (None, {})  # sides of planes of a view
-        self.having: typing.Dict[str, typing.Dict[Key, typing.List[int]]] = {
+        self.known: tuple[typing.Optional[View], dict[Key, str]] = (None, {})  # sides of planes of a view
+        self.having: dict[str, dict[Key, list[int]]] = {
             'floor': collections.defaultdict(list), 'ceiling': collections.defaultdict(list)}
         for number in range(len(level.sectors)):
             for side, key in self.keys_of(number).items():
                 self.having[side][key].append(number)
 
-    def keys_of(self, number: int) -> typing.Dict[str, Key]:
+    def keys_of(self, number: int) -> dict[str, Key]:
         """The planes of a sector: of its floor and of its ceiling."""
         sector = self.level.sectors[number]
         pairs = {'floor': (sector.floor, sector.floor_flat), 'ceiling': (sector.ceiling, sector.ceiling_flat)}
@@ -231,7 +83,7 @@ class Places:
                        'words')
 
     @functools.cached_property
-    def leaf_of_seg(self) -> typing.Dict[int, int]:
+    def leaf_of_seg(self) -> dict[int, int]:
         return {seg: number for number, leaf in enumerate(self.level.leaves)
                 for seg in range(leaf.first, leaf.first + leaf.count)}
 
@@ -277,7 +129,7 @@ class Places:
             raise self.other(f'{self.level.name} has no leaf with seg {fragment.seg}')
         return self.sector_of_leaf(self.leaf_of_seg[fragment.seg])
 
-    def maker_of(self, view: View, plane: Plane) -> typing.Tuple[int, str]:
+    def maker_of(self, view: View, plane: Plane) -> tuple[int, str]:
         """The sector that made a plane, and how, in words."""
         if plane.maker == 'leaf':
             sector = self.sector_of_leaf(plane.number)
@@ -294,13 +146,13 @@ class Places:
             raise self.other(f'the WADs have no lump {plane.flat}')
         return Key(plane.height / UNIT, self.names.lumps[plane.flat], plane.light)
 
-    def sides_of(self, view: View) -> typing.Dict[Key, str]:
+    def sides_of(self, view: View) -> dict[Key, str]:
         """Of each plane's key whether it is a floor's or a ceiling's, or both in words where nothing tells.
 
         The list does not say it. The sector that made a plane does, unless its floor and ceiling are the same, as of a
         door that is shut; then another plane of the view may, since floors are below the eye and ceilings above it."""
         if self.known[0] is not view:
-            found: typing.Dict[Key, Sides] = collections.defaultdict(set)
+            found: dict[Key, Sides] = collections.defaultdict(set)
             for plane in view.planes:
                 key, sector = self.key_of(plane), self.maker_of(view, plane)[0]
                 sides = {side for side, own in self.keys_of(sector).items() if own == key}
@@ -310,7 +162,7 @@ class Places:
             self.known = view, self.words_of_sides(found)
         return self.known[1]
 
-    def words_of_sides(self, found: typing.Dict[Key, Sides]) -> typing.Dict[Key, str]:
+    def words_of_sides(self, found: dict[Key, Sides]) -> dict[Key, str]:
         """The sides of keys, which are more than one of some, in words."""
         plain = {key: sides for key, sides in found.items() if key.flat != SKY}
         floors = [key.height for key, sides in plain.items() if sides == {'floor'}]
@@ -336,7 +188,7 @@ class Places:
         having = [side for side in self.having if side in sides or sides == 'sky']
         return Group(key, sides, sorted({number for side in having for number in self.having[side][key]}))
 
-    def parts(self, fragment: Fragment, kind: int) -> typing.List[typing.Tuple[str, str]]:
+    def parts(self, fragment: Fragment, kind: int) -> list[tuple[str, str]]:
         """The parts of a wall that a fragment may show: pairs of the part and the name of its texture."""
         seg, side = self.seg(fragment.seg), self.side_of(fragment)
         line = self.level.lines[seg.line]
@@ -372,9 +224,9 @@ class Places:
         return None
 
     @functools.cached_property
-    def bright_types(self) -> typing.Set[int]:
+    def bright_types(self) -> set[int]:
         """The types of things that are full bright in the frame in which they are placed, by the tools' own table."""
-        with open(home.data('things.csv'), newline='', encoding='utf-8') as file:
+        with open(installation.data('things.csv'), newline='', encoding='utf-8') as file:
             return {int(row['type']) for row in csv.DictReader(file) if row['bright'] == '1'}
 
     def is_bright(self, view: View, kind: int, number: int) -> bool:
@@ -420,7 +272,7 @@ class Places:
         return Position(f'thing {sprite.thing} of type {thing.type} at {thing.x},{thing.y}',
                         f'lump {self.names.source(painter)}', f'sprite {number}', '')
 
-    def item(self, items: typing.Sequence[Item], word: str, number: int) -> Item:
+    def item(self, items: Sequence[Item], word: str, number: int) -> Item:
         if number >= len(items):
             raise self.other(f'the trace has {word} {number}, and the list has {len(items)} of them in the view')
         return items[number]
@@ -449,7 +301,7 @@ class Places:
 class Placing:
     """The list of a trace, with the map that it is of."""
 
-    def __init__(self, path: str, count: int, files: typing.List[str], name: typing.Optional[str], names: Names,
+    def __init__(self, path: str, count: int, files: list[str], name: typing.Optional[str], names: Names,
                  trace: str) -> None:
         self.list = ListFile(path)
         if self.list.count != count:
@@ -462,7 +314,7 @@ class Placing:
         return self.list.view(number)
 
 
-def only_map(files: typing.List[str]) -> str:
+def only_map(files: list[str]) -> str:
     """The name of the map of some WADs that have one alone."""
     found = wads.map_labels([lump for file in files for lump in wads.read(file)])
     if len(found) != 1:
@@ -477,8 +329,8 @@ def add_words(parser: argparse.ArgumentParser) -> None:
     parser.add_argument('--map', metavar='NAME', help='the map of the list, where the WADs have more than one')
 
 
-def placing_of(options: argparse.Namespace, files: typing.List[str], count: int,
-               names: Names, has_map: bool = False) -> typing.Optional[Placing]:
+def placing_of(options: argparse.Namespace, files: list[str], count: int, names: Names,
+               has_map: bool = False) -> typing.Optional[Placing]:
     """The list that the words of a tool name, or None; its trace has a number of views. Where `has_map` holds a map may be
     named without a list."""
     if not options.list:

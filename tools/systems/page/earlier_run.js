@@ -1,4 +1,4 @@
-/* The count of a map as it was, beside a new one: what got worse and what better, place by place, as tools/doomview_tools/earlier.py has it,
+/* The count of a map as it was, beside a new one: what got worse and what better, place by place, as tools/doomview_tools/earlier_run.py has it,
 which says why: a test compares both. The count before is that of the version that was shown last, or what limits-map --json wrote. */
 const { CHANGES_SHOWN } = FACTS, BEFORE_COUNTS = 3; // numbers of a square before its counts: its x, its y, its side
 

@@ -3,7 +3,7 @@ import unittest
 
 from made_files import Tools
 from made_maps import NO_SIDE, Map
-from doomview_tools import ground, levels, ways
+from doomview_tools import ground, levels, player_reach
 
 RED_KEY, DESTINATION, LAMP = 13, 14, 2028
 PIT = {'floor': -200}
@@ -25,7 +25,7 @@ class Ways(Tools):
     def reach(self, made):
         """The letters of the sectors that a player reaches, and by letter the things to which no way was found."""
         level = levels.read([self.write('made.wad', made.wad())], 'MAP01')
-        found = ways.reach(ground.Plan(level))
+        found = player_reach.reach(ground.Plan(level))
         return (''.join(sorted(made.letters[number] for number in found.sectors)),
                 {made.letters[number]: things for number, things in found.wanted.items()})
 
@@ -35,8 +35,8 @@ class Ways(Tools):
     def test_jump_length(self):
         """As wide as tic by tic, in the original's order."""
         for depth in [-24, -23, 0, 1, 24, 100, 1000]:
-            self.assertEqual(ways.jump_length(depth), gap_passed(depth), depth)
-        self.assertEqual((ways.jump_length(-25), ways.jump_length(0)), (-1, 242))
+            self.assertEqual(player_reach.jump_length(depth), gap_passed(depth), depth)
+        self.assertEqual((player_reach.jump_length(-25), player_reach.jump_length(0)), (-1, 242))
 
     def test_jumps(self):
         """A running jump passes 192 units to the same height, 256 to a lower floor, and none to more than a step."""
