@@ -15,6 +15,7 @@ LEAST_ALIKE, LESS = 0.7, 0.2  # of its pixels that are the same where it was mov
 LEAST_MIRRORED = 0.5  # of its pixels, which are other texels where it is small
 LEAST_PIXELS, LEAST_COLOURS = 24, 3  # of an item, and of a line of it
 MOST = 0.9  # of what is looked at
+OURS, PORT = 0, 1  # of a pair of colours
 
 
 class Sample(typing.NamedTuple):
@@ -30,6 +31,7 @@ class Sample(typing.NamedTuple):
 
 Step = typing.Tuple[int, int]  # rows and columns
 Item = typing.Tuple[int, int]  # a kind and a number
+Pairs = typing.Set[typing.Tuple[int, int]]  # of doomview's colour and the port's
 
 
 def kinds_in(sample: Sample) -> bytes:
@@ -108,12 +110,12 @@ def mirrored(sample: Sample, places: typing.List[int], both: int) -> float:
     return same / len(places)
 
 
-def lines_in(sample: Sample, kinds: typing.Collection[int]) -> typing.Iterator[typing.Tuple[Item, lights.Pairs]]:
+def lines_in(sample: Sample, kinds: typing.Collection[int]) -> typing.Iterator[typing.Tuple[Item, Pairs]]:
     """The pairs of colours of each line that differs: of a column of a wall or of the sky, of a row of a plane, of a whole
     sprite."""
     kept = kinds_in(sample).translate(bytes(kind in kinds for kind in range(256)))
     marks = differences.bytes_of(differences.number_of(kept) & differences.number_of(sample.marks))
-    found: typing.Dict[typing.Tuple[Item, int], lights.Pairs] = collections.defaultdict(set)
+    found: typing.Dict[typing.Tuple[Item, int], Pairs] = collections.defaultdict(set)
     for place in differences.places_of(marks):
         kind, low, high = lights.key_at(sample.records, place)
         line = place % WIDTH if kind == SKY else lights.line_of(kind, place)
@@ -129,25 +131,31 @@ def is_lit(samples: typing.List[Sample], kinds: typing.Collection[int], known: l
         for _, pairs in lines_in(sample, kinds):
             if len(pairs) >= LEAST_COLOURS:
                 ways = -1
-                for pair in pairs:
-                    ways &= known.ways(*pair)
+                for ours, port in pairs:
+                    ways &= known.ways(ours + lights.COLOURS * port)
                 whole += 1
                 lit += ways != 0
     return whole > 0 and lit >= MOST * whole
 
 
 def has_same_texels(samples: typing.List[Sample], kinds: typing.Collection[int], texels: Texels, colormaps: bytes) -> bool:
-    """Whether each line has texels of the same flat or texture, under one colormap."""
+    """Whether the port has in each line texels of the same flat or texture, under one colormap."""
+    return share_of_texels(samples, kinds, texels, colormaps, PORT) >= MOST
+
+
+def share_of_texels(samples: typing.List[Sample], kinds: typing.Collection[int], texels: Texels, colormaps: bytes,
+                    of: int) -> float:
+    """The share of the lines in which we, or the port, have texels of our flat or texture alone, under one colormap."""
     same = whole = 0
     for sample in samples:
         painters = {(painter.kind, number): painter for painter, numbers in sample.pixels.items() for number in numbers}
         for item, pairs in lines_in(sample, kinds):
-            port = {colour for _, colour in pairs}
-            if len(port) >= LEAST_COLOURS and item in painters:
+            colours = {pair[of] for pair in pairs}
+            if len(colours) >= LEAST_COLOURS and item in painters:
                 whole += 1
                 own = texels.colours(painters[item], item[0] == PLANE)
-                same += any(port <= mapped(colormaps, number, own) for number in range(len(colormaps) // COLORMAP_SIZE))
-    return whole > 0 and same >= MOST * whole
+                same += any(colours <= mapped(colormaps, number, own) for number in range(len(colormaps) // COLORMAP_SIZE))
+    return same / whole if whole else 0.0
 
 
 def is_recoloured(samples: typing.List[Sample], kind: int) -> bool:
@@ -225,6 +233,31 @@ def is_end_of_columns(samples: typing.List[Sample]) -> bool:
     return whole > 0 and ends >= MOST * whole and longer * 2 > whole
 
 
+def is_edge_of_planes(samples: typing.List[Sample]) -> bool:
+    """Whether most of what differs is single pixels of planes or skies, each above or below another item."""
+    edges = whole = 0
+    for sample in samples:
+        for place in differences.places_of(sample.marks):
+            key, near = lights.key_at(sample.records, place), [at for at in (place - WIDTH, place + WIDTH) if 0 <= at < SIZE]
+            is_single = key[0] in (PLANE, SKY) and not any(sample.marks[at] for at in near)
+            edges += is_single and any(lights.key_at(sample.records, at) != key for at in near)
+            whole += 1
+    return whole > 0 and edges >= LEAST_ALIKE * whole
+
+
+def is_of_middles(samples: typing.List[Sample]) -> bool:
+    """Whether middle textures differ, and all else that differs is in the same columns: what is behind them, or before."""
+    middles = beside = whole = 0
+    for sample in samples:
+        places = differences.places_of(sample.marks)
+        own = [place for place in places if sample.records[differences.RECORD * place] == MIDDLE]
+        columns = {place % WIDTH for place in own}
+        middles += len(own)
+        beside += sum(place % WIDTH in columns for place in places)
+        whole += len(places)
+    return middles * 3 > whole and beside >= MOST * whole
+
+
 def is_unpainted(samples: typing.List[Sample]) -> bool:
     """Whether the port has 0, as where nothing is painted, wherever it differs."""
     whole = sum(sample.marks.count(1) for sample in samples)
@@ -288,6 +321,21 @@ def like_planes(sample: Sample) -> typing.Set[int]:
     keys = planes_by_key(sample)
     return {number for (height, flat, light), numbers in keys.items() for number in numbers
             if any((height, flat, light) != key and flat == key[1] and (height == key[0] or light == key[2]) for key in keys)}
+
+
+def pixels_by_order(samples: typing.List[Sample]) -> typing.Tuple[int, int]:
+    """How many pixels differ of planes whose like are all behind them in the order of the list, and of those whose like are all
+    before them; the nearer plane is found first."""
+    first = last = 0
+    for sample in samples:
+        differing, _ = pixels_of_planes(sample)
+        keys = planes_by_key(sample)
+        for (height, flat, light), numbers in keys.items():
+            like = [number for key, others in keys.items() for number in others
+                    if key != (height, flat, light) and flat == key[1] and (height == key[0] or light == key[2])]
+            first += sum(differing[number] for number in numbers if like and number < min(like))
+            last += sum(differing[number] for number in numbers if like and number > max(like))
+    return first, last
 
 
 def wholly_differing(sample: Sample, kind: int) -> typing.List[bool]:

@@ -103,7 +103,7 @@ class Firefox:
                                         env={**os.environ, 'HOME': self.profile.name})
         self.errors: list[str] = []
         self.requests: list[str] = []
-        self.count = 0
+        self.count, self.wire = 0, None
         try:
             self.wire = WebSocket(self.port(), '/session')
             self.call('session.new', capabilities={})
@@ -132,6 +132,8 @@ class Firefox:
         self.end()
 
     def end(self):
+        if self.wire:
+            self.wire.socket.close()
         self.process.terminate()
         try:
             self.process.wait(STARTED)

@@ -99,6 +99,8 @@ def sprite(kind=SPRITE, rows=range(60, 100), columns=range(130, 160)):
 # Of each name a scene, what the port has in the place of a texel, and what more is said.
 FAULTS = {
     'column count': ([wall(), plane()], lambda block, row, column: 0 if block.kind == WALL and row == 99 else block.texel(row, column), ''),
+    'wall edges': ([wall(), plane(rows=range(100, 190))],
+                   lambda block, row, column: texel(row, column, COLOURS[0]) if block.kind == PLANE and row == 100 else block.texel(row, column), ''),
     'texture height': ([wall(0), wall(1, 1, columns=range(90, 160))],
                        lambda block, row, column: block.texel(row + 3 * block.number, column + 9 * block.number), ''),
     'texture width': ([wall(0), wall(1, 2, columns=range(90, 160))],
@@ -204,6 +206,12 @@ class Symptoms(Tools):
         sample = sample._replace(items=sample.items._replace(planes=planes))
         self.assertEqual((shapes.like_planes(sample), shapes.split_planes(sample)), ({0, 1}, set()))
         self.assertTrue(shapes.differ_where([sample], shapes.like_planes))
+        for different, order, name in (({0}, (1, 0), 'plane edges'), ({1}, (0, 1), 'planes as one'), ({0, 1}, (1, 1), '')):
+            some = self.sample(different)
+            some = some._replace(items=some.items._replace(planes=planes))
+            self.assertEqual(shapes.pixels_by_order([some]), tuple(4200 * part for part in order))
+            evidence = symptoms.Evidence([some], {'plane': 1}, [0], [], None, None, b'')
+            self.assertEqual(symptoms.by_list(evidence), name)
 
     def test_texels(self):
         """The colours of a patch, of a texture and of a flat, and none of what is damaged."""
