@@ -13,9 +13,9 @@ MOST_PLACES = 160  # of an item by which it is looked for elsewhere
 FARTHEST, NEAR = 40, 8  # pixels, along rows or columns, and in both directions
 LEAST_ALIKE, LESS = 0.7, 0.2  # of its pixels that are the same where it was moved to, and how many less where it was
 LEAST_MIRRORED = 0.5  # of its pixels, which are other texels where it is small
+SEVERAL = 3  # textures
 LEAST_PIXELS, LEAST_COLOURS = 24, 3  # of an item, and of a line of it
 MOST = 0.9  # of what is looked at
-OURS, PORT = 0, 1  # of a pair of colours
 
 
 class Sample(typing.NamedTuple):
@@ -139,23 +139,17 @@ def is_lit(samples: typing.List[Sample], kinds: typing.Collection[int], known: l
 
 
 def has_same_texels(samples: typing.List[Sample], kinds: typing.Collection[int], texels: Texels, colormaps: bytes) -> bool:
-    """Whether the port has in each line texels of the same flat or texture, under one colormap."""
-    return share_of_texels(samples, kinds, texels, colormaps, PORT) >= MOST
-
-
-def share_of_texels(samples: typing.List[Sample], kinds: typing.Collection[int], texels: Texels, colormaps: bytes,
-                    of: int) -> float:
-    """The share of the lines in which we, or the port, have texels of our flat or texture alone, under one colormap."""
+    """Whether each line has texels of the same flat or texture, under one colormap."""
     same = whole = 0
     for sample in samples:
         painters = {(painter.kind, number): painter for painter, numbers in sample.pixels.items() for number in numbers}
         for item, pairs in lines_in(sample, kinds):
-            colours = {pair[of] for pair in pairs}
-            if len(colours) >= LEAST_COLOURS and item in painters:
+            port = {colour for _, colour in pairs}
+            if len(port) >= LEAST_COLOURS and item in painters:
                 whole += 1
                 own = texels.colours(painters[item], item[0] == PLANE)
-                same += any(colours <= mapped(colormaps, number, own) for number in range(len(colormaps) // COLORMAP_SIZE))
-    return same / whole if whole else 0.0
+                same += any(port <= mapped(colormaps, number, own) for number in range(len(colormaps) // COLORMAP_SIZE))
+    return whole > 0 and same >= MOST * whole
 
 
 def is_recoloured(samples: typing.List[Sample], kind: int) -> bool:
@@ -267,16 +261,20 @@ def is_unpainted(samples: typing.List[Sample]) -> bool:
 
 
 def differ_by(samples: typing.List[Sample], texels: Texels, is_usual: typing.Callable[[typing.Any], bool]) -> bool:
-    """Whether walls differ where their texture is not as usual, and where it is they do not."""
+    """Whether walls differ where their texture is not as usual, and where it is they do not: most of those that are not as
+    usual, or of several textures."""
     differing: typing.Counter[bool] = collections.Counter()
     whole: typing.Counter[bool] = collections.Counter()
+    names: typing.Set[str] = set()
     for sample in samples:
         for marks, counts in ((sample.marks, differing), (bytes([1]) * SIZE, whole)):
             for painter, numbers in traces.pixels_of(sample.records, marks).items():
                 texture = texels.texture_of(painter) if painter.kind in (WALL, MIDDLE) else None
                 if texture:
                     counts[is_usual(texture)] += sum(numbers.values())
-    return whole[True] > 500 and differing[True] * 50 < whole[True] and differing[False] * 5 > whole[False] > 100
+                    names.update([texture.name] if counts is differing and not is_usual(texture) else [])
+    is_most, are_several = differing[False] * 5 > whole[False] > 100, len(names) >= SEVERAL and whole[True] > whole[False]
+    return whole[True] > 500 and differing[True] * 50 < min(whole[True], differing[False]) and (is_most or are_several)
 
 
 def planes_by_key(sample: Sample) -> typing.Dict[typing.Tuple[int, typing.Optional[int], int], typing.List[int]]:

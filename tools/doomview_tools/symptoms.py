@@ -14,7 +14,6 @@ from .traces import KINDS, MIDDLE, PLANE, SKY, SPRITE, WALL, WEAPON
 SAMPLES = 8  # views that are looked at
 ALONE = 0.9  # the share of a kind that differs alone
 COLUMN_HEIGHT = 128
-STRANGE = 0.5  # the share of columns of texels of their texture under which we paint past the textures' ends
 ORDERED = 3  # times as many pixels that differ of the planes behind, or of those in front
 MOST_ITEMS = 6  # of a view
 
@@ -36,8 +35,8 @@ TABLE = [
             'are painted: dc_yh too'),
     Symptom('wall edges', 'planes and skies alone, and most of it single pixels above or below something else',
             'R_RenderSegLoop', 'yl is (topfrac + HEIGHTUNIT - 1) >> HEIGHTBITS, and yh is bottomfrac >> HEIGHTBITS'),
-    Symptom('texture height', 'walls alone, and none of textures 128 high, or where a texture ends', 'R_DrawColumn', 'the texel is '
-            '(frac >> FRACBITS) & 127, whatever the height of the texture: past its end what comes in memory'),
+    Symptom('texture height', 'walls alone, and none of textures 128 high', 'R_DrawColumn', 'the texel is (frac >> FRACBITS) & '
+            '127, whatever the height of the texture: past its end comes what is next in memory'),
     Symptom('texture width', 'walls alone, and none of textures whose width is a power of two', 'R_GetColumn, R_InitTextures',
             'the column is taken by texturewidthmask, of the largest power of two that is no wider than the texture'),
     Symptom('wall light', 'walls alone: the same texels under another colormap', 'R_StoreWallRange, R_RenderSegLoop',
@@ -123,10 +122,7 @@ def of_walls(evidence: Evidence) -> typing.Tuple[str, str]:
         return 'texture width', ''
     if shapes.is_lit(samples, (WALL,), evidence.lights):
         return 'wall light', ''
-    if not has_same(evidence, WALL):
-        return '', ''
-    ours = shapes.share_of_texels(samples, (WALL,), texels, evidence.colormaps, shapes.OURS)
-    return 'texture height' if ours < STRANGE else of_columns(evidence), ''
+    return (of_columns(evidence), '') if has_same(evidence, WALL) else ('', '')
 
 
 def of_columns(evidence: Evidence) -> str:

@@ -213,6 +213,15 @@ class Symptoms(Tools):
             evidence = symptoms.Evidence([some], {'plane': 1}, [0], [], None, None, b'')
             self.assertEqual(symptoms.by_list(evidence), name)
 
+    def test_beside_middles(self):
+        """A middle texture that is moved shows what is behind it, and hides it elsewhere: all in its columns."""
+        behind, own = wall(rows=range(30, 150), columns=range(10, 250)), Block(MIDDLE, range(90, 140), range(100, 200), (2, 1), 0, COLOURS[1])
+        moved = Block(MIDDLE, range(50, 100), range(100, 200), (2, 1), 0, COLOURS[1])
+        moved.texel = lambda row, column: own.texel(row + 40, column)
+        self.assertEqual(self.said([behind, own], drawn([behind, moved])), self.line('middle textures'))
+        port = drawn([behind, moved], lambda block, row, column: 9 if block is behind and column < 100 else block.texel(row, column))
+        self.assertEqual(self.said([behind, own], port), [])
+
     def test_texels(self):
         """The colours of a patch, of a texture and of a flat, and none of what is damaged."""
         known = texels.Texels([self.at('names.wad')])
