@@ -90,14 +90,17 @@ class Lights:
 
     def steps(self, groups: Groups) -> typing.List[int]:
         """The steps of light that can be between the colours of all columns, or rows, of a painter."""
-        found = list(STEPS)
+        found, known = list(STEPS), self.known
         for pairs in groups.values():
             ways = -1
             for pair in pairs:
-                ways &= self.ways(pair)
+                own = known.get(pair)
+                ways &= self.ways(pair) if own is None else own
                 if not ways:
                     return []
             found = [steps for steps in found if ways & STEPS[steps]]
+            if not found:
+                return []
         return found
 
     def likely(self, records: bytes, marks: bytes, ours: bytes, port: bytes) -> typing.Set[Key]:
