@@ -103,8 +103,9 @@ def painted(records: bytes, marks: bytes) -> Painted:
     numbers = memoryview(painters).cast('Q')
     found: typing.Dict[int, int] = collections.defaultdict(int)
     for number, pixels in zip(map(numbers.__getitem__, starts), map(marks.count, itertools.repeat(MARK), starts, ends)):
-        found[number] += pixels
-    return {number.to_bytes(RECORD, sys.byteorder)[:KEY]: pixels for number, pixels in found.items() if pixels}
+        if pixels:
+            found[number] += pixels
+    return {number.to_bytes(RECORD, sys.byteorder)[:KEY]: pixels for number, pixels in found.items()}
 
 
 def lines_of(marks: bytes, columns: bool) -> typing.List[bytes]:

@@ -206,12 +206,12 @@ class Symptoms(Tools):
         sample = sample._replace(items=sample.items._replace(planes=planes))
         self.assertEqual((shapes.like_planes(sample), shapes.split_planes(sample)), ({0, 1}, set()))
         self.assertTrue(shapes.differ_where([sample], shapes.like_planes))
-        for different, order, name in (({0}, (1, 0), 'plane edges'), ({1}, (0, 1), 'planes as one'), ({0, 1}, (1, 1), '')):
+        for different, order, row in (({0}, (1, 0), 'plane edges'), ({1}, (0, 1), 'planes as one'), ({0, 1}, (1, 1), '')):
             some = self.sample(different)
             some = some._replace(items=some.items._replace(planes=planes))
             self.assertEqual(shapes.pixels_by_order([some]), tuple(4200 * part for part in order))
             evidence = symptoms.Evidence([some], {'plane': 1}, [0], [], None, None, b'')
-            self.assertEqual(symptoms.by_list(evidence), name)
+            self.assertEqual(symptoms.by_list(evidence), row)
 
     def test_beside_middles(self):
         """A middle texture that is moved shows what is behind it, and hides it elsewhere: all in its columns."""
