@@ -177,7 +177,7 @@ class Files:
         if self.placing:
             known = [functools.partial(of, self.placing.view(view.number))
                      for of in (self.placing.places.light, self.placing.places.is_bright)]
-        yield from self.lights.lines(view.records, differences.places_of(marks), (view.ours, view.port), *known)
+        yield from self.lights.lines(view.records, marks, (view.ours, view.port), pixels, *known)
 
 
 def line_of(view: View, marks: bytes, found: Found) -> str:

@@ -83,7 +83,12 @@ def ends_of(records: typing.Union[bytes, bytearray]) -> list[int]:
     for part in PAINTER_BYTES:
         number = number_of(records[part::RECORD])
         changes |= number ^ number >> 8
-    runs = bytes_of(changes, len(records) // RECORD).translate(MARKS)[1:].split(bytes([MARK]))
+    return ends_of_runs(changes, len(records) // RECORD)
+
+
+def ends_of_runs(changes: int, size: int) -> typing.List[int]:
+    """The places at which runs end, of a number with a byte for each place, which is not 0 where another run begins."""
+    runs = bytes_of(changes, size).translate(MARKS)[1:].split(bytes([MARK]))
     return list(itertools.accumulate(len(run) + 1 for run in runs))
 
 
@@ -98,8 +103,9 @@ def painted(records: bytes, marks: bytes) -> Painted:
     numbers = memoryview(painters).cast('Q')
     found: dict[int, int] = collections.defaultdict(int)
     for number, pixels in zip(map(numbers.__getitem__, starts), map(marks.count, itertools.repeat(MARK), starts, ends)):
-        found[number] += pixels
-    return {number.to_bytes(RECORD, sys.byteorder)[:KEY]: pixels for number, pixels in found.items() if pixels}
+        if pixels:
+            found[number] += pixels
+    return {number.to_bytes(RECORD, sys.byteorder)[:KEY]: pixels for number, pixels in found.items()}
 
 
 def lines_of(marks: bytes, columns: bool) -> list[bytes]:

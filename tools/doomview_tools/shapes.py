@@ -14,6 +14,7 @@ MOST_PLACES = 160  # of an item by which it is looked for elsewhere
 FARTHEST, NEAR = 40, 8  # pixels, along rows or columns, and in both directions
 LEAST_ALIKE, LESS = 0.7, 0.2  # of its pixels that are the same where it was moved to, and how many less where it was
 LEAST_MIRRORED = 0.5  # of its pixels, which are other texels where it is small
+SEVERAL = 3  # textures
 LEAST_PIXELS, LEAST_COLOURS = 24, 3  # of an item, and of a line of it
 MOST = 0.9  # of what is looked at
 
@@ -31,6 +32,7 @@ class Sample(typing.NamedTuple):
 
 Step = tuple[int, int]  # rows and columns
 Item = tuple[int, int]  # a kind and a number
+Pairs = set[tuple[int, int]]  # of doomview's colour and the port's
 
 
 def kinds_in(sample: Sample) -> bytes:
@@ -109,12 +111,12 @@ def mirrored(sample: Sample, places: list[int], both: int) -> float:
     return same / len(places)
 
 
-def lines_in(sample: Sample, kinds: Collection[int]) -> Iterator[tuple[Item, lights.Pairs]]:
+def lines_in(sample: Sample, kinds: Collection[int]) -> Iterator[tuple[Item, Pairs]]:
     """The pairs of colours of each line that differs: of a column of a wall or of the sky, of a row of a plane, of a whole
     sprite."""
     kept = kinds_in(sample).translate(bytes(kind in kinds for kind in range(256)))
     marks = differences.bytes_of(differences.number_of(kept) & differences.number_of(sample.marks))
-    found: dict[tuple[Item, int], lights.Pairs] = collections.defaultdict(set)
+    found: dict[tuple[Item, int], Pairs] = collections.defaultdict(set)
     for place in differences.places_of(marks):
         kind, low, high = lights.key_at(sample.records, place)
         line = place % WIDTH if kind == SKY else lights.line_of(kind, place)
@@ -130,8 +132,8 @@ def is_lit(samples: list[Sample], kinds: Collection[int], known: lights.Lights) 
         for _, pairs in lines_in(sample, kinds):
             if len(pairs) >= LEAST_COLOURS:
                 ways = -1
-                for pair in pairs:
-                    ways &= known.ways(*pair)
+                for ours, port in pairs:
+                    ways &= known.ways(ours + lights.COLOURS * port)
                 whole += 1
                 lit += ways != 0
     return whole > 0 and lit >= MOST * whole
@@ -226,6 +228,31 @@ def is_end_of_columns(samples: list[Sample]) -> bool:
     return whole > 0 and ends >= MOST * whole and longer * 2 > whole
 
 
+def is_edge_of_planes(samples: list[Sample]) -> bool:
+    """Whether most of what differs is single pixels of planes or skies, each above or below another item."""
+    edges = whole = 0
+    for sample in samples:
+        for place in differences.places_of(sample.marks):
+            key, near = lights.key_at(sample.records, place), [at for at in (place - WIDTH, place + WIDTH) if 0 <= at < SIZE]
+            is_single = key[0] in (PLANE, SKY) and not any(sample.marks[at] for at in near)
+            edges += is_single and any(lights.key_at(sample.records, at) != key for at in near)
+            whole += 1
+    return whole > 0 and edges >= LEAST_ALIKE * whole
+
+
+def is_of_middles(samples: list[Sample]) -> bool:
+    """Whether middle textures differ, and all else that differs is in the same columns: what is behind them, or before."""
+    middles = beside = whole = 0
+    for sample in samples:
+        places = differences.places_of(sample.marks)
+        own = [place for place in places if sample.records[differences.RECORD * place] == MIDDLE]
+        columns = {place % WIDTH for place in own}
+        middles += len(own)
+        beside += sum(place % WIDTH in columns for place in places)
+        whole += len(places)
+    return middles * 3 > whole and beside >= MOST * whole
+
+
 def is_unpainted(samples: list[Sample]) -> bool:
     """Whether the port has 0, as where nothing is painted, wherever it differs."""
     whole = sum(sample.marks.count(1) for sample in samples)
@@ -235,16 +262,20 @@ def is_unpainted(samples: list[Sample]) -> bool:
 
 
 def differ_by(samples: list[Sample], texels: Texels, is_usual: Callable[[typing.Any], bool]) -> bool:
-    """Whether walls differ where their texture is not as usual, and where it is they do not."""
+    """Whether walls differ where their texture is not as usual, and where it is they do not: most of those that are not as
+    usual, or of several textures."""
     differing: collections.Counter[bool] = collections.Counter()
     whole: collections.Counter[bool] = collections.Counter()
+    names: set[str] = set()
     for sample in samples:
         for marks, counts in ((sample.marks, differing), (bytes([1]) * SIZE, whole)):
             for painter, numbers in traces.pixels_of(sample.records, marks).items():
                 texture = texels.texture_of(painter) if painter.kind in (WALL, MIDDLE) else None
                 if texture:
                     counts[is_usual(texture)] += sum(numbers.values())
-    return whole[True] > 500 and differing[True] * 50 < whole[True] and differing[False] * 5 > whole[False] > 100
+                    names.update([texture.name] if counts is differing and not is_usual(texture) else [])
+    is_most, are_several = differing[False] * 5 > whole[False] > 100, len(names) >= SEVERAL and whole[True] > whole[False]
+    return whole[True] > 500 and differing[True] * 50 < min(whole[True], differing[False]) and (is_most or are_several)
 
 
 def planes_by_key(sample: Sample) -> dict[tuple[int, typing.Optional[int], int], list[int]]:
@@ -289,6 +320,21 @@ def like_planes(sample: Sample) -> set[int]:
     keys = planes_by_key(sample)
     return {number for (height, flat, light), numbers in keys.items() for number in numbers
             if any((height, flat, light) != key and flat == key[1] and (height == key[0] or light == key[2]) for key in keys)}
+
+
+def pixels_by_order(samples: list[Sample]) -> tuple[int, int]:
+    """How many pixels differ of planes whose like are all behind them in the order of the list, and of those whose like are all
+    before them; the nearer plane is found first."""
+    first = last = 0
+    for sample in samples:
+        differing, _ = pixels_of_planes(sample)
+        keys = planes_by_key(sample)
+        for (height, flat, light), numbers in keys.items():
+            like = [number for key, others in keys.items() for number in others
+                    if key != (height, flat, light) and flat == key[1] and (height == key[0] or light == key[2])]
+            first += sum(differing[number] for number in numbers if like and number < min(like))
+            last += sum(differing[number] for number in numbers if like and number > max(like))
+    return first, last
 
 
 def wholly_differing(sample: Sample, kind: int) -> list[bool]:

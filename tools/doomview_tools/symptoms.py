@@ -15,6 +15,7 @@ from .traces import KINDS, MIDDLE, PLANE, SKY, SPRITE, WALL, WEAPON
 SAMPLES = 8  # views that are looked at
 ALONE = 0.9  # the share of a kind that differs alone
 COLUMN_HEIGHT = 128
+ORDERED = 3  # times as many pixels that differ of the planes behind, or of those in front
 MOST_ITEMS = 6  # of a view
 
 
@@ -33,8 +34,10 @@ TABLE = [
             'and psprites each by itself; the sky has neither'),
     Symptom('column count', 'the last pixel of columns alone', 'R_DrawColumn', 'count is dc_yh - dc_yl, and count + 1 pixels '
             'are painted: dc_yh too'),
+    Symptom('wall edges', 'planes and skies alone, and most of it single pixels above or below something else',
+            'R_RenderSegLoop', 'yl is (topfrac + HEIGHTUNIT - 1) >> HEIGHTBITS, and yh is bottomfrac >> HEIGHTBITS'),
     Symptom('texture height', 'walls alone, and none of textures 128 high', 'R_DrawColumn', 'the texel is (frac >> FRACBITS) & '
-            '127, whatever the height of the texture'),
+            '127, whatever the height of the texture: past its end comes what is next in memory'),
     Symptom('texture width', 'walls alone, and none of textures whose width is a power of two', 'R_GetColumn, R_InitTextures',
             'the column is taken by texturewidthmask, of the largest power of two that is no wider than the texture'),
     Symptom('wall light', 'walls alone: the same texels under another colormap', 'R_StoreWallRange, R_RenderSegLoop',
@@ -48,8 +51,10 @@ TABLE = [
             'R_DrawColumn', 'both of the rows above: dc_texturemid and rw_offset; (frac >> FRACBITS) & 127'),
     Symptom('split planes', 'planes alone, and none but those of which a view has several', 'R_CheckPlane', 'a plane whose '
             'columns are taken is followed by a new one of the same height, flat and light'),
-    Symptom('planes as one', 'planes alone, and none but those that have one like them, but for its height or its light',
+    Symptom('planes as one', 'planes alone, and of those that are alike but for height or light the ones behind',
             'R_FindPlane', 'planes are one where height, flat and light all are the same'),
+    Symptom('plane edges', 'planes alone, and of those that are alike but for height or light the ones in front',
+            'R_StoreWallRange', 'markfloor and markceiling: a plane ends at a line behind which height, flat or light is another'),
     Symptom('plane light', 'planes alone: the same texels under another colormap', 'R_DrawPlanes, R_MapPlane, '
             'R_InitLightTables', 'planezlight by the light of the sector and extralight, and in it distance >> LIGHTZSHIFT'),
     Symptom('yslope', 'planes alone: other texels of the same flat', 'R_ExecuteSetViewSize, R_MapPlane, R_DrawSpan',
@@ -58,7 +63,7 @@ TABLE = [
             'where the ceilings of both sides are sky'),
     Symptom('sky', 'the sky alone: higher or lower, to a side, or under a colormap', 'R_DrawPlanes', 'skytexturemid, '
             'ANGLETOSKYSHIFT, and colormaps, the first of all'),
-    Symptom('middle textures', 'middle textures alone', 'R_RenderMaskedSegRange, R_DrawMaskedColumn', 'dc_texturemid by the '
+    Symptom('middle textures', 'middle textures, and all else in their columns alone', 'R_RenderMaskedSegRange, R_DrawMaskedColumn', 'dc_texturemid by the '
             'higher floor or the lower ceiling, mfloorclip and mceilingclip, the order with sprites'),
     Symptom('sprite light', 'sprites alone: the same texels under another colormap', 'R_AddSprites, R_ProjectSprite',
             'spritelights by the light of the sector and extralight; FF_FULLBRIGHT is colormaps'),
@@ -142,7 +147,10 @@ def by_list(evidence: Evidence) -> str:
         return ''
     if shapes.differ_where(samples, shapes.split_planes):
         return 'split planes'
-    return 'planes as one' if shapes.differ_where(samples, shapes.like_planes) else ''
+    if not shapes.differ_where(samples, shapes.like_planes):
+        return ''
+    first, last = shapes.pixels_by_order(samples)
+    return 'planes as one' if last > ORDERED * first else 'plane edges' if first > ORDERED * last else ''
 
 
 def of_planes(evidence: Evidence) -> tuple[str, str]:
@@ -197,12 +205,14 @@ def name_of(evidence: Evidence) -> tuple[str, str]:
         return 'fixed colormap', by_rows
     if shapes.is_end_of_columns(evidence.samples):
         return 'column count', ''
+    if evidence.is_alone(PLANE, SKY) and shapes.is_edge_of_planes(evidence.samples):
+        return 'wall edges', ''
     if by_list(evidence):
         return by_list(evidence), ''
     if shapes.is_unpainted(evidence.samples):
         return 'holes', ''
     name, more = next((find(evidence) for kind, find in KNOWN_BY_KIND if evidence.is_alone(kind)), ('', ''))
-    return name, more
+    return (name, more) if name or not shapes.is_of_middles(evidence.samples) else ('middle textures', '')
 
 
 def sentences(evidence: Evidence) -> list[str]:

@@ -105,7 +105,7 @@ class Firefox:
                                         env={**os.environ, 'HOME': self.profile})
         self.errors: list[str] = []
         self.requests: list[str] = []
-        self.count = 0
+        self.count, self.wire = 0, None
         try:
             self.wire = WebSocket(self.port(), '/session')
             self.call('session.new', capabilities={})
@@ -133,7 +133,9 @@ class Firefox:
     def __exit__(self, *_: object) -> None:
         self.end()
 
-    def end(self) -> None:
+    def end(self):
+        if self.wire:
+            self.wire.socket.close()
         self.process.terminate()
         try:
             self.process.wait(STARTED)

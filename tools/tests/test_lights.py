@@ -4,7 +4,7 @@ import unittest
 
 from made_files import Tools, wad
 from test_compare import FRAME, WIDTH, texture_list, traced
-from doomview_tools import lights
+from doomview_tools import differences, lights, traces
 
 WALL, PLANE, SPRITE, SKY, WEAPON = (1, 2, 4, 1), (2, 1, 3, 0), (5, 1, 2, 0), (3, 2, 0, 1), (6, 1, 1, 0)
 # Of each painter its records without the colour, its rows and columns, and the number of its colormap for light 160.
@@ -115,9 +115,9 @@ class OtherLights(Tools):
     def test_light(self):
         """Where the light is known the line has it, and the other; not where there are two."""
         both, found = (drawn(), drawn(144)), []
-        places = [place for place in range(FRAME) if both[0][place] != both[1][place]]
+        marks = differences.marks_of(*both)
         for light in (160, 150):
-            told = lights.Lights(colormaps()).lines(trace_of(both[0]), places, both,
+            told = lights.Lights(colormaps()).lines(trace_of(both[0]), marks, both, traces.pixels_of(trace_of(both[0]), marks),
                                                    lambda kind, number: 160 if kind == PLANE[0] else light)
             found += [line.partition(': ')[0] for line in told]
         self.assertEqual(found, ['  darker   as under light 144 in the place of 160', '  darker   as under a light of 16 less'])
@@ -127,14 +127,14 @@ class OtherLights(Tools):
         bright = [(SPRITE, range(70, 100), range(100, 130), lambda row, column: 0)]
         ours, port = (drawn(texel_of=lambda row, column: 8 * (row + column) % 256, painted=[(*bright[0][:3], lambda row, column: it)])
                       for it in (0, 13))
-        places = [place for place in range(FRAME) if ours[place] != port[place]]
+        marks = differences.marks_of(ours, port)
         records = traced(*((row, column, (*SPRITE, ours[WIDTH * row + column], 0)) for row in bright[0][1] for column in bright[0][2]))
-        words = lights.Lights(colormaps()), records, places, (ours, port), lambda kind, number: 32
+        words = lights.Lights(colormaps()), records, marks, (ours, port), traces.pixels_of(records, marks), lambda kind, number: 32
         self.assertEqual(words[0].lines(*words[1:], lambda kind, number: True), [
-            f'  darker   not full bright, as it is here, the sector there has light 32: all {len(places)} pixels that differ of '
+            f'  darker   not full bright, as it is here, the sector there has light 32: all {sum(marks)} pixels that differ of '
             'sprite 2'])
         self.assertEqual(words[0].lines(*words[1:]), [
-            f'  darker   as under a light of 64 less: all {len(places)} pixels that differ of sprite 2'])
+            f'  darker   as under a light of 64 less: all {sum(marks)} pixels that differ of sprite 2'])
 
     def test_steps(self):
         """From which colormap to which a step of light may lead: both are cut at their ends."""

@@ -227,7 +227,7 @@ class Deep(Shown):
         wad = self.write('deeper.wad', Map('....', '.##.', '....').deepen(refusals.MOST_DEPTH + 1).wad())
         self.browser.choose('#files', [wad])
         self.browser.wait(SAID)
-        self.assertIn('MAP01: the nodes are 1,025 deep, and 1,024 is the most', self.value(SAID))
+        self.assertIn('the nodes are 1,025 deep, and 1,024 is the most', self.value(SAID))
 
     def test_no_stack(self):
         """A run that the engine ends for want of stack is told, and so is one for which it has no memory."""

@@ -9,7 +9,7 @@ import faulty_maps
 import test_lint_kinds as kinds
 from made_files import name
 from made_maps import Map
-from page_driven import GAMES, SAID, Shown
+from page_driven import GAMES, IS_FIREFOX, SAID, Shown
 from doomview_tools import room, wads
 
 FREE = Map('....', **{'.': {'below': 'FLOOR0_1', 'above': 'CEIL1_1', 'wall': 'STARTAN3'}})  # with Freedoom's art
@@ -64,8 +64,9 @@ class Files(Dropping):
         self.value("find('start').click(); 0")
         self.browser.wait(f"{SAID} === 'mine.wad has changed on disk; choose it again, or drop it.'")
         self.assertIsNone(self.value('whole.found'))
-        self.value("find('unsay').click(); list.changed(list.files); 0")
-        self.browser.wait(f"{SAID}.includes('mine.wad has changed on disk, or cannot be read; choose it again')")
+        if not IS_FIREFOX:  # which reads what is there now
+            self.value("find('unsay').click(); list.changed(list.files); 0")
+            self.browser.wait(f"{SAID}.includes('mine.wad has changed on disk, or cannot be read; choose it again')")
         self.take(self.room, path)
         self.assertEqual(self.said(), '')
         self.value("say(''); dispatchEvent(new Event('focus')); 0")
@@ -107,6 +108,8 @@ class Files(Dropping):
         self.browser.wait(f"{SAID} === 'This page failed: one'")
         self.value("setTimeout(() => { throw new Error('two'); }); 0")
         self.browser.wait(f"{SAID}.startsWith('This page failed:') && {SAID}.endsWith('two')")
+        if IS_FIREFOX:
+            self.browser.errors.clear()  # it tells of the first all the same
 
     def test_game_first(self):
         """A game's IWAD comes before PWADs, in whatever order files come."""

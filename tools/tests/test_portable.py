@@ -92,6 +92,19 @@ class Ir(unittest.TestCase):
         self.assertIn('attributes #0 = { nounwind }\n', after)
         self.assertEqual(ir.called(MODULE), ['port_read'])
 
+    def test_outlined(self):
+        """In a browser, what a function that calls itself calls has a frame of its own where it calls others; nothing else changes."""
+        walk = ('define internal void @"walk<(a)>"(ptr %a) #0 {\n  call void @"step<1>"(ptr nonnull dereferenceable(8) %a) #1\n'
+                '  call void @leaf(ptr %a)\n  call void @"walk<(a)>"(ptr %a)\n  ret void\n}\n\n'
+                'define internal void @"step<1>"(ptr %a) #0 {\n  call void @leaf(ptr %a)\n  ret void\n}\n\n'
+                'define internal void @leaf(ptr %a) #0 {\n  ret void\n}\n\n')
+        edits = ('define i32 @main', walk + 'define i32 @main')
+        after, counts = self.changed('wasm64', edits)
+        self.assertEqual(counts['outlined'], 1)
+        self.assertIn('call void @"step<1>"(ptr nonnull dereferenceable(8) %a) noinline #1\n  call void @leaf(ptr %a)\n', after)
+        self.assertIn('  call void @"walk<(a)>"(ptr %a)\n', after)
+        self.assertNotIn('noinline', self.changed('windows', edits)[0])
+
     def test_rest(self):
         """Every other line stays as it is."""
         before, after = MODULE.splitlines(), self.changed('windows')[0].splitlines()

@@ -99,6 +99,8 @@ def sprite(kind=SPRITE, rows=range(60, 100), columns=range(130, 160)):
 # Of each name a scene, what the port has in the place of a texel, and what more is said.
 FAULTS = {
     'column count': ([wall(), plane()], lambda block, row, column: 0 if block.kind == WALL and row == 99 else block.texel(row, column), ''),
+    'wall edges': ([wall(), plane(rows=range(100, 190))],
+                   lambda block, row, column: texel(row, column, COLOURS[0]) if block.kind == PLANE and row == 100 else block.texel(row, column), ''),
     'texture height': ([wall(0), wall(1, 1, columns=range(90, 160))],
                        lambda block, row, column: block.texel(row + 3 * block.number, column + 9 * block.number), ''),
     'texture width': ([wall(0), wall(1, 2, columns=range(90, 160))],
@@ -204,6 +206,21 @@ class Symptoms(Tools):
         sample = sample._replace(items=sample.items._replace(planes=planes))
         self.assertEqual((shapes.like_planes(sample), shapes.split_planes(sample)), ({0, 1}, set()))
         self.assertTrue(shapes.differ_where([sample], shapes.like_planes))
+        for different, order, row in (({0}, (1, 0), 'plane edges'), ({1}, (0, 1), 'planes as one'), ({0, 1}, (1, 1), '')):
+            some = self.sample(different)
+            some = some._replace(items=some.items._replace(planes=planes))
+            self.assertEqual(shapes.pixels_by_order([some]), tuple(4200 * part for part in order))
+            evidence = symptoms.Evidence([some], {'plane': 1}, [0], [], None, None, b'')
+            self.assertEqual(symptoms.by_list(evidence), row)
+
+    def test_beside_middles(self):
+        """A middle texture that is moved shows what is behind it, and hides it elsewhere: all in its columns."""
+        behind, own = wall(rows=range(30, 150), columns=range(10, 250)), Block(MIDDLE, range(90, 140), range(100, 200), (2, 1), 0, COLOURS[1])
+        moved = Block(MIDDLE, range(50, 100), range(100, 200), (2, 1), 0, COLOURS[1])
+        moved.texel = lambda row, column: own.texel(row + 40, column)
+        self.assertEqual(self.said([behind, own], drawn([behind, moved])), self.line('middle textures'))
+        port = drawn([behind, moved], lambda block, row, column: 9 if block is behind and column < 100 else block.texel(row, column))
+        self.assertEqual(self.said([behind, own], port), [])
 
     def test_texels(self):
         """The colours of a patch, of a texture and of a flat, and none of what is damaged."""

@@ -21,13 +21,22 @@ const changedTold = name => `${name} has changed on disk; choose it again, or dr
 async function isGameFile(file) {
   try { return await file.slice(0, 4).text() === 'IWAD'; } catch { return false; }
 }
+// Whether the browser reads no file that has changed on disk: Chromium, which has handles too. Elsewhere sums tell what has changed, of small
+// files whole, of large ones of their ends, where the header and mostly the directory are.
+const isChecked = 'getAsFileSystemHandle' in DataTransferItem.prototype, MOST_SUMMED = 1 << 26, END = 1 << 20;
+const sums = new WeakMap(); // of files as they came
+async function sumOf(file) {
+  if (isChecked) return '';
+  const parts = file.size <= MOST_SUMMED ? [file] : [file.slice(0, END), file.slice(-END)], bytes = await new Blob(parts).arrayBuffer();
+  return `${bytes.byteLength} ${new Uint8Array(await crypto.subtle.digest('SHA-256', bytes)).join()}`;
+}
 // A file as it is on disk now: the same where it has not changed, and null where it has and cannot be read anew. `handle` reads it.
 async function asNow(file, handle) {
   try {
     const now = handle ? await handle.getFile() : file;
     if (now.lastModified !== file.lastModified || now.size !== file.size) return now;
     await file.slice(0, 1).arrayBuffer();
-    return file;
+    return await sumOf(file) === await sums.get(file) ? file : null;
   } catch { return null; }
 }
 
@@ -43,7 +52,7 @@ class WadList {
   // Puts a file into the place of that of its name, or else behind the others, and a game's before them; whether it is new.
   put(file, isGame, handle) {
     const place = this.files.findIndex(other => other.name === file.name);
-    this.handles.delete(file.name);
+    this.handles.delete(file.name); sums.set(file, sumOf(file).catch(() => null));
     if (handle) this.handles.set(file.name, handle);
     if (place >= 0) this.files[place] = file; else if (isGame) this.files.unshift(file); else this.files.push(file);
     return place < 0;
