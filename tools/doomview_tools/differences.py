@@ -86,7 +86,7 @@ def ends_of(records: typing.Union[bytes, bytearray]) -> list[int]:
     return ends_of_runs(changes, len(records) // RECORD)
 
 
-def ends_of_runs(changes: int, size: int) -> typing.List[int]:
+def ends_of_runs(changes: int, size: int) -> list[int]:
     """The places at which runs end, of a number with a byte for each place, which is not 0 where another run begins."""
     runs = bytes_of(changes, size).translate(MARKS)[1:].split(bytes([MARK]))
     return list(itertools.accumulate(len(run) + 1 for run in runs))

@@ -105,7 +105,8 @@ class Firefox:
                                         env={**os.environ, 'HOME': self.profile})
         self.errors: list[str] = []
         self.requests: list[str] = []
-        self.count, self.wire = 0, None
+        self.count = 0
+        self.wire: Optional[WebSocket] = None  # until it has begun
         try:
             self.wire = WebSocket(self.port(), '/session')
             self.call('session.new', capabilities={})
@@ -133,7 +134,7 @@ class Firefox:
     def __exit__(self, *_: object) -> None:
         self.end()
 
-    def end(self):
+    def end(self) -> None:
         if self.wire:
             self.wire.socket.close()
         self.process.terminate()
@@ -146,10 +147,13 @@ class Firefox:
 
     def call(self, method: str, **parameters: Any) -> dict[str, Any]:
         """What the browser answers to a command."""
+        wire = self.wire
+        if wire is None:
+            raise Trouble('firefox does not begin')
         self.count += 1
-        self.wire.send(json.dumps({'id': self.count, 'method': method, 'params': parameters}).encode())
+        wire.send(json.dumps({'id': self.count, 'method': method, 'params': parameters}).encode())
         while True:
-            found = json.loads(self.wire.text())
+            found = json.loads(wire.text())
             self.note(found)
             if found.get('id') == self.count:
                 if found['type'] == 'error':
