@@ -4,7 +4,8 @@
 memory.py PROGRAM [--held]     of flat over a tiny WAD, of each job over the made files of 1, of make and exercise
 
 PROGRAM takes doomview's words, and is linked to the GNU C library when it starts. First of each run, and of runs that
-end early: how many blocks it took and did not give back, which has to be none. Then, without --held, each request for memory of a run is refused in turn. Each run then has to end
+end early: how many blocks it took and did not give back, which has to be none, and the bytes of its greatest request,
+which have a bound. Then, without --held, each request for memory of a run is refused in turn. Each run then has to end
 with status 7 and its line, and nothing written, or with status 0 and the whole output; the last one is the first in
 which nothing was refused. Ends with 1 where a run was otherwise."""
 import argparse
@@ -17,7 +18,20 @@ sys.dont_write_bytecode = True
 from made_runs import SECONDS, Job, compiled, fail, jobs_of, made_files  # noqa: E402
 
 OUT_OF_MEMORY = (7, b'', b'doomview: out of memory\n')
-ZONE = 65536  # bytes: these runs end well in it
+# What a run asks for at most in one piece, in bytes, as docs/FORMATS.md and docs/ZONE.md have it: a zone so small that
+# nothing hides below it, with which these runs still end well; a place of four bytes for each slot of the zone, of which
+# 32,767 are for composites and the rest for the lumps of the made WAD; a half for each type that a thing can have.
+ZONE = 65536
+SLOTS = 4 * (32767 + 26)
+TYPES = 2 * 65536
+FRAME, TRACE, TABLES, MADE_WAD = 64000, 512000, 65540, 82706
+LEVEL = max(ZONE, SLOTS, TYPES, FRAME, TABLES, MADE_WAD)
+GROWTH = 2  # a list that grows has at most twice the room that it needs
+# Of the kit's reader of words, which no page bounds: far below a million of anything.
+WORDS = 16384
+BOUNDS = {'flat': FRAME, 'trace': max(LEVEL, TRACE), 'exercise': max(LEVEL, GROWTH * MADE_WAD),
+          'make wad': GROWTH * MADE_WAD, 'make path': WORDS, 'make things': WORDS, 'make tables': GROWTH * TABLES,
+          'usage': WORDS}
 
 
 class Refusals:
@@ -35,24 +49,25 @@ class Refusals:
         run = subprocess.run(words, capture_output=True, env=environment, timeout=SECONDS)
         return (run.returncode, run.stdout, run.stderr), os.path.exists(self.mark)
 
-    def counts(self, words: list[str]) -> tuple[int, int]:
-        """The blocks and the bytes that main did not give back."""
+    def counts(self, words: list[str]) -> tuple[int, int, int]:
+        """The blocks and the bytes that main did not give back, and the bytes of its greatest request."""
         if not os.path.exists(self.counted):
             fail(f'nothing was counted of {" ".join(words)}: is the program linked to the C library when it starts?')
         with open(self.counted) as file:
             blocks, held, greatest = map(int, file.read().split())
-        if greatest == 0:
-            fail(f'no request was seen of {" ".join(words)}')
-        return blocks, held
+        return blocks, held, greatest
 
     def holds(self, name: str, words: list[str], status: int) -> bool:
-        """Whether a run gives back all that it took."""
+        """Whether a run gives back all that it took, and took no more in one piece than its bound."""
         (ended, _, line), _ = self.run(words, 0)
         if ended != status:
             fail(f'status {ended} of {" ".join(words)}, {line!r}')
-        blocks, held = self.counts(words)
-        print(f'| {name} | {blocks} | {held} |')
-        return blocks == held == 0
+        blocks, held, greatest = self.counts(words)
+        bound = BOUNDS.get(name, BOUNDS.get(name.split(' --')[0], LEVEL))
+        print(f'| {name} | {blocks} | {held} | {greatest} | {bound} |')
+        if greatest == 0:
+            fail(f'no request was seen of {" ".join(words)}')
+        return blocks == held == 0 and greatest <= bound
 
     def job(self, name: str, words: list[str]) -> bool:
         """Refuses each request of a run in turn; whether all ended as they have to."""
@@ -89,7 +104,7 @@ def early_ends(level: list[str]) -> list[tuple[str, list[str], int]]:
 
 def all_held(refusals: Refusals, program: str, jobs: list[Job], level: list[str]) -> bool:
     """Prints what each run holds in the end; whether that is nothing."""
-    print('| Run | Blocks held | Bytes held |\n|---|---|---|')
+    print('| Run | Blocks held | Bytes held | Greatest request | At most |\n|---|---|---|---|---|')
     runs = [*((name, words, 0) for name, words in jobs), *early_ends(level)]
     return all([refusals.holds(name, [program, *words], status) for name, words, status in runs])
 
