@@ -7,6 +7,7 @@ import sys
 import typing
 
 HERE = os.path.dirname(os.path.abspath(__file__))
+TOOLS = os.path.join(os.path.dirname(HERE), 'tools')
 WEAPON = b'view,sprite,frame,bright,sx,sy\n0,TREE,A,1,10485760,6553600\n'
 MADE = [('wad', '1'), ('path', '1'), ('things',), ('tables',)]
 SECONDS = 60  # after which a run is given up
