@@ -21,7 +21,7 @@ OUT_OF_MEMORY = (7, b'', b'doomview: out of memory\n')
 # What a run asks for at most in one piece, in bytes, as docs/FORMATS.md and docs/ZONE.md have it: a zone so small that
 # nothing hides below it, with which these runs still end well; a place of four bytes for each slot of the zone, of which
 # 32,767 are for composites and the rest for the lumps of the made WAD; a half for each type that a thing can have.
-ZONE = 65536
+ZONE, DEFAULT_ZONE = 65536, 6291456
 SLOTS = 4 * (32767 + 26)
 TYPES = 2 * 65536
 FRAME, TRACE, TABLES, MADE_WAD = 64000, 512000, 65540, 82706
@@ -31,7 +31,7 @@ GROWTH = 2  # a list that grows has at most twice the room that it needs
 WORDS = 16384
 BOUNDS = {'flat': FRAME, 'trace': max(LEVEL, TRACE), 'exercise': max(LEVEL, GROWTH * MADE_WAD),
           'make wad': GROWTH * MADE_WAD, 'make path': WORDS, 'make things': WORDS, 'make tables': GROWTH * TABLES,
-          'usage': WORDS}
+          'usage': WORDS, 'default zone': DEFAULT_ZONE}
 
 
 class Refusals:
@@ -93,11 +93,11 @@ class Refusals:
         return 'otherwise' not in ends and kind == 'done'
 
 
-def early_ends(level: list[str]) -> list[tuple[str, list[str], int]]:
-    """Runs that end early, each by its name, its words and its status."""
+def more_runs(level: list[str]) -> list[tuple[str, list[str], int]]:
+    """A run in the default zone, and runs that end early, each by its name, its words and its status."""
     name, wad, *options = level
     zone = ['--zone', str(ZONE)]
-    return [('usage', ['nothing'], 1), ('refused', ['audit', 'MAP02', wad, *options, *zone], 2),
+    return [('default zone', ['render', *level], 0), ('usage', ['nothing'], 1), ('refused', ['audit', 'MAP02', wad, *options, *zone], 2),
             ('read fault', ['render', name, wad, 'absent.wad', *options, *zone], 3),
             ('zone full', ['render', *level, '--zone', '8192'], 6)]
 
@@ -105,7 +105,7 @@ def early_ends(level: list[str]) -> list[tuple[str, list[str], int]]:
 def all_held(refusals: Refusals, program: str, jobs: list[Job], level: list[str]) -> bool:
     """Prints what each run holds in the end; whether that is nothing."""
     print('| Run | Blocks held | Bytes held | Greatest request | At most |\n|---|---|---|---|---|')
-    runs = [*((name, words, 0) for name, words in jobs), *early_ends(level)]
+    runs = [*((name, words, 0) for name, words in jobs), *more_runs(level)]
     return all([refusals.holds(name, [program, *words], status) for name, words, status in runs])
 
 
