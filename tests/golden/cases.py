@@ -17,7 +17,7 @@ PIXEL_HEADER = ['case', 'view', 'column', 'row', 'bytes']
 WIDTH, PIXELS_OF_A_VIEW = 320, 64000
 HEADER = ['case', 'words', 'how', 'status', 'line', 'bytes', 'sha256']
 NOTE = '# Values come from another program written from the same rules, or by hand from the rules; none from doomview.'
-FULL, MAY_BE_FULL, READS = 'full', 'may be full', 'reads '
+FULL, MAY_BE_FULL, READS, FILES = 'full', 'may be full', 'reads ', 'files '
 ZONES = (FULL, MAY_BE_FULL)
 ZONE_FULL = '6'  # the status
 ZONE_LINE = re.compile(r'doomview: zone full wanted (\d+) widest (\d+)')
@@ -58,7 +58,8 @@ class Pixel:
 @dataclasses.dataclass(frozen=True)
 class Case:
     """A case of a table. `how` is empty, or tells of the zone (`full`, `may be full`), of the reader of the output
-    (`reads N`: it goes after so many bytes), or has what a shell does with the streams (`>&-`)."""
+    (`reads N`: it goes after so many bytes) or of how many files may be open (`files N`), or has what a shell does with the
+    streams (`>&-`)."""
     table: str
     name: str
     words: str
@@ -74,8 +75,11 @@ class Case:
         """What differs at the pixels that are known by hand."""
         return tuple(line for pixel in self.pixels for line in pixel.difference(output))
 
-    def is_of_shell(self) -> bool:
-        return bool(self.how) and self.how not in ZONES and not self.how.startswith(READS)
+    def shell(self) -> str:
+        """The line of a shell that runs the words, or nothing where none is needed."""
+        if self.how.startswith(FILES):
+            return f'ulimit -n {self.how[len(FILES):]}; exec "$0" "$@"'
+        return '' if not self.how or self.how in ZONES else f'exec "$0" "$@" {self.how}'
 
     def row(self, outcome: Outcome) -> str:
         """The line of the table where it ends so."""
@@ -152,8 +156,8 @@ class Runner:
         if case.how.startswith(READS):
             return self.read(case.arguments(), int(case.how[len(READS):]))
         command = [self.program, *case.arguments()]
-        if case.is_of_shell():
-            command = ['sh', '-c', f'exec "$0" "$@" {case.how}', *command]
+        if case.shell():
+            command = ['sh', '-c', case.shell(), *command]
         outcome, output = self.call(command)
         if outcome.status == ZONE_FULL and case.how in ZONES:
             whole, beginning = self.call([self.program, *without_zone(case.arguments())])

@@ -8,6 +8,7 @@ import angles
 import art
 import bad_wads
 import chance
+import large
 import levels
 import more_wads
 import odd_art
@@ -147,6 +148,9 @@ class Files:
             return
         if name in PLACES:
             PLACES[name](place)
+            return
+        if name in large.LARGE:
+            large.put_large(place, name, self.bytes_of)
             return
         with open(place, 'wb') as file:
             file.write(self.bytes_of(name))

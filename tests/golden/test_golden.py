@@ -195,7 +195,7 @@ class Tables(unittest.TestCase):
             line = '' if '2>' in case.how else lines[case.expected.status]
             self.assertRegex(case.expected.line, f'^{line and "doomview: "}{line}$', case.name)
             self.assertRegex(case.expected.sum, '^[0-9a-f]{64}$', case.name)
-            self.assertRegex(case.how, r'^(full|may be full|reads \d+|[12]?[<>].*)?$', case.name)
+            self.assertRegex(case.how, r'^(full|may be full|reads \d+|files \d+|[12]?[<>].*)?$', case.name)
 
     def test_each_refusal_code_has_a_case(self):
         with open(os.path.join(TOP, 'docs', 'REFUSALS.md'), encoding='utf-8') as file:

@@ -257,11 +257,10 @@ class Sentences(Exe):
     def test_refusals(self):
         """Of each code that a golden case is refused with the names and what is known more."""
         run_, chosen = check.golden(), {}
-        for table in run_.table_names():
-            for case in run_.read_table(table):
-                code = re.match(r'doomview: refused (\d+)', case.expected.line)
-                if code and not case.how and check.is_text(case):
-                    chosen.setdefault(code[1], case)
+        for case in check.golden_cases():
+            code = re.match(r'doomview: refused (\d+)', case.expected.line)
+            if code and not case.how and check.is_text(case):
+                chosen.setdefault(code[1], case)
         run_.put_files(TESTED, self.folder, chosen.values())
         self.assertGreater(len(chosen), 40)
         os.chdir(self.folder)
