@@ -68,13 +68,13 @@ memory_performs job view old faults = record {
 
 -- words that are a command
 pub command_runs : {before after : ShelfView} {old new : List ℕ → Type 0} {faults later : ℕ} {status : Status} {command : Option CommandValue} (value : CommandValue) → command ≡ Some value →
-    Performs (job_of value) before after old new faults later status → RunsAs command before after old new faults later status
-command_runs value is performs = rw is (record { runs = performs })
+    ((job_of value).asks ≡ false → after ≡ before) → Performs (job_of value) before after old new faults later status → RunsAs command before after old new faults later status
+command_runs value is idle performs = rw is (record { runs = performs; untouched = idle })
 
 -- whether the words are a command or not
 pub memory_runs : (command : Option CommandValue) (view : ShelfView) (old : List ℕ → Type 0) (faults : ℕ) → RunsAs command view view old old faults faults OutOfMemory
-memory_runs None view old faults = record { runs = (inr refl, grew_none old) }
-memory_runs (Some command) view old faults = record { runs = memory_performs (job_of command) view old faults }
+memory_runs None view old faults = record { runs = (inr refl, grew_none old); untouched = λ idle. refl }
+memory_runs (Some command) view old faults = record { runs = memory_performs (job_of command) view old faults; untouched = λ idle. refl }
 
 -- a job without a level
 module _ (writes : List File → Result Written (Stop Refusal)) (most : List File → ℕ) where

@@ -1,5 +1,6 @@
 -- What a run of a job says: by its status, by what was written, and by what was read.
 use Rattle.std.specs.Prelude.{◌≡◌, ◌≤◌, ◌+◌, ◌⊎◌, ℕ, Bool, false, IsTrue, List, [], Option, None, Some, Ok}
+use Rattle.std.specs.Option.{option_map_or}
 use Rattle.doom_run.specs.Rules.{CommandValue, FaultsRose, File, Grew, Holds, IsInOrder, LevelJobValue, ShelfView, from_below, live_sum, lump_size}
 use Rattle.job_files.specs.{Files.files_named, declared.status.Status.Status}
 use Rattle.job_files.specs.declared.status.Status.TheVariants.{Usage, ReadFault, WriteFault, ZoneFull, OutOfMemory}
@@ -65,3 +66,5 @@ RunsBy (Some command) before after old new faults later status = Performs (job_o
 pub record RunsAs (command : Option CommandValue) (before after : ShelfView) (old new : List ℕ → Type 0) (faults later : ℕ) (status : Status) : Type 0 where
   -- it is one of the command; or where there is none the status says so, unless memory ran out
   pub runs : RunsBy command before after old new faults later status
+  -- only a command that asks for files touches the shelf
+  pub untouched : option_map_or (λ c. (job_of c).asks) command false ≡ false → after ≡ before

@@ -1,56 +1,57 @@
 -- Laws of the masked columns of a moment, fragment by fragment from the last down, and of a sprite that has no column.
-use Rattle.picture_rules.proofs.Common.{[], and-false_right, ap, append-nil, append_assoc, arith, Bool, false, IfSome, int_le, int_lt, ints, length, List, None, not, Option, pos, refl, slice_get, Some, suc, sym, true, zero, ℕ, ℤ, ◌&&◌, ◌++◌, ◌+◌, ◌-◌, ◌<◌, ◌||◌, ◌∙◌, ◌≡◌, ◌≤◌}
-use Rattle.masked_draw.specs.Rules.{Art, Dot, Drawseg, FragmentNote, SpriteEntry, ViewValue, columns_at, entry_has, is_behind, joined_lists, listed_from, middle_column, middles_at, middles_of, rows_between, same_number, sprite_column, sprite_dots, sprite_in_front, sprite_step}
-use Rattle.picture_rules.proofs.{Laws.rows_between-none, sprite.MaskedLemmas.middles_at-more}
+use Rattle.picture_rules.proofs.Common.{[], and-false_right, ap, arith, Bool, cond, false, IfSome, int_le, int_lt, ints, length, List, None, not, Option, pos, refl, slice_get, Some, suc, sym, true, ℕ, ℤ, ◌&&◌, ◌++◌, ◌+◌, ◌-◌, ◌<◌, ◌∷◌, ◌||◌, ◌∙◌, ◌≡◌}
+use Rattle.masked_draw.specs.Rules.{Drawseg, FragmentNote, SpriteEntry, ViewValue, columns_at, entry_has, is_behind, joined_lists, listed_from, same_number, sprite_in_front}
+use Rattle.brush.specs.Strips.{Picture, Strip}
+use Rattle.receiver_rules.proofs.FirstLemmas.{first_lists, first-left, first-more, first-none, first-past}
 use Rattle.masked_draw.specs.Marks.{is_passed, is_before, AreBefore, MarkedTo}
+use Rattle.masked_draw.specs.Strips.{masked_column_strips, middles_strips, moment_strips, shown_sprite, sprite_strips, step_strips}
 use Rattle.masked_draw.proofs.MomentLemmas.{front-now, front-more}
 use Rattle.masked_draw.proofs.MarkLemmas.{range_none}
 
--- those of the last c of n fragments, the last first
-pub middles_down : ViewValue → Art → List Drawseg → List SpriteEntry → Option ℕ → ℕ → ℕ → List Dot
-middles_down v art ds es moment n zero = []
-middles_down v art ds es moment n (suc c) = middles_down v art ds es moment n c ++ middles_of v art es moment (n - suc c) (slice_get ds (n - suc c))
+module _ (v : ViewValue) (ds : List Drawseg) (es : List SpriteEntry) (moment : Option ℕ) where
+  -- the strips of the fragment of that number, counted from the last down
+  abbrev pub down_strips : ℕ → List Strip
+  down_strips n = moment_strips v es moment (length ds - suc n) (slice_get ds (length ds - suc n))
 
--- at the start there are none
-pub down-start : (v : ViewValue) (art : Art) (ds : List Drawseg) (es : List SpriteEntry) (moment : Option ℕ) (n : ℕ) →
-    middles_down v art ds es moment n (n - n) ≡ []
-unfolding middles_down
-down-start v art ds es moment n = let none_left : n - n ≡ 0 = omega arith in ap (middles_down v art ds es moment n) none_left
+  -- those of fragment m
+  down_at : (m : ℕ) → m < length ds → down_strips (length ds - (m + 1)) ≡ moment_strips v es moment m (slice_get ds m)
+  down_at m l =
+      let comes_to_m : length ds - suc (length ds - (m + 1)) ≡ m = omega (arith, l) in
+      ap (λ (k : ℕ). moment_strips v es moment k (slice_get ds k)) comes_to_m
 
--- one fragment more
-pub down-more : (v : ViewValue) (art : Art) (ds : List Drawseg) (es : List SpriteEntry) (moment : Option ℕ) (n m : ℕ) → m < n →
-    middles_down v art ds es moment n (n - m) ≡ middles_down v art ds es moment n (n - (m + 1)) ++ middles_of v art es moment m (slice_get ds m)
-unfolding middles_down
-down-more v art ds es moment n m l =
-    let rest_is_suc : n - m ≡ suc (n - (m + 1)) = omega arith in
-    let comes_to_m : n - suc (n - (m + 1)) ≡ m = omega arith in
-    ap (middles_down v art ds es moment n) rest_is_suc
-    ∙ ap (λ (k : ℕ). middles_down v art ds es moment n (n - (m + 1)) ++ middles_of v art es moment k (slice_get ds k)) comes_to_m
+  -- at the start there are none
+  pub down-start : (n : ℕ) → length ds ≡ n → [] ≡ first_lists down_strips (length ds - n)
+  down-start n same =
+      let none_left : 0 ≡ length ds - n = omega (arith, same) in
+      sym (first-none down_strips) ∙ ap (first_lists down_strips) none_left
 
-down_rest : (v : ViewValue) (art : Art) (ds : List Drawseg) (es : List SpriteEntry) (moment : Option ℕ) (n c : ℕ) → c ≤ n →
-    middles_down v art ds es moment n c ++ middles_at v art ds es moment (n - c) ≡ middles_at v art ds es moment n
-unfolding middles_down
-down_rest v art ds es moment n zero l = let all_left : n - zero ≡ n = omega arith in ap (middles_at v art ds es moment) all_left
-down_rest v art ds es moment n (suc c) l =
-    let one_before : (n - suc c) + 1 ≡ n - c = omega arith in
-    append_assoc (middles_down v art ds es moment n c) (middles_of v art es moment (n - suc c) (slice_get ds (n - suc c))) (middles_at v art ds es moment (n - suc c))
-    ∙ ap (λ (xs : List Dot). middles_down v art ds es moment n c ++ xs) (sym (middles_at-more v art ds es moment (n - suc c) (n - c) one_before))
-    ∙ down_rest v art ds es moment n c (omega arith)
+  -- one fragment more
+  pub down-more : (m : ℕ) → m < length ds →
+      first_lists down_strips (length ds - (m + 1)) ++ moment_strips v es moment m (slice_get ds m) ≡ first_lists down_strips (length ds - m)
+  down-more m l =
+      let next : length ds - (m + 1) + 1 ≡ length ds - m = omega (arith, l) in
+      ap (λ (xs : List Strip). first_lists down_strips (length ds - (m + 1)) ++ xs) (sym (down_at m l))
+      ∙ first-more down_strips (length ds - (m + 1)) ∙ ap (first_lists down_strips) next
 
-middles_at_none : (v : ViewValue) (art : Art) (ds : List Drawseg) (es : List SpriteEntry) (moment : Option ℕ) → middles_at v art ds es moment 0 ≡ []
-unfolding middles_at
-middles_at_none v art ds es moment = refl
+  -- what is left behind it
+  pub down-left : (m : ℕ) → m < length ds →
+      (rest : List Strip) × (first_lists down_strips (length ds - (m + 1)) ++ (moment_strips v es moment m (slice_get ds m) ++ rest) ≡ middles_strips v ds es moment)
+  unfolding middles_strips
+  down-left m l =
+      let left = first-left down_strips (length ds - (m + 1)) (length ds) (omega (arith, l)) in
+      (left.0, ap (λ (xs : List Strip). first_lists down_strips (length ds - (m + 1)) ++ (xs ++ left.0)) (sym (down_at m l)) ∙ left.1)
 
--- after the first fragment there are all
-pub down-end : (v : ViewValue) (art : Art) (ds : List Drawseg) (es : List SpriteEntry) (moment : Option ℕ) (n : ℕ) →
-    middles_down v art ds es moment n (n - 0) ≡ middles_at v art ds es moment n
-down-end v art ds es moment n =
-    let all_left : n - 0 ≡ n = omega arith in
-    let none_left : n - n ≡ 0 = omega arith in
-    ap (middles_down v art ds es moment n) all_left
-    ∙ sym (append-nil (middles_down v art ds es moment n n))
-    ∙ ap (λ xs. middles_down v art ds es moment n n ++ xs) (sym (ap (middles_at v art ds es moment) none_left ∙ middles_at_none v art ds es moment))
-    ∙ down_rest v art ds es moment n n (omega arith)
+  -- after the first fragment there are all
+  pub down-end : first_lists down_strips (length ds - 0) ≡ middles_strips v ds es moment
+  unfolding middles_strips
+  down-end = let all_left : length ds - 0 ≡ length ds = omega arith in ap (first_lists down_strips) all_left
+
+  -- where no fragment has one there are none
+  down_none : ((n : ℕ) → n < length ds → down_strips n ≡ []) → middles_strips v ds es moment ≡ []
+  unfolding middles_strips
+  down_none none =
+      sym (first-past down_strips 0 (length ds) (λ n from to. none n to) (λ n from to. absurd (omega (arith, to))))
+      ∙ first-none down_strips
 
 -- a sprite without a column
 no_column : (first last : ℤ) (x : ℕ) → int_lt last first ≡ true → (int_le first (pos x) && int_le (pos x) last) ≡ false
@@ -68,26 +69,19 @@ no_columns es i e d l g h =
     (λ x a b. and-false_right d.masked (same_number (sprite_in_front es d x) (Some i))
     (front-now es d x i e l g ∙ and-false_right (not (is_before (sprite_in_front es d x) i)) (is_passed e d x) (not_passed e d x h)))
 
-no_middles_of : (v : ViewValue) (art : Art) (es : List SpriteEntry) (i k : ℕ) (e : SpriteEntry) (o : Option Drawseg) → i < length es → slice_get es i ≡ Some e →
-    int_lt e.last e.first ≡ true → middles_of v art es (Some i) k o ≡ []
-unfolding middles_of joined_lists
-no_middles_of v art es i k e None l g h = refl
-no_middles_of v art es i k e (Some d) l g h = ap (joined_lists (middle_column v art k d)) (no_columns es i e d l g h)
+no_moment : (v : ViewValue) (es : List SpriteEntry) (i k : ℕ) (e : SpriteEntry) (o : Option Drawseg) → i < length es → slice_get es i ≡ Some e →
+    int_lt e.last e.first ≡ true → moment_strips v es (Some i) k o ≡ []
+unfolding moment_strips joined_lists
+no_moment v es i k e None l g h = refl
+no_moment v es i k e (Some d) l g h = ap (joined_lists (masked_column_strips v k d)) (no_columns es i e d l g h)
 
-no_middles : (v : ViewValue) (art : Art) (ds : List Drawseg) (es : List SpriteEntry) (i : ℕ) (e : SpriteEntry) (n : ℕ) → i < length es →
-    slice_get es i ≡ Some e → int_lt e.last e.first ≡ true → middles_at v art ds es (Some i) n ≡ []
-unfolding middles_at
-no_middles v art ds es i e zero l g h = refl
-no_middles v art ds es i e (suc n) l g h =
-    ap (λ (xs : List Dot). xs ++ middles_at v art ds es (Some i) n) (no_middles_of v art es i n e (slice_get ds n) l g h) ∙ no_middles v art ds es i e n l g h
-
--- nothing is painted of it, nor before it
-pub step-none : (v : ViewValue) (art : Art) (ds : List Drawseg) (es : List SpriteEntry) (i : ℕ) (e : SpriteEntry) → i < length es → slice_get es i ≡ Some e →
-    int_lt e.last e.first ≡ true → sprite_step v art ds es i e ≡ []
-unfolding sprite_step sprite_dots joined_lists
-step-none v art ds es i e l g h =
-    ap (λ (xs : List Dot). xs ++ joined_lists (sprite_column v art ds e) (rows_between e.first e.last)) (no_middles v art ds es i e (length ds) l g h)
-    ∙ ap (joined_lists (sprite_column v art ds e)) (rows_between-none e.first e.last h)
+-- there is no strip of it, nor before it
+pub step-none : (v : ViewValue) (ds : List Drawseg) (es : List SpriteEntry) (i : ℕ) (e : SpriteEntry) → i < length es → slice_get es i ≡ Some e →
+    int_lt e.last e.first ≡ true → step_strips v ds es i (Some e) ≡ []
+unfolding step_strips sprite_strips
+step-none v ds es i e l g h =
+    ap (λ (xs : List Strip). xs ++ sprite_strips v ds e) (down_none v ds es (Some i) (λ n m. no_moment v es i (length ds - suc n) e (slice_get ds (length ds - suc n)) l g h))
+    ∙ ap (λ (b : Bool). cond b [] (Picture (shown_sprite v ds e) ∷ [])) h
 
 or_off : (a b : Bool) → b ≡ false → (a || b) ≡ a
 or_off true b h = refl

@@ -1,9 +1,9 @@
 -- Laws of a sprite's columns, and of what a fragment that it comes to marks, paints and clips.
 use Rattle.picture_rules.proofs.Common.{[], and-false_left, and-false_right, and_parts, ap, arith, bit_and, Bool, false, inl, inr, int_le, int_lt, ints, List, max, min, nat_le, nat_lt, nat_tests, None, not, Option, pos, refl, Some, subst, sym, true, ℕ, ℤ, ◌&&◌, ◌+◌, ◌<ℤ◌, ◌<◌, ◌==◌, ◌^◌, ◌∙◌, ◌≡◌, ◌≤ℤ◌, ◌≤◌, ◌⊎◌}
-use Rattle.masked_draw.specs.Rules.{Art, Drawseg, FragmentNote, SIL_BOTTOM, SIL_TOP, SpriteEntry, ViewValue, drawseg_has, entry_has, gives_bottom, gives_top, is_behind}
+use Rattle.masked_draw.specs.Rules.{Drawseg, FragmentNote, SIL_BOTTOM, SIL_TOP, SpriteEntry, ViewValue, drawseg_has, entry_has, gives_bottom, gives_top, is_behind}
 use Rattle.vissprites.specs.Bounds.{lies_within}
 use Rattle.masked_draw.specs.Clipped.{clips_bottom, clips_top, row_after}
-use Rattle.masked_draw.specs.Marks.{AreOwnMarked, MarksBy, MissesColumns, is_between, is_passed, unmarked_dots}
+use Rattle.masked_draw.specs.Marks.{AreOwnMarked, MarksBy, MissesColumns, is_between, is_passed, unmarked_strips}
 use Rattle.masked_draw.proofs.MarkLemmas.{marks-none, marks-same, unmarked-none, unmarked-plain, unmarked-same}
 
 -- a drawn fragment as its note has it
@@ -75,13 +75,13 @@ misses-marks e d drawseg first last marks f l (inr (inl h)) =
     marks-none d (is_passed e drawseg) marks (λ x a b. no_passed e d drawseg first last x f l (inr h) a b)
 misses-marks e d drawseg first last marks f l (inr (inr h)) = marks_plain d (is_passed e drawseg) marks h.1
 
-pub misses-dots : (v : ViewValue) (art : Art) (k : ℕ) (e : SpriteEntry) (d : FragmentNote) (drawseg : Drawseg) (first last : ℕ) (marks : List Bool) →
-    e.first ≡ pos first → e.last ≡ pos last → MissesColumns d first last → unmarked_dots v art marks d (is_passed e drawseg) k drawseg ≡ []
-misses-dots v art k e d drawseg first last marks f l (inl h) =
-    unmarked-none v art marks d (is_passed e drawseg) k drawseg (λ x a b. no_passed e d drawseg first last x f l (inl h) a b)
-misses-dots v art k e d drawseg first last marks f l (inr (inl h)) =
-    unmarked-none v art marks d (is_passed e drawseg) k drawseg (λ x a b. no_passed e d drawseg first last x f l (inr h) a b)
-misses-dots v art k e d drawseg first last marks f l (inr (inr h)) = unmarked-plain v art marks d (is_passed e drawseg) k drawseg h.1
+pub misses-strips : (v : ViewValue) (k : ℕ) (e : SpriteEntry) (d : FragmentNote) (drawseg : Drawseg) (first last : ℕ) (marks : List Bool) →
+    e.first ≡ pos first → e.last ≡ pos last → MissesColumns d first last → unmarked_strips v marks d (is_passed e drawseg) k drawseg ≡ []
+misses-strips v k e d drawseg first last marks f l (inl h) =
+    unmarked-none v marks d (is_passed e drawseg) k drawseg (λ x a b. no_passed e d drawseg first last x f l (inl h) a b)
+misses-strips v k e d drawseg first last marks f l (inr (inl h)) =
+    unmarked-none v marks d (is_passed e drawseg) k drawseg (λ x a b. no_passed e d drawseg first last x f l (inr h) a b)
+misses-strips v k e d drawseg first last marks f l (inr (inr h)) = unmarked-plain v marks d (is_passed e drawseg) k drawseg h.1
 
 off_row : (row : ℤ) (old : Option ℤ) (gives : Bool) → gives ≡ false → old ≡ row_after gives row old
 off_row row (Some r) gives h = refl
@@ -173,20 +173,20 @@ pub behind-marks : (e : SpriteEntry) (d : FragmentNote) (drawseg : Drawseg) (fir
 behind-marks e d drawseg first last old new f l b h =
     marks-same d (is_between (max first d.first) (min last d.last)) (is_passed e drawseg) old new (λ x p q. passed_here e d drawseg first last x f l b p q) h
 
-pub behind-dots : (v : ViewValue) (art : Art) (k : ℕ) (e : SpriteEntry) (d : FragmentNote) (drawseg : Drawseg) (first last : ℕ) (marks : List Bool) →
+pub behind-strips : (v : ViewValue) (k : ℕ) (e : SpriteEntry) (d : FragmentNote) (drawseg : Drawseg) (first last : ℕ) (marks : List Bool) →
     e.first ≡ pos first → e.last ≡ pos last → is_behind drawseg e ≡ true →
-    unmarked_dots v art marks d (is_between (max first d.first) (min last d.last)) k drawseg ≡ unmarked_dots v art marks d (is_passed e drawseg) k drawseg
-behind-dots v art k e d drawseg first last marks f l b =
-    unmarked-same v art marks d (is_between (max first d.first) (min last d.last)) (is_passed e drawseg) k drawseg (λ x p q. passed_here e d drawseg first last x f l b p q)
+    unmarked_strips v marks d (is_between (max first d.first) (min last d.last)) k drawseg ≡ unmarked_strips v marks d (is_passed e drawseg) k drawseg
+behind-strips v k e d drawseg first last marks f l b =
+    unmarked-same v marks d (is_between (max first d.first) (min last d.last)) (is_passed e drawseg) k drawseg (λ x p q. passed_here e d drawseg first last x f l b p q)
 
 pub front-marks : (e : SpriteEntry) (d : FragmentNote) (drawseg : Drawseg) (marks : List Bool) → is_behind drawseg e ≡ false →
     MarksBy d (is_passed e drawseg) marks marks
 front-marks e d drawseg marks b = marks-none d (is_passed e drawseg) marks (λ x p q. and-false_right (entry_has e x) (is_behind drawseg e) b)
 
-pub front-dots : (v : ViewValue) (art : Art) (k : ℕ) (e : SpriteEntry) (d : FragmentNote) (drawseg : Drawseg) (marks : List Bool) →
-    is_behind drawseg e ≡ false → unmarked_dots v art marks d (is_passed e drawseg) k drawseg ≡ []
-front-dots v art k e d drawseg marks b =
-    unmarked-none v art marks d (is_passed e drawseg) k drawseg (λ x p q. and-false_right (entry_has e x) (is_behind drawseg e) b)
+pub front-strips : (v : ViewValue) (k : ℕ) (e : SpriteEntry) (d : FragmentNote) (drawseg : Drawseg) (marks : List Bool) →
+    is_behind drawseg e ≡ false → unmarked_strips v marks d (is_passed e drawseg) k drawseg ≡ []
+front-strips v k e d drawseg marks b =
+    unmarked-none v marks d (is_passed e drawseg) k drawseg (λ x p q. and-false_right (entry_has e x) (is_behind drawseg e) b)
 
 has_inner : (a b first last x : ℕ) → is_between first last x ≡ true → is_between (max first a) (min last b) x ≡ (nat_le a x && nat_le x b)
 has_inner a b first last x t = grind (arith, nat_tests)

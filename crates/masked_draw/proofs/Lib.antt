@@ -4,9 +4,11 @@ pub mod PassedLemmas
 pub mod RowLemmas
 pub mod DownLemmas
 pub mod SceneLemmas
-pub mod KeptLemmas
 pub mod EntryLemmas
 pub mod LoopLemmas
 pub mod SpriteLemmas
 pub mod MiddleLemmas
 pub mod PassLemmas
+pub mod DotLemmas
+pub mod CaseLemmas
+pub mod PaintedLemmas

@@ -1,8 +1,10 @@
 -- Laws of the marks of masked columns, and of the columns that are not marked.
-use Rattle.picture_rules.proofs.Common.{[], and-false, ap, append-nil, arith, Bool, cases_lt, cond, false, filter, inl, inr, List, map, nat_le, nat_lt, nat_tests, None, not, Option, range_with_len, refl, Some, subst, suc, sym, true, zero, ℕ, ◌&&◌, ◌++◌, ◌+◌, ◌-◌, ◌<◌, ◌||◌, ◌∙◌, ◌∷◌, ◌≡◌, ◌≢◌, ◌≤◌, ◌⊎◌}
-use Rattle.masked_draw.specs.Rules.{Art, Dot, Drawseg, FragmentNote, ViewValue, joined_lists, listed_from, middle_column}
+use Rattle.picture_rules.proofs.Common.{[], and-false, ap, append-nil, append_assoc, arith, Bool, cases_lt, cond, false, filter, inl, inr, List, map, nat_le, nat_lt, nat_tests, None, not, Option, range_with_len, refl, Some, subst, suc, sym, true, zero, ℕ, ◌&&◌, ◌++◌, ◌+◌, ◌-◌, ◌<◌, ◌||◌, ◌∙◌, ◌∷◌, ◌≡◌, ◌≢◌, ◌≤◌, ◌⊎◌}
+use Rattle.masked_draw.specs.Rules.{Drawseg, FragmentNote, ViewValue, joined_lists, listed_from}
+use Rattle.brush.specs.Strips.{Strip}
+use Rattle.masked_draw.specs.Strips.{masked_column_strips}
 use Rattle.picture_rules.proofs.Laws.{joined_lists-append}
-use Rattle.masked_draw.specs.Marks.{mark_in, mark_of, unmarked_by, unmarked_dots, IsOutside, AreOwnMarked, MarksBy}
+use Rattle.masked_draw.specs.Marks.{mark_in, mark_of, unmarked_by, unmarked_strips, IsOutside, AreOwnMarked, MarksBy}
 
 -- filters over a range
 pub range_agree : (p q : ℕ → Bool) (a n : ℕ) → ((x : ℕ) → a ≤ x → x < a + n → p x ≡ q x) →
@@ -89,10 +91,10 @@ unmarked_same marks d gives other (Some place) h =
     range_agree (λ x. not (mark_of marks d place x) && gives x) (λ x. not (mark_of marks d place x) && other x) d.first (d.last + 1 - d.first)
     (λ x l m. ap (λ (b : Bool). not (mark_of marks d place x) && b) (h x l (omega arith)))
 
-pub unmarked-same : (v : ViewValue) (art : Art) (marks : List Bool) (d : FragmentNote) (gives other : ℕ → Bool) (k : ℕ) (drawseg : Drawseg) →
-    ((x : ℕ) → d.first ≤ x → x ≤ d.last → gives x ≡ other x) → unmarked_dots v art marks d gives k drawseg ≡ unmarked_dots v art marks d other k drawseg
-unfolding unmarked_dots
-unmarked-same v art marks d gives other k drawseg h = ap (joined_lists (middle_column v art k drawseg)) (unmarked_same marks d gives other d.masked h)
+pub unmarked-same : (v : ViewValue) (marks : List Bool) (d : FragmentNote) (gives other : ℕ → Bool) (k : ℕ) (drawseg : Drawseg) →
+    ((x : ℕ) → d.first ≤ x → x ≤ d.last → gives x ≡ other x) → unmarked_strips v marks d gives k drawseg ≡ unmarked_strips v marks d other k drawseg
+unfolding unmarked_strips
+unmarked-same v marks d gives other k drawseg h = ap (joined_lists (masked_column_strips v k drawseg)) (unmarked_same marks d gives other d.masked h)
 
 unmarked_none : (marks : List Bool) (d : FragmentNote) (gives : ℕ → Bool) (masked : Option ℕ) → ((x : ℕ) → d.first ≤ x → x ≤ d.last → gives x ≡ false) →
     unmarked_by marks d gives masked ≡ []
@@ -103,16 +105,16 @@ unmarked_none marks d gives (Some place) h =
     (λ x l m. ap (λ (b : Bool). not (mark_of marks d place x) && b) (h x l (omega arith)) ∙ and-false (not (mark_of marks d place x)))
 
 -- none of them passes
-pub unmarked-none : (v : ViewValue) (art : Art) (marks : List Bool) (d : FragmentNote) (gives : ℕ → Bool) (k : ℕ) (drawseg : Drawseg) →
-    ((x : ℕ) → d.first ≤ x → x ≤ d.last → gives x ≡ false) → unmarked_dots v art marks d gives k drawseg ≡ []
-unfolding unmarked_dots joined_lists
-unmarked-none v art marks d gives k drawseg h = ap (joined_lists (middle_column v art k drawseg)) (unmarked_none marks d gives d.masked h)
+pub unmarked-none : (v : ViewValue) (marks : List Bool) (d : FragmentNote) (gives : ℕ → Bool) (k : ℕ) (drawseg : Drawseg) →
+    ((x : ℕ) → d.first ≤ x → x ≤ d.last → gives x ≡ false) → unmarked_strips v marks d gives k drawseg ≡ []
+unfolding unmarked_strips joined_lists
+unmarked-none v marks d gives k drawseg h = ap (joined_lists (masked_column_strips v k drawseg)) (unmarked_none marks d gives d.masked h)
 
 -- the note is not masked
-pub unmarked-plain : (v : ViewValue) (art : Art) (marks : List Bool) (d : FragmentNote) (gives : ℕ → Bool) (k : ℕ) (drawseg : Drawseg) → d.masked ≡ None →
-    unmarked_dots v art marks d gives k drawseg ≡ []
-unfolding unmarked_dots joined_lists unmarked_by
-unmarked-plain v art marks d gives k drawseg e = ap (λ (m : Option ℕ). joined_lists (middle_column v art k drawseg) (unmarked_by marks d gives m)) e
+pub unmarked-plain : (v : ViewValue) (marks : List Bool) (d : FragmentNote) (gives : ℕ → Bool) (k : ℕ) (drawseg : Drawseg) → d.masked ≡ None →
+    unmarked_strips v marks d gives k drawseg ≡ []
+unfolding unmarked_strips joined_lists unmarked_by
+unmarked-plain v marks d gives k drawseg e = ap (λ (m : Option ℕ). joined_lists (masked_column_strips v k drawseg) (unmarked_by marks d gives m)) e
 
 abbrev pub between : ℕ → ℕ → ℕ → Bool
 between from x y = nat_le from y && nat_lt y x
@@ -124,24 +126,52 @@ unfolding unmarked_by listed_from up_to
 unmarked_more marks d place from x l m r =
     one_more (λ y. not (mark_of marks d place y)) from x d.first (d.last + 1 - d.first) m (omega arith) (omega arith)
 
-joined_cond : (f : ℕ → List Dot) (b : Bool) (x : ℕ) → joined_lists f (cond b (x ∷ []) []) ≡ cond b (f x) []
+joined_cond : (f : ℕ → List Strip) (b : Bool) (x : ℕ) → joined_lists f (cond b (x ∷ []) []) ≡ cond b (f x) []
 unfolding joined_lists
 joined_cond f true x = append-nil (f x)
 joined_cond f false x = refl
 
 -- one column more
-pub unmarked-more : (v : ViewValue) (art : Art) (marks : List Bool) (d : FragmentNote) (place from x k : ℕ) (drawseg : Drawseg) → d.masked ≡ Some place →
+pub unmarked-more : (v : ViewValue) (marks : List Bool) (d : FragmentNote) (place from x k : ℕ) (drawseg : Drawseg) → d.masked ≡ Some place →
     d.first ≤ from → from ≤ x → x ≤ d.last →
-    unmarked_dots v art marks d (between from (x + 1)) k drawseg
-    ≡ unmarked_dots v art marks d (between from x) k drawseg ++ cond (not (mark_of marks d place x)) (middle_column v art k drawseg x) []
-unfolding unmarked_dots
-unmarked-more v art marks d place from x k drawseg e l m r =
-    let dots_at = middle_column v art k drawseg in
-    ap (λ (o : Option ℕ). joined_lists dots_at (unmarked_by marks d (between from (x + 1)) o)) e
-    ∙ ap (joined_lists dots_at) (unmarked_more marks d place from x l m r)
-    ∙ joined_lists-append dots_at (unmarked_by marks d (between from x) (Some place)) (cond (not (mark_of marks d place x)) (x ∷ []) [])
-    ∙ ap (λ ys. joined_lists dots_at (unmarked_by marks d (between from x) (Some place)) ++ ys) (joined_cond dots_at (not (mark_of marks d place x)) x)
-    ∙ ap (λ (o : Option ℕ). joined_lists dots_at (unmarked_by marks d (between from x) o) ++ cond (not (mark_of marks d place x)) (dots_at x) []) (sym e)
+    unmarked_strips v marks d (between from (x + 1)) k drawseg
+    ≡ unmarked_strips v marks d (between from x) k drawseg ++ cond (not (mark_of marks d place x)) (masked_column_strips v k drawseg x) []
+unfolding unmarked_strips
+unmarked-more v marks d place from x k drawseg e l m r =
+    let strips_at = masked_column_strips v k drawseg in
+    ap (λ (o : Option ℕ). joined_lists strips_at (unmarked_by marks d (between from (x + 1)) o)) e
+    ∙ ap (joined_lists strips_at) (unmarked_more marks d place from x l m r)
+    ∙ joined_lists-append strips_at (unmarked_by marks d (between from x) (Some place)) (cond (not (mark_of marks d place x)) (x ∷ []) [])
+    ∙ ap (λ ys. joined_lists strips_at (unmarked_by marks d (between from x) (Some place)) ++ ys) (joined_cond strips_at (not (mark_of marks d place x)) x)
+    ∙ ap (λ (o : Option ℕ). joined_lists strips_at (unmarked_by marks d (between from x) o) ++ cond (not (mark_of marks d place x)) (strips_at x) []) (sym e)
+
+-- what is left from a column on
+unmarked_rest : (v : ViewValue) (marks : List Bool) (d : FragmentNote) (place from x k n : ℕ) (drawseg : Drawseg) → d.masked ≡ Some place → d.first ≤ from → from ≤ x → x + n ≤ d.last + 1 →
+    (rest : List Strip) × (unmarked_strips v marks d (between from x) k drawseg ++ rest ≡ unmarked_strips v marks d (between from (x + n)) k drawseg)
+unmarked_rest v marks d place from x k zero drawseg e l m r =
+    let same : x ≡ x + 0 = omega arith in
+    ([], append-nil (unmarked_strips v marks d (between from x) k drawseg) ∙ ap (λ (y : ℕ). unmarked_strips v marks d (between from y) k drawseg) same)
+unmarked_rest v marks d place from x k (suc n) drawseg e l m r =
+    let next : x + n + 1 ≡ x + suc n = omega arith in
+    let before = unmarked_rest v marks d place from x k n drawseg e l m (omega (arith, r)) in
+    let own : List Strip = cond (not (mark_of marks d place (x + n))) (masked_column_strips v k drawseg (x + n)) [] in (
+      before.0 ++ own,
+      sym (append_assoc (unmarked_strips v marks d (between from x) k drawseg) before.0 own) ∙ ap (λ (xs : List Strip). xs ++ own) before.1
+          ∙ sym (unmarked-more v marks d place from (x + n) k drawseg e l (omega (arith, m)) (omega (arith, r)))
+          ∙ ap (λ (y : ℕ). unmarked_strips v marks d (between from y) k drawseg) next,
+    )
+
+pub unmarked-left : (v : ViewValue) (marks : List Bool) (d : FragmentNote) (place from x last k : ℕ) (drawseg : Drawseg) → d.masked ≡ Some place → d.first ≤ from → from ≤ x → x ≤ last → last ≤ d.last →
+    (rest : List Strip) × (unmarked_strips v marks d (between from x) k drawseg ++ (cond (not (mark_of marks d place x)) (masked_column_strips v k drawseg x) [] ++ rest) ≡ unmarked_strips v marks d (between from (last + 1)) k drawseg)
+unmarked-left v marks d place from x last k drawseg e l m r s =
+    let end : x + 1 + (last - x) ≡ last + 1 = omega (arith, r) in
+    let after = unmarked_rest v marks d place from (x + 1) k (last - x) drawseg e l (omega (arith, m)) (omega (arith, end, s)) in
+    let own : List Strip = cond (not (mark_of marks d place x)) (masked_column_strips v k drawseg x) [] in (
+      after.0,
+      sym (append_assoc (unmarked_strips v marks d (between from x) k drawseg) own after.0)
+          ∙ ap (λ (xs : List Strip). xs ++ after.0) (sym (unmarked-more v marks d place from x k drawseg e l m (omega (arith, r, s))))
+          ∙ after.1 ∙ ap (λ (y : ℕ). unmarked_strips v marks d (between from y) k drawseg) end,
+    )
 
 -- marks of columns: none, one column more, and another test
 or_no : (b : Bool) → b ≡ (b || false)
@@ -187,9 +217,9 @@ between_other from x y h = grind (arith, nat_tests)
 pub marks-start : (d : FragmentNote) (from : ℕ) (marks : List Bool) → MarksBy d (between from from) marks marks
 marks-start d from marks = marks-none d (between from from) marks (λ x l m. between_none from x)
 
-pub unmarked-start : (v : ViewValue) (art : Art) (marks : List Bool) (d : FragmentNote) (from k : ℕ) (drawseg : Drawseg) →
-    unmarked_dots v art marks d (between from from) k drawseg ≡ []
-unmarked-start v art marks d from k drawseg = unmarked-none v art marks d (between from from) k drawseg (λ x l m. between_none from x)
+pub unmarked-start : (v : ViewValue) (marks : List Bool) (d : FragmentNote) (from k : ℕ) (drawseg : Drawseg) →
+    unmarked_strips v marks d (between from from) k drawseg ≡ []
+unmarked-start v marks d from k drawseg = unmarked-none v marks d (between from from) k drawseg (λ x l m. between_none from x)
 
 pub own_at : (d : FragmentNote) (gives : ℕ → Bool) (old new : List Bool) (place : ℕ) (masked : Option ℕ) → masked ≡ Some place →
     AreOwnMarked d gives old new masked → (x : ℕ) → d.first ≤ x → x ≤ d.last → mark_of new d place x ≡ (mark_of old d place x || gives x)

@@ -1,16 +1,17 @@
 -- Laws of the sprites of a pass, one after the other in drawing order.
-use Rattle.picture_rules.proofs.Common.{[], All, All-contains_itself, All-permutation, AllPass, ap, arith, Bool, Contains, false, get_or, gets, IfSome, length, List, ltb-true, None, Ok, Option, refl, Result, slice_get, Some, subst, sym, true, ℕ, ◌++◌, ◌+◌, ◌-◌, ◌<◌, ◌∙◌, ◌∷◌, ◌≡◌}
-use Rattle.texture_build.specs.{CacheFault.CacheFault, Paints.PaintState}
-use Rattle.masked_draw.specs.Rules.{Art, Drawseg, FragmentNote, Painter, SpriteEntry, draw_order, masked_dots, middles_at, sprites_from}
-use Rattle.picture_rules.proofs.sprite.MaskedLemmas.{sprites_from-more}
+use Rattle.picture_rules.proofs.Common.{All, All-contains_itself, All-permutation, AllPass, ap, arith, Bool, Contains, Err, false, get_or, gets, IfSome, length, List, None, Ok, Option, refl, Result, slice_get, Some, subst, sym, true, ℕ, ◌+◌, ◌-◌, ◌<◌, ◌∙◌, ◌≡◌}
+use Rattle.receiver_rules.specs.Receivers.{Receives}
+use Rattle.receiver_rules.proofs.FirstLemmas.{first_lists, first-left, first-more, first-none}
+use Rattle.receiver_rules.proofs.ReceiverLemmas.{receives-after, receives-none, receives-same, receives-stopped}
+use Rattle.masked_draw.specs.Rules.{Drawseg, FragmentNote, SpriteEntry, ViewValue, draw_order}
 use Rattle.picture_rules.proofs.sprite.OrderLemmas.{draw_order-permutation}
-use Rattle.texture_build.proofs.PaintLemmas.{paints-none, paints-same, paints-then, paints-value, paints-wider}
-use Rattle.vissprites.specs.Bounds.{has_lump_below, lies_within}
+use Rattle.vissprites.specs.Bounds.{lies_within}
+use Rattle.brush.specs.Strips.{Strip}
 use Rattle.masked_draw.specs.declared.scene.MaskScene.{MaskScene}
-use Rattle.masked_draw.specs.{Marks.AreBefore, Marks.MarkedTo, Marks.mark_in, Passes.DrawsSprite}
-use Rattle.masked_draw.specs.Ready.{IsNotedMiddle, IsPictureOf, IsSpriteLump}
-use Rattle.masked_draw.specs.Scenes.{PaintsDots, scene_art, scene_drawsegs, scene_lists}
-use Rattle.masked_draw.proofs.{MomentLemmas.front-first, SceneLemmas.scene-length}
+use Rattle.masked_draw.specs.{Marks.AreBefore, Marks.MarkedTo, Marks.mark_in, Passes.ShowsSprite}
+use Rattle.masked_draw.specs.Scenes.{scene_drawsegs}
+use Rattle.masked_draw.specs.Strips.{sprites_strips, step_strips}
+use Rattle.masked_draw.proofs.MomentLemmas.{front-first}
 
 -- no column is marked before the first sprite
 before_first : (seg : FragmentNote → Drawseg) (es : List SpriteEntry) (marks : List Bool) (d : FragmentNote) (masked : Option ℕ) →
@@ -30,9 +31,6 @@ marked-first seg notes es n marks h = record { at = λ k l. first_some seg es ma
 get_here : (es : List SpriteEntry) (k : ℕ) (e : SpriteEntry) → k < length es → slice_get es k ≡ Some (get_or es k e)
 get_here es k e l = grind (arith, gets)
 
-zero_add : (n : ℕ) → 0 + n ≡ n
-zero_add n = omega arith
-
 -- where a sprite stands in drawing order, by the turn of the loop
 pub sprite-get : (es : List SpriteEntry) (k : ℕ) (e : SpriteEntry) → (k < length es) × (e ≡ get_or es k e) → slice_get es k ≡ Some e
 sprite-get es k e t = let is_there = t.0 in let is_entry = t.1 in get_here es k e is_there ∙ ap Some (sym is_entry)
@@ -45,53 +43,44 @@ pub sprite-lies : (width : ℕ) (sprites : List SpriteEntry) (k : ℕ) (e : Spri
     (k < length (draw_order sprites)) × (e ≡ get_or (draw_order sprites) k e) → lies_within width e ≡ true
 sprite-lies width sprites k e all t = all_drawn (λ e. lies_within width e ≡ true) sprites k e all t
 
-lump_below : (lumps : ℕ) (e : SpriteEntry) → has_lump_below lumps e ≡ true → e.lump < lumps
-unfolding has_lump_below
-lump_below lumps e h = ltb-true e.lump lumps h
+-- the sprite at that turn is one of the sprites
+pub sprite-among : (sprites : List SpriteEntry) (k : ℕ) (e : SpriteEntry) → (k < length (draw_order sprites)) × (e ≡ get_or (draw_order sprites) k e) → Contains sprites e
+sprite-among sprites k e t = all_drawn (Contains sprites) sprites k e (All-contains_itself sprites) t
 
-pub sprite-lump : (lumps : ℕ) (sprites : List SpriteEntry) (k : ℕ) (e : SpriteEntry) → AllPass (has_lump_below lumps) sprites →
-    (k < length (draw_order sprites)) × (e ≡ get_or (draw_order sprites) k e) → e.lump < lumps
-sprite-lump lumps sprites k e all t = lump_below lumps e (all_drawn (λ e. has_lump_below lumps e ≡ true) sprites k e all t)
+-- the strips of each turn
+abbrev pub turn_strips : ViewValue → List Drawseg → List SpriteEntry → ℕ → List Strip
+turn_strips v ds es i = step_strips v ds es i (slice_get es i)
 
--- the picture of the sprite at that turn is the picture of one of the sprites
-pub sprite-among : (sprites : List SpriteEntry) (k : ℕ) (e : SpriteEntry) → (k < length (draw_order sprites)) × (e ≡ get_or (draw_order sprites) k e) →
-    (lump : ℕ) → IsPictureOf e lump → IsSpriteLump sprites lump
-sprite-among sprites k e t lump is = record { sprite = e; among = all_drawn (Contains sprites) sprites k e (All-contains_itself sprites) t; is = is }
+module _ (s : MaskScene) (notes : List FragmentNote) (es : List SpriteEntry) where
+  turn_is : (n : ℕ) (e : SpriteEntry) → slice_get es n ≡ Some e → step_strips s.view.now (scene_drawsegs s notes) es n (Some e) ≡ turn_strips s.view.now (scene_drawsegs s notes) es n
+  turn_is n e g = ap (step_strips s.view.now (scene_drawsegs s notes) es n) (sym g)
 
-from_none : (s : MaskScene) (notes : List FragmentNote) (es : List SpriteEntry) (art : Art) → [] ≡ sprites_from s.view.now art (scene_drawsegs s notes) es 0 []
-unfolding sprites_from
-from_none s notes es art = refl
-
-all_dots : (s : MaskScene) (notes : List FragmentNote) (sprites : List SpriteEntry) (art : Art) →
-    sprites_from s.view.now art (scene_drawsegs s notes) (draw_order sprites) 0 (draw_order sprites) ++ middles_at s.view.now art (scene_drawsegs s notes)
-    (draw_order sprites) None (length notes) ≡ masked_dots s.view.now art (scene_drawsegs s notes) (draw_order sprites)
-unfolding masked_dots
-all_dots s notes sprites art = ap (λ (n : ℕ). sprites_from s.view.now art (scene_drawsegs s notes) (draw_order sprites) 0 (draw_order sprites) ++ middles_at s.view.now art (scene_drawsegs s notes) (draw_order sprites) None n) (sym (scene-length s notes))
-
-module _ (s : MaskScene) (notes : List FragmentNote) (sprites : List SpriteEntry) {mark : Painter → ℕ → ℕ} where
-  -- no sprite is drawn
-  pub sprites-start : (st : PaintState) → PaintsDots mark s (IsNotedMiddle (scene_lists s) s.openings.now notes) (IsSpriteLump sprites) (λ art. sprites_from s.view.now art (scene_drawsegs s notes) (draw_order sprites) 0 []) st st (Ok (tt {0}))
-  sprites-start st = paints-same _ (λ contents q is. from_none s notes (draw_order sprites) (scene_art contents s)) (paints-none st (tt {0}))
+module _ {S A E : Type 0} {takes : S → Strip → Type 0} {stands : S → A → List Strip → Type 0} {stopped : S → A → List Strip → E → Type 0}
+    (s : MaskScene) (notes : List FragmentNote) (es : List SpriteEntry) where
+  -- no sprite was asked for
+  pub sprites-start : (brush : S) → Receives takes stands stopped brush brush (first_lists (turn_strips s.view.now (scene_drawsegs s notes) es) 0) (Ok tt)
+  sprites-start brush = receives-same _ (sym (first-none (turn_strips s.view.now (scene_drawsegs s notes) es))) (receives-none brush)
 
   -- one sprite more
-  pub sprites-more : {A : Type 0} {start a b : PaintState} {answer : A} (so_far : List SpriteEntry) (e : SpriteEntry) (new : List Bool) →
-      (length so_far < length (draw_order sprites)) × (e ≡ get_or (draw_order sprites) (length so_far) e) →
-      PaintsDots mark s (IsNotedMiddle (scene_lists s) s.openings.now notes) (IsSpriteLump sprites)
-      (λ art. sprites_from s.view.now art (scene_drawsegs s notes) (draw_order sprites) 0 so_far) start a (Ok (tt {0})) →
-      DrawsSprite mark s notes (draw_order sprites) (length so_far) e new a b (Ok answer) →
-      PaintsDots mark s (IsNotedMiddle (scene_lists s) s.openings.now notes) (IsSpriteLump sprites)
-      (λ art. sprites_from s.view.now art (scene_drawsegs s notes) (draw_order sprites) 0 (so_far ++ e ∷ [])) start b (Ok (tt {0}))
-  sprites-more so_far e new t before sprite =
-      paints-value (tt {0}) (paints-same _ (λ contents q is. sym (sprites_from-more s.view.now (scene_art contents s) (scene_drawsegs s notes) (draw_order sprites) 0 (length so_far) so_far e (zero_add (length so_far))))
-      (paints-then before (paints-wider (λ n own k. k) (sprite-among sprites (length so_far) e t) sprite.paints)))
+  pub sprites-more : {start a b : S} (n next : ℕ) (e : SpriteEntry) (marks : List Bool) → slice_get es n ≡ Some e → n + 1 ≡ next →
+      Receives takes stands stopped start a (first_lists (turn_strips s.view.now (scene_drawsegs s notes) es) n) (Ok tt) →
+      ShowsSprite takes stands stopped s notes es n e marks a b (Ok tt) → Receives takes stands stopped start b (first_lists (turn_strips s.view.now (scene_drawsegs s notes) es) next) (Ok tt)
+  sprites-more n next e marks g up before sprite =
+      receives-after _ before (receives-same _ (turn_is s notes es n e g) sprite.asks)
+      (first-more (turn_strips s.view.now (scene_drawsegs s notes) es) n ∙ ap (first_lists (turn_strips s.view.now (scene_drawsegs s notes) es)) up)
 
-  -- the sprites, and the columns that are left
-  pub pass-end : {A B : Type 0} {start a b : PaintState} {answer : B} {result : Result A CacheFault} →
-      PaintsDots mark s (IsNotedMiddle (scene_lists s) s.openings.now notes) (IsSpriteLump sprites)
-      (λ art. sprites_from s.view.now art (scene_drawsegs s notes) (draw_order sprites) 0 (draw_order sprites)) start a (Ok answer) →
-      PaintsDots mark s (IsNotedMiddle (scene_lists s) s.openings.now notes) (λ (n : ℕ). ⊥)
-      (λ art. middles_at s.view.now art (scene_drawsegs s notes) (draw_order sprites) None (length notes)) a b result →
-      PaintsDots mark s (IsNotedMiddle (scene_lists s) s.openings.now notes) (IsSpriteLump sprites)
-      (λ art. masked_dots s.view.now art (scene_drawsegs s notes) (draw_order sprites)) start b result
-  pass-end one two =
-      paints-same _ (λ contents q is. all_dots s notes sprites (scene_art contents s)) (paints-then one (paints-wider (λ n own k. k) (λ n k. absurd k) two))
+  -- the brush stopped at one
+  pub sprites-stop : {start a b : S} {part whole : Result (Unit {0}) E} (stop : E) (n : ℕ) (e : SpriteEntry) (marks : List Bool) → n < length es → slice_get es n ≡ Some e →
+      Receives takes stands stopped start a (first_lists (turn_strips s.view.now (scene_drawsegs s notes) es) n) (Ok tt) →
+      ShowsSprite takes stands stopped s notes es n e marks a b part → part ≡ Err stop → whole ≡ Err stop →
+      Receives takes stands stopped start b (sprites_strips s.view.now (scene_drawsegs s notes) es) whole
+  unfolding sprites_strips
+  sprites-stop {whole = whole} stop n e marks l g before sprite was is =
+      let left = first-left (turn_strips s.view.now (scene_drawsegs s notes) es) n (length es) l in
+      receives-stopped whole left.0 _ before tt refl (receives-same _ (turn_is s notes es n e g) sprite.asks) stop was is left.1
+
+  -- all sprites were asked for
+  pub sprites-end : {start now : S} (n : ℕ) → n ≡ length es → Receives takes stands stopped start now (first_lists (turn_strips s.view.now (scene_drawsegs s notes) es) n) (Ok tt) →
+      Receives takes stands stopped start now (sprites_strips s.view.now (scene_drawsegs s notes) es) (Ok tt)
+  unfolding sprites_strips
+  sprites-end n end h = receives-same _ (ap (first_lists (turn_strips s.view.now (scene_drawsegs s notes) es)) end) h

@@ -1,7 +1,8 @@
 -- Laws of a fragment that a sprite, or the end of the pass, comes to: the unmarked columns are those of the moment, and what is marked after it.
 use Rattle.picture_rules.proofs.Common.{and-false_left, ap, arith, Bool, cases_lt, cond, false, filter, IfSome, inl, inr, is_some, length, List, nat_lt, nat_tests, None, not, Option, refl, slice_get, Some, subst, sym, true, ℕ, ◌&&◌, ◌+◌, ◌-◌, ◌<◌, ◌||◌, ◌∙◌, ◌≡◌, ◌≢◌, ◌≤◌, ◌⊎◌}
-use Rattle.masked_draw.specs.Rules.{Art, Drawseg, FragmentNote, ListsApart, SpriteEntry, ViewValue, columns_at, joined_lists, listed_from, middle_column, middles_of, same_number, sprite_in_front}
-use Rattle.masked_draw.specs.Marks.{mark_of, unmarked_by, unmarked_dots, is_between, is_passed, is_before, IsOutside, MarksBy, AreBefore, MarkedTo}
+use Rattle.masked_draw.specs.Rules.{Drawseg, FragmentNote, ListsApart, SpriteEntry, ViewValue, columns_at, joined_lists, listed_from, same_number, sprite_in_front}
+use Rattle.masked_draw.specs.Strips.{masked_column_strips, moment_strips}
+use Rattle.masked_draw.specs.Marks.{mark_of, unmarked_by, unmarked_strips, is_between, is_passed, is_before, IsOutside, MarksBy, AreBefore, MarkedTo}
 use Rattle.masked_draw.proofs.MomentLemmas.{front-now, front-more, front-left}
 use Rattle.masked_draw.proofs.MarkLemmas.{range_agree, range_none, own_at}
 
@@ -33,12 +34,12 @@ columns_moved es moment drawseg first last e f =
     ap (λ (a : ℕ). filter (λ x. drawseg.masked && same_number (sprite_in_front es drawseg x) moment) (listed_from (λ x. x) a last)) (sym e)
     ∙ ap (λ (b : ℕ). filter (λ x. drawseg.masked && same_number (sprite_in_front es drawseg x) moment) (listed_from (λ x. x) drawseg.first b)) (sym f)
 
-dots_of_moment : (v : ViewValue) (art : Art) (marks : List Bool) (es : List SpriteEntry) (moment : Option ℕ) (k : ℕ) (d : FragmentNote) (drawseg : Drawseg) (gives : ℕ → Bool) → HasColumnsOf d drawseg →
+strips_of_moment : (v : ViewValue) (marks : List Bool) (es : List SpriteEntry) (moment : Option ℕ) (k : ℕ) (d : FragmentNote) (drawseg : Drawseg) (gives : ℕ → Bool) → HasColumnsOf d drawseg →
     ((place x : ℕ) → d.masked ≡ Some place → d.first ≤ x → x ≤ d.last → (not (mark_of marks d place x) && gives x) ≡ same_number (sprite_in_front es drawseg x) moment) →
-    unmarked_dots v art marks d gives k drawseg ≡ middles_of v art es moment k (Some drawseg)
-unfolding unmarked_dots middles_of
-dots_of_moment v art marks es moment k d drawseg gives a h =
-    ap (joined_lists (middle_column v art k drawseg))
+    unmarked_strips v marks d gives k drawseg ≡ moment_strips v es moment k (Some drawseg)
+unfolding unmarked_strips moment_strips
+strips_of_moment v marks es moment k d drawseg gives a h =
+    ap (joined_lists (masked_column_strips v k drawseg))
     (columns_of_moment marks es moment d drawseg gives d.masked a.masked h ∙ columns_moved es moment drawseg d.first d.last a.first a.last)
 
 -- the mark of one column of a note
@@ -53,14 +54,14 @@ note_at seg notes es n turn marks k d h l e =
     let OfNote : Option FragmentNote → Type 0 = λ o. IfSome o (λ d. AreBefore seg es marks d (turn k) d.masked) in subst OfNote e (h.at k l)
 
 -- the unmarked columns of a fragment behind a sprite are those of its moment
-pub passed-middles : (v : ViewValue) (art : Art) (seg : FragmentNote → Drawseg) (notes : List FragmentNote) (es : List SpriteEntry) (n : ℕ) (turn : ℕ → ℕ)
+pub passed-middles : (v : ViewValue) (seg : FragmentNote → Drawseg) (notes : List FragmentNote) (es : List SpriteEntry) (n : ℕ) (turn : ℕ → ℕ)
     (marks : List Bool) (k i : ℕ) (d : FragmentNote) (e : SpriteEntry) →
     HasColumnsOf d (seg d) → MarkedTo seg notes es n turn marks → k < n → slice_get notes k ≡ Some d → turn k ≡ i → i < length es → slice_get es i ≡ Some e →
-    unmarked_dots v art marks d (is_passed e (seg d)) k (seg d) ≡ middles_of v art es (Some i) k (Some (seg d))
-passed-middles v art seg notes es n turn marks k i d e a h l g t m f =
+    unmarked_strips v marks d (is_passed e (seg d)) k (seg d) ≡ moment_strips v es (Some i) k (Some (seg d))
+passed-middles v seg notes es n turn marks k i d e a h l g t m f =
     let AtTurn : ℕ → Type 0 = λ j. AreBefore seg es marks d j d.masked in
     let marked_before : AreBefore seg es marks d i d.masked = subst AtTurn t (note_at seg notes es n turn marks k d h l g) in
-    dots_of_moment v art marks es (Some i) k d (seg d) (is_passed e (seg d)) a
+    strips_of_moment v marks es (Some i) k d (seg d) (is_passed e (seg d)) a
     (λ place x s p q. ap (λ (z : Bool). not z && is_passed e (seg d) x) (before_at seg es marks d i place d.masked s marked_before x p q) ∙ sym (front-now es (seg d) x i e m f))
 
 between_all : (first last x : ℕ) → first ≤ x → x ≤ last → is_between first last x ≡ true
@@ -71,14 +72,14 @@ and_yes true b h = h
 and_yes false b h = refl
 
 -- those of a fragment that are left after all sprites
-pub left-middles : (v : ViewValue) (art : Art) (seg : FragmentNote → Drawseg) (notes : List FragmentNote) (es : List SpriteEntry) (n : ℕ) (turn : ℕ → ℕ)
+pub left-middles : (v : ViewValue) (seg : FragmentNote → Drawseg) (notes : List FragmentNote) (es : List SpriteEntry) (n : ℕ) (turn : ℕ → ℕ)
     (marks : List Bool) (k : ℕ) (d : FragmentNote) →
     HasColumnsOf d (seg d) → MarkedTo seg notes es n turn marks → k < n → slice_get notes k ≡ Some d → turn k ≡ length es →
-    unmarked_dots v art marks d (is_between d.first d.last) k (seg d) ≡ middles_of v art es None k (Some (seg d))
-left-middles v art seg notes es n turn marks k d a h l g t =
+    unmarked_strips v marks d (is_between d.first d.last) k (seg d) ≡ moment_strips v es None k (Some (seg d))
+left-middles v seg notes es n turn marks k d a h l g t =
     let AtTurn : ℕ → Type 0 = λ j. AreBefore seg es marks d j d.masked in
     let marked_before : AreBefore seg es marks d (length es) d.masked = subst AtTurn t (note_at seg notes es n turn marks k d h l g) in
-    dots_of_moment v art marks es None k d (seg d) (is_between d.first d.last) a
+    strips_of_moment v marks es None k d (seg d) (is_between d.first d.last) a
     (λ place x s p q. and_yes (not (mark_of marks d place x)) (is_between d.first d.last x) (between_all d.first d.last x p q)
     ∙ ap not (before_at seg es marks d (length es) place d.masked s marked_before x p q) ∙ sym (front-left es (seg d) x))
 

@@ -1,14 +1,15 @@
 -- Laws of the notes of a scene as drawn fragments, and of what the calls ask of them.
-use Rattle.picture_rules.proofs.Common.{All-get_or, and_parts, ap, arith, Bool, get_or, gets, IfSome, int_lt, leb-true, length, length-map, List, nat_le, nat_tests, not, Option, option_map, pos, refl, Result, slice_get, slice_get-map, slice_get_within, Some, subst, true, ℕ, ℤ, ◌&&◌, ◌<◌, ◌==◌, ◌∙◌, ◌≡◌, ◌≢◌, ◌≤ℤ◌, ◌≤◌}
-use Rattle.masked_draw.specs.Rules.{AreNoted, Dot, Drawseg, FragmentNote, IsWholeNote, Lump, Painter, SpriteEntry, ViewShape, drawseg_has, gives_bottom, gives_top, greatest_clip, is_behind, least_clip, minus_one}
-use Rattle.texture_build.specs.{Zones.Heap, CacheFault.CacheFault}
-use Rattle.texture_build.specs.Caches.{KeepsCounts, cache_fault}
-use Rattle.texture_build.specs.{Paints.PaintState, Paints.Paints, Views.TexturesView}
-use Rattle.texture_build.proofs.PaintLemmas.{slots-later}
+use Rattle.picture_rules.proofs.Common.{All-get_or, and_parts, ap, arith, Bool, get_or, gets, IfSome, int_lt, leb-true, length, length-map, List, nat_le, nat_tests, not, Option, option_map, pos, refl, slice_get, slice_get-map, Some, subst, true, ℕ, ℤ, ◌&&◌, ◌<◌, ◌==◌, ◌∙◌, ◌≡◌, ◌≢◌, ◌≤ℤ◌, ◌≤◌}
+use Rattle.receiver_rules.specs.Receivers.{StillTakes}
+use Rattle.masked_draw.specs.Rules.{AreNoted, Drawseg, FragmentNote, IsWholeNote, Lump, SpriteEntry, ViewShape, ViewValue, drawseg_has, gives_bottom, gives_top, greatest_clip, is_behind, least_clip, minus_one}
+use Rattle.brush.specs.Strips.{Middle, Picture, Strip}
 use Rattle.masked_draw.specs.declared.scene.MaskScene.{MaskScene}
 use Rattle.masked_draw.specs.Lists.{MaskedLists, noted_drawseg, noted_drawsegs}
-use Rattle.masked_draw.specs.Ready.{IsListed, IsMiddleColumn, IsNotedMiddle}
-use Rattle.masked_draw.specs.Scenes.{CanPaint, CanPaintNote, CanPass, scene_drawseg, scene_drawsegs, scene_lists, scene_tools}
+use Rattle.masked_draw.specs.Ready.{IsInLists, IsListed}
+use Rattle.texture_build.specs.{Zones.Heap, Views.TexturesView}
+use Rattle.masked_draw.specs.Scenes.{CanShow, IsInScene, scene_drawseg, scene_drawsegs}
+use Rattle.masked_draw.specs.Strips.{masked_column_strip, shown_sprite}
+use Rattle.masked_draw.specs.Takes.{TakesColumns, TakesFragments, TakesMasked}
 use Rattle.masked_draw.proofs.EntryLemmas.{IsSegOf}
 use Rattle.masked_draw.proofs.PassedLemmas.{HasColumnsOf, ApartNotes}
 
@@ -40,58 +41,32 @@ scene-whole {shape} {notes} {openings} k d noted e =
 get_at : {X : Type 0} (xs : List X) (k : ℕ) (x : X) → slice_get xs k ≡ Some x → get_or xs k x ≡ x
 get_at xs k x e = grind (arith, gets)
 
--- each note that the notes have may be painted
-pub can_pass-note : {s : MaskScene} {notes : List FragmentNote} {st : PaintState} {marks : List Bool} (k : ℕ) (d : FragmentNote) → CanPass s notes st marks → slice_get notes k ≡ Some d → k < length notes → CanPaintNote s d st
-can_pass-note {s} {notes} {st} k d can e l =
-    let IsListedNote : FragmentNote → Type 0 = IsListed s.dir.now.lumps s.textures.now st.cache (scene_lists s) in
-    record {
-      paint = can.paint;
-      whole = scene-whole k d can.noted e;
-      listed = subst IsListedNote (get_at notes k d e) (All-get_or IsListedNote notes k d l can.listed);
-    }
-
-pub scene-middle : (lists : MaskedLists) (openings : List ℤ) (notes : List FragmentNote) (k : ℕ) (d : FragmentNote) → slice_get notes k ≡ Some d → (n : ℕ) (own : ℤ) → IsMiddleColumn lists openings d n own → IsNotedMiddle lists openings notes n own
-scene-middle lists openings notes k d e n own is = record {
-  note = d;
-  among = (k, slice_get_within notes k d e, get_at notes k d e);
-  is = is;
-}
-
--- the lists are asked again after a call
-pub listed-later : {lumps : List Lump} {textures : TexturesView} {lists : MaskedLists} {old new : Heap} {d : FragmentNote} → KeepsCounts old new → IsListed lumps textures old lists d → IsListed lumps textures new lists d
-listed-later counts one = record {
-  seg = one.seg;
-  front = one.front;
-  side = one.side;
-  middle = one.middle;
-  masked = λ is.
-      let of_middle = one.masked is in
-      record {
-        back = of_middle.back;
-        some = of_middle.some;
-        texture = record { prepared = of_middle.texture.prepared; slot = rw counts.2 of_middle.texture.slot; there = of_middle.texture.there };
-        among = of_middle.among;
-        single = of_middle.single;
-      };
-}
+-- a note's entries are in the lists
+pub note-listed : {s : MaskScene} {notes : List FragmentNote} {marks : List Bool} (k : ℕ) (d : FragmentNote) → CanShow s notes marks → slice_get notes k ≡ Some d → k < length notes → IsInScene s d
+note-listed {s} {notes} k d can e l = subst (IsInScene s) (get_at notes k d e) (All-get_or (IsInScene s) notes k d l can.listed)
 
 -- what a call asks it may ask again
-module _ {A Q : Type 0} {mark : Painter → ℕ → ℕ} {s : MaskScene} {among : ℕ → ℤ → Type 0} {pictures : ℕ → Type 0} {asked : Q → Type 0} {f : List (List ℕ) → Q → List Dot} {a b : PaintState} {result : Result A CacheFault} where
-  pub can_paint-later : Paints cache_fault mark (scene_tools s) among pictures asked f a b result → CanPaint s a → CanPaint s b
-  can_paint-later one can = record {
-    slots = slots-later one can.slots;
-    colormap = can.colormap;
-    placed = record { columns = rw one.place.left can.placed.columns; rows = rw one.place.top can.placed.rows };
-  }
+pub can_show-later : {s : MaskScene} {notes : List FragmentNote} {old new : List Bool} → length new ≡ length old → CanShow s notes old → CanShow s notes new
+can_show-later same can = record { width = can.width; noted = can.noted; listed = can.listed; room = rw same can.room }
 
-  pub can_pass-later : {notes : List FragmentNote} (old new : List Bool) →
-      Paints cache_fault mark (scene_tools s) among pictures asked f a b result → length new ≡ length old → CanPass s notes a old → CanPass s notes b new
-  can_pass-later old new one len can = record {
-    paint = can_paint-later one can.paint;
-    noted = can.noted;
-    listed = λ k d l. listed-later one.draws.keeps.counts (can.listed k d l);
-    room = rw len can.room;
-  }
+-- the strips that it takes of fragments, it takes of each
+pub note-taken : {S : Type 0} {takes : S → Strip → Type 0} {brush : S} (s : MaskScene) (notes : List FragmentNote) (k : ℕ) (d : FragmentNote) → slice_get notes k ≡ Some d →
+    TakesFragments takes brush s.view.now (scene_drawsegs s notes) → TakesColumns takes brush s.view.now k (scene_drawseg s d)
+note-taken s notes k d e taken = taken.at k (scene_drawseg s d) (scene-get s notes k d e)
+
+-- and after strips that it was asked for
+pub columns-later : {S : Type 0} {takes : S → Strip → Type 0} {a b : S} {v : ViewValue} {k : ℕ} {d : Drawseg} → StillTakes takes a b → TakesColumns takes a v k d → TakesColumns takes b v k d
+columns-later {v = v} {k} {d} still taken = record { each = λ is x from to. still.each (Middle (masked_column_strip v k d x)) (taken.each is x from to) }
+
+pub fragments-later : {S : Type 0} {takes : S → Strip → Type 0} {a b : S} {v : ViewValue} {ds : List Drawseg} → StillTakes takes a b → TakesFragments takes a v ds → TakesFragments takes b v ds
+fragments-later still taken = record { at = λ k d e. columns-later still (taken.at k d e) }
+
+pub masked-later : {S : Type 0} {takes : S → Strip → Type 0} {a b : S} {v : ViewValue} {ds : List Drawseg} {sprites : List SpriteEntry} → StillTakes takes a b → TakesMasked takes a v ds sprites → TakesMasked takes b v ds sprites
+masked-later {v = v} {ds} still taken =
+    record { fragments = fragments-later still taken.fragments; sprites = λ e h some. still.each (Picture (shown_sprite v ds e)) (taken.sprites e h some) }
+
+pub still-then : {S : Type 0} {takes : S → Strip → Type 0} {a b c : S} → StillTakes takes a b → StillTakes takes b c → StillTakes takes a c
+still-then first second = record { each = λ strip h. second.each strip (first.each strip h) }
 
 -- a clip that a fragment gives keeps to the view
 not_zero : (n : ℕ) → not (n == 0) ≡ true → n ≢ 0
@@ -122,3 +97,20 @@ gives_top-bounds s d e x whole g =
     let seg = scene_drawseg s d in
     let top_is_clipped = given_parts seg e x seg.has_top (int_lt seg.top_height e.gzt) g in
     whole.top_rows x top_is_clipped.0.0 top_is_clipped.0.1 (whole.top (not_zero _ top_is_clipped.1))
+
+-- a note whose middle texture may be drawn has its entries in the lists
+pub listed-in : {lumps : List Lump} {textures : TexturesView} {z : Heap} {lists : MaskedLists} {d : FragmentNote} → IsListed lumps textures z lists d → IsInLists (length textures.lists.textures) lists d
+listed-in one = record {
+  seg = one.seg;
+  front = one.front;
+  side = one.side;
+  middle = one.middle;
+  masked = λ is. let of_middle = one.masked is in record { back = of_middle.back; some = of_middle.some; among = of_middle.among };
+}
+
+-- what the value of a brush takes, the brush does
+pub taken-by : {P S : Type 0} {takes : S → Strip → Type 0} {v : ViewValue} {ds : List Drawseg} {es : List SpriteEntry} (value : P → S) (brush : P) → TakesMasked takes (value brush) v ds es → TakesMasked (λ (p : P). takes (value p)) brush v ds es
+taken-by value brush taken = record {
+  fragments = record { at = λ k d e. record { each = (taken.fragments.at k d e).each } };
+  sprites = taken.sprites;
+}

@@ -2,6 +2,7 @@ pub mod Lists
 pub mod Ready
 pub mod Scenes
 pub mod Strips
+pub mod Takes
 pub mod Clipped
 pub mod Marks
 pub mod Passes

@@ -1,6 +1,8 @@
 -- The marks of masked columns that are painted: one for each opening, at the place of its texture column.
 use Rattle.std.specs.Prelude.{◌≡◌, ◌≤◌, ◌<◌, ◌+◌, ◌-◌, ◌⊎◌, ◌&&◌, ◌||◌, ℕ, Bool, false, cond, not, nat_le, nat_lt, List, [], Option, Some, None, slice_get, slice_index_or, filter, IfSome, ⊤}
-use Rattle.masked_draw.specs.Rules.{Art, Dot, Drawseg, FragmentNote, SpriteEntry, ViewValue, entry_has, is_behind, joined_lists, listed_from, middle_column, sprite_in_front}
+use Rattle.masked_draw.specs.Rules.{Drawseg, FragmentNote, SpriteEntry, ViewValue, entry_has, is_behind, joined_lists, listed_from, sprite_in_front}
+use Rattle.brush.specs.Strips.{Strip}
+use Rattle.masked_draw.specs.Strips.{masked_column_strips}
 
 -- the mark at a place, not set past the end
 abbrev pub mark_in : List Bool → ℕ → Bool
@@ -16,14 +18,14 @@ unmarked_by marks d gives None = []
 unmarked_by marks d gives (Some place) =
     filter (λ x. not (mark_of marks d place x) && gives x) (listed_from (λ x. x) d.first d.last)
 
--- the dots of these columns
-unfoldable pub unmarked_dots : ViewValue → Art → List Bool → FragmentNote → (ℕ → Bool) → ℕ → Drawseg → List Dot
-unmarked_dots v art marks d gives k drawseg =
-    joined_lists (middle_column v art k drawseg) (unmarked_by marks d gives d.masked)
+-- the strips of these columns
+unfoldable pub unmarked_strips : ViewValue → List Bool → FragmentNote → (ℕ → Bool) → ℕ → Drawseg → List Strip
+unmarked_strips v marks d gives k drawseg =
+    joined_lists (masked_column_strips v k drawseg) (unmarked_by marks d gives d.masked)
 
--- the dots of a column, where it is not marked
-abbrev pub if_unmarked : Bool → List Dot → List Dot
-if_unmarked marked dots = cond (not marked) dots []
+-- the strips of a column, where it is not marked
+abbrev pub if_unmarked : Bool → List Strip → List Strip
+if_unmarked marked strips = cond (not marked) strips []
 
 -- the columns from first to last
 abbrev pub is_between : ℕ → ℕ → ℕ → Bool

@@ -24,6 +24,20 @@ pub record IsListed (lumps : List Lump) (textures : TexturesView) (z : Heap) (li
   pub middle : (note_seg lists d).side < length lists.middles
   pub masked : IsSome d.masked → CanDrawMiddle lumps textures z lists d
 
+-- what the strips of a masked note are made of: the sector behind its seg, and the number of its middle texture
+pub record HasMiddle (textures : ℕ) (lists : MaskedLists) (d : FragmentNote) : Type 0 where
+  pub back : IfSome (note_seg lists d).back (λ back. back < length lists.sectors)
+  pub some : IsSome (note_seg lists d).back
+  pub among : middle_by lists d < textures
+
+-- the seg of a note, with its side and its sectors, is among the lists, and what its strips are made of
+pub record IsInLists (textures : ℕ) (lists : MaskedLists) (d : FragmentNote) : Type 0 where
+  pub seg : d.seg_no < length lists.segs
+  pub front : (note_seg lists d).front < length lists.sectors
+  pub side : (note_seg lists d).side < length lists.sides
+  pub middle : (note_seg lists d).side < length lists.middles
+  pub masked : IsSome d.masked → HasMiddle textures lists d
+
 -- column `own` of a texture is one of the middle texture that a masked note saved for a column of the view
 pub record IsMiddleColumn (lists : MaskedLists) (openings : List ℤ) (d : FragmentNote) (number : ℕ) (own : ℤ) : Type 0 where
   pub masked : IsSome d.masked

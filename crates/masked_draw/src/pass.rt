@@ -1,28 +1,31 @@
 // Sprites in drawing order, and the masked mid textures between and behind them.
 //
-// Rules: `picture_rules/sprite`, Clips and Middles; `specs/Lists`, `specs/Ready`. The original:
-// `R_DrawMasked` and `R_DrawSprite`, r_things.c.
+// Rules: `picture_rules/sprite`, Clips and Middles; `specs/Strips`, `specs/Lists`, `specs/Ready`. The
+// original: `R_DrawMasked` and `R_DrawSprite`, r_things.c.
 ghost use Rattle.std.specs.Prelude.{◌≡◌, ◌<◌, ◌≤◌, ◌≤ℤ◌, ℕ, ⊤, true, false, List, All, OnOk, Some, None, length, slice_get};
 ghost use Rattle.std.specs.List.{AllPass};
 ghost use Rattle.texture_build.specs.Caches.{cache_fault};
-ghost use Rattle.masked_draw.specs.Rules.{AreNoted, SpriteEntry, draw_order, entry_has, middles_at, sprites_from};
+ghost use Rattle.masked_draw.specs.Rules.{AreNoted, FRAME_WIDTH, IsWholeNote, SpriteEntry, draw_order, entry_has};
 ghost use Rattle.vissprites.specs.Bounds.{lies_within, has_lump_below};
 ghost use Rattle.pixel_strips.specs.Standing.{StandsInFrame};
 ghost use Rattle.texture_build.specs.Paints.{Paints};
 ghost use Rattle.masked_draw.specs.Clipped.{TakesRows};
-ghost use Rattle.masked_draw.specs.Marks.{MarkedTo, MarksBy, MissesColumns, is_passed, mark_in, unmarked_dots};
-ghost use Rattle.masked_draw.specs.Passes.{DrawsSprite};
-ghost use Rattle.masked_draw.specs.Ready.{IsListed, IsMiddleColumn, IsNotedMiddle, IsSpriteLump};
-ghost use Rattle.masked_draw.specs.Scenes.{AreSameMaskHands, CanPaintNote, CanPass, PaintsDots, mask_hands, scene_drawseg, scene_drawsegs, scene_lists};
+ghost use Rattle.masked_draw.specs.Marks.{MarkedTo, MarksBy, MissesColumns, is_passed, mark_in, unmarked_strips};
+ghost use Rattle.masked_draw.specs.Passes.{ShowsSprite};
+ghost use Rattle.masked_draw.specs.Ready.{IsListed, IsNotedMiddle, IsSpriteLump};
+ghost use Rattle.masked_draw.specs.Scenes.{CanShow, IsInScene, scene_drawseg, scene_drawsegs};
+ghost use Rattle.masked_draw.specs.Strips.{masked_strips, middles_strips, sprites_strips};
+ghost use Rattle.masked_draw.specs.Takes.{TakesColumns, TakesFragments, TakesMasked, TakesSprite};
 ghost use Rattle.masked_draw.specs.Tools.{AreSameMaskTools, masked_state, masked_tools, tools_dots, tools_lists};
+ghost use Rattle.receiver_rules.specs.Receivers.{Receives};
 
 use crate::clips::{SpriteClips, is_behind};
 use crate::middles::paint_middle;
-use crate::scene::{MaskHands, MaskScene};
+use crate::scene::MaskScene;
 use crate::sprites::paint_sprite;
 use crate::tools::MaskedTools;
 use art_rules::Shelf;
-use brush::column_of;
+use brush::{Brush, LiveBrush, column_of};
 use picture_rules::{FragmentNote, SpriteEntry};
 use pixel_strips::Canvas;
 use texture_build::CacheFault;
@@ -65,108 +68,132 @@ pub fn draw_masked<S: Shelf, C: Canvas>(
         (λ contents q. tools_dots tools.old notes.now sprites.now contents)
         (masked_state S.view C.view tools.old) (masked_state S.view C.view tools.new) result }
 {
-    tools.marks.fill(false);
     let scene = MaskScene {
         view: tools.view,
         textures: tools.textures,
-        dir: tools.dir,
-        colormap: tools.colormap,
         openings: tools.openings,
         segs: tools.segs,
         sides: tools.sides,
         sectors: tools.sectors,
         middles: tools.middles,
     };
-    let mut hands = MaskHands {
+    let mut brush = LiveBrush {
+        textures: tools.textures,
+        dir: tools.dir,
+        colormap: tools.colormap,
         cache: &mut *tools.cache,
         shelf: &mut *tools.shelf,
         canvas: &mut *tools.canvas,
-        marks: &mut *tools.marks,
     };
-    draw_sprites(&scene, &mut hands, notes, sprites)?;
-    draw_middles(&scene, &mut hands, notes)
+    paint_masked(&scene, &mut brush, tools.marks, notes, sprites)
 }
 
-// Draws the sprites, each after the masked columns behind it. No column is painted before.
-fn draw_sprites<S: Shelf, C: Canvas>(
+/// Asks a brush for what the masked pass shows: each sprite in drawing order, after the masked
+/// columns that it stands in front of, and at last the masked columns that are left, those of the last
+/// fragment first. Takes no memory.
+///
+/// The notes and the openings are those of the view's drawn fragments; `marks` has an entry for each
+/// opening, and what it holds does not matter. The segs of the notes, with their sides and sectors,
+/// are among the lists, and the sprites' columns lie in the view.
+///
+/// Errors: what the brush answered, at the strip where it was asked for, at once.
+///
+/// The original: `R_DrawMasked`, r_things.c.
+pub fn paint_masked<B: Brush>(
     scene: &MaskScene<'_>,
-    hands: &mut MaskHands<'_, S, C>,
+    brush: &mut B,
+    marks: &mut [bool],
     notes: &[FragmentNote],
     sprites: &Sprites,
-) -> Result<(), CacheFault>
-    requires ready { CanPass scene.now notes.now (mask_hands S.view C.view hands.old)
-        hands.old.marks.now }
-    requires unmarked { (p : ℕ) → mark_in hands.old.marks.now p ≡ false }
+) -> Result<(), B::Stop>
+    requires ready { CanShow scene.now notes.now marks.old }
     requires columns { AllPass (lies_within scene.now.view.now.shape.width) sprites.now }
-    requires lumps { AllPass (has_lump_below (length scene.now.dir.now.lumps)) sprites.now }
-    ensures same { AreSameMaskHands hands.old hands.new }
-    ensures marks { length hands.new.marks.now ≡ length hands.old.marks.now }
-    ensures ready { OnOk result (CanPass scene.now notes.now (mask_hands S.view C.view
-        hands.new) hands.new.marks.now) }
+    requires takes { TakesMasked B.takes brush.old scene.now.view.now
+        (scene_drawsegs scene.now notes.now) sprites.now }
+    ensures marks { length marks.new ≡ length marks.old }
+    ensures asks { Receives B.takes B.stands B.stopped brush.old brush.new
+        (masked_strips scene.now.view.now (scene_drawsegs scene.now notes.now)
+        (draw_order sprites.now)) result }
+{
+    marks.fill(false);
+    draw_sprites(scene, brush, marks, notes, sprites)?;
+    draw_middles(scene, brush, marks, notes)
+}
+
+// Asks for the sprites, each after the masked columns behind it. No column is marked before.
+fn draw_sprites<B: Brush>(
+    scene: &MaskScene<'_>,
+    brush: &mut B,
+    marks: &mut [bool],
+    notes: &[FragmentNote],
+    sprites: &Sprites,
+) -> Result<(), B::Stop>
+    requires ready { CanShow scene.now notes.now marks.old }
+    requires unmarked { (p : ℕ) → mark_in marks.old p ≡ false }
+    requires columns { AllPass (lies_within scene.now.view.now.shape.width) sprites.now }
+    requires takes { TakesMasked B.takes brush.old scene.now.view.now
+        (scene_drawsegs scene.now notes.now) sprites.now }
+    ensures marks { length marks.new ≡ length marks.old }
     ensures marked { OnOk result (MarkedTo (scene_drawseg scene.now) notes.now
         (draw_order sprites.now) (length notes.now) (λ k. length (draw_order sprites.now))
-        hands.new.marks.now) }
-    ensures paints { PaintsDots C.mark scene.now
-        (IsNotedMiddle (scene_lists scene.now) scene.now.openings.now notes.now)
-        (IsSpriteLump sprites.now)
-        (λ art. sprites_from scene.now.view.now art (scene_drawsegs scene.now notes.now)
-        (draw_order sprites.now) 0 (draw_order sprites.now))
-        (mask_hands S.view C.view hands.old) (mask_hands S.view C.view hands.new) result }
+        marks.new) }
+    ensures asks { Receives B.takes B.stands B.stopped brush.old brush.new
+        (sprites_strips scene.now.view.now (scene_drawsegs scene.now notes.now)
+        (draw_order sprites.now)) result }
 {
     let mut clips = SpriteClips::new();
     for entry in sprites.sorted() {
-        draw_sprite(scene, hands, notes, &entry, &mut clips)?;
+        draw_sprite(scene, brush, marks, notes, &entry, &mut clips)?;
     }
     Ok(())
 }
 
-// Draws the masked columns that are left, where all sprites are drawn.
-fn draw_middles<S: Shelf, C: Canvas>(
+// Asks for the masked columns that are left, where all sprites are drawn.
+fn draw_middles<B: Brush>(
     scene: &MaskScene<'_>,
-    hands: &mut MaskHands<'_, S, C>,
+    brush: &mut B,
+    marks: &mut [bool],
     notes: &[FragmentNote],
-) -> Result<(), CacheFault>
-    requires ready { CanPass scene.now notes.now (mask_hands S.view C.view hands.old)
-        hands.old.marks.now }
-    ensures same { AreSameMaskHands hands.old hands.new }
-    ensures marks { length hands.new.marks.now ≡ length hands.old.marks.now }
-    ensures paints { (es : List SpriteEntry) → MarkedTo (scene_drawseg scene.now) notes.now es
-        (length notes.now) (λ k. length es) hands.old.marks.now →
-        PaintsDots C.mark scene.now
-        (IsNotedMiddle (scene_lists scene.now) scene.now.openings.now notes.now) (λ (n : ℕ). ⊥)
-        (λ art. middles_at scene.now.view.now art (scene_drawsegs scene.now notes.now) es None
-        (length notes.now))
-        (mask_hands S.view C.view hands.old) (mask_hands S.view C.view hands.new) result }
+) -> Result<(), B::Stop>
+    requires ready { CanShow scene.now notes.now marks.old }
+    requires takes { TakesFragments B.takes brush.old scene.now.view.now
+        (scene_drawsegs scene.now notes.now) }
+    ensures marks { length marks.new ≡ length marks.old }
+    ensures asks { (es : List SpriteEntry) → MarkedTo (scene_drawseg scene.now) notes.now es
+        (length notes.now) (λ k. length es) marks.old →
+        Receives B.takes B.stands B.stopped brush.old brush.new
+        (middles_strips scene.now.view.now (scene_drawsegs scene.now notes.now) es None) result }
 {
     for k in (0..notes.len()).rev() {
         let note = &notes[k];
-        paint_middle(scene, hands, note, k as u16, note.first, note.last)?;
+        paint_middle(scene, brush, marks, note, k as u16, note.first, note.last)?;
     }
     Ok(())
 }
 
-// Draws a sprite, where it has a column, after the masked columns behind it and within the clips of
-// the fragments in front of it, the last fragment first. It is the next of the sprites whose masked
-// columns are painted.
-fn draw_sprite<S: Shelf, C: Canvas>(
+// Asks for a sprite, where it has a column, after the masked columns behind it and within the clips
+// of the fragments in front of it, the last fragment first. It is the next of the sprites whose
+// masked columns are marked.
+fn draw_sprite<B: Brush>(
     scene: &MaskScene<'_>,
-    hands: &mut MaskHands<'_, S, C>,
+    brush: &mut B,
+    marks: &mut [bool],
     notes: &[FragmentNote],
     entry: &SpriteEntry,
     clips: &mut SpriteClips,
-) -> Result<(), CacheFault>
-    requires ready { CanPass scene.now notes.now (mask_hands S.view C.view hands.old)
-        hands.old.marks.now }
+) -> Result<(), B::Stop>
+    requires ready { CanShow scene.now notes.now marks.old }
     requires within { lies_within scene.now.view.now.shape.width entry.now ≡ true }
-    requires lump { entry.now.lump < length scene.now.dir.now.lumps }
-    ensures same { AreSameMaskHands hands.old hands.new }
-    ensures marks { length hands.new.marks.now ≡ length hands.old.marks.now }
-    ensures sprite { (es : List SpriteEntry) (i : ℕ) → i < length es →
+    requires fragments { TakesFragments B.takes brush.old scene.now.view.now
+        (scene_drawsegs scene.now notes.now) }
+    requires sprite { TakesSprite B.takes brush.old scene.now.view.now
+        (scene_drawsegs scene.now notes.now) entry.now }
+    ensures marks { length marks.new ≡ length marks.old }
+    ensures shows { (es : List SpriteEntry) (i : ℕ) → i < length es →
         slice_get es i ≡ Some entry.now →
-        MarkedTo (scene_drawseg scene.now) notes.now es (length notes.now) (λ k. i)
-        hands.old.marks.now →
-        DrawsSprite C.mark scene.now notes.now es i entry.now hands.new.marks.now
-        (mask_hands S.view C.view hands.old) (mask_hands S.view C.view hands.new) result }
+        MarkedTo (scene_drawseg scene.now) notes.now es (length notes.now) (λ k. i) marks.old →
+        ShowsSprite B.takes B.stands B.stopped scene.now notes.now es i entry.now marks.new
+        brush.old brush.new result }
 {
     if entry.last < entry.first {
         return Ok(());
@@ -175,38 +202,39 @@ fn draw_sprite<S: Shelf, C: Canvas>(
     let last = column_of(entry.last);
     clips.clear(first, last);
     for k in (0..notes.len()).rev() {
-        pass_fragment(scene, hands, &notes[k], k as u16, entry, clips)?;
+        pass_fragment(scene, brush, marks, &notes[k], k as u16, entry, clips)?;
     }
-    paint_sprite(scene, hands, clips, entry, first, last)
+    paint_sprite(scene.view.shape(), brush, clips, entry, first, last)
 }
 
-// Paints the masked columns of fragment `number` where it is behind a sprite, or else takes its
+// Asks for the masked columns of fragment `number` where it is behind a sprite, or else takes its
 // clips.
-fn pass_fragment<S: Shelf, C: Canvas>(
+fn pass_fragment<B: Brush>(
     scene: &MaskScene<'_>,
-    hands: &mut MaskHands<'_, S, C>,
+    brush: &mut B,
+    marks: &mut [bool],
     note: &FragmentNote,
     number: u16,
     entry: &SpriteEntry,
     clips: &mut SpriteClips,
-) -> Result<(), CacheFault>
-    requires note { CanPaintNote scene.now note.now (mask_hands S.view C.view hands.old) }
-    requires marks { length scene.now.openings.now ≤ length hands.old.marks.now }
+) -> Result<(), B::Stop>
+    requires width { scene.now.view.now.shape.width ≤ FRAME_WIDTH }
+    requires whole { IsWholeNote scene.now.view.now.shape scene.now.openings.now note.now }
+    requires listed { IsInScene scene.now note.now }
+    requires marks { length scene.now.openings.now ≤ length marks.old }
     requires within { lies_within scene.now.view.now.shape.width entry.now ≡ true }
     requires ordered { entry.now.first ≤ℤ entry.now.last }
-    ensures same { AreSameMaskHands hands.old hands.new }
-    ensures marks { length hands.new.marks.now ≡ length hands.old.marks.now }
+    requires takes { TakesColumns B.takes brush.old scene.now.view.now number
+        (scene_drawseg scene.now note.now) }
+    ensures marks { length marks.new ≡ length marks.old }
     ensures marked { OnOk result (MarksBy note.now
-        (is_passed entry.now (scene_drawseg scene.now note.now)) hands.old.marks.now
-        hands.new.marks.now) }
+        (is_passed entry.now (scene_drawseg scene.now note.now)) marks.old marks.new) }
     ensures rows { (x : ℕ) → entry_has entry.now x ≡ true →
         TakesRows entry.now (scene_drawseg scene.now note.now) clips.old clips.new x }
-    ensures paints { PaintsDots C.mark scene.now
-        (IsMiddleColumn (scene_lists scene.now) scene.now.openings.now note.now) (λ (n : ℕ). ⊥)
-        (λ art. unmarked_dots scene.now.view.now art hands.old.marks.now note.now
+    ensures asks { Receives B.takes B.stands B.stopped brush.old brush.new
+        (unmarked_strips scene.now.view.now marks.old note.now
         (is_passed entry.now (scene_drawseg scene.now note.now)) number
-        (scene_drawseg scene.now note.now))
-        (mask_hands S.view C.view hands.old) (mask_hands S.view C.view hands.new) result }
+        (scene_drawseg scene.now note.now)) result }
 {
     let first = column_of(entry.first);
     let last = column_of(entry.last);
@@ -216,7 +244,7 @@ fn pass_fragment<S: Shelf, C: Canvas>(
     let from = first.max(note.first);
     let to = last.min(note.last);
     if is_behind(note, &scene.segs[note.seg_no as usize], entry) {
-        return paint_middle(scene, hands, note, number, from, to);
+        return paint_middle(scene, brush, marks, note, number, from, to);
     }
     clips.take(note, scene.openings, entry, from, to);
     Ok(())
