@@ -57,13 +57,14 @@ class Window(Shown):
         self.assertEqual(self.value('split.share'), share - 2)
 
     def test_panels(self):
-        """Panels open beside map and picture, and close."""
+        """Panels open beside map, picture, counts and worst views, and close."""
         self.size(1280, 720)
         self.take(self.room)
+        self.value("driver.counted('128')")
         for panel in self.value("[...document.querySelectorAll('#tabs button')].map(it => it.dataset.panel)"):
             self.value(f"document.querySelector('#tabs [data-panel={panel}]').click(); 0")
             self.assertTrue(self.value(f'isShown({panel!r})'))
-            self.assertEqual(self.value(f'driver.outside(["map", "picture", "counts", {panel!r}.length ? "panels" : ""])'), [])
+            self.assertEqual(self.value('driver.outside(["map", "picture", "counts", "worst", "doors", "panels"])'), [])
             self.value(f"document.querySelector('#tabs [data-panel={panel}]').click(); 0")
             self.assertFalse(self.value(f'isShown({panel!r})'))
 
