@@ -268,7 +268,7 @@ own_files: list[Files] = []
 
 def begin(options: argparse.Namespace) -> None:
     """Begins a process of several."""
-    gc.disable()  # what is found of a view goes by its counts, and to look for cycles takes a tenth of the time
+    gc.disable()  # memory stays small without it, and to look for cycles takes a tenth of the time
     signal.signal(signal.SIGINT, signal.SIG_IGN)  # the first process ends the others
     own_files.append(Files(options))
 
