@@ -4,3 +4,4 @@ pub mod LookupLemmas
 pub mod EachLemmas
 pub mod Laws
 pub use Rattle.word_rules.proofs.Common
+mod ConstantRows

@@ -1,3 +1,4 @@
 pub mod ContentLemmas
 pub mod NameLemmas
 pub mod WadLemmas
+mod ConstantRows

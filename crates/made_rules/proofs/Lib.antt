@@ -4,3 +4,4 @@ pub mod TextureLemmas
 pub mod NodeLemmas
 pub mod WadLemmas
 pub mod PictureLemmas
+mod ConstantRows

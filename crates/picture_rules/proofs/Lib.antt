@@ -7,3 +7,4 @@ pub mod ListLemmas
 pub mod NamedLemmas
 pub mod Laws
 pub use Rattle.word_rules.proofs.Common
+mod ConstantRows

@@ -1,3 +1,4 @@
 pub mod DotLemmas
 pub mod StripLemmas
 pub mod ColumnLemmas
+mod ConstantRows

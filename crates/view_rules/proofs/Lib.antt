@@ -3,3 +3,4 @@ pub mod ColumnLemmas
 pub mod SoundLemmas
 pub mod RangeLemmas
 pub use Rattle.word_rules.proofs.Common
+mod ConstantRows

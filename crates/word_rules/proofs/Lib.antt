@@ -5,3 +5,4 @@ pub mod ListedLemmas
 pub mod StepLemmas
 pub mod Logic
 pub mod Common
+mod ConstantRows

@@ -14,3 +14,4 @@ pub mod OrderChangeLemmas
 pub mod EmptyLemmas
 pub mod WrittenLemmas
 pub use Rattle.word_rules.proofs.Common
+mod ConstantRows
