@@ -1,1 +1,2 @@
 pub mod SimpleLemmas
+mod ConstantRows

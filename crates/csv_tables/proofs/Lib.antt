@@ -3,3 +3,4 @@ pub mod RowLemmas
 pub mod RowSentences
 pub mod ThingLemmas
 pub mod TableLemmas
+mod ConstantRows

@@ -1,2 +1,3 @@
 pub mod BandLemmas
 pub mod WordLemmas
+mod ConstantRows

@@ -5,3 +5,4 @@ pub mod ListLemmas
 pub mod PartLemmas
 pub mod RangeLemmas
 pub mod VisitLemmas
+mod ConstantRows

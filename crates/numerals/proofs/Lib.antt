@@ -1,1 +1,2 @@
 pub mod NumeralLemmas
+mod ConstantRows

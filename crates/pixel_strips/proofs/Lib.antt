@@ -5,3 +5,4 @@ pub mod FillLemmas
 pub mod DottedLemmas
 pub mod RowLemmas
 pub mod PlaceLemmas
+mod ConstantRows

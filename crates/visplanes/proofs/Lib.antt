@@ -7,3 +7,4 @@ pub mod DotLemmas
 pub mod DrawLemmas
 pub mod FlatLemmas
 pub mod FloorLemmas
+mod ConstantRows

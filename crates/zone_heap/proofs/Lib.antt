@@ -14,3 +14,4 @@ pub mod LookLemmas
 pub mod ChangeLemmas
 pub mod WriteLemmas
 pub mod ZoneLemmas
+mod ConstantRows
