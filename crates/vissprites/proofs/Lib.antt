@@ -1,3 +1,4 @@
 pub mod KeptLemmas
 pub mod EntryLemmas
 pub mod BoundLemmas
+mod ConstantRows
