@@ -28,3 +28,4 @@ pub mod ShownLemmas
 pub mod ListerLemmas
 pub mod RowLemmas
 pub mod EnoughLemmas
+mod ConstantRows

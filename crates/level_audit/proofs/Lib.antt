@@ -11,3 +11,4 @@ pub mod PartLemmas
 pub mod StepLemmas
 pub mod WeaponLemmas
 pub mod WholeLemmas
+mod ConstantRows
